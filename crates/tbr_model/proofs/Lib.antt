@@ -1,0 +1,15 @@
+pub mod Walks
+pub mod Lists
+pub mod Ahead
+pub mod Greedy
+pub mod Words
+pub mod Runs
+pub mod Characters
+pub mod Cuts
+pub mod Measured
+pub mod Regions
+pub mod Entries
+pub mod Pushed
+pub mod Reading
+pub mod Longest
+pub mod Walked

@@ -1,0 +1,7 @@
+use Rattle.std.proofs.Common.{ℕ, ◌<◌, ◌≤◌, length}
+use Rattle.tbr_model.specs.Slot.{slot_values}
+use Rattle.tbr_model.proofs.Longest.{EndsLine}
+use Rattle.tbr_model.proofs.best.longest_line.Given as goal
+
+abbrev pub invariant-loop-last : goal.invariant-loop-last
+invariant-loop-last g l = (e : ℕ) → l.last < e → e ≤ length l.slots → ¬ EndsLine l.width (slot_values l.slots) e

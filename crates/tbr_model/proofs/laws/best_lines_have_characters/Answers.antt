@@ -1,0 +1,5 @@
+use Rattle.tbr_model.proofs.Characters.{best_characters}
+use Rattle.tbr_model.proofs.laws.best_lines_have_characters.Goals as goal
+
+pub returns : goal.returns
+returns g c = best_characters

@@ -1,0 +1,11 @@
+pub mod WhiteSpace
+pub mod Width
+pub mod Run
+pub mod Layout
+pub mod Cuts
+pub mod Longest
+pub mod Entry
+pub mod Slot
+pub mod Regions
+pub mod Greedy
+pub mod TestWidth

@@ -1,0 +1,28 @@
+//! What a wrapped text is: runs, words, layouts, and the best of them.
+#![tactic(auto)]
+
+pub use best::best_layout;
+pub use entry::Entry;
+pub use history::History;
+pub use laws::{
+    best_has_fewest_lines, best_is_unique, best_lines_have_characters, first_gap_never_counts,
+    greedy_is_best, layouts_are_cuts, legal_layouts_exist, words_hold_kept_items,
+    words_stand_between_working_breaks,
+};
+pub use layout::{is_legal, is_legal_line, line_width};
+pub use slot::Slot;
+pub use white_space::WhiteSpace;
+pub use width::CharWidth;
+pub use word::slots;
+
+mod best;
+mod entry;
+mod history;
+mod laws;
+mod layout;
+mod slot;
+#[cfg(test)]
+mod tests;
+mod white_space;
+mod width;
+mod word;
