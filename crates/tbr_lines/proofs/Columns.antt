@@ -1,0 +1,33 @@
+-- Columns of texts, and loops over characters.
+use Rattle.std.proofs.Common.{◌≡◌, ℕ, suc, ◌+◌, ◌<◌, Option, Some, unwrap_or, List, [], ◌∷◌, ◌++◌, map, length, get_or, take, drop, refl, ap, sym, ◌∙◌, arith, drop-cons, map-id}
+use Rattle.std.specs.Iterator.{Yields}
+use Rattle.std.proofs.lemmas.Iterator.{YieldsList}
+use Rattle.std.proofs.lemmas.Iterator.Consumers.{YieldsList-so_far, YieldsList-turn}
+use Rattle.std.proofs.lemmas.List.{take-append-drop}
+use Rattle.tbr_model.specs.Run.{glyph, items_width}
+use Rattle.tbr_model.specs.Width.{text_columns}
+
+-- a list, from what a loop has seen of it on
+pub seen_and_rest : {A : Type 0} (all xs : List A) (x : A) → xs ≡ take (length xs) all → length xs < length all → x ≡ get_or all (length xs) x →
+    (rest : List A) × (all ≡ xs ++ (x ∷ rest))
+seen_and_rest {A} all xs x seen below is = (
+  drop (suc (length xs)) all,
+  sym (take-append-drop (length xs) all) ∙ ap (λ (ys : List A). ys ++ drop (length xs) all) (sym seen)
+      ∙ ap (λ (ys : List A). xs ++ ys) (drop-cons all (length xs) x below ∙ ap (λ (y : A). y ∷ drop (suc (length xs)) all) (sym is)),
+)
+
+pub text_columns-append : (columns : ℕ → Option ℕ) (cs ds : List ℕ) → text_columns columns (cs ++ ds) ≡ text_columns columns cs + text_columns columns ds
+text_columns-append columns [] ds = omega arith
+text_columns-append columns (c ∷ cs) ds = omega (arith, text_columns-append columns cs ds)
+
+pub items_width-text : {A : Type 0} (columns : ℕ → Option ℕ) (cs : List ℕ) (a : A) → items_width columns (map (λ c. glyph c a) cs) ≡ text_columns columns cs
+items_width-text columns [] a = refl
+items_width-text columns (c ∷ cs) a = ap (λ n. unwrap_or (columns c) 0 + n) (items_width-text columns cs a)
+
+-- the same of a `for` that has yielded xs, and x now
+pub turn_and_rest : {S A : Type 0} {steps : S → Option A → S → Type 0} {s : S} {all : List A} → YieldsList steps (λ x. x) s all → (xs : List A) (t : S) → Yields steps s xs t →
+    (r : Option A) (u : S) (x : A) → r ≡ Some x → steps t r u → (rest : List A) × (all ≡ xs ++ (x ∷ rest))
+turn_and_rest {S} {A} {steps} {s} {all} list xs t led r u x is step =
+    let seen : map (λ (y : A). y) xs ≡ take (length xs) all = YieldsList-so_far list xs t led in
+    let turn = YieldsList-turn list xs t led r u x is step in
+    seen_and_rest all xs x (sym (map-id xs) ∙ seen) turn.0 turn.1

@@ -1,0 +1,10 @@
+use Rattle.std.proofs.Common.{[], refl}
+use Rattle.tbr_lines.proofs.wrap.block.WrappedBlock.new.Goals as goal
+
+pub invariant_of-result : goal.invariant_of-result
+invariant_of-result g c = λ _. rw c.new-2.ensures (rw c.new-3.ensures (record {
+  count = refl;
+  given = [];
+  shown = λ _. tt;
+  tracks = c.new.ensures.tracks g.W.CharWidth.columns g.T.PartialEq.eq;
+}))

@@ -1,0 +1,6 @@
+//! Wrapping.
+pub use block::WrappedBlock;
+
+mod block;
+mod flat;
+mod open;

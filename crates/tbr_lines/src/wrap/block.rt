@@ -1,0 +1,304 @@
+//! A block of wrapped text.
+ghost use Rattle.std.specs.Prelude.{◌≡◌, ◌≢◌, ℕ, ◌<◌, ◌≤◌, ◌++◌, ◌∷◌, [], ◌&&◌, nat_lt, if◌then◌else◌, Option, None, Some, List, OnOk, IfOk, IfErr, IfSome, MatchOption, Err, Ok, MatchResult, true, false, chars};
+ghost use Rattle.std.specs.List.{AllZip};
+ghost use Rattle.tbr_model.specs.Run.{Item};
+ghost use Rattle.tbr_lines.specs.Elements.{Element, items_of, SameItems, IsMerged};
+ghost use Rattle.tbr_lines.specs.Wrapped.{WordsFit, EndedWordsFit, ShowsText, IsTextOf, ended_lines, padding_of};
+ghost use Rattle.tbr_lines.specs.declared.error.Error.TheVariants as E;
+
+use crate::error::{Error, OutOfMemory};
+use crate::tagged::TaggedLine;
+use crate::width::UnicodeColumns;
+use crate::wrap::open::Open;
+use std::alloc::Global;
+use std::marker::{Model, PhantomData};
+use tbr_model::{CharWidth, History, WhiteSpace};
+
+/// Text under tags that is wrapped into lines of a width in columns.
+///
+/// The text that comes between two flushes is a run: [`add_text`](WrappedBlock::add_text) adds to it, and
+/// [`flush`](WrappedBlock::flush) ends it. The lines of a run are those of the layout that is ahead of every legal one: after
+/// any number of lines no legal layout has placed more of the run.
+///
+/// A call that refuses leaves the block failed. It keeps that refusal, which each later call that can refuse answers, doing
+/// nothing else. A contract sees what [`State`] lists.
+#[derive(Drop)]
+pub struct WrappedBlock<T: Eq + Clone, W: CharWidth = UnicodeColumns> {
+    alloc: Global,
+    open: Open<T>,
+    /// The tag of the padding, where lines are padded.
+    padding: Option<T>,
+    failure: Option<Error>,
+    /// How many of the ended lines are of earlier runs.
+    earlier: usize,
+    run: History<(char, WhiteSpace), T>,
+    handed: History<TaggedLine<T>, ()>,
+    columns: PhantomData<W>,
+}
+
+impl<T: Eq + Clone, W: CharWidth> Model for WrappedBlock<T, W> {
+    ghost use Rattle.tbr_lines.specs.State.{State};
+
+    ghost Value = { State T };
+
+    ghost use Rattle.std.specs.Prelude.{◌≡◌, None};
+    ghost use Rattle.tbr_lines.specs.State.{entries_of, texts_of};
+    ghost use Rattle.tbr_lines.specs.Block.{earlier_texts, Keeps};
+
+    ghost view = { λ b. record { width = b.open.width; may_overflow = b.open.may_overflow; padding = b.padding; ended = earlier_texts b.earlier b.open; handed = texts_of b.handed.items; run = entries_of b.run.items; failure = b.failure } };
+
+    ghost invariant = { λ b. b.failure ≡ None → Keeps W.columns T.eq b.earlier b.open (texts_of b.handed.items) (entries_of b.run.items) };
+}
+
+impl<T: Eq + Clone, W: CharWidth> WrappedBlock<T, W> {
+    ghost use Rattle.tbr_model.specs.Run.{character};
+    ghost use Rattle.tbr_model.specs.declared.white_space.WhiteSpace.TheVariants.{Normal};
+    ghost use Rattle.tbr_lines.specs.State.{text_entries, EndsRun};
+
+    /// A block without text, whose lines take `width` columns at most. It takes no memory.
+    ///
+    /// With `pad_blocks` each line that is handed out is padded to the width by spaces under the default tag. With `allow_overflow` a
+    /// character of two columns goes on a line of its own in a block of one column, where it is refused else.
+    pub fn new(
+        alloc: Global,
+        width: usize,
+        pad_blocks: bool,
+        allow_overflow: bool,
+        default_tag: T,
+    ) -> WrappedBlock<T, W>
+    where
+        T: Drop,
+        requires { 0 < width }
+        ensures { result ≡ record { width = width; may_overflow = allow_overflow && nat_lt width 2; padding = (if pad_blocks then Some default_tag else None); ended = []; handed = []; run = []; failure = None } }
+    {
+        let padding = if pad_blocks { Some(default_tag) } else { None };
+        WrappedBlock {
+            alloc,
+            open: Open::new(alloc, width, allow_overflow && width < 2),
+            padding,
+            failure: None,
+            earlier: 0,
+            run: History::new(),
+            handed: History::new(),
+            columns: PhantomData,
+        }
+    }
+
+    /// The kept refusal, if a call has refused.
+    pub fn failure(&self) -> Option<Error>
+        ensures { result ≡ self.now.failure }
+    {
+        self.failure
+    }
+
+    /// Answers the kept refusal, if there is one.
+    fn refusal(&self) -> Result<(), Error>
+        ensures { MatchResult result (λ _. self.now.failure ≡ None) (λ e. self.now.failure ≡ Some e) }
+    {
+        match self.failure {
+            Some(e) => Err(e),
+            None => Ok(()),
+        }
+    }
+
+    /// Adds a character to the run.
+    fn add_char(&mut self, c: char, tag: &T) -> Result<(), Error>
+    where
+        T: Drop,
+        requires { (x y : T) → T.is_clone x y → T.eq x y ≡ true }
+        ensures ok { OnOk result (self.new ≡ record self.old { run = self.old.run ++ character c tag.now Normal ∷ [] }) }
+        ensures failed { IfErr result (λ e. self.new.failure ≡ Some e) }
+        ensures kept { (e : _) → self.old.failure ≡ Some e → result ≡ Err e }
+        ensures too_narrow { self.old.failure ≡ None → result ≡ Err E.TooNarrow →
+            (self.old.may_overflow ≡ false) × ¬ (EndedWordsFit W.columns self.old.width (self.old.run ++ character c tag.now Normal ∷ [])) }
+    {
+        self.refusal()?;
+        match self.open.add_char::<W>(c, tag) {
+            Ok(()) => {
+                self.run = self.run.and(&(c, WhiteSpace::Normal), tag);
+                Ok(())
+            }
+            Err(e) => {
+                self.failure = Some(e);
+                Err(e)
+            }
+        }
+    }
+
+    /// Changes nothing: no word that was placed has a character wider than a line.
+    fn ended_words_fit(&self)
+        ensures { self.now.failure ≡ None → self.now.may_overflow ≡ false → EndedWordsFit W.columns self.now.width self.now.run }
+    {
+        let _ = &self.failure;
+    }
+
+    /// The text joins the run, each character under a copy of the main tag.
+    ///
+    /// Each word that a break point of the text ends is placed. `TooNarrow` comes exactly where such a word, of the run with this
+    /// text, has a character wider than the block, and never where lines may be wider; `OutOfMemory` comes only for want of memory.
+    /// For now the mode is `Normal`.
+    pub fn add_text(
+        &mut self,
+        text: &str,
+        ws_mode: WhiteSpace,
+        main_tag: &T,
+        wrap_tag: &T,
+    ) -> Result<(), Error>
+    where
+        T: Drop,
+        requires faithful { (x y : T) → T.is_clone x y → T.eq x y ≡ true }
+        requires mode { ws_mode ≡ Normal }
+        ensures ok { OnOk result (self.new ≡ record self.old { run = self.old.run ++ text_entries (chars text.now) main_tag.now }) }
+        ensures fit { OnOk result (self.old.may_overflow ≡ false → EndedWordsFit W.columns self.old.width (self.old.run ++ text_entries (chars text.now) main_tag.now)) }
+        ensures too_narrow { self.old.failure ≡ None → result ≡ Err E.TooNarrow →
+            (self.old.may_overflow ≡ false) × ¬ (EndedWordsFit W.columns self.old.width (self.old.run ++ text_entries (chars text.now) main_tag.now)) }
+        ensures two_columns { self.old.failure ≡ None → 2 ≤ self.old.width → result ≢ Err E.TooNarrow }
+        ensures failed { IfErr result (λ e. self.new.failure ≡ Some e) }
+        ensures kept { (e : _) → self.old.failure ≡ Some e → (result ≡ Err e) × (self.new ≡ self.old) }
+    {
+        self.refusal()?;
+        for c in text.chars() {
+            self.add_char(c, main_tag)?;
+        }
+        self.ended_words_fit();
+        Ok(())
+    }
+
+    /// Ends the run. Its last word is placed, and its lines join the ended ones.
+    ///
+    /// `TooNarrow` comes exactly where a word of the run has a character wider than the block, and never where lines may be wider;
+    /// `OutOfMemory` comes only for want of memory.
+    pub fn flush(&mut self) -> Result<(), Error>
+    where
+        T: Drop,
+        requires { (x y : T) → T.is_clone x y → T.eq x y ≡ true }
+        ensures ok { OnOk result ((texts : List (List (Item T))) × EndsRun W.columns T.eq self.old texts × (self.new ≡ record self.old { ended = self.old.ended ++ texts; handed = []; run = [] })) }
+        ensures fit { OnOk result (self.old.may_overflow ≡ false → WordsFit W.columns self.old.width self.old.run) }
+        ensures too_narrow { self.old.failure ≡ None → result ≡ Err E.TooNarrow → (self.old.may_overflow ≡ false) × ¬ (WordsFit W.columns self.old.width self.old.run) }
+        ensures two_columns { self.old.failure ≡ None → 2 ≤ self.old.width → result ≢ Err E.TooNarrow }
+        ensures failed { IfErr result (λ e. self.new.failure ≡ Some e) }
+        ensures kept { (e : _) → self.old.failure ≡ Some e → (result ≡ Err e) × (self.new ≡ self.old) }
+    {
+        self.refusal()?;
+        match self.open.finish::<W>() {
+            Ok(()) => {
+                self.earlier = self.open.lines.len();
+                self.handed = History::new();
+                self.run = History::new();
+                Ok(())
+            }
+            Err(e) => {
+                self.failure = Some(e);
+                Err(e)
+            }
+        }
+    }
+
+    /// Hands out the first ended line that isn't handed out yet, if there is one. It flushes nothing.
+    ///
+    /// It refuses only for want of memory, and then the block has failed.
+    pub fn next_line(&mut self) -> Result<Option<TaggedLine<T>>, Error>
+    where
+        T: Drop,
+        requires { (x y : T) → T.is_clone x y → T.eq x y ≡ true }
+        ensures earlier { (text : List (Item T)) (rest : List (List (Item T))) → self.old.ended ≡ text ∷ rest →
+            IfOk result (λ o. MatchOption o ⊥ (λ line. ShowsText W.columns T.eq self.old.padding self.old.width line text × (self.new ≡ record self.old { ended = rest }))) }
+        ensures current { self.old.ended ≡ [] → IfOk result (λ o. IfSome o (λ line. (text : List (Item T)) × ShowsText W.columns T.eq self.old.padding self.old.width line text × (self.new ≡ record self.old { handed = self.old.handed ++ text ∷ [] }))) }
+        ensures none { IfOk result (λ o. o ≡ None → (self.new ≡ self.old) × (self.old.ended ≡ []) × (self.old.may_overflow ≡ false → AllZip (IsTextOf T.eq) self.old.handed (ended_lines W.columns self.old.width self.old.run))) }
+        ensures failed { IfErr result (λ e. self.new.failure ≡ Some e) }
+        ensures memory { self.old.failure ≡ None → IfErr result (λ e. e ≡ E.OutOfMemory) }
+        ensures kept { (e : _) → self.old.failure ≡ Some e → (result ≡ Err e) × (self.new ≡ self.old) }
+    {
+        self.refusal()?;
+        let Some(mut line) = self.take_line()? else {
+            return Ok(None);
+        };
+        match self.pad(&mut line) {
+            Ok(()) => Ok(Some(line)),
+            Err(OutOfMemory) => {
+                self.failure = Some(Error::OutOfMemory);
+                Err(Error::OutOfMemory)
+            }
+        }
+    }
+
+    /// Hands out the first ended line, as it stands without padding.
+    fn take_line(&mut self) -> Result<Option<TaggedLine<T>>, Error>
+        requires faithful { (x y : T) → T.is_clone x y → T.eq x y ≡ true }
+        requires unfailed { self.old.failure ≡ None }
+        ensures earlier { (text : List (Item T)) (rest : List (List (Item T))) → self.old.ended ≡ text ∷ rest →
+            IfOk result (λ o. MatchOption o ⊥ (λ line. SameItems T.eq (items_of line) text × (self.new ≡ record self.old { ended = rest }))) }
+        ensures current { self.old.ended ≡ [] → IfOk result (λ o. IfSome o (λ line. self.new ≡ record self.old { handed = self.old.handed ++ items_of line ∷ [] })) }
+        ensures merged { IfOk result (λ o. IfSome o (λ line. IsMerged T.eq line)) }
+        ensures none { IfOk result (λ o. o ≡ None → (self.new ≡ self.old) × (self.old.ended ≡ []) × (self.old.may_overflow ≡ false → AllZip (IsTextOf T.eq) self.old.handed (ended_lines W.columns self.old.width self.old.run))) }
+        ensures failed { IfErr result (λ e. (e ≡ E.OutOfMemory) × (self.new.failure ≡ Some e)) }
+        ensures settings { (self.new.padding ≡ self.old.padding) × (self.new.width ≡ self.old.width) }
+    {
+        match self.open.take_line() {
+            Ok(Some(line)) => {
+                if self.earlier > 0 {
+                    self.earlier -= 1;
+                    return Ok(Some(line));
+                }
+                self.handed = self.handed.and(&line, &());
+                Ok(Some(line))
+            }
+            Ok(None) => Ok(None),
+            Err(OutOfMemory) => {
+                self.failure = Some(Error::OutOfMemory);
+                Err(Error::OutOfMemory)
+            }
+        }
+    }
+
+    /// Fills a line with spaces, where lines are padded.
+    fn pad(&self, line: &mut TaggedLine<T>) -> Result<(), OutOfMemory>
+    where
+        T: Drop,
+        requires { (x y : T) → T.is_clone x y → T.eq x y ≡ true }
+        ensures items { OnOk result (SameItems T.eq (items_of line.new) (items_of line.old ++ padding_of W.columns self.now.padding self.now.width (items_of line.old))) }
+        ensures merged { IsMerged T.eq line.old → OnOk result (IsMerged T.eq line.new) }
+    {
+        match &self.padding {
+            Some(tag) => line.pad_to::<W>(self.open.width, tag),
+            None => Ok(()),
+        }
+    }
+
+    /// Hands out the first line of earlier runs, if there is one.
+    fn next_earlier(&mut self) -> Result<Option<TaggedLine<T>>, Error>
+    where
+        T: Drop,
+        requires faithful { (x y : T) → T.is_clone x y → T.eq x y ≡ true }
+        ensures given { (text : List (Item T)) (rest : List (List (Item T))) → self.old.ended ≡ text ∷ rest →
+            IfOk result (λ o. MatchOption o ⊥ (λ line. ShowsText W.columns T.eq self.old.padding self.old.width line text × (self.new ≡ record self.old { ended = rest }))) }
+        ensures none { self.old.failure ≡ None → self.old.ended ≡ [] → (result ≡ Ok None) × (self.new ≡ self.old) }
+        ensures memory { self.old.failure ≡ None → IfErr result (λ e. e ≡ E.OutOfMemory) }
+    {
+        if self.earlier == 0 {
+            return Ok(None);
+        }
+        self.next_line()
+    }
+
+    /// Ends the run, and hands out all lines that aren't handed out yet.
+    ///
+    /// It refuses as [`flush`](WrappedBlock::flush) does, and for want of memory.
+    pub fn into_lines(mut self) -> Result<Vec<TaggedLine<T>>, Error>
+    where
+        T: Drop,
+        requires { (x y : T) → T.is_clone x y → T.eq x y ≡ true }
+        ensures lines { IfOk result (λ lines. (texts : List (List (Item T))) × EndsRun W.columns T.eq self texts × AllZip (ShowsText W.columns T.eq self.padding self.width) lines.items (self.ended ++ texts)) }
+        ensures fit { OnOk result (self.may_overflow ≡ false → WordsFit W.columns self.width self.run) }
+        ensures too_narrow { self.failure ≡ None → result ≡ Err E.TooNarrow → (self.may_overflow ≡ false) × ¬ (WordsFit W.columns self.width self.run) }
+        ensures two_columns { self.failure ≡ None → 2 ≤ self.width → result ≢ Err E.TooNarrow }
+        ensures kept { (e : _) → self.failure ≡ Some e → result ≡ Err e }
+    {
+        self.flush()?;
+        let mut lines = Vec::new(self.alloc);
+        while let Some(line) = self.next_earlier()? {
+            lines.push(line)?;
+        }
+        Ok(lines)
+    }
+}

@@ -1,0 +1,168 @@
+//! Characters under tags, in one text.
+ghost use Rattle.std.specs.Prelude.{◌≡◌, ◌<◌, ◌≤◌, ◌++◌, ◌∷◌, [], true, List, length, take, drop, MatchOption, OnOk, OnErr, IfOk, IsTrue, ◌↔◌};
+ghost use Rattle.tbr_model.specs.Run.{Item, glyph};
+ghost use Rattle.tbr_lines.specs.Elements.{SameItems, IsMerged, items_of};
+
+use crate::error::OutOfMemory;
+use crate::tagged::{TaggedLine, TaggedString};
+use crate::wrap::flat::tags::Stretches;
+use crate::wrap::flat::text::PlacedText;
+use std::alloc::Global;
+use std::marker::Model;
+
+mod tags;
+mod text;
+
+/// Characters under tags, in one text: those that are placed on lines, and behind them those of the current word.
+///
+/// A tag is stored once for each stretch of it, however many lines or words that covers. Placing a word moves no character, and
+/// handing out a line costs its own length. A contract sees the items that are placed and not handed out yet, and those of the
+/// word.
+#[derive(Drop)]
+pub struct FlatText<T> {
+    alloc: Global,
+    text: PlacedText,
+    tags: Stretches<T>,
+}
+
+impl<T> Model for FlatText<T> {
+    ghost use Rattle.std.specs.Prelude.{◌≡◌, ◌+◌, length};
+    ghost use Rattle.tbr_lines.specs.Flat.{Flat, flat};
+
+    ghost Value = { Flat T };
+
+    ghost view = { λ a. flat a.text a.tags };
+
+    ghost invariant = { λ a. length a.tags ≡ length a.text.placed + length a.text.word };
+}
+
+impl<T> FlatText<T> {
+    /// A text without characters. It takes no memory.
+    pub fn new(alloc: Global) -> FlatText<T>
+        ensures { result ≡ record { placed = []; word = [] } }
+    {
+        FlatText {
+            alloc,
+            text: PlacedText::new(alloc),
+            tags: Stretches::new(alloc),
+        }
+    }
+
+    /// How many characters the word has.
+    pub fn word_len(&self) -> usize
+        ensures { result ≡ length self.now.word }
+    {
+        let _ = &self.tags;
+        self.text.word_len()
+    }
+
+    /// Whether the word has no character.
+    pub fn is_word_empty(&self) -> bool
+        ensures { IsTrue result ↔ (self.now.word ≡ []) }
+    {
+        self.word_len() == 0
+    }
+
+    /// The word's first character.
+    pub fn first(&self) -> Option<char>
+        ensures { MatchOption result (self.now.word ≡ []) (λ c. (a : T) × (rest : List (Item T)) × (self.now.word ≡ glyph c a ∷ rest)) }
+    {
+        let _ = &self.tags;
+        self.text.first()
+    }
+
+    /// Places the word. It takes constant time.
+    pub fn place_word(&mut self)
+        ensures { self.new ≡ record { placed = self.old.placed ++ self.old.word; word = [] } }
+    {
+        self.text.place_word();
+    }
+
+    /// Places the word's first character. It takes constant time.
+    pub fn place_first(&mut self)
+        requires { 0 < length self.old.word }
+        ensures { (i : Item T) × (rest : List (Item T)) × (self.old.word ≡ i ∷ rest) × (self.new ≡ record { placed = self.old.placed ++ i ∷ []; word = rest }) }
+    {
+        self.text.place_first();
+    }
+}
+
+impl<T: Eq + Clone> FlatText<T> {
+    /// Adds a character to the word. The tag is copied only where a stretch of it begins.
+    ///
+    /// Where memory is refused the characters may be lost.
+    pub fn push(&mut self, c: char, tag: &T) -> Result<(), OutOfMemory>
+        requires { (x y : T) → T.is_clone x y → T.eq x y ≡ true }
+        ensures { OnOk result ((a : T) × (T.eq a tag.now ≡ true) × (self.new ≡ record self.old { word = self.old.word ++ glyph c a ∷ [] })) }
+    {
+        self.tags.push(tag)?;
+        if let Err(e) = self.text.push(c) {
+            clear(&mut self.text, &mut self.tags);
+            return Err(e);
+        }
+        Ok(())
+    }
+
+    /// Places a space before the word. It takes the time of moving the word, and of going over its stretches.
+    ///
+    /// Where the space parts a stretch, the tag is copied, and the word's first characters stand under the copy. Where memory is
+    /// refused the characters may be lost.
+    pub fn push_space(&mut self, tag: T) -> Result<(), OutOfMemory>
+        requires { (x y : T) → T.is_clone x y → T.eq x y ≡ true }
+        ensures placed { OnOk result ((a : T) × (T.eq a tag ≡ true) × (self.new.placed ≡ self.old.placed ++ glyph 32 a ∷ [])) }
+        ensures word { OnOk result (SameItems T.eq self.new.word self.old.word) }
+    {
+        let word = self.text.word_len();
+        if let Err(e) = self.tags.insert_before(word, tag) {
+            clear(&mut self.text, &mut self.tags);
+            return Err(e);
+        }
+        if let Err(e) = self.text.push_space() {
+            clear(&mut self.text, &mut self.tags);
+            return Err(e);
+        }
+        Ok(())
+    }
+
+    /// Hands out the first so many placed characters as a line. It takes the time of the line's length.
+    pub fn take_line(&mut self, characters: usize) -> Result<TaggedLine<T>, OutOfMemory>
+        requires faithful { (x y : T) → T.is_clone x y → T.eq x y ≡ true }
+        requires placed { characters ≤ length self.old.placed }
+        ensures items { IfOk result (λ line. SameItems T.eq (items_of line) (take characters self.old.placed)) }
+        ensures merged { IfOk result (λ line. IsMerged T.eq line) }
+        ensures rest { OnOk result (self.new ≡ record self.old { placed = drop characters self.old.placed }) }
+    {
+        let mut line = TaggedLine::new(self.alloc);
+        let mut left = characters;
+        while left > 0 {
+            left -= self.move_piece(&mut line, left)?;
+        }
+        Ok(line)
+    }
+
+    /// Hands the first placed characters to a line, at most so many and all under one tag, and answers how many they are.
+    fn move_piece(&mut self, line: &mut TaggedLine<T>, most: usize) -> Result<usize, OutOfMemory>
+        requires faithful { (x y : T) → T.is_clone x y → T.eq x y ≡ true }
+        requires some { 0 < most }
+        requires placed { most ≤ length self.old.placed }
+        ensures some { IfOk result (λ n. (0 < n) × (n ≤ most)) }
+        ensures items { IfOk result (λ n. SameItems T.eq (items_of line.new) (items_of line.old ++ take n self.old.placed)) }
+        ensures merged { IsMerged T.eq line.old → OnOk result (IsMerged T.eq line.new) }
+        ensures rest { IfOk result (λ n. self.new ≡ record self.old { placed = drop n self.old.placed }) }
+    {
+        let (count, tag) = self.tags.first(most)?;
+        let s = self.text.take(count)?;
+        self.tags.skip(count);
+        line.push_str(TaggedString { s, tag })?;
+        Ok(count)
+    }
+}
+
+/// Forgets all characters and tags.
+fn clear<T>(text: &mut PlacedText, tags: &mut Stretches<T>)
+    ensures text { text.new ≡ record { placed = []; word = [] } }
+    ensures tags { tags.new ≡ [] }
+{
+    text.clear();
+    tags.clear();
+}
