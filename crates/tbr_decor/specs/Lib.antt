@@ -1,0 +1,12 @@
+pub mod Start
+pub mod End
+pub mod Prefix
+pub mod Ground
+pub mod Change
+pub mod Meant
+pub mod Style
+pub mod Usual
+pub mod Plain
+pub mod Trivial
+pub mod Rich
+pub mod RichLaws

@@ -1,0 +1,84 @@
+-- Rich annotations are equal exactly where they mean the same, and copies are equal.
+use Rattle.std.specs.Prelude.{◌≡◌, ℕ, Bool, true, false, ◌&&◌, ◌==◌, nat_eq, List, String, chars, string_bytes, IsTrue, ◌↔◌, refl}
+use Rattle.std.proofs.Common.{sym, ap, ◌∙◌, subst}
+use Rattle.std.proofs.lemmas.Bool.{eqb-true, eq-eqb}
+use Rattle.std.specs.Cmp.Lexicographic.{pointwise, same_text}
+use Rattle.std.proofs.Math.Bool.{beq}
+use Rattle.std.specs.String.{string_eq, string_eq_equiv}
+use Rattle.std.proofs.lemmas.Str.{encodes-chars, IsUtf8-string_bytes}
+use Rattle.std.specs.Str.{encode_utf8_all}
+use Rattle.tbr_decor.specs.contracts.annotation.RichAnnotationPartialEq.TheImpl as annotation
+use Rattle.tbr_decor.specs.contracts.annotation.RichAnnotationClone.TheImpl as copy
+use Rattle.tbr_decor.specs.declared.annotation.RichAnnotation.{RichAnnotation}
+use Rattle.tbr_decor.specs.declared.annotation.RichAnnotation.TheVariants as rich
+use Rattle.tbr_decor.specs.contracts.colour.ColourPartialEq.TheImpl as colour
+use Rattle.tbr_decor.specs.declared.colour.Colour.{Colour}
+use Rattle.tbr_decor.specs.Style as style
+use Rattle.tbr_decor.specs.Style.{Style, style_of}
+
+same_characters : {Z : Type 0} (s t : String Z) → IsTrue (string_eq s t) → chars (string_bytes s) ≡ chars (string_bytes t)
+same_characters s t h = ap chars (same_text (string_bytes s) (string_bytes t) (sym h))
+
+equal_text : {Z : Type 0} (s t : String Z) → chars (string_bytes s) ≡ chars (string_bytes t) → IsTrue (string_eq s t)
+equal_text s t e =
+    let bytes : string_bytes s ≡ string_bytes t =
+    sym (encodes-chars (string_bytes s) (IsUtf8-string_bytes s)) ∙ ap encode_utf8_all e ∙ encodes-chars (string_bytes t) (IsUtf8-string_bytes t) in
+    subst (λ (bs : List ℕ). pointwise nat_eq (string_bytes s) bs ≡ true) bytes (string_eq_equiv.refl s)
+
+same_flag : (x y : Bool) → IsTrue (beq x y) → x ≡ y
+same_flag true true h = refl
+same_flag false false h = refl
+same_flag true false h = cc
+same_flag false true h = cc
+
+equal_flag : (x : Bool) → IsTrue (beq x x)
+equal_flag true = refl
+equal_flag false = refl
+
+all_three : (p q r : Bool) → (p && (q && r)) ≡ true → (p ≡ true) × (q ≡ true) × (r ≡ true)
+all_three true true true h = (refl, refl, refl)
+all_three true true false h = cc
+all_three true false r h = cc
+all_three false q r h = cc
+
+same_parts : {x y : Colour} → x.r ≡ y.r → x.g ≡ y.g → x.b ≡ y.b → x ≡ y
+same_parts r g b = λ i. record { r = r i; g = g i; b = b i }
+
+same_colour : (x y : Colour) → IsTrue (colour.ghosts.eq x y) → x ≡ y
+same_colour x y h =
+    let parts = all_three (x.r == y.r) (x.g == y.g) (x.b == y.b) h in
+    let r : x.r ≡ y.r = eqb-true x.r y.r parts.0 in
+    let g : x.g ≡ y.g = eqb-true x.g y.g parts.1 in
+    let b : x.b ≡ y.b = eqb-true x.b y.b parts.2 in
+    same_parts r g b
+
+equal_colour : (x : Colour) → IsTrue (colour.ghosts.eq x x)
+equal_colour x = rw (eq-eqb x.r x.r refl, eq-eqb x.g x.g refl, eq-eqb x.b x.b refl) refl
+
+pub equal_by_style : (a b : RichAnnotation) → IsTrue (annotation.ghosts.eq a b) ↔ (style_of a ≡ style_of b)
+equal_by_style rich.Default rich.Default = (λ _. refl, λ _. refl)
+equal_by_style (rich.Link s) (rich.Link t) = (λ h. ap style.link (same_characters s t h), λ h. equal_text s t cc)
+equal_by_style (rich.Image s) (rich.Image t) = (λ h. ap style.image (same_characters s t h), λ h. equal_text s t cc)
+equal_by_style rich.Emphasis rich.Emphasis = (λ _. refl, λ _. refl)
+equal_by_style rich.Strong rich.Strong = (λ _. refl, λ _. refl)
+equal_by_style rich.Strikeout rich.Strikeout = (λ _. refl, λ _. refl)
+equal_by_style rich.Code rich.Code = (λ _. refl, λ _. refl)
+equal_by_style (rich.Preformat x) (rich.Preformat y) = (λ h. ap style.preformatted (same_flag x y h), λ h. let e : x ≡ y = cc in subst (λ (b : Bool). IsTrue (beq x b)) e (equal_flag x))
+equal_by_style (rich.Colour x) (rich.Colour y) =
+    (λ h. ap style.colour (same_colour x y h), λ h. let e : x ≡ y = cc in subst (λ (c : Colour). IsTrue (colour.ghosts.eq x c)) e (equal_colour x))
+equal_by_style (rich.BgColour x) (rich.BgColour y) =
+    (λ h. ap style.background (same_colour x y h), λ h. let e : x ≡ y = cc in subst (λ (c : Colour). IsTrue (colour.ghosts.eq x c)) e (equal_colour x))
+equal_by_style a b = (λ h. cc, λ h. cc)
+
+pub copies_equal : (a b : RichAnnotation) → copy.ghosts.is_clone a b → annotation.ghosts.eq a b ≡ true
+copies_equal rich.Default rich.Default h = refl
+copies_equal (rich.Link s) (rich.Link t) h = equal_text s t (ap chars (sym h))
+copies_equal (rich.Image s) (rich.Image t) h = equal_text s t (ap chars (sym h))
+copies_equal rich.Emphasis rich.Emphasis h = refl
+copies_equal rich.Strong rich.Strong h = refl
+copies_equal rich.Strikeout rich.Strikeout h = refl
+copies_equal rich.Code rich.Code h = refl
+copies_equal (rich.Preformat x) (rich.Preformat y) h = subst (λ (b : Bool). IsTrue (beq b y)) h (equal_flag y)
+copies_equal (rich.Colour x) (rich.Colour y) h = subst (λ (c : Colour). IsTrue (colour.ghosts.eq c y)) h (equal_colour y)
+copies_equal (rich.BgColour x) (rich.BgColour y) h = subst (λ (c : Colour). IsTrue (colour.ghosts.eq c y)) h (equal_colour y)
+copies_equal a b h = absurd h

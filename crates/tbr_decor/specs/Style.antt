@@ -1,0 +1,30 @@
+-- What a rich annotation means.
+use Rattle.std.specs.Prelude.{ℕ, Bool, List, chars, string_bytes}
+use Rattle.tbr_decor.specs.declared.colour.Colour.{Colour}
+use Rattle.tbr_decor.specs.declared.annotation.RichAnnotation.{RichAnnotation}
+use Rattle.tbr_decor.specs.declared.annotation.RichAnnotation.TheVariants as rich
+
+-- A link by its target and an image by its source, as characters; preformatted text by whether its line continues another.
+pub data Style : Type 0 where
+  plain : Style
+  link : List ℕ → Style
+  image : List ℕ → Style
+  emphasis : Style
+  strong : Style
+  strikeout : Style
+  code : Style
+  preformatted : Bool → Style
+  colour : Colour → Style
+  background : Colour → Style
+
+abbrev pub style_of : RichAnnotation → Style
+style_of rich.Default = plain
+style_of (rich.Link target) = link (chars (string_bytes target))
+style_of (rich.Image source) = image (chars (string_bytes source))
+style_of rich.Emphasis = emphasis
+style_of rich.Strong = strong
+style_of rich.Strikeout = strikeout
+style_of rich.Code = code
+style_of (rich.Preformat continued) = preformatted continued
+style_of (rich.Colour c) = colour c
+style_of (rich.BgColour c) = background c

@@ -1,0 +1,20 @@
+//! Decorators: the texts that stand round parts of a document, and the annotations of what stands between.
+#![tactic(auto)]
+
+pub use annotation::RichAnnotation;
+pub use colour::Colour;
+pub use decorator::TextDecorator;
+pub use plain::PlainDecorator;
+pub use rich::RichDecorator;
+pub use trivial::TrivialDecorator;
+
+mod annotation;
+mod colour;
+mod decorator;
+mod plain;
+mod rich;
+#[cfg(test)]
+mod tests;
+mod text;
+mod trivial;
+pub mod usual;

@@ -1,0 +1,171 @@
+//! Text alone.
+ghost use Rattle.std.specs.Prelude.{None, false, [], refl};
+ghost use Rattle.std.proofs.Common.{rules};
+ghost use Rattle.tbr_decor.specs.Trivial as trivial;
+ghost use Rattle.tbr_decor.specs.Usual as usual;
+
+use crate::colour::Colour;
+use crate::decorator::TextDecorator;
+use crate::{text, usual};
+use std::alloc::Global;
+use tbr_lines::{OutOfMemory, TaggedLine};
+
+/// Shows the text of a document and nothing else, but for superscripts, and annotates nothing.
+#[derive(Clone, Debug, Drop)]
+pub struct TrivialDecorator {}
+
+impl TrivialDecorator {
+    /// The decorator. It takes no memory.
+    pub fn new() -> TrivialDecorator {
+        TrivialDecorator {}
+    }
+}
+
+impl TextDecorator for TrivialDecorator {
+    type Annotation = ();
+
+    ghost Meaning = { Unit {0} };
+
+    ghost meaning = { λ a. a };
+
+    ghost start_text = { λ _. trivial.start_text };
+
+    ghost annotation = { λ _ _. tt };
+
+    ghost end_text = { λ _. trivial.end_text };
+
+    ghost preformatted = { λ _ _. tt };
+
+    ghost prefix_text = { λ _ _. [] };
+
+    ghost colour_annotation = { λ _ _ _. None };
+
+    ghost ends_colour = { λ _ _. false };
+
+    ghost footnotes = { λ _. usual.footnotes tt };
+
+    ghost subblock = { λ d. d };
+
+    ghost after = { λ d _. d };
+
+    fn decorate_link_start(
+        &mut self,
+        alloc: Global,
+        _url: &str,
+    ) -> Result<(String, ()), OutOfMemory> {
+        Ok((text::empty(alloc), ()))
+    }
+
+    fn decorate_link_end(&mut self, alloc: Global) -> Result<String, OutOfMemory> {
+        Ok(text::empty(alloc))
+    }
+
+    fn decorate_em_start(&self, alloc: Global) -> Result<(String, ()), OutOfMemory> {
+        Ok((text::empty(alloc), ()))
+    }
+
+    fn decorate_em_end(&self, alloc: Global) -> Result<String, OutOfMemory> {
+        Ok(text::empty(alloc))
+    }
+
+    fn decorate_strong_start(&self, alloc: Global) -> Result<(String, ()), OutOfMemory> {
+        Ok((text::empty(alloc), ()))
+    }
+
+    fn decorate_strong_end(&self, alloc: Global) -> Result<String, OutOfMemory> {
+        Ok(text::empty(alloc))
+    }
+
+    fn decorate_strikeout_start(&self, alloc: Global) -> Result<(String, ()), OutOfMemory> {
+        Ok((text::empty(alloc), ()))
+    }
+
+    fn decorate_strikeout_end(&self, alloc: Global) -> Result<String, OutOfMemory> {
+        Ok(text::empty(alloc))
+    }
+
+    fn decorate_code_start(&self, alloc: Global) -> Result<(String, ()), OutOfMemory> {
+        Ok((text::empty(alloc), ()))
+    }
+
+    fn decorate_code_end(&self, alloc: Global) -> Result<String, OutOfMemory> {
+        Ok(text::empty(alloc))
+    }
+
+    fn decorate_superscript_start(&self, alloc: Global) -> Result<(String, ()), OutOfMemory> {
+        usual::superscript_start(alloc)
+    }
+
+    fn decorate_superscript_end(&self, alloc: Global) -> Result<String, OutOfMemory> {
+        usual::superscript_end(alloc)
+    }
+
+    fn decorate_preformat_first(&self, _alloc: Global) -> Result<(), OutOfMemory> {
+        Ok(())
+    }
+
+    fn decorate_preformat_cont(&self, _alloc: Global) -> Result<(), OutOfMemory> {
+        Ok(())
+    }
+
+    fn decorate_image(
+        &mut self,
+        alloc: Global,
+        _src: &str,
+        title: &str,
+    ) -> Result<(String, ()), OutOfMemory> {
+        Ok((text::copy(alloc, title)?, ()))
+    }
+
+    fn header_prefix(&self, alloc: Global, _level: usize) -> Result<String, OutOfMemory> {
+        Ok(text::empty(alloc))
+    }
+
+    fn quote_prefix(&self, alloc: Global) -> Result<String, OutOfMemory> {
+        Ok(text::empty(alloc))
+    }
+
+    fn unordered_item_prefix(&self, alloc: Global) -> Result<String, OutOfMemory> {
+        Ok(text::empty(alloc))
+    }
+
+    fn ordered_item_prefix(&self, alloc: Global, _i: i64) -> Result<String, OutOfMemory> {
+        Ok(text::empty(alloc))
+    }
+
+    fn make_subblock_decorator(&self, _alloc: Global) -> Result<Self, OutOfMemory> {
+        Ok(self.clone()?)
+    }
+
+    fn push_colour(&mut self, _alloc: Global, _colour: Colour) -> Result<Option<()>, OutOfMemory> {
+        Ok(None)
+    }
+
+    fn pop_colour(&mut self) -> bool {
+        false
+    }
+
+    fn push_bgcolour(
+        &mut self,
+        _alloc: Global,
+        _colour: Colour,
+    ) -> Result<Option<()>, OutOfMemory> {
+        Ok(None)
+    }
+
+    fn pop_bgcolour(&mut self) -> bool {
+        false
+    }
+
+    fn finalise(
+        &mut self,
+        alloc: Global,
+        urls: Vec<String>,
+    ) -> Result<Vec<TaggedLine<()>>, OutOfMemory> {
+        usual::finalise(alloc, urls)
+    }
+
+    ghost equal_by_meaning = { Prim.search rules };
+
+    ghost copies_equal = { λ _ _ _. refl };
+}
