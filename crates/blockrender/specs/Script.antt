@@ -1,0 +1,80 @@
+-- The language of scripts, by the bytes of a script.
+use Rattle.std.specs.Prelude.{◌≡◌, ◌≢◌, ℕ, ◌^◌, ◌<◌, ◌≤◌, ◌==◌, if◌then◌else◌, ◌⊎◌, List, [], ◌∷◌, ◌++◌, length, flat_map, codes, encode_utf8, Option, Some, None}
+use Rattle.std.specs.Char.{IsScalar}
+use Rattle.std.specs.List.{AllByRecursion as Each}
+use Rattle.std.specs.Str.{IsUtf8}
+use Rattle.std.specs.Str.Parse.{IsNumeral, digits_value}
+
+-- a byte in front of the first line
+abbrev pub onto_first : ℕ → List (List ℕ) → List (List ℕ)
+onto_first b [] = (b ∷ []) ∷ []
+onto_first b (line ∷ lines) = (b ∷ line) ∷ lines
+
+-- The lines of a script. A newline ends a line, and bytes behind the last newline are a line.
+abbrev pub lines_of : List ℕ → List (List ℕ)
+lines_of [] = []
+lines_of (b ∷ bs) = if b == 10 then [] ∷ lines_of bs else onto_first b (lines_of bs)
+
+-- one or more decimal digits of a value within `usize`
+abbrev pub IsNumber : List ℕ → Type 0
+IsNumber digits = IsNumeral 10 digits × (digits_value 10 digits < 2 ^ 64)
+
+-- one to six hexadecimal digits that name a character
+abbrev pub NamesCharacter : List ℕ → Type 0
+NamesCharacter digits = IsNumeral 16 digits × (length digits ≤ 6) × IsScalar (digits_value 16 digits)
+
+-- the character that a letter behind a backslash stands for: `n` for a newline, `t` for a tab, a backslash for itself
+abbrev pub character_by_letter : ℕ → Option ℕ
+character_by_letter b = if b == 110 then Some 10 else (if b == 116 then Some 9 else (if b == 92 then Some 92 else None))
+
+-- what stands behind the backslash of an escape, and the character that it stands for: a letter, or `u{..}` with its digits
+abbrev pub IsEscape : List ℕ → ℕ → Type 0
+IsEscape form c =
+    ((letter : ℕ) × (form ≡ letter ∷ []) × (character_by_letter letter ≡ Some c))
+    ⊎ ((digits : List ℕ) × (form ≡ codes "u{" ++ digits ++ codes "}") × NamesCharacter digits × (c ≡ digits_value 16 digits))
+
+-- A piece of a text: a byte that stands for itself, or an escape with its character.
+pub data Piece : Type 0 where
+  itself : ℕ → Piece
+  escape : List ℕ → ℕ → Piece
+
+-- A backslash stands for nothing but the beginning of an escape.
+abbrev pub IsPiece : Piece → Type 0
+IsPiece (itself b) = b ≢ 92
+IsPiece (escape form c) = IsEscape form c
+
+-- how a piece is written
+abbrev pub written : Piece → List ℕ
+written (itself b) = b ∷ []
+written (escape form c) = 92 ∷ form
+
+-- what a piece stands for
+abbrev pub meant : Piece → List ℕ
+meant (itself b) = b ∷ []
+meant (escape form c) = encode_utf8 c
+
+-- the text that is written so
+pub record IsText (writing text : List ℕ) : Type 0 where
+  pub pieces : List Piece
+  pub each : Each IsPiece pieces
+  pub writes : flat_map written pieces ≡ writing
+  pub means : flat_map meant pieces ≡ text
+
+-- A command: a block of a width, or a text.
+pub data Call : Type 0 where
+  new_block : ℕ → Call
+  text : List ℕ → Call
+
+-- what stands behind `new `: a width of at least 1 and the decorator
+abbrev pub IsNew : List ℕ → ℕ → Type 0
+IsNew rest width = (digits : List ℕ) × (rest ≡ digits ++ codes " plain") × IsNumber digits × (width ≡ digits_value 10 digits) × (0 < width)
+
+-- how a command is written
+abbrev pub Writes : List ℕ → Call → Type 0
+Writes line (new_block width) = (rest : List ℕ) × (line ≡ codes "new " ++ rest) × IsNew rest width
+Writes line (text t) = (rest : List ℕ) × (line ≡ codes "text " ++ rest) × IsText rest t
+
+-- A line that is this command. A line that isn't UTF-8 is none.
+pub record IsCommand (line : List ℕ) (call : Call) : Type 0 where
+  pub utf8 : IsUtf8 line
+  pub writes : Writes line call

@@ -1,0 +1,29 @@
+//! Renders the script on standard input as text on standard output. Arguments are ignored.
+#![tactic(auto)]
+
+mod command;
+mod error;
+mod laws;
+mod program;
+mod run;
+mod script;
+mod streams;
+#[cfg(test)]
+mod tests;
+
+use run::run;
+use std::io;
+use std::process::ExitCode;
+use streams::{StdSink, StdSource};
+
+fn main(rt: HostRuntime) -> ExitCode {
+    let mut source = StdSource::new(rt.reader());
+    let mut sink = StdSink::new(io::writer(&rt));
+    match run(rt.alloc(), &mut source, &mut sink) {
+        Ok(()) => ExitCode::SUCCESS,
+        Err(e) => {
+            let _ = e.report(&mut StdSink::new(rt.stderr()));
+            ExitCode::from(e.status())
+        }
+    }
+}

@@ -1,0 +1,94 @@
+//! From a script to its text.
+ghost use Rattle.std.specs.Prelude.{◌≡◌, ◌≢◌, ◌↔◌, ℕ, List, true, false, Ok, Err, OnOk, IfOk, IfErr, IfSome, IsErrOf, string_bytes};
+ghost use Rattle.std.specs.Io.KnownBytes.{Appends, Keeps};
+ghost use Rattle.tbr_lines.specs.UnicodeColumns.{unicode_columns};
+ghost use Rattle.blockrender.specs.Streams.{AppendsBeginning};
+ghost use Rattle.blockrender.specs.Meaning.{Gives};
+ghost use Rattle.blockrender.specs.Refusal.{IsOfScript};
+
+use crate::error::RunError;
+use crate::program::Program;
+use crate::script::line::split_line;
+use crate::streams::{Sink, Source, write_all};
+use std::alloc::Global;
+use tbr_lines::{CharWidth, UnicodeColumns};
+
+/// Bytes that a read asks for at most.
+const CHUNK: usize = 4096;
+
+/// Reads the whole script and writes its text.
+///
+/// The script is read to its end first, then its commands are done in order, up to the first line that is faulty or refuses.
+/// Nothing is written before the text is complete, so after a refusal of the script nothing was, and where the writer fails a
+/// beginning of the text was. `ReadFailed` comes exactly where the reader fails and `WriteFailed` exactly where the writer does.
+/// `OutOfMemory` comes only for want of memory; a reader that never ends meets it, at the latest where the script's length passes
+/// `usize`.
+pub fn run<R: Source, S: Sink>(
+    alloc: Global,
+    reader: &mut R,
+    writer: &mut S,
+) -> Result<(), RunError>
+    requires reader_works { R.failed reader.old ≡ false }
+    requires writer_works { S.failed writer.old ≡ false }
+
+    // Over a reader that tells its bytes, the text that they give is written.
+    ensures text { OnOk result (IfSome (R.remaining reader.old) (λ script. (text : List ℕ)
+        × Gives unicode_columns script (Ok text)
+        × Appends (S.contents writer.old) (S.contents writer.new) text)) }
+
+    // A refusal of the script is the one that they give, with its line.
+    ensures refusal { IfErr result (λ e. IsOfScript e →
+        IfSome (R.remaining reader.old) (λ script. Gives unicode_columns script (Err e))) }
+    ensures unwritten { IfErr result (λ e. e ≢ RunError.WriteFailed →
+        Keeps (S.contents writer.old) (S.contents writer.new)) }
+
+    // A failure of the reader or the writer is told as such, and nothing else is.
+    ensures read_failed { IsErrOf result RunError.ReadFailed ↔ (R.failed reader.new ≡ true) }
+    ensures write_failed { IsErrOf result RunError.WriteFailed ↔ (S.failed writer.new ≡ true) }
+    ensures beginning { IsErrOf result RunError.WriteFailed →
+        IfSome (R.remaining reader.old) (λ script. (text : List ℕ)
+        × Gives unicode_columns script (Ok text)
+        × AppendsBeginning (S.contents writer.old) (S.contents writer.new) text) }
+{
+    let script = read_script(alloc, reader)?;
+    let text = render::<UnicodeColumns>(alloc, &script)?;
+    write_all(writer, text.as_bytes()).map_err(|_| RunError::WriteFailed)
+}
+
+/// All bytes that the reader has left.
+fn read_script<R: Source>(alloc: Global, reader: &mut R) -> Result<Vec<u8>, RunError>
+    requires { R.failed reader.old ≡ false }
+    ensures script { IfOk result (λ script. IfSome (R.remaining reader.old) (λ bytes. script.items ≡ bytes)) }
+    ensures failed { IsErrOf result RunError.ReadFailed ↔ (R.failed reader.new ≡ true) }
+    ensures memory { IfErr result (λ e. e ≢ RunError.ReadFailed → e ≡ RunError.OutOfMemory) }
+{
+    let mut script = Vec::new(alloc);
+    let mut buffer = [0u8; CHUNK];
+    loop {
+        let Ok(count) = reader.read(&mut buffer) else {
+            return Err(RunError::ReadFailed);
+        };
+        if count == 0 {
+            return Ok(script);
+        }
+        script.extend_from_slice(&buffer[..count])?;
+    }
+}
+
+/// The text of a script.
+fn render<W: CharWidth>(alloc: Global, script: &[u8]) -> Result<String, RunError>
+    ensures text { IfOk result (λ text. Gives W.columns script.now (Ok (string_bytes text))) }
+    ensures refusal { IfErr result (λ e. e ≢ RunError.OutOfMemory → Gives W.columns script.now (Err e)) }
+    ensures of_script { IfErr result (λ e. e ≢ RunError.OutOfMemory → IsOfScript e) }
+{
+    let mut program = Program::<W>::new();
+    let mut rest = script;
+    let mut number = 1;
+    while !rest.is_empty() {
+        let (line, behind) = split_line(rest);
+        program = program.run_line(alloc, number, line)?;
+        rest = behind;
+        number += 1;
+    }
+    program.finish(alloc, number)
+}

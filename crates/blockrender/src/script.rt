@@ -1,0 +1,5 @@
+//! The language of scripts, below its commands.
+
+pub mod escape;
+pub mod line;
+pub mod number;
