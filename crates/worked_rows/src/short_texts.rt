@@ -1,0 +1,142 @@
+//! Every short text over a few telling characters: the block's lines are those of the plain program for the best layout.
+ghost use Rattle.std.specs.Prelude.{◌<◌};
+
+use crate::texts::wrapped_by;
+use std::alloc::{AllocError, Global};
+use std::test::Fail;
+use tbr_lines::{Error, UnicodeColumns, WhiteSpace};
+use tbr_model::{Entry, Slot, best_layout, slots};
+
+/// A letter, a space, two characters that look like none, a stroke, and a wide character.
+const ALPHABET: [char; 6] = ['a', ' ', '\u{200b}', '\u{a0}', '\u{336}', '漢'];
+
+const LONGEST: u32 = 5;
+
+const WIDEST: usize = 4;
+
+/// The text that a number stands for, its digits to the base six being characters.
+fn numbered(alloc: Global, length: u32, number: u32) -> Result<String, AllocError> {
+    let mut text = String::new(alloc);
+    let mut left = number;
+    for _ in 0..length {
+        text.push(ALPHABET[(left % 6) as usize])?;
+        left /= 6;
+    }
+    Ok(text)
+}
+
+fn entries(alloc: Global, text: &str) -> Result<Vec<Entry<u8>>, AllocError> {
+    let mut run = Vec::new(alloc);
+    for c in text.chars() {
+        run.push(Entry::Character {
+            c,
+            tag: 7,
+            mode: WhiteSpace::Normal,
+        })?;
+    }
+    Ok(run)
+}
+
+/// The text of a layout's line: its characters, and a space at each spaced gap strictly inside it.
+fn append_line(all: &mut String, line: &[Slot<'_, u8>]) -> Result<(), AllocError> {
+    let mut first = true;
+    for slot in line {
+        if !first && slot.gap.is_some() {
+            all.push(' ')?;
+        }
+        first = false;
+        if let Entry::Character { c, .. } = slot.entry {
+            all.push(*c)?;
+        }
+    }
+    all.push('\n')?;
+    Ok(())
+}
+
+/// The lines of the best layout by the plain program, each with a newline, or `None` where the text has no legal layout.
+fn plainly(alloc: Global, width: usize, text: &str) -> Result<Option<String>, AllocError> {
+    let run = entries(alloc, text)?;
+    let Some(cuts) = best_layout::<u8, UnicodeColumns>(alloc, &run, width)? else {
+        return Ok(None);
+    };
+    let items = slots::<u8, UnicodeColumns>(alloc, &run, width)?;
+    let mut all = String::new(alloc);
+    let mut from = 0;
+    for to in &cuts {
+        if let Some(line) = items.get(from..*to)
+            && *to > from
+        {
+            append_line(&mut all, line)?;
+        }
+        from = *to;
+    }
+    Ok(Some(all))
+}
+
+/// Whether the block wraps the text as the plain program does.
+fn agrees(alloc: Global, width: usize, text: &str) -> Result<bool, Fail>
+    requires { 0 < width }
+{
+    let wrapped = match wrapped_by::<UnicodeColumns>(alloc, width, &[text]) {
+        Ok(lines) => Some(lines),
+        Err(Error::TooNarrow) => None,
+        Err(e) => return Err(Fail::from(e)),
+    };
+    let plain = plainly(alloc, width, text)?;
+    Ok(match (&wrapped, &plain) {
+        (Some(lines), Some(expected)) => lines.as_str() == expected.as_str(),
+        (None, None) => true,
+        _ => false,
+    })
+}
+
+fn agrees_on_texts_of(
+    alloc: Global,
+    rt: &impl std::process::Abort,
+    width: usize,
+    length: u32,
+) -> Result<(), Fail>
+    requires { 0 < width }
+{
+    for number in 0..6u32.saturating_pow(length) {
+        let text = numbered(alloc, length, number)?;
+        assert!(rt;
+            agrees(alloc, width, text.as_str())?,
+            "{text:?} at width {width}"
+        );
+    }
+    Ok(())
+}
+
+#[test]
+fn the_block_wraps_every_short_text_as_the_plain_program_does(rt: HostRuntime) -> Result<(), Fail> {
+    let alloc = rt.alloc();
+    for width in 1..=WIDEST {
+        for length in 0..=LONGEST {
+            agrees_on_texts_of(alloc, &rt, width, length)?;
+        }
+    }
+    Ok(())
+}
+
+#[test]
+fn the_block_wraps_worked_texts_as_the_plain_program_does(rt: HostRuntime) -> Result<(), Fail> {
+    let alloc = rt.alloc();
+    let texts = [
+        "Hello, world.  Superlongwordreally",
+        "Hello there boo",
+        "Do break a line somewhere in foo\u{200b}bar\u{200b}foo\u{200b}bar\u{200b}foo",
+        "Don't break a line between the words Foo\u{a0}and\u{a0}Bar",
+        "漢漢漢",
+        "aaa bb cc ddddd",
+        "abcdefgh ij",
+        "o there",
+        "a\u{336}b\u{336}c",
+    ];
+    for text in texts {
+        for width in 1..=12 {
+            assert!(rt; agrees(alloc, width, text)?, "{text:?} at width {width}");
+        }
+    }
+    Ok(())
+}
