@@ -1,44 +1,23 @@
 -- No line of the best layout is without a character.
 use Rattle.std.proofs.Common.{◌≡◌, ℕ, ◌+◌, ◌<◌, ◌≤◌, Bool, true, false, nat_lt, nat_le, ◌||◌, ◌&&◌, Option, None, List, [], ◌∷◌, ◌++◌, map, fold, refl, ap, sym, ◌∙◌, arith, append_assoc, append-nil, leb-true, leb-false, ltb-true, ltb-false, le-leb}
 use Rattle.std.specs.List.{AllByRecursion as Each}
-use Rattle.std.proofs.lemmas.Bool.{cond_both}
+use Rattle.std.proofs.lemmas.Bool.{cond_both, or_right, or_parts}
 use Rattle.std.proofs.lemmas.List.{map-append}
 use Rattle.tbr_model.specs.Run.{Entry, Item, glyph, marker, item_width, items_width, has_character, Word, word_of, Reading, start, works, read, reading, words_of}
 use Rattle.tbr_model.specs.Layout.{Slot, slot_of, slots_of, line_width, gap_width, line_has_character, IsBest}
 use Rattle.tbr_model.specs.Greedy.{close, Lines, fill, place_word, no_lines, wrapped, IsNarrow}
+use Rattle.tbr_model.proofs.Letters.{has_character-append, no_character_no_width}
 use Rattle.tbr_model.proofs.Ahead.{rest_width-append, each_append, unique}
 use Rattle.tbr_model.proofs.Words.{rest_width_within}
 use Rattle.tbr_model.proofs.Runs.{narrow_if_legal, best_lines, best_if_narrow, each_words_narrow}
 
 -- ---- characters of items and lines
 
-pub has_character-append : {A : Type 0} (a b : List (Item A)) → has_character (a ++ b) ≡ has_character a || has_character b
-has_character-append [] b = refl
-has_character-append (glyph c x ∷ a) b = refl
-has_character-append (marker m ∷ a) b = has_character-append a b
-
-no_character_no_width : {A : Type 0} (columns : ℕ → Option ℕ) (is : List (Item A)) → has_character is ≡ false → items_width columns is ≡ 0
-no_character_no_width columns [] h = refl
-no_character_no_width columns (glyph c a ∷ is) h = cc
-no_character_no_width columns (marker m ∷ is) h = omega (arith, no_character_no_width columns is h)
-
 line-append : {A : Type 0} (a b : List (Slot A)) → line_has_character (a ++ b) ≡ line_has_character a || line_has_character b
 line-append a b = ap has_character (map-append (λ s. s.item) a b) ∙ has_character-append (map (λ s. s.item) a) (map (λ s. s.item) b)
 
-or_right : (a : Bool) → (a || true) ≡ true
-or_right true = refl
-or_right false = refl
-
-or_first : (a b : Bool) → (a || b) ≡ false → a ≡ false
-or_first true b e = cc
-or_first false b e = refl
-
-or_second : (a b : Bool) → (a || b) ≡ false → b ≡ false
-or_second true b e = cc
-or_second false b e = e
-
 back_has : {A : Type 0} (a b : List (Slot A)) → line_has_character b ≡ true → line_has_character (a ++ b) ≡ true
-back_has a b h = line-append a b ∙ ap (λ x. line_has_character a || x) h ∙ or_right (line_has_character a)
+back_has a b h = line-append a b ∙ or_right (line_has_character a) (line_has_character b) h
 
 front_has : {A : Type 0} (a b : List (Slot A)) → line_has_character a ≡ true → line_has_character (a ++ b) ≡ true
 front_has a b h = line-append a b ∙ ap (λ x. x || line_has_character b) h
@@ -49,10 +28,10 @@ HasGlyph l = line_has_character l ≡ true
 -- ---- a wider word's lines
 
 -- inside a word: behind no gap, as wide as its item, and no wider than a line
-abbrev Inner : {A : Type 0} → (ℕ → Option ℕ) → ℕ → Slot A → Type 0
+abbrev pub Inner : {A : Type 0} → (ℕ → Option ℕ) → ℕ → Slot A → Type 0
 Inner columns width s = (s.gap ≡ None) × (s.width ≡ item_width columns s.item) × (s.width ≤ width)
 
-line_width-one : {A : Type 0} (l : List (Slot A)) (s : Slot A) → s.gap ≡ None → line_width (l ++ s ∷ []) ≡ line_width l + s.width
+pub line_width-one : {A : Type 0} (l : List (Slot A)) (s : Slot A) → s.gap ≡ None → line_width (l ++ s ∷ []) ≡ line_width l + s.width
 line_width-one [] s e = omega arith
 line_width-one (t ∷ l) s e = omega (arith, rest_width-append l (s ∷ []), ap gap_width e)
 
@@ -81,7 +60,7 @@ fill_characters {A} columns width done last (s ∷ ss) h inner fits empty some =
     longer : line_has_character (last ++ s ∷ []) ≡ false → line_width (last ++ s ∷ []) ≡ 0
     longer none =
         let both : (line_has_character last || line_has_character (s ∷ [])) ≡ false = sym (line-append last (s ∷ [])) ∙ none in
-        omega (arith, line_width-one last s inner.0.0, empty (or_first _ _ both), one_width columns s inner.0.1 (or_second _ _ both))
+        omega (arith, line_width-one last s inner.0.0, empty (or_parts _ _ both).0, one_width columns s inner.0.1 (or_parts _ _ both).1)
 
     ended : (b : Bool) → line_has_character last ≡ b → width < line_width last + s.width → line_has_character last ≡ true
     ended true e wide = e
@@ -89,7 +68,7 @@ fill_characters {A} columns width done last (s ∷ ss) h inner fits empty some =
 
 -- ---- words
 
-abbrev LastHas : {A : Type 0} → List (Slot A) → Type 0
+abbrev pub LastHas : {A : Type 0} → List (Slot A) → Type 0
 LastHas [] = Unit {0}
 LastHas (s ∷ l) = HasGlyph (s ∷ l)
 
@@ -101,15 +80,15 @@ each_close : {A : Type 0} (done : List (List (Slot A))) (last : List (Slot A)) �
 each_close done [] h k = h
 each_close done (s ∷ l) h k = each_append HasGlyph done ((s ∷ l) ∷ []) h (k, tt)
 
-inner_slots : {A : Type 0} (columns : ℕ → Option ℕ) (width : ℕ) (wider : Bool) (is : List (Item A)) → IsNarrow columns width is → Each (Inner columns width) (map (slot_of columns wider None false) is)
+pub inner_slots : {A : Type 0} (columns : ℕ → Option ℕ) (width : ℕ) (wider : Bool) (is : List (Item A)) → IsNarrow columns width is → Each (Inner columns width) (map (slot_of columns wider None false) is)
 inner_slots columns width wider [] h = tt
 inner_slots columns width wider (i ∷ is) h = ((refl, refl, h.0), inner_slots columns width wider is h.1)
 
-items_within : {A : Type 0} (columns : ℕ → Option ℕ) (wider : Bool) (is : List (Item A)) → map (λ s. s.item) (map (slot_of columns wider None false) is) ≡ is
+pub items_within : {A : Type 0} (columns : ℕ → Option ℕ) (wider : Bool) (is : List (Item A)) → map (λ s. s.item) (map (slot_of columns wider None false) is) ≡ is
 items_within columns wider [] = refl
 items_within columns wider (i ∷ is) = ap (λ js. i ∷ js) (items_within columns wider is)
 
-place_characters : {A : Type 0} (columns : ℕ → Option ℕ) (width : ℕ) (lines : Lines A) (w : Word A) → Each HasGlyph lines.done → LastHas lines.last → has_character w.items ≡ true → IsNarrow columns width w.items →
+pub place_characters : {A : Type 0} (columns : ℕ → Option ℕ) (width : ℕ) (lines : Lines A) (w : Word A) → Each HasGlyph lines.done → LastHas lines.last → has_character w.items ≡ true → IsNarrow columns width w.items →
     Each HasGlyph (place_word columns width lines w).done × LastHas (place_word columns width lines w).last
 place_characters {A} columns width lines w h k some narrow = go w.items refl some narrow
   where
@@ -161,7 +140,7 @@ fold_characters columns width (w ∷ words) lines h k some narrow =
 abbrev WordHas : {A : Type 0} → Word A → Type 0
 WordHas w = has_character w.items ≡ true
 
-wide_items : {A : Type 0} (columns : ℕ → Option ℕ) (is : List (Item A)) → 0 < items_width columns is → has_character is ≡ true
+pub wide_items : {A : Type 0} (columns : ℕ → Option ℕ) (is : List (Item A)) → 0 < items_width columns is → has_character is ≡ true
 wide_items columns [] h = absurd (omega arith)
 wide_items columns (glyph c a ∷ is) h = refl
 wide_items columns (marker m ∷ is) h = wide_items columns is (omega arith)

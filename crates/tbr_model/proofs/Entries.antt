@@ -7,10 +7,6 @@ use Rattle.tbr_model.specs.declared.entry.Entry.{Entry as StoredEntry}
 use Rattle.tbr_model.specs.Entry.{entry_value, entry_values}
 use Rattle.tbr_model.proofs.Lists.{take_item}
 
-pub or_true : (b : Bool) → b || true ≡ true
-or_true true = refl
-or_true false = refl
-
 pub or_false : (b : Bool) → b || false ≡ b
 or_false true = refl
 or_false false = refl

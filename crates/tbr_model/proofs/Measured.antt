@@ -1,9 +1,10 @@
 -- The columns of slots in memory.
-use Rattle.std.proofs.Common.{◌≡◌, ℕ, zero, suc, ◌+◌, ◌-◌, ◌<◌, ◌≤◌, List, [], ◌∷◌, length, take, drop, slice_range, get_or, Bool, true, false, not, ◌&&◌, ◌||◌, ◌↔◌, Option, Some, None, is_some, option_copied, refl, ap, sym, ◌∙◌, arith}
+use Rattle.std.proofs.Common.{◌≡◌, ℕ, zero, suc, ◌+◌, ◌-◌, ◌<◌, ◌≤◌, List, [], ◌∷◌, length, take, drop, slice_range, get_or, Bool, true, not, ◌&&◌, ◌||◌, ◌↔◌, Option, Some, None, is_some, option_copied, refl, ap, sym, ◌∙◌, arith}
 use Rattle.std.proofs.lemmas.List.{take-map, drop-map, take_rest}
 use mir.Val.{bool_byte}
 use Rattle.std.specs.Borrow.{Bor}
 use Rattle.std.specs.List.{AllByRecursion as Each, list_all}
+use Rattle.std.proofs.lemmas.Bool.{and_parts}
 use Rattle.tbr_model.specs.declared.slot.Slot.{Slot as StoredSlot}
 use Rattle.tbr_model.specs.Layout.{gap_width, rest_width, line_width, MayFollow, IsLegalLine}
 use Rattle.tbr_model.specs.Slot.{slot_value, slot_values}
@@ -34,11 +35,7 @@ line_width_whole {A} line others first e = ap (λ (l : List (StoredSlot A)). lin
 -- a closure's test of each slot, as a fact
 pub follow_if_all : {A : Type 0} (xs : List (StoredSlot A)) → list_all (λ s. not (s.begins && s.wider)) xs ≡ true → Each MayFollow (slot_values xs)
 follow_if_all [] h = tt
-follow_if_all (x ∷ xs) h = let both = and_both _ _ h in (both.0, follow_if_all xs both.1)
-  where
-    and_both : (a b : Bool) → a && b ≡ true → (a ≡ true) × (b ≡ true)
-    and_both true b h = (refl, h)
-    and_both false b h = cc
+follow_if_all (x ∷ xs) h = let both = and_parts _ _ h in (both.0, follow_if_all xs both.1)
 
 pub all_if_follow : {A : Type 0} (xs : List (StoredSlot A)) → Each MayFollow (slot_values xs) → list_all (λ s. not (s.begins && s.wider)) xs ≡ true
 all_if_follow [] h = refl

@@ -3,8 +3,10 @@ use Rattle.std.proofs.Common.{◌≡◌, ℕ, zero, suc, ◌+◌, Bool, true, fa
 use Rattle.std.specs.List.{AllByRecursion as Each, list_any}
 use Rattle.std.proofs.lemmas.List.Concat.{flat_map-append}
 use Rattle.std.proofs.lemmas.List.Sums.{fold-append}
+use Rattle.std.proofs.lemmas.Bool.{and_parts}
 use Rattle.tbr_model.specs.Run.{Entry, character, fragment, Item, glyph, items_width, items_of, kept_items, is_kept, is_break, is_break_entry, blank_of, first_of, has_character, Word, word_of, Reading, works, read, words_of, trailing}
 use Rattle.tbr_model.specs.Regions.{takes_columns, HasColumns, NoBreakWorks, Region, region_entries, EndsAtWorkingBreak, IsParted, first_blank, word_behind, words_behind, words_between, markers_left}
+use Rattle.tbr_model.proofs.Letters.{items_width-append}
 use Rattle.tbr_model.proofs.Lists.{cut_twice}
 use Rattle.tbr_model.proofs.Ahead.{each_append}
 
@@ -15,16 +17,12 @@ lt-zero-add zero b = ap (nat_lt 0) (let e : 0 + b ≡ b = omega arith in e)
 lt-zero-add (suc a) b = rw (lt-ltb 0 (suc a + b) (omega arith), lt-ltb 0 (suc a) (omega arith)) refl
 
 takes_columns_width : {A : Type 0} (columns : ℕ → Option ℕ) (e : Entry A) → takes_columns columns e ≡ nat_lt 0 (items_width columns (items_of columns e))
-takes_columns_width columns (character c a mode) = go (is_kept columns c)
+takes_columns_width columns (character c a b mode) = go (is_kept columns c)
   where
     go : (b : Bool) → b && nat_lt 0 (unwrap_or (columns c) 0) ≡ nat_lt 0 (items_width columns (if b then glyph c a ∷ [] else []))
     go true = ap (nat_lt 0) (let e : unwrap_or (columns c) 0 ≡ unwrap_or (columns c) 0 + 0 = omega arith in e)
     go false = refl
 takes_columns_width columns (fragment name) = refl
-
-items_width-append : {A : Type 0} (columns : ℕ → Option ℕ) (a b : List (Item A)) → items_width columns (a ++ b) ≡ items_width columns a + items_width columns b
-items_width-append columns [] b = omega arith
-items_width-append columns (i ∷ a) b = omega (arith, items_width-append columns a b)
 
 pub has_columns_width : {A : Type 0} (columns : ℕ → Option ℕ) (es : List (Entry A)) → list_any (takes_columns columns) es ≡ nat_lt 0 (items_width columns (kept_items columns es))
 has_columns_width columns [] = refl
@@ -41,7 +39,7 @@ first_of_assoc : {A : Type 0} (a b c : Option A) → first_of (first_of a b) c �
 first_of_assoc None b c = refl
 first_of_assoc (Some x) b c = refl
 
-first_of_none : {A : Type 0} (a : Option A) → first_of a None ≡ a
+pub first_of_none : {A : Type 0} (a : Option A) → first_of a None ≡ a
 first_of_none None = refl
 first_of_none (Some x) = refl
 
@@ -177,10 +175,6 @@ part_more {A} columns run (e ∷ more) regions rest h =
     let v = part_more columns (run ++ e ∷ []) more w.0 w.1 w.2 in
     (v.0, v.1, record { whole = v.2.whole ∙ append_assoc run (e ∷ []) more; each = v.2.each; last = v.2.last })
   where
-    and_both : (a b : Bool) → a && b ≡ true → (a ≡ true) × (b ≡ true)
-    and_both true b h = (refl, h)
-    and_both false b h = cc
-
     and_not : (a b : Bool) → a && b ≡ false → a ≡ true → b ≡ true → ⊥
     and_not true true h p q = cc
     and_not true false h p q = cc
@@ -188,7 +182,7 @@ part_more {A} columns run (e ∷ more) regions rest h =
 
     step : (b : Bool) → is_break_entry e && list_any (takes_columns columns) rest ≡ b →
         (rs : List (Region A)) × (r : List (Entry A)) × IsParted columns (run ++ e ∷ []) rs r
-    step true k = let both = and_both _ _ k in (regions ++ record { content = rest; break = e } ∷ [], [], more_regions columns run regions rest e h both.0 both.1)
+    step true k = let both = and_parts _ _ k in (regions ++ record { content = rest; break = e } ∷ [], [], more_regions columns run regions rest e h both.0 both.1)
     step false k = (
       regions,
       rest ++ e ∷ [],

@@ -1,12 +1,13 @@
 -- The words of a run hold its kept items, and which runs have a legal layout.
-use Rattle.std.proofs.Common.{◌≡◌, ℕ, ◌≤◌, Bool, true, false, not, ◌&&◌, nat_lt, if◌then◌else◌, is_some, Option, None, List, [], ◌∷◌, ◌++◌, map, fold, flat_map, refl, ap, sym, ◌∙◌, arith, append_assoc, append-nil, subst}
+use Rattle.std.proofs.Common.{◌≡◌, ℕ, ◌≤◌, Bool, true, false, nat_lt, if◌then◌else◌, Option, None, List, [], ◌∷◌, ◌++◌, map, fold, flat_map, refl, ap, sym, ◌∙◌, arith, append_assoc, append-nil, subst}
 use Rattle.std.specs.List.{AllByRecursion as Each}
-use Rattle.std.proofs.lemmas.Bool.{cond_both}
+use Rattle.std.proofs.lemmas.Bool.{cond_both, and_parts}
 use Rattle.std.proofs.lemmas.List.Concat.{flat_map-append}
 use Rattle.tbr_model.specs.Run.{Entry, character, fragment, Item, glyph, marker, item_width, items_width, items_of, kept_items, is_kept, is_break_entry, has_character, Word, word_of, Reading, start, works, read, reading, words_of, trailing}
 use Rattle.tbr_model.specs.Layout.{Slot, slot_of, word_slots, slots_of, joined, line_width, rest_width, IsLegalLine, IsLegal, IsBest}
 use Rattle.tbr_model.proofs.Ahead.{each_front, each_back, each_append}
 use Rattle.tbr_model.specs.Greedy.{close, wrapped, IsNarrow}
+use Rattle.tbr_model.proofs.Letters.{break_lost}
 use Rattle.tbr_model.proofs.Words.{wrapped_holds, holds_best}
 
 -- ---- the items of the words
@@ -14,24 +15,15 @@ use Rattle.tbr_model.proofs.Words.{wrapped_holds, holds_best}
 abbrev pub held : {A : Type 0} → Reading A → List (Item A)
 held r = flat_map (λ w. w.items) r.words ++ r.items
 
-and_left : (a b : Bool) → a && b ≡ true → a ≡ true
-and_left true b e = refl
-and_left false b e = e
-
-and_false : (a : Bool) → a && false ≡ false
-and_false true = refl
-and_false false = refl
-
 -- a break point is not kept
 pub break_left : {A : Type 0} (columns : ℕ → Option ℕ) (e : Entry A) → is_break_entry e ≡ true → items_of columns e ≡ []
-break_left columns (character c a mode) h =
-    let k : is_kept columns c ≡ false = ap (λ b. is_some (columns c) && not b) h ∙ and_false (is_some (columns c)) in rw k refl
+break_left columns (character c a b mode) h = let k : is_kept columns c ≡ false = break_lost columns c h in rw k refl
 break_left columns (fragment name) h = cc
 
 pub held-read : {A : Type 0} (columns : ℕ → Option ℕ) (r : Reading A) (e : Entry A) → held (read columns r e) ≡ held r ++ items_of columns e
 held-read {A} columns r e =
     cond_both (works columns r e) _ _ (λ (q : Reading A). held q ≡ held r ++ items_of columns e)
-    (λ h. let none : items_of columns e ≡ [] = break_left columns e (and_left _ _ h) in
+    (λ h. let none : items_of columns e ≡ [] = break_left columns e (and_parts _ _ h).0 in
     rw none (simp (flat_map-append, append-nil)))
     (λ _. sym (append_assoc _ r.items (items_of columns e)))
 

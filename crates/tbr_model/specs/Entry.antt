@@ -6,12 +6,12 @@ use Rattle.tbr_model.specs.Run.{Entry, character, fragment, Item, glyph, marker}
 
 -- A marker's name is its bytes.
 abbrev pub entry_value : {A : Type 0} → StoredEntry A → Entry A
-entry_value (Character c tag mode) = character c tag mode
+entry_value (Character c tag wrap_tag mode) = character c tag wrap_tag mode
 entry_value (Fragment name) = fragment (string_bytes name)
 
 -- an entry as an item
 abbrev pub item_of : {A : Type 0} → Entry A → Item A
-item_of (character c a mode) = glyph c a
+item_of (character c a b mode) = glyph c a
 item_of (fragment name) = marker name
 
 -- whether an item is a character, and no marker

@@ -5,7 +5,7 @@ use Rattle.tbr_model.specs.Run.{Entry, character, fragment, Item, is_kept, is_br
 
 -- a kept character of positive width
 abbrev pub takes_columns : {A : Type 0} → (ℕ → Option ℕ) → Entry A → Bool
-takes_columns columns (character c a mode) = is_kept columns c && nat_lt 0 (unwrap_or (columns c) 0)
+takes_columns columns (character c a b mode) = is_kept columns c && nat_lt 0 (unwrap_or (columns c) 0)
 takes_columns columns (fragment name) = false
 
 -- A kept character of positive width stands among the entries.

@@ -3,9 +3,9 @@ use Rattle.std.specs.Prelude.{ℕ, ◌+◌, Bool, true, false, not, ◌&&◌, �
 use Rattle.std.specs.Char.{is_whitespace}
 use Rattle.tbr_model.specs.declared.white_space.WhiteSpace.{WhiteSpace}
 
--- A character with its annotation and mode, or a marker by its name.
+-- A character with its annotation, the one it has where its hard line goes on, and its mode; or a marker by its name.
 pub data Entry (A : Type 0) : Type 0 where
-  character : ℕ → A → WhiteSpace → Entry A
+  character : ℕ → A → A → WhiteSpace → Entry A
   fragment : List ℕ → Entry A
 
 -- An annotated character, or a marker.
@@ -40,7 +40,7 @@ is_kept columns c = is_some (columns c) && not (is_break c)
 
 -- what an entry leaves in its word
 abbrev pub items_of : {A : Type 0} → (ℕ → Option ℕ) → Entry A → List (Item A)
-items_of columns (character c a mode) = if is_kept columns c then glyph c a ∷ [] else []
+items_of columns (character c a b mode) = if is_kept columns c then glyph c a ∷ [] else []
 items_of columns (fragment name) = marker name ∷ []
 
 -- the kept characters and the markers of a run, in order
@@ -49,11 +49,11 @@ kept_items columns run = flat_map (items_of columns) run
 
 -- The annotation of white space other than U+00A0.
 abbrev pub blank_of : {A : Type 0} → Entry A → Option A
-blank_of (character c a mode) = if is_blank c then Some a else None
+blank_of (character c a b mode) = if is_blank c then Some a else None
 blank_of (fragment name) = None
 
 abbrev pub is_break_entry : {A : Type 0} → Entry A → Bool
-is_break_entry (character c a mode) = is_break c
+is_break_entry (character c a b mode) = is_break c
 is_break_entry (fragment name) = false
 
 -- the earlier of the two

@@ -8,11 +8,20 @@ ghost use Rattle.tbr_model.specs.Entry.{entry_value, item_of, is_glyph};
 use crate::white_space::WhiteSpace;
 use crate::width::CharWidth;
 
-/// An entry of a run: a character under its annotation and mode, or a marker by its name.
+/// An entry of a run: a character or a marker.
 #[derive(Drop)]
 pub enum Entry<T> {
-    Character { c: char, tag: T, mode: WhiteSpace },
-    Fragment { name: String },
+    /// A character with its annotation, the one that it has where its hard line goes on, and its mode.
+    Character {
+        c: char,
+        tag: T,
+        wrap_tag: T,
+        mode: WhiteSpace,
+    },
+    /// A marker by its name.
+    Fragment {
+        name: String,
+    },
 }
 
 impl<T> Entry<T> {

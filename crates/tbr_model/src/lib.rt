@@ -3,6 +3,10 @@
 
 pub use best::best_layout;
 pub use entry::Entry;
+pub use hard::{
+    hard_lines_are_shown, pre_lines_are_shown, prewrap_lines_are_shown, rule_is_best,
+    tabs_are_shown,
+};
 pub use history::History;
 pub use laws::{
     best_has_fewest_lines, best_is_unique, best_lines_have_characters, first_gap_never_counts,
@@ -17,6 +21,7 @@ pub use word::slots;
 
 mod best;
 mod entry;
+mod hard;
 mod history;
 mod laws;
 mod layout;

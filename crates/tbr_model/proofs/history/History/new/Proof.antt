@@ -36,18 +36,18 @@ use Rattle.tbr_model.specs.contracts.history.History.new.Key.{name as #self}
 use Rattle.tbr_model.proofs.history.History.new.Statement as stated
 use Rattle.tbr_model.proofs.history.History.new.Code as code
 
-module _ (A B : RattleType) where
+module _ (A B D : RattleType) where
   abbrev args : Args
-  args = layouts (a_type ∷ a_type ∷ []) (A, (B, tt))
+  args = layouts (a_type ∷ a_type ∷ a_type ∷ []) (A, (B, (D, tt)))
 
   abbrev pair : RattleType
-  pair = Tuple (param 0 A ∷ param 1 B ∷ [])
+  pair = Tuple (param 0 A ∷ param 1 B ∷ param 2 D ∷ [])
 
   abbrev function : Fn
   function = inst_fn args code.function
 
   abbrev ended : Ended
-  ended = F.ended A B
+  ended = F.ended A B D
 
   abbrev stayed : Stays ended.signature.params ended.kept
   stayed = tt
@@ -56,7 +56,7 @@ module _ (A B : RattleType) where
     open 𝓛 use {H}
 
     abbrev held : Clauses 𝓤 ended
-    held = F.clauses A B 𝓛 at_mem run
+    held = F.clauses A B D 𝓛 at_mem run
 
     module _ (C : Calls 𝓤 H) (Λ : Loops 𝓤 H) (z : (walk_of 𝓛 ended stayed held).Ghost) where
       abbrev Post : Val → SProp 𝓤
@@ -69,7 +69,7 @@ module _ (A B : RattleType) where
       walks =
           let a = z.0.3 in
           let vss = z.0.4 in
-          let made : (Log.the_row (param 0 A) (param 1 B)).Denot =
+          let made : (Log.the_row (param 0 A) (param 1 B) (param 2 D)).Denot =
           record { of = record {}; items = [] } in
           qed 𝓛 ((raw toks ⊛ ‵ (owns (types_at ended.signature.params z.0.0) a vss)) ∷ raw ((held z.0.0 a).requires z.1) ∷ []) ∵
           keep ! (0 ∷ []) $ split ! $ keep ! (0 ∷ []) $
@@ -89,7 +89,7 @@ module _ (A B : RattleType) where
 
 pub new_spec : {M : Type 1} → stated.statement M
 unfolding tables_of
-new_spec 𝓤 𝓛 𝓜 𝓡 wired A B LA LB =
+new_spec 𝓤 𝓛 𝓜 𝓡 wired A B D LA LB LD =
     let 𝓣 : Tables 𝓤 𝓛.H = tables_of 𝓤 𝓛.H 𝓜 (tables 𝓤 𝓛.H 𝓜 𝓡 𝓡.env) in
-    entered 𝓤 𝓛.H (triple_of 𝓛 (ended A B).signature (closing 𝓛 (ended A B) (held A B 𝓛 𝓜.mem 𝓡.returns))) 𝓣.C 𝓣.Λ (#self (args A B)) (function A B)
-    (code.unfolded 𝓤 𝓛.H 𝓜 𝓡 wired (A, (B, tt))) (meets A B 𝓛 𝓜.mem 𝓡.returns 𝓣)
+    entered 𝓤 𝓛.H (triple_of 𝓛 (ended A B D).signature (closing 𝓛 (ended A B D) (held A B D 𝓛 𝓜.mem 𝓡.returns))) 𝓣.C 𝓣.Λ (#self (args A B D)) (function A B D)
+    (code.unfolded 𝓤 𝓛.H 𝓜 𝓡 wired (A, (B, (D, tt)))) (meets A B D 𝓛 𝓜.mem 𝓡.returns 𝓣)

@@ -1,0 +1,5 @@
+use Rattle.tbr_model.proofs.Visible.{hard_lines_shown}
+use Rattle.tbr_model.proofs.hard.hard_lines_are_shown.Goals as goal
+
+pub returns : goal.returns
+returns g c = hard_lines_shown

@@ -1,0 +1,5 @@
+use Rattle.tbr_model.proofs.Modes.{pre_shown}
+use Rattle.tbr_model.proofs.hard.pre_lines_are_shown.Goals as goal
+
+pub returns : goal.returns
+returns g c = pre_shown

@@ -1,0 +1,5 @@
+use Rattle.tbr_model.proofs.Modes.{tabs_shown}
+use Rattle.tbr_model.proofs.hard.tabs_are_shown.Goals as goal
+
+pub returns : goal.returns
+returns g c = tabs_shown
