@@ -1,27 +1,29 @@
 -- What a block keeps of its runs.
-use Rattle.std.proofs.Common.{◌≡◌, ℕ, suc, ◌-◌, ◌<◌, Bool, true, false, Option, None, Some, List, [], ◌∷◌, ◌++◌, map, length, take, drop, refl, ap, sym, ◌∙◌, subst, arith, append_assoc, append-nil}
+use Rattle.std.proofs.Common.{◌≡◌, ℕ, suc, ◌+◌, ◌-◌, ◌<◌, inl, inr, Bool, true, false, Option, None, Some, List, [], ◌∷◌, ◌++◌, map, length, take, drop, refl, ap, sym, ◌∙◌, subst, arith, append_assoc, append-nil, length-append, lt-ltb}
 use Rattle.std.proofs.lemmas.List.{take_at, drop_at, length-map}
+use Rattle.std.proofs.lemmas.List.Sums.{fold-append}
+use Rattle.std.proofs.lemmas.Bool.{le-ltb}
 use Rattle.std.specs.List.{AllZip, AllByRecursion as Each}
-use Rattle.std.specs.Prelude.{MatchOption}
+use Rattle.std.specs.Prelude.{MatchOption, nat_lt, ◌||◌}
 use Rattle.std.specs.Cmp.{IsEquivalence}
-use Rattle.tbr_model.specs.Run.{Item, items_width, Entry, reading}
-use Rattle.tbr_model.specs.Layout.{Slot, joined, line_text}
-use Rattle.tbr_model.specs.Greedy.{Lines, wrapped}
-use Rattle.tbr_model.proofs.Characters.{best_characters}
+use Rattle.tbr_model.specs.Run.{Item, items_width, Entry, is_break_entry}
+use Rattle.tbr_model.specs.Layout.{joined, line_text}
+use Rattle.tbr_model.specs.Greedy.{IsNarrow}
+use Rattle.tbr_model.proofs.NormalEnd.{NormalBlank}
+use Rattle.tbr_model.specs.Laid.{Laid}
+use Rattle.tbr_model.specs.Rule.{Event, call, entry, run_of, Progress, at_start, step, progress, finished, lines_of}
 use Rattle.tbr_lines.specs.declared.wrap.open.Open.{Open}
-use Rattle.tbr_lines.specs.Laid.{Laid}
 use Rattle.tbr_lines.specs.Elements.{Element, items_of, text_items, SameItems, IsMerged}
 use Rattle.tbr_lines.specs.Padding.{spaces}
-use Rattle.tbr_lines.specs.Wrapped.{IsTextOf, HasBestLines, FitsBlock, EndedWordsFit, ShowsText, ended_lines, padding_of}
-use Rattle.tbr_lines.specs.State.{State, parted}
+use Rattle.tbr_lines.specs.Wrapped.{FitsBlock, taking_columns, IsTextOf, EndedWordsFit, WordsFit, ShowsText, ended_lines, padding_of}
+use Rattle.tbr_lines.specs.State.{State, IsNormal, IsShownBy, parted, is_some_list}
 use Rattle.tbr_lines.specs.declared.error.Error.{Error}
-use Rattle.tbr_lines.specs.Open.{Shows, Holds, Stands, Tracks, Ended, Leaves, KeepsSettings}
+use Rattle.tbr_lines.specs.Open.{Shows, Holds, Stands, Tracks, Finished, Leaves, KeepsSettings, KeepsLimits}
 use Rattle.tbr_lines.specs.Block.{earlier_texts, Keeps}
-use Rattle.tbr_lines.proofs.Laying.{all_zip_append, same_width}
-use Rattle.tbr_lines.proofs.Same.{same_items_append, same_items_trans, same_from_path}
-use Rattle.tbr_lines.proofs.Ending.{texts_full}
+use Rattle.tbr_lines.proofs.Same.{same_items_append, same_items_trans, same_from_path, same_width, same_width_one, all_zip_append}
+use Rattle.tbr_lines.proofs.Ending.{shown_run, texts_of_lines, ended_words_fit_normal, ended_lines_normal, blank_normal, too_narrow_normal, too_narrow_end}
 
-pub parted-joined : {X : Type 0} (ls : List (List X)) (more : List X) → parted (map length ls) (joined ls ++ more) ≡ ls
+parted-joined : {X : Type 0} (ls : List (List X)) (more : List X) → parted (map length ls) (joined ls ++ more) ≡ ls
 parted-joined [] more = refl
 parted-joined {X} (l ∷ ls) more =
     let e : (l ++ joined ls) ++ more ≡ l ++ (joined ls ++ more) = append_assoc l (joined ls) more in
@@ -29,76 +31,154 @@ parted-joined {X} (l ∷ ls) more =
     ∙ ap (λ (xs : List X). l ∷ parted (map length ls) xs) (drop_at l (joined ls ++ more) (length l) refl) ∙ ap (λ (ms : List (List X)). l ∷ ms) (parted-joined ls more))
 
 -- the first ended lines are those of earlier runs
-pub earlier_is : {A : Type 0} (b : Open A) (before : List (List (Item A))) (l : Laid A) (n : ℕ) → Holds b before l → length before ≡ n → earlier_texts n b ≡ before
+earlier_is : {A : Type 0} (b : Open A) (before : List (List (Item A))) (l : Laid A) (n : ℕ) → Holds b before l → length before ≡ n → earlier_texts n b ≡ before
 earlier_is {A} b before l n h e =
     let lines : parted b.lines.items b.flat.placed ≡ before ++ l.done = ap (λ ns. parted ns b.flat.placed) h.lens ∙ ap (parted (map length (before ++ l.done))) h.placed ∙ parted-joined (before ++ l.done) l.line in
     ap (take n) lines ∙ take_at before l.done n e
 
-pub keeps_at : {A : Type 0} (columns : ℕ → Option ℕ) (eq : A → A → Bool) (n : ℕ) (b c : Open A) (handed : List (List (Item A))) (run more : List (Entry A)) (k : Keeps columns eq n b handed run) → Tracks columns eq c (earlier_texts n b) k.given more → c.may_overflow ≡ b.may_overflow →
-    (earlier_texts n c ≡ earlier_texts n b) × Keeps columns eq n c handed more
-keeps_at {A} columns eq n b c handed run more k t may =
-    let same : earlier_texts n c ≡ earlier_texts n b = earlier_is c (earlier_texts n b) t.stands.laid n t.stands.holds k.count in (
+pub keeps_at : {A : Type 0} (columns : ℕ → Option ℕ) (eq : A → A → Bool) (n : ℕ) (b c : Open A) (handing : Bool) (handed : List (List (Item A))) (run more : List (Entry A)) (k : Keeps columns eq n b handing handed run) → Tracks columns eq c (earlier_texts n b) k.given more →
+    (earlier_texts n c ≡ earlier_texts n b) × Keeps columns eq n c handing handed more
+keeps_at {A} columns eq n b c handing handed run more k t =
+    let same : earlier_texts n c ≡ earlier_texts n b = earlier_is c (earlier_texts n b) t.stands.lays.laid n t.stands.lays.holds k.count in (
       same,
       record {
         count = ap length same ∙ k.count;
         given = k.given;
-        shown = λ never. k.shown (sym may ∙ never);
+        shown = k.shown;
+        noted = k.noted;
         tracks = subst (λ (ls : List (List (Item A))). Tracks columns eq c ls k.given more) (sym same) t;
       },
     )
 
--- the end of a run
-pub ends_best : {A : Type 0} (columns : ℕ → Option ℕ) (eq : A → A → Bool) (n : ℕ) (b c : Open A) (handed : List (List (Item A))) (run : List (Entry A)) (k : Keeps columns eq n b handed run) (e : Ended columns eq b c (earlier_texts n b) k.given run) → b.may_overflow ≡ false →
-    HasBestLines columns eq b.width run (handed ++ e.now)
-ends_best columns eq n b c handed run k e never =
-    let best = e.best never in
-    let shown = all_zip_append (IsTextOf eq) handed e.now k.given best.0 (k.shown never) best.2 in
-    record {
-      lines = k.given ++ best.0;
-      best = best.1;
-      shown = shown;
-      full = texts_full eq (handed ++ e.now) (k.given ++ best.0) shown (best_characters columns b.width run (k.given ++ best.0) best.1);
-    }
+-- ---- what comes
 
-pub after_end : {A : Type 0} (columns : ℕ → Option ℕ) (eq : A → A → Bool) (b c : Open A) (before : List (List (Item A))) (given : List (List (Slot A))) (run : List (Entry A)) (e : Ended columns eq b c before given run) (n : ℕ) → n ≡ length c.lines.items →
-    (earlier_texts n c ≡ before ++ e.now) × Keeps columns eq n c [] []
-after_end {A} columns eq b c before given run e n count =
-    let holds : Holds c (before ++ e.now) (record { done = []; line = []; width = 0 }) = record {
-      placed = e.holds.placed ∙ ap (λ ls. joined ls ++ []) (sym (append-nil (before ++ e.now)));
-      lens = e.holds.lens ∙ ap (map length) (sym (append-nil (before ++ e.now)));
-      len = e.holds.len;
-      width = e.holds.width;
-    } in
-    let many : length (before ++ e.now) ≡ n = sym (count ∙ ap length e.holds.lens ∙ length-map (before ++ e.now) length) in
-    let same : earlier_texts n c ≡ before ++ e.now = earlier_is c (before ++ e.now) (record { done = []; line = []; width = 0 }) n holds many in (
-      same,
-      record {
-        count = ap length same ∙ many;
-        given = [];
-        shown = λ _. tt;
-        tracks = subst (λ (ls : List (List (Item A))). Tracks columns eq c ls [] []) (sym same) (record {
-          stands = record {
-            laid = record { done = []; line = []; width = 0 };
-            holds = holds;
-            measured = record { small = omega arith; line = refl; done = tt };
-            word = rw e.word e.word_width;
-            follows = λ _. record {
-              shows = record { rest = []; split = refl; done = tt; last = tt; width = refl };
-              space = rw e.space tt;
-              word = rw e.word tt;
-            };
-          };
-          narrow = λ _. tt;
-        });
-      },
-    )
+run_append : {A : Type 0} (es fs : List (Event A)) → run_of (es ++ fs) ≡ run_of es ++ run_of fs
+run_append [] fs = refl
+run_append (call ∷ es) fs = run_append es fs
+run_append (entry e ∷ es) fs = ap (λ rs. e ∷ rs) (run_append es fs)
+
+pub tracks_event : {A : Type 0} (columns : ℕ → Option ℕ) (eq : A → A → Bool) (b c : Open A) (before given : List (List (Item A))) (run : List (Entry A)) (e : Event A) (t : Tracks columns eq b before given run) → KeepsLimits b c →
+    Stands columns eq c before given (step columns b.width (progress columns b.width t.events) e) → Tracks columns eq c before given (run ++ run_of (e ∷ []))
+tracks_event {A} columns eq b c before given run e t same s = record {
+  events = t.events ++ e ∷ [];
+  run_is = run_append t.events (e ∷ []) ∙ ap (λ rs. rs ++ run_of (e ∷ [])) t.run_is;
+  stands = subst (λ (w : ℕ). Stands columns eq c before given (progress columns w (t.events ++ e ∷ []))) (sym same.width)
+      (subst (λ (p : Progress A). Stands columns eq c before given p) (sym (fold-append (step columns b.width) at_start t.events (e ∷ []))) s);
+}
+
+-- the beginning of a call
+pub tracks_call : {A : Type 0} (columns : ℕ → Option ℕ) (eq : A → A → Bool) (b c : Open A) (before given : List (List (Item A))) (run : List (Entry A)) (t : Tracks columns eq b before given run) → KeepsLimits b c →
+    Stands columns eq c before given (step columns b.width (progress columns b.width t.events) call) → Tracks columns eq c before given run
+tracks_call {A} columns eq b c before given run t same s = subst (λ (rs : List (Entry A)). Tracks columns eq c before given rs) (append-nil run) (tracks_event columns eq b c before given run call t same s)
+
+-- ---- the end of a run
+
+same_taking : {A : Type 0} (columns : ℕ → Option ℕ) (eq : A → A → Bool) (is js : List (Item A)) → SameItems eq is js → taking_columns columns is ≡ taking_columns columns js
+same_taking columns eq [] [] h = refl
+same_taking columns eq [] (j ∷ js) h = absurd h
+same_taking columns eq (i ∷ is) [] h = absurd h
+same_taking columns eq (i ∷ is) (j ∷ js) h = rw (same_width_one columns eq i j h.0, same_taking columns eq is js h.1) refl
+
+fits_same : {A : Type 0} (columns : ℕ → Option ℕ) (eq : A → A → Bool) (width : ℕ) (may : Bool) (xs ys : List (List (Item A))) → AllZip (SameItems eq) xs ys → Each (FitsBlock columns width may) ys → Each (FitsBlock columns width may) xs
+fits_same columns eq width may [] ys h k = tt
+fits_same columns eq width may (x ∷ xs) [] h k = absurd h
+fits_same columns eq width may (x ∷ xs) (y ∷ ys) h k =
+    (elim k.0 [ inl fits ↦ inl (omega (arith, fits, same_width columns eq x y h.0)) | inr over ↦ inr (over.0, same_taking columns eq x y h.0 ∙ over.1) ], fits_same columns eq width may xs ys h.1 k.1)
+
+nil_of : {X : Type 0} (xs : List (List X)) → map length xs ≡ [] → xs ≡ []
+nil_of [] e = refl
+nil_of (x ∷ xs) e = absurd (let n : suc (length (map length xs)) ≡ 0 = ap length e in omega (arith, n))
+
+pub first_nil : {X : Type 0} (xs ys : List X) → xs ++ ys ≡ [] → xs ≡ []
+first_nil [] ys e = refl
+first_nil (x ∷ xs) ys e = absurd (let n : suc (length (xs ++ ys)) ≡ 0 = ap length e in omega (arith, n))
+
+pub last_nil : {X : Type 0} (xs ys : List X) → xs ++ ys ≡ [] → ys ≡ []
+last_nil [] ys e = e
+last_nil (x ∷ xs) ys e = absurd (let n : suc (length (xs ++ ys)) ≡ 0 = ap length e in omega (arith, n))
+
+nil_shown : {X Y : Type 0} (R : X → Y → Type 0) (xs : List X) (ys : List Y) → xs ≡ [] → AllZip R xs ys → ys ≡ []
+nil_shown R xs [] e h = refl
+nil_shown R xs (y ∷ ys) e h = absurd (subst (λ zs. AllZip R zs (y ∷ ys)) e h)
+
+pub nil_showing : {X Y : Type 0} (R : X → Y → Type 0) (xs : List X) (ys : List Y) → ys ≡ [] → AllZip R xs ys → xs ≡ []
+nil_showing R [] ys e h = refl
+nil_showing R (x ∷ xs) ys e h = absurd (subst (λ zs. AllZip R (x ∷ xs) zs) e h)
+
+-- whether there is something in the one or the other
+some_list : {X : Type 0} (xs ys : List X) (n m : ℕ) → m ≡ n + length ys → is_some_list (xs ++ ys) ≡ is_some_list xs || nat_lt n m
+some_list [] [] n m e = sym (le-ltb n m (omega (arith, e)))
+some_list [] (y ∷ ys) n m e = sym (lt-ltb n m (omega (arith, e)))
+some_list (x ∷ xs) ys n m e = refl
+
+module _ {A : Type 0} (columns : ℕ → Option ℕ) (eq : A → A → Bool) (n : ℕ) (b c : Open A) (handing : Bool) (handed : List (List (Item A))) (run : List (Entry A)) (k : Keeps columns eq n b handing handed run)
+    (e : Finished columns eq b c (earlier_texts n b) k.given (finished columns b.width (progress columns b.width k.tracks.events))) where
+  pub ends_run : IsEquivalence eq → columns 32 ≡ Some 1 → 0 < b.width →
+      IsShownBy columns eq b.width b.may_overflow run (handed ++ e.now) × Each (FitsBlock columns b.width b.may_overflow) (handed ++ e.now)
+  ends_run laws one_space wide =
+      let both : AllZip (SameItems eq) (handed ++ e.now) (k.given ++ e.rest) = all_zip_append (SameItems eq) handed e.now k.given e.rest k.shown e.same in
+      let lines : AllZip (SameItems eq) (handed ++ e.now) (lines_of columns b.width k.tracks.events) = subst (λ (ls : List (List (Item A))). AllZip (SameItems eq) (handed ++ e.now) ls) (sym e.split) both in
+      let behind : Each (FitsBlock columns b.width b.may_overflow) (k.given ++ e.rest) = subst (λ (ls : List (List (Item A))). Each (FitsBlock columns b.width b.may_overflow) ls) e.split e.fits in (
+        shown_run columns eq laws b.width one_space wide b.may_overflow k.tracks.events run (handed ++ e.now) k.tracks.run_is lines e.fits,
+        fits_same columns eq b.width b.may_overflow (handed ++ e.now) (k.given ++ e.rest) both behind,
+      )
+
+  nothing_held : e.stands.lays.laid.done ≡ []
+  nothing_held =
+      let shows = e.stands.lays.shows in
+      nil_showing (SameItems eq) e.stands.lays.laid.done shows.rest (sym shows.split) shows.done
+
+  ended_count : length c.lines.items ≡ n + length e.now
+  ended_count =
+      let before = earlier_texts n b in
+      ap length e.stands.lays.holds.lens ∙ length-map ((before ++ e.now) ++ e.stands.lays.laid.done) length ∙ ap (λ ls. length ((before ++ e.now) ++ ls)) nothing_held ∙ ap length (append-nil (before ++ e.now)) ∙ length-append before e.now ∙ ap (λ m. m + length e.now) k.count
+
+  pub after_end : (m : ℕ) → m ≡ length c.lines.items → (earlier_texts m c ≡ earlier_texts n b ++ e.now) × Keeps columns eq m c false [] []
+  after_end m count =
+      let before = earlier_texts n b in
+      let many : length (before ++ e.now) ≡ m = length-append before e.now ∙ ap (λ i. i + length e.now) k.count ∙ sym ended_count ∙ sym count in
+      let same : earlier_texts m c ≡ before ++ e.now = earlier_is c (before ++ e.now) e.stands.lays.laid m e.stands.lays.holds many in (
+        same,
+        record {
+          count = ap length same ∙ many;
+          given = [];
+          shown = tt;
+          noted = refl;
+          tracks = subst (λ (ls : List (List (Item A))). Tracks columns eq c ls [] []) (sym same) (record { events = []; run_is = refl; stands = e.stands });
+        },
+      )
+
+  -- whether a line has ended
+  pub begun_after : (begun : Bool) (m : ℕ) → m ≡ length c.lines.items → begun || (handing || nat_lt n m) ≡ begun || is_some_list (handed ++ e.now)
+  begun_after begun m count = ap (λ h. begun || h) (ap (λ h. h || nat_lt n m) k.noted ∙ sym (some_list handed e.now n m (count ∙ ended_count)))
+
+-- ---- a run of Normal mode under way
+
+module _ {A : Type 0} (columns : ℕ → Option ℕ) (eq : A → A → Bool) (b : Open A) (before given : List (List (Item A))) (run : List (Entry A)) (t : Tracks columns eq b before given run) (never : b.may_overflow ≡ false) (normal : IsNormal run) where
+  fits_lines : Each (FitsBlock columns b.width false) (progress columns b.width t.events).laid.done
+  fits_lines = subst (λ (o : Bool). Each (FitsBlock columns b.width o) (progress columns b.width t.events).laid.done) never t.stands.lays.measured.done
+
+  pub narrow_so_far : EndedWordsFit columns b.width run
+  narrow_so_far = ended_words_fit_normal columns b.width t.events run t.run_is normal fits_lines t.stands.lays.measured.small t.stands.lays.measured.line
+
+  pub ended_so_far : (progress columns b.width t.events).laid.done ≡ map line_text (ended_lines columns b.width run)
+  ended_so_far = ended_lines_normal columns b.width t.events run t.run_is normal fits_lines t.stands.lays.measured.small t.stands.lays.measured.line
+
+  pub blank_so_far : NormalBlank columns (progress columns b.width t.events) run
+  blank_so_far = blank_normal columns b.width t.events run t.run_is normal fits_lines t.stands.lays.measured.small t.stands.lays.measured.line
+
+  pub narrow_refused : (e : Entry A) → is_break_entry e ≡ true → 0 < items_width columns (progress columns b.width t.events).word → ¬ (IsNarrow columns b.width (progress columns b.width t.events).word) → ¬ (EndedWordsFit columns b.width (run ++ e ∷ []))
+  narrow_refused = too_narrow_normal columns b.width t.events run t.run_is normal fits_lines t.stands.lays.measured.small t.stands.lays.measured.line
+
+  pub narrow_at_end : ¬ (IsNarrow columns b.width (progress columns b.width t.events).word) → ¬ (WordsFit columns b.width run)
+  narrow_at_end = too_narrow_end columns b.width t.events run t.run_is normal fits_lines t.stands.lays.measured.small t.stands.lays.measured.line
 
 -- states are the same where their parts are
-pub state_is : {A : Type 0} {width width' : ℕ} {may may' : Bool} {padding : Option A} {ended ended' handed handed' : List (List (Item A))} {run run' : List (Entry A)} {failure : Option Error} →
-    width ≡ width' → may ≡ may' → ended ≡ ended' → handed ≡ handed' → run ≡ run' →
-    ◌≡◌ {A = State A} (record { width = width; may_overflow = may; padding = padding; ended = ended; handed = handed; run = run; failure = failure })
-    (record { width = width'; may_overflow = may'; padding = padding; ended = ended'; handed = handed'; run = run'; failure = failure })
-state_is a b c d e = rw a (rw b (rw c (rw d (rw e refl))))
+pub state_is : {A : Type 0} {width width' : ℕ} {may may' : Bool} {padding : Option A} {begun begun' : Bool} {ended ended' handed handed' : List (List (Item A))} {run run' : List (Entry A)} {failure : Option Error} →
+    width ≡ width' → may ≡ may' → begun ≡ begun' → ended ≡ ended' → handed ≡ handed' → run ≡ run' →
+    ◌≡◌ {A = State A} (record { width = width; may_overflow = may; padding = padding; begun = begun; ended = ended; handed = handed; run = run; failure = failure })
+    (record { width = width'; may_overflow = may'; padding = padding; begun = begun'; ended = ended'; handed = handed'; run = run'; failure = failure })
+state_is a b c d e f = rw (a, b, c, d, e, f) refl
 
 -- ---- a line handed out
 
@@ -110,131 +190,93 @@ first_shown : {X Y : Type 0} (R : X → Y → Type 0) (xs : List X) (x : X) (res
 first_shown R xs x rest [] e h = absurd (subst (λ zs. AllZip R zs []) e h)
 first_shown R xs x rest (y ∷ ys) e h = let k = subst (λ zs. AllZip R zs (y ∷ ys)) e h in (y, ys, refl, k.0, k.1)
 
+more_handed : {X : Type 0} (xs : List X) (x : X) → is_some_list (xs ++ x ∷ []) ≡ true
+more_handed [] x = refl
+more_handed (y ∷ xs) x = refl
+
 module _ {A : Type 0} (columns : ℕ → Option ℕ) (eq : A → A → Bool) (laws : IsEquivalence eq) (b c : Open A) (settings : KeepsSettings b c) where
-  stands_left : (before after : List (List (Item A))) (given given' : List (List (Slot A))) (lines : Lines A) (gap : Option A) (items : List (Item A)) (s : Stands columns eq b before given lines gap items) (l : Laid A) → l.line ≡ s.laid.line → l.width ≡ s.laid.width →
-      Each (FitsBlock columns b.width b.may_overflow) l.done → Holds c after l → c.flat.word ≡ b.flat.word → (b.may_overflow ≡ false → Shows eq given' l lines) → Stands columns eq c after given' lines gap items
-  stands_left before after given given' lines gap items s l line width fits h word shows = record {
-    laid = l;
-    holds = h;
-    measured = record {
-      small = rw settings.width (rw width s.measured.small);
-      line = width ∙ s.measured.line ∙ ap (items_width columns) (sym line);
-      done = rw settings.width (rw settings.may_overflow fits);
-    };
-    word = settings.word_width ∙ s.word ∙ ap (items_width columns) (sym word);
-    follows = λ never. record {
-      shows = shows (sym settings.may_overflow ∙ never);
-      space = rw settings.space (s.follows (sym settings.may_overflow ∙ never)).space;
-      word = rw word (s.follows (sym settings.may_overflow ∙ never)).word;
-    };
-  }
+  tracks_left : (before after given given' : List (List (Item A))) (run : List (Entry A)) (t : Tracks columns eq b before given run) (l : Laid A) → Holds c after l → c.flat.word ≡ b.flat.word → Shows eq given' l (progress columns b.width t.events).laid →
+      Tracks columns eq c after given' run
+  tracks_left before after given given' run t l h word shows =
+      let s = t.stands in
+      let stands : Stands columns eq c after given' (progress columns b.width t.events) = record {
+        lays = record { laid = l; holds = h; shows = shows; measured = rw settings.width (rw settings.may_overflow s.lays.measured) };
+        space = rw settings.space s.space;
+        word = rw word s.word;
+        word_width = settings.word_width ∙ s.word_width;
+        mode = settings.word_mode ∙ s.mode;
+        continued = settings.continued ∙ s.continued;
+        again = settings.again ∙ s.again;
+      } in
+      record { events = t.events; run_is = t.run_is; stands = subst (λ (w : ℕ). Stands columns eq c after given' (progress columns w t.events)) (sym settings.width) stands }
 
-  tracks_left : (after : List (List (Item A))) (given : List (List (Slot A))) (run : List (Entry A)) → (b.may_overflow ≡ false → EndedWordsFit columns b.width run) →
-      Stands columns eq c after given (wrapped columns b.width (reading columns run).words) (reading columns run).gap (reading columns run).items → Tracks columns eq c after given run
-  tracks_left after given run narrow s = record {
-    stands = subst (λ w. Stands columns eq c after given (wrapped columns w (reading columns run).words) (reading columns run).gap (reading columns run).items) (sym settings.width) s;
-    narrow = λ never. subst (λ w. EndedWordsFit columns w run) (sym settings.width) (narrow (sym settings.may_overflow ∙ never));
-  }
+  module _ (n : ℕ) (handing : Bool) (handed : List (List (Item A))) (run : List (Entry A)) (k : Keeps columns eq n b handing handed run) where
+    -- the first line of an earlier run
+    pub hand_earlier : (m : ℕ) (is : List (Item A)) (rest : List (List (Item A))) → earlier_texts n b ≡ is ∷ rest → n ≡ suc m → Leaves b c (rest ++ k.tracks.stands.lays.laid.done) k.tracks.stands.lays.laid →
+        (earlier_texts m c ≡ rest) × Keeps columns eq m c handing handed run
+    hand_earlier m is rest e less v =
+        let s = k.tracks.stands.lays in
+        let holds : Holds c rest s.laid = record { placed = v.placed; lens = v.lens; len = v.len ∙ s.holds.len; width = v.width ∙ s.holds.width } in
+        let count : length rest ≡ m = omega (arith, k.count, ap length e, less) in
+        let same : earlier_texts m c ≡ rest = earlier_is c rest s.laid m holds count in (
+          same,
+          record {
+            count = ap length same ∙ count;
+            given = k.given;
+            shown = k.shown;
+            noted = k.noted;
+            tracks = subst (λ (ls : List (List (Item A))). Tracks columns eq c ls k.given run) (sym same) (tracks_left (earlier_texts n b) rest k.given k.given run k.tracks s.laid holds v.word s.shows);
+          },
+        )
 
-  -- the first line of an earlier run
-  pub hand_earlier : (n m : ℕ) (handed : List (List (Item A))) (run : List (Entry A)) (k : Keeps columns eq n b handed run) (is : List (Item A)) (rest : List (List (Item A))) → earlier_texts n b ≡ is ∷ rest → n ≡ suc m →
-      Leaves b c (rest ++ k.tracks.stands.laid.done) k.tracks.stands.laid → (earlier_texts m c ≡ rest) × Keeps columns eq m c handed run
-  hand_earlier n m handed run k is rest e less v =
-      let s = k.tracks.stands in
-      let holds : Holds c rest s.laid = record { placed = v.placed; lens = v.lens; len = v.len ∙ s.holds.len; width = v.width ∙ s.holds.width } in
-      let count : length rest ≡ m = omega (arith, k.count, ap length e, less) in
-      let same : earlier_texts m c ≡ rest = earlier_is c rest s.laid m holds count in (
-        same,
+    -- the first line of the current run
+    pub hand_current : n ≡ 0 → (line is : List (Item A)) (rest : List (List (Item A))) → k.tracks.stands.lays.laid.done ≡ is ∷ rest → SameItems eq line is → Leaves b c rest k.tracks.stands.lays.laid → Keeps columns eq n c true (handed ++ line ∷ []) run
+    hand_current zero line is rest e same v =
+        let s = k.tracks.stands.lays in
+        let left : Laid A = record { done = rest; line = s.laid.line; width = s.laid.width } in
+        let holds : Holds c [] left = record { placed = v.placed; lens = v.lens; len = v.len ∙ s.holds.len; width = v.width ∙ s.holds.width } in
+        let none : earlier_texts n c ≡ [] = earlier_is c [] left n holds (sym zero) in
+        let f = first_shown (SameItems eq) s.laid.done is rest s.shows.rest e s.shows.done in
+        let shows : Shows eq (k.given ++ f.0 ∷ []) left (progress columns b.width k.tracks.events).laid = record {
+          rest = f.1;
+          split = s.shows.split ∙ ap (λ ls. k.given ++ ls) f.2 ∙ sym (append_assoc k.given (f.0 ∷ []) f.1);
+          done = f.4;
+          last = s.shows.last;
+          width = s.shows.width;
+        } in
         record {
-          count = ap length same ∙ count;
-          given = k.given;
-          shown = λ never. k.shown (sym settings.may_overflow ∙ never);
-          tracks = subst (λ (ls : List (List (Item A))). Tracks columns eq c ls k.given run) (sym same)
-              (tracks_left rest k.given run k.tracks.narrow (stands_left (earlier_texts n b) rest k.given k.given _ _ _ s s.laid refl refl s.measured.done holds v.word (λ never. (s.follows never).shows)));
-        },
+          count = ap length none ∙ sym zero;
+          given = k.given ++ f.0 ∷ [];
+          shown = all_zip_append (SameItems eq) handed (line ∷ []) k.given (f.0 ∷ []) k.shown (same_items_trans eq laws line is f.0 same f.3, tt);
+          noted = sym (more_handed handed line);
+          tracks = subst (λ (ls : List (List (Item A))). Tracks columns eq c ls (k.given ++ f.0 ∷ []) run) (sym none) (tracks_left (earlier_texts n b) [] k.given (k.given ++ f.0 ∷ []) run k.tracks left holds v.word shows);
+        }
+
+module _ {A : Type 0} (columns : ℕ → Option ℕ) (eq : A → A → Bool) (n : ℕ) (b : Open A) (handing : Bool) (handed : List (List (Item A))) (run : List (Entry A)) (k : Keeps columns eq n b handing handed run) where
+  -- the first line that is left, where none is of an earlier run
+  pub first_of_laid : n ≡ 0 → 0 < length b.lines.items →
+      (is : List (Item A)) × (rest : List (List (Item A))) × (earlier_texts n b ++ k.tracks.stands.lays.laid.done ≡ is ∷ rest) × (k.tracks.stands.lays.laid.done ≡ is ∷ rest)
+  first_of_laid zero some =
+      let l = k.tracks.stands.lays.laid in
+      let none : earlier_texts n b ≡ [] = ap (λ m. earlier_texts m b) zero in
+      let all : earlier_texts n b ++ l.done ≡ l.done = ap (λ ls. ls ++ l.done) none in
+      let many : length l.done ≡ length b.lines.items = sym (length-map l.done length) ∙ sym (ap length k.tracks.stands.lays.holds.lens ∙ ap (λ ls. length (map length ls)) all) in
+      let first = cons_of l.done (length b.lines.items) many some in
+      (first.0, first.1, all ∙ first.2, first.2)
+
+  -- no line is left
+  pub none_left : b.lines.items ≡ [] → (earlier_texts n b ≡ []) × (b.may_overflow ≡ false → IsNormal run → AllZip (IsTextOf eq) handed (ended_lines columns b.width run))
+  none_left e =
+      let l = k.tracks.stands.lays.laid in
+      let shows = k.tracks.stands.lays.shows in
+      let both : earlier_texts n b ++ l.done ≡ [] = nil_of (earlier_texts n b ++ l.done) (sym k.tracks.stands.lays.holds.lens ∙ e) in
+      let none : shows.rest ≡ [] = nil_shown (SameItems eq) l.done shows.rest (last_nil (earlier_texts n b) l.done both) shows.done in
+      let given : k.given ≡ (progress columns b.width k.tracks.events).laid.done = sym (append-nil k.given) ∙ ap (λ ls. k.given ++ ls) (sym none) ∙ sym shows.split in (
+        first_nil (earlier_texts n b) l.done both,
+        λ never normal.
+            texts_of_lines eq handed (ended_lines columns b.width run)
+            (subst (λ (ls : List (List (Item A))). AllZip (SameItems eq) handed ls) (given ∙ ended_so_far columns eq b (earlier_texts n b) k.given run k.tracks never normal) k.shown),
       )
-
-  -- the first line of the current run
-  pub hand_current : (n : ℕ) (handed : List (List (Item A))) (run : List (Entry A)) (k : Keeps columns eq n b handed run) → n ≡ 0 → (line is : List (Item A)) (rest : List (List (Item A))) → k.tracks.stands.laid.done ≡ is ∷ rest → SameItems eq line is →
-      Leaves b c rest k.tracks.stands.laid → Keeps columns eq n c (handed ++ line ∷ []) run
-  hand_current n handed run k zero line is rest e same v = go b.may_overflow refl
-    where
-      s : Stands columns eq b (earlier_texts n b) k.given (wrapped columns b.width (reading columns run).words) (reading columns run).gap (reading columns run).items
-      s = k.tracks.stands
-
-      left : Laid A
-      left = record { done = rest; line = s.laid.line; width = s.laid.width }
-
-      holds : Holds c [] left
-      holds = record { placed = v.placed; lens = v.lens; len = v.len ∙ s.holds.len; width = v.width ∙ s.holds.width }
-
-      none : earlier_texts n c ≡ []
-      none = earlier_is c [] left n holds (sym zero)
-
-      fits : Each (FitsBlock columns b.width b.may_overflow) rest
-      fits = (subst (λ (ls : List (List (Item A))). Each (FitsBlock columns b.width b.may_overflow) ls) e s.measured.done).1
-
-      keep : (given' : List (List (Slot A))) → (b.may_overflow ≡ false → AllZip (IsTextOf eq) (handed ++ line ∷ []) given') → (b.may_overflow ≡ false → Shows eq given' left (wrapped columns b.width (reading columns run).words)) → Keeps columns eq n c (handed ++ line ∷ []) run
-      keep given' shown shows = record {
-        count = ap length none ∙ sym zero;
-        given = given';
-        shown = λ never. shown (sym settings.may_overflow ∙ never);
-        tracks = subst (λ (ls : List (List (Item A))). Tracks columns eq c ls given' run) (sym none)
-            (tracks_left [] given' run k.tracks.narrow (stands_left (earlier_texts n b) [] k.given given' _ _ _ s left refl refl fits holds v.word shows));
-      }
-
-      go : (o : Bool) → b.may_overflow ≡ o → Keeps columns eq n c (handed ++ line ∷ []) run
-      go true may = keep k.given (λ never. absurd (let t : true ≡ false = sym may ∙ never in cc)) (λ never. absurd (let t : true ≡ false = sym may ∙ never in cc))
-      go false may =
-          let shows = (s.follows may).shows in
-          let f = first_shown (IsTextOf eq) s.laid.done is rest shows.rest e shows.done in
-          keep (k.given ++ f.0 ∷ []) (λ never. all_zip_append (IsTextOf eq) handed (line ∷ []) k.given (f.0 ∷ []) (k.shown never) (same_items_trans eq laws line is (line_text f.0) same f.3, tt)) (λ never. record {
-            rest = f.1;
-            split = shows.split ∙ ap (λ ls. k.given ++ ls) f.2 ∙ sym (append_assoc k.given (f.0 ∷ []) f.1);
-            done = f.4;
-            last = shows.last;
-            width = shows.width;
-          })
-
--- the first line that is left, where none is of an earlier run
-pub first_of_laid : {A : Type 0} (columns : ℕ → Option ℕ) (eq : A → A → Bool) (n : ℕ) (b : Open A) (handed : List (List (Item A))) (run : List (Entry A)) (k : Keeps columns eq n b handed run) → n ≡ 0 → 0 < length b.lines.items →
-    (is : List (Item A)) × (rest : List (List (Item A))) × (earlier_texts n b ++ k.tracks.stands.laid.done ≡ is ∷ rest) × (k.tracks.stands.laid.done ≡ is ∷ rest)
-first_of_laid {A} columns eq n b handed run k zero some =
-    let l = k.tracks.stands.laid in
-    let none : earlier_texts n b ≡ [] = ap (λ m. earlier_texts m b) zero in
-    let all : earlier_texts n b ++ l.done ≡ l.done = ap (λ ls. ls ++ l.done) none in
-    let many : length l.done ≡ length b.lines.items = sym (length-map l.done length) ∙ sym (ap length k.tracks.stands.holds.lens ∙ ap (λ ls. length (map length ls)) all) in
-    let first = cons_of l.done (length b.lines.items) many some in
-    (first.0, first.1, all ∙ first.2, first.2)
-
--- no line is left
-pub none_left : {A : Type 0} (columns : ℕ → Option ℕ) (eq : A → A → Bool) (n : ℕ) (b : Open A) (handed : List (List (Item A))) (run : List (Entry A)) (k : Keeps columns eq n b handed run) → b.lines.items ≡ [] →
-    (earlier_texts n b ≡ []) × (b.may_overflow ≡ false → AllZip (IsTextOf eq) handed (ended_lines columns b.width run))
-none_left {A} columns eq n b handed run k e =
-    let l = k.tracks.stands.laid in
-    let both : earlier_texts n b ++ l.done ≡ [] = nil_of (earlier_texts n b ++ l.done) (sym k.tracks.stands.holds.lens ∙ e) in (
-      first_nil (earlier_texts n b) l.done both,
-      λ never.
-          let shows = (k.tracks.stands.follows never).shows in
-          let none : shows.rest ≡ [] = nil_shown (IsTextOf eq) l.done shows.rest (last_nil (earlier_texts n b) l.done both) shows.done in
-          subst (λ (ls : List (List (Slot A))). AllZip (IsTextOf eq) handed ls) (sym (append-nil k.given) ∙ ap (λ ls. k.given ++ ls) (sym none) ∙ sym shows.split) (k.shown never),
-    )
-  where
-    nil_of : {X : Type 0} (xs : List (List X)) → map length xs ≡ [] → xs ≡ []
-    nil_of [] e = refl
-    nil_of (x ∷ xs) e = absurd (let n : suc (length (map length xs)) ≡ 0 = ap length e in omega (arith, n))
-
-    first_nil : {X : Type 0} (xs ys : List X) → xs ++ ys ≡ [] → xs ≡ []
-    first_nil [] ys e = refl
-    first_nil (x ∷ xs) ys e = absurd (let n : suc (length (xs ++ ys)) ≡ 0 = ap length e in omega (arith, n))
-
-    last_nil : {X : Type 0} (xs ys : List X) → xs ++ ys ≡ [] → ys ≡ []
-    last_nil [] ys e = e
-    last_nil (x ∷ xs) ys e = absurd (let n : suc (length (xs ++ ys)) ≡ 0 = ap length e in omega (arith, n))
-
-    nil_shown : {X Y : Type 0} (R : X → Y → Type 0) (xs : List X) (ys : List Y) → xs ≡ [] → AllZip R xs ys → ys ≡ []
-    nil_shown R xs [] e h = refl
-    nil_shown R xs (y ∷ ys) e h = absurd (subst (λ zs. AllZip R zs (y ∷ ys)) e h)
 
 -- a text and its padding, where the line is the same up to tags
 pub shows_padded : {A : Type 0} (columns : ℕ → Option ℕ) (eq : A → A → Bool) (laws : IsEquivalence eq) (padding : Option A) (width : ℕ) (es fs : List (Element A)) (is : List (Item A)) →

@@ -1,10 +1,11 @@
 -- Characters beside their tags.
-use Rattle.std.proofs.Common.{◌≡◌, ℕ, suc, zero, ◌+◌, ◌-◌, ◌<◌, ◌≤◌, Bool, true, Option, None, Some, List, [], ◌∷◌, ◌++◌, map, length, take, drop, replicate, refl, ap, sym, ◌∙◌, subst, arith}
+use Rattle.std.proofs.Common.{◌≡◌, ℕ, suc, zero, ◌+◌, ◌-◌, ◌<◌, ◌≤◌, Bool, true, Option, None, Some, List, [], ◌∷◌, ◌++◌, map, length, take, drop, replicate, refl, ap, sym, ◌∙◌, subst, arith, append_assoc}
 use Rattle.std.specs.Option.{MatchOption}
 use Rattle.std.specs.List.{AllZip}
 use Rattle.std.proofs.Math.Seq.{drop-append_seam}
-use Rattle.std.proofs.lemmas.List.{take-append-drop, length-append, length-take, length-drop, drop-append-le}
+use Rattle.std.proofs.lemmas.List.{take-append-drop, length-append, length-take, length-drop, length-replicate, drop-append-le}
 use Rattle.tbr_model.specs.Run.{Item, glyph}
+use Rattle.tbr_model.specs.Rule.{spaces}
 use Rattle.tbr_lines.specs.Elements.{Element, SameItems, items_of, push_text}
 use Rattle.tbr_lines.specs.Flat.{Flat, Letters, flat, glyphs}
 use Rattle.tbr_lines.proofs.FlatText.{next_split}
@@ -37,7 +38,7 @@ length-glyphs [] ts h = refl
 length-glyphs (c ∷ cs) [] h = absurd (omega arith)
 length-glyphs (c ∷ cs) (t ∷ ts) h = ap suc (length-glyphs cs ts (omega arith))
 
-glyphs-drop : {A : Type 0} (n : ℕ) (cs : List ℕ) (ts : List A) → glyphs (drop n cs) (drop n ts) ≡ drop n (glyphs cs ts)
+pub glyphs-drop : {A : Type 0} (n : ℕ) (cs : List ℕ) (ts : List A) → glyphs (drop n cs) (drop n ts) ≡ drop n (glyphs cs ts)
 glyphs-drop zero cs ts = refl
 glyphs-drop (suc n) [] ts = refl
 glyphs-drop (suc n) (c ∷ cs) [] = glyphs_none (drop n cs)
@@ -120,26 +121,31 @@ module _ {A : Type 0} (eq : A → A → Bool) where
   same_glyphs (c ∷ cs) (t ∷ ts) [] h = absurd h
   same_glyphs (c ∷ cs) (t ∷ ts) (u ∷ us) h = ((refl, h.0), same_glyphs cs ts us h.1)
 
-  pub space_placed : (l : Letters) (ts behind : List A) (a : A) → length ts ≡ length l.placed + length l.word →
-      (flat (record l { placed = l.placed ++ 32 ∷ [] }) (take (length l.placed) ts ++ a ∷ behind)).placed ≡ (flat l ts).placed ++ glyph 32 a ∷ []
-  space_placed l ts behind a h =
-      let n = length l.placed in
-      let len : length (take n ts) ≡ n = omega (arith, h, length-take n ts) in
-      let front : glyphs l.placed (take n ts ++ a ∷ behind) ≡ glyphs l.placed ts =
-      glyphs_front l.placed (take n ts) (a ∷ behind) (omega (arith, len)) ∙ sym (glyphs_front l.placed (take n ts) (drop n ts) (omega (arith, len))) ∙ ap (λ us. glyphs l.placed us) (take-append-drop n ts) in
-      let back : drop n (take n ts ++ a ∷ behind) ≡ a ∷ behind = ap (λ k. drop k (take n ts ++ a ∷ behind)) (sym len) ∙ drop-append_seam (take n ts) (a ∷ behind) in
-      rw (glyphs-append l.placed (32 ∷ []) (take n ts ++ a ∷ behind), front, back) refl
+  glyphs_spaces : (n : ℕ) (a : A) (behind : List A) → glyphs (replicate n 32) (replicate n a ++ behind) ≡ spaces n a
+  glyphs_spaces zero a behind = refl
+  glyphs_spaces (suc n) a behind = ap (λ is. glyph 32 a ∷ is) (glyphs_spaces n a behind)
 
-  pub space_word : (l : Letters) (ts behind : List A) (a : A) → length ts ≡ length l.placed + length l.word → AllZip (λ x y. eq x y ≡ true) behind (drop (length l.placed) ts) →
-      SameItems eq (flat (record l { placed = l.placed ++ 32 ∷ [] }) (take (length l.placed) ts ++ a ∷ behind)).word (flat l ts).word
-  space_word l ts behind a h same =
-      let n = length l.placed in
-      let len : length (take n ts) ≡ n = omega (arith, h, length-take n ts) in
-      let back : drop n (take n ts ++ a ∷ behind) ≡ a ∷ behind = ap (λ k. drop k (take n ts ++ a ∷ behind)) (sym len) ∙ drop-append_seam (take n ts) (a ∷ behind) in
-      let next : length (l.placed ++ 32 ∷ []) ≡ suc n = omega (arith, length-append l.placed (32 ∷ [])) in
-      let e : drop (length (l.placed ++ 32 ∷ [])) (take n ts ++ a ∷ behind) ≡ behind =
-      ap (λ k. drop k (take n ts ++ a ∷ behind)) next ∙ (next_split (take n ts ++ a ∷ behind) behind n a back).1 in
-      subst (λ (us : List A). SameItems eq (glyphs l.word us) (glyphs l.word (drop n ts))) (sym e) (same_glyphs l.word behind (drop n ts) same)
+  pub space_placed : (l : Letters) (ts behind : List A) (n : ℕ) (a : A) → length ts ≡ length l.placed + length l.word →
+      (flat (record l { placed = l.placed ++ replicate n 32 }) (take (length l.placed) ts ++ (replicate n a ++ behind))).placed ≡ (flat l ts).placed ++ spaces n a
+  space_placed l ts behind n a h =
+      let m = length l.placed in
+      let us = replicate n a ++ behind in
+      let len : length (take m ts) ≡ m = omega (arith, h, length-take m ts) in
+      let front : glyphs l.placed (take m ts ++ us) ≡ glyphs l.placed ts =
+      glyphs_front l.placed (take m ts) us (omega (arith, len)) ∙ sym (glyphs_front l.placed (take m ts) (drop m ts) (omega (arith, len))) ∙ ap (λ vs. glyphs l.placed vs) (take-append-drop m ts) in
+      let back : drop m (take m ts ++ us) ≡ us = ap (λ k. drop k (take m ts ++ us)) (sym len) ∙ drop-append_seam (take m ts) us in
+      rw (glyphs-append l.placed (replicate n 32) (take m ts ++ us), front, back, glyphs_spaces n a behind) refl
+
+  pub space_word : (l : Letters) (ts behind : List A) (n : ℕ) (a : A) → length ts ≡ length l.placed + length l.word → AllZip (λ x y. eq x y ≡ true) behind (drop (length l.placed) ts) →
+      SameItems eq (flat (record l { placed = l.placed ++ replicate n 32 }) (take (length l.placed) ts ++ (replicate n a ++ behind))).word (flat l ts).word
+  space_word l ts behind n a h same =
+      let m = length l.placed in
+      let front = take m ts ++ replicate n a in
+      let len : length (l.placed ++ replicate n 32) ≡ length front =
+      omega (arith, h, length-take m ts, length-append l.placed (replicate n 32), length-replicate {A = ℕ} n 32, length-append (take m ts) (replicate n a), length-replicate n a) in
+      let e : drop (length (l.placed ++ replicate n 32)) (take m ts ++ (replicate n a ++ behind)) ≡ behind =
+      ap (λ k. drop k (take m ts ++ (replicate n a ++ behind))) len ∙ ap (λ us. drop (length front) us) (sym (append_assoc (take m ts) (replicate n a) behind)) ∙ drop-append_seam front behind in
+      subst (λ (us : List A). SameItems eq (glyphs l.word us) (glyphs l.word (drop m ts))) (sym e) (same_glyphs l.word behind (drop m ts) same)
 
 pub placed_len : {A : Type 0} (l : Letters) (ts : List A) (f : Flat A) → length ts ≡ length l.placed + length l.word → flat l ts ≡ f → length f.placed ≡ length l.placed
 placed_len l ts f h e = ap (λ (x : Flat _). length x.placed) (sym e) ∙ flat_placed_len l ts h
@@ -176,19 +182,21 @@ rest_turn {A} start now next m n k e p q =
     q ∙ ap (λ (f : Flat A). record f { placed = drop n f.placed }) p ∙ ap (λ xs. record start { placed = xs }) (drop_twice m n start.placed ∙ ap (λ i. drop i start.placed) (sym e))
 
 module _ {A : Type 0} (eq : A → A → Bool) where
-  pub spaced_placed : (l m : Letters) (ts us behind : List A) (a : A) (w : ℕ) → length ts ≡ length l.placed + length l.word → w ≡ length l.word → m ≡ record l { placed = l.placed ++ 32 ∷ [] } →
-      us ≡ take (length ts - w) ts ++ a ∷ behind → (flat m us).placed ≡ (flat l ts).placed ++ glyph 32 a ∷ []
-  spaced_placed l m ts us behind a w h n e f =
-      let k : length ts - w ≡ length l.placed = omega (arith, h, n) in
-      ap (λ x. (flat x us).placed) e ∙ ap (λ vs. (flat (record l { placed = l.placed ++ 32 ∷ [] }) vs).placed) (f ∙ ap (λ i. take i ts ++ a ∷ behind) k)
-      ∙ space_placed eq l ts behind a h
+  pub spaced_placed : (l m : Letters) (ts us behind : List A) (n : ℕ) (a : A) (w : ℕ) → length ts ≡ length l.placed + length l.word → w ≡ length l.word → m ≡ record l { placed = l.placed ++ replicate n 32 } →
+      us ≡ take (length ts - w) ts ++ (replicate n a ++ behind) → (flat m us).placed ≡ (flat l ts).placed ++ spaces n a
+  spaced_placed l m ts us behind n a w h k e f =
+      let first : length ts - w ≡ length l.placed = omega (arith, h, k) in
+      ap (λ x. (flat x us).placed) e ∙ ap (λ vs. (flat (record l { placed = l.placed ++ replicate n 32 }) vs).placed) (f ∙ ap (λ i. take i ts ++ (replicate n a ++ behind)) first)
+      ∙ space_placed eq l ts behind n a h
 
-  pub spaced_word : (l m : Letters) (ts us behind : List A) (a : A) (w : ℕ) (f : Flat A) → length ts ≡ length l.placed + length l.word → w ≡ length l.word → m ≡ record l { placed = l.placed ++ 32 ∷ [] } →
-      us ≡ take (length ts - w) ts ++ a ∷ behind → AllZip (λ x y. eq x y ≡ true) behind (drop (length ts - w) ts) → flat l ts ≡ f → SameItems eq (flat m us).word f.word
-  spaced_word l m ts us behind a w f h n e g same v =
-      let k : length ts - w ≡ length l.placed = omega (arith, h, n) in
-      let new : (flat m us).word ≡ (flat (record l { placed = l.placed ++ 32 ∷ [] }) (take (length l.placed) ts ++ a ∷ behind)).word =
-      ap (λ x. (flat x us).word) e ∙ ap (λ vs. (flat (record l { placed = l.placed ++ 32 ∷ [] }) vs).word) (g ∙ ap (λ i. take i ts ++ a ∷ behind) k) in
-      let all : AllZip (λ x y. eq x y ≡ true) behind (drop (length l.placed) ts) = subst (λ (i : ℕ). AllZip (λ x y. eq x y ≡ true) behind (drop i ts)) k same in
+  pub spaced_word : (l m : Letters) (ts us behind : List A) (n : ℕ) (a : A) (w : ℕ) (f : Flat A) → length ts ≡ length l.placed + length l.word → w ≡ length l.word →
+      m ≡ record l { placed = l.placed ++ replicate n 32 } → us ≡ take (length ts - w) ts ++ (replicate n a ++ behind) → AllZip (λ x y. eq x y ≡ true) behind (drop (length ts - w) ts) → flat l ts ≡ f →
+      SameItems eq (flat m us).word f.word
+  spaced_word l m ts us behind n a w f h k e g same v =
+      let first : length ts - w ≡ length l.placed = omega (arith, h, k) in
+      let spaced = flat (record l { placed = l.placed ++ replicate n 32 }) (take (length l.placed) ts ++ (replicate n a ++ behind)) in
+      let new : (flat m us).word ≡ spaced.word =
+      ap (λ x. (flat x us).word) e ∙ ap (λ vs. (flat (record l { placed = l.placed ++ replicate n 32 }) vs).word) (g ∙ ap (λ i. take i ts ++ (replicate n a ++ behind)) first) in
+      let all : AllZip (λ x y. eq x y ≡ true) behind (drop (length l.placed) ts) = subst (λ (i : ℕ). AllZip (λ x y. eq x y ≡ true) behind (drop i ts)) first same in
       subst (λ (is : List (Item A)). SameItems eq is f.word) (sym new)
-      (subst (λ (x : Flat A). SameItems eq (flat (record l { placed = l.placed ++ 32 ∷ [] }) (take (length l.placed) ts ++ a ∷ behind)).word x.word) v (space_word eq l ts behind a h all))
+      (subst (λ (x : Flat A). SameItems eq spaced.word x.word) v (space_word eq l ts behind n a h all))

@@ -9,7 +9,7 @@ use Rattle.std.proofs.Math.Seq.{drop-append_seam, take-append_seam}
 use Rattle.std.proofs.lemmas.List.{take-append-drop, length-append, length-take, length-drop}
 use Rattle.std.proofs.lemmas.List.Folds.{drop_split}
 use Rattle.std.proofs.lemmas.Str.{IsUtf8-append, IsUtf8-nil, IsCharBoundary-from_drop, length-le-encodes, encodes-chars, scalars-chars, chars-encodes, encodes-append, IsCharBoundary-at_seam, cons_from_encodes, IsUtf8-encode, IsUtf8-past_char, is_utf8-from_IsUtf8, IsUtf8-from_is_utf8, chars-append, chars-nil, chars_past_char, length-encode}
-use lib.Utf8.{encode, encodes, scalar, scalars}
+use lib.Utf8.{encodes, scalar, scalars}
 use Rattle.tbr_lines.specs.Flat.{letters, AreParts}
 use Rattle.tbr_lines.proofs.Pieces.{chars_one, chars_push, chars_none}
 
@@ -33,7 +33,7 @@ slice_cut bytes i j gone placed word h =
     let k : j - i ≡ length placed = omega (arith, h.start, h.end) in
     rw (k, ← h.start, h.whole, drop-append_seam gone (placed ++ word)) (take-append_seam placed word)
 
-drop_cut : (bytes : List ℕ) (i j : ℕ) (gone placed word : List ℕ) → IsCut bytes i j gone placed word → drop j bytes ≡ word
+pub drop_cut : (bytes : List ℕ) (i j : ℕ) (gone placed word : List ℕ) → IsCut bytes i j gone placed word → drop j bytes ≡ word
 drop_cut bytes i j gone placed word h =
     let k : j ≡ length (gone ++ placed) = omega (arith, h.end, length-append gone placed) in
     let e : bytes ≡ (gone ++ placed) ++ word = h.whole ∙ sym (append_assoc (gone) (placed) (word)) in
@@ -70,7 +70,7 @@ cut_first bytes i j k gone placed word ds rest h e n = record {
   end = omega (arith, h.end, n, length-append placed ds);
 }
 
-take_cut : (bytes : List ℕ) (i j : ℕ) (gone placed word : List ℕ) → IsCut bytes i j gone placed word → take j bytes ≡ gone ++ placed
+pub take_cut : (bytes : List ℕ) (i j : ℕ) (gone placed word : List ℕ) → IsCut bytes i j gone placed word → take j bytes ≡ gone ++ placed
 take_cut bytes i j gone placed word h =
     let k : j ≡ length (gone ++ placed) = omega (arith, h.end, length-append gone placed) in
     let e : bytes ≡ (gone ++ placed) ++ word = h.whole ∙ sym (append_assoc (gone) (placed) (word)) in
@@ -99,10 +99,10 @@ cut_take bytes i j k gone placed word ds rest h e n = record {
 
 -- ---- what the calls on the text leave
 
-word_utf8 : (bytes : List ℕ) (i j w : ℕ) → AreParts bytes i j w → IsUtf8 (drop j bytes)
+pub word_utf8 : (bytes : List ℕ) (i j w : ℕ) → AreParts bytes i j w → IsUtf8 (drop j bytes)
 word_utf8 bytes i j w h = IsUtf8-from_is_utf8 (drop j bytes) h.word_utf8
 
-placed_utf8 : (bytes : List ℕ) (i j w : ℕ) → AreParts bytes i j w → IsUtf8 (slice_range bytes i j)
+pub placed_utf8 : (bytes : List ℕ) (i j w : ℕ) → AreParts bytes i j w → IsUtf8 (slice_range bytes i j)
 placed_utf8 bytes i j w h = IsUtf8-from_is_utf8 (slice_range bytes i j) h.placed_utf8
 
 pub parts_new : AreParts [] 0 0 0
@@ -151,27 +151,19 @@ letters_word bytes i j n w h e =
     letters_first bytes (drop j bytes) [] i j n w h (sym (append-nil (drop j bytes))) (omega (arith, e, length-drop j bytes, h.word_in))
     ∙ ap (λ cs. record { placed = chars (slice_range bytes i j) ++ chars (drop j bytes); word = cs }) chars-nil
 
-space_utf8 : IsUtf8 (32 ∷ [])
-unfolding encode
-space_utf8 = IsUtf8-encode 32 refl
+-- text is placed before the word
+pub parts_insert : (bytes xs ds : List ℕ) (i j k w : ℕ) → AreParts bytes i j w → IsUtf8 ds → xs ≡ take j bytes ++ (ds ++ drop j bytes) → k ≡ j + length ds → AreParts xs i k w
+parts_insert bytes xs ds i j k w h u e n =
+    from_cut xs i k w (take i bytes) (slice_range bytes i j ++ ds) (drop j bytes)
+    (cut_insert bytes xs i j k (take i bytes) (slice_range bytes i j) (drop j bytes) ds (cut bytes i j w h) e n)
+    (IsUtf8-append (slice_range bytes i j) ds (placed_utf8 bytes i j w h) u) (word_utf8 bytes i j w h) h.word_len
 
--- a space is placed before the word
-pub parts_space : (bytes xs : List ℕ) (i j w : ℕ) → AreParts bytes i j w → xs ≡ take j bytes ++ (32 ∷ [] ++ drop j bytes) → AreParts xs i (j + 1) w
-parts_space bytes xs i j w h e =
-    from_cut xs i (j + 1) w (take i bytes) (slice_range bytes i j ++ 32 ∷ []) (drop j bytes)
-    (cut_insert bytes xs i j (j + 1) (take i bytes) (slice_range bytes i j) (drop j bytes) (32 ∷ []) (cut bytes i j w h) e refl)
-    (IsUtf8-append (slice_range bytes i j) (32 ∷ []) (placed_utf8 bytes i j w h) space_utf8) (word_utf8 bytes i j w h) h.word_len
-
-chars_space : (bs : List ℕ) → IsUtf8 bs → chars (bs ++ 32 ∷ []) ≡ chars bs ++ 32 ∷ []
-unfolding encode
-chars_space bs u = chars_push bs 32 u refl
-
-pub letters_space : (bytes xs : List ℕ) (i j w : ℕ) → AreParts bytes i j w → xs ≡ take j bytes ++ (32 ∷ [] ++ drop j bytes) →
-    letters xs i (j + 1) ≡ record { placed = chars (slice_range bytes i j) ++ 32 ∷ []; word = chars (drop j bytes) }
-letters_space bytes xs i j w h e =
-    letters_cut xs i (j + 1) (take i bytes) (slice_range bytes i j ++ 32 ∷ []) (drop j bytes)
-    (cut_insert bytes xs i j (j + 1) (take i bytes) (slice_range bytes i j) (drop j bytes) (32 ∷ []) (cut bytes i j w h) e refl)
-    ∙ ap (λ cs. record { placed = cs; word = chars (drop j bytes) }) (chars_space (slice_range bytes i j) (placed_utf8 bytes i j w h))
+pub letters_insert : (bytes xs ds : List ℕ) (i j k w : ℕ) → AreParts bytes i j w → xs ≡ take j bytes ++ (ds ++ drop j bytes) → k ≡ j + length ds →
+    letters xs i k ≡ record { placed = chars (slice_range bytes i j) ++ chars ds; word = chars (drop j bytes) }
+letters_insert bytes xs ds i j k w h e n =
+    letters_cut xs i k (take i bytes) (slice_range bytes i j ++ ds) (drop j bytes)
+    (cut_insert bytes xs i j k (take i bytes) (slice_range bytes i j) (drop j bytes) ds (cut bytes i j w h) e n)
+    ∙ ap (λ cs. record { placed = cs; word = chars (drop j bytes) }) (chars-append (slice_range bytes i j) ds (placed_utf8 bytes i j w h))
 
 -- the word begins where the text may be cut
 pub word_boundary : (bytes : List ℕ) (i j w : ℕ) → AreParts bytes i j w → IsCharBoundary bytes j
@@ -180,6 +172,22 @@ word_boundary bytes i j w h = IsCharBoundary-from_drop bytes j h.word_in (word_u
 pub word_short : (bytes : List ℕ) (i j w : ℕ) → AreParts bytes i j w → w ≤ length bytes
 word_short bytes i j w h =
     omega (arith, h.word_len, h.word_in, length-drop j bytes, length-le-encodes (chars (drop j bytes)), ap length (encodes-chars (drop j bytes) (word_utf8 bytes i j w h)))
+
+-- so many characters can be counted
+pub letters_short : (bytes : List ℕ) (i j w : ℕ) → AreParts bytes i j w → length (chars (slice_range bytes i j)) + length (chars (drop j bytes)) ≤ length bytes
+letters_short bytes i j w h =
+    omega (
+      arith,
+      h.start_in,
+      h.word_in,
+      length-drop j bytes,
+      length-drop i bytes,
+      length-take (j - i) (drop i bytes),
+      length-le-encodes (chars (drop j bytes)),
+      ap length (encodes-chars (drop j bytes) (word_utf8 bytes i j w h)),
+      length-le-encodes (chars (slice_range bytes i j)),
+      ap length (encodes-chars (slice_range bytes i j) (placed_utf8 bytes i j w h)),
+    )
 
 -- the first of a list of characters
 pub first_letter : (cs ds : List ℕ) (o : Option ℕ) → o ≡ slice_get cs 0 → ds ≡ cs → MatchOption o (ds ≡ []) (λ c. (rest : List ℕ) × (ds ≡ c ∷ rest))
@@ -292,6 +300,7 @@ scalars_take (suc n) (c ∷ cs) h =
 -- a text parts behind its first n characters
 pub record SplitsAt (text : List ℕ) (n : ℕ) : Type 0 where
   pub whole : text ≡ encodes (take n (chars text)) ++ encodes (drop n (chars text))
+  pub front_utf8 : IsUtf8 (encodes (take n (chars text)))
   pub back_utf8 : IsUtf8 (encodes (drop n (chars text)))
   pub front : chars (encodes (take n (chars text))) ≡ take n (chars text)
   pub back : chars (encodes (drop n (chars text))) ≡ drop n (chars text)
@@ -303,6 +312,7 @@ splits_at text n u =
     let d = scalars_drop n (chars text) s in
     record {
       whole = sym (encodes-chars text u) ∙ ap encodes (sym (take-append-drop n (chars text))) ∙ encodes-append (take n (chars text)) (drop n (chars text));
+      front_utf8 = (take n (chars text), (t, refl));
       back_utf8 = (drop n (chars text), (d, refl));
       front = chars-encodes (take n (chars text)) t;
       back = chars-encodes (drop n (chars text)) d;

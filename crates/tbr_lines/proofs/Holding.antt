@@ -1,51 +1,27 @@
 -- What the fields hold after a line is ended and characters are placed.
-use Rattle.std.proofs.Common.{◌≡◌, ℕ, ◌+◌, ◌<◌, ◌≤◌, Bool, true, false, Option, None, Some, List, [], ◌∷◌, ◌++◌, map, length, refl, ap, sym, ◌∙◌, subst, arith, append_assoc, append-nil, length-append, nat_le, nat_lt, unwrap_or, is_some, take, drop, IfSome, slice_index_or, option_copied, Bor}
-use Rattle.std.proofs.lemmas.List.{take_at, drop_at}
-use mir.Val.{bool_byte}
-use borrow.Author.Tests.{lt-leb, le-leb}
-use Rattle.std.proofs.lemmas.List.{map-append}
+use Rattle.std.proofs.Common.{◌≡◌, ℕ, ◌+◌, ◌≤◌, Bool, Option, None, Some, List, [], ◌∷◌, ◌++◌, map, length, refl, ap, sym, ◌∙◌, subst, arith, append_assoc, append-nil, length-append, nat_lt, is_some, take, drop, IfSome, slice_index_or, option_copied, Bor}
+use Rattle.std.proofs.lemmas.List.{take_at, drop_at, map-append}
 use Rattle.tbr_lines.specs.Elements.{SameItems}
-use Rattle.tbr_model.specs.Run.{Item, glyph, item_width, items_width}
-use Rattle.tbr_model.specs.Layout.{joined, gap_width}
-use Rattle.tbr_model.specs.Greedy.{close, IsNarrow}
+use Rattle.tbr_model.specs.Run.{Item}
+use Rattle.tbr_model.specs.Layout.{joined}
+use Rattle.tbr_model.specs.Laid.{Laid, extended, ended}
 use Rattle.tbr_model.proofs.Lists.{joined-append}
 use Rattle.tbr_lines.specs.declared.wrap.open.Open.{Open}
-use Rattle.tbr_lines.specs.Laid.{Laid, fresh, blanked, put_wide, put_item, put_items, lay}
 use Rattle.tbr_lines.specs.Open.{Holds, KeepsSettings, Leaves}
 
-pub holds_end : {A : Type 0} (b c : Open A) (before : List (List (Item A))) (l : Laid A) → Holds b before l → c.flat ≡ b.flat → c.lines.items ≡ b.lines.items ++ b.line_len ∷ [] → c.line_len ≡ 0 → c.line_width ≡ 0 →
-    Holds c before (record { done = l.done ++ l.line ∷ []; line = []; width = 0 })
-holds_end {A} b c before l h flat lines len width = record {
-  placed = ap (λ f. f.placed) flat ∙ h.placed ∙ sym (append-nil (joined (before ++ (l.done ++ l.line ∷ []))) ∙ ap joined (sym (append_assoc before l.done (l.line ∷ []))) ∙ joined-append (before ++ l.done) (l.line ∷ []) ∙ ap (λ is. joined (before ++ l.done) ++ is) (append-nil l.line));
-  lens = lines ∙ ap (λ ns. ns ++ b.line_len ∷ []) h.lens ∙ ap (λ n. map length (before ++ l.done) ++ n ∷ []) h.len ∙ sym (ap (map length) (sym (append_assoc before l.done (l.line ∷ []))) ∙ map-append length (before ++ l.done) (l.line ∷ []));
+-- the open line is ended, as it was or with more items
+pub holds_end : {A : Type 0} (b c : Open A) (before : List (List (Item A))) (l : Laid A) (n : ℕ) → Holds b before l → n ≡ length l.line → c.flat.placed ≡ b.flat.placed → c.lines.items ≡ b.lines.items ++ n ∷ [] → c.line_len ≡ 0 → c.line_width ≡ 0 →
+    Holds c before (ended l)
+holds_end {A} b c before l n h same flat lines len width = record {
+  placed = flat ∙ h.placed ∙ sym (append-nil (joined (before ++ (l.done ++ l.line ∷ []))) ∙ ap joined (sym (append_assoc before l.done (l.line ∷ []))) ∙ joined-append (before ++ l.done) (l.line ∷ []) ∙ ap (λ is. joined (before ++ l.done) ++ is) (append-nil l.line));
+  lens = lines ∙ ap (λ ns. ns ++ n ∷ []) h.lens ∙ ap (λ m. map length (before ++ l.done) ++ m ∷ []) same ∙ sym (ap (map length) (sym (append_assoc before l.done (l.line ∷ []))) ∙ map-append length (before ++ l.done) (l.line ∷ []));
   len = len;
   width = width;
 }
 
-no_items : {X : Type 0} (l : List X) → length l ≡ 0 → l ≡ []
-no_items [] h = refl
-no_items (x ∷ l) h = absurd (omega arith)
-
-pub holds_none : {A : Type 0} (b c : Open A) (before : List (List (Item A))) (l : Laid A) → Holds b before l → b.line_len ≡ 0 → c.flat ≡ b.flat → c.lines.items ≡ b.lines.items → c.line_len ≡ b.line_len → c.line_width ≡ 0 → Holds c before (fresh l)
-holds_none {A} b c before l h zero flat lines len width =
-    let none : l.line ≡ [] = no_items l.line (sym h.len ∙ zero) in
-    rw none (record {
-      placed = ap (λ f. f.placed) flat ∙ h.placed ∙ ap (λ (is : List (Item A)). joined (before ++ l.done) ++ is) none;
-      lens = lines ∙ h.lens;
-      len = len ∙ zero;
-      width = width;
-    })
-
-close_some : {X : Type 0} (ls : List (List X)) (l : List X) → 0 < length l → close ls l ≡ ls ++ l ∷ []
-close_some ls [] h = absurd (omega arith)
-close_some ls (x ∷ l) h = refl
-
-pub holds_some : {A : Type 0} (b c : Open A) (before : List (List (Item A))) (l : Laid A) → Holds b before l → 0 < b.line_len → Holds c before (record { done = l.done ++ l.line ∷ []; line = []; width = 0 }) → Holds c before (fresh l)
-holds_some {A} b c before l h some k = subst (λ (ls : List (List (Item A))). Holds c before (record { done = ls; line = []; width = 0 })) (sym (close_some l.done l.line (omega (arith, some, h.len)))) k
-
--- more characters on the open line
+-- more items on the open line
 pub holds_more : {A : Type 0} (b c : Open A) (before : List (List (Item A))) (l : Laid A) (is : List (Item A)) (columns : ℕ) → Holds b before l → c.flat.placed ≡ b.flat.placed ++ is → c.lines ≡ b.lines → c.line_len ≡ b.line_len + length is → c.line_width ≡ b.line_width + columns →
-    Holds c before (record { done = l.done; line = l.line ++ is; width = l.width + columns })
+    Holds c before (extended l is columns)
 holds_more b c before l is columns h placed lines len width = record {
   placed = placed ∙ ap (λ js. js ++ is) h.placed ∙ append_assoc (joined (before ++ l.done)) l.line is;
   lens = ap (λ q. q.items) lines ∙ h.lens;
@@ -53,78 +29,20 @@ holds_more b c before l is columns h placed lines len width = record {
   width = omega (arith, width, h.width);
 }
 
--- a word on an open line that has nothing
-pub holds_word : {A : Type 0} (b c : Open A) (before : List (List (Item A))) (l : Laid A) (is : List (Item A)) (columns : ℕ) → Holds b before l → l.line ≡ [] → c.flat.placed ≡ b.flat.placed ++ is → c.lines ≡ b.lines → c.line_len ≡ length is → c.line_width ≡ columns →
-    Holds c before (record { done = l.done; line = is; width = columns })
-holds_word {A} b c before l is columns h none placed lines len width = record {
-  placed = placed ∙ ap (λ js. js ++ is) (h.placed ∙ ap (λ (js : List (Item A)). joined (before ++ l.done) ++ js) none ∙ append-nil (joined (before ++ l.done)));
-  lens = ap (λ q. q.items) lines ∙ h.lens;
-  len = len;
-  width = width;
+pub keeps_trans : {A : Type 0} (a b c : Open A) → KeepsSettings a b → KeepsSettings b c → KeepsSettings a c
+keeps_trans a b c h k = record {
+  width = k.width ∙ h.width;
+  may_overflow = k.may_overflow ∙ h.may_overflow;
+  space = k.space ∙ h.space;
+  word_width = k.word_width ∙ h.word_width;
+  word_mode = k.word_mode ∙ h.word_mode;
+  continued = k.continued ∙ h.continued;
+  again = k.again ∙ h.again;
 }
 
--- ---- which case of putting an item it is
-
-module _ {A : Type 0} (columns : ℕ → Option ℕ) (width : ℕ) (b : Open A) (before : List (List (Item A))) (l : Laid A) (i : Item A) where
-  pub item_here : l.width + item_width columns i ≤ width → Holds b before (record { done = l.done; line = l.line ++ i ∷ []; width = l.width + item_width columns i }) → Holds b before (put_item columns width l i)
-  item_here fits h = let test : nat_le (l.width + item_width columns i) width ≡ true = le-leb _ _ fits in rw test h
-
-  pub item_next : width < l.width + item_width columns i → item_width columns i ≤ width → Holds b before (record { done = l.done ++ l.line ∷ []; line = i ∷ []; width = item_width columns i }) → Holds b before (put_item columns width l i)
-  item_next full fits h =
-      let test : nat_le (l.width + item_width columns i) width ≡ false = lt-leb _ _ full in
-      let narrow : nat_le (item_width columns i) width ≡ true = le-leb _ _ fits in rw (test, narrow) h
-
-  pub item_wide : width < item_width columns i → Holds b before (put_wide (blanked l) i) → Holds b before (put_item columns width l i)
-  item_wide wide h =
-      let test : nat_le (l.width + item_width columns i) width ≡ false = lt-leb _ _ (omega arith) in
-      let narrow : nat_le (item_width columns i) width ≡ false = lt-leb _ _ wide in rw (test, narrow) h
-
--- the width of a word's first item
-pub first_width : {A : Type 0} (columns : ℕ → Option ℕ) (word rest others : List (Item A)) (i : Item A) (c : ℕ) (a : A) → word ≡ i ∷ rest → word ≡ glyph c a ∷ others → item_width columns i ≡ unwrap_or (columns c) 0
-first_width columns word rest others i c a e f = let same : i ≡ glyph c a = cc in ap (item_width columns) same
-
-pub keeps_trans : {A : Type 0} (a b c : Open A) → KeepsSettings a b → KeepsSettings b c → KeepsSettings a c
-keeps_trans a b c h k = record { width = k.width ∙ h.width; may_overflow = k.may_overflow ∙ h.may_overflow; space = k.space ∙ h.space; word_width = k.word_width ∙ h.word_width }
-
--- ---- no item too wide, item by item
-
-pub narrow_first : {A : Type 0} (columns : ℕ → Option ℕ) (width : ℕ) (word rest : List (Item A)) (i : Item A) → word ≡ i ∷ rest → IsNarrow columns width word → (item_width columns i ≤ width) × IsNarrow columns width rest
-narrow_first columns width word rest i e h = let k = subst (IsNarrow columns width) e h in (k.0, k.1)
-
-pub narrow_more : {A : Type 0} (columns : ℕ → Option ℕ) (width : ℕ) (word rest : List (Item A)) (i : Item A) → word ≡ i ∷ rest → item_width columns i ≤ width → IsNarrow columns width rest → IsNarrow columns width word
-narrow_more columns width word rest i e n h = subst (IsNarrow columns width) (sym e) (n, h)
-
-pub option_width : {A : Type 0} (o : Option A) (b : Bool) (n : ℕ) → b ≡ is_some o → n ≡ bool_byte b → n ≡ gap_width o
-option_width None b n e f = f ∙ ap bool_byte e
-option_width (Some a) b n e f = f ∙ ap bool_byte e
-
 -- where no other field changed
-pub holds_same : {A : Type 0} (b c : Open A) (before : List (List (Item A))) (l : Laid A) → Holds b before l → c.flat ≡ b.flat → c.lines ≡ b.lines → c.line_len ≡ b.line_len → c.line_width ≡ b.line_width → Holds c before l
-holds_same b c before l h flat lines len width = record { placed = ap (λ f. f.placed) flat ∙ h.placed; lens = ap (λ q. q.items) lines ∙ h.lens; len = len ∙ h.len; width = width ∙ h.width }
-
--- ---- which case of laying a word it is
-
-module _ {A : Type 0} (columns : ℕ → Option ℕ) (width : ℕ) (c : Open A) (before : List (List (Item A))) (l : Laid A) (sp word : List (Item A)) where
-  pub lay_is_here : (n : ℕ) → n ≡ l.width + (length sp + items_width columns word) → n ≤ width → Holds c before (record { done = l.done; line = l.line ++ (sp ++ word); width = n }) → Holds c before (lay columns width l sp word)
-  lay_is_here n e fits h =
-      let test : nat_le (l.width + (length sp + items_width columns word)) width ≡ true = le-leb _ _ (omega (arith, e, fits)) in
-      rw test (subst (λ (m : ℕ). Holds c before (record { done = l.done; line = l.line ++ (sp ++ word); width = m })) e h)
-
-  pub lay_is_fresh : (n : ℕ) → n ≡ items_width columns word → width < l.width + (length sp + items_width columns word) → n ≤ width → Holds c before (record { done = close l.done l.line; line = word; width = n }) → Holds c before (lay columns width l sp word)
-  lay_is_fresh n e full fits h =
-      let test : nat_le (l.width + (length sp + items_width columns word)) width ≡ false = lt-leb _ _ full in
-      let narrow : nat_le (items_width columns word) width ≡ true = le-leb _ _ (omega (arith, e, fits)) in
-      rw (test, narrow) (subst (λ (m : ℕ). Holds c before (record { done = close l.done l.line; line = word; width = m })) e h)
-
-  pub lay_is_wide : width < items_width columns word → Holds c before (put_items columns width (fresh l) word) → Holds c before (lay columns width l sp word)
-  lay_is_wide wide h =
-      let test : nat_le (l.width + (length sp + items_width columns word)) width ≡ false = lt-leb _ _ (omega arith) in
-      let narrow : nat_le (items_width columns word) width ≡ false = lt-leb _ _ wide in
-      rw (test, narrow) h
-
-pub narrow_sum : {A : Type 0} (columns : ℕ → Option ℕ) (width : ℕ) (is : List (Item A)) → items_width columns is ≤ width → IsNarrow columns width is
-narrow_sum columns width [] h = tt
-narrow_sum columns width (i ∷ is) h = (omega arith, narrow_sum columns width is (omega arith))
+pub holds_same : {A : Type 0} (b c : Open A) (before : List (List (Item A))) (l : Laid A) → Holds b before l → c.flat.placed ≡ b.flat.placed → c.lines ≡ b.lines → c.line_len ≡ b.line_len → c.line_width ≡ b.line_width → Holds c before l
+holds_same b c before l h flat lines len width = record { placed = flat ∙ h.placed; lens = ap (λ q. q.items) lines ∙ h.lens; len = len ∙ h.len; width = width ∙ h.width }
 
 -- ---- the first ended line
 
@@ -157,3 +75,15 @@ taken {A} eq b c before l is rest n ns line h first e same flat lens len width =
         width = width;
       },
     )
+
+-- one more item, with which the open line is ended
+pub holds_wide : {A : Type 0} (b c : Open A) (before : List (List (Item A))) (l : Laid A) (i : Item A) (columns n : ℕ) → Holds b before l → c.flat.placed ≡ b.flat.placed ++ i ∷ [] → n ≡ b.line_len + 1 → c.lines.items ≡ b.lines.items ++ n ∷ [] → c.line_len ≡ 0 → c.line_width ≡ 0 →
+    Holds c before (ended (extended l (i ∷ []) columns))
+holds_wide {A} b c before l i columns n h placed count lines len width = record {
+  placed = placed ∙ ap (λ js. js ++ i ∷ []) h.placed ∙ append_assoc (joined (before ++ l.done)) l.line (i ∷ [])
+      ∙ sym (append-nil (joined (before ++ (l.done ++ (l.line ++ i ∷ []) ∷ []))) ∙ ap joined (sym (append_assoc before l.done ((l.line ++ i ∷ []) ∷ []))) ∙ joined-append (before ++ l.done) ((l.line ++ i ∷ []) ∷ []) ∙ ap (λ is. joined (before ++ l.done) ++ is) (append-nil (l.line ++ i ∷ [])));
+  lens = lines ∙ ap (λ ns. ns ++ n ∷ []) h.lens ∙ ap (λ m. map length (before ++ l.done) ++ m ∷ []) (let e : n ≡ length (l.line ++ i ∷ []) = omega (arith, count, h.len, length-append l.line (i ∷ [])) in e)
+      ∙ sym (ap (map length) (sym (append_assoc before l.done ((l.line ++ i ∷ []) ∷ []))) ∙ map-append length (before ++ l.done) ((l.line ++ i ∷ []) ∷ []));
+  len = len;
+  width = width;
+}

@@ -1,9 +1,10 @@
 -- Items that are the same up to equal tags.
-use Rattle.std.proofs.Common.{◌≡◌, ℕ, Bool, true, List, [], ◌∷◌, ◌++◌, map, refl, ap, sym, ◌∙◌, subst, append_assoc, append-nil}
+use Rattle.std.proofs.Common.{◌≡◌, ℕ, suc, Option, Bool, true, List, [], ◌∷◌, ◌++◌, map, length, refl, ap, sym, ◌∙◌, subst, arith, append_assoc, append-nil}
 use Rattle.std.specs.Cmp.{IsEquivalence}
+use Rattle.std.specs.List.{AllZip}
 use Rattle.std.proofs.lemmas.Bool.{cond_both}
 use Rattle.std.proofs.lemmas.List.Concat.{flat_map-append}
-use Rattle.tbr_model.specs.Run.{Item, glyph, marker}
+use Rattle.tbr_model.specs.Run.{Item, glyph, marker, item_width, items_width, has_character}
 use Rattle.tbr_lines.specs.Elements.{Element, piece, mark, element_items, items_of, SameItem, SameItems, SameElement, SameElements, extend_last, last_of, is_piece_under, push_text, push_element}
 
 module _ {A : Type 0} (eq : A → A → Bool) (laws : IsEquivalence eq) where
@@ -82,3 +83,38 @@ module _ {A : Type 0} (eq : A → A → Bool) (laws : IsEquivalence eq) where
   pub element_pushed : (es : List (Element A)) (e : Element A) → SameItems eq (items_of (push_element eq es e)) (items_of es ++ element_items e)
   element_pushed es (piece cs a) = items_push es cs a
   element_pushed es (mark name) = same_from_path (items_of (es ++ mark name ∷ [])) (items_of es ++ marker name ∷ []) (flat_map-append element_items es (mark name ∷ []))
+
+-- ---- what items that are the same have in common
+
+pub same_length : {A : Type 0} (eq : A → A → Bool) (is js : List (Item A)) → SameItems eq is js → length is ≡ length js
+same_length eq [] [] h = refl
+same_length eq [] (j ∷ js) h = absurd h
+same_length eq (i ∷ is) [] h = absurd h
+same_length eq (i ∷ is) (j ∷ js) h = ap suc (same_length eq is js h.1)
+
+pub same_width_one : {A : Type 0} (columns : ℕ → Option ℕ) (eq : A → A → Bool) (i j : Item A) → SameItem eq i j → item_width columns i ≡ item_width columns j
+same_width_one columns eq (glyph c a) (glyph d b) h = ap (λ x. item_width columns (glyph x a)) h.0
+same_width_one columns eq (marker m) (marker n) h = refl
+same_width_one columns eq (glyph c a) (marker n) h = absurd h
+same_width_one columns eq (marker m) (glyph d b) h = absurd h
+
+pub same_width : {A : Type 0} (columns : ℕ → Option ℕ) (eq : A → A → Bool) (is js : List (Item A)) → SameItems eq is js → items_width columns is ≡ items_width columns js
+same_width columns eq [] [] h = refl
+same_width columns eq [] (j ∷ js) h = absurd h
+same_width columns eq (i ∷ is) [] h = absurd h
+same_width columns eq (i ∷ is) (j ∷ js) h = omega (arith, same_width_one columns eq i j h.0, same_width columns eq is js h.1)
+
+pub all_zip_append : {A B : Type 0} (R : A → B → Type 0) (xs zs : List A) (ys ws : List B) → AllZip R xs ys → AllZip R zs ws → AllZip R (xs ++ zs) (ys ++ ws)
+all_zip_append R [] zs [] ws h k = k
+all_zip_append R [] zs (y ∷ ys) ws h k = absurd h
+all_zip_append R (x ∷ xs) zs [] ws h k = absurd h
+all_zip_append R (x ∷ xs) zs (y ∷ ys) ws h k = (h.0, all_zip_append R xs zs ys ws h.1 k)
+
+pub same_has : {A : Type 0} (eq : A → A → Bool) (is js : List (Item A)) → SameItems eq is js → has_character is ≡ has_character js
+same_has eq [] [] h = refl
+same_has eq [] (j ∷ js) h = absurd h
+same_has eq (i ∷ is) [] h = absurd h
+same_has eq (glyph c a ∷ is) (glyph d b ∷ js) h = refl
+same_has eq (glyph c a ∷ is) (marker n ∷ js) h = absurd h.0
+same_has eq (marker m ∷ is) (glyph d b ∷ js) h = absurd h.0
+same_has eq (marker m ∷ is) (marker n ∷ js) h = same_has eq is js h.1

@@ -12,7 +12,7 @@ pub one : {A : Type 0} → Stretch A → List A
 one s = s.tag ∷ replicate s.more s.tag
 
 module _ {A : Type 0} where
-  tags_of-append : (xs ys : List (Stretch A)) → tags_of (xs ++ ys) ≡ tags_of xs ++ tags_of ys
+  pub tags_of-append : (xs ys : List (Stretch A)) → tags_of (xs ++ ys) ≡ tags_of xs ++ tags_of ys
   tags_of-append [] ys = refl
   tags_of-append (x ∷ xs) ys = ap (λ ts. x.tag ∷ replicate x.more x.tag ++ ts) (tags_of-append xs ys) ∙ sym (append_assoc (x.tag ∷ replicate x.more x.tag) (tags_of xs) (tags_of ys))
 
@@ -22,12 +22,12 @@ module _ {A : Type 0} where
       ap (λ ys. tags_of (drop k ys)) (sym (take-append-drop i xs)) ∙ ap tags_of (drop-append-le k (take i xs) (drop i xs) (omega (arith, length-take i xs)))
       ∙ tags_of-append (drop k (take i xs)) (drop i xs)
 
-  take-set : (xs : List (Stretch A)) (i : ℕ) (y : Stretch A) → take i (set xs i y) ≡ take i xs
+  pub take-set : (xs : List (Stretch A)) (i : ℕ) (y : Stretch A) → take i (set xs i y) ≡ take i xs
   take-set [] i y = refl
   take-set (x ∷ xs) zero y = refl
   take-set (x ∷ xs) (suc i) y = ap (λ ys. x ∷ ys) (take-set xs i y)
 
-  drop-set : (xs : List (Stretch A)) (i : ℕ) (y : Stretch A) → i < length xs → drop i (set xs i y) ≡ y ∷ drop (suc i) xs
+  pub drop-set : (xs : List (Stretch A)) (i : ℕ) (y : Stretch A) → i < length xs → drop i (set xs i y) ≡ y ∷ drop (suc i) xs
   drop-set [] i y h = absurd (omega arith)
   drop-set (x ∷ xs) zero y h = refl
   drop-set (x ∷ xs) (suc i) y h = drop-set xs i y (omega arith)
@@ -37,7 +37,7 @@ module _ {A : Type 0} where
   drop-item (x ∷ xs) zero d h = refl
   drop-item (x ∷ xs) (suc i) d h = drop-item xs i d (omega arith)
 
-  length-set : (xs : List (Stretch A)) (i : ℕ) (y : Stretch A) → length (set xs i y) ≡ length xs
+  pub length-set : (xs : List (Stretch A)) (i : ℕ) (y : Stretch A) → length (set xs i y) ≡ length xs
   length-set [] i y = refl
   length-set (x ∷ xs) zero y = refl
   length-set (x ∷ xs) (suc i) y = ap suc (length-set xs i y)
@@ -150,13 +150,22 @@ module _ {A : Type 0} where
 -- ---- a tag is inserted
 
 module _ {A : Type 0} where
-  -- a longer run has the tag anywhere in it
-  replicate_insert : (o m : ℕ) (t : A) (rest : List A) → o ≤ m → t ∷ (replicate m t ++ rest) ≡ take o (replicate m t ++ rest) ++ t ∷ drop o (replicate m t ++ rest)
-  replicate_insert zero m t rest h = refl
-  replicate_insert (suc o) zero t rest h = absurd (omega arith)
-  replicate_insert (suc o) (suc m) t rest h = ap (λ ts. t ∷ ts) (replicate_insert o m t rest (omega arith))
+  -- a run goes on with the first of another one under the same tag
+  replicate_turn : (n : ℕ) (t : A) (ts : List A) → t ∷ (replicate n t ++ ts) ≡ replicate n t ++ t ∷ ts
+  replicate_turn zero t ts = refl
+  replicate_turn (suc n) t ts = ap (λ us. t ∷ us) (replicate_turn n t ts)
 
-  take_behind : (front ts : List A) (o p : ℕ) → p ≡ length front + o → take p (front ++ ts) ≡ front ++ take o ts
+  -- a longer run has more of the tag anywhere in it
+  replicate_insert : (o m n : ℕ) (t : A) (rest : List A) → o ≤ m → replicate n t ++ (replicate m t ++ rest) ≡ take o (replicate m t ++ rest) ++ (replicate n t ++ drop o (replicate m t ++ rest))
+  replicate_insert zero m n t rest h = refl
+  replicate_insert (suc o) zero n t rest h = absurd (omega arith)
+  replicate_insert (suc o) (suc m) n t rest h = sym (replicate_turn n t (replicate m t ++ rest)) ∙ ap (λ ts. t ∷ ts) (replicate_insert o m n t rest (omega arith))
+
+  pub replicate_sum : (m n : ℕ) (t : A) (rest : List A) → replicate (m + n) t ++ rest ≡ replicate n t ++ (replicate m t ++ rest)
+  replicate_sum m zero t rest = let e : m + 0 ≡ m = omega arith in ap (λ i. replicate i t ++ rest) e
+  replicate_sum m (suc n) t rest = let e : m + suc n ≡ suc (m + n) = omega arith in ap (λ i. replicate i t ++ rest) e ∙ ap (λ ts. t ∷ ts) (replicate_sum m n t rest)
+
+  pub take_behind : (front ts : List A) (o p : ℕ) → p ≡ length front + o → take p (front ++ ts) ≡ front ++ take o ts
   take_behind [] ts o p e = ap (λ i. take i ts) (drop_zero p o e)
     where
       drop_zero : (p o : ℕ) → p ≡ 0 + o → p ≡ o
@@ -164,7 +173,7 @@ module _ {A : Type 0} where
   take_behind (x ∷ front) ts o zero e = absurd (omega arith)
   take_behind (x ∷ front) ts o (suc p) e = ap (λ us. x ∷ us) (take_behind front ts o p (omega arith))
 
-  drop_behind : (front ts : List A) (o p : ℕ) → p ≡ length front + o → drop p (front ++ ts) ≡ drop o ts
+  pub drop_behind : (front ts : List A) (o p : ℕ) → p ≡ length front + o → drop p (front ++ ts) ≡ drop o ts
   drop_behind [] ts o p e = ap (λ i. drop i ts) (drop_zero p o e)
     where
       drop_zero : (p o : ℕ) → p ≡ 0 + o → p ≡ o
@@ -172,51 +181,53 @@ module _ {A : Type 0} where
   drop_behind (x ∷ front) ts o zero e = absurd (omega arith)
   drop_behind (x ∷ front) ts o (suc p) e = drop_behind front ts o p (omega arith)
 
-  insert_behind : (front ts us behind : List A) (o p : ℕ) (a : A) → p ≡ length front + o → us ≡ take o ts ++ a ∷ behind → front ++ us ≡ take p (front ++ ts) ++ a ∷ behind
-  insert_behind front ts us behind o p a e h =
-      ap (λ vs. front ++ vs) h ∙ sym (append_assoc front (take o ts) (a ∷ behind)) ∙ ap (λ vs. vs ++ a ∷ behind) (sym (take_behind front ts o p e))
+  insert_behind : (front ts us behind more : List A) (o p : ℕ) → p ≡ length front + o → us ≡ take o ts ++ (more ++ behind) → front ++ us ≡ take p (front ++ ts) ++ (more ++ behind)
+  insert_behind front ts us behind more o p e h =
+      ap (λ vs. front ++ vs) h ∙ sym (append_assoc front (take o ts) (more ++ behind)) ∙ ap (λ vs. vs ++ (more ++ behind)) (sym (take_behind front ts o p e))
 
-  before_len : (xs : List (Stretch A)) (k j o last : ℕ) → k ≤ j → j ≤ length xs → length (tags_of (drop j xs)) ≡ o + last →
+  pub before_len : (xs : List (Stretch A)) (k j o last : ℕ) → k ≤ j → j ≤ length xs → length (tags_of (drop j xs)) ≡ o + last →
       length (tags_of (drop k xs)) - last ≡ length (tags_of (drop k (take j xs))) + o
   before_len xs k j o last h g e =
       omega (arith, ap length (split_tags xs k j h g), length-append (tags_of (drop k (take j xs))) (tags_of (drop j xs)), e)
 
-  -- a stretch is one longer, wherever in it the tag is meant
-  pub bumped : (xs : List (Stretch A)) (k j o last : ℕ) (s y : Stretch A) → k ≤ j → j < length xs → s ≡ get_or xs j s → y ≡ record s { more = s.more + 1 } → o ≤ s.more + 1 → length (tags_of (drop j xs)) ≡ o + last →
-      tags_of (drop k (set xs j y)) ≡ take (length (tags_of (drop k xs)) - last) (tags_of (drop k xs)) ++ s.tag ∷ drop (length (tags_of (drop k xs)) - last) (tags_of (drop k xs))
-  bumped xs k j o last s y h g is e less n =
+  -- a stretch is longer, wherever in it the tag is meant
+  pub bumped : (xs : List (Stretch A)) (k j o last n : ℕ) (s y : Stretch A) → k ≤ j → j < length xs → s ≡ get_or xs j s → y ≡ record s { more = s.more + n } → o ≤ s.more + 1 → length (tags_of (drop j xs)) ≡ o + last →
+      tags_of (drop k (set xs j y)) ≡
+      take (length (tags_of (drop k xs)) - last) (tags_of (drop k xs)) ++ (replicate n s.tag ++ drop (length (tags_of (drop k xs)) - last) (tags_of (drop k xs)))
+  bumped xs k j o last n s y h g is e less len =
+      let ts = tags_of (drop k xs) in
       let front = tags_of (drop k (take j xs)) in
       let rest = tags_of (drop (suc j) xs) in
-      let old : tags_of (drop k xs) ≡ front ++ (replicate (s.more + 1) s.tag ++ rest) =
-      item_tags xs k j s h g ∙ ap (λ z. front ++ tags_of (z ∷ drop (suc j) xs)) (sym is) ∙ ap (λ i. front ++ (replicate i s.tag ++ rest)) (sym (add-one s.more)) in
-      let new : tags_of (drop k (set xs j y)) ≡ front ++ (s.tag ∷ (replicate (s.more + 1) s.tag ++ rest)) =
-      set_tags xs k j y h g ∙ ap (λ z. front ++ tags_of (z ∷ drop (suc j) xs)) e in
-      let p : length (tags_of (drop k xs)) - last ≡ length front + o = before_len xs k j o last h (omega arith) n in
-      let back : drop (length (tags_of (drop k xs)) - last) (tags_of (drop k xs)) ≡ drop o (replicate (s.more + 1) s.tag ++ rest) =
-      ap (λ ts. drop (length (tags_of (drop k xs)) - last) ts) old ∙ drop_behind front (replicate (s.more + 1) s.tag ++ rest) o (length (tags_of (drop k xs)) - last) p in
+      let run = replicate (s.more + 1) s.tag ++ rest in
+      let old : ts ≡ front ++ run = item_tags xs k j s h g ∙ ap (λ z. front ++ tags_of (z ∷ drop (suc j) xs)) (sym is) ∙ ap (λ i. front ++ (replicate i s.tag ++ rest)) (sym (add-one s.more)) in
+      let count : suc (s.more + n) ≡ s.more + 1 + n = omega arith in
+      let new : tags_of (drop k (set xs j y)) ≡ front ++ (replicate n s.tag ++ run) =
+      set_tags xs k j y h g ∙ ap (λ z. front ++ tags_of (z ∷ drop (suc j) xs)) e ∙ ap (λ i. front ++ (replicate i s.tag ++ rest)) count ∙ ap (λ us. front ++ us) (replicate_sum (s.more + 1) n s.tag rest) in
+      let p : length ts - last ≡ length front + o = before_len xs k j o last h (omega arith) len in
+      let back : drop (length ts - last) ts ≡ drop o run = ap (λ us. drop (length ts - last) us) old ∙ drop_behind front run o (length ts - last) p in
       new
-      ∙ insert_behind front (replicate (s.more + 1) s.tag ++ rest) (s.tag ∷ (replicate (s.more + 1) s.tag ++ rest)) (drop o (replicate (s.more + 1) s.tag ++ rest)) o
-      (length (tags_of (drop k xs)) - last) s.tag p (replicate_insert o (s.more + 1) s.tag rest less)
-      ∙ ap (λ ts. take (length (tags_of (drop k xs)) - last) ts ++ s.tag ∷ drop o (replicate (s.more + 1) s.tag ++ rest)) (sym old)
-      ∙ ap (λ ts. take (length (tags_of (drop k xs)) - last) (tags_of (drop k xs)) ++ s.tag ∷ ts) (sym back)
+      ∙ insert_behind front run (replicate n s.tag ++ run) (drop o run) (replicate n s.tag) o (length ts - last) p (replicate_insert o (s.more + 1) n s.tag rest less)
+      ∙ ap (λ us. take (length ts - last) us ++ (replicate n s.tag ++ drop o run)) (sym old)
+      ∙ ap (λ us. take (length ts - last) ts ++ (replicate n s.tag ++ us)) (sym back)
 
-  -- a stretch of one is inserted
-  pub inserted : (xs : List (Stretch A)) (k j last : ℕ) (a : A) → k ≤ j → j ≤ length xs → length (tags_of (drop j xs)) ≡ last →
-      tags_of (drop k (take j xs ++ record { more = 0; tag = a } ∷ drop j xs)) ≡
-      take (length (tags_of (drop k xs)) - last) (tags_of (drop k xs)) ++ a ∷ drop (length (tags_of (drop k xs)) - last) (tags_of (drop k xs))
-  inserted xs k j last a h g n =
+  -- a stretch is inserted
+  pub inserted : (xs : List (Stretch A)) (k j last n m : ℕ) (a : A) → k ≤ j → j ≤ length xs → length (tags_of (drop j xs)) ≡ last → n ≡ suc m →
+      tags_of (drop k (take j xs ++ record { more = m; tag = a } ∷ drop j xs)) ≡
+      take (length (tags_of (drop k xs)) - last) (tags_of (drop k xs)) ++ (replicate n a ++ drop (length (tags_of (drop k xs)) - last) (tags_of (drop k xs)))
+  inserted xs k j last n m a h g len e =
+      let ts = tags_of (drop k xs) in
       let front = tags_of (drop k (take j xs)) in
       let rest = tags_of (drop j xs) in
-      let old : tags_of (drop k xs) ≡ front ++ rest = split_tags xs k j h g in
-      let new : tags_of (drop k (take j xs ++ record { more = 0; tag = a } ∷ drop j xs)) ≡ front ++ (a ∷ rest) =
-      ap tags_of (drop-append-le k (take j xs) (record { more = 0; tag = a } ∷ drop j xs) (omega (arith, length-take j xs))) ∙ tags_of-append (drop k (take j xs)) (record { more = 0; tag = a } ∷ drop j xs) in
-      let m : length (tags_of (drop j xs)) ≡ 0 + last = omega (arith, n) in
-      let p : length (tags_of (drop k xs)) - last ≡ length front + 0 = before_len xs k j 0 last h g m in
-      let back : drop (length (tags_of (drop k xs)) - last) (tags_of (drop k xs)) ≡ rest =
-      ap (λ ts. drop (length (tags_of (drop k xs)) - last) ts) old ∙ drop_behind front rest 0 (length (tags_of (drop k xs)) - last) p in
-      new ∙ insert_behind front rest (a ∷ rest) rest 0 (length (tags_of (drop k xs)) - last) a p refl
-      ∙ ap (λ ts. take (length (tags_of (drop k xs)) - last) ts ++ a ∷ rest) (sym old)
-      ∙ ap (λ ts. take (length (tags_of (drop k xs)) - last) (tags_of (drop k xs)) ++ a ∷ ts) (sym back)
+      let old : ts ≡ front ++ rest = split_tags xs k j h g in
+      let new : tags_of (drop k (take j xs ++ record { more = m; tag = a } ∷ drop j xs)) ≡ front ++ (replicate n a ++ rest) =
+      ap tags_of (drop-append-le k (take j xs) (record { more = m; tag = a } ∷ drop j xs) (omega (arith, length-take j xs))) ∙ tags_of-append (drop k (take j xs)) (record { more = m; tag = a } ∷ drop j xs)
+      ∙ ap (λ i. front ++ (replicate i a ++ rest)) (sym e) in
+      let zero_len : length (tags_of (drop j xs)) ≡ 0 + last = omega (arith, len) in
+      let p : length ts - last ≡ length front + 0 = before_len xs k j 0 last h g zero_len in
+      let back : drop (length ts - last) ts ≡ rest = ap (λ us. drop (length ts - last) us) old ∙ drop_behind front rest 0 (length ts - last) p in
+      new ∙ insert_behind front rest (replicate n a ++ rest) rest (replicate n a) 0 (length ts - last) p refl
+      ∙ ap (λ us. take (length ts - last) us ++ (replicate n a ++ rest)) (sym old)
+      ∙ ap (λ us. take (length ts - last) ts ++ (replicate n a ++ us)) (sym back)
 
 suc_in : (k r : ℕ) → suc (k + r) ≡ k + suc r
 suc_in k r = omega arith
@@ -269,12 +280,12 @@ module _ {A : Type 0} where
       let first : one ≡ take i xs ++ y ∷ b ∷ drop (suc i) xs = e ∙ ap (λ zs. take (i + 1) zs ++ b ∷ drop (i + 1) zs) (set_parts xs i y h) ∙ put_behind (take i xs) (drop (suc i) xs) y b (i + 1) n in
       f ∙ ap (λ zs. take (i + 1) zs ++ m ∷ drop (i + 1) zs) first ∙ put_behind (take i xs) (b ∷ drop (suc i) xs) y m (i + 1) n
 
-  take_run : (o m : ℕ) (t : A) (rest : List A) → o ≤ m → take o (replicate m t ++ rest) ≡ replicate o t
+  pub take_run : (o m : ℕ) (t : A) (rest : List A) → o ≤ m → take o (replicate m t ++ rest) ≡ replicate o t
   take_run zero m t rest h = refl
   take_run (suc o) zero t rest h = absurd (omega arith)
   take_run (suc o) (suc m) t rest h = ap (λ ts. t ∷ ts) (take_run o m t rest (omega arith))
 
-  drop_run : (o m n : ℕ) (t : A) (rest : List A) → m ≡ o + n → drop o (replicate m t ++ rest) ≡ replicate n t ++ rest
+  pub drop_run : (o m n : ℕ) (t : A) (rest : List A) → m ≡ o + n → drop o (replicate m t ++ rest) ≡ replicate n t ++ rest
   drop_run zero m n t rest h = let e : m ≡ n = omega arith in ap (λ i. replicate i t ++ rest) e
   drop_run (suc o) zero n t rest h = absurd (omega arith)
   drop_run (suc o) (suc m) n t rest h = drop_run o m n t rest (omega arith)
@@ -284,25 +295,28 @@ module _ {A : Type 0} where
   same_run eq laws (suc n) b t rest h = (h, same_run eq laws n b t rest h)
 
   -- what is split off, and the tags between
-  pub split_tags_new : (xs two : List (Stretch A)) (k i o last : ℕ) (s b : Stretch A) (a : A) → k ≤ i → i < length xs → s ≡ get_or xs i s → 0 < o → o ≤ s.more → length (tags_of (drop i xs)) ≡ o + last →
-      two ≡ take i xs ++ record s { more = o - 1 } ∷ record { more = 0; tag = a } ∷ b ∷ drop (suc i) xs →
-      tags_of (drop k two) ≡ take (length (tags_of (drop k xs)) - last) (tags_of (drop k xs)) ++ a ∷ tags_of (b ∷ drop (suc i) xs)
-  split_tags_new xs two k i o last s b a h g is some less n e =
+  pub split_tags_new : (xs two : List (Stretch A)) (k i o last n m : ℕ) (s b : Stretch A) (a : A) → k ≤ i → i < length xs → s ≡ get_or xs i s → 0 < o → o ≤ s.more → length (tags_of (drop i xs)) ≡ o + last → n ≡ suc m →
+      two ≡ take i xs ++ record s { more = o - 1 } ∷ record { more = m; tag = a } ∷ b ∷ drop (suc i) xs →
+      tags_of (drop k two) ≡ take (length (tags_of (drop k xs)) - last) (tags_of (drop k xs)) ++ (replicate n a ++ tags_of (b ∷ drop (suc i) xs))
+  split_tags_new xs two k i o last n m s b a h g is some less len count e =
       let front = tags_of (drop k (take i xs)) in
       let rest = tags_of (drop (suc i) xs) in
-      let tail = record { more = 0; tag = a } ∷ b ∷ drop (suc i) xs in
-      let old : tags_of (drop k xs) ≡ front ++ (replicate (s.more + 1) s.tag ++ rest) =
+      let run = replicate (s.more + 1) s.tag ++ rest in
+      let behind = tags_of (b ∷ drop (suc i) xs) in
+      let tail = record { more = m; tag = a } ∷ b ∷ drop (suc i) xs in
+      let old : tags_of (drop k xs) ≡ front ++ run =
       item_tags xs k i s h g ∙ ap (λ z. front ++ tags_of (z ∷ drop (suc i) xs)) (sym is) ∙ ap (λ j. front ++ (replicate j s.tag ++ rest)) (sym (add-one s.more)) in
-      let p : length (tags_of (drop k xs)) - last ≡ length front + o = before_len xs k i o last h (omega arith) n in
-      let m : suc (o - 1) ≡ o = omega arith in
-      let new : tags_of (drop k two) ≡ front ++ (replicate o s.tag ++ (a ∷ tags_of (b ∷ drop (suc i) xs))) =
+      let p : length (tags_of (drop k xs)) - last ≡ length front + o = before_len xs k i o last h (omega arith) len in
+      let whole : suc (o - 1) ≡ o = omega arith in
+      let new : tags_of (drop k two) ≡ front ++ (replicate o s.tag ++ (replicate n a ++ behind)) =
       ap (λ ys. tags_of (drop k ys)) e
       ∙ ap tags_of (drop-append-le k (take i xs) (record s { more = o - 1 } ∷ tail) (omega (arith, length-take i xs)))
-      ∙ tags_of-append (drop k (take i xs)) (record s { more = o - 1 } ∷ tail) ∙ ap (λ j. front ++ (replicate j s.tag ++ (a ∷ tags_of (b ∷ drop (suc i) xs)))) m in
+      ∙ tags_of-append (drop k (take i xs)) (record s { more = o - 1 } ∷ tail) ∙ ap (λ j. front ++ (replicate j s.tag ++ (replicate (suc m) a ++ behind))) whole
+      ∙ ap (λ j. front ++ (replicate o s.tag ++ (replicate j a ++ behind))) (sym count) in
       new
-      ∙ insert_behind front (replicate (s.more + 1) s.tag ++ rest) (replicate o s.tag ++ (a ∷ tags_of (b ∷ drop (suc i) xs))) (tags_of (b ∷ drop (suc i) xs)) o (length (tags_of (drop k xs)) - last) a p
-      (ap (λ ts. ts ++ a ∷ tags_of (b ∷ drop (suc i) xs)) (sym (take_run o (s.more + 1) s.tag rest (omega arith))))
-      ∙ ap (λ ts. take (length (tags_of (drop k xs)) - last) ts ++ a ∷ tags_of (b ∷ drop (suc i) xs)) (sym old)
+      ∙ insert_behind front run (replicate o s.tag ++ (replicate n a ++ behind)) behind (replicate n a) o (length (tags_of (drop k xs)) - last) p
+      (ap (λ ts. ts ++ (replicate n a ++ behind)) (sym (take_run o (s.more + 1) s.tag rest (omega arith))))
+      ∙ ap (λ ts. take (length (tags_of (drop k xs)) - last) ts ++ (replicate n a ++ behind)) (sym old)
 
   pub split_same : (eq : A → A → Bool) (laws : IsEquivalence eq) (xs : List (Stretch A)) (k i o last : ℕ) (s b : Stretch A) → k ≤ i → i < length xs → s ≡ get_or xs i s → o ≤ s.more → length (tags_of (drop i xs)) ≡ o + last →
       b.more ≡ s.more - o → eq b.tag s.tag ≡ true → AllZip (λ x y. eq x y ≡ true) (tags_of (b ∷ drop (suc i) xs)) (drop (length (tags_of (drop k xs)) - last) (tags_of (drop k xs)))
@@ -318,15 +332,14 @@ module _ {A : Type 0} where
       ∙ drop_run o (s.more + 1) (suc b.more) s.tag rest m in
       subst (λ (ts : List A). AllZip (λ x y. eq x y ≡ true) (tags_of (b ∷ drop (suc i) xs)) ts) (sym back) (same_run eq laws (suc b.more) b.tag s.tag rest same)
 
-pub exactly : {A : Type 0} (eq : A → A → Bool) (laws : IsEquivalence eq) (ts now new : List A) (last : ℕ) (a tag : A) → ts ≡ now → eq a tag ≡ true → new ≡ take (length ts - last) ts ++ a ∷ drop (length ts - last) ts →
-    (x : A) × (behind : List A) × (eq x tag ≡ true) × (new ≡ take (length now - last) now ++ x ∷ behind) × AllZip (λ y z. eq y z ≡ true) behind (drop (length now - last) now)
-exactly {A} eq laws ts now new last a tag e h f =
-    subst (λ (us : List A). (x : A) × (behind : List A) × (eq x tag ≡ true) × (new ≡ take (length us - last) us ++ x ∷ behind) × AllZip (λ y z. eq y z ≡ true) behind (drop (length us - last) us)) e
-    (a, drop (length ts - last) ts, h, f, unchanged eq laws (drop (length ts - last) ts))
-
-pub nearly : {A : Type 0} (eq : A → A → Bool) (ts now new behind : List A) (last : ℕ) (a tag : A) → ts ≡ now → eq a tag ≡ true → new ≡ take (length ts - last) ts ++ a ∷ behind →
+pub nearly : {A : Type 0} (eq : A → A → Bool) (ts now new behind : List A) (last n : ℕ) (a tag : A) → ts ≡ now → eq a tag ≡ true → new ≡ take (length ts - last) ts ++ (replicate n a ++ behind) →
     AllZip (λ y z. eq y z ≡ true) behind (drop (length ts - last) ts) →
-    (x : A) × (behind : List A) × (eq x tag ≡ true) × (new ≡ take (length now - last) now ++ x ∷ behind) × AllZip (λ y z. eq y z ≡ true) behind (drop (length now - last) now)
-nearly {A} eq ts now new behind last a tag e h f same =
-    subst (λ (us : List A). (x : A) × (behind : List A) × (eq x tag ≡ true) × (new ≡ take (length us - last) us ++ x ∷ behind) × AllZip (λ y z. eq y z ≡ true) behind (drop (length us - last) us)) e
+    (x : A) × (behind : List A) × (eq x tag ≡ true) × (new ≡ take (length now - last) now ++ (replicate n x ++ behind)) × AllZip (λ y z. eq y z ≡ true) behind (drop (length now - last) now)
+nearly {A} eq ts now new behind last n a tag e h f same =
+    subst (λ (us : List A). (x : A) × (behind : List A) × (eq x tag ≡ true) × (new ≡ take (length us - last) us ++ (replicate n x ++ behind)) × AllZip (λ y z. eq y z ≡ true) behind (drop (length us - last) us)) e
     (a, behind, h, f, same)
+
+pub exactly : {A : Type 0} (eq : A → A → Bool) (laws : IsEquivalence eq) (ts now new : List A) (last n : ℕ) (a tag : A) → ts ≡ now → eq a tag ≡ true →
+    new ≡ take (length ts - last) ts ++ (replicate n a ++ drop (length ts - last) ts) →
+    (x : A) × (behind : List A) × (eq x tag ≡ true) × (new ≡ take (length now - last) now ++ (replicate n x ++ behind)) × AllZip (λ y z. eq y z ≡ true) behind (drop (length now - last) now)
+exactly eq laws ts now new last n a tag e h f = nearly eq ts now new (drop (length ts - last) ts) last n a tag e h f (unchanged eq laws (drop (length ts - last) ts))

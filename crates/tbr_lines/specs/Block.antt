@@ -1,10 +1,9 @@
 -- What the fields of a block say of its runs.
-use Rattle.std.specs.Prelude.{◌≡◌, ℕ, Bool, false, Option, List, length, take}
+use Rattle.std.specs.Prelude.{◌≡◌, ℕ, Bool, Option, List, length, take}
 use Rattle.std.specs.List.{AllZip}
 use Rattle.tbr_model.specs.Run.{Entry, Item}
-use Rattle.tbr_model.specs.Layout.{Slot}
-use Rattle.tbr_lines.specs.Wrapped.{IsTextOf}
-use Rattle.tbr_lines.specs.State.{parted}
+use Rattle.tbr_lines.specs.Elements.{SameItems}
+use Rattle.tbr_lines.specs.State.{parted, is_some_list}
 use Rattle.tbr_lines.specs.Open.{Tracks}
 use Rattle.tbr_lines.specs.declared.wrap.open.Open.{Open}
 
@@ -13,8 +12,9 @@ abbrev pub earlier_texts : {A : Type 0} → ℕ → Open A → List (List (Item 
 earlier_texts n b = take n (parted b.lines.items b.flat.placed)
 
 -- Behind the lines of earlier runs stands what the current run leads to, but for its lines that were handed out.
-pub record Keeps {A : Type 0} (columns : ℕ → Option ℕ) (eq : A → A → Bool) (n : ℕ) (b : Open A) (handed : List (List (Item A))) (run : List (Entry A)) : Type 0 where
+pub record Keeps {A : Type 0} (columns : ℕ → Option ℕ) (eq : A → A → Bool) (n : ℕ) (b : Open A) (handing : Bool) (handed : List (List (Item A))) (run : List (Entry A)) : Type 0 where
   pub count : length (earlier_texts n b) ≡ n
-  pub given : List (List (Slot A))
-  pub shown : b.may_overflow ≡ false → AllZip (IsTextOf eq) handed given
+  pub given : List (List (Item A))
+  pub shown : AllZip (SameItems eq) handed given
+  pub noted : handing ≡ is_some_list handed
   pub tracks : Tracks columns eq b (earlier_texts n b) given run

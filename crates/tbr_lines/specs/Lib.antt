@@ -2,7 +2,6 @@ pub mod Elements
 pub mod View
 pub mod Stretches
 pub mod Flat
-pub mod Laid
 pub mod Mapped
 pub mod Walks
 pub mod Restored

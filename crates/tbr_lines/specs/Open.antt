@@ -1,32 +1,14 @@
--- What the fields of an open block say of what is laid and of the word under way.
-use Rattle.std.specs.Prelude.{◌≡◌, ℕ, ◌≤◌, Bool, false, Option, None, List, [], ◌∷◌, ◌++◌, map, length}
+-- What the fields of an open block say of what is laid, of the pending space and of the word under way.
+use Rattle.std.specs.Prelude.{◌≡◌, ℕ, ◌≤◌, Bool, true, Option, None, Some, List, [], ◌++◌, map, length}
 use Rattle.std.specs.List.{AllZip, AllByRecursion as Each}
-use Rattle.tbr_model.specs.Run.{Item, items_width, Entry, reading}
-use Rattle.tbr_model.specs.Layout.{Slot, joined, line_width, gap_text, slots_of, IsBest}
-use Rattle.tbr_model.specs.Greedy.{Lines, wrapped}
+use Rattle.tbr_model.specs.Run.{Item, items_width, Entry}
+use Rattle.tbr_model.specs.Layout.{joined}
+use Rattle.tbr_model.specs.Laid.{Laid}
+use Rattle.tbr_model.specs.Rule.{Event, run_of, Space, Progress, at_start, progress}
 use Rattle.tbr_lines.specs.Elements.{SameItems}
-use Rattle.tbr_lines.specs.Laid.{Laid}
-use Rattle.tbr_lines.specs.Wrapped.{IsTextOf, FitsBlock, EndedWordsFit}
+use Rattle.tbr_lines.specs.Wrapped.{FitsBlock}
 use Rattle.tbr_lines.specs.declared.wrap.open.Open.{Open}
-
--- the gap behind what a line has; in front of it none counts
-abbrev pub gap_behind : {A : Type 0} → List (Slot A) → Option A → Option A
-gap_behind [] gap = None
-gap_behind (s ∷ ss) gap = gap
-
--- What is laid are the texts of lines of slots, but for the first ones, which were handed out.
-pub record Shows {A : Type 0} (eq : A → A → Bool) (given : List (List (Slot A))) (l : Laid A) (lines : Lines A) : Type 0 where
-  pub rest : List (List (Slot A))
-  pub split : lines.done ≡ given ++ rest
-  pub done : AllZip (IsTextOf eq) l.done rest
-  pub last : IsTextOf eq l.line lines.last
-  pub width : l.width ≡ line_width lines.last
-
--- What is laid is as wide as it should be.
-pub record Measured {A : Type 0} (columns : ℕ → Option ℕ) (width : ℕ) (may_overflow : Bool) (l : Laid A) : Type 0 where
-  pub small : l.width ≤ width
-  pub line : l.width ≡ items_width columns l.line
-  pub done : Each (FitsBlock columns width may_overflow) l.done
+use Rattle.tbr_lines.specs.declared.wrap.open.Space.{Space as HeldSpace}
 
 -- The fields hold what is laid, behind the lines of earlier runs.
 pub record Holds {A : Type 0} (b : Open A) (before : List (List (Item A))) (l : Laid A) : Type 0 where
@@ -35,40 +17,90 @@ pub record Holds {A : Type 0} (b : Open A) (before : List (List (Item A))) (l : 
   pub len : b.line_len ≡ length l.line
   pub width : b.line_width ≡ l.width
 
--- What is laid, the space and the word are those of words placed on lines, of the first gap behind them, and of the items since.
-pub record Follows {A : Type 0} (eq : A → A → Bool) (b : Open A) (given : List (List (Slot A))) (l : Laid A) (lines : Lines A) (gap : Option A) (items : List (Item A)) : Type 0 where
-  pub shows : Shows eq given l lines
-  pub space : SameItems eq (gap_text b.space) (gap_text (gap_behind lines.last gap))
-  pub word : SameItems eq b.flat.word items
+-- What is laid is what the rule lays, up to equal tags, but for the first lines, which were handed out.
+pub record Shows {A : Type 0} (eq : A → A → Bool) (given : List (List (Item A))) (l r : Laid A) : Type 0 where
+  pub rest : List (List (Item A))
+  pub split : r.done ≡ given ++ rest
+  pub done : AllZip (SameItems eq) l.done rest
+  pub last : SameItems eq l.line r.line
+  pub width : l.width ≡ r.width
 
-pub record Stands {A : Type 0} (columns : ℕ → Option ℕ) (eq : A → A → Bool) (b : Open A) (before : List (List (Item A))) (given : List (List (Slot A))) (lines : Lines A) (gap : Option A) (items : List (Item A)) : Type 0 where
+-- What the rule lays is as wide as it should be.
+pub record Measured {A : Type 0} (columns : ℕ → Option ℕ) (width : ℕ) (may_overflow : Bool) (r : Laid A) : Type 0 where
+  pub small : r.width ≤ width
+  pub line : r.width ≡ items_width columns r.line
+  pub done : Each (FitsBlock columns width may_overflow) r.done
+
+-- The fields hold what the rule lays.
+pub record Lays {A : Type 0} (columns : ℕ → Option ℕ) (eq : A → A → Bool) (b : Open A) (before given : List (List (Item A))) (r : Laid A) : Type 0 where
   pub laid : Laid A
   pub holds : Holds b before laid
-  pub measured : Measured columns b.width b.may_overflow laid
-  pub word : b.word_width ≡ items_width columns b.flat.word
-  pub follows : b.may_overflow ≡ false → Follows eq b given laid lines gap items
+  pub shows : Shows eq given laid r
+  pub measured : Measured columns b.width b.may_overflow r
 
--- The block stands where its run leads: the words that the run has ended are placed, and the word under way is held.
-pub record Tracks {A : Type 0} (columns : ℕ → Option ℕ) (eq : A → A → Bool) (b : Open A) (before : List (List (Item A))) (given : List (List (Slot A))) (run : List (Entry A)) : Type 0 where
-  pub stands : Stands columns eq b before given (wrapped columns b.width (reading columns run).words) (reading columns run).gap (reading columns run).items
-  pub narrow : b.may_overflow ≡ false → EndedWordsFit columns b.width run
+-- The fields hold what is laid, with placed items behind it that no line has yet.
+pub record HoldsBefore {A : Type 0} (b : Open A) (before : List (List (Item A))) (l : Laid A) (behind : List (Item A)) : Type 0 where
+  pub placed : b.flat.placed ≡ (joined (before ++ l.done) ++ l.line) ++ behind
+  pub lens : b.lines.items ≡ map length (before ++ l.done)
+  pub len : b.line_len ≡ length l.line
+  pub width : b.line_width ≡ l.width
 
--- Nothing but what is laid and the word has changed.
+pub record LaysBefore {A : Type 0} (columns : ℕ → Option ℕ) (eq : A → A → Bool) (b : Open A) (before given : List (List (Item A))) (r : Laid A) (behind : List (Item A)) : Type 0 where
+  pub laid : Laid A
+  pub holds : HoldsBefore b before laid behind
+  pub shows : Shows eq given laid r
+  pub measured : Measured columns b.width b.may_overflow r
+
+-- spaces of as many columns and one mode, under equal tags
+abbrev pub SameSpace : {A : Type 0} → (A → A → Bool) → Option (HeldSpace A) → Option (Space A) → Type 0
+SameSpace eq None None = Unit {0}
+SameSpace eq (Some s) (Some t) = (s.columns ≡ t.columns) × (eq s.tag t.tag ≡ true) × (s.mode ≡ t.mode)
+SameSpace eq None (Some t) = ⊥
+SameSpace eq (Some s) None = ⊥
+
+abbrev pub held_columns : {A : Type 0} → Option (HeldSpace A) → ℕ
+held_columns None = 0
+held_columns (Some s) = s.columns
+
+-- The block stands where the rule stands.
+pub record Stands {A : Type 0} (columns : ℕ → Option ℕ) (eq : A → A → Bool) (b : Open A) (before given : List (List (Item A))) (p : Progress A) : Type 0 where
+  pub lays : Lays columns eq b before given p.laid
+  pub space : SameSpace eq b.space p.space
+  pub word : SameItems eq b.flat.word p.word
+  pub word_width : b.word_width ≡ items_width columns p.word
+  pub mode : b.word_mode ≡ p.mode
+  pub continued : b.continued ≡ p.continued
+  pub again : b.again ≡ p.again
+
+-- The block stands where its run leads.
+pub record Tracks {A : Type 0} (columns : ℕ → Option ℕ) (eq : A → A → Bool) (b : Open A) (before given : List (List (Item A))) (run : List (Entry A)) : Type 0 where
+  pub events : List (Event A)
+  pub run_is : run_of events ≡ run
+  pub stands : Stands columns eq b before given (progress columns b.width events)
+
+-- Nothing but the text, the ended lines and the open line has changed.
 pub record KeepsSettings {A : Type 0} (b c : Open A) : Type 0 where
   pub width : c.width ≡ b.width
   pub may_overflow : c.may_overflow ≡ b.may_overflow
   pub space : c.space ≡ b.space
   pub word_width : c.word_width ≡ b.word_width
+  pub word_mode : c.word_mode ≡ b.word_mode
+  pub continued : c.continued ≡ b.continued
+  pub again : c.again ≡ b.again
 
--- The run has ended: what it laid stands behind the lines of earlier runs, and nothing is open or under way.
-pub record Ended {A : Type 0} (columns : ℕ → Option ℕ) (eq : A → A → Bool) (b c : Open A) (before : List (List (Item A))) (given : List (List (Slot A))) (run : List (Entry A)) : Type 0 where
+-- The limits are as they were.
+pub record KeepsLimits {A : Type 0} (b c : Open A) : Type 0 where
+  pub width : c.width ≡ b.width
+  pub may_overflow : c.may_overflow ≡ b.may_overflow
+
+-- The run has ended: the lines of it that weren't handed out stand behind those of earlier runs, and a run can begin.
+pub record Finished {A : Type 0} (columns : ℕ → Option ℕ) (eq : A → A → Bool) (b c : Open A) (before given : List (List (Item A))) (r : Laid A) : Type 0 where
   pub now : List (List (Item A))
-  pub holds : Holds c before (record { done = now; line = []; width = 0 })
-  pub fits : Each (FitsBlock columns b.width b.may_overflow) now
-  pub word : c.flat.word ≡ []
-  pub word_width : c.word_width ≡ 0
-  pub space : c.space ≡ None
-  pub best : b.may_overflow ≡ false → (rest : List (List (Slot A))) × IsBest b.width (slots_of columns b.width run) (given ++ rest) × AllZip (IsTextOf eq) now rest
+  pub rest : List (List (Item A))
+  pub split : r.done ≡ given ++ rest
+  pub same : AllZip (SameItems eq) now rest
+  pub fits : Each (FitsBlock columns b.width b.may_overflow) r.done
+  pub stands : Stands columns eq c (before ++ now) [] at_start
 
 -- What a line that is handed out leaves.
 pub record Leaves {A : Type 0} (b c : Open A) (rest : List (List (Item A))) (l : Laid A) : Type 0 where

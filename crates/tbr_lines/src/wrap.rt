@@ -3,4 +3,6 @@ pub use block::WrappedBlock;
 
 mod block;
 mod flat;
+mod modes;
 mod open;
+mod word;

@@ -8,6 +8,7 @@ ghost use Rattle.tbr_lines.specs.View.{element_of};
 use super::edits::{put_in_front, take_from_front};
 use super::{TaggedLine, TaggedLineElement, TaggedString, extend, is_under};
 use crate::error::OutOfMemory;
+use crate::space::spaces;
 use std::alloc::Global;
 use tbr_model::CharWidth;
 
@@ -135,14 +136,4 @@ fn spaces_under<T: Eq + Clone>(
     let s = spaces(alloc, count)?;
     let tag = tag.clone()?;
     Ok(TaggedString { s, tag })
-}
-
-fn spaces(alloc: Global, count: usize) -> Result<String, OutOfMemory>
-    ensures { IfOk result (λ s. chars (string_bytes s) ≡ model.spaces count) }
-{
-    let mut s = String::with_capacity(alloc, count)?;
-    for _ in 0..count {
-        s.push(' ')?;
-    }
-    Ok(s)
 }

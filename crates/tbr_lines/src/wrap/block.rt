@@ -1,9 +1,10 @@
 //! A block of wrapped text.
-ghost use Rattle.std.specs.Prelude.{◌≡◌, ◌≢◌, ℕ, ◌<◌, ◌≤◌, ◌++◌, ◌∷◌, [], ◌&&◌, nat_lt, if◌then◌else◌, Option, None, Some, List, OnOk, IfOk, IfErr, IfSome, MatchOption, Err, Ok, MatchResult, true, false, chars};
+ghost use Rattle.std.specs.Prelude.{◌≡◌, ◌≢◌, ℕ, ◌<◌, ◌≤◌, ◌++◌, ◌∷◌, [], ◌&&◌, ◌||◌, nat_lt, if◌then◌else◌, Option, None, Some, List, OnOk, IfOk, IfErr, IfSome, MatchOption, Err, Ok, MatchResult, true, false, chars, IsTrue, ◌↔◌};
 ghost use Rattle.std.specs.List.{AllZip};
-ghost use Rattle.tbr_model.specs.Run.{Item};
+ghost use Rattle.tbr_model.specs.Run.{Item, items_width, kept_items, has_character};
 ghost use Rattle.tbr_lines.specs.Elements.{Element, items_of, SameItems, IsMerged};
 ghost use Rattle.tbr_lines.specs.Wrapped.{WordsFit, EndedWordsFit, ShowsText, IsTextOf, ended_lines, padding_of};
+ghost use Rattle.tbr_lines.specs.State.{IsNormal, CharactersFit, VisibleFit, is_some_list};
 ghost use Rattle.tbr_lines.specs.declared.error.Error.TheVariants as E;
 
 use crate::error::{Error, OutOfMemory};
@@ -25,14 +26,18 @@ use tbr_model::{CharWidth, History, WhiteSpace};
 #[derive(Drop)]
 pub struct WrappedBlock<T: Eq + Clone, W: CharWidth = UnicodeColumns> {
     alloc: Global,
-    open: Open<T>,
+    page: Open<T>,
     /// The tag of the padding, where lines are padded.
     padding: Option<T>,
     failure: Option<Error>,
+    /// Whether a line has ended in an earlier run.
+    begun: bool,
     /// How many of the ended lines are of earlier runs.
     earlier: usize,
-    run: History<(char, WhiteSpace), T>,
-    handed: History<TaggedLine<T>, ()>,
+    /// Whether a line of this run was handed out.
+    handing: bool,
+    run: History<(char, WhiteSpace), T, T>,
+    handed: History<TaggedLine<T>, (), ()>,
     columns: PhantomData<W>,
 }
 
@@ -45,14 +50,13 @@ impl<T: Eq + Clone, W: CharWidth> Model for WrappedBlock<T, W> {
     ghost use Rattle.tbr_lines.specs.State.{entries_of, texts_of};
     ghost use Rattle.tbr_lines.specs.Block.{earlier_texts, Keeps};
 
-    ghost view = { λ b. record { width = b.open.width; may_overflow = b.open.may_overflow; padding = b.padding; ended = earlier_texts b.earlier b.open; handed = texts_of b.handed.items; run = entries_of b.run.items; failure = b.failure } };
+    ghost view = { λ b. record { width = b.page.width; may_overflow = b.page.may_overflow; padding = b.padding; begun = b.begun; ended = earlier_texts b.earlier b.page; handed = texts_of b.handed.items; run = entries_of b.run.items; failure = b.failure } };
 
-    ghost invariant = { λ b. b.failure ≡ None → Keeps W.columns T.eq b.earlier b.open (texts_of b.handed.items) (entries_of b.run.items) };
+    ghost invariant = { λ b. b.failure ≡ None → Keeps W.columns T.eq b.earlier b.page b.handing (texts_of b.handed.items) (entries_of b.run.items) };
 }
 
 impl<T: Eq + Clone, W: CharWidth> WrappedBlock<T, W> {
     ghost use Rattle.tbr_model.specs.Run.{character};
-    ghost use Rattle.tbr_model.specs.declared.white_space.WhiteSpace.TheVariants.{Normal};
     ghost use Rattle.tbr_lines.specs.State.{text_entries, EndsRun};
 
     /// A block without text, whose lines take `width` columns at most. It takes no memory.
@@ -69,15 +73,17 @@ impl<T: Eq + Clone, W: CharWidth> WrappedBlock<T, W> {
     where
         T: Drop,
         requires { 0 < width }
-        ensures { result ≡ record { width = width; may_overflow = allow_overflow && nat_lt width 2; padding = (if pad_blocks then Some default_tag else None); ended = []; handed = []; run = []; failure = None } }
+        ensures { result ≡ record { width = width; may_overflow = allow_overflow && nat_lt width 2; padding = (if pad_blocks then Some default_tag else None); begun = false; ended = []; handed = []; run = []; failure = None } }
     {
         let padding = if pad_blocks { Some(default_tag) } else { None };
         WrappedBlock {
             alloc,
-            open: Open::new(alloc, width, allow_overflow && width < 2),
+            page: Open::new(alloc, width, allow_overflow && width < 2),
             padding,
             failure: None,
+            begun: false,
             earlier: 0,
+            handing: false,
             run: History::new(),
             handed: History::new(),
             columns: PhantomData,
@@ -91,6 +97,55 @@ impl<T: Eq + Clone, W: CharWidth> WrappedBlock<T, W> {
         self.failure
     }
 
+    /// Whether open line and word take no columns. In a `Normal` run that is so exactly where no kept character of the run takes any.
+    pub fn at_line_start(&self) -> bool
+        ensures { self.now.failure ≡ None → self.now.may_overflow ≡ false → IsNormal self.now.run → (IsTrue result ↔ (items_width W.columns (kept_items W.columns self.now.run) ≡ 0)) }
+    {
+        self.page.line_width == 0 && self.page.word_width == 0
+    }
+
+    /// Whether no line has ended yet, and open line and word take no columns.
+    pub fn is_empty(&self) -> bool
+        ensures { self.now.failure ≡ None → self.now.may_overflow ≡ false → IsNormal self.now.run → (IsTrue result ↔ (self.now.begun ≡ false) × (items_width W.columns (kept_items W.columns self.now.run) ≡ 0)) }
+    {
+        !self.has_begun() && self.at_line_start()
+    }
+
+    /// Whether no line has ended yet, and open line and word hold no character. In a `Normal` run these hold none exactly where the run
+    /// has no kept character.
+    pub fn is_blank(&self) -> bool
+        ensures { self.now.failure ≡ None → self.now.may_overflow ≡ false → IsNormal self.now.run → (IsTrue result ↔ (self.now.begun ≡ false) × (has_character (kept_items W.columns self.now.run) ≡ false)) }
+    {
+        !self.has_begun() && self.has_no_character()
+    }
+
+    /// Whether open line and word hold no character.
+    fn has_no_character(&self) -> bool
+        ensures { self.now.failure ≡ None → self.now.may_overflow ≡ false → IsNormal self.now.run → (IsTrue result ↔ (has_character (kept_items W.columns self.now.run) ≡ false)) }
+    {
+        self.page.flat.holds_characters();
+        if self.page.line_len > 0 {
+            return false;
+        }
+        match self.page.flat.first() {
+            Some(_) => false,
+            None => true,
+        }
+    }
+
+    /// Whether a line has ended.
+    fn has_begun(&self) -> bool
+        ensures begun { self.now.begun ≡ true → result ≡ true }
+        ensures empty { self.now.failure ≡ None → self.now.may_overflow ≡ false → IsNormal self.now.run → items_width W.columns (kept_items W.columns self.now.run) ≡ 0 → result ≡ self.now.begun }
+        ensures blank { self.now.failure ≡ None → self.now.may_overflow ≡ false → IsNormal self.now.run → has_character (kept_items W.columns self.now.run) ≡ false → result ≡ self.now.begun }
+    {
+        any(
+            self.begun,
+            self.handing,
+            self.page.lines.len() > self.earlier,
+        )
+    }
+
     /// Answers the kept refusal, if there is one.
     fn refusal(&self) -> Result<(), Error>
         ensures { MatchResult result (λ _. self.now.failure ≡ None) (λ e. self.now.failure ≡ Some e) }
@@ -101,21 +156,39 @@ impl<T: Eq + Clone, W: CharWidth> WrappedBlock<T, W> {
         }
     }
 
+    /// Begins a call.
+    fn begin_call(&mut self)
+    where
+        T: Drop,
+        requires unfailed { self.old.failure ≡ None }
+        ensures { self.new ≡ self.old }
+    {
+        self.page.begin_call();
+    }
+
     /// Adds a character to the run.
-    fn add_char(&mut self, c: char, tag: &T) -> Result<(), Error>
+    fn add_char(
+        &mut self,
+        c: char,
+        main_tag: &T,
+        wrap_tag: &T,
+        mode: WhiteSpace,
+    ) -> Result<(), Error>
     where
         T: Drop,
         requires { (x y : T) → T.is_clone x y → T.eq x y ≡ true }
-        ensures ok { OnOk result (self.new ≡ record self.old { run = self.old.run ++ character c tag.now Normal ∷ [] }) }
+        ensures ok { OnOk result (self.new ≡ record self.old { run = self.old.run ++ character c main_tag.now wrap_tag.now mode ∷ [] }) }
         ensures failed { IfErr result (λ e. self.new.failure ≡ Some e) }
         ensures kept { (e : _) → self.old.failure ≡ Some e → result ≡ Err e }
         ensures too_narrow { self.old.failure ≡ None → result ≡ Err E.TooNarrow →
-            (self.old.may_overflow ≡ false) × ¬ (EndedWordsFit W.columns self.old.width (self.old.run ++ character c tag.now Normal ∷ [])) }
+            (self.old.may_overflow ≡ false) × ¬ (CharactersFit W.columns self.old.width self.old.run) }
+        ensures normal_too_narrow { self.old.failure ≡ None → IsNormal (self.old.run ++ character c main_tag.now wrap_tag.now mode ∷ []) → result ≡ Err E.TooNarrow →
+            ¬ (EndedWordsFit W.columns self.old.width (self.old.run ++ character c main_tag.now wrap_tag.now mode ∷ [])) }
     {
         self.refusal()?;
-        match self.open.add_char::<W>(c, tag) {
+        match self.page.add_char::<W>(c, main_tag, wrap_tag, mode) {
             Ok(()) => {
-                self.run = self.run.and(&(c, WhiteSpace::Normal), tag);
+                self.run = self.run.and(&(c, mode), main_tag, wrap_tag);
                 Ok(())
             }
             Err(e) => {
@@ -125,18 +198,19 @@ impl<T: Eq + Clone, W: CharWidth> WrappedBlock<T, W> {
         }
     }
 
-    /// Changes nothing: no word that was placed has a character wider than a line.
+    /// Changes nothing: no word of a `Normal` run that was placed has a character wider than a line.
     fn ended_words_fit(&self)
-        ensures { self.now.failure ≡ None → self.now.may_overflow ≡ false → EndedWordsFit W.columns self.now.width self.now.run }
+        ensures { self.now.failure ≡ None → self.now.may_overflow ≡ false → IsNormal self.now.run → EndedWordsFit W.columns self.now.width self.now.run }
     {
         let _ = &self.failure;
     }
 
-    /// The text joins the run, each character under a copy of the main tag.
+    /// The text joins the run, in the given mode: each character under a copy of the main tag, or of the wrap tag where its hard line
+    /// goes on behind a full line.
     ///
-    /// Each word that a break point of the text ends is placed. `TooNarrow` comes exactly where such a word, of the run with this
-    /// text, has a character wider than the block, and never where lines may be wider; `OutOfMemory` comes only for want of memory.
-    /// For now the mode is `Normal`.
+    /// A word that ends is placed. In a `Normal` run `TooNarrow` comes exactly where a word that a break point of the text ends, of the
+    /// run with this text, has a character wider than the block; in any other run only where the run has such a character; and never
+    /// where lines may be wider. `OutOfMemory` comes only for want of memory.
     pub fn add_text(
         &mut self,
         text: &str,
@@ -146,19 +220,21 @@ impl<T: Eq + Clone, W: CharWidth> WrappedBlock<T, W> {
     ) -> Result<(), Error>
     where
         T: Drop,
-        requires faithful { (x y : T) → T.is_clone x y → T.eq x y ≡ true }
-        requires mode { ws_mode ≡ Normal }
-        ensures ok { OnOk result (self.new ≡ record self.old { run = self.old.run ++ text_entries (chars text.now) main_tag.now }) }
-        ensures fit { OnOk result (self.old.may_overflow ≡ false → EndedWordsFit W.columns self.old.width (self.old.run ++ text_entries (chars text.now) main_tag.now)) }
+        requires { (x y : T) → T.is_clone x y → T.eq x y ≡ true }
+        ensures ok { OnOk result (self.new ≡ record self.old { run = self.old.run ++ text_entries (chars text.now) main_tag.now wrap_tag.now ws_mode }) }
+        ensures fit { OnOk result (self.old.may_overflow ≡ false → IsNormal (self.old.run ++ text_entries (chars text.now) main_tag.now wrap_tag.now ws_mode) → EndedWordsFit W.columns self.old.width (self.old.run ++ text_entries (chars text.now) main_tag.now wrap_tag.now ws_mode)) }
         ensures too_narrow { self.old.failure ≡ None → result ≡ Err E.TooNarrow →
-            (self.old.may_overflow ≡ false) × ¬ (EndedWordsFit W.columns self.old.width (self.old.run ++ text_entries (chars text.now) main_tag.now)) }
+            (self.old.may_overflow ≡ false) × ¬ (CharactersFit W.columns self.old.width (self.old.run ++ text_entries (chars text.now) main_tag.now wrap_tag.now ws_mode)) }
+        ensures normal_too_narrow { self.old.failure ≡ None → IsNormal (self.old.run ++ text_entries (chars text.now) main_tag.now wrap_tag.now ws_mode) → result ≡ Err E.TooNarrow →
+            ¬ (EndedWordsFit W.columns self.old.width (self.old.run ++ text_entries (chars text.now) main_tag.now wrap_tag.now ws_mode)) }
         ensures two_columns { self.old.failure ≡ None → 2 ≤ self.old.width → result ≢ Err E.TooNarrow }
         ensures failed { IfErr result (λ e. self.new.failure ≡ Some e) }
         ensures kept { (e : _) → self.old.failure ≡ Some e → (result ≡ Err e) × (self.new ≡ self.old) }
     {
         self.refusal()?;
+        self.begin_call();
         for c in text.chars() {
-            self.add_char(c, main_tag)?;
+            self.add_char(c, main_tag, wrap_tag, ws_mode)?;
         }
         self.ended_words_fit();
         Ok(())
@@ -166,23 +242,29 @@ impl<T: Eq + Clone, W: CharWidth> WrappedBlock<T, W> {
 
     /// Ends the run. Its last word is placed, and its lines join the ended ones.
     ///
-    /// `TooNarrow` comes exactly where a word of the run has a character wider than the block, and never where lines may be wider;
-    /// `OutOfMemory` comes only for want of memory.
+    /// In a `Normal` run `TooNarrow` comes exactly where a word of the run has a character wider than the block; in any other run only
+    /// where the run has such a character, and always where that is visible; and never where lines may be wider. `OutOfMemory` comes
+    /// only for want of memory.
     pub fn flush(&mut self) -> Result<(), Error>
     where
         T: Drop,
         requires { (x y : T) → T.is_clone x y → T.eq x y ≡ true }
-        ensures ok { OnOk result ((texts : List (List (Item T))) × EndsRun W.columns T.eq self.old texts × (self.new ≡ record self.old { ended = self.old.ended ++ texts; handed = []; run = [] })) }
-        ensures fit { OnOk result (self.old.may_overflow ≡ false → WordsFit W.columns self.old.width self.old.run) }
-        ensures too_narrow { self.old.failure ≡ None → result ≡ Err E.TooNarrow → (self.old.may_overflow ≡ false) × ¬ (WordsFit W.columns self.old.width self.old.run) }
+        ensures ok { OnOk result ((texts : List (List (Item T))) × EndsRun W.columns T.eq self.old texts × (self.new ≡ record self.old { begun = self.old.begun || is_some_list (self.old.handed ++ texts); ended = self.old.ended ++ texts; handed = []; run = [] })) }
+        ensures fit { OnOk result (self.old.may_overflow ≡ false → IsNormal self.old.run → WordsFit W.columns self.old.width self.old.run) }
+        ensures visible_fit { OnOk result (self.old.may_overflow ≡ false → VisibleFit W.columns self.old.width self.old.run) }
+        ensures too_narrow { self.old.failure ≡ None → result ≡ Err E.TooNarrow → (self.old.may_overflow ≡ false) × ¬ (CharactersFit W.columns self.old.width self.old.run) }
+        ensures normal_too_narrow { self.old.failure ≡ None → IsNormal self.old.run → result ≡ Err E.TooNarrow → ¬ (WordsFit W.columns self.old.width self.old.run) }
         ensures two_columns { self.old.failure ≡ None → 2 ≤ self.old.width → result ≢ Err E.TooNarrow }
         ensures failed { IfErr result (λ e. self.new.failure ≡ Some e) }
         ensures kept { (e : _) → self.old.failure ≡ Some e → (result ≡ Err e) × (self.new ≡ self.old) }
     {
         self.refusal()?;
-        match self.open.finish::<W>() {
+        match self.page.finish::<W>() {
             Ok(()) => {
-                self.earlier = self.open.lines.len();
+                let lines = self.page.lines.len();
+                self.begun = any(self.begun, self.handing, lines > self.earlier);
+                self.earlier = lines;
+                self.handing = false;
                 self.handed = History::new();
                 self.run = History::new();
                 Ok(())
@@ -204,7 +286,7 @@ impl<T: Eq + Clone, W: CharWidth> WrappedBlock<T, W> {
         ensures earlier { (text : List (Item T)) (rest : List (List (Item T))) → self.old.ended ≡ text ∷ rest →
             IfOk result (λ o. MatchOption o ⊥ (λ line. ShowsText W.columns T.eq self.old.padding self.old.width line text × (self.new ≡ record self.old { ended = rest }))) }
         ensures current { self.old.ended ≡ [] → IfOk result (λ o. IfSome o (λ line. (text : List (Item T)) × ShowsText W.columns T.eq self.old.padding self.old.width line text × (self.new ≡ record self.old { handed = self.old.handed ++ text ∷ [] }))) }
-        ensures none { IfOk result (λ o. o ≡ None → (self.new ≡ self.old) × (self.old.ended ≡ []) × (self.old.may_overflow ≡ false → AllZip (IsTextOf T.eq) self.old.handed (ended_lines W.columns self.old.width self.old.run))) }
+        ensures none { IfOk result (λ o. o ≡ None → (self.new ≡ self.old) × (self.old.ended ≡ []) × (self.old.may_overflow ≡ false → IsNormal self.old.run → AllZip (IsTextOf T.eq) self.old.handed (ended_lines W.columns self.old.width self.old.run))) }
         ensures failed { IfErr result (λ e. self.new.failure ≡ Some e) }
         ensures memory { self.old.failure ≡ None → IfErr result (λ e. e ≡ E.OutOfMemory) }
         ensures kept { (e : _) → self.old.failure ≡ Some e → (result ≡ Err e) × (self.new ≡ self.old) }
@@ -230,17 +312,18 @@ impl<T: Eq + Clone, W: CharWidth> WrappedBlock<T, W> {
             IfOk result (λ o. MatchOption o ⊥ (λ line. SameItems T.eq (items_of line) text × (self.new ≡ record self.old { ended = rest }))) }
         ensures current { self.old.ended ≡ [] → IfOk result (λ o. IfSome o (λ line. self.new ≡ record self.old { handed = self.old.handed ++ items_of line ∷ [] })) }
         ensures merged { IfOk result (λ o. IfSome o (λ line. IsMerged T.eq line)) }
-        ensures none { IfOk result (λ o. o ≡ None → (self.new ≡ self.old) × (self.old.ended ≡ []) × (self.old.may_overflow ≡ false → AllZip (IsTextOf T.eq) self.old.handed (ended_lines W.columns self.old.width self.old.run))) }
+        ensures none { IfOk result (λ o. o ≡ None → (self.new ≡ self.old) × (self.old.ended ≡ []) × (self.old.may_overflow ≡ false → IsNormal self.old.run → AllZip (IsTextOf T.eq) self.old.handed (ended_lines W.columns self.old.width self.old.run))) }
         ensures failed { IfErr result (λ e. (e ≡ E.OutOfMemory) × (self.new.failure ≡ Some e)) }
         ensures settings { (self.new.padding ≡ self.old.padding) × (self.new.width ≡ self.old.width) }
     {
-        match self.open.take_line() {
+        match self.page.take_line() {
             Ok(Some(line)) => {
                 if self.earlier > 0 {
                     self.earlier -= 1;
                     return Ok(Some(line));
                 }
-                self.handed = self.handed.and(&line, &());
+                self.handing = true;
+                self.handed = self.handed.and(&line, &(), &());
                 Ok(Some(line))
             }
             Ok(None) => Ok(None),
@@ -260,7 +343,7 @@ impl<T: Eq + Clone, W: CharWidth> WrappedBlock<T, W> {
         ensures merged { IsMerged T.eq line.old → OnOk result (IsMerged T.eq line.new) }
     {
         match &self.padding {
-            Some(tag) => line.pad_to::<W>(self.open.width, tag),
+            Some(tag) => line.pad_to::<W>(self.page.width, tag),
             None => Ok(()),
         }
     }
@@ -289,8 +372,10 @@ impl<T: Eq + Clone, W: CharWidth> WrappedBlock<T, W> {
         T: Drop,
         requires { (x y : T) → T.is_clone x y → T.eq x y ≡ true }
         ensures lines { IfOk result (λ lines. (texts : List (List (Item T))) × EndsRun W.columns T.eq self texts × AllZip (ShowsText W.columns T.eq self.padding self.width) lines.items (self.ended ++ texts)) }
-        ensures fit { OnOk result (self.may_overflow ≡ false → WordsFit W.columns self.width self.run) }
-        ensures too_narrow { self.failure ≡ None → result ≡ Err E.TooNarrow → (self.may_overflow ≡ false) × ¬ (WordsFit W.columns self.width self.run) }
+        ensures fit { OnOk result (self.may_overflow ≡ false → IsNormal self.run → WordsFit W.columns self.width self.run) }
+        ensures visible_fit { OnOk result (self.may_overflow ≡ false → VisibleFit W.columns self.width self.run) }
+        ensures too_narrow { self.failure ≡ None → result ≡ Err E.TooNarrow → (self.may_overflow ≡ false) × ¬ (CharactersFit W.columns self.width self.run) }
+        ensures normal_too_narrow { self.failure ≡ None → IsNormal self.run → result ≡ Err E.TooNarrow → ¬ (WordsFit W.columns self.width self.run) }
         ensures two_columns { self.failure ≡ None → 2 ≤ self.width → result ≢ Err E.TooNarrow }
         ensures kept { (e : _) → self.failure ≡ Some e → result ≡ Err e }
     {
@@ -301,4 +386,11 @@ impl<T: Eq + Clone, W: CharWidth> WrappedBlock<T, W> {
         }
         Ok(lines)
     }
+}
+
+/// Whether one of the three holds.
+fn any(a: bool, b: bool, c: bool) -> bool
+    ensures { result ≡ a || (b || c) }
+{
+    a || b || c
 }

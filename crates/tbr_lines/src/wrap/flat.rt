@@ -1,6 +1,9 @@
 //! Characters under tags, in one text.
-ghost use Rattle.std.specs.Prelude.{◌≡◌, ◌<◌, ◌≤◌, ◌++◌, ◌∷◌, [], true, List, length, take, drop, MatchOption, OnOk, OnErr, IfOk, IsTrue, ◌↔◌};
-ghost use Rattle.tbr_model.specs.Run.{Item, glyph};
+ghost use Rattle.std.specs.Prelude.{◌≡◌, ◌<◌, ◌≤◌, ◌+◌, ◌++◌, ◌∷◌, [], true, List, length, take, drop, MatchOption, OnOk, OnErr, IfOk, IsTrue, ◌↔◌};
+ghost use Rattle.std.specs.List.{AllByRecursion as Each};
+ghost use Rattle.tbr_model.specs.Run.{Item, glyph, items_width};
+ghost use Rattle.tbr_model.specs.Entry.{is_glyph};
+ghost use Rattle.tbr_model.specs.Rule.{spaces, without_leading, without_trailing};
 ghost use Rattle.tbr_lines.specs.Elements.{SameItems, IsMerged, items_of};
 
 use crate::error::OutOfMemory;
@@ -9,6 +12,7 @@ use crate::wrap::flat::tags::Stretches;
 use crate::wrap::flat::text::PlacedText;
 use std::alloc::Global;
 use std::marker::Model;
+use tbr_model::CharWidth;
 
 mod tags;
 mod text;
@@ -71,11 +75,27 @@ impl<T> FlatText<T> {
         self.text.first()
     }
 
+    /// Changes nothing: it holds characters alone.
+    pub fn holds_characters(&self)
+        ensures placed { Each (λ i. is_glyph i ≡ true) self.now.placed }
+        ensures word { Each (λ i. is_glyph i ≡ true) self.now.word }
+    {
+        let _ = &self.tags;
+    }
+
     /// Places the word. It takes constant time.
     pub fn place_word(&mut self)
         ensures { self.new ≡ record { placed = self.old.placed ++ self.old.word; word = [] } }
     {
         self.text.place_word();
+    }
+
+    /// The columns of the word.
+    pub fn word_width<W: CharWidth>(&self) -> Result<usize, OutOfMemory>
+        ensures { IfOk result (λ n. n ≡ items_width W.columns self.now.word) }
+    {
+        let _ = &self.tags;
+        self.text.word_width::<W>()
     }
 
     /// Places the word's first character. It takes constant time.
@@ -84,6 +104,26 @@ impl<T> FlatText<T> {
         ensures { (i : Item T) × (rest : List (Item T)) × (self.old.word ≡ i ∷ rest) × (self.new ≡ record { placed = self.old.placed ++ i ∷ []; word = rest }) }
     {
         self.text.place_first();
+    }
+}
+
+impl<T: Drop> FlatText<T> {
+    /// Takes away the spaces at the end of the last so many placed characters, and the white space at the word's beginning. It
+    /// answers how many spaces that were. It takes the time of moving the word, and of going over its stretches.
+    ///
+    /// Where memory is refused the characters stay as they were.
+    pub fn trim(&mut self, most: usize) -> Result<usize, OutOfMemory>
+        requires { most ≤ length self.old.placed }
+        ensures placed { (before line : List (Item T)) → self.old.placed ≡ before ++ line → length line ≡ most →
+            IfOk result (λ n. (self.new.placed ≡ before ++ without_trailing line) × (n + length (without_trailing line) ≡ length line)) }
+        ensures word { OnOk result (self.new.word ≡ without_leading self.old.word) }
+    {
+        let spaces = self.text.trailing_spaces(most);
+        let blanks = self.text.leading_blanks();
+        let kept = self.text.word_len() - blanks;
+        self.text.remove_between(spaces, blanks)?;
+        self.tags.remove_before(kept, spaces + blanks);
+        Ok(spaces)
     }
 }
 
@@ -103,21 +143,22 @@ impl<T: Eq + Clone> FlatText<T> {
         Ok(())
     }
 
-    /// Places a space before the word. It takes the time of moving the word, and of going over its stretches.
+    /// Places so many spaces before the word. It takes the time of moving the word, and of going over its stretches.
     ///
-    /// Where the space parts a stretch, the tag is copied, and the word's first characters stand under the copy. Where memory is
+    /// Where the spaces part a stretch, the tag is copied, and the word's first characters stand under the copy. Where memory is
     /// refused the characters may be lost.
-    pub fn push_space(&mut self, tag: T) -> Result<(), OutOfMemory>
-        requires { (x y : T) → T.is_clone x y → T.eq x y ≡ true }
-        ensures placed { OnOk result ((a : T) × (T.eq a tag ≡ true) × (self.new.placed ≡ self.old.placed ++ glyph 32 a ∷ [])) }
+    pub fn push_spaces(&mut self, count: usize, tag: T) -> Result<(), OutOfMemory>
+        requires faithful { (x y : T) → T.is_clone x y → T.eq x y ≡ true }
+        requires some { 0 < count }
+        ensures placed { OnOk result ((a : T) × (T.eq a tag ≡ true) × (self.new.placed ≡ self.old.placed ++ spaces count a)) }
         ensures word { OnOk result (SameItems T.eq self.new.word self.old.word) }
     {
         let word = self.text.word_len();
-        if let Err(e) = self.tags.insert_before(word, tag) {
+        if let Err(e) = self.tags.insert_before(word, count, tag) {
             clear(&mut self.text, &mut self.tags);
             return Err(e);
         }
-        if let Err(e) = self.text.push_space() {
+        if let Err(e) = self.text.push_spaces(count) {
             clear(&mut self.text, &mut self.tags);
             return Err(e);
         }

@@ -1,5 +1,5 @@
 //! Tags of characters, each stored once for a stretch of it.
-ghost use Rattle.std.specs.Prelude.{◌≡◌, ◌<◌, ◌≤◌, ◌+◌, ◌-◌, ◌++◌, ◌∷◌, [], true, suc, List, length, take, drop, replicate, OnOk, OnErr, IfOk};
+ghost use Rattle.std.specs.Prelude.{◌≡◌, ◌<◌, ◌≤◌, ◌+◌, ◌-◌, ◌++◌, ◌∷◌, [], true, ℕ, suc, List, length, take, drop, replicate, OnOk, OnErr, IfOk};
 ghost use Rattle.std.specs.List.{AllZip};
 ghost use Rattle.tbr_lines.specs.Stretches.{tags_of};
 
@@ -72,6 +72,31 @@ impl<T> Stretches<T> {
     }
 }
 
+impl<T: Drop> Stretches<T> {
+    /// Takes so many tags out in front of the last so many ones. It takes the time of going over the stretches of all these.
+    pub fn remove_before(&mut self, last: usize, count: usize)
+        requires within { last + count ≤ length self.old }
+        requires fits { last + count ≤ usize.MAX }
+        ensures { self.new ≡ take (length self.old - (last + count)) self.old ++ drop (length self.old - last) self.old }
+    {
+        if count == 0 {
+            return;
+        }
+        let live = &self.stretches[self.skipped..];
+        let mut from = place_before(live, last + count);
+        let mut to = place_before(live, last);
+        from.stretch += self.skipped;
+        to.stretch += self.skipped;
+        if from.stretch == to.stretch {
+            self.stretches[from.stretch].more -= count;
+            return;
+        }
+        let first = end_at(&mut self.stretches, from);
+        begin_at(&mut self.stretches, to);
+        self.stretches.drain(first..to.stretch);
+    }
+}
+
 impl<T: Eq + Clone> Stretches<T> {
     /// Adds a tag at the end. It is copied only where a stretch of it begins.
     ///
@@ -83,7 +108,7 @@ impl<T: Eq + Clone> Stretches<T> {
     {
         let count = self.stretches.len();
         if self.skipped < count && self.stretches[count - 1].tag == *tag {
-            return lengthen(&mut self.stretches[count - 1]);
+            return lengthen(&mut self.stretches[count - 1], 1);
         }
         let tag = tag.clone()?;
         self.stretches.push(Stretch { more: 0, tag })?;
@@ -104,40 +129,42 @@ impl<T: Eq + Clone> Stretches<T> {
         Ok((count, tag))
     }
 
-    /// Adds a tag before the last so many ones. It takes the time of going over the stretches of these.
+    /// Adds a tag so many times before the last so many ones. It takes the time of going over the stretches of these.
     ///
     /// Where it parts a stretch, the part behind it stands under a copy of its tag.
-    pub fn insert_before(&mut self, last: usize, tag: T) -> Result<(), OutOfMemory>
+    pub fn insert_before(&mut self, last: usize, count: usize, tag: T) -> Result<(), OutOfMemory>
         requires faithful { (x y : T) → T.is_clone x y → T.eq x y ≡ true }
         requires within { last ≤ length self.old }
-        ensures { OnOk result ((a : T) × (behind : List T) × (T.eq a tag ≡ true) × (self.new ≡ take (length self.old - last) self.old ++ a ∷ behind)
+        requires some { 0 < count }
+        ensures { OnOk result ((a : T) × (behind : List T) × (T.eq a tag ≡ true) × (self.new ≡ take (length self.old - last) self.old ++ (replicate count a ++ behind))
             × AllZip (λ x y. T.eq x y ≡ true) behind (drop (length self.old - last) self.old)) }
     {
         let place = place_before(&self.stretches[self.skipped..], last);
         let index = self.skipped + place.stretch;
         if index < self.stretches.len() && self.stretches[index].tag == tag {
-            return lengthen(&mut self.stretches[index]);
+            return lengthen(&mut self.stretches[index], count);
         }
+        let more = count - 1;
         if place.offset > 0 {
             let back = split_off(&mut self.stretches[index], place.offset)?;
             self.stretches.insert(index + 1, back)?;
-            self.stretches.insert(index + 1, Stretch { more: 0, tag })?;
+            self.stretches.insert(index + 1, Stretch { more, tag })?;
             return Ok(());
         }
         if place.stretch > 0 && self.stretches[index - 1].tag == tag {
-            return lengthen(&mut self.stretches[index - 1]);
+            return lengthen(&mut self.stretches[index - 1], count);
         }
-        self.stretches.insert(index, Stretch { more: 0, tag })?;
+        self.stretches.insert(index, Stretch { more, tag })?;
         Ok(())
     }
 }
 
-/// Makes a stretch longer by one. Where it has as many characters as `usize` counts, it stays as it was.
-fn lengthen<T>(stretch: &mut Stretch<T>) -> Result<(), OutOfMemory>
-    ensures ok { OnOk result (stretch.new ≡ record stretch.old { more = stretch.old.more + 1 }) }
+/// Makes a stretch longer. Where it would have more characters than `usize` counts, it stays as it was.
+fn lengthen<T>(stretch: &mut Stretch<T>, count: usize) -> Result<(), OutOfMemory>
+    ensures ok { OnOk result (stretch.new ≡ record stretch.old { more = stretch.old.more + count }) }
     ensures err { OnErr result (stretch.new ≡ stretch.old) }
 {
-    let Some(more) = stretch.more.checked_add(1) else {
+    let Some(more) = stretch.more.checked_add(count) else {
         return Err(OutOfMemory);
     };
     stretch.more = more;
@@ -170,6 +197,35 @@ fn place_before<T>(stretches: &[Stretch<T>], last: usize) -> Place
         left -= more + 1;
     }
     Place { stretch, offset: 0 }
+}
+
+/// Ends the stretch that a place parts there, and answers which stretch comes next.
+fn end_at<T>(stretches: &mut Vec<Stretch<T>>, place: Place) -> usize
+    requires within { place.stretch ≤ length stretches.old.items }
+    requires offset { 0 < place.offset → place.offset + length (tags_of (drop (suc place.stretch) stretches.old.items)) < length (tags_of (drop place.stretch stretches.old.items)) }
+    ensures next { (place.stretch ≤ result) × (result ≤ suc place.stretch) × (result ≤ length stretches.new.items) }
+    ensures len { length stretches.new.items ≡ length stretches.old.items }
+    ensures front { (k : ℕ) → k ≤ place.stretch → tags_of (drop k (take result stretches.new.items)) ≡ tags_of (drop k (take place.stretch stretches.old.items)) ++ take place.offset (tags_of (drop place.stretch stretches.old.items)) }
+    ensures behind { drop (suc place.stretch) stretches.new.items ≡ drop (suc place.stretch) stretches.old.items }
+{
+    if place.offset == 0 {
+        return place.stretch;
+    }
+    stretches[place.stretch].more = place.offset - 1;
+    place.stretch + 1
+}
+
+/// Begins the stretch that a place parts there.
+fn begin_at<T>(stretches: &mut Vec<Stretch<T>>, place: Place)
+    requires within { place.stretch ≤ length stretches.old.items }
+    requires offset { 0 < place.offset → place.offset + length (tags_of (drop (suc place.stretch) stretches.old.items)) < length (tags_of (drop place.stretch stretches.old.items)) }
+    ensures len { length stretches.new.items ≡ length stretches.old.items }
+    ensures front { take place.stretch stretches.new.items ≡ take place.stretch stretches.old.items }
+    ensures tags { tags_of (drop place.stretch stretches.new.items) ≡ drop place.offset (tags_of (drop place.stretch stretches.old.items)) }
+{
+    if place.offset > 0 {
+        stretches[place.stretch].more -= place.offset;
+    }
 }
 
 /// Ends a stretch behind so many of its tags, and answers what came behind them, under a copy of the tag.

@@ -1,39 +1,65 @@
 use Rattle.std.proofs.Common.{◌≡◌, [], ◌∷◌, ◌++◌, ap, ◌∙◌, refl}
 use Rattle.std.proofs.lemmas.List.{map-append}
 use Rattle.tbr_model.specs.declared.white_space.WhiteSpace.TheVariants.{Normal}
-use Rattle.tbr_model.specs.Run.{character}
+use Rattle.tbr_model.specs.Run.{Entry, character}
+use Rattle.tbr_model.specs.Rule.{entry, progress}
+use Rattle.tbr_model.proofs.Ahead.{each_front, each_back}
+use Rattle.tbr_model.specs.Hard.{HasMode}
 use Rattle.tbr_lines.specs.State.{State, entries_of, texts_of}
 use Rattle.tbr_lines.specs.Block.{earlier_texts}
-use Rattle.tbr_lines.proofs.Blocks.{keeps_at, state_is}
+use Rattle.tbr_lines.proofs.Blocks.{keeps_at, tracks_event, state_is, narrow_refused}
+use Rattle.tbr_lines.proofs.Ending.{characters_word_fits}
 use Rattle.tbr_lines.proofs.wrap.block.WrappedBlock.add_char.Goals as goal
 
 pub invariant_of-self : goal.invariant_of-self
 invariant_of-self g c = λ none.
     let columns = g.W.CharWidth.columns in
     let eq = g.T.PartialEq.eq in
-    let b = c.self.inside.«open» in
-    let run = entries_of c.self.inside.run.items in
-    let k = c.self.invariant none in
-    let handed = texts_of c.self.inside.handed.items in
+    let b = c.self.inside.page in
     let n = c.self.inside.earlier in
-    let more : entries_of c.and-self-inside.result.items ≡ run ++ character c.args.c c.args.tag.now Normal ∷ [] = ap entries_of c.and-self-inside.ensures ∙ map-append (λ p. character p.0.0 p.1 p.0.1) c.self.inside.run.items (((c.args.c, Normal), c.args.tag.now) ∷ []) in
-    rw more (keeps_at columns eq n b c.add_char.new.self handed run (run ++ character c.args.c c.args.tag.now Normal ∷ []) k (c.in-Ok.ensures.ok (earlier_texts n b) k.given run k.tracks) c.in-Ok.ensures.may_overflow).1
+    let run = entries_of c.self.inside.run.items in
+    let handed = texts_of c.self.inside.handed.items in
+    let k = c.self.invariant none in
+    let e : Entry g.row.T.Denot = character c.args.c c.args.main_tag.now c.args.wrap_tag.now c.args.mode in
+    let stands = c.in-Ok.ensures.entered (earlier_texts n b) k.given (progress columns b.width k.tracks.events) k.tracks.stands in
+    let t = tracks_event columns eq b c.add_char.new.self (earlier_texts n b) k.given run (entry e) k.tracks c.in-Ok.ensures.limits stands in
+    let more : entries_of c.and-self-inside.result.items ≡ run ++ e ∷ [] = ap entries_of c.and-self-inside.ensures ∙ map-append (λ p. character p.0.0 p.1 p.2 p.0.1) c.self.inside.run.items (((c.args.c, c.args.mode), c.args.main_tag.now, c.args.wrap_tag.now) ∷ []) in
+    rw more (keeps_at columns eq n b c.add_char.new.self c.self.inside.handing handed run (run ++ e ∷ []) k t).1
 
 pub returns-in-Ok-clause-ok : goal.returns-in-Ok-clause-ok
 returns-in-Ok-clause-ok g c =
     let columns = g.W.CharWidth.columns in
     let eq = g.T.PartialEq.eq in
-    let b = c.self.inside.«open» in
-    let run = entries_of c.self.inside.run.items in
-    let k = c.self.invariant (ap (λ (s : State g.row.T.Denot). s.failure) c.self.view_is ∙ c.in_ok-refusal.ensures) in
-    let handed = texts_of c.self.inside.handed.items in
+    let b = c.self.inside.page in
     let n = c.self.inside.earlier in
-    let more : entries_of c.and-self-inside.result.items ≡ run ++ character c.args.c c.args.tag.now Normal ∷ [] = ap entries_of c.and-self-inside.ensures ∙ map-append (λ p. character p.0.0 p.1 p.0.1) c.self.inside.run.items (((c.args.c, Normal), c.args.tag.now) ∷ []) in
-    let same = (keeps_at columns eq n b c.add_char.new.self handed run (run ++ character c.args.c c.args.tag.now Normal ∷ []) k (c.in-Ok.ensures.ok (earlier_texts n b) k.given run k.tracks) c.in-Ok.ensures.may_overflow).0 in
-    rw (← c.self.view_is) (state_is c.in-Ok.ensures.width c.in-Ok.ensures.may_overflow same refl more)
+    let run = entries_of c.self.inside.run.items in
+    let handed = texts_of c.self.inside.handed.items in
+    let k = c.self.invariant (ap (λ (s : State g.row.T.Denot). s.failure) c.self.view_is ∙ c.in_ok-refusal.ensures) in
+    let limits = c.in-Ok.ensures.limits in
+    let e : Entry g.row.T.Denot = character c.args.c c.args.main_tag.now c.args.wrap_tag.now c.args.mode in
+    let stands = c.in-Ok.ensures.entered (earlier_texts n b) k.given (progress columns b.width k.tracks.events) k.tracks.stands in
+    let t = tracks_event columns eq b c.add_char.new.self (earlier_texts n b) k.given run (entry e) k.tracks limits stands in
+    let more : entries_of c.and-self-inside.result.items ≡ run ++ e ∷ [] = ap entries_of c.and-self-inside.ensures ∙ map-append (λ p. character p.0.0 p.1 p.2 p.0.1) c.self.inside.run.items (((c.args.c, c.args.mode), c.args.main_tag.now, c.args.wrap_tag.now) ∷ []) in
+    rw (← c.self.view_is) (state_is limits.width limits.may_overflow refl (keeps_at columns eq n b c.add_char.new.self c.self.inside.handing handed run (run ++ e ∷ []) k t).0 refl more)
 
 pub returns-in-Err-clause-too_narrow : goal.returns-in-Err-clause-too_narrow
 returns-in-Err-clause-too_narrow g c = λ none e.
-    let b = c.self.inside.«open» in
+    let columns = g.W.CharWidth.columns in
+    let b = c.self.inside.page in
+    let run = entries_of c.self.inside.run.items in
     let k = c.self.invariant (ap (λ (s : State g.row.T.Denot). s.failure) c.self.view_is ∙ none) in
-    rw (← c.self.view_is) (c.in-Err.ensures.too_narrow (earlier_texts c.self.inside.earlier b) k.given (entries_of c.self.inside.run.items) k.tracks e)
+    let refused = c.in-Err.ensures.too_narrow e (earlier_texts c.self.inside.earlier b) k.given (progress columns b.width k.tracks.events) k.tracks.stands in
+    rw (← c.self.view_is) (refused.0, λ fit. refused.1 (characters_word_fits columns b.width k.tracks.events run k.tracks.run_is fit))
+
+pub returns-in-Err-clause-normal_too_narrow : goal.returns-in-Err-clause-normal_too_narrow
+returns-in-Err-clause-normal_too_narrow g c = λ none.
+    let columns = g.W.CharWidth.columns in
+    let eq = g.T.PartialEq.eq in
+    let b = c.self.inside.page in
+    let run = entries_of c.self.inside.run.items in
+    let k = c.self.invariant (ap (λ (s : State g.row.T.Denot). s.failure) c.self.view_is ∙ none) in
+    let last : Entry g.row.T.Denot = character c.args.c c.args.main_tag.now c.args.wrap_tag.now c.args.mode in
+    rw (← c.self.view_is) (λ normal e.
+    let refused = c.in-Err.ensures.too_narrow e (earlier_texts c.self.inside.earlier b) k.given (progress columns b.width k.tracks.events) k.tracks.stands in
+    let broken = refused.2 (each_back (HasMode Normal) run (last ∷ []) normal).0 in
+    narrow_refused columns eq b (earlier_texts c.self.inside.earlier b) k.given run k.tracks refused.0 (each_front (HasMode Normal) run (last ∷ []) normal) last broken.0 broken.1 refused.1)

@@ -1,55 +1,89 @@
-use Rattle.std.proofs.Common.{ap, ◌∙◌}
-use Rattle.tbr_model.specs.Run.{words_of}
+use Rattle.std.proofs.Common.{refl, ap, ◌∙◌, subst, Bool}
+use Rattle.std.specs.List.{AllByRecursion as Each}
+use Rattle.tbr_model.specs.Rule.{progress, lines_of}
+use Rattle.tbr_lines.specs.Wrapped.{FitsBlock}
 use Rattle.tbr_lines.specs.State.{State, entries_of, texts_of}
 use Rattle.tbr_lines.specs.Block.{earlier_texts}
-use Rattle.tbr_lines.proofs.Blocks.{ends_best, after_end, state_is}
-use Rattle.tbr_lines.proofs.Ending.{two_columns_words}
+use Rattle.tbr_lines.proofs.Blocks.{ends_run, after_end, begun_after, state_is, narrow_at_end}
+use Rattle.tbr_lines.proofs.Ending.{visible_fit, words_fit_normal, characters_word_fits, two_columns}
 use Rattle.tbr_lines.proofs.wrap.block.WrappedBlock.flush.Goals as goal
 
 pub invariant_of-self : goal.invariant_of-self
 invariant_of-self g c = λ none.
-    let b = c.self.inside.«open» in
-    let run = entries_of c.self.inside.run.items in
+    let columns = g.W.CharWidth.columns in
+    let eq = g.T.PartialEq.eq in
+    let b = c.self.inside.page in
+    let n = c.self.inside.earlier in
     let k = c.self.invariant none in
-    let before = earlier_texts c.self.inside.earlier b in
-    let ended = c.in-Ok.ensures.ended before k.given run k.tracks in
+    let e = c.in-Ok.ensures.finished (earlier_texts n b) k.given (progress columns b.width k.tracks.events) k.tracks.stands in
     rw c.new-self-inside.ensures (rw c.new-self-inside-in-Ok.ensures
-    (after_end g.W.CharWidth.columns g.T.PartialEq.eq b c.finish.new.self before k.given run ended c.len-self-inside.result (c.len-self-inside.ensures ∙ c.finish.new.self.counted)).1)
+    (after_end columns eq n b c.finish.new.self c.self.inside.handing (texts_of c.self.inside.handed.items) (entries_of c.self.inside.run.items) k e c.len-lines.result (c.len-lines.ensures ∙ c.finish.new.self.counted)).1)
 
 pub returns-in-Ok-clause-ok : goal.returns-in-Ok-clause-ok
 returns-in-Ok-clause-ok g c =
     let columns = g.W.CharWidth.columns in
     let eq = g.T.PartialEq.eq in
-    let b = c.self.inside.«open» in
+    let b = c.self.inside.page in
     let n = c.self.inside.earlier in
+    let handing = c.self.inside.handing in
     let run = entries_of c.self.inside.run.items in
     let handed = texts_of c.self.inside.handed.items in
     let k = c.self.invariant (ap (λ (s : State g.row.T.Denot). s.failure) c.self.view_is ∙ c.in_ok-refusal.ensures) in
-    let before = earlier_texts n b in
-    let ended = c.in-Ok.ensures.ended before k.given run k.tracks in
-    let joins = (after_end columns eq b c.finish.new.self before k.given run ended c.len-self-inside.result (c.len-self-inside.ensures ∙ c.finish.new.self.counted)).0 in
+    let limits = c.in-Ok.ensures.limits in
+    let e = c.in-Ok.ensures.finished (earlier_texts n b) k.given (progress columns b.width k.tracks.events) k.tracks.stands in
+    let many = c.len-lines.ensures ∙ c.finish.new.self.counted in
+    let joins = (after_end columns eq n b c.finish.new.self handing handed run k e c.len-lines.result many).0 in
+    let begun = c.any-self-inside.ensures ∙ begun_after columns eq n b c.finish.new.self handing handed run k e c.self.inside.begun c.len-lines.result many in
+    let shown = ends_run columns eq n b c.finish.new.self handing handed run k e g.met.T.Eq.laws (g.met.W.CharWidth.drawn_in_one 32 refl) b.positive in
     rw (← c.self.view_is) (
-      ended.now,
-      record { best = ends_best columns eq n b c.finish.new.self handed run k ended; fits = ended.fits },
-      state_is c.in-Ok.ensures.width c.in-Ok.ensures.may_overflow joins (ap texts_of c.new-self-inside.ensures) (ap entries_of c.new-self-inside-in-Ok.ensures),
+      e.now,
+      record { shown = shown.0; fits = shown.1 },
+      state_is limits.width limits.may_overflow begun joins (ap texts_of c.new-self-inside.ensures) (ap entries_of c.new-self-inside-in-Ok.ensures),
     )
 
 pub returns-in-Ok-clause-fit : goal.returns-in-Ok-clause-fit
 returns-in-Ok-clause-fit g c =
-    let b = c.self.inside.«open» in
+    let columns = g.W.CharWidth.columns in
+    let b = c.self.inside.page in
     let k = c.self.invariant (ap (λ (s : State g.row.T.Denot). s.failure) c.self.view_is ∙ c.in_ok-refusal.ensures) in
-    rw (← c.self.view_is) (c.in-Ok.ensures.fit (earlier_texts c.self.inside.earlier b) k.given (entries_of c.self.inside.run.items) k.tracks)
+    let es = k.tracks.events in
+    let e = c.in-Ok.ensures.finished (earlier_texts c.self.inside.earlier b) k.given (progress columns b.width es) k.tracks.stands in
+    rw (← c.self.view_is) (λ never normal. words_fit_normal columns b.width es (entries_of c.self.inside.run.items) k.tracks.run_is normal (subst (λ (o : Bool). Each (FitsBlock columns b.width o) (lines_of columns b.width es)) never e.fits))
+
+pub returns-in-Ok-clause-visible_fit : goal.returns-in-Ok-clause-visible_fit
+returns-in-Ok-clause-visible_fit g c =
+    let columns = g.W.CharWidth.columns in
+    let b = c.self.inside.page in
+    let k = c.self.invariant (ap (λ (s : State g.row.T.Denot). s.failure) c.self.view_is ∙ c.in_ok-refusal.ensures) in
+    let es = k.tracks.events in
+    let e = c.in-Ok.ensures.finished (earlier_texts c.self.inside.earlier b) k.given (progress columns b.width es) k.tracks.stands in
+    rw (← c.self.view_is) (λ never. visible_fit columns b.width es (entries_of c.self.inside.run.items) k.tracks.run_is (subst (λ (o : Bool). Each (FitsBlock columns b.width o) (lines_of columns b.width es)) never e.fits))
 
 pub returns-in-Err-clause-too_narrow : goal.returns-in-Err-clause-too_narrow
 returns-in-Err-clause-too_narrow g c = λ none e.
-    let b = c.self.inside.«open» in
-    let k = c.self.invariant (ap (λ (s : State g.row.T.Denot). s.failure) c.self.view_is ∙ none) in
-    rw (← c.self.view_is) (c.in-Err.ensures.too_narrow (earlier_texts c.self.inside.earlier b) k.given (entries_of c.self.inside.run.items) k.tracks e)
-
-pub returns-in-Err-clause-two_columns : goal.returns-in-Err-clause-two_columns
-returns-in-Err-clause-two_columns g c = λ none wide e.
-    let b = c.self.inside.«open» in
+    let columns = g.W.CharWidth.columns in
+    let b = c.self.inside.page in
     let run = entries_of c.self.inside.run.items in
     let k = c.self.invariant (ap (λ (s : State g.row.T.Denot). s.failure) c.self.view_is ∙ none) in
-    (c.in-Err.ensures.too_narrow (earlier_texts c.self.inside.earlier b) k.given run k.tracks e).1
-    (two_columns_words g.W.CharWidth.columns b.width g.met.W.CharWidth.at_most_two (rw (← c.self.view_is) at wide) (words_of g.W.CharWidth.columns run))
+    let refused = c.in-Err.ensures.too_narrow e (earlier_texts c.self.inside.earlier b) k.given (progress columns b.width k.tracks.events) k.tracks.stands in
+    rw (← c.self.view_is) (refused.0, λ fit. refused.2 (characters_word_fits columns b.width k.tracks.events run k.tracks.run_is fit))
+
+pub returns-in-Err-clause-normal_too_narrow : goal.returns-in-Err-clause-normal_too_narrow
+returns-in-Err-clause-normal_too_narrow g c = λ none.
+    let columns = g.W.CharWidth.columns in
+    let eq = g.T.PartialEq.eq in
+    let b = c.self.inside.page in
+    let before = earlier_texts c.self.inside.earlier b in
+    let k = c.self.invariant (ap (λ (s : State g.row.T.Denot). s.failure) c.self.view_is ∙ none) in
+    rw (← c.self.view_is) (λ normal e.
+    let refused = c.in-Err.ensures.too_narrow e before k.given (progress columns b.width k.tracks.events) k.tracks.stands in
+    narrow_at_end columns eq b before k.given (entries_of c.self.inside.run.items) k.tracks refused.0 normal refused.2)
+
+pub returns-in-Err-clause-two_columns : goal.returns-in-Err-clause-two_columns
+returns-in-Err-clause-two_columns g c = λ none.
+    let columns = g.W.CharWidth.columns in
+    let b = c.self.inside.page in
+    let k = c.self.invariant (ap (λ (s : State g.row.T.Denot). s.failure) c.self.view_is ∙ none) in
+    rw (← c.self.view_is) (λ wide e.
+    let refused = c.in-Err.ensures.too_narrow e (earlier_texts c.self.inside.earlier b) k.given (progress columns b.width k.tracks.events) k.tracks.stands in
+    refused.2 (two_columns columns b.width g.met.W.CharWidth.at_most_two wide (progress columns b.width k.tracks.events).word))

@@ -2,7 +2,7 @@ use Rattle.std.proofs.Common.{◌≡◌, None, [], ◌∷◌, ◌++◌, length, 
 use Rattle.tbr_lines.specs.State.{State}
 use Rattle.tbr_lines.specs.Wrapped.{ShowsText}
 use Rattle.tbr_lines.proofs.Blocks.{unfailed, first_of, none_of, not_given, given_line}
-use Rattle.tbr_lines.proofs.Laying.{all_zip_append}
+use Rattle.tbr_lines.proofs.Same.{all_zip_append}
 use Rattle.tbr_lines.proofs.wrap.block.WrappedBlock.into_lines.Goals as goal
 
 pub loop-lines-init : goal.loop-lines-init

@@ -5,6 +5,7 @@ pub invariant_of-result : goal.invariant_of-result
 invariant_of-result g c = λ _. rw c.new-2.ensures (rw c.new-3.ensures (record {
   count = refl;
   given = [];
-  shown = λ _. tt;
-  tracks = c.new.ensures.tracks g.W.CharWidth.columns g.T.PartialEq.eq;
+  shown = tt;
+  noted = refl;
+  tracks = record { events = []; run_is = refl; stands = c.new.ensures.stands g.W.CharWidth.columns g.T.PartialEq.eq };
 }))

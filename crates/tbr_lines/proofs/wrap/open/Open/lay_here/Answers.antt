@@ -1,24 +1,32 @@
-use Rattle.std.proofs.Common.{◌≡◌, ◌+◌, ◌++◌, length, refl, sym, ap, ◌∙◌, arith, append_assoc, length-append}
-use Rattle.tbr_model.specs.Layout.{gap_text, gap_width}
-use Rattle.tbr_lines.proofs.Laying.{same_length, gap_length}
-use Rattle.tbr_lines.proofs.Holding.{holds_more, option_width}
+use Rattle.std.proofs.Common.{refl, sym, ◌∙◌, subst}
+use Rattle.tbr_model.specs.Run.{items_width}
+use Rattle.tbr_model.specs.Laid.{extended}
+use Rattle.tbr_model.specs.Rule.{space_text, space_columns}
+use Rattle.tbr_lines.specs.Open.{Lays}
+use Rattle.tbr_lines.proofs.Laying.{lays_same}
+use Rattle.tbr_lines.proofs.Holding.{holds_same}
+use Rattle.tbr_lines.proofs.Standing.{extended_twice}
 use Rattle.tbr_lines.proofs.wrap.open.Open.lay_here.Goals as goal
 
 pub returns-clause-laid : goal.returns-clause-laid
-returns-clause-laid g c = λ before l h.
+returns-clause-laid g c = λ before given p s.
+    let columns = g.W.CharWidth.columns in
     let eq = g.T.PartialEq.eq in
-    let p = c.in_ok-place_space.ensures in
-    let gap : c.from-gap.result ≡ gap_width c.args.space = option_width c.args.space c.is_some.result c.from-gap.result c.is_some.ensures c.from-gap.ensures in
-    let sp : length p.0 ≡ gap_width c.args.space = same_length eq p.0 (gap_text c.args.space) p.2 ∙ gap_length c.args.space in
-    let word : length p.1 ≡ c.word_len.result = same_length eq p.1 c.args.self.now.flat.word p.3 ∙ sym c.word_len.ensures in (
-      p.0,
-      p.1,
-      p.2,
-      p.3,
-      ap (λ f. f.word) c.place_word.ensures,
-      holds_more c.args.self.now _ before l (p.0 ++ p.1) (gap_width c.args.space + c.args.word_width) h
-          (ap (λ f. f.placed) c.place_word.ensures ∙ ap (λ f. f.placed ++ f.word) p.4 ∙ append_assoc c.args.self.now.flat.placed p.0 p.1)
-          refl
-          (omega (arith, c.in-Some.ensures, c.in-Some-checked_add.ensures, gap, sp, word, length-append p.0 p.1))
-          (omega (arith, gap)),
-    )
+    let laws = g.met.T.Eq.laws in
+    let m = c.place_pending.new.self in
+    let n = c.place_word.new.self in
+    let t = c.in_ok-place_pending.ensures.placed before given p s in
+    let r = extended p.laid (space_text p.space) (space_columns p.space) in
+    let k = c.in_ok-place_word.ensures in
+    let same = lays_same columns eq laws m _ (record { width = refl; may_overflow = refl }) before given r t.lays (holds_same m _ before t.lays.laid t.lays.holds refl refl refl refl) in
+    let laid = k.placed columns before given r p.word same t.word (sym t.word_width ∙ sym c.replace-columns.ensures.value) in
+    let whole = subst (λ q. Lays columns eq n before given q) (extended_twice p.laid (space_text p.space) p.word (space_columns p.space) (items_width columns p.word)) laid in
+    record {
+      lays = lays_same columns eq laws n _ (record { width = refl; may_overflow = refl }) before given _ whole (holds_same n _ before whole.laid whole.holds refl refl refl refl);
+      space = rw k.same.space t.space;
+      word = rw k.word tt;
+      word_width = k.same.word_width ∙ c.replace-columns.ensures.after;
+      mode = k.same.word_mode ∙ t.mode;
+      continued = refl;
+      again = k.same.again ∙ t.again;
+    }

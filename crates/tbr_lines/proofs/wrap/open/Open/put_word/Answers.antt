@@ -1,35 +1,41 @@
-use Rattle.std.proofs.Common.{◌≡◌, ℕ, inl, inr, ap, sym, ◌∙◌, subst, unwrap_or, length, arith}
-use Rattle.tbr_model.specs.Run.{item_width}
-use Rattle.tbr_lines.specs.Open.{Holds}
-use Rattle.tbr_lines.specs.Laid.{put_item, put_items}
-use Rattle.tbr_lines.proofs.Holding.{first_width, keeps_trans, narrow_first, narrow_more}
+use Rattle.std.proofs.Common.{◌≡◌, [], length, ap, ◌∙◌, arith, subst}
+use Rattle.tbr_model.specs.Laid.{put_item, put_items}
+use Rattle.tbr_lines.specs.Elements.{SameItems}
+use Rattle.tbr_lines.specs.Open.{Lays}
+use Rattle.tbr_lines.proofs.Holding.{keeps_trans}
+use Rattle.tbr_lines.proofs.Laying.{narrow_first, split_same, none_same, none_first}
 use Rattle.tbr_lines.proofs.wrap.open.Open.put_word.Goals as goal
+
+pub loop-c-preserved : goal.loop-c-preserved
+loop-c-preserved g c =
+    let columns = g.W.CharWidth.columns in
+    let eq = g.T.PartialEq.eq in
+    let width = c.args.self.now.width in
+    let w = c.in_ok-put_first.ensures.word in
+    let inv = c.loop-c.invariant in
+    record {
+      put = λ before given r js h word.
+          let n = inv.put before given r js h word in
+          let s = split_same eq c.loop-c.self.flat.word w.0 w.1 n.1 w.2 n.3 in (
+            put_item columns width n.0 s.0,
+            s.1,
+            subst (λ k. Lays columns eq c.put_first.new.self before given (put_item columns k n.0 s.0)) inv.same.width (c.in_ok-put_first.ensures.put before given n.0 w.0 s.0 w.1 n.2 w.2 s.3),
+            rw w.3 s.4,
+            n.4 ∙ ap (put_items columns width n.0) s.2,
+          );
+      back = λ k. rw w.3 (narrow_first columns width c.loop-c.self.flat.word w.1 w.0 w.2 (inv.back k)).1;
+      same = keeps_trans c.args.self.now c.loop-c.self c.put_first.new.self inv.same c.in_ok-put_first.ensures.same;
+    }
 
 pub loop-c-smaller : goal.loop-c-smaller
 loop-c-smaller g c =
     let w = c.in_ok-put_first.ensures.word in
     omega (arith, ap length w.2, ap length w.3)
 
-pub loop-c-preserved : goal.loop-c-preserved
-loop-c-preserved g c =
+pub returns-clause-put : goal.returns-clause-put
+returns-clause-put g c = λ before given r js h word.
     let columns = g.W.CharWidth.columns in
-    let width = c.args.self.now.width in
-    let w = c.in_ok-put_first.ensures.word in
-    let first : item_width columns w.0 ≡ unwrap_or (columns c.in-Some.c) 0 = first_width columns c.loop-c.self.flat.word w.1 c.in-Some.ensures.1 w.0 c.in-Some.c c.in-Some.ensures.0 w.2 c.in-Some.ensures.2 in
-    record {
-      put = λ before m h.
-          let n = c.loop-c.invariant.put before m h in (
-            put_item columns width n.0 w.0,
-            subst (λ (k : ℕ). Holds c.put_first.new.self before (put_item columns k n.0 w.0)) c.loop-c.invariant.same.width (c.in_ok-put_first.ensures.put before n.0 w.0 w.1 n.1 w.2).1,
-            n.2 ∙ ap (put_items columns width n.0) w.2 ∙ ap (put_items columns width (put_item columns width n.0 w.0)) (sym w.3),
-          );
-      fits = elim c.in_ok-put_first.ensures.fits [
-        | inl may ↦ inl (sym c.loop-c.invariant.same.may_overflow ∙ may)
-        | inr fits ↦ elim c.loop-c.invariant.fits [
-          | inl may ↦ inl may
-          | inr all ↦ inr (λ k. all (narrow_more columns width c.loop-c.self.flat.word w.1 w.0 w.2 (omega (arith, fits, first, c.loop-c.invariant.same.width)) (rw w.3 at k)))
-        ]
-      ];
-      back = λ k. rw w.3 (narrow_first columns width c.loop-c.self.flat.word w.1 w.0 w.2 (c.loop-c.invariant.back k)).1;
-      same = keeps_trans c.args.self.now c.loop-c.self c.put_first.new.self c.loop-c.invariant.same c.in_ok-put_first.ensures.same;
-    }
+    let n = c.loop-c.invariant.put before given r js h word in
+    let none : c.loop-c.self.flat.word ≡ [] = none_first c.first.result c.loop-c.self.flat.word c.first.ensures c.in_default.not-Some in
+    let none_left = none_same g.T.PartialEq.eq n.1 (subst (λ is. SameItems g.T.PartialEq.eq is n.1) none n.3) in
+    rw (n.4 ∙ ap (put_items columns c.args.self.now.width n.0) none_left) n.2

@@ -16,9 +16,9 @@ returns-then-eq g c =
     let in_xs : i < length xs = omega (arith, c.if-index-len.true, c.len.ensures, c.self.inside.stretches.ok.0) in
     let same : c.index.result.now ≡ s = same_stretch xs i c.index.result.now s in_xs c.index.ensures c.index_mut.ensures.value in
     let less : o ≤ s.more + 1 = omega (arith, offset_in xs i o c.args.last s at in_xs c.index_mut.ensures.value) in
-    on_ok_weaker c.lengthen.result (λ h. exactly g.T.PartialEq.eq g.met.T.Eq.laws (tags_of (drop k xs)) c.args.self.now _ c.args.last s.tag c.args.tag c.self.view_is
+    on_ok_weaker c.lengthen.result (λ h. exactly g.T.PartialEq.eq g.met.T.Eq.laws (tags_of (drop k xs)) c.args.self.now _ c.args.last c.args.count s.tag c.args.tag c.self.view_is
     (ap (λ z. g.T.PartialEq.eq z.tag c.args.tag) (sym same) ∙ sym c.if-eq.ensures)
-    (bumped xs k i o c.args.last s c.lengthen.new.stretch (omega arith) in_xs c.index_mut.ensures.value h less at.tags)) c.lengthen.ensures.ok
+    (bumped xs k i o c.args.last c.args.count s c.lengthen.new.stretch (omega arith) in_xs c.index_mut.ensures.value h less at.tags)) c.lengthen.ensures.ok
 
 pub split_off-requires-clause-within : goal.split_off-requires-clause-within
 split_off-requires-clause-within g c =
@@ -45,10 +45,11 @@ returns-then-place-gt0 g c =
     let less : o ≤ s.more = offset_in xs i o c.args.last s at in_xs c.index_mut-then-place-gt0.ensures.value in
     let back = c.in_ok-back.back in
     let two = c.insert-then-place-gt0.new.self.items in
-    let items = split_items xs c.insert.new.self.items two i c.split_off.new.stretch back (record { more = 0; tag = c.args.tag }) in_xs c.in_ok-insert.ensures.items c.in_ok-insert-2.ensures.items
-    ∙ ap (λ y. take i xs ++ y ∷ record { more = 0; tag = c.args.tag } ∷ back ∷ drop (suc i) xs) c.in_ok-back.ensures.front in
-    nearly g.T.PartialEq.eq (tags_of (drop k xs)) c.args.self.now (tags_of (drop k two)) (tags_of (back ∷ drop (suc i) xs)) c.args.last c.args.tag c.args.tag c.self.view_is (g.met.T.Eq.laws.refl c.args.tag)
-    (split_tags_new xs two k i o c.args.last s back c.args.tag (omega arith) in_xs c.index_mut-then-place-gt0.ensures.value c.if-place-gt0.true less at.tags items)
+    let items = split_items xs c.insert.new.self.items two i c.split_off.new.stretch back (record { more = c.args.count - 1; tag = c.args.tag }) in_xs c.in_ok-insert.ensures.items c.in_ok-insert-2.ensures.items
+    ∙ ap (λ y. take i xs ++ y ∷ record { more = c.args.count - 1; tag = c.args.tag } ∷ back ∷ drop (suc i) xs) c.in_ok-back.ensures.front in
+    nearly g.T.PartialEq.eq (tags_of (drop k xs)) c.args.self.now (tags_of (drop k two)) (tags_of (back ∷ drop (suc i) xs)) c.args.last c.args.count c.args.tag c.args.tag c.self.view_is (g.met.T.Eq.laws.refl c.args.tag)
+    (split_tags_new xs two k i o c.args.last c.args.count (c.args.count - 1) s back c.args.tag (omega arith) in_xs c.index_mut-then-place-gt0.ensures.value c.if-place-gt0.true less at.tags
+    (omega (arith, c.requires.some)) items)
     (split_same g.T.PartialEq.eq g.met.T.Eq.laws xs k i o c.args.last s back (omega arith) in_xs c.index_mut-then-place-gt0.ensures.value less at.tags c.in_ok-back.ensures.back.0 c.in_ok-back.ensures.back.1)
 
 pub returns-then-eq-2 : goal.returns-then-eq-2
@@ -66,9 +67,9 @@ returns-then-eq-2 g c =
     let none : length (tags_of (drop i xs)) ≡ c.args.last = omega (arith, at.tags, c.if-place-gt0.false) in
     let whole : length (tags_of (drop j xs)) ≡ (s.more + 1) + c.args.last = omega (arith, count_len xs i j s next at.within c.index_mut-then-eq-2.ensures.value, none) in
     let same : c.index-then-place-gt0-2.result.now ≡ s = same_stretch xs j c.index-then-place-gt0-2.result.now s in_xs c.index-then-place-gt0-2.ensures c.index_mut-then-eq-2.ensures.value in
-    on_ok_weaker c.lengthen-then-eq-2.result (λ h. exactly g.T.PartialEq.eq g.met.T.Eq.laws (tags_of (drop k xs)) c.args.self.now _ c.args.last s.tag c.args.tag c.self.view_is
+    on_ok_weaker c.lengthen-then-eq-2.result (λ h. exactly g.T.PartialEq.eq g.met.T.Eq.laws (tags_of (drop k xs)) c.args.self.now _ c.args.last c.args.count s.tag c.args.tag c.self.view_is
     (ap (λ z. g.T.PartialEq.eq z.tag c.args.tag) (sym same) ∙ sym c.if-eq-2.ensures)
-    (bumped xs k j (s.more + 1) c.args.last s c.lengthen-then-eq-2.new.stretch (omega (arith, next, c.if-place-gt0-2.true)) in_xs c.index_mut-then-eq-2.ensures.value h (omega arith) whole)) c.lengthen-then-eq-2.ensures.ok
+    (bumped xs k j (s.more + 1) c.args.last c.args.count s c.lengthen-then-eq-2.new.stretch (omega (arith, next, c.if-place-gt0-2.true)) in_xs c.index_mut-then-eq-2.ensures.value h (omega arith) whole)) c.lengthen-then-eq-2.ensures.ok
 
 pub returns : goal.returns
 returns g c =
@@ -79,5 +80,5 @@ returns g c =
     let at : IsPlace xs i o c.args.last =
     at_place xs c.deref.result.now k c.place_before-place.result.stretch o c.args.last c.deref.ensures.value c.self.invariant c.place_before-place.ensures.stretch c.place_before-place.ensures.tags c.place_before-place.ensures.offset in
     let none : length (tags_of (drop i xs)) ≡ c.args.last = omega (arith, at.tags, c.if-place-gt0.false) in
-    exactly g.T.PartialEq.eq g.met.T.Eq.laws (tags_of (drop k xs)) c.args.self.now (tags_of (drop k c.insert-2.new.self.items)) c.args.last c.args.tag c.args.tag c.self.view_is (g.met.T.Eq.laws.refl c.args.tag)
-    (ap (λ ys. tags_of (drop k ys)) c.in_ok-insert-3.ensures.items ∙ inserted xs k i c.args.last c.args.tag (omega arith) at.within none)
+    exactly g.T.PartialEq.eq g.met.T.Eq.laws (tags_of (drop k xs)) c.args.self.now (tags_of (drop k c.insert-2.new.self.items)) c.args.last c.args.count c.args.tag c.args.tag c.self.view_is (g.met.T.Eq.laws.refl c.args.tag)
+    (ap (λ ys. tags_of (drop k ys)) c.in_ok-insert-3.ensures.items ∙ inserted xs k i c.args.last c.args.count (c.args.count - 1) c.args.tag (omega arith) at.within none (omega (arith, c.requires.some)))

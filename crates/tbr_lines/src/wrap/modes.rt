@@ -1,0 +1,301 @@
+//! What each character of a run does, by its mode.
+ghost use Rattle.std.specs.Prelude.{◌≡◌, ◌≤◌, ◌<◌, ◌&&◌, ℕ, List, Option, Some, true, false, OnOk, Err};
+ghost use Rattle.tbr_model.specs.Run as model;
+ghost use Rattle.tbr_model.specs.Run.{Item, character, items_width, has_character};
+ghost use Rattle.tbr_model.specs.Laid.{Laid};
+ghost use Rattle.tbr_model.specs.Rule.{Progress, call, step, enter, enter_normal, collapse, newline, tab, put_tab, keep_space, keep_character, passes, is_pre, preserve, finished};
+ghost use Rattle.tbr_model.specs.declared.white_space.WhiteSpace.TheVariants.{Normal};
+ghost use Rattle.tbr_model.specs.Greedy.{IsNarrow};
+ghost use Rattle.tbr_lines.specs.Open.{Stands, Lays, KeepsLimits, KeepsSettings, Finished};
+ghost use Rattle.tbr_lines.specs.Elements.{SameItems};
+ghost use Rattle.tbr_lines.specs.declared.error.Error.TheVariants as E;
+
+use crate::error::{Error, OutOfMemory};
+use crate::space::{always_takes_space, is_wordbreak_point};
+use crate::wrap::open::{Open, Space};
+use tbr_model::{CharWidth, WhiteSpace};
+
+/// U+200B, at which a word may end without a space.
+const ZERO_WIDTH_SPACE: char = '\u{200b}';
+
+/// Tab stops stand every so many columns.
+const TAB_STOP: usize = 8;
+
+impl<T: Eq + Clone + Drop> Open<T> {
+    /// Begins a call. It has the continuation tag where the flag is on.
+    pub fn begin_call(&mut self)
+        ensures begun { (columns : ℕ → Option ℕ) (before given : List (List (Item T))) (p : Progress T) → Stands columns T.eq self.old before given p →
+            Stands columns T.eq self.new before given (step columns self.old.width p call) }
+        ensures limits { KeepsLimits self.old self.new }
+    {
+        self.again = self.continued;
+    }
+
+    /// Notes white space that collapses, behind what the line has.
+    fn collapse(&mut self, c: char, tag: &T) -> Result<(), OutOfMemory>
+        requires faithful { (x y : T) → T.is_clone x y → T.eq x y ≡ true }
+        requires is_break { model.is_break c ≡ true }
+        ensures noted { (columns : ℕ → Option ℕ) (before given : List (List (Item T))) (p : Progress T) (a : T) → T.eq tag.now a ≡ true → Stands columns T.eq self.old before given p →
+            OnOk result (Stands columns T.eq self.new before given (collapse c a p)) }
+        ensures limits { KeepsLimits self.old self.new }
+    {
+        if c == ZERO_WIDTH_SPACE || self.space.is_some() || self.line_width == 0 {
+            return Ok(());
+        }
+        self.space = Some(Space {
+            columns: 1,
+            tag: tag.clone()?,
+            mode: WhiteSpace::Normal,
+        });
+        Ok(())
+    }
+
+    /// Ends the open line at a newline.
+    fn newline(&mut self) -> Result<(), OutOfMemory>
+        ensures ended { (columns : ℕ → Option ℕ) (before given : List (List (Item T))) (p : Progress T) → Stands columns T.eq self.old before given p →
+            OnOk result (Stands columns T.eq self.new before given (newline p)) }
+        ensures limits { KeepsLimits self.old self.new }
+    {
+        self.end_line()?;
+        self.space = None;
+        self.continued = false;
+        self.again = false;
+        Ok(())
+    }
+
+    /// Puts spaces from a column up to the next tab stop, or up to the end of the line, which is then ended.
+    fn put_tab(&mut self, column: usize, tag: &T) -> Result<(), OutOfMemory>
+        requires faithful { (x y : T) → T.is_clone x y → T.eq x y ≡ true }
+        requires within { column < self.old.width }
+        requires behind { self.old.line_width ≤ column }
+        ensures put { (columns : ℕ → Option ℕ) (before given : List (List (Item T))) (r : Laid T) (a : T) → columns 32 ≡ Some 1 → T.eq tag.now a ≡ true → Lays columns T.eq self.old before given r →
+            OnOk result (Lays columns T.eq self.new before given (put_tab self.old.width column a r)) }
+        ensures word { OnOk result (SameItems T.eq self.new.flat.word self.old.flat.word) }
+        ensures same { KeepsSettings self.old self.new }
+    {
+        let stop = TAB_STOP - column % TAB_STOP;
+        let room = self.width - column;
+        let tag = tag.clone()?;
+        if stop <= room {
+            return self.place_spaces(stop, tag);
+        }
+        self.place_spaces(room, tag)?;
+        self.end_line()
+    }
+
+    /// Puts the spaces of a tab.
+    fn tab(&mut self, tag: &T) -> Result<(), OutOfMemory>
+        requires faithful { (x y : T) → T.is_clone x y → T.eq x y ≡ true }
+        requires stands { (columns : ℕ → Option ℕ) × (before : List (List (Item T))) × (given : List (List (Item T))) × (p : Progress T) × Stands columns T.eq self.old before given p }
+        ensures put { (columns : ℕ → Option ℕ) (before given : List (List (Item T))) (p : Progress T) (a : T) → columns 32 ≡ Some 1 → T.eq tag.now a ≡ true → Stands columns T.eq self.old before given p →
+            OnOk result (Stands columns T.eq self.new before given (tab self.old.width a p)) }
+        ensures limits { KeepsLimits self.old self.new }
+    {
+        let pending = self.pending();
+        if pending < self.width - self.line_width {
+            return self.put_tab(self.line_width + pending, tag);
+        }
+        self.fresh_line()?;
+        self.put_tab(0, tag)
+    }
+
+    /// Whether the word has a character.
+    fn has_word(&self) -> bool
+        ensures { (js : List (Item T)) → SameItems T.eq self.now.flat.word js → has_character js ≡ result }
+    {
+        match self.flat.first() {
+            Some(_) => true,
+            None => false,
+        }
+    }
+
+    /// Keeps white space: it waits for a word, or joins the word's characters.
+    fn keep_space(
+        &mut self,
+        c: char,
+        columns: usize,
+        tag: &T,
+        mode: WhiteSpace,
+    ) -> Result<(), OutOfMemory>
+        requires faithful { (x y : T) → T.is_clone x y → T.eq x y ≡ true }
+        ensures kept { (widths : ℕ → Option ℕ) (before given : List (List (Item T))) (p : Progress T) (a : T) → widths c ≡ Some columns → T.eq tag.now a ≡ true → Stands widths T.eq self.old before given p →
+            OnOk result (Stands widths T.eq self.new before given (keep_space c a mode (Some columns) p)) }
+        ensures limits { KeepsLimits self.old self.new }
+    {
+        if self.has_word() {
+            return self.join(c, columns, tag, mode);
+        }
+        let Some(columns) = self.pending().checked_add(columns) else {
+            return Err(OutOfMemory);
+        };
+        self.space = None;
+        if columns > 0 {
+            let tag = tag.clone()?;
+            self.space = Some(Space { columns, tag, mode });
+        }
+        Ok(())
+    }
+
+    /// Whether line, pending space and word pass the width with so many columns more.
+    fn passes(&self, columns: usize) -> bool
+        ensures { (widths : ℕ → Option ℕ) (before given : List (List (Item T))) (p : Progress T) → Stands widths T.eq self.now before given p → result ≡ passes widths self.now.width columns p }
+    {
+        let room = self.width - self.line_width;
+        let pending = self.pending();
+        columns > room
+            || self.word_width > room - columns
+            || pending > room - columns - self.word_width
+    }
+
+    /// Whether a character of so many columns passes the line in `Pre`.
+    fn begins_again(&self, columns: usize, mode: WhiteSpace) -> bool
+        ensures { (widths : ℕ → Option ℕ) (before given : List (List (Item T))) (p : Progress T) → Stands widths T.eq self.now before given p → result ≡ (is_pre mode && passes widths self.now.width columns p) }
+    {
+        match mode {
+            WhiteSpace::Pre => self.passes(columns),
+            WhiteSpace::Normal | WhiteSpace::PreWrap => false,
+        }
+    }
+
+    /// Keeps a character that takes space. In `Pre` the continuation tag begins where a line is passed.
+    fn keep_character(
+        &mut self,
+        c: char,
+        columns: usize,
+        main_tag: &T,
+        wrap_tag: &T,
+        mode: WhiteSpace,
+    ) -> Result<(), OutOfMemory>
+        requires faithful { (x y : T) → T.is_clone x y → T.eq x y ≡ true }
+        ensures kept { (widths : ℕ → Option ℕ) (before given : List (List (Item T))) (p : Progress T) → widths c ≡ Some columns → Stands widths T.eq self.old before given p →
+            OnOk result (Stands widths T.eq self.new before given (keep_character widths self.old.width c main_tag.now wrap_tag.now mode (Some columns) p)) }
+        ensures limits { KeepsLimits self.old self.new }
+    {
+        if self.begins_again(columns, mode) {
+            self.continued = true;
+            self.again = true;
+            return self.join(c, columns, wrap_tag, mode);
+        }
+        if self.again {
+            return self.join(c, columns, wrap_tag, mode);
+        }
+        self.join(c, columns, main_tag, mode)
+    }
+
+    /// Adds a character in a preserving mode, before which no word ends.
+    fn preserve<W: CharWidth>(
+        &mut self,
+        c: char,
+        main_tag: &T,
+        wrap_tag: &T,
+        mode: WhiteSpace,
+    ) -> Result<(), Error>
+        requires faithful { (x y : T) → T.is_clone x y → T.eq x y ≡ true }
+        requires stands { (before : List (List (Item T))) × (given : List (List (Item T))) × (p : Progress T) × Stands W.columns T.eq self.old before given p }
+        ensures preserved { (before given : List (List (Item T))) (p : Progress T) → Stands W.columns T.eq self.old before given p →
+            OnOk result (Stands W.columns T.eq self.new before given (preserve W.columns self.old.width c main_tag.now wrap_tag.now mode p)) }
+        ensures too_narrow { result ≡ Err E.TooNarrow → (before given : List (List (Item T))) (p : Progress T) → Stands W.columns T.eq self.old before given p →
+            (self.old.may_overflow ≡ false) × ¬ (IsNarrow W.columns self.old.width p.word) }
+        ensures limits { KeepsLimits self.old self.new }
+    {
+        if c == ZERO_WIDTH_SPACE {
+            return Ok(());
+        }
+        if c == '\n' {
+            self.flush_word::<W>()?;
+            self.newline()?;
+            return Ok(());
+        }
+        let tag = if self.again { wrap_tag } else { main_tag };
+        if c == '\t' {
+            self.flush_word::<W>()?;
+            self.tab(tag)?;
+            return Ok(());
+        }
+        let Some(columns) = W::width(c) else {
+            return Ok(());
+        };
+        if always_takes_space(c) {
+            self.keep_character(c, columns, main_tag, wrap_tag, mode)?;
+            return Ok(());
+        }
+        self.keep_space(c, columns, tag, mode)?;
+        Ok(())
+    }
+
+    /// Adds a character where white space collapses.
+    fn enter_normal<W: CharWidth>(&mut self, c: char, tag: &T) -> Result<(), Error>
+        requires faithful { (x y : T) → T.is_clone x y → T.eq x y ≡ true }
+        requires stands { (before : List (List (Item T))) × (given : List (List (Item T))) × (p : Progress T) × Stands W.columns T.eq self.old before given p }
+        ensures entered { (before given : List (List (Item T))) (p : Progress T) (a : T) → T.eq tag.now a ≡ true → Stands W.columns T.eq self.old before given p →
+            OnOk result (Stands W.columns T.eq self.new before given (enter_normal W.columns self.old.width c a p)) }
+        ensures too_narrow { result ≡ Err E.TooNarrow → (before given : List (List (Item T))) (p : Progress T) → Stands W.columns T.eq self.old before given p →
+            (self.old.may_overflow ≡ false) × (model.is_break c ≡ true) × (0 < items_width W.columns p.word) × ¬ (IsNarrow W.columns self.old.width p.word) }
+        ensures limits { KeepsLimits self.old self.new }
+    {
+        if is_wordbreak_point(c) {
+            self.break_word::<W>()?;
+            self.collapse(c, tag)?;
+            return Ok(());
+        }
+        if let Some(columns) = W::width(c) {
+            self.join(c, columns, tag, WhiteSpace::Normal)?;
+        }
+        Ok(())
+    }
+
+    /// Adds a character of a run.
+    pub fn add_char<W: CharWidth>(
+        &mut self,
+        c: char,
+        main_tag: &T,
+        wrap_tag: &T,
+        mode: WhiteSpace,
+    ) -> Result<(), Error>
+        requires faithful { (x y : T) → T.is_clone x y → T.eq x y ≡ true }
+        requires stands { (before : List (List (Item T))) × (given : List (List (Item T))) × (p : Progress T) × Stands W.columns T.eq self.old before given p }
+        ensures entered { (before given : List (List (Item T))) (p : Progress T) → Stands W.columns T.eq self.old before given p →
+            OnOk result (Stands W.columns T.eq self.new before given (enter W.columns self.old.width p (character c main_tag.now wrap_tag.now mode))) }
+        ensures too_narrow { result ≡ Err E.TooNarrow → (before given : List (List (Item T))) (p : Progress T) → Stands W.columns T.eq self.old before given p →
+            (self.old.may_overflow ≡ false) × ¬ (IsNarrow W.columns self.old.width p.word) × (mode ≡ Normal → (model.is_break c ≡ true) × (0 < items_width W.columns p.word)) }
+        ensures limits { KeepsLimits self.old self.new }
+    {
+        match mode {
+            WhiteSpace::Normal => {
+                if self.again {
+                    return self.enter_normal::<W>(c, wrap_tag);
+                }
+                self.enter_normal::<W>(c, main_tag)
+            }
+            WhiteSpace::Pre => self.preserve::<W>(c, main_tag, wrap_tag, mode),
+            WhiteSpace::PreWrap => {
+                if is_wordbreak_point(c) {
+                    self.break_word::<W>()?;
+                    return self.preserve::<W>(c, main_tag, wrap_tag, mode);
+                }
+                self.preserve::<W>(c, main_tag, wrap_tag, mode)
+            }
+        }
+    }
+
+    /// Ends the run: lays the last word, ends the line, and drops the pending space.
+    pub fn finish<W: CharWidth>(&mut self) -> Result<(), Error>
+        requires faithful { (x y : T) → T.is_clone x y → T.eq x y ≡ true }
+        requires stands { (before : List (List (Item T))) × (given : List (List (Item T))) × (p : Progress T) × Stands W.columns T.eq self.old before given p }
+        ensures finished { (before given : List (List (Item T))) (p : Progress T) → Stands W.columns T.eq self.old before given p →
+            OnOk result (Finished W.columns T.eq self.old self.new before given (finished W.columns self.old.width p)) }
+        ensures too_narrow { result ≡ Err E.TooNarrow → (before given : List (List (Item T))) (p : Progress T) → Stands W.columns T.eq self.old before given p →
+            (self.old.may_overflow ≡ false) × (has_character p.word ≡ true) × ¬ (IsNarrow W.columns self.old.width p.word) }
+        ensures limits { KeepsLimits self.old self.new }
+    {
+        self.flush_word::<W>()?;
+        self.fresh_line()?;
+        self.flat.holds_characters();
+        let _ = self.flat.first();
+        self.space = None;
+        self.word_mode = WhiteSpace::Normal;
+        self.continued = false;
+        self.again = false;
+        Ok(())
+    }
+}
