@@ -70,5 +70,5 @@ pub rendered : (columns : ℕ → Option ℕ) (eq : Unit {0} → Unit {0} → Bo
 unfolding shown
 rendered columns eq s texts lines bytes live ends all e =
     let only = subst (λ ls. AllZip (ShowsText columns eq s.padding s.width) lines (ls ++ texts)) live.3 all in
-    let best = subst (λ ls. HasBestLines columns eq s.width s.run (ls ++ texts)) live.4 (ends.best live.0) in
+    let best = subst (λ ls. HasBestLines columns eq s.width s.run (ls ++ texts)) live.4 (ends.shown.best live.0 live.5) in
     (best.lines, best.best, e ∙ lines_same columns eq s.padding s.width lines texts best.lines live.1 only best.shown)

@@ -1,5 +1,6 @@
 -- The meaning of a script: that of its commands one after another, up to the first line that is faulty or refuses.
 use Rattle.std.specs.Prelude.{◌≡◌, ℕ, ◌+◌, ◌⊎◌, Option, Result, Err, MatchResult, List, [], ◌∷◌, ◌++◌, flat_map, chars, encode_utf8_all}
+use Rattle.tbr_model.specs.declared.white_space.WhiteSpace.TheVariants.{Normal}
 use Rattle.tbr_model.specs.Run.{Entry, Item, glyph, marker}
 use Rattle.tbr_model.specs.Layout.{Slot, slots_of, line_text, IsBest}
 use Rattle.tbr_lines.specs.State.{text_entries}
@@ -15,7 +16,7 @@ pub data Progress : Type 0 where
 
 -- a run with more text
 abbrev pub run_with : List (Entry (Unit {0})) → List ℕ → List (Entry (Unit {0}))
-run_with run bytes = run ++ text_entries (chars bytes) tt
+run_with run bytes = run ++ text_entries (chars bytes) tt tt Normal
 
 -- ---- one line
 

@@ -1,16 +1,17 @@
 //! A script's calls, one after another.
 ghost use Rattle.std.specs.Prelude.{◌≡◌, ◌≢◌, ◌++◌, ◌∷◌, [], OnOk, IfOk, IfErr, Ok, Err, None, Some, flat_map, string_bytes, encode_utf8_all};
 ghost use Rattle.tbr_lines.specs.Elements.{characters};
-ghost use Rattle.tbr_lines.specs.Wrapped.{WordsFit};
+ghost use Rattle.tbr_lines.specs.Wrapped.{WordsFit, EndedWordsFit};
+ghost use Rattle.tbr_lines.specs.declared.error.Error.TheVariants as E;
 ghost use Rattle.blockrender.specs.Command.{call_of};
 ghost use Rattle.blockrender.specs.Program.{IsLive};
-ghost use Rattle.blockrender.specs.Meaning.{Does, Refuses, LineDoes, LineRefuses, Ends, IsRendered, unbegun};
+ghost use Rattle.blockrender.specs.Meaning.{Does, Refuses, LineDoes, LineRefuses, Ends, IsRendered, run_with, unbegun};
 
 use crate::command::Command;
 use crate::error::RunError;
 use std::alloc::Global;
 use std::marker::Model;
-use tbr_lines::{CharWidth, OutOfMemory, TaggedLine, WhiteSpace, WrappedBlock};
+use tbr_lines::{CharWidth, Error, OutOfMemory, TaggedLine, WhiteSpace, WrappedBlock};
 
 /// What a script has called so far. A contract sees where the script stands. A refusal drops the program.
 #[derive(Drop)]
@@ -67,7 +68,7 @@ impl<W: CharWidth> Program<W> {
                 Ok(Program { block: Some(block) })
             }
             (Command::Text(text), Some(mut block)) => {
-                block.add_text(text.as_str(), WhiteSpace::Normal, &(), &())?;
+                add_text(&mut block, text.as_str())?;
                 Ok(Program { block: Some(block) })
             }
             _ => Err(RunError::NotACommand(number)),
@@ -87,6 +88,19 @@ impl<W: CharWidth> Program<W> {
             None => Err(RunError::NotACommand(number)),
         }
     }
+}
+
+/// Adds a text to the run of a block that hasn't ended one yet.
+fn add_text<W: CharWidth>(block: &mut WrappedBlock<(), W>, text: &str) -> Result<(), Error>
+    requires live { IsLive (Some block.old) }
+    ensures live { OnOk result (IsLive (Some block.new)) }
+    ensures width { OnOk result (block.new.width ≡ block.old.width) }
+    ensures run { OnOk result (block.new.run ≡ run_with block.old.run text.now) }
+    ensures fit { OnOk result (EndedWordsFit W.columns block.old.width (run_with block.old.run text.now)) }
+    ensures refused { IfErr result (λ e. e ≢ E.OutOfMemory →
+        (EndedWordsFit W.columns block.old.width (run_with block.old.run text.now) → ⊥) × (e ≡ E.TooNarrow)) }
+{
+    block.add_text(text, WhiteSpace::Normal, &(), &())
 }
 
 /// The lines of a block that hasn't ended a run yet.
