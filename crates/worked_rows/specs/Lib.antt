@@ -1,1 +1,2 @@
 pub mod EveryOne
+pub mod NoEmSpace

@@ -106,3 +106,37 @@ fn a_word_of_many_letters_is_cut_into_full_lines(rt: HostRuntime) -> Result<(), 
     assert_eq!(rt; shown(alloc, lines.pop())?.as_str(), "xxxxx");
     Ok(())
 }
+
+#[test]
+fn a_block_tells_what_it_holds(rt: HostRuntime) -> Result<(), Fail> {
+    let alloc = rt.alloc();
+    let mut block: WrappedBlock<Voice> = WrappedBlock::new(alloc, 5, false, false, Voice::First);
+    assert!(rt; block.is_empty() && block.at_line_start() && block.is_blank());
+    block.add_text("\u{336}", WhiteSpace::Normal, &Voice::First, &Voice::First)?;
+    assert!(rt;
+        block.is_empty() && block.at_line_start(),
+        "a stroke takes no column"
+    );
+    assert!(rt; !block.is_blank(), "but it is a character");
+    block.add_text("ab", WhiteSpace::Normal, &Voice::First, &Voice::First)?;
+    assert!(rt; !block.is_empty() && !block.at_line_start() && !block.is_blank());
+    block.flush()?;
+    assert!(rt; block.at_line_start());
+    assert!(rt; !block.is_empty() && !block.is_blank(), "a line has ended");
+    let _ = block.next_line()?;
+    assert!(rt;
+        !block.is_empty() && !block.is_blank(),
+        "also where it is handed out"
+    );
+    Ok(())
+}
+
+#[test]
+fn a_newline_begins_a_line(rt: HostRuntime) -> Result<(), Fail> {
+    let alloc = rt.alloc();
+    let mut block: WrappedBlock<Voice> = WrappedBlock::new(alloc, 5, false, false, Voice::First);
+    block.add_text("a\n", WhiteSpace::Pre, &Voice::First, &Voice::First)?;
+    assert!(rt; block.at_line_start());
+    assert!(rt; !block.is_empty() && !block.is_blank(), "a line has ended");
+    Ok(())
+}

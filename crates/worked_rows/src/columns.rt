@@ -1,4 +1,4 @@
-//! A second width instance, whose widths need no table.
+//! Width instances of the tests' own, whose widths need no table.
 ghost use Rattle.std.specs.Prelude.{◌≡◌};
 ghost use Rattle.worked_rows.specs.EveryOne.{every_one, every_one_at_most_two, every_one_drawn};
 
@@ -21,5 +21,31 @@ impl CharWidth for EveryOne {
 
     fn width(c: char) -> Option<usize> {
         if c == '\u{336}' { Some(0) } else { Some(1) }
+    }
+}
+
+/// As [`EveryOne`], but the em space U+2003 takes no column either.
+#[derive(Clone, Copy)]
+pub struct NoEmSpace;
+
+impl CharWidth for NoEmSpace {
+    ghost use Rattle.worked_rows.specs.NoEmSpace.{no_em_space, no_em_space_at_most_two, no_em_space_drawn};
+
+    ghost columns = { no_em_space };
+
+    ghost at_most_two = { no_em_space_at_most_two };
+
+    ghost drawn_in_one = { no_em_space_drawn };
+
+    ghost use Rattle.std.specs.Prelude.{refl};
+
+    ghost stroke_takes_none = { refl };
+
+    fn width(c: char) -> Option<usize> {
+        if c == '\u{2003}' {
+            Some(0)
+        } else {
+            EveryOne::width(c)
+        }
     }
 }

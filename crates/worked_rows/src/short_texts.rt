@@ -31,6 +31,7 @@ fn entries(alloc: Global, text: &str) -> Result<Vec<Entry<u8>>, AllocError> {
         run.push(Entry::Character {
             c,
             tag: 7,
+            wrap_tag: 7,
             mode: WhiteSpace::Normal,
         })?;
     }

@@ -37,7 +37,8 @@ pub fn wrapped_by<W: CharWidth + Drop>(
     Ok(all)
 }
 
-fn append_line<T>(all: &mut String, line: &TaggedLine<T>) -> Result<(), OutOfMemory> {
+/// Appends a line's text and a newline.
+pub fn append_line<T>(all: &mut String, line: &TaggedLine<T>) -> Result<(), OutOfMemory> {
     let text = line.to_text()?;
     all.push_str(text.as_str())?;
     all.push('\n')?;
