@@ -1,0 +1,68 @@
+//! Wraps the text on standard input, so that its cost can be measured. The first line is `tags` or `pre`, what follows is the text:
+//! under a tag for each character in turn, or preformatted under one tag. Prints how many lines there are and how many bytes they hold.
+#![tactic(auto)]
+
+use std::io;
+use std::process::ExitCode;
+use tbr_lines::{Error, WhiteSpace, WrappedBlock};
+
+const WIDTH: usize = 72;
+
+/// How a text is added.
+#[derive(Clone, Copy)]
+enum Kind {
+    /// Each character by itself, under the tags 1 and 2 in turn.
+    Tags,
+    /// At once, preformatted under the tag 1, and 2 where a line goes on.
+    Pre,
+}
+
+impl Kind {
+    fn parse(word: &str) -> Option<Kind> {
+        match word {
+            "tags" => Some(Kind::Tags),
+            "pre" => Some(Kind::Pre),
+            _ => None,
+        }
+    }
+
+    fn add(self, block: &mut WrappedBlock<u8>, text: &str) -> Result<(), Error> {
+        match self {
+            Kind::Tags => add_under_tags_in_turn(block, text),
+            Kind::Pre => block.add_text(text, WhiteSpace::Pre, &1, &2),
+        }
+    }
+}
+
+fn add_under_tags_in_turn(block: &mut WrappedBlock<u8>, text: &str) -> Result<(), Error> {
+    let mut tag = 1;
+    for c in text.chars() {
+        let mut buffer = [0; 4];
+        block.add_text(c.encode_utf8(&mut buffer), WhiteSpace::Normal, &tag, &tag)?;
+        tag = if tag == 1 { 2 } else { 1 };
+    }
+    Ok(())
+}
+
+fn run(rt: &HostRuntime) -> Option<()> {
+    let input = io::read_to_string(rt.alloc(), rt.reader()).ok()?;
+    let (word, text) = input.as_str().split_once('\n')?;
+    let kind = Kind::parse(word)?;
+    let mut block = WrappedBlock::new(rt.alloc(), WIDTH, false, false, 1);
+    kind.add(&mut block, text).ok()?;
+    let lines = block.into_lines().ok()?;
+    let mut bytes = 0usize;
+    for line in &lines {
+        for piece in line.tagged_strings() {
+            bytes = bytes.checked_add(piece.s.len())?;
+        }
+    }
+    println!(rt; "{} {bytes}", lines.len()).ok()
+}
+
+fn main(rt: HostRuntime) -> ExitCode {
+    match run(&rt) {
+        Some(()) => ExitCode::SUCCESS,
+        None => ExitCode::FAILURE,
+    }
+}
