@@ -23,6 +23,9 @@ pub mod Apart
 pub mod HardLines
 pub mod Shown
 pub mod Visible
+pub mod Markers
+pub mod TakenOut
+pub mod Trailing
 pub mod NarrowWords
 pub mod PreTexts
 pub mod PreKept

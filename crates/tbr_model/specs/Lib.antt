@@ -11,4 +11,5 @@ pub mod Greedy
 pub mod TestWidth
 pub mod Laid
 pub mod Rule
+pub mod Markers
 pub mod Hard

@@ -237,6 +237,10 @@ progress columns width es = fold (step columns width) at_start es
 abbrev pub finished : {A : Type 0} → (ℕ → Option ℕ) → ℕ → Progress A → Laid A
 finished columns width p = fresh (flush_word columns width p).laid
 
+-- The markers that wait where a run ends: those of an open line without a character, then those of a word without one.
+abbrev pub waiting : {A : Type 0} → (ℕ → Option ℕ) → ℕ → Progress A → List (Item A)
+waiting columns width p = let q = flush_word columns width p in (fresh q.laid).line ++ q.word
+
 -- the lines of a run
 abbrev pub lines_of : {A : Type 0} → (ℕ → Option ℕ) → ℕ → List (Event A) → List (List (Item A))
 lines_of columns width es = (finished columns width (progress columns width es)).done
