@@ -1,27 +1,33 @@
 -- What a block keeps of its runs.
 use Rattle.std.proofs.Common.{◌≡◌, ℕ, suc, ◌+◌, ◌-◌, ◌<◌, inl, inr, Bool, true, false, Option, None, Some, List, [], ◌∷◌, ◌++◌, map, length, take, drop, refl, ap, sym, ◌∙◌, subst, arith, append_assoc, append-nil, length-append, lt-ltb}
 use Rattle.std.proofs.lemmas.List.{take_at, drop_at, length-map}
+use Rattle.std.proofs.lemmas.List.Elements.{length_all_zip}
 use Rattle.std.proofs.lemmas.List.Sums.{fold-append}
 use Rattle.std.proofs.lemmas.Bool.{le-ltb}
 use Rattle.std.specs.List.{AllZip, AllByRecursion as Each}
 use Rattle.std.specs.Prelude.{MatchOption, nat_lt, ◌||◌}
 use Rattle.std.specs.Cmp.{IsEquivalence}
-use Rattle.tbr_model.specs.Run.{Item, items_width, Entry, is_break_entry}
+use Rattle.tbr_model.specs.Run.{Item, marker, items_width, Entry, fragment, is_break_entry, has_character, reading, trailing}
+use Rattle.tbr_model.specs.Markers.{marker_names, fragment_names, fragments, markers, last, without_last_markers}
+use Rattle.tbr_model.proofs.Markers.{markers_run, markers_at_end, waiting_none, markers_of_none, fragments_lead, run_of_fragments}
+use Rattle.tbr_model.proofs.TakenOut.{taken_out}
 use Rattle.tbr_model.specs.Layout.{joined, line_text}
 use Rattle.tbr_model.specs.Greedy.{IsNarrow}
 use Rattle.tbr_model.proofs.NormalEnd.{NormalBlank}
 use Rattle.tbr_model.specs.Laid.{Laid}
-use Rattle.tbr_model.specs.Rule.{Event, call, entry, run_of, Progress, at_start, step, progress, finished, lines_of}
+use Rattle.tbr_model.specs.Rule.{Event, call, entry, run_of, Progress, at_start, step, progress, waiting, lines_of}
 use Rattle.tbr_lines.specs.declared.wrap.open.Open.{Open}
-use Rattle.tbr_lines.specs.Elements.{Element, items_of, text_items, SameItems, IsMerged}
+use Rattle.tbr_lines.specs.Elements.{Element, items_of, text_items, SameItem, SameItems, IsMerged}
 use Rattle.tbr_lines.specs.Padding.{spaces}
 use Rattle.tbr_lines.specs.Wrapped.{FitsBlock, taking_columns, IsTextOf, EndedWordsFit, WordsFit, ShowsText, ended_lines, padding_of}
-use Rattle.tbr_lines.specs.State.{State, IsNormal, IsShownBy, parted, is_some_list}
+use Rattle.tbr_lines.specs.State.{State, IsNormal, IsShownBy, noted, entries_of, parted, is_some_list}
+use Rattle.tbr_lines.specs.declared.wrap.note.Note.{Note}
+use Rattle.tbr_lines.proofs.Told.{same_marker_names, same_joined}
 use Rattle.tbr_lines.specs.declared.error.Error.{Error}
 use Rattle.tbr_lines.specs.Open.{Shows, Holds, Stands, Tracks, Finished, Leaves, KeepsSettings, KeepsLimits}
 use Rattle.tbr_lines.specs.Block.{earlier_texts, Keeps}
-use Rattle.tbr_lines.proofs.Same.{same_items_append, same_items_trans, same_from_path, same_width, same_width_one, all_zip_append}
-use Rattle.tbr_lines.proofs.Ending.{shown_run, texts_of_lines, ended_words_fit_normal, ended_lines_normal, blank_normal, too_narrow_normal, too_narrow_end}
+use Rattle.tbr_lines.proofs.Same.{same_items_append, same_items_trans, same_from_path, same_has, same_width, same_width_one, all_zip_append}
+use Rattle.tbr_lines.proofs.Ending.{shown_run, texts_of_lines, ended_words_fit_normal, ended_lines_normal, blank_normal, word_normal, waits_normal, too_narrow_normal, too_narrow_end}
 
 parted-joined : {X : Type 0} (ls : List (List X)) (more : List X) → parted (map length ls) (joined ls ++ more) ≡ ls
 parted-joined [] more = refl
@@ -71,6 +77,52 @@ pub tracks_call : {A : Type 0} (columns : ℕ → Option ℕ) (eq : A → A → 
     Stands columns eq c before given (step columns b.width (progress columns b.width t.events) call) → Tracks columns eq c before given run
 tracks_call {A} columns eq b c before given run t same s = subst (λ (rs : List (Entry A)). Tracks columns eq c before given rs) (append-nil run) (tracks_event columns eq b c before given run call t same s)
 
+-- ---- markers
+
+-- the last ones of a list
+pub last_back : {X : Type 0} (xs ys : List X) (n : ℕ) → n ≡ length ys → last n (xs ++ ys) ≡ ys
+last_back xs ys n e = drop_at xs ys (length (xs ++ ys) - n) (omega (arith, length-append xs ys, e))
+
+pub last_none : {X : Type 0} (xs : List X) → last 0 xs ≡ []
+last_none xs = ap (last 0) (sym (append-nil xs)) ∙ last_back xs [] 0 refl
+
+-- what is noted comes behind what was
+pub entries_more : {A : Type 0} (notes : List (Note × A × A)) (note : Note) (a b : A) → entries_of (notes ++ (note, a, b) ∷ []) ≡ noted (entries_of notes) (note, a, b)
+entries_more notes note a b = fold-append noted [] notes ((note, a, b) ∷ [])
+
+-- the word's markers are taken out of the run
+module _ {A : Type 0} (columns : ℕ → Option ℕ) (eq : A → A → Bool) (b c : Open A) (before given : List (List (Item A))) (run : List (Entry A)) (t : Tracks columns eq b before given run) (none : has_character b.flat.word ≡ false) where
+  abbrev p : Progress A
+  p = progress columns b.width t.events
+
+  rule_none : has_character p.word ≡ false
+  rule_none = sym (same_has eq b.flat.word p.word t.stands.word) ∙ none
+
+  abbrev pub word_names : List (List ℕ)
+  word_names = marker_names b.flat.word
+
+  names_same : word_names ≡ marker_names p.word
+  names_same = same_marker_names eq b.flat.word p.word t.stands.word
+
+  word_count : length word_names ≡ length p.word
+  word_count = ap length names_same ∙ sym (length-map (marker_names p.word) marker) ∙ sym (ap length (markers_of_none p.word rule_none))
+
+  pub tracks_taken : (n : ℕ) → n ≡ length word_names → c.width ≡ b.width → Stands columns eq c before given (record p { word = [] }) → Tracks columns eq c before given (without_last_markers n run)
+  tracks_taken n count width s =
+      let (fs, are, lead) = taken_out columns b.width t.events [] p.word refl rule_none in
+      record {
+        events = fs;
+        run_is = are ∙ ap (λ m. without_last_markers m (run_of t.events)) (sym (count ∙ word_count)) ∙ ap (without_last_markers n) t.run_is;
+        stands = subst (λ (w : ℕ). Stands columns eq c before given (progress columns w fs)) (sym width) (subst (λ (q : Progress A). Stands columns eq c before given q) (sym lead) s);
+      }
+
+  pub last_taken : (n : ℕ) → n ≡ length word_names → last n (fragment_names run) ≡ word_names
+  last_taken n count =
+      let line : List (List ℕ) = marker_names p.laid.line in
+      let done : List (List ℕ) = marker_names (joined p.laid.done) in
+      ap (λ es. last n (fragment_names es)) (sym t.run_is) ∙ ap (last n) (sym (markers_run columns b.width t.events) ∙ sym (append_assoc done line (marker_names p.word)) ∙ ap (λ ns. (done ++ line) ++ ns) (sym names_same))
+      ∙ last_back (done ++ line) word_names n count
+
 -- ---- the end of a run
 
 same_taking : {A : Type 0} (columns : ℕ → Option ℕ) (eq : A → A → Bool) (is js : List (Item A)) → SameItems eq is js → taking_columns columns is ≡ taking_columns columns js
@@ -112,7 +164,7 @@ some_list [] (y ∷ ys) n m e = sym (lt-ltb n m (omega (arith, e)))
 some_list (x ∷ xs) ys n m e = refl
 
 module _ {A : Type 0} (columns : ℕ → Option ℕ) (eq : A → A → Bool) (n : ℕ) (b c : Open A) (handing : Bool) (handed : List (List (Item A))) (run : List (Entry A)) (k : Keeps columns eq n b handing handed run)
-    (e : Finished columns eq b c (earlier_texts n b) k.given (finished columns b.width (progress columns b.width k.tracks.events))) where
+    (e : Finished columns eq b c (earlier_texts n b) k.given (progress columns b.width k.tracks.events)) where
   pub ends_run : IsEquivalence eq → columns 32 ≡ Some 1 → 0 < b.width →
       IsShownBy columns eq b.width b.may_overflow run (handed ++ e.now) × Each (FitsBlock columns b.width b.may_overflow) (handed ++ e.now)
   ends_run laws one_space wide =
@@ -133,18 +185,51 @@ module _ {A : Type 0} (columns : ℕ → Option ℕ) (eq : A → A → Bool) (n 
       let before = earlier_texts n b in
       ap length e.stands.lays.holds.lens ∙ length-map ((before ++ e.now) ++ e.stands.lays.laid.done) length ∙ ap (λ ls. length ((before ++ e.now) ++ ls)) nothing_held ∙ ap length (append-nil (before ++ e.now)) ∙ length-append before e.now ∙ ap (λ m. m + length e.now) k.count
 
-  pub after_end : (m : ℕ) → m ≡ length c.lines.items → (earlier_texts m c ≡ earlier_texts n b ++ e.now) × Keeps columns eq m c false [] []
+  -- the markers that stand on no line
+  abbrev left : List (Item A)
+  left = waiting columns b.width (progress columns b.width k.tracks.events)
+
+  abbrev pub left_names : List (List ℕ)
+  left_names = marker_names left
+
+  left_is : left ≡ markers left_names
+  left_is = markers_of_none left (waiting_none columns b.width (progress columns b.width k.tracks.events))
+
+  pub marks_kept : IsEquivalence eq → marker_names (joined (handed ++ e.now)) ++ left_names ≡ fragment_names run
+  marks_kept laws =
+      let both : AllZip (SameItems eq) (handed ++ e.now) (k.given ++ e.rest) = all_zip_append (SameItems eq) handed e.now k.given e.rest k.shown e.same in
+      let lines : AllZip (SameItems eq) (handed ++ e.now) (lines_of columns b.width k.tracks.events) = subst (λ (ls : List (List (Item A))). AllZip (SameItems eq) (handed ++ e.now) ls) (sym e.split) both in
+      ap (λ ns. ns ++ left_names) (same_marker_names eq _ _ (same_joined eq laws (handed ++ e.now) (lines_of columns b.width k.tracks.events) lines))
+      ∙ markers_at_end columns b.width k.tracks.events ∙ ap fragment_names k.tracks.run_is
+
+  pub trailing_waits : b.may_overflow ≡ false → IsNormal run → markers left_names ≡ trailing columns run
+  trailing_waits never normal =
+      sym left_is ∙ waits_normal columns b.width k.tracks.events (subst (λ (o : Bool). Each (FitsBlock columns b.width o) (lines_of columns b.width k.tracks.events)) never e.fits) run k.tracks.run_is normal
+
+  pub word_left : has_character c.flat.word ≡ false
+  word_left = same_has eq c.flat.word left e.stands.word ∙ waiting_none columns b.width (progress columns b.width k.tracks.events)
+
+  left_count : length c.flat.word ≡ length left_names
+  left_count = length_all_zip (SameItem eq) c.flat.word left e.stands.word ∙ ap length left_is ∙ length-map left_names marker
+
+  pub run_left : IsEquivalence eq → (m : ℕ) → m ≡ length c.flat.word → fragments {A = A} (last m (fragment_names run)) ≡ fragments left_names
+  run_left laws m count = ap fragments (ap (last m) (sym (marks_kept laws)) ∙ last_back (marker_names (joined (handed ++ e.now))) left_names m (count ∙ left_count))
+
+  pub after_end : (m : ℕ) → m ≡ length c.lines.items → (earlier_texts m c ≡ earlier_texts n b ++ e.now) × Keeps columns eq m c false [] (fragments left_names)
   after_end m count =
       let before = earlier_texts n b in
       let many : length (before ++ e.now) ≡ m = length-append before e.now ∙ ap (λ i. i + length e.now) k.count ∙ sym ended_count ∙ sym count in
-      let same : earlier_texts m c ≡ before ++ e.now = earlier_is c (before ++ e.now) e.stands.lays.laid m e.stands.lays.holds many in (
+      let same : earlier_texts m c ≡ before ++ e.now = earlier_is c (before ++ e.now) e.stands.lays.laid m e.stands.lays.holds many in
+      let begin : ◌≡◌ {A = Progress A} (record at_start { word = left }) (progress columns c.width (map (λ n. entry (fragment n)) left_names)) =
+      ap (λ (is : List (Item A)). record at_start { word = is }) left_is ∙ sym (fragments_lead columns c.width left_names) in (
         same,
         record {
           count = ap length same ∙ many;
           given = [];
           shown = tt;
           noted = refl;
-          tracks = subst (λ (ls : List (List (Item A))). Tracks columns eq c ls [] []) (sym same) (record { events = []; run_is = refl; stands = e.stands });
+          tracks = subst (λ (ls : List (List (Item A))). Tracks columns eq c ls [] (fragments left_names)) (sym same)
+              (record { events = map (λ n. entry (fragment n)) left_names; run_is = run_of_fragments left_names; stands = subst (λ (p : Progress A). Stands columns eq c (before ++ e.now) [] p) begin e.stands });
         },
       )
 
@@ -163,6 +248,23 @@ module _ {A : Type 0} (columns : ℕ → Option ℕ) (eq : A → A → Bool) (b 
 
   pub ended_so_far : (progress columns b.width t.events).laid.done ≡ map line_text (ended_lines columns b.width run)
   ended_so_far = ended_lines_normal columns b.width t.events run t.run_is normal fits_lines t.stands.lays.measured.small t.stands.lays.measured.line
+
+  pub word_so_far : (progress columns b.width t.events).word ≡ (reading columns run).items
+  word_so_far = word_normal columns b.width t.events run t.run_is normal fits_lines t.stands.lays.measured.small t.stands.lays.measured.line
+
+  -- the markers that trail are those of a word without a character
+  pub trailing_so_far : has_character b.flat.word ≡ false → marker_names (trailing columns run) ≡ marker_names b.flat.word
+  trailing_so_far none =
+      let items : SameItems eq b.flat.word (reading columns run).items = subst (SameItems eq b.flat.word) word_so_far t.stands.word in
+      let test : has_character (reading columns run).items ≡ false = sym (same_has eq b.flat.word (reading columns run).items items) ∙ none in
+      rw test (sym (same_marker_names eq b.flat.word (reading columns run).items items))
+
+  -- and none where it has one
+  pub no_trailing : has_character b.flat.word ≡ true → trailing columns run ≡ []
+  no_trailing some =
+      let items : SameItems eq b.flat.word (reading columns run).items = subst (SameItems eq b.flat.word) word_so_far t.stands.word in
+      let test : has_character (reading columns run).items ≡ true = sym (same_has eq b.flat.word (reading columns run).items items) ∙ some in
+      rw test refl
 
   pub blank_so_far : NormalBlank columns (progress columns b.width t.events) run
   blank_so_far = blank_normal columns b.width t.events run t.run_is normal fits_lines t.stands.lays.measured.small t.stands.lays.measured.line

@@ -7,11 +7,11 @@ use Rattle.std.proofs.lemmas.Bool.{cond_both}
 use Rattle.std.proofs.lemmas.List.Sums.{fold-append}
 use Rattle.tbr_model.specs.declared.white_space.WhiteSpace.{WhiteSpace}
 use Rattle.tbr_model.specs.declared.white_space.WhiteSpace.TheVariants.{Normal, Pre, PreWrap}
-use Rattle.tbr_model.specs.Run.{Entry, character, fragment, Item, glyph, marker, items_width, has_character, is_break_entry, blank_of, Word, word_of, Reading, start, works, read, reading}
+use Rattle.tbr_model.specs.Run.{Entry, character, fragment, Item, glyph, marker, items_width, has_character, is_break_entry, blank_of, trailing, Word, word_of, Reading, start, works, read, reading}
 use Rattle.tbr_model.specs.Layout.{Slot, line_text, joined}
 use Rattle.tbr_model.specs.Greedy.{IsNarrow, wrapped}
 use Rattle.tbr_model.specs.Laid.{Laid, fresh}
-use Rattle.tbr_model.specs.Rule.{Event, run_of, progress, finished, flush_word, lines_of}
+use Rattle.tbr_model.specs.Rule.{Event, run_of, progress, finished, flush_word, waiting, lines_of}
 use Rattle.tbr_model.specs.Hard.{HasMode, Preserves, IsNarrowEntry, glyphs_of, is_visible, visible_glyphs, visible_entries, IsShown, ShowsHardLine, ShowsPre, ShowsPreWrap, ShowsTabs, Parted, hard_lines}
 use Rattle.tbr_model.proofs.Ahead.{each_append, each_front, each_back}
 use Rattle.tbr_model.proofs.Runs.{narrow_markers}
@@ -25,6 +25,7 @@ use Rattle.tbr_model.proofs.NarrowWords.{word_from_run}
 use Rattle.tbr_model.proofs.NormalTexts.{text_has}
 use Rattle.tbr_model.proofs.NormalKept.{AllLaid, IsNarrowItem}
 use Rattle.tbr_model.proofs.NormalRule.{NormalStands, normal_stands}
+use Rattle.tbr_model.proofs.Trailing.{normal_waiting}
 use Rattle.tbr_model.proofs.NormalEnd.{NormalBlank, normal_lines, normal_blank}
 use Rattle.tbr_lines.specs.Elements.{SameItems}
 use Rattle.tbr_lines.specs.Wrapped.{IsTextOf, HasBestLines, FitsBlock, EndedWordsFit, WordsFit, ended_lines}
@@ -77,6 +78,10 @@ module _ {A : Type 0} (columns : ℕ → Option ℕ) (width : ℕ) where
 
     words_fit : IsNormal (run_of es) → WordsFit columns width (run_of es)
     words_fit normal = (normal_lines columns width es normal narrow_end).0
+
+    pub waits_normal : (run : List (Entry A)) → run_of es ≡ run → IsNormal run → waiting columns width (progress columns width es) ≡ trailing columns run
+    waits_normal run is normal =
+        subst (λ (rs : List (Entry A)). IsNormal rs → waiting columns width (progress columns width es) ≡ trailing columns rs) is (λ modes. normal_waiting columns width es modes narrow_end) normal
 
     best_texts : (eq : A → A → Bool) (texts : List (List (Item A))) → AllZip (SameItems eq) texts (lines_of columns width es) → IsNormal (run_of es) → HasBestLines columns eq width (run_of es) texts
     best_texts eq texts same normal =
@@ -209,6 +214,10 @@ module _ {A : Type 0} (columns : ℕ → Option ℕ) (width : ℕ) where
 
     pub ended_words_fit_normal : EndedWordsFit columns width run
     ended_words_fit_normal = stands.0
+
+    -- the word under way
+    pub word_normal : (progress columns width es).word ≡ (reading columns run).items
+    word_normal = stands.1.word
 
     -- the lines that the run has ended
     pub ended_lines_normal : (progress columns width es).laid.done ≡ map line_text (ended_lines columns width run)

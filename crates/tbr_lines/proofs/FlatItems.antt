@@ -1,15 +1,15 @@
 -- Characters beside their tags.
-use Rattle.std.proofs.Common.{◌≡◌, ℕ, suc, zero, ◌+◌, ◌-◌, ◌<◌, ◌≤◌, Bool, true, Option, None, Some, List, [], ◌∷◌, ◌++◌, map, length, take, drop, replicate, refl, ap, sym, ◌∙◌, subst, arith, append_assoc}
+use Rattle.std.proofs.Common.{◌≡◌, ℕ, suc, zero, ◌+◌, ◌-◌, ◌<◌, ◌≤◌, Bool, true, Option, None, Some, List, [], ◌∷◌, ◌++◌, length, take, drop, replicate, refl, ap, sym, ◌∙◌, subst, arith, append_assoc}
 use Rattle.std.specs.Option.{MatchOption}
 use Rattle.std.specs.List.{AllZip}
 use Rattle.std.proofs.Math.Seq.{drop-append_seam}
 use Rattle.std.proofs.lemmas.List.{take-append-drop, length-append, length-take, length-drop, length-replicate, drop-append-le}
 use Rattle.tbr_model.specs.Run.{Item, glyph}
 use Rattle.tbr_model.specs.Rule.{spaces}
-use Rattle.tbr_lines.specs.Elements.{Element, SameItems, items_of, push_text}
+use Rattle.tbr_lines.specs.Elements.{SameItems, text_items}
 use Rattle.tbr_lines.specs.Flat.{Flat, Letters, flat, glyphs}
 use Rattle.tbr_lines.proofs.FlatText.{next_split}
-use Rattle.tbr_lines.proofs.Same.{same_items, same_items_trans, same_items_append, items_push}
+use Rattle.tbr_lines.proofs.Same.{same_items, same_items_trans, same_items_append}
 use Rattle.std.specs.Cmp.{IsEquivalence}
 use Rattle.std.proofs.Math.Seq.{take-add}
 
@@ -104,8 +104,8 @@ flat_take l ts n h =
 
 module _ {A : Type 0} (eq : A → A → Bool) where
   -- what is taken under one tag
-  pub taken_same : (n : ℕ) (cs : List ℕ) (ts : List A) (a b : A) → take n ts ≡ replicate n a → eq b a ≡ true → n ≤ length cs →
-      SameItems eq (map (λ c. glyph c b) (take n cs)) (take n (glyphs cs ts))
+  taken_same : (n : ℕ) (cs : List ℕ) (ts : List A) (a b : A) → take n ts ≡ replicate n a → eq b a ≡ true → n ≤ length cs →
+      SameItems eq (text_items (take n cs) b) (take n (glyphs cs ts))
   taken_same zero cs ts a b e h k = tt
   taken_same (suc n) [] ts a b e h k = tt
   taken_same (suc n) (c ∷ cs) [] a b e h k = let no : [] ≡ a ∷ replicate n a = e in absurd (cc)
@@ -113,6 +113,14 @@ module _ {A : Type 0} (eq : A → A → Bool) where
       let p : t ≡ a = cc in
       let q : take n ts ≡ replicate n a = cc in
       ((refl, ap (λ x. eq b x) p ∙ h), taken_same n cs ts a b q h (omega arith))
+
+  -- a piece that is handed out
+  pub piece_items : (ds cs : List ℕ) (ts : List A) (n : ℕ) (a b : A) → ds ≡ take n cs → take n ts ≡ replicate n a → eq b a ≡ true → n ≤ length cs →
+      (length ds ≡ n) × SameItems eq (text_items ds b) (take n (glyphs cs ts))
+  piece_items ds cs ts n a b e t h k = (
+    omega (arith, ap length e, length-take n cs),
+    subst (λ (xs : List ℕ). SameItems eq (text_items xs b) (take n (glyphs cs ts))) (sym e) (taken_same n cs ts a b t h k),
+  )
 
   same_glyphs : (cs : List ℕ) (ts us : List A) → AllZip (λ x y. eq x y ≡ true) ts us → SameItems eq (glyphs cs ts) (glyphs cs us)
   same_glyphs [] ts us h = tt
@@ -160,15 +168,6 @@ pub taken_rest : {A : Type 0} (l m : Letters) (ts us : List A) (n : ℕ) → n �
 taken_rest l m ts us n k e f = ap (λ x. flat x us) e ∙ ap (λ vs. flat (record l { placed = drop n l.placed }) vs) f ∙ flat_take l ts n k
 
 module _ {A : Type 0} (eq : A → A → Bool) (laws : IsEquivalence eq) where
-  -- a piece that is handed to a line
-  pub piece_items : (es new : List (Element A)) (ds cs : List ℕ) (ts : List A) (n : ℕ) (a b : A) → new ≡ push_text eq es ds b → ds ≡ take n cs → take n ts ≡ replicate n a → eq b a ≡ true → n ≤ length cs →
-      SameItems eq (items_of new) (items_of es ++ take n (glyphs cs ts))
-  piece_items es new ds cs ts n a b e d h k l =
-      let f : new ≡ push_text eq es (take n cs) b = e ∙ ap (λ xs. push_text eq es xs b) d in
-      same_items_trans eq laws (items_of new) (items_of es ++ map (λ c. glyph c b) (take n cs)) (items_of es ++ take n (glyphs cs ts))
-      (subst (λ (x : List (Element A)). SameItems eq (items_of x) (items_of es ++ map (λ c. glyph c b) (take n cs))) (sym f) (items_push eq laws es (take n cs) b))
-      (same_items_append eq laws (items_of es) (items_of es) (map (λ c. glyph c b) (take n cs)) (take n (glyphs cs ts)) (same_items eq laws (items_of es)) (taken_same eq n cs ts a b h k l))
-
   -- the line has the items that are handed out
   pub line_turn : (is js ps qs : List (Item A)) (m n k : ℕ) → k ≡ m + n → qs ≡ drop m ps → SameItems eq is (take m ps) → SameItems eq js (is ++ take n qs) → SameItems eq js (take k ps)
   line_turn is js ps qs m n k e q h j =

@@ -1,5 +1,5 @@
 -- Characters beside their tags: what they take, and what is left without the spaces and the white space where words part.
-use Rattle.std.proofs.Common.{◌≡◌, ℕ, suc, zero, ◌+◌, ◌-◌, ◌<◌, ◌≤◌, if◌then◌else◌, Bool, true, false, Option, List, [], ◌∷◌, ◌++◌, length, take, drop, replicate, refl, ap, sym, ◌∙◌, arith, append_assoc}
+use Rattle.std.proofs.Common.{◌≡◌, ℕ, suc, zero, ◌+◌, ◌-◌, ◌<◌, ◌≤◌, min, if◌then◌else◌, Bool, true, false, Option, List, [], ◌∷◌, ◌++◌, length, take, drop, replicate, refl, ap, sym, ◌∙◌, arith, append_assoc}
 use Rattle.std.specs.List.{AllByRecursion as Each}
 use Rattle.std.specs.Char.{is_whitespace}
 use Rattle.std.proofs.Math.Seq.{drop-append_seam}
@@ -7,7 +7,7 @@ use Rattle.std.proofs.lemmas.Bool.{ne_eqb}
 use Rattle.std.proofs.lemmas.List.{take-append-drop, length-append, length-take, length-drop, length-replicate, drop-append-le}
 use Rattle.tbr_model.specs.Run.{Item, glyph, items_width}
 use Rattle.tbr_model.specs.Entry.{is_glyph}
-use Rattle.tbr_model.specs.Rule.{without_leading, without_trailing, is_space_item}
+use Rattle.tbr_model.specs.Rule.{without_leading, without_trailing, is_space_item, is_white_item}
 use Rattle.tbr_model.specs.Width.{text_columns}
 use Rattle.tbr_lines.specs.Flat.{Letters, flat, glyphs}
 use Rattle.tbr_lines.proofs.FlatItems.{drop_twice, glyphs-drop, length-glyphs}
@@ -33,11 +33,11 @@ module _ {A : Type 0} where
 
 module _ {A : Type 0} where
   -- in front of nothing
-  trailing_none : (i : Item A) (is : List (Item A)) (b : Bool) → without_trailing is ≡ [] → is_space_item i ≡ b → without_trailing (i ∷ is) ≡ (if b then [] else i ∷ [])
+  pub trailing_none : (i : Item A) (is : List (Item A)) (b : Bool) → without_trailing is ≡ [] → is_space_item i ≡ b → without_trailing (i ∷ is) ≡ (if b then [] else i ∷ [])
   trailing_none i is b h e = rw (h, e) refl
 
   -- in front of an item
-  trailing_some : (i j : Item A) (is js : List (Item A)) → without_trailing is ≡ j ∷ js → without_trailing (i ∷ is) ≡ i ∷ j ∷ js
+  pub trailing_some : (i j : Item A) (is js : List (Item A)) → without_trailing is ≡ j ∷ js → without_trailing (i ∷ is) ≡ i ∷ j ∷ js
   trailing_some i j is js h = rw h refl
 
   trailing_spaces_none : (n : ℕ) (us : List A) → n ≤ length us → without_trailing (glyphs (replicate n 32) us) ≡ []
@@ -57,15 +57,26 @@ module _ {A : Type 0} where
       trailing_some (glyph c u) (glyph d v) (glyphs (d ∷ mid ++ replicate n 32) (v ∷ us)) (take (length mid) (glyphs (mid ++ replicate n 32) us))
       (trailing_left (d ∷ mid) n (v ∷ us) (omega arith) (λ f e. most (c ∷ f) (ap (λ es. c ∷ es) e)))
 
-  -- white space in front is dropped
-  leading_left : (b : ℕ) (cs : List ℕ) (ts : List A) → Each (λ c. is_whitespace c ≡ true) (take b cs) → ((c : ℕ) → (rest : List ℕ) → drop b cs ≡ c ∷ rest → is_whitespace c ≡ false) →
-      without_leading (glyphs cs ts) ≡ drop b (glyphs cs ts)
-  leading_left zero [] ts h most = refl
-  leading_left zero (c ∷ cs) [] h most = refl
-  leading_left zero (c ∷ cs) (t ∷ ts) h most = rw (most c cs refl) refl
-  leading_left (suc b) [] ts h most = refl
-  leading_left (suc b) (c ∷ cs) [] h most = refl
-  leading_left (suc b) (c ∷ cs) (t ∷ ts) h most = rw h.0 (leading_left b cs ts h.1 most)
+  -- white space in front is dropped, up to a place
+  leading_left : (b n : ℕ) (cs : List ℕ) (ts : List A) (front rest : List (Item A)) → Each (λ c. is_whitespace c ≡ true) (take b cs) → ((c : ℕ) → (more : List ℕ) → drop b cs ≡ c ∷ more → is_whitespace c ≡ false) →
+      n ≤ b → n ≤ length front → (n < length front → n ≡ b) → glyphs cs ts ≡ front ++ rest → without_leading front ≡ drop n front
+  leading_left b zero cs ts [] rest h most less within all e = refl
+  leading_left (suc b) zero cs ts (i ∷ front) rest h most less within all e = absurd (omega (arith, all (omega arith)))
+  leading_left zero zero [] ts (i ∷ front) rest h most less within all e = absurd (cc)
+  leading_left zero zero (c ∷ cs) [] (i ∷ front) rest h most less within all e = absurd (cc)
+  leading_left zero zero (c ∷ cs) (t ∷ ts) (i ∷ front) rest h most less within all e =
+      let first : i ≡ glyph c t = cc in
+      let other : is_white_item i ≡ false = ap is_white_item first ∙ most c cs refl in
+      rw other refl
+  leading_left zero (suc n) cs ts front rest h most less within all e = absurd (omega arith)
+  leading_left (suc b) (suc n) cs ts [] rest h most less within all e = absurd (omega arith)
+  leading_left (suc b) (suc n) [] ts (i ∷ front) rest h most less within all e = absurd (cc)
+  leading_left (suc b) (suc n) (c ∷ cs) [] (i ∷ front) rest h most less within all e = absurd (cc)
+  leading_left (suc b) (suc n) (c ∷ cs) (t ∷ ts) (i ∷ front) rest h most less within all e =
+      let first : i ≡ glyph c t = cc in
+      let behind : glyphs cs ts ≡ front ++ rest = cc in
+      let white : is_white_item i ≡ true = ap is_white_item first ∙ h.0 in
+      rw white (leading_left b n cs ts front rest h.1 most (omega arith) (omega arith) (λ l. omega (arith, all (omega arith))) behind)
 
   glyphs-take : (m : ℕ) (cs : List ℕ) (ts us : List A) → m ≤ length cs → m ≤ length ts → glyphs (take m cs) (take m ts ++ us) ≡ take m (glyphs cs ts)
   glyphs-take zero cs ts us h k = refl
@@ -119,7 +130,12 @@ module _ {A : Type 0} where
         omega (arith, ap length left, length-take (length mid) line, len, mid_len),
       )
 
-  -- a word loses the white space in front
-  pub word_trimmed : (l : Letters) (ts : List A) (b : ℕ) → Each (λ c. is_whitespace c ≡ true) (take b l.word) → ((c : ℕ) → (rest : List ℕ) → drop b l.word ≡ c ∷ rest → is_whitespace c ≡ false) →
-      drop b (flat l ts).word ≡ without_leading (flat l ts).word
-  word_trimmed l ts b h most = sym (leading_left b l.word (drop (length l.placed) ts) h most)
+  -- the first of a word's characters lose the white space in front
+  pub word_trimmed : (cs : List ℕ) (ts : List A) (b n first : ℕ) (front rest : List (Item A)) → Each (λ c. is_whitespace c ≡ true) (take b cs) → ((c : ℕ) → (more : List ℕ) → drop b cs ≡ c ∷ more → is_whitespace c ≡ false) →
+      n ≡ min b first → glyphs cs ts ≡ front ++ rest → length front ≡ first → (drop n (glyphs cs ts) ≡ without_leading front ++ rest) × (n + length (without_leading front) ≡ length front)
+  word_trimmed cs ts b n first front rest h most least parts len =
+      let within : n ≤ length front = omega arith in
+      let left : without_leading front ≡ drop n front = leading_left b n cs ts front rest h most (omega arith) within (λ l. omega arith) parts in (
+        ap (λ is. drop n is) parts ∙ drop-append-le n front rest within ∙ ap (λ is. is ++ rest) (sym left),
+        omega (arith, ap length left, length-drop n front),
+      )

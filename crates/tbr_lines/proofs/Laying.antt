@@ -1,16 +1,13 @@
 -- What the fields hold is what the rule lays.
 use Rattle.std.proofs.Common.{◌≡◌, ◌≢◌, None, nat_le, ℕ, zero, suc, Some, ◌+◌, ◌<◌, ◌≤◌, Bool, true, false, Option, List, [], ◌∷◌, ◌++◌, length, refl, ap, sym, ◌∙◌, subst, arith, append_assoc, unwrap_or}
 use borrow.Author.Tests.{le-leb, lt-leb}
-use Rattle.std.specs.List.{AllByRecursion as Each}
 use Rattle.std.specs.Cmp.{IsEquivalence}
 use Rattle.std.specs.Prelude.{MatchOption}
 use Rattle.tbr_model.specs.Run.{Item, glyph, marker, item_width, items_width, has_character}
-use Rattle.tbr_model.specs.Entry.{is_glyph}
-use Rattle.tbr_model.specs.Layout.{joined}
 use Rattle.tbr_model.specs.Greedy.{IsNarrow}
 use Rattle.tbr_model.specs.Rule.{spaces}
 use Rattle.tbr_model.specs.Laid.{Laid, extended, ended, fresh, blanked, put_item}
-use Rattle.tbr_model.proofs.Ahead.{each_back}
+use Rattle.tbr_model.proofs.Letters.{no_character_no_width}
 use Rattle.tbr_lines.specs.Elements.{SameItem, SameItems}
 use Rattle.tbr_lines.specs.Open.{Holds, Shows, Lays, KeepsLimits}
 use Rattle.tbr_lines.specs.declared.wrap.open.Open.{Open}
@@ -35,16 +32,6 @@ module _ {A : Type 0} (eq : A → A → Bool) (laws : IsEquivalence eq) (given :
     last = same_items_append eq laws l.line r.line is js h.last same;
     width = omega (arith, h.width, e);
   }
-
--- a line with nothing but characters has one, or nothing
-pub characters_or_none : {A : Type 0} (is : List (Item A)) → Each (λ i. is_glyph i ≡ true) is → 0 < length is → has_character is ≡ true
-characters_or_none [] h some = absurd (omega arith)
-characters_or_none (glyph c a ∷ is) h some = refl
-characters_or_none (marker m ∷ is) h some = cc
-
-no_items : {X : Type 0} (l : List X) → length l ≡ 0 → l ≡ []
-no_items [] h = refl
-no_items (x ∷ l) h = absurd (omega arith)
 
 module _ {A : Type 0} (columns : ℕ → Option ℕ) (eq : A → A → Bool) (laws : IsEquivalence eq) (b c : Open A) (same : KeepsLimits b c) (before given : List (List (Item A))) (r : Laid A) (h : Lays columns eq b before given r) where
   pub lays_ended : Holds c before (ended h.laid) → Lays columns eq c before given (ended r)
@@ -76,26 +63,15 @@ module _ {A : Type 0} (columns : ℕ → Option ℕ) (eq : A → A → Bool) (la
   pub lays_same : Holds c before h.laid → Lays columns eq c before given r
   lays_same k = record { laid = h.laid; holds = k; shows = h.shows; measured = rw same.width (rw same.may_overflow h.measured) }
 
-  none_on_line : b.line_len ≡ 0 → r.line ≡ []
-  none_on_line empty = go h.laid.line r.line (no_items h.laid.line (sym h.holds.len ∙ empty)) h.shows.last
-    where
-      go : (is js : List (Item A)) → is ≡ [] → SameItems eq is js → js ≡ []
-      go [] [] e k = refl
-      go [] (j ∷ js) e k = absurd k
-      go (i ∷ is) js e k = cc
-
   -- a line without a character isn't ended
-  pub lays_none : b.line_len ≡ 0 → Holds c before h.laid → c.line_width ≡ b.line_width → Lays columns eq c before given (fresh r) × (c.line_width ≡ 0)
-  lays_none empty k width =
-      let none : r.line ≡ [] = none_on_line empty in
-      let test : has_character r.line ≡ false = ap has_character none in
-      (rw test (lays_same k), omega (arith, width, h.holds.width, h.shows.width, h.measured.line, ap (items_width columns) none))
+  pub lays_none : has_character h.laid.line ≡ false → Holds c before h.laid → c.line_width ≡ b.line_width → Lays columns eq c before given (fresh r) × (c.line_width ≡ 0)
+  lays_none none k width =
+      let test : has_character r.line ≡ false = sym (same_has eq h.laid.line r.line h.shows.last) ∙ none in
+      (rw test (lays_same k), omega (arith, width, h.holds.width, h.shows.width, h.measured.line, no_character_no_width columns r.line test))
 
-  pub lays_some : 0 < b.line_len → Each (λ i. is_glyph i ≡ true) b.flat.placed → Lays columns eq c before given (ended r) → Lays columns eq c before given (fresh r)
-  lays_some some glyphs k =
-      let held : Each (λ i. is_glyph i ≡ true) h.laid.line = each_back (λ i. is_glyph i ≡ true) (joined (before ++ h.laid.done)) h.laid.line (subst (Each (λ i. is_glyph i ≡ true)) h.holds.placed glyphs) in
-      let test : has_character r.line ≡ true = sym (same_has eq h.laid.line r.line h.shows.last) ∙ characters_or_none h.laid.line held (omega (arith, some, h.holds.len)) in
-      rw test k
+  -- and one with a character is
+  pub lays_some : has_character h.laid.line ≡ true → Lays columns eq c before given (ended r) → Lays columns eq c before given (fresh r)
+  lays_some some k = let test : has_character r.line ≡ true = sym (same_has eq h.laid.line r.line h.shows.last) ∙ some in rw test k
 
   pub is_zero : b.line_width ≡ 0 → r.width ≡ 0
   is_zero none = omega (arith, none, h.holds.width, h.shows.width)
@@ -116,11 +92,7 @@ module _ {A : Type 0} (columns : ℕ → Option ℕ) (width : ℕ) (P : Laid A �
       let test : nat_le (r.width + item_width columns i) width ≡ false = lt-leb _ _ (omega arith) in
       let narrow : nat_le (item_width columns i) width ≡ false = lt-leb _ _ wide in rw (test, narrow) h
 
--- the width of a word's first item
-pub first_width : {A : Type 0} (columns : ℕ → Option ℕ) (eq : A → A → Bool) (word rest others : List (Item A)) (i j : Item A) (c : ℕ) (a : A) → word ≡ i ∷ rest → word ≡ glyph c a ∷ others → SameItem eq i j → item_width columns j ≡ unwrap_or (columns c) 0
-first_width columns eq word rest others i (glyph d b) c a e f same = let is : i ≡ glyph c a = cc in let k = subst (λ x. SameItem eq x (glyph d b)) is same in ap (λ x. unwrap_or (columns x) 0) (sym k.0)
-first_width columns eq word rest others i (marker m) c a e f same = let is : i ≡ glyph c a = cc in absurd (subst (λ x. SameItem eq x (marker m)) is same)
-
+-- a word's first item is as narrow as all of them
 pub narrow_first : {A : Type 0} (columns : ℕ → Option ℕ) (width : ℕ) (word rest : List (Item A)) (i : Item A) → word ≡ i ∷ rest → IsNarrow columns width word → (item_width columns i ≤ width) × IsNarrow columns width rest
 narrow_first columns width word rest i e h = let k = subst (IsNarrow columns width) e h in (k.0, k.1)
 
@@ -151,7 +123,14 @@ pub none_same : {A : Type 0} (eq : A → A → Bool) (js : List (Item A)) → Sa
 none_same eq [] h = refl
 none_same eq (j ∷ js) h = absurd h
 
--- a word without a first character
-pub none_first : {A : Type 0} (o : Option ℕ) (word : List (Item A)) → MatchOption o (word ≡ []) (λ c. (a : A) × (rest : List (Item A)) × (word ≡ glyph c a ∷ rest)) → ((c : ℕ) → o ≢ Some c) → word ≡ []
-none_first None word h not = h
-none_first (Some c) word h not = absurd (not c refl)
+-- a word without a first item
+pub none_first : {A : Type 0} (columns : ℕ → Option ℕ) (o : Option ℕ) (word : List (Item A)) → MatchOption o (word ≡ []) (λ n. (i : Item A) × (rest : List (Item A)) × (word ≡ i ∷ rest) × (n ≡ item_width columns i)) → ((n : ℕ) → o ≢ Some n) → word ≡ []
+none_first columns None word h not = h
+none_first columns (Some n) word h not = absurd (not n refl)
+
+-- the first item is as wide as another that is the same
+pub same_width : {A : Type 0} (columns : ℕ → Option ℕ) (eq : A → A → Bool) (i j : Item A) → SameItem eq i j → item_width columns i ≡ item_width columns j
+same_width columns eq (glyph c a) (glyph d b) h = ap (λ x. unwrap_or (columns x) 0) h.0
+same_width columns eq (marker m) (marker n) h = refl
+same_width columns eq (glyph c a) (marker n) h = absurd h
+same_width columns eq (marker m) (glyph d b) h = absurd h

@@ -15,6 +15,10 @@ pub mod FlatText
 pub mod FlatItems
 pub mod FlatEnds
 pub mod FlatTrim
+pub mod Marking
+pub mod Marked
+pub mod MarkedText
+pub mod MarkedTrim
 pub mod StretchTags
 pub mod StretchCuts
 pub mod Ending

@@ -1,16 +1,18 @@
 -- What the rule does with a character, by tests that the code makes.
-use Rattle.std.proofs.Common.{◌≡◌, ◌≢◌, nat_lt, ◌&&◌, ◌||◌, not, ◌==◌, ℕ, Bool, true, false, if◌then◌else◌, Option, None, Some, is_none, is_some, List, refl, ap, ◌∙◌, arith, Result, Ok, Err, OnOk}
+use Rattle.std.proofs.Common.{◌≡◌, ◌≢◌, nat_lt, ◌&&◌, ◌||◌, not, ◌==◌, ℕ, zero, suc, ◌+◌, ◌<◌, Bool, true, false, if◌then◌else◌, Option, None, Some, is_none, is_some, List, refl, ap, ◌∙◌, arith, Result, Ok, Err, OnOk}
 use borrow.Author.Tests.{le-ltb, ne_eqb}
 use Rattle.std.specs.Cmp.{IsEquivalence}
 use Rattle.std.specs.Char.{is_whitespace}
 use Rattle.tbr_model.specs.declared.white_space.WhiteSpace.{WhiteSpace}
 use Rattle.tbr_model.specs.declared.white_space.WhiteSpace.TheVariants.{Normal}
 use Rattle.tbr_model.specs.Laid.{Laid}
-use Rattle.tbr_model.specs.Run.{Item, is_blank, is_break, always_takes_space}
-use Rattle.tbr_model.specs.Rule.{Space, Progress, tag_of, collapse, preserve, newline, tab, flush_word, break_word, keep_space, keep_character, enter_normal, join}
+use Rattle.tbr_model.specs.Run.{Item, has_character, is_blank, is_break, always_takes_space}
+use Rattle.tbr_model.specs.Rule.{Space, Progress, space_of, space_columns, tag_of, collapse, preserve, newline, tab, flush_word, break_word, keep_space, keep_character, enter_normal, join}
 use Rattle.tbr_lines.specs.Elements.{SameItems}
-use Rattle.tbr_lines.specs.Open.{SameSpace, Lays, Stands, KeepsSettings}
+use Rattle.tbr_lines.specs.Open.{SameSpace, Lays, Stands, KeepsSettings, KeepsLimits}
 use Rattle.tbr_lines.specs.declared.wrap.open.Open.{Open}
+use Rattle.tbr_lines.proofs.Holding.{holds_same}
+use Rattle.tbr_lines.proofs.Laying.{lays_same}
 use Rattle.tbr_lines.proofs.Standing.{stands_laid}
 use Rattle.tbr_lines.specs.declared.wrap.open.Space.{Space as HeldSpace}
 
@@ -39,6 +41,36 @@ pub same_some : {A : Type 0} (eq : A → A → Bool) (held : Option (HeldSpace A
 same_some eq None o h e = cc
 same_some eq (Some s) (Some t) h e = refl
 same_some eq (Some s) None h e = absurd h
+
+-- ---- space that waits
+
+-- where other space waits
+pub spaced_stands : {A : Type 0} (columns : ℕ → Option ℕ) (eq : A → A → Bool) (laws : IsEquivalence eq) (b c : Open A) (before given : List (List (Item A))) (p : Progress A) (o : Option (Space A)) → Stands columns eq b before given p → SameSpace eq c.space o → c.flat ≡ b.flat → c.lines ≡ b.lines → c.line_len ≡ b.line_len → c.line_width ≡ b.line_width →
+    c.word_width ≡ b.word_width → c.word_mode ≡ b.word_mode → KeepsLimits b c → c.continued ≡ b.continued → c.again ≡ b.again → Stands columns eq c before given (record p { space = o })
+spaced_stands columns eq laws b c before given p o s space flat lines len width word_width mode limits continued again = record {
+  lays = lays_same columns eq laws b c limits before given p.laid s.lays (holds_same b c before s.lays.laid s.lays.holds (ap (λ f. f.placed) flat) lines len width);
+  space = space;
+  word = rw flat s.word;
+  word_width = word_width ∙ s.word_width;
+  mode = mode ∙ s.mode;
+  continued = continued ∙ s.continued;
+  again = again ∙ s.again;
+}
+
+pub some_space : {A : Type 0} (n : ℕ) (a : A) (mode : WhiteSpace) → 0 < n → space_of n a mode ≡ Some (record { columns = n; tag = a; mode = mode })
+some_space zero a mode some = absurd (omega (arith, some))
+some_space (suc n) a mode some = refl
+
+pub none_held : {A : Type 0} (eq : A → A → Bool) (n : ℕ) (a : A) (mode : WhiteSpace) → n ≡ 0 → SameSpace eq None (space_of n a mode)
+none_held eq zero a mode e = tt
+none_held eq (suc n) a mode e = absurd (omega (arith, e))
+
+-- white space joins a word that has a character, and else waits
+pub keep_joins : {A : Type 0} (c : ℕ) (a : A) (mode : WhiteSpace) (n : ℕ) (p : Progress A) → has_character p.word ≡ true → keep_space c a mode (Some n) p ≡ join c a mode p
+keep_joins c a mode n p e = rw e refl
+
+pub keep_waits : {A : Type 0} (c : ℕ) (a : A) (mode : WhiteSpace) (n : ℕ) (p : Progress A) → has_character p.word ≡ false → keep_space c a mode (Some n) p ≡ record p { space = space_of (space_columns p.space + n) a mode }
+keep_waits c a mode n p e = rw e refl
 
 -- ---- the tag of this call
 

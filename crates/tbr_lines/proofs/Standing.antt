@@ -1,11 +1,8 @@
 -- The block stands where the rule stands.
-use Rattle.std.proofs.Common.{◌≡◌, ◌≢◌, nat_le, ℕ, ◌+◌, ◌<◌, ◌≤◌, Bool, true, false, if◌then◌else◌, Option, None, Some, List, [], ◌∷◌, ◌++◌, refl, ap, sym, ◌∙◌, subst, arith, append_assoc, append-nil, Result, Ok, Err, OnOk}
+use Rattle.std.proofs.Common.{◌≡◌, nat_le, ℕ, ◌+◌, ◌<◌, ◌≤◌, Bool, true, false, if◌then◌else◌, Option, None, Some, List, [], ◌∷◌, ◌++◌, refl, ap, sym, ◌∙◌, subst, arith, append_assoc, append-nil, Result, Ok, Err, OnOk}
 use borrow.Author.Tests.{le-leb, leb-true, leb-false}
-use Rattle.std.specs.List.{AllByRecursion as Each}
 use Rattle.std.specs.Cmp.{IsEquivalence}
-use Rattle.std.specs.Prelude.{MatchOption}
-use Rattle.tbr_model.specs.Run.{Item, glyph, marker, items_width, item_width, has_character}
-use Rattle.tbr_model.specs.Entry.{is_glyph}
+use Rattle.tbr_model.specs.Run.{Item, items_width, item_width, has_character}
 use Rattle.tbr_model.specs.Laid.{Laid, extended, fresh, put_items}
 use Rattle.tbr_model.specs.Greedy.{IsNarrow}
 use Rattle.tbr_model.specs.Rule.{Space, Progress, space_columns, put_pending, is_pre, lay_fresh}
@@ -13,9 +10,9 @@ use Rattle.tbr_lines.specs.Elements.{SameItems}
 use Rattle.tbr_lines.specs.Open.{Lays, Stands, SameSpace, KeepsSettings, KeepsLimits, held_columns}
 use Rattle.tbr_lines.specs.declared.wrap.open.Open.{Open}
 use Rattle.tbr_lines.specs.declared.wrap.open.Space.{Space as HeldSpace}
-use Rattle.tbr_lines.proofs.Same.{same_has, same_width_one}
+use Rattle.tbr_lines.proofs.Same.{same_width_one}
 use Rattle.tbr_lines.proofs.Holding.{holds_same}
-use Rattle.tbr_lines.proofs.Laying.{none_same, lays_same}
+use Rattle.tbr_lines.proofs.Laying.{lays_same}
 
 pub on_ok_both : {T E : Type 0} (r : Result T E) (P Q : Type 0) → OnOk r P → OnOk r Q → OnOk r (P × Q)
 on_ok_both (Ok x) P Q p q = (p, q)
@@ -43,23 +40,7 @@ put_fitting columns width l (i ∷ is) h =
     let test : nat_le (l.width + item_width columns i) width ≡ true = le-leb _ _ (omega (arith, h)) in
     rw test (put_fitting columns width (extended l (i ∷ []) (item_width columns i)) is (omega (arith, h)) ∙ extended_twice l (i ∷ []) is (item_width columns i) (items_width columns is))
 
--- a word of characters alone that has none
-pub characters_none : {A : Type 0} (eq : A → A → Bool) (is js : List (Item A)) → SameItems eq is js → Each (λ i. is_glyph i ≡ true) is → has_character js ≡ false → js ≡ []
-characters_none eq [] js same glyphs none = none_same eq js same
-characters_none eq (i ∷ is) [] same glyphs none = absurd same
-characters_none eq (glyph c a ∷ is) (glyph d b ∷ js) same glyphs none = cc
-characters_none eq (marker m ∷ is) (j ∷ js) same glyphs none = let k = glyphs.0 in cc
-characters_none eq (glyph c a ∷ is) (marker n ∷ js) same glyphs none = absurd same.0
-
--- whether a word has a character is whether it has a first one
-pub first_has : {A : Type 0} (eq : A → A → Bool) (o : Option ℕ) (is js : List (Item A)) → MatchOption o (is ≡ []) (λ c. (a : A) × (rest : List (Item A)) × (is ≡ glyph c a ∷ rest)) → SameItems eq is js → (c : ℕ) → o ≡ Some c → has_character js ≡ true
-first_has eq None is js h same c e = cc
-first_has eq (Some d) is js h same c e = sym (same_has eq is js same) ∙ ap has_character h.2
-
-pub first_none : {A : Type 0} (eq : A → A → Bool) (o : Option ℕ) (is js : List (Item A)) → MatchOption o (is ≡ []) (λ c. (a : A) × (rest : List (Item A)) × (is ≡ glyph c a ∷ rest)) → SameItems eq is js → ((c : ℕ) → o ≢ Some c) → has_character js ≡ false
-first_none eq None is js h same not = sym (same_has eq is js same) ∙ ap has_character h
-first_none eq (Some d) is js h same not = absurd (not d refl)
-
+-- the mode of a word with one more character
 pub mode_kept : {X : Type 0} (b : Bool) (x y : X) → b ≡ true → x ≡ (if b then x else y)
 mode_kept b x y e = rw e refl
 
@@ -107,17 +88,28 @@ same_narrow columns eq width [] js same h = tt
 same_narrow columns eq width (i ∷ is) [] same h = absurd same
 same_narrow columns eq width (i ∷ is) (j ∷ js) same h = (omega (arith, h.0, same_width_one columns eq i j same.0), same_narrow columns eq width is js same.1 h.1)
 
--- a word that has lost its characters is nothing, where it holds characters alone
-pub lay_fresh_is : {A : Type 0} (columns : ℕ → Option ℕ) (width : ℕ) (p : Progress A) → (has_character p.word ≡ false → p.word ≡ []) →
+-- a word that has a character is put behind what is pending
+pub lay_fresh_some : {A : Type 0} (columns : ℕ → Option ℕ) (width : ℕ) (p : Progress A) → has_character p.word ≡ true →
     lay_fresh columns width p ≡ record p { laid = put_items columns width (put_pending width p.space (fresh p.laid)) p.word; space = None; word = []; continued = is_pre p.mode }
-lay_fresh_is {A} columns width p none = go (has_character p.word) refl
-  where
-    go : (b : Bool) → has_character p.word ≡ b → lay_fresh columns width p ≡ record p { laid = put_items columns width (put_pending width p.space (fresh p.laid)) p.word; space = None; word = []; continued = is_pre p.mode }
-    go true e = rw e refl
-    go false e =
-        let gone : p.word ≡ [] = none e in
-        rw e (ap (λ (is : List (Item A)). record p { laid = put_pending width p.space (fresh p.laid); space = None; word = is; continued = is_pre p.mode }) gone
-        ∙ ap (λ (is : List (Item A)). record p { laid = put_items columns width (put_pending width p.space (fresh p.laid)) is; space = None; word = []; continued = is_pre p.mode }) (sym gone))
+lay_fresh_some columns width p e = rw e refl
+
+-- and one that has lost its characters stays
+pub lay_fresh_none : {A : Type 0} (columns : ℕ → Option ℕ) (width : ℕ) (p : Progress A) → has_character p.word ≡ false →
+    lay_fresh columns width p ≡ record p { laid = put_pending width p.space (fresh p.laid); space = None; continued = is_pre p.mode }
+lay_fresh_none columns width p e = rw e refl
+
+-- where the flag for the next call changes
+pub flagged_stands : {A : Type 0} (columns : ℕ → Option ℕ) (eq : A → A → Bool) (laws : IsEquivalence eq) (b c : Open A) (before given : List (List (Item A))) (p : Progress A) (x : Bool) → Stands columns eq b before given p → c.flat ≡ b.flat → c.lines ≡ b.lines → c.line_len ≡ b.line_len → c.line_width ≡ b.line_width →
+    c.space ≡ b.space → c.word_width ≡ b.word_width → c.word_mode ≡ b.word_mode → KeepsLimits b c → c.again ≡ b.again → c.continued ≡ x → Stands columns eq c before given (record p { continued = x })
+flagged_stands columns eq laws b c before given p x s flat lines len width space word_width mode limits again flag = record {
+  lays = lays_same columns eq laws b c limits before given p.laid s.lays (holds_same b c before s.lays.laid s.lays.holds (ap (λ f. f.placed) flat) lines len width);
+  space = rw space s.space;
+  word = rw flat s.word;
+  word_width = word_width ∙ s.word_width;
+  mode = mode ∙ s.mode;
+  continued = flag;
+  again = again ∙ s.again;
+}
 
 pub no_room : (m n : ℕ) → (m ≤ n → ⊥) → n < m
 no_room m n h = go (nat_le m n) refl

@@ -6,6 +6,7 @@ use Rattle.std.proofs.lemmas.List.Elements.{length_all_zip}
 use Rattle.tbr_model.specs.Run.{Entry, character, fragment, Item, glyph, marker, is_kept}
 use Rattle.tbr_model.specs.Layout.{joined}
 use Rattle.tbr_model.specs.Hard.{glyphs_of, letters_of, entry_letters, is_visible, IsShown, ShowsVisible, Parted, StandUnder, HasMain, HasContinuation, stretches, IsCutEvery, IsCutOf, ShowsHardLine, ShowsPre, ShowsPreWrap, ShowsTabs}
+use Rattle.tbr_model.specs.Markers.{marker_names}
 use Rattle.tbr_lines.specs.Elements.{SameItems}
 use Rattle.tbr_lines.proofs.Same.{same_items_append}
 
@@ -171,3 +172,14 @@ module _ {A : Type 0} (eq : A → A → Bool) (laws : IsEquivalence eq) where
 
   pub tabs_same : (columns : ℕ → Option ℕ) (width : ℕ) → IsKept (ShowsTabs columns width)
   tabs_same columns width more h texts ls same k = record { tabs = λ tabbed ends fits. same_letter_lines eq texts ls same ∙ k.tabs tabbed ends fits }
+
+-- ---- markers
+
+pub same_marker_names : {A : Type 0} (eq : A → A → Bool) (is js : List (Item A)) → SameItems eq is js → marker_names is ≡ marker_names js
+same_marker_names eq [] [] h = refl
+same_marker_names eq [] (j ∷ js) h = absurd h
+same_marker_names eq (i ∷ is) [] h = absurd h
+same_marker_names eq (glyph c a ∷ is) (glyph d b ∷ js) h = same_marker_names eq is js h.1
+same_marker_names eq (marker m ∷ is) (marker n ∷ js) h = let first : m ≡ n = h.0 in let rest = same_marker_names eq is js h.1 in cc
+same_marker_names eq (glyph c a ∷ is) (marker n ∷ js) h = absurd h.0
+same_marker_names eq (marker m ∷ is) (glyph d b ∷ js) h = absurd h.0

@@ -1,7 +1,8 @@
 -- What a contract sees of characters under tags in one text.
-use Rattle.std.specs.Prelude.{◌≡◌, ◌≤◌, ℕ, true, List, [], ◌∷◌, length, drop, slice_range, chars}
+use Rattle.std.specs.Prelude.{◌≡◌, ◌≤◌, ◌⊎◌, ℕ, ◌+◌, ◌-◌, true, List, [], ◌∷◌, ◌++◌, length, take, drop, slice_range, chars}
+use Rattle.std.specs.List.{AllByRecursion as Each}
 use Rattle.std.specs.Str.{is_utf8}
-use Rattle.tbr_model.specs.Run.{Item, glyph}
+use Rattle.tbr_model.specs.Run.{Item, glyph, marker}
 
 -- The items that are placed on lines and not handed out yet, and those of the current word.
 pub record Flat (A : Type 0) : Type 0 where
@@ -34,3 +35,58 @@ pub record AreParts (bytes : List ℕ) (start word_start word : ℕ) : Type 0 wh
   pub placed_utf8 : is_utf8 (slice_range bytes start word_start) ≡ true
   pub word_utf8 : is_utf8 (drop word_start bytes) ≡ true
   pub word_len : word ≡ length (chars (drop word_start bytes))
+
+-- ---- markers among items
+
+-- Markers among characters: how many characters stand behind each one's predecessor and before it, its name, and how many stand
+-- behind the last one.
+pub record Marking : Type 0 where
+  pub marks : List (ℕ × List ℕ)
+  pub behind : ℕ
+
+-- items with the markers among them
+abbrev pub marked : {A : Type 0} → List (Item A) → List (ℕ × List ℕ) → List (Item A)
+marked is [] = is
+marked is ((n, name) ∷ ms) = take n is ++ marker name ∷ marked (drop n is) ms
+
+-- how many characters stand before the last marker
+abbrev pub before_last : List (ℕ × List ℕ) → ℕ
+before_last [] = 0
+before_last ((n, name) ∷ ms) = n + before_last ms
+
+-- how many characters the markers are among
+abbrev pub covered : Marking → ℕ
+covered m = before_last m.marks + m.behind
+
+-- how many characters stand before the first marker, or in all where there is none
+abbrev pub before_first : Marking → ℕ
+before_first m = first m.marks m.behind
+  where
+    first : List (ℕ × List ℕ) → ℕ → ℕ
+    first [] k = k
+    first ((n, name) ∷ ms) k = n
+
+-- so many characters fewer before the first marker
+abbrev pub shortened : ℕ → Marking → Marking
+shortened k m = go m.marks
+  where
+    go : List (ℕ × List ℕ) → Marking
+    go [] = record m { behind = m.behind - k }
+    go ((n, name) ∷ ms) = record m { marks = (n - k, name) ∷ ms }
+
+-- markers behind others
+abbrev pub followed : Marking → Marking → Marking
+followed m n = go n.marks
+  where
+    go : List (ℕ × List ℕ) → Marking
+    go [] = record m { behind = m.behind + n.behind }
+    go ((k, name) ∷ ms) = record { marks = m.marks ++ (m.behind + k, name) ∷ ms; behind = n.behind }
+
+-- all but the first stand right behind their predecessors
+abbrev pub AreNeighbours : List (ℕ × List ℕ) → Type 0
+AreNeighbours [] = Unit {0}
+AreNeighbours (m ∷ ms) = Each (λ n. n.0 ≡ 0) ms
+
+-- the last so many of the characters and markers are markers alone
+abbrev pub EndsWithMarks : ℕ → Marking → Type 0
+EndsWithMarks n m = (n ≡ 0) ⊎ ((m.behind ≡ 0) × ((front back : List (ℕ × List ℕ)) × (m.marks ≡ front ++ back) × (length back ≡ n) × AreNeighbours back))

@@ -4,7 +4,7 @@ use Rattle.std.specs.List.{AllZip, AllByRecursion as Each}
 use Rattle.tbr_model.specs.Run.{Item, items_width, Entry}
 use Rattle.tbr_model.specs.Layout.{joined}
 use Rattle.tbr_model.specs.Laid.{Laid}
-use Rattle.tbr_model.specs.Rule.{Event, run_of, Space, Progress, at_start, progress}
+use Rattle.tbr_model.specs.Rule.{Event, run_of, Space, Progress, at_start, progress, finished, waiting}
 use Rattle.tbr_lines.specs.Elements.{SameItems}
 use Rattle.tbr_lines.specs.Wrapped.{FitsBlock}
 use Rattle.tbr_lines.specs.declared.wrap.open.Open.{Open}
@@ -93,14 +93,15 @@ pub record KeepsLimits {A : Type 0} (b c : Open A) : Type 0 where
   pub width : c.width ≡ b.width
   pub may_overflow : c.may_overflow ≡ b.may_overflow
 
--- The run has ended: the lines of it that weren't handed out stand behind those of earlier runs, and a run can begin.
-pub record Finished {A : Type 0} (columns : ℕ → Option ℕ) (eq : A → A → Bool) (b c : Open A) (before given : List (List (Item A))) (r : Laid A) : Type 0 where
+-- The run has ended: the lines of it that weren't handed out stand behind those of earlier runs, and a run can begin with the
+-- markers that wait.
+pub record Finished {A : Type 0} (columns : ℕ → Option ℕ) (eq : A → A → Bool) (b c : Open A) (before given : List (List (Item A))) (p : Progress A) : Type 0 where
   pub now : List (List (Item A))
   pub rest : List (List (Item A))
-  pub split : r.done ≡ given ++ rest
+  pub split : (finished columns b.width p).done ≡ given ++ rest
   pub same : AllZip (SameItems eq) now rest
-  pub fits : Each (FitsBlock columns b.width b.may_overflow) r.done
-  pub stands : Stands columns eq c (before ++ now) [] at_start
+  pub fits : Each (FitsBlock columns b.width b.may_overflow) (finished columns b.width p).done
+  pub stands : Stands columns eq c (before ++ now) [] (record at_start { word = waiting columns b.width p })
 
 -- What a line that is handed out leaves.
 pub record Leaves {A : Type 0} (b c : Open A) (rest : List (List (Item A))) (l : Laid A) : Type 0 where

@@ -1,13 +1,17 @@
 -- What a contract sees of a block.
-use Rattle.std.specs.Prelude.{◌≡◌, ℕ, ◌≤◌, Bool, true, false, Option, unwrap_or, IsTrue, List, [], ◌∷◌, ◌++◌, ◌⊎◌, map, take, drop}
+use Rattle.std.specs.Prelude.{◌≡◌, ℕ, ◌≤◌, Bool, true, false, Option, unwrap_or, IsTrue, List, [], ◌∷◌, ◌++◌, ◌⊎◌, map, fold, take, drop, string_bytes}
 use Rattle.std.specs.List.{AllByRecursion as Each}
 use Rattle.tbr_model.specs.declared.white_space.WhiteSpace.{WhiteSpace}
 use Rattle.tbr_model.specs.declared.white_space.WhiteSpace.TheVariants.{Normal, Pre, PreWrap}
-use Rattle.tbr_model.specs.Run.{Entry, character, fragment, Item}
+use Rattle.tbr_model.specs.Run.{Entry, character, fragment, Item, trailing}
+use Rattle.tbr_model.specs.Layout.{joined}
+use Rattle.tbr_model.specs.Markers.{marker_names, fragment_names, fragments, markers, last, without_last_markers}
 use Rattle.tbr_model.specs.Hard.{HasMode, Preserves, IsNarrowEntry, is_visible, hard_lines, Parted, ShowsVisible, ShowsHardLine, ShowsPre, ShowsPreWrap, ShowsTabs}
 use Rattle.tbr_lines.specs.Elements.{Element, items_of}
 use Rattle.tbr_lines.specs.Wrapped.{HasBestLines, FitsBlock}
 use Rattle.tbr_lines.specs.declared.error.Error.{Error}
+use Rattle.tbr_lines.specs.declared.wrap.note.Note.{Note}
+use Rattle.tbr_lines.specs.declared.wrap.note.Note.TheVariants.{Character, Marker, Taken, Ended}
 
 -- Its width, whether a line may be wider, the tag of its padding where it pads, whether a line has ended in an earlier run, the
 -- texts of the lines of earlier runs that it holds, those of the lines of the current run that it has handed out, the entries of
@@ -22,9 +26,16 @@ pub record State (A : Type 0) : Type 0 where
   pub run : List (Entry A)
   pub failure : Option Error
 
--- what was handed in
-abbrev pub entries_of : {A : Type 0} → List ((ℕ × WhiteSpace) × A × A) → List (Entry A)
-entries_of ps = map (λ p. character p.0.0 p.1 p.2 p.0.1) ps
+-- what a note makes of a run
+abbrev pub noted : {A : Type 0} → List (Entry A) → Note × A × A → List (Entry A)
+noted run (Character c mode, a, b) = run ++ character c a b mode ∷ []
+noted run (Marker name, a, b) = run ++ fragment (string_bytes name) ∷ []
+noted run (Taken n, a, b) = without_last_markers n run
+noted run (Ended n, a, b) = fragments (last n (fragment_names run))
+
+-- the run that notes tell of
+abbrev pub entries_of : {A : Type 0} → List (Note × A × A) → List (Entry A)
+entries_of notes = fold noted [] notes
 
 -- a text's entries
 abbrev pub text_entries : {A : Type 0} → List ℕ → A → A → WhiteSpace → List (Entry A)
@@ -71,8 +82,11 @@ pub record IsShownBy {A : Type 0} (columns : ℕ → Option ℕ) (eq : A → A �
   pub prewrap : Each (HasMode PreWrap) run → Parted (ShowsPreWrap columns width) (hard_lines run) texts
   pub tabs : Each (HasMode Pre) run ⊎ Each (HasMode PreWrap) run → Parted (ShowsTabs columns width) (hard_lines run) texts
 
--- The texts that the end of the run adds to the ended lines, behind the lines that were handed out before. Each of them all is as
--- wide as it may be.
-pub record EndsRun {A : Type 0} (columns : ℕ → Option ℕ) (eq : A → A → Bool) (s : State A) (texts : List (List (Item A))) : Type 0 where
+-- The texts that the end of the run adds to the ended lines, behind the lines that were handed out before, and the markers that stand
+-- on none of them. Each line is as wide as it may be. The run's markers stand on the lines or wait, once and in order; in a `Normal`
+-- run where no line may be wider than the block, those that wait are its trailing ones.
+pub record EndsRun {A : Type 0} (columns : ℕ → Option ℕ) (eq : A → A → Bool) (s : State A) (texts : List (List (Item A))) (names : List (List ℕ)) : Type 0 where
   pub shown : IsShownBy columns eq s.width s.may_overflow s.run (s.handed ++ texts)
   pub fits : Each (FitsBlock columns s.width s.may_overflow) (s.handed ++ texts)
+  pub marks : marker_names (joined (s.handed ++ texts)) ++ names ≡ fragment_names s.run
+  pub waits : s.may_overflow ≡ false → IsNormal s.run → markers names ≡ trailing columns s.run

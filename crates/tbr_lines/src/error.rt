@@ -37,6 +37,14 @@ impl From<OutOfMemory> for Error {
     }
 }
 
+impl From<AllocError> for Error {
+    ghost from_gives = { λ _ e. e ≡ E.OutOfMemory };
+
+    fn from(_e: AllocError) -> Error {
+        Error::OutOfMemory
+    }
+}
+
 impl From<AllocError> for OutOfMemory {
     fn from(_e: AllocError) -> OutOfMemory {
         OutOfMemory

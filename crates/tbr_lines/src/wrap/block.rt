@@ -1,5 +1,5 @@
 //! A block of wrapped text.
-ghost use Rattle.std.specs.Prelude.{◌≡◌, ◌≢◌, ℕ, ◌<◌, ◌≤◌, ◌++◌, ◌∷◌, [], ◌&&◌, ◌||◌, nat_lt, if◌then◌else◌, Option, None, Some, List, OnOk, IfOk, IfErr, IfSome, MatchOption, Err, Ok, MatchResult, true, false, chars, IsTrue, ◌↔◌};
+ghost use Rattle.std.specs.Prelude.{◌≡◌, ◌≢◌, ℕ, ◌<◌, ◌≤◌, ◌++◌, ◌∷◌, [], ◌&&◌, ◌||◌, nat_lt, if◌then◌else◌, Option, None, Some, List, OnOk, IfOk, IfErr, IfSome, MatchOption, Err, Ok, MatchResult, true, false, chars, string_bytes, length, map, IsTrue, ◌↔◌};
 ghost use Rattle.std.specs.List.{AllZip};
 ghost use Rattle.tbr_model.specs.Run.{Item, items_width, kept_items, has_character};
 ghost use Rattle.tbr_lines.specs.Elements.{Element, items_of, SameItems, IsMerged};
@@ -8,8 +8,9 @@ ghost use Rattle.tbr_lines.specs.State.{IsNormal, CharactersFit, VisibleFit, is_
 ghost use Rattle.tbr_lines.specs.declared.error.Error.TheVariants as E;
 
 use crate::error::{Error, OutOfMemory};
-use crate::tagged::TaggedLine;
+use crate::tagged::{TaggedLine, TaggedLineElement};
 use crate::width::UnicodeColumns;
+use crate::wrap::note::{Note, with_marker, with_note};
 use crate::wrap::open::Open;
 use std::alloc::Global;
 use std::marker::{Model, PhantomData};
@@ -27,8 +28,10 @@ use tbr_model::{CharWidth, History, WhiteSpace};
 pub struct WrappedBlock<T: Eq + Clone, W: CharWidth = UnicodeColumns> {
     alloc: Global,
     page: Open<T>,
-    /// The tag of the padding, where lines are padded.
-    padding: Option<T>,
+    /// The tag of the padding.
+    default_tag: T,
+    /// Whether lines are padded.
+    pads: bool,
     failure: Option<Error>,
     /// Whether a line has ended in an earlier run.
     begun: bool,
@@ -36,7 +39,7 @@ pub struct WrappedBlock<T: Eq + Clone, W: CharWidth = UnicodeColumns> {
     earlier: usize,
     /// Whether a line of this run was handed out.
     handing: bool,
-    run: History<(char, WhiteSpace), T, T>,
+    notes: History<Note, T, T>,
     handed: History<TaggedLine<T>, (), ()>,
     columns: PhantomData<W>,
 }
@@ -46,17 +49,20 @@ impl<T: Eq + Clone, W: CharWidth> Model for WrappedBlock<T, W> {
 
     ghost Value = { State T };
 
-    ghost use Rattle.std.specs.Prelude.{◌≡◌, None};
+    ghost use Rattle.std.specs.Prelude.{◌≡◌, None, Some, if◌then◌else◌};
     ghost use Rattle.tbr_lines.specs.State.{entries_of, texts_of};
     ghost use Rattle.tbr_lines.specs.Block.{earlier_texts, Keeps};
 
-    ghost view = { λ b. record { width = b.page.width; may_overflow = b.page.may_overflow; padding = b.padding; begun = b.begun; ended = earlier_texts b.earlier b.page; handed = texts_of b.handed.items; run = entries_of b.run.items; failure = b.failure } };
+    ghost view = { λ b. record { width = b.page.width; may_overflow = b.page.may_overflow; padding = (if b.pads then Some b.default_tag else None); begun = b.begun; ended = earlier_texts b.earlier b.page; handed = texts_of b.handed.items; run = entries_of b.notes.items; failure = b.failure } };
 
-    ghost invariant = { λ b. b.failure ≡ None → Keeps W.columns T.eq b.earlier b.page b.handing (texts_of b.handed.items) (entries_of b.run.items) };
+    ghost invariant = { λ b. b.failure ≡ None → Keeps W.columns T.eq b.earlier b.page b.handing (texts_of b.handed.items) (entries_of b.notes.items) };
 }
 
 impl<T: Eq + Clone, W: CharWidth> WrappedBlock<T, W> {
-    ghost use Rattle.tbr_model.specs.Run.{character};
+    ghost use Rattle.tbr_model.specs.Run.{character, fragment, trailing};
+    ghost use Rattle.tbr_model.specs.Markers.{fragments, fragment_names, marker_names, last, without_last_markers};
+    ghost use Rattle.tbr_lines.specs.Elements.{mark};
+    ghost use Rattle.tbr_lines.specs.View.{element_of};
     ghost use Rattle.tbr_lines.specs.State.{text_entries, EndsRun};
 
     /// A block without text, whose lines take `width` columns at most. It takes no memory.
@@ -75,16 +81,16 @@ impl<T: Eq + Clone, W: CharWidth> WrappedBlock<T, W> {
         requires { 0 < width }
         ensures { result ≡ record { width = width; may_overflow = allow_overflow && nat_lt width 2; padding = (if pad_blocks then Some default_tag else None); begun = false; ended = []; handed = []; run = []; failure = None } }
     {
-        let padding = if pad_blocks { Some(default_tag) } else { None };
         WrappedBlock {
             alloc,
             page: Open::new(alloc, width, allow_overflow && width < 2),
-            padding,
+            default_tag,
+            pads: pad_blocks,
             failure: None,
             begun: false,
             earlier: 0,
             handing: false,
-            run: History::new(),
+            notes: History::new(),
             handed: History::new(),
             columns: PhantomData,
         }
@@ -123,14 +129,7 @@ impl<T: Eq + Clone, W: CharWidth> WrappedBlock<T, W> {
     fn has_no_character(&self) -> bool
         ensures { self.now.failure ≡ None → self.now.may_overflow ≡ false → IsNormal self.now.run → (IsTrue result ↔ (has_character (kept_items W.columns self.now.run) ≡ false)) }
     {
-        self.page.flat.holds_characters();
-        if self.page.line_len > 0 {
-            return false;
-        }
-        match self.page.flat.first() {
-            Some(_) => false,
-            None => true,
-        }
+        !self.page.has_line() && !self.page.flat.has_word()
     }
 
     /// Whether a line has ended.
@@ -188,7 +187,8 @@ impl<T: Eq + Clone, W: CharWidth> WrappedBlock<T, W> {
         self.refusal()?;
         match self.page.add_char::<W>(c, main_tag, wrap_tag, mode) {
             Ok(()) => {
-                self.run = self.run.and(&(c, mode), main_tag, wrap_tag);
+                let note = Note::Character(c, mode);
+                self.notes = with_note(&self.notes, note, main_tag, wrap_tag);
                 Ok(())
             }
             Err(e) => {
@@ -240,7 +240,79 @@ impl<T: Eq + Clone, W: CharWidth> WrappedBlock<T, W> {
         Ok(())
     }
 
-    /// Ends the run. Its last word is placed, and its lines join the ended ones.
+    /// The marker joins the current word. It asks for a marker, not for text.
+    ///
+    /// It refuses only for want of memory.
+    pub fn add_element(&mut self, element: TaggedLineElement<T>) -> Result<(), Error>
+    where
+        T: Drop,
+        requires { (name : List ℕ) × (element_of element ≡ mark name) }
+        ensures ok { (name : List ℕ) → element_of element ≡ mark name → OnOk result (self.new ≡ record self.old { run = self.old.run ++ fragment name ∷ [] }) }
+        ensures memory { self.old.failure ≡ None → IfErr result (λ e. e ≡ E.OutOfMemory) }
+        ensures failed { IfErr result (λ e. self.new.failure ≡ Some e) }
+        ensures kept { (e : _) → self.old.failure ≡ Some e → (result ≡ Err e) × (self.new ≡ self.old) }
+    {
+        self.refusal()?;
+        match element {
+            TaggedLineElement::FragmentStart(name) => self.add_marker(name),
+            TaggedLineElement::Str(_) => Ok(()),
+        }
+    }
+
+    /// Adds a marker to the run.
+    fn add_marker(&mut self, name: String) -> Result<(), Error>
+    where
+        T: Drop,
+        requires { self.old.failure ≡ None }
+        ensures ok { OnOk result (self.new ≡ record self.old { run = self.old.run ++ fragment (string_bytes name) ∷ [] }) }
+        ensures failed { IfErr result (λ e. (e ≡ E.OutOfMemory) × (self.new.failure ≡ Some e)) }
+    {
+        let (notes, name) = with_marker(&self.notes, name, &self.default_tag);
+        match self.page.add_marker(name) {
+            Ok(()) => {
+                self.notes = notes;
+                Ok(())
+            }
+            Err(OutOfMemory) => {
+                self.failure = Some(Error::OutOfMemory);
+                Err(Error::OutOfMemory)
+            }
+        }
+    }
+
+    /// Takes the markers of the current word out of the run, in order, if that word has no character, and else none. After a
+    /// [`flush`](WrappedBlock::flush) these are the markers that stand on no ended line.
+    ///
+    /// It refuses only for want of memory.
+    pub fn take_trailing_fragments(&mut self) -> Result<Vec<TaggedLineElement<T>>, Error>
+    where
+        T: Drop,
+        ensures taken { IfOk result (λ es. self.new ≡ record self.old { run = without_last_markers (length es.items) self.old.run }) }
+        ensures markers { IfOk result (λ es. map element_of es.items ≡ map mark (last (length es.items) (fragment_names self.old.run))) }
+        ensures trailing { self.old.may_overflow ≡ false → IsNormal self.old.run → IfOk result (λ es. map element_of es.items ≡ map mark (marker_names (trailing W.columns self.old.run))) }
+        ensures memory { self.old.failure ≡ None → IfErr result (λ e. e ≡ E.OutOfMemory) }
+        ensures failed { IfErr result (λ e. self.new.failure ≡ Some e) }
+        ensures kept { (e : _) → self.old.failure ≡ Some e → (result ≡ Err e) × (self.new ≡ self.old) }
+    {
+        self.refusal()?;
+        if self.page.flat.has_word() {
+            return Ok(Vec::new(self.alloc));
+        }
+        match self.page.take_markers() {
+            Ok(markers) => {
+                let note = Note::Taken(markers.len());
+                self.notes = with_note(&self.notes, note, &self.default_tag, &self.default_tag);
+                Ok(markers)
+            }
+            Err(OutOfMemory) => {
+                self.failure = Some(Error::OutOfMemory);
+                Err(Error::OutOfMemory)
+            }
+        }
+    }
+
+    /// Ends the run. Its last word is placed, and its lines join the ended ones. Markers that stand on none of them begin the next run;
+    /// [`take_trailing_fragments`](WrappedBlock::take_trailing_fragments) takes them.
     ///
     /// In a `Normal` run `TooNarrow` comes exactly where a word of the run has a character wider than the block; in any other run only
     /// where the run has such a character, and always where that is visible; and never where lines may be wider. `OutOfMemory` comes
@@ -249,7 +321,8 @@ impl<T: Eq + Clone, W: CharWidth> WrappedBlock<T, W> {
     where
         T: Drop,
         requires { (x y : T) → T.is_clone x y → T.eq x y ≡ true }
-        ensures ok { OnOk result ((texts : List (List (Item T))) × EndsRun W.columns T.eq self.old texts × (self.new ≡ record self.old { begun = self.old.begun || is_some_list (self.old.handed ++ texts); ended = self.old.ended ++ texts; handed = []; run = [] })) }
+        ensures ok { OnOk result ((texts : List (List (Item T))) × (names : List (List ℕ)) × EndsRun W.columns T.eq self.old texts names
+            × (self.new ≡ record self.old { begun = self.old.begun || is_some_list (self.old.handed ++ texts); ended = self.old.ended ++ texts; handed = []; run = fragments names })) }
         ensures fit { OnOk result (self.old.may_overflow ≡ false → IsNormal self.old.run → WordsFit W.columns self.old.width self.old.run) }
         ensures visible_fit { OnOk result (self.old.may_overflow ≡ false → VisibleFit W.columns self.old.width self.old.run) }
         ensures too_narrow { self.old.failure ≡ None → result ≡ Err E.TooNarrow → (self.old.may_overflow ≡ false) × ¬ (CharactersFit W.columns self.old.width self.old.run) }
@@ -266,7 +339,8 @@ impl<T: Eq + Clone, W: CharWidth> WrappedBlock<T, W> {
                 self.earlier = lines;
                 self.handing = false;
                 self.handed = History::new();
-                self.run = History::new();
+                let note = Note::Ended(self.page.flat.word_markers());
+                self.notes = with_note(&self.notes, note, &self.default_tag, &self.default_tag);
                 Ok(())
             }
             Err(e) => {
@@ -342,10 +416,10 @@ impl<T: Eq + Clone, W: CharWidth> WrappedBlock<T, W> {
         ensures items { OnOk result (SameItems T.eq (items_of line.new) (items_of line.old ++ padding_of W.columns self.now.padding self.now.width (items_of line.old))) }
         ensures merged { IsMerged T.eq line.old → OnOk result (IsMerged T.eq line.new) }
     {
-        match &self.padding {
-            Some(tag) => line.pad_to::<W>(self.page.width, tag),
-            None => Ok(()),
+        if !self.pads {
+            return Ok(());
         }
+        line.pad_to::<W>(self.page.width, &self.default_tag)
     }
 
     /// Hands out the first line of earlier runs, if there is one.
@@ -371,7 +445,7 @@ impl<T: Eq + Clone, W: CharWidth> WrappedBlock<T, W> {
     where
         T: Drop,
         requires { (x y : T) → T.is_clone x y → T.eq x y ≡ true }
-        ensures lines { IfOk result (λ lines. (texts : List (List (Item T))) × EndsRun W.columns T.eq self texts × AllZip (ShowsText W.columns T.eq self.padding self.width) lines.items (self.ended ++ texts)) }
+        ensures lines { IfOk result (λ lines. (texts : List (List (Item T))) × (names : List (List ℕ)) × EndsRun W.columns T.eq self texts names × AllZip (ShowsText W.columns T.eq self.padding self.width) lines.items (self.ended ++ texts)) }
         ensures fit { OnOk result (self.may_overflow ≡ false → IsNormal self.run → WordsFit W.columns self.width self.run) }
         ensures visible_fit { OnOk result (self.may_overflow ≡ false → VisibleFit W.columns self.width self.run) }
         ensures too_narrow { self.failure ≡ None → result ≡ Err E.TooNarrow → (self.may_overflow ≡ false) × ¬ (CharactersFit W.columns self.width self.run) }

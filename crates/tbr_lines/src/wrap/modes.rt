@@ -1,17 +1,20 @@
 //! What each character of a run does, by its mode.
-ghost use Rattle.std.specs.Prelude.{◌≡◌, ◌≤◌, ◌<◌, ◌&&◌, ℕ, List, Option, Some, true, false, OnOk, Err};
+ghost use Rattle.std.specs.Prelude.{◌≡◌, ◌≤◌, ◌<◌, ◌&&◌, [], ℕ, List, map, string_bytes, Option, Some, true, false, OnOk, IfOk, Err};
 ghost use Rattle.tbr_model.specs.Run as model;
-ghost use Rattle.tbr_model.specs.Run.{Item, character, items_width, has_character};
+ghost use Rattle.tbr_model.specs.Run.{Item, character, fragment, items_width, has_character};
 ghost use Rattle.tbr_model.specs.Laid.{Laid};
-ghost use Rattle.tbr_model.specs.Rule.{Progress, call, step, enter, enter_normal, collapse, newline, tab, put_tab, keep_space, keep_character, passes, is_pre, preserve, finished};
+ghost use Rattle.tbr_model.specs.Rule.{Progress, call, step, enter, enter_normal, collapse, newline, tab, put_tab, keep_space, keep_character, passes, is_pre, preserve};
 ghost use Rattle.tbr_model.specs.declared.white_space.WhiteSpace.TheVariants.{Normal};
 ghost use Rattle.tbr_model.specs.Greedy.{IsNarrow};
 ghost use Rattle.tbr_lines.specs.Open.{Stands, Lays, KeepsLimits, KeepsSettings, Finished};
-ghost use Rattle.tbr_lines.specs.Elements.{SameItems};
+ghost use Rattle.tbr_model.specs.Markers.{marker_names};
+ghost use Rattle.tbr_lines.specs.Elements.{SameItems, mark};
+ghost use Rattle.tbr_lines.specs.View.{element_of};
 ghost use Rattle.tbr_lines.specs.declared.error.Error.TheVariants as E;
 
 use crate::error::{Error, OutOfMemory};
 use crate::space::{always_takes_space, is_wordbreak_point};
+use crate::tagged::TaggedLineElement;
 use crate::wrap::open::{Open, Space};
 use tbr_model::{CharWidth, WhiteSpace};
 
@@ -99,16 +102,6 @@ impl<T: Eq + Clone + Drop> Open<T> {
         self.put_tab(0, tag)
     }
 
-    /// Whether the word has a character.
-    fn has_word(&self) -> bool
-        ensures { (js : List (Item T)) → SameItems T.eq self.now.flat.word js → has_character js ≡ result }
-    {
-        match self.flat.first() {
-            Some(_) => true,
-            None => false,
-        }
-    }
-
     /// Keeps white space: it waits for a word, or joins the word's characters.
     fn keep_space(
         &mut self,
@@ -122,7 +115,7 @@ impl<T: Eq + Clone + Drop> Open<T> {
             OnOk result (Stands widths T.eq self.new before given (keep_space c a mode (Some columns) p)) }
         ensures limits { KeepsLimits self.old self.new }
     {
-        if self.has_word() {
+        if self.flat.has_word() {
             return self.join(c, columns, tag, mode);
         }
         let Some(columns) = self.pending().checked_add(columns) else {
@@ -278,20 +271,41 @@ impl<T: Eq + Clone + Drop> Open<T> {
         }
     }
 
-    /// Ends the run: lays the last word, ends the line, and drops the pending space.
+    /// Adds a marker to the word.
+    pub fn add_marker(&mut self, name: String) -> Result<(), OutOfMemory>
+        ensures added { (columns : ℕ → Option ℕ) (before given : List (List (Item T))) (p : Progress T) → Stands columns T.eq self.old before given p →
+            OnOk result (Stands columns T.eq self.new before given (enter columns self.old.width p (fragment (string_bytes name)))) }
+        ensures limits { KeepsLimits self.old self.new }
+    {
+        self.flat.push_marker(name)
+    }
+
+    /// Takes the markers out of a word that has no character.
+    pub fn take_markers(&mut self) -> Result<Vec<TaggedLineElement<T>>, OutOfMemory>
+        requires none { has_character self.old.flat.word ≡ false }
+        ensures markers { IfOk result (λ es. map element_of es.items ≡ map mark (marker_names self.old.flat.word)) }
+        ensures taken { (columns : ℕ → Option ℕ) (before given : List (List (Item T))) (p : Progress T) → Stands columns T.eq self.old before given p →
+            OnOk result (Stands columns T.eq self.new before given (record p { word = [] })) }
+        ensures limits { KeepsLimits self.old self.new }
+    {
+        self.flat.take_markers()
+    }
+
+    /// Ends the run: lays the last word, ends the line, and drops the pending space. Markers that stand on no ended line become the
+    /// next run's word.
     pub fn finish<W: CharWidth>(&mut self) -> Result<(), Error>
         requires faithful { (x y : T) → T.is_clone x y → T.eq x y ≡ true }
         requires stands { (before : List (List (Item T))) × (given : List (List (Item T))) × (p : Progress T) × Stands W.columns T.eq self.old before given p }
         ensures finished { (before given : List (List (Item T))) (p : Progress T) → Stands W.columns T.eq self.old before given p →
-            OnOk result (Finished W.columns T.eq self.old self.new before given (finished W.columns self.old.width p)) }
+            OnOk result (Finished W.columns T.eq self.old self.new before given p) }
         ensures too_narrow { result ≡ Err E.TooNarrow → (before given : List (List (Item T))) (p : Progress T) → Stands W.columns T.eq self.old before given p →
             (self.old.may_overflow ≡ false) × (has_character p.word ≡ true) × ¬ (IsNarrow W.columns self.old.width p.word) }
         ensures limits { KeepsLimits self.old self.new }
     {
         self.flush_word::<W>()?;
         self.fresh_line()?;
-        self.flat.holds_characters();
-        let _ = self.flat.first();
+        self.flat.unplace(self.line_len)?;
+        self.line_len = 0;
         self.space = None;
         self.word_mode = WhiteSpace::Normal;
         self.continued = false;

@@ -21,7 +21,7 @@ pub struct Space<T> {
     ghost positive: { 0 < columns },
 }
 
-/// The characters of a block that aren't handed out, where its lines end among them, and the word under way.
+/// The items of a block that aren't handed out, where its lines end among them, and the word under way.
 #[derive(Drop)]
 pub struct Open<T> {
     /// The columns of a line.
@@ -29,9 +29,9 @@ pub struct Open<T> {
     /// Whether a character that is wider than a line goes on one of its own.
     pub may_overflow: bool,
     pub flat: FlatText<T>,
-    /// The ended lines, each by its number of characters.
+    /// The ended lines, each by its number of items.
     pub lines: VecDeque<usize>,
-    /// The characters of the open line.
+    /// The items of the open line.
     pub line_len: usize,
     /// The columns of the open line.
     pub line_width: usize,
@@ -77,7 +77,7 @@ impl<T> Open<T> {
 }
 
 impl<T: Eq + Clone> Open<T> {
-    ghost use Rattle.tbr_model.specs.Run.{glyph, item_width, items_width};
+    ghost use Rattle.tbr_model.specs.Run.{item_width, items_width, has_character};
     ghost use Rattle.tbr_model.specs.Laid.{Laid, extended, ended, fresh, blanked, put_item, put_items};
     ghost use Rattle.tbr_model.specs.Rule.{spaces, trimmed, without_leading, put_spaces};
     ghost use Rattle.tbr_model.specs.Greedy.{IsNarrow};
@@ -100,6 +100,13 @@ impl<T: Eq + Clone> Open<T> {
         Ok(())
     }
 
+    /// Whether the open line has a character.
+    pub fn has_line(&self) -> bool
+        ensures { (before : List (List (Item T))) (l : Laid T) → Holds self.now before l → result ≡ has_character l.line }
+    {
+        self.flat.has_character(self.line_len)
+    }
+
     /// Ends the open line, if it has a character.
     pub fn fresh_line(&mut self) -> Result<(), OutOfMemory>
         ensures ended { (columns : ℕ → Option ℕ) (before given : List (List (Item T))) (r : Laid T) → Lays columns T.eq self.old before given r →
@@ -107,8 +114,7 @@ impl<T: Eq + Clone> Open<T> {
         ensures flat { self.new.flat ≡ self.old.flat }
         ensures same { KeepsSettings self.old self.new }
     {
-        self.flat.holds_characters();
-        if self.line_len == 0 {
+        if !self.has_line() {
             return Ok(());
         }
         self.end_line()?;
@@ -129,7 +135,7 @@ impl<T: Eq + Clone> Open<T> {
         self.end_line()
     }
 
-    /// Puts the word's first character on the open line, where it takes so many columns.
+    /// Puts the word's first item on the open line, where it takes so many columns.
     fn place_first(&mut self, columns: usize) -> Result<(), OutOfMemory>
         requires some { 0 < length self.old.flat.word }
         requires room { self.old.line_width + columns ≤ self.old.width }
@@ -142,13 +148,13 @@ impl<T: Eq + Clone> Open<T> {
         let Some(line_len) = self.line_len.checked_add(1) else {
             return Err(OutOfMemory);
         };
-        self.flat.place_first();
+        self.flat.place_first()?;
         self.line_len = line_len;
         self.line_width += columns;
         Ok(())
     }
 
-    /// Puts the word's first character behind those of no width, and ends the line.
+    /// Puts the word's first item behind those of no width, and ends the line.
     fn place_wide(&mut self) -> Result<(), OutOfMemory>
         requires some { 0 < length self.old.flat.word }
         requires blank { self.old.line_width ≡ 0 }
@@ -162,13 +168,13 @@ impl<T: Eq + Clone> Open<T> {
         let Some(line_len) = self.line_len.checked_add(1) else {
             return Err(OutOfMemory);
         };
-        self.flat.place_first();
+        self.flat.place_first()?;
         self.lines.push_back(line_len)?;
         self.line_len = 0;
         Ok(())
     }
 
-    /// Puts the word's first character, which is wider than a line: behind characters of no width, on a line that is ended at once.
+    /// Puts the word's first item, which is wider than a line: behind items of no width, on a line that is ended at once.
     fn put_wide(&mut self) -> Result<(), Error>
         requires some { 0 < length self.old.flat.word }
         ensures put { (widths : ℕ → Option ℕ) (before given : List (List (Item T))) (r : Laid T) (i j : Item T) (rest : List (Item T)) → Lays widths T.eq self.old before given r →
@@ -186,16 +192,15 @@ impl<T: Eq + Clone> Open<T> {
         Ok(())
     }
 
-    /// Puts the first character of a word: on the open line, or on a fresh one where it doesn't fit.
-    fn put_first<W: CharWidth>(&mut self, c: char) -> Result<(), Error>
-        requires first { (a : T) × (rest : List (Item T)) × (self.old.flat.word ≡ glyph c a ∷ rest) }
-        ensures put { (before given : List (List (Item T))) (r : Laid T) (i j : Item T) (rest : List (Item T)) → Lays W.columns T.eq self.old before given r →
-            self.old.flat.word ≡ i ∷ rest → SameItem T.eq i j → OnOk result (Lays W.columns T.eq self.new before given (put_item W.columns self.old.width r j)) }
+    /// Puts the first item of a word, which takes so many columns: on the open line, or on a fresh one where it doesn't fit.
+    fn put_first(&mut self, columns: usize) -> Result<(), Error>
+        requires some { 0 < length self.old.flat.word }
+        ensures put { (widths : ℕ → Option ℕ) (before given : List (List (Item T))) (r : Laid T) (i j : Item T) (rest : List (Item T)) → Lays widths T.eq self.old before given r →
+            self.old.flat.word ≡ i ∷ rest → SameItem T.eq i j → item_width widths j ≡ columns → OnOk result (Lays widths T.eq self.new before given (put_item widths self.old.width r j)) }
         ensures word { OnOk result ((i : Item T) × (rest : List (Item T)) × (self.old.flat.word ≡ i ∷ rest) × (self.new.flat.word ≡ rest)) }
-        ensures too_narrow { result ≡ Err E.TooNarrow → (self.old.may_overflow ≡ false) × (self.old.width < unwrap_or (W.columns c) 0) }
+        ensures too_narrow { result ≡ Err E.TooNarrow → (self.old.may_overflow ≡ false) × (self.old.width < columns) }
         ensures same { KeepsSettings self.old self.new }
     {
-        let columns = W::width(c).unwrap_or(0);
         if columns > self.width {
             return self.put_wide();
         }
@@ -208,7 +213,7 @@ impl<T: Eq + Clone> Open<T> {
         Ok(())
     }
 
-    /// Puts the characters of a word, one by one.
+    /// Puts the items of a word, one by one.
     pub fn put_word<W: CharWidth>(&mut self) -> Result<(), Error>
         ensures put { (before given : List (List (Item T))) (r : Laid T) (js : List (Item T)) → Lays W.columns T.eq self.old before given r → SameItems T.eq self.old.flat.word js →
             OnOk result (Lays W.columns T.eq self.new before given (put_items W.columns self.old.width r js)) }
@@ -216,8 +221,8 @@ impl<T: Eq + Clone> Open<T> {
         ensures too_narrow { result ≡ Err E.TooNarrow → (self.old.may_overflow ≡ false) × ¬ (IsNarrow W.columns self.old.width self.old.flat.word) }
         ensures same { KeepsSettings self.old self.new }
     {
-        while let Some(c) = self.flat.first() {
-            self.put_first::<W>(c)?;
+        while let Some(columns) = self.flat.first_width::<W>() {
+            self.put_first(columns)?;
         }
         Ok(())
     }
@@ -230,10 +235,11 @@ impl<T: Eq + Clone> Open<T> {
         ensures word { OnOk result (self.new.flat.word ≡ []) }
         ensures same { KeepsSettings self.old self.new }
     {
-        let Some(line_len) = self.line_len.checked_add(self.flat.word_len()) else {
+        let items = self.flat.word_len()?;
+        let Some(line_len) = self.line_len.checked_add(items) else {
             return Err(OutOfMemory);
         };
-        self.flat.place_word();
+        self.flat.place_word()?;
         self.line_len = line_len;
         self.line_width += columns;
         Ok(())

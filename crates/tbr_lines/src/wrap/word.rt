@@ -140,12 +140,11 @@ impl<T: Eq + Clone + Drop> Open<T> {
     /// Puts the word, before which nothing is pending, on the open line and the next ones.
     fn put_fresh<W: CharWidth>(&mut self) -> Result<(), Error>
         ensures put { (before given : List (List (Item T))) (p : Progress T) → Stands W.columns T.eq self.old before given p →
-            OnOk result (Stands W.columns T.eq self.new before given (record p { laid = put_items W.columns self.old.width p.laid p.word; word = []; continued = model.is_pre p.mode })) }
+            OnOk result (Stands W.columns T.eq self.new before given (record p { laid = put_items W.columns self.old.width p.laid p.word; word = [] })) }
         ensures too_narrow { result ≡ Err E.TooNarrow → (before given : List (List (Item T))) (p : Progress T) → Stands W.columns T.eq self.old before given p →
             (self.old.may_overflow ≡ false) × ¬ (IsNarrow W.columns self.old.width p.word) }
         ensures limits { KeepsLimits self.old self.new }
     {
-        self.continued = is_pre(self.word_mode);
         let columns = mem::replace(&mut self.word_width, 0);
         if columns <= self.width - self.line_width {
             self.place_word(columns)?;
@@ -154,7 +153,7 @@ impl<T: Eq + Clone + Drop> Open<T> {
         self.put_word::<W>()
     }
 
-    /// Puts the word on a fresh line, behind what is still pending.
+    /// Puts the word on a fresh line, behind what is still pending. A word that has lost its characters stays.
     fn lay_fresh<W: CharWidth>(&mut self) -> Result<(), Error>
         requires faithful { (x y : T) → T.is_clone x y → T.eq x y ≡ true }
         requires stands { (before : List (List (Item T))) × (given : List (List (Item T))) × (p : Progress T) × Stands W.columns T.eq self.old before given p }
@@ -164,10 +163,13 @@ impl<T: Eq + Clone + Drop> Open<T> {
             (self.old.may_overflow ≡ false) × ¬ (IsNarrow W.columns self.old.width p.word) }
         ensures limits { KeepsLimits self.old self.new }
     {
-        self.flat.holds_characters();
         self.fresh_line()?;
         self.put_pending::<W>()?;
-        self.put_fresh::<W>()
+        self.continued = is_pre(self.word_mode);
+        if self.flat.has_word() {
+            return self.put_fresh::<W>();
+        }
+        Ok(())
     }
 
     /// Lays the word: behind the pending space if both fit the open line, and else on a fresh one.
@@ -198,10 +200,10 @@ impl<T: Eq + Clone + Drop> Open<T> {
             (self.old.may_overflow ≡ false) × (has_character p.word ≡ true) × ¬ (IsNarrow W.columns self.old.width p.word) }
         ensures limits { KeepsLimits self.old self.new }
     {
-        match self.flat.first() {
-            None => Ok(()),
-            Some(_) => self.lay::<W>(),
+        if !self.flat.has_word() {
+            return Ok(());
         }
+        self.lay::<W>()
     }
 
     /// Lays the word, if it has columns.
@@ -224,9 +226,10 @@ impl<T: Eq + Clone + Drop> Open<T> {
     fn mode_with(&self, mode: WhiteSpace) -> WhiteSpace
         ensures { (js : List (Item T)) → SameItems T.eq self.now.flat.word js → result ≡ (if has_character js then self.now.word_mode else mode) }
     {
-        match self.flat.first() {
-            Some(_) => self.word_mode,
-            None => mode,
+        if self.flat.has_word() {
+            self.word_mode
+        } else {
+            mode
         }
     }
 

@@ -1,5 +1,4 @@
 use Rattle.std.proofs.Common.{◌≡◌, [], ◌∷◌, ◌++◌, ap, ◌∙◌, refl}
-use Rattle.std.proofs.lemmas.List.{map-append}
 use Rattle.tbr_model.specs.declared.white_space.WhiteSpace.TheVariants.{Normal}
 use Rattle.tbr_model.specs.Run.{Entry, character}
 use Rattle.tbr_model.specs.Rule.{entry, progress}
@@ -17,13 +16,13 @@ invariant_of-self g c = λ none.
     let eq = g.T.PartialEq.eq in
     let b = c.self.inside.page in
     let n = c.self.inside.earlier in
-    let run = entries_of c.self.inside.run.items in
+    let run = entries_of c.self.inside.notes.items in
     let handed = texts_of c.self.inside.handed.items in
     let k = c.self.invariant none in
     let e : Entry g.row.T.Denot = character c.args.c c.args.main_tag.now c.args.wrap_tag.now c.args.mode in
     let stands = c.in-Ok.ensures.entered (earlier_texts n b) k.given (progress columns b.width k.tracks.events) k.tracks.stands in
     let t = tracks_event columns eq b c.add_char.new.self (earlier_texts n b) k.given run (entry e) k.tracks c.in-Ok.ensures.limits stands in
-    let more : entries_of c.and-self-inside.result.items ≡ run ++ e ∷ [] = ap entries_of c.and-self-inside.ensures ∙ map-append (λ p. character p.0.0 p.1 p.2 p.0.1) c.self.inside.run.items (((c.args.c, c.args.mode), c.args.main_tag.now, c.args.wrap_tag.now) ∷ []) in
+    let more : entries_of c.with_note-self-inside.result.items ≡ run ++ e ∷ [] = c.with_note-self-inside.ensures in
     rw more (keeps_at columns eq n b c.add_char.new.self c.self.inside.handing handed run (run ++ e ∷ []) k t).1
 
 pub returns-in-Ok-clause-ok : goal.returns-in-Ok-clause-ok
@@ -32,21 +31,21 @@ returns-in-Ok-clause-ok g c =
     let eq = g.T.PartialEq.eq in
     let b = c.self.inside.page in
     let n = c.self.inside.earlier in
-    let run = entries_of c.self.inside.run.items in
+    let run = entries_of c.self.inside.notes.items in
     let handed = texts_of c.self.inside.handed.items in
     let k = c.self.invariant (ap (λ (s : State g.row.T.Denot). s.failure) c.self.view_is ∙ c.in_ok-refusal.ensures) in
     let limits = c.in-Ok.ensures.limits in
     let e : Entry g.row.T.Denot = character c.args.c c.args.main_tag.now c.args.wrap_tag.now c.args.mode in
     let stands = c.in-Ok.ensures.entered (earlier_texts n b) k.given (progress columns b.width k.tracks.events) k.tracks.stands in
     let t = tracks_event columns eq b c.add_char.new.self (earlier_texts n b) k.given run (entry e) k.tracks limits stands in
-    let more : entries_of c.and-self-inside.result.items ≡ run ++ e ∷ [] = ap entries_of c.and-self-inside.ensures ∙ map-append (λ p. character p.0.0 p.1 p.2 p.0.1) c.self.inside.run.items (((c.args.c, c.args.mode), c.args.main_tag.now, c.args.wrap_tag.now) ∷ []) in
+    let more : entries_of c.with_note-self-inside.result.items ≡ run ++ e ∷ [] = c.with_note-self-inside.ensures in
     rw (← c.self.view_is) (state_is limits.width limits.may_overflow refl (keeps_at columns eq n b c.add_char.new.self c.self.inside.handing handed run (run ++ e ∷ []) k t).0 refl more)
 
 pub returns-in-Err-clause-too_narrow : goal.returns-in-Err-clause-too_narrow
 returns-in-Err-clause-too_narrow g c = λ none e.
     let columns = g.W.CharWidth.columns in
     let b = c.self.inside.page in
-    let run = entries_of c.self.inside.run.items in
+    let run = entries_of c.self.inside.notes.items in
     let k = c.self.invariant (ap (λ (s : State g.row.T.Denot). s.failure) c.self.view_is ∙ none) in
     let refused = c.in-Err.ensures.too_narrow e (earlier_texts c.self.inside.earlier b) k.given (progress columns b.width k.tracks.events) k.tracks.stands in
     rw (← c.self.view_is) (refused.0, λ fit. refused.1 (characters_word_fits columns b.width k.tracks.events run k.tracks.run_is fit))
@@ -56,7 +55,7 @@ returns-in-Err-clause-normal_too_narrow g c = λ none.
     let columns = g.W.CharWidth.columns in
     let eq = g.T.PartialEq.eq in
     let b = c.self.inside.page in
-    let run = entries_of c.self.inside.run.items in
+    let run = entries_of c.self.inside.notes.items in
     let k = c.self.invariant (ap (λ (s : State g.row.T.Denot). s.failure) c.self.view_is ∙ none) in
     let last : Entry g.row.T.Denot = character c.args.c c.args.main_tag.now c.args.wrap_tag.now c.args.mode in
     rw (← c.self.view_is) (λ normal e.

@@ -11,7 +11,7 @@ returns-then-self-eq0 g c = λ live.
     let eq = g.T.PartialEq.eq in
     let b = c.self.inside.page in
     let before = earlier_texts c.self.inside.earlier b in
-    let run = entries_of c.self.inside.run.items in
+    let run = entries_of c.self.inside.notes.items in
     let k = c.self.invariant (ap (λ (s : State g.row.T.Denot). s.failure) c.self.view_is ∙ live) in
     rw (← c.self.view_is) (λ never normal. (λ t. no_columns_if columns eq b before k.given run k.tracks never normal c.if-self-eq0.true (eqb-true _ _ t), λ none. eq-eqb _ _ (no_columns columns eq b before k.given run k.tracks never normal none).1))
 
@@ -21,6 +21,6 @@ returns-else-self-eq0 g c = λ live.
     let eq = g.T.PartialEq.eq in
     let b = c.self.inside.page in
     let before = earlier_texts c.self.inside.earlier b in
-    let run = entries_of c.self.inside.run.items in
+    let run = entries_of c.self.inside.notes.items in
     let k = c.self.invariant (ap (λ (s : State g.row.T.Denot). s.failure) c.self.view_is ∙ live) in
     rw (← c.self.view_is) (λ never normal. (λ t. absurd (c.if-self-eq0.false (eqb-true _ _ t)), λ none. eq-eqb _ _ (no_columns columns eq b before k.given run k.tracks never normal none).0))

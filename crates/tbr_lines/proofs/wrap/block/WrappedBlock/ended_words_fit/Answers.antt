@@ -10,6 +10,6 @@ returns g c = λ live.
     let eq = g.T.PartialEq.eq in
     let b = c.self.inside.page in
     let before = earlier_texts c.self.inside.earlier b in
-    let run = entries_of c.self.inside.run.items in
+    let run = entries_of c.self.inside.notes.items in
     let k = c.self.invariant (ap (λ (s : State g.row.T.Denot). s.failure) c.self.view_is ∙ live) in
     rw (← c.self.view_is) (narrow_so_far columns eq b before k.given run k.tracks)

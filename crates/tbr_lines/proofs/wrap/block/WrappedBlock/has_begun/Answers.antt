@@ -11,7 +11,7 @@ returns-clause-empty g c = λ live.
     let eq = g.T.PartialEq.eq in
     let b = c.self.inside.page in
     let n = c.self.inside.earlier in
-    let run = entries_of c.self.inside.run.items in
+    let run = entries_of c.self.inside.notes.items in
     let k = c.self.invariant (ap (λ (s : State g.row.T.Denot). s.failure) c.self.view_is ∙ live) in
     rw (← c.self.view_is) (λ never normal none.
     let none_ended = ((blank_so_far columns eq b (earlier_texts n b) k.given run k.tracks never normal).blank none).2 in
@@ -23,7 +23,7 @@ returns-clause-blank g c = λ live.
     let eq = g.T.PartialEq.eq in
     let b = c.self.inside.page in
     let n = c.self.inside.earlier in
-    let run = entries_of c.self.inside.run.items in
+    let run = entries_of c.self.inside.notes.items in
     let k = c.self.invariant (ap (λ (s : State g.row.T.Denot). s.failure) c.self.view_is ∙ live) in
     rw (← c.self.view_is) (λ never normal none.
     let none_ended = ((blank_so_far columns eq b (earlier_texts n b) k.given run k.tracks never normal).bare none).0 in

@@ -8,7 +8,7 @@ use Rattle.tbr_lines.proofs.wrap.block.WrappedBlock.into_lines.Goals as goal
 pub loop-lines-init : goal.loop-lines-init
 loop-lines-init g c =
     let live : c.args.self.failure ≡ None = unfailed c.args.self.failure (λ e failed. let k = (c.in_ok-flush.ensures.kept e failed).0 in cc) in
-    (ap (λ (s : State g.row.T.Denot). s.failure) c.in_ok-flush.ensures.ok.2 ∙ live, refl, refl, [], refl, rw c.new-lines.ensures.items tt)
+    (ap (λ (s : State g.row.T.Denot). s.failure) c.in_ok-flush.ensures.ok.3 ∙ live, refl, refl, [], refl, rw c.new-lines.ensures.items tt)
 
 pub loop-lines-smaller : goal.loop-lines-smaller
 loop-lines-smaller g c =
@@ -37,10 +37,10 @@ returns-clause-lines g c =
     let ok = c.in_ok-flush.ensures.ok in
     let inv = c.loop-lines.invariant in
     let none : c.loop-lines.self.ended ≡ [] = none_of c.loop-lines.self.ended (λ text rest ended. not_given c.in_ok-line.field-0 _ c.in_default.not-Some (c.in_ok-line.ensures.given text rest ended)) in
-    let all : inv.3 ≡ c.args.self.ended ++ ok.0 = sym (append-nil inv.3) ∙ ap (λ ls. inv.3 ++ ls) (sym none) ∙ sym inv.4 ∙ ap (λ (s : State g.row.T.Denot). s.ended) ok.2 in
-    let padding : c.flush.new.self.padding ≡ c.args.self.padding = ap (λ (s : State g.row.T.Denot). s.padding) ok.2 in
-    let width : c.flush.new.self.width ≡ c.args.self.width = ap (λ (s : State g.row.T.Denot). s.width) ok.2 in
-    (ok.0, ok.1, rw (← all) (rw (← padding) (rw (← width) inv.5)))
+    let all : inv.3 ≡ c.args.self.ended ++ ok.0 = sym (append-nil inv.3) ∙ ap (λ ls. inv.3 ++ ls) (sym none) ∙ sym inv.4 ∙ ap (λ (s : State g.row.T.Denot). s.ended) ok.3 in
+    let padding : c.flush.new.self.padding ≡ c.args.self.padding = ap (λ (s : State g.row.T.Denot). s.padding) ok.3 in
+    let width : c.flush.new.self.width ≡ c.args.self.width = ap (λ (s : State g.row.T.Denot). s.width) ok.3 in
+    (ok.0, ok.1, ok.2, rw (← all) (rw (← padding) (rw (← width) inv.5)))
 
 pub returns-clause-kept : goal.returns-clause-kept
 returns-clause-kept g c = λ e failed. let k = (c.in_ok-flush.ensures.kept e failed).0 in cc

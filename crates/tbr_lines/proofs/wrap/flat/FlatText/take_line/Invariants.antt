@@ -4,10 +4,10 @@ use Rattle.tbr_lines.proofs.wrap.flat.FlatText.take_line.Given as goal
 
 abbrev pub invariant-loop-left : goal.invariant-loop-left
 invariant-loop-left g l = record {
-  within : l.left ≤ l.fn.characters;
-  items : SameItems g.T.PartialEq.eq (items_of l.line) (take (l.fn.characters - l.left) l.fn.self.placed);
+  within : l.left ≤ l.fn.items;
+  items : SameItems g.T.PartialEq.eq (items_of l.line) (take (l.fn.items - l.left) l.fn.self.placed);
   merged : IsMerged g.T.PartialEq.eq l.line;
-  rest : l.self ≡ record l.fn.self { placed = drop (l.fn.characters - l.left) l.fn.self.placed };
+  rest : l.self ≡ record l.fn.self { placed = drop (l.fn.items - l.left) l.fn.self.placed };
 }
 
 abbrev pub decreases-loop-left : goal.decreases-loop-left

@@ -1,33 +1,36 @@
-use Rattle.std.proofs.Common.{ℕ, ◌≤◌, ◌+◌, ◌-◌, length, replicate, refl, ap, ◌∙◌, arith}
-use Rattle.std.proofs.lemmas.List.{length-append, length-replicate}
+use Rattle.std.proofs.Common.{arith, ap, ◌∙◌, sym}
 use Rattle.tbr_model.specs.Rule.{without_leading}
-use Rattle.tbr_lines.specs.Flat.{Flat}
-use Rattle.tbr_lines.proofs.FlatTrim.{trimmed_flat, line_trimmed, word_trimmed}
+use Rattle.tbr_lines.specs.Flat.{Flat, Marking, marked, covered}
+use Rattle.tbr_lines.proofs.MarkedTrim.{trimmed_within, trimmed_covers, trimmed_line, led_within, led_covers, led_word}
 use Rattle.tbr_lines.proofs.wrap.flat.FlatText.trim.Goals as goal
+
+pub remove_last-requires : goal.remove_last-requires
+remove_last-requires g c =
+    trimmed_within c.self.inside.text.placed c.trim.new.self.placed c.self.inside.placed c.args.most c.min-last.result c.in_ok-spaces.spaces c.self.invariant.0 (omega arith) c.in_ok-spaces.ensures.placed
+
+pub remove_first-requires : goal.remove_first-requires
+remove_first-requires g c =
+    led_within c.self.inside.text.word c.trim.new.self.word c.self.inside.word c.in_ok-spaces.blanks c.self.invariant.1 (λ front rest parts len. c.in_ok-spaces.ensures.word front rest parts (len ∙ sym c.before-2.ensures))
+
+pub invariant_of-self-2 : goal.invariant_of-self-2
+invariant_of-self-2 g c = (
+  ap covered c.remove_last.ensures
+      ∙ trimmed_covers c.self.inside.text.placed c.trim.new.self.placed c.self.inside.placed c.args.most c.min-last.result c.in_ok-spaces.spaces c.self.invariant.0 (omega arith) c.in_ok-spaces.ensures.placed,
+  ap covered c.remove_first.ensures
+      ∙ led_covers c.self.inside.text.word c.trim.new.self.word c.self.inside.word c.in_ok-spaces.blanks c.self.invariant.1
+      (λ front rest parts len. c.in_ok-spaces.ensures.word front rest parts (len ∙ sym c.before-2.ensures)),
+)
 
 pub returns-clause-placed : goal.returns-clause-placed
 returns-clause-placed g c = λ before line parts len.
-    let l = c.self.inside.text in
-    let ts = c.self.inside.tags in
-    let n = c.trailing_spaces-spaces.result in
-    let b = c.leading_blanks-blanks.result in
-    let spaces = c.trailing_spaces-spaces.ensures.spaces in
-    let less : n ≤ length l.placed = omega (arith, ap length spaces.1, length-append spaces.0 (replicate n 32), length-replicate {A = ℕ} n 32) in
-    let trimmed = trimmed_flat l c.remove_between.new.self ts c.remove_before.new.self n b (c.word_len.result - b) (n + b) c.self.invariant less c.leading_blanks-blanks.ensures.within
-    (ap (λ m. m - b) c.word_len.ensures) refl c.in_ok-remove_between.ensures.ok c.remove_before.ensures in
-    let t = line_trimmed l.placed spaces.0 ts n c.args.most before line (omega (arith, c.self.invariant)) c.trailing_spaces-spaces.ensures.most spaces.1 c.trailing_spaces-spaces.ensures.all
+    let t =
+    trimmed_line c.self.inside.text.placed c.trim.new.self.placed c.self.inside.placed c.args.most c.min-last.result c.in_ok-spaces.spaces c.self.invariant.0 (omega arith) c.in_ok-spaces.ensures.placed before line
     (ap (λ (f : Flat g.row.T.Denot). f.placed) c.self.view_is ∙ parts) len in
-    (ap (λ (f : Flat g.row.T.Denot). f.placed) trimmed ∙ t.0, t.1)
+    (ap (λ (m : Marking). marked c.trim.new.self.placed m.marks) c.remove_last.ensures ∙ t.0, t.1)
 
 pub returns-clause-word : goal.returns-clause-word
 returns-clause-word g c =
-    let l = c.self.inside.text in
-    let ts = c.self.inside.tags in
-    let n = c.trailing_spaces-spaces.result in
-    let b = c.leading_blanks-blanks.result in
-    let spaces = c.trailing_spaces-spaces.ensures.spaces in
-    let less : n ≤ length l.placed = omega (arith, ap length spaces.1, length-append spaces.0 (replicate n 32), length-replicate {A = ℕ} n 32) in
-    let trimmed = trimmed_flat l c.remove_between.new.self ts c.remove_before.new.self n b (c.word_len.result - b) (n + b) c.self.invariant less c.leading_blanks-blanks.ensures.within
-    (ap (λ m. m - b) c.word_len.ensures) refl c.in_ok-remove_between.ensures.ok c.remove_before.ensures in
-    ap (λ (f : Flat g.row.T.Denot). f.word) trimmed ∙ word_trimmed l ts b c.leading_blanks-blanks.ensures.blank c.leading_blanks-blanks.ensures.all
+    ap (λ (m : Marking). marked c.trim.new.self.word m.marks) c.remove_first.ensures
+    ∙ led_word c.self.inside.text.word c.trim.new.self.word c.self.inside.word c.in_ok-spaces.blanks c.self.invariant.1
+    (λ front rest parts len. c.in_ok-spaces.ensures.word front rest parts (len ∙ sym c.before-2.ensures))
     ∙ ap (λ (f : Flat g.row.T.Denot). without_leading f.word) c.self.view_is

@@ -1,13 +1,14 @@
-use Rattle.std.proofs.Common.{◌≡◌, [], refl, ap, ◌∙◌, sym, subst, Err}
+use Rattle.std.proofs.Common.{◌≡◌, ◌++◌, refl, ap, ◌∙◌, sym, subst, Err}
 use Rattle.std.proofs.lemmas.Result.{err_from_is_err_and}
-use Rattle.tbr_model.specs.Run.{items_width}
 use Rattle.tbr_model.specs.Laid.{fresh}
 use Rattle.tbr_model.specs.Rule.{flush_word}
 use Rattle.tbr_model.proofs.HardLines.{flush_flushes}
 use Rattle.tbr_lines.specs.Elements.{SameItems}
 use Rattle.tbr_lines.specs.declared.error.Error.TheVariants as E
-use Rattle.tbr_lines.proofs.Laying.{none_same}
-use Rattle.tbr_lines.proofs.Finishing.{fresh_none, word_none, run_finished}
+use Rattle.tbr_model.specs.Layout.{joined}
+use Rattle.tbr_model.proofs.Letters.{no_character_no_width}
+use Rattle.tbr_lines.proofs.Same.{same_has}
+use Rattle.tbr_lines.proofs.Finishing.{fresh_none, append_none, run_finished}
 use Rattle.tbr_lines.proofs.wrap.open.Open.finish.Goals as goal
 
 pub returns-in_err-flush_word-clause-too_narrow : goal.returns-in_err-flush_word-clause-too_narrow
@@ -22,13 +23,15 @@ returns-clause-finished g c = λ before given p s.
     let columns = g.W.CharWidth.columns in
     let eq = g.T.PartialEq.eq in
     let b = c.args.self.now in
+    let d = c.fresh_line.new.self in
     let q = flush_word columns b.width p in
     let k = c.in_ok-flush_word.ensures in
     let f = c.in_ok-fresh_line.ensures in
     let t = k.laid before given p s in
     let l = f.ended columns before given q.laid t.lays in
     let word = subst (λ is. SameItems eq is q.word) (sym (ap (λ x. x.word) f.flat)) t.word in
-    let none : c.fresh_line.new.self.flat.word ≡ [] = word_none eq c.first.result c.fresh_line.new.self.flat.word q.word c.first.ensures word (flush_flushes columns b.width p) in
-    let rule_none : q.word ≡ [] = none_same eq q.word (subst (λ is. SameItems eq is q.word) none word) in
-    run_finished columns eq b c.fresh_line.new.self _ before given (fresh q.laid) l.0 (fresh_none q.laid) c.holds_characters.ensures.placed
-    (f.same.width ∙ k.limits.width) (f.same.may_overflow ∙ k.limits.may_overflow) refl refl refl l.1 none (f.same.word_width ∙ t.word_width ∙ ap (items_width columns) rule_none) refl refl refl refl
+    let none = append_none (fresh q.laid).line q.word (fresh_none q.laid) (flush_flushes columns b.width p) in
+    let u = c.in_ok-unplace.ensures (joined (before ++ l.0.laid.done)) l.0.laid.line l.0.holds.placed (sym l.0.holds.len) (same_has eq l.0.laid.line (fresh q.laid).line l.0.shows.last ∙ fresh_none q.laid) in
+    run_finished columns eq g.met.T.Eq.laws b d _ before given p l.0 word none
+    (f.same.width ∙ k.limits.width) (f.same.may_overflow ∙ k.limits.may_overflow) (ap (λ x. x.placed) u) (ap (λ x. x.word) u) refl refl l.1
+    (f.same.word_width ∙ t.word_width ∙ no_character_no_width columns q.word (flush_flushes columns b.width p)) (f.same.width ∙ k.limits.width) (f.same.may_overflow ∙ k.limits.may_overflow) refl refl refl refl

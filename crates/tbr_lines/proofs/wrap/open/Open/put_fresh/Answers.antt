@@ -1,7 +1,6 @@
-use Rattle.std.proofs.Common.{◌≡◌, refl, sym, ap, ◌∙◌, arith, subst}
+use Rattle.std.proofs.Common.{◌≡◌, refl, sym, ◌∙◌, arith, subst}
 use Rattle.std.proofs.lemmas.Result.{on_ok_weaker}
 use Rattle.tbr_model.specs.Run.{items_width}
-use Rattle.tbr_model.specs.Rule.{is_pre}
 use Rattle.tbr_model.specs.Laid.{extended, put_items}
 use Rattle.tbr_lines.specs.Open.{Lays}
 use Rattle.tbr_lines.proofs.Laying.{lays_same}
@@ -27,7 +26,7 @@ returns-then-columns-self-clause-put g c = λ before given p s.
       word = rw k.word tt;
       word_width = k.same.word_width ∙ c.replace-columns.ensures.after;
       mode = k.same.word_mode ∙ s.mode;
-      continued = k.same.continued ∙ c.is_pre-self.ensures ∙ ap is_pre s.mode;
+      continued = k.same.continued ∙ s.continued;
       again = k.same.again ∙ s.again;
     }
 
@@ -45,7 +44,7 @@ returns-clause-put g c = λ before given p s.
       word = rw x.1 tt;
       word_width = k.same.word_width ∙ c.replace-columns.ensures.after;
       mode = k.same.word_mode ∙ s.mode;
-      continued = k.same.continued ∙ c.is_pre-self.ensures ∙ ap is_pre s.mode;
+      continued = k.same.continued ∙ s.continued;
       again = k.same.again ∙ s.again;
     }) (on_ok_both c.put_word.result _ _ (k.put before given p.laid p.word same s.word) k.word)
 

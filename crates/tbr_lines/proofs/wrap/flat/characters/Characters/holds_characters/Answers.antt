@@ -3,7 +3,7 @@ use Rattle.std.specs.List.{AllByRecursion as Each}
 use Rattle.tbr_model.specs.Entry.{is_glyph}
 use Rattle.tbr_lines.specs.Flat.{Flat}
 use Rattle.tbr_lines.proofs.FlatTrim.{all_glyphs}
-use Rattle.tbr_lines.proofs.wrap.flat.FlatText.holds_characters.Goals as goal
+use Rattle.tbr_lines.proofs.wrap.flat.characters.Characters.holds_characters.Goals as goal
 
 pub returns-clause-placed : goal.returns-clause-placed
 returns-clause-placed g c =
