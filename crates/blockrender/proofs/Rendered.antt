@@ -65,10 +65,10 @@ lines_same columns eq padding width (e ∷ es) (t ∷ ts) (l ∷ ls) none h k =
     ap (λ cs. cs ++ flat_map shown es) (line_same columns eq padding width e t l none h.0 k.0) ∙ ap (λ cs. line_bytes l ++ cs) (lines_same columns eq padding width es ts ls none h.1 k.1)
 
 -- the lines of a block that has ended no other run and handed out no line
-pub rendered : (columns : ℕ → Option ℕ) (eq : Unit {0} → Unit {0} → Bool) (s : State (Unit {0})) (texts : List (List (Item (Unit {0})))) (lines : List (List (Element (Unit {0})))) (bytes : List ℕ) → IsLive (Some s) → EndsRun columns eq s texts →
+pub rendered : (columns : ℕ → Option ℕ) (eq : Unit {0} → Unit {0} → Bool) (s : State (Unit {0})) (texts : List (List (Item (Unit {0})))) (lines : List (List (Element (Unit {0})))) (bytes : List ℕ) (names : List (List ℕ)) → IsLive (Some s) → EndsRun columns eq s texts names →
     AllZip (ShowsText columns eq s.padding s.width) lines (s.ended ++ texts) → bytes ≡ flat_map (λ line. encode_utf8_all (characters line) ++ 10 ∷ []) lines → IsRendered columns s.width s.run bytes
 unfolding shown
-rendered columns eq s texts lines bytes live ends all e =
+rendered columns eq s texts lines bytes names live ends all e =
     let only = subst (λ ls. AllZip (ShowsText columns eq s.padding s.width) lines (ls ++ texts)) live.3 all in
     let best = subst (λ ls. HasBestLines columns eq s.width s.run (ls ++ texts)) live.4 (ends.shown.best live.0 live.5) in
     (best.lines, best.best, e ∙ lines_same columns eq s.padding s.width lines texts best.lines live.1 only best.shown)
