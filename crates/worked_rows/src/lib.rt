@@ -9,6 +9,8 @@ mod borders;
 #[cfg(test)]
 mod columns;
 #[cfg(test)]
+mod markers;
+#[cfg(test)]
 mod preserved;
 #[cfg(test)]
 mod short_texts;

@@ -1,61 +1,91 @@
-//! Every short text over a few telling characters: the block's lines are those of the plain program for the best layout.
+//! Every short text over a few telling characters and markers: the block's lines are those of the plain program for the best layout,
+//! and the markers that are on none of them trail.
 ghost use Rattle.std.specs.Prelude.{◌<◌};
 
-use crate::texts::wrapped_by;
+use crate::texts::{Voice, append_marked_line, append_marker, join};
 use std::alloc::{AllocError, Global};
 use std::test::Fail;
-use tbr_lines::{Error, UnicodeColumns, WhiteSpace};
+use tbr_lines::{Error, OutOfMemory, UnicodeColumns, WhiteSpace, WrappedBlock};
 use tbr_model::{Entry, Slot, best_layout, slots};
 
-/// A letter, a space, two characters that look like none, a stroke, and a wide character.
-const ALPHABET: [char; 6] = ['a', ' ', '\u{200b}', '\u{a0}', '\u{336}', '漢'];
+/// It stands for a marker.
+const MARK: char = '|';
+
+/// A letter, a space, two characters that look like none, a stroke, a wide character, and a marker.
+const ALPHABET: [char; 7] = ['a', ' ', '\u{200b}', '\u{a0}', '\u{336}', '漢', MARK];
 
 const LONGEST: u32 = 5;
 
 const WIDEST: usize = 4;
 
-/// The text that a number stands for, its digits to the base six being characters.
+/// The text that a number stands for, its digits to the base seven being characters.
 fn numbered(alloc: Global, length: u32, number: u32) -> Result<String, AllocError> {
     let mut text = String::new(alloc);
     let mut left = number;
     for _ in 0..length {
-        text.push(ALPHABET[(left % 6) as usize])?;
-        left /= 6;
+        text.push(ALPHABET[(left % 7) as usize])?;
+        left /= 7;
     }
     Ok(text)
+}
+
+fn entry(alloc: Global, c: char) -> Result<Entry<u8>, AllocError> {
+    if c == MARK {
+        let name = String::from_str(alloc, "m")?;
+        return Ok(Entry::Fragment { name });
+    }
+    Ok(Entry::Character {
+        c,
+        tag: 7,
+        wrap_tag: 7,
+        mode: WhiteSpace::Normal,
+    })
 }
 
 fn entries(alloc: Global, text: &str) -> Result<Vec<Entry<u8>>, AllocError> {
     let mut run = Vec::new(alloc);
     for c in text.chars() {
-        run.push(Entry::Character {
-            c,
-            tag: 7,
-            wrap_tag: 7,
-            mode: WhiteSpace::Normal,
-        })?;
+        run.push(entry(alloc, c)?)?;
     }
     Ok(run)
 }
 
-/// The text of a layout's line: its characters, and a space at each spaced gap strictly inside it.
-fn append_line(all: &mut String, line: &[Slot<'_, u8>]) -> Result<(), AllocError> {
+/// The text of a layout's line: its items, and a space at each spaced gap strictly inside it.
+fn append_line(all: &mut String, line: &[Slot<'_, u8>]) -> Result<(), OutOfMemory> {
     let mut first = true;
     for slot in line {
         if !first && slot.gap.is_some() {
             all.push(' ')?;
         }
         first = false;
-        if let Entry::Character { c, .. } = slot.entry {
-            all.push(*c)?;
+        match slot.entry {
+            Entry::Character { c, .. } => all.push(*c)?,
+            Entry::Fragment { name } => append_marker(all, name.as_str())?,
         }
     }
     all.push('\n')?;
     Ok(())
 }
 
-/// The lines of the best layout by the plain program, each with a newline, or `None` where the text has no legal layout.
-fn plainly(alloc: Global, width: usize, text: &str) -> Result<Option<String>, AllocError> {
+/// Appends the markers that trail: those of the text that are no items.
+fn append_trailing(
+    all: &mut String,
+    text: &str,
+    items: &[Slot<'_, u8>],
+) -> Result<(), OutOfMemory> {
+    let mut items = items
+        .iter()
+        .filter(|slot| matches!(slot.entry, Entry::Fragment { .. }));
+    for c in text.chars() {
+        if c == MARK && items.next().is_none() {
+            append_marker(all, "m")?;
+        }
+    }
+    Ok(())
+}
+
+/// The lines of the best layout by the plain program, each with a newline, and the markers that trail, or `None` where the text has no legal layout.
+fn plainly(alloc: Global, width: usize, text: &str) -> Result<Option<String>, OutOfMemory> {
     let run = entries(alloc, text)?;
     let Some(cuts) = best_layout::<u8, UnicodeColumns>(alloc, &run, width)? else {
         return Ok(None);
@@ -71,14 +101,51 @@ fn plainly(alloc: Global, width: usize, text: &str) -> Result<Option<String>, Al
         }
         from = *to;
     }
+    append_trailing(&mut all, text, items.as_slice())?;
     Ok(Some(all))
+}
+
+/// The lines of a block with the text, each with a newline, and the markers that trail.
+fn wrapped(alloc: Global, width: usize, text: &str) -> Result<String, Error>
+    requires { 0 < width }
+{
+    let mut block: WrappedBlock<Voice> = WrappedBlock::new(
+        alloc,
+        width,
+        false,
+        false,
+        Voice::First,
+    );
+    for c in text.chars() {
+        join_one(&mut block, alloc, c)?;
+    }
+    block.flush()?;
+    let trailing = block.take_trailing_fragments()?;
+    let mut all = String::new(alloc);
+    for line in &block.into_lines()? {
+        append_marked_line(&mut all, line)?;
+    }
+    for _ in &trailing {
+        append_marker(&mut all, "m")?;
+    }
+    Ok(all)
+}
+
+/// One character joins the block's run, or a marker.
+fn join_one(block: &mut WrappedBlock<Voice>, alloc: Global, c: char) -> Result<(), Error> {
+    if c == MARK {
+        return join(block, alloc, WhiteSpace::Normal, "#m");
+    }
+    let mut text = String::new(alloc);
+    text.push(c)?;
+    join(block, alloc, WhiteSpace::Normal, text.as_str())
 }
 
 /// Whether the block wraps the text as the plain program does.
 fn agrees(alloc: Global, width: usize, text: &str) -> Result<bool, Fail>
     requires { 0 < width }
 {
-    let wrapped = match wrapped_by::<UnicodeColumns>(alloc, width, &[text]) {
+    let wrapped = match wrapped(alloc, width, text) {
         Ok(lines) => Some(lines),
         Err(Error::TooNarrow) => None,
         Err(e) => return Err(Fail::from(e)),
@@ -99,7 +166,7 @@ fn agrees_on_texts_of(
 ) -> Result<(), Fail>
     requires { 0 < width }
 {
-    for number in 0..6u32.saturating_pow(length) {
+    for number in 0..7u32.saturating_pow(length) {
         let text = numbered(alloc, length, number)?;
         assert!(rt;
             agrees(alloc, width, text.as_str())?,
@@ -133,6 +200,7 @@ fn the_block_wraps_worked_texts_as_the_plain_program_does(rt: HostRuntime) -> Re
         "abcdefgh ij",
         "o there",
         "a\u{336}b\u{336}c",
+        "|ab| |cd |ef|| |",
     ];
     for text in texts {
         for width in 1..=12 {

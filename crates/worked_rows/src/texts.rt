@@ -1,8 +1,12 @@
 //! Texts of lines, as the tests compare them.
-ghost use Rattle.std.specs.Prelude.{◌<◌};
+ghost use Rattle.std.specs.Prelude.{◌<◌, ◌≡◌, ℕ, List, IfOk};
+ghost use Rattle.tbr_lines.specs.Elements.{mark};
+ghost use Rattle.tbr_lines.specs.View.{element_of};
 
 use std::alloc::Global;
-use tbr_lines::{CharWidth, Error, OutOfMemory, TaggedLine, WhiteSpace, WrappedBlock};
+use tbr_lines::{
+    CharWidth, Error, OutOfMemory, TaggedLine, TaggedLineElement, WhiteSpace, WrappedBlock,
+};
 
 /// A second type of tags.
 #[derive(Clone, Copy, PartialEq, Eq, Debug)]
@@ -43,4 +47,47 @@ pub fn append_line<T>(all: &mut String, line: &TaggedLine<T>) -> Result<(), OutO
     all.push_str(text.as_str())?;
     all.push('\n')?;
     Ok(())
+}
+
+/// Appends a line's text with its markers, as `<name>`, and a newline.
+pub fn append_marked_line<T>(all: &mut String, line: &TaggedLine<T>) -> Result<(), OutOfMemory> {
+    for element in line.iter() {
+        match element {
+            TaggedLineElement::Str(piece) => all.push_str(piece.s.as_str())?,
+            TaggedLineElement::FragmentStart(name) => append_marker(all, name.as_str())?,
+        }
+    }
+    all.push('\n')?;
+    Ok(())
+}
+
+/// Appends a marker as `<name>`.
+pub fn append_marker(all: &mut String, name: &str) -> Result<(), OutOfMemory> {
+    all.push('<')?;
+    all.push_str(name)?;
+    all.push('>')?;
+    Ok(())
+}
+
+/// A text joins a block's run, or, behind a `#`, a marker of that name.
+pub fn join<W: CharWidth + Drop>(
+    block: &mut WrappedBlock<Voice, W>,
+    alloc: Global,
+    mode: WhiteSpace,
+    call: &str,
+) -> Result<(), Error> {
+    match call.strip_prefix("#") {
+        Some(name) => {
+            let marker = marker_of(alloc, name)?;
+            block.add_element(marker)
+        }
+        None => block.add_text(call, mode, &Voice::First, &Voice::Second),
+    }
+}
+
+fn marker_of<T>(alloc: Global, name: &str) -> Result<TaggedLineElement<T>, OutOfMemory>
+    ensures { IfOk result (λ marker. (name : List ℕ) × (element_of marker ≡ mark name)) }
+{
+    let name = String::from_str(alloc, name)?;
+    Ok(TaggedLineElement::FragmentStart(name))
 }
