@@ -1,10 +1,16 @@
-//! Wraps the text on standard input, so that its cost can be measured. The first line is `tags` or `pre`, what follows is the text:
-//! under a tag for each character in turn, or preformatted under one tag. Prints how many lines there are and how many bytes they hold.
+//! Wraps the text on standard input, so that its cost can be measured. The first line is `tags`, `markers` or `pre`, what follows is the
+//! text: under a tag for each character in turn, with a marker before each character, or preformatted under one tag. Prints how many
+//! lines there are and how many bytes they hold.
 #![tactic(auto)]
 
+ghost use Rattle.std.specs.Prelude.{◌≡◌, ℕ, List, IfOk};
+ghost use Rattle.tbr_lines.specs.Elements.{mark};
+ghost use Rattle.tbr_lines.specs.View.{element_of};
+
+use std::alloc::Global;
 use std::io;
 use std::process::ExitCode;
-use tbr_lines::{Error, WhiteSpace, WrappedBlock};
+use tbr_lines::{Error, OutOfMemory, TaggedLineElement, WhiteSpace, WrappedBlock};
 
 const WIDTH: usize = 72;
 
@@ -13,6 +19,8 @@ const WIDTH: usize = 72;
 enum Kind {
     /// Each character by itself, under the tags 1 and 2 in turn.
     Tags,
+    /// Each character by itself, behind a marker.
+    Markers,
     /// At once, preformatted under the tag 1, and 2 where a line goes on.
     Pre,
 }
@@ -21,14 +29,16 @@ impl Kind {
     fn parse(word: &str) -> Option<Kind> {
         match word {
             "tags" => Some(Kind::Tags),
+            "markers" => Some(Kind::Markers),
             "pre" => Some(Kind::Pre),
             _ => None,
         }
     }
 
-    fn add(self, block: &mut WrappedBlock<u8>, text: &str) -> Result<(), Error> {
+    fn add(self, alloc: Global, block: &mut WrappedBlock<u8>, text: &str) -> Result<(), Error> {
         match self {
             Kind::Tags => add_under_tags_in_turn(block, text),
+            Kind::Markers => add_behind_markers(alloc, block, text),
             Kind::Pre => block.add_text(text, WhiteSpace::Pre, &1, &2),
         }
     }
@@ -44,12 +54,32 @@ fn add_under_tags_in_turn(block: &mut WrappedBlock<u8>, text: &str) -> Result<()
     Ok(())
 }
 
+fn add_behind_markers(
+    alloc: Global,
+    block: &mut WrappedBlock<u8>,
+    text: &str,
+) -> Result<(), Error> {
+    for c in text.chars() {
+        let mut buffer = [0; 4];
+        block.add_element(marker(alloc)?)?;
+        block.add_text(c.encode_utf8(&mut buffer), WhiteSpace::Normal, &1, &1)?;
+    }
+    Ok(())
+}
+
+fn marker(alloc: Global) -> Result<TaggedLineElement<u8>, OutOfMemory>
+    ensures { IfOk result (λ marker. (name : List ℕ) × (element_of marker ≡ mark name)) }
+{
+    let name = String::from_str(alloc, "m")?;
+    Ok(TaggedLineElement::FragmentStart(name))
+}
+
 fn run(rt: &HostRuntime) -> Option<()> {
     let input = io::read_to_string(rt.alloc(), rt.reader()).ok()?;
     let (word, text) = input.as_str().split_once('\n')?;
     let kind = Kind::parse(word)?;
     let mut block = WrappedBlock::new(rt.alloc(), WIDTH, false, false, 1);
-    kind.add(&mut block, text).ok()?;
+    kind.add(rt.alloc(), &mut block, text).ok()?;
     let lines = block.into_lines().ok()?;
     let mut bytes = 0usize;
     for line in &lines {
