@@ -4,4 +4,4 @@ pub mod Texts
 pub mod Commands
 pub mod Rendered
 pub mod Once
-pub mod Normal
+pub mod Refused

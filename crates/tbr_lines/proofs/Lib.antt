@@ -33,3 +33,4 @@ pub mod Shown
 pub mod Told
 pub mod Blocks
 pub mod Begun
+pub mod Normal

@@ -3,7 +3,8 @@ use Rattle.std.specs.Str.{chars}
 use Rattle.std.proofs.lemmas.Result.{on_ok_weaker}
 use Rattle.tbr_lines.specs.State.{State}
 use Rattle.blockrender.specs.Program.{IsLive}
-use Rattle.blockrender.proofs.Normal.{normal_with, refused_narrow}
+use Rattle.tbr_lines.proofs.Normal.{normal_with}
+use Rattle.blockrender.proofs.Refused.{refused_narrow}
 use Rattle.blockrender.proofs.program.add_text.Goals as goal
 
 pub returns-clause-live : goal.returns-clause-live
