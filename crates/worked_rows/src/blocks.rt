@@ -1,5 +1,5 @@
 //! Worked examples of blocks that pad, overflow, and hand out their lines one at a time.
-use crate::texts::Voice;
+use crate::texts::{Voice, append_line};
 use std::alloc::Global;
 use std::test::Fail;
 use tbr_lines::{Error, OutOfMemory, TaggedLine, WhiteSpace, WrappedBlock};
@@ -12,13 +12,6 @@ fn lines_of(alloc: Global, block: WrappedBlock<Voice>) -> Result<String, Error> 
         append_line(&mut all, line)?;
     }
     Ok(all)
-}
-
-fn append_line(all: &mut String, line: &TaggedLine<Voice>) -> Result<(), OutOfMemory> {
-    let text = line.to_text()?;
-    all.push_str(text.as_str())?;
-    all.push('\n')?;
-    Ok(())
 }
 
 /// A line's text, or that there is none.
