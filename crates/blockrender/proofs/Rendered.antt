@@ -6,7 +6,7 @@ use Rattle.std.proofs.lemmas.List.{take_more}
 use Rattle.std.proofs.lemmas.List.Concat.{flat_map-append}
 use Rattle.tbr_model.specs.Run.{Item, glyph, marker}
 use Rattle.tbr_model.specs.Layout.{Slot, line_text}
-use Rattle.tbr_lines.specs.Elements.{Element, piece, mark, element_items, items_of, element_characters, characters, SameItem, SameItems}
+use Rattle.tbr_lines.specs.Elements.{Element, piece, marker_element, element_items, items_of, element_characters, characters, SameItem, SameItems}
 use Rattle.tbr_lines.specs.State.{State, EndsRun}
 use Rattle.tbr_lines.specs.Wrapped.{IsTextOf, ShowsText, HasBestLines, padding_of}
 use Rattle.blockrender.specs.Meaning.{item_characters, line_bytes, IsRendered}
@@ -23,7 +23,7 @@ glyph_characters (c ∷ cs) a = ap (λ ds. c ∷ ds) (glyph_characters cs a)
 
 element_same : {A : Type 0} (e : Element A) → flat_map item_characters (element_items e) ≡ element_characters e
 element_same (piece cs a) = glyph_characters cs a
-element_same (mark name) = refl
+element_same (marker_element name) = refl
 
 -- a line's characters are those of its items
 characters_same : {A : Type 0} (es : List (Element A)) → flat_map item_characters (items_of es) ≡ characters es

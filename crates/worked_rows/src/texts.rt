@@ -1,6 +1,6 @@
 //! Texts of lines, as the tests compare them.
 ghost use Rattle.std.specs.Prelude.{◌<◌, ◌≡◌, ℕ, List, IfOk};
-ghost use Rattle.tbr_lines.specs.Elements.{mark};
+ghost use Rattle.tbr_lines.specs.Elements.{marker_element};
 ghost use Rattle.tbr_lines.specs.View.{element_of};
 
 use std::alloc::Global;
@@ -86,7 +86,7 @@ pub fn join<W: CharWidth + Drop>(
 }
 
 fn marker_of<T>(alloc: Global, name: &str) -> Result<TaggedLineElement<T>, OutOfMemory>
-    ensures { IfOk result (λ marker. (name : List ℕ) × (element_of marker ≡ mark name)) }
+    ensures { IfOk result (λ marker. (name : List ℕ) × (element_of marker ≡ marker_element name)) }
 {
     let name = String::from_str(alloc, name)?;
     Ok(TaggedLineElement::FragmentStart(name))

@@ -1,0 +1,122 @@
+-- What a border shows.
+use Rattle.std.proofs.Common.{◌≡◌, ℕ, zero, suc, ◌+◌, ◌-◌, ◌<◌, ◌≤◌, Bool, true, false, cond, List, [], ◌∷◌, ◌++◌, map, length, get_or, take, drop, drop-cons, length-drop, subst, refl, ap, sym, ◌∙◌, arith, append_assoc}
+use Rattle.std.specs.List.{slice_range}
+use Rattle.std.specs.Prelude.{replicate}
+use Rattle.std.specs.Char.{IsScalar}
+use Rattle.std.specs.Cmp.{IsEquivalence}
+use Rattle.std.proofs.lemmas.List.{map-append, take_all}
+use Rattle.std.proofs.lemmas.List.Concat.{flat_map-append}
+use Rattle.tbr_model.specs.Run.{Item}
+use Rattle.tbr_tagged.specs.Elements.{element_items, element_characters, SameItems}
+use Rattle.tbr_tagged.specs.Walks.{item_character, item_characters}
+use Rattle.tbr_border.specs.Cell.{Cell, slash, arms, character, line_above, is_among}
+use Rattle.tbr_border.specs.Border.{Hole, AreInOrder, drawn, shown_from}
+use Rattle.tbr_tagged.proofs.SameItems.{same_items, same_items_append, same_from_path, same_items_trans}
+use Rattle.tbr_tagged.proofs.LineWalks.{text_characters, element_has}
+
+-- ---- characters
+
+pub character_scalar : (c : Cell) → IsScalar (character c)
+character_scalar slash = refl
+character_scalar (arms true true true true) = refl
+character_scalar (arms true true true false) = refl
+character_scalar (arms true true false true) = refl
+character_scalar (arms true true false false) = refl
+character_scalar (arms true false true true) = refl
+character_scalar (arms true false true false) = refl
+character_scalar (arms true false false true) = refl
+character_scalar (arms true false false false) = refl
+character_scalar (arms false true true true) = refl
+character_scalar (arms false true true false) = refl
+character_scalar (arms false true false true) = refl
+character_scalar (arms false true false false) = refl
+character_scalar (arms false false true true) = refl
+character_scalar (arms false false true false) = refl
+character_scalar (arms false false false true) = refl
+character_scalar (arms false false false false) = refl
+
+pub line_above_scalar : (c : Cell) → IsScalar (line_above c)
+line_above_scalar c = go (is_among (character c) (0x2534 ∷ 0x253C ∷ 0x2514 ∷ 0x2518 ∷ []))
+  where
+    go : (b : Bool) → IsScalar (cond b 0x2502 32)
+    go true = refl
+    go false = refl
+
+-- ---- parts of lists
+
+map-take : {X Y : Type 0} (f : X → Y) (n : ℕ) (xs : List X) → map f (take n xs) ≡ take n (map f xs)
+map-take f zero xs = refl
+map-take f (suc n) [] = refl
+map-take f (suc n) (x ∷ xs) = ap (λ ys. f x ∷ ys) (map-take f n xs)
+
+pub map-drop : {X Y : Type 0} (f : X → Y) (n : ℕ) (xs : List X) → map f (drop n xs) ≡ drop n (map f xs)
+map-drop f zero xs = refl
+map-drop f (suc n) [] = refl
+map-drop f (suc n) (x ∷ xs) = map-drop f n xs
+
+pub map-slice : {X Y : Type 0} (f : X → Y) (xs : List X) (i j : ℕ) → map f (slice_range xs i j) ≡ slice_range (map f xs) i j
+map-slice f xs i j = map-take f (j - i) (drop i xs) ∙ ap (take (j - i)) (map-drop f i xs)
+
+pub map-copies : {X Y : Type 0} (f : X → Y) (n : ℕ) (x : X) → map f (replicate n x) ≡ replicate n (f x)
+map-copies f zero x = refl
+map-copies f (suc n) x = ap (λ ys. f x ∷ ys) (map-copies f n x)
+
+-- ---- holes in order
+
+pub in_order_within : {A : Type 0} (from : ℕ) (hs : List (Hole A)) (end : ℕ) → AreInOrder from hs end → from ≤ end
+in_order_within from [] end h = h
+in_order_within from (g ∷ hs) end h = omega (arith, h.0, in_order_within (g.place + g.width) hs end h.1)
+
+-- ---- one more hole of the text
+
+pub text_step : {A : Type 0} (tag : A) (cells : List Cell) (at : ℕ) (h : Hole A) (rest : List (Hole A)) (text more all : List ℕ) →
+    more ≡ text ++ map character (slice_range cells at h.place) → all ≡ more ++ element_characters h.element →
+    all ++ item_characters (shown_from tag cells (h.place + h.width) rest) ≡ text ++ item_characters (shown_from tag cells at (h ∷ rest))
+text_step tag cells at h rest text more all e f =
+    let between = map character (slice_range cells at h.place) in
+    let behind = shown_from tag cells (h.place + h.width) rest in
+    let parts : item_characters (shown_from tag cells at (h ∷ rest)) ≡ between ++ (element_characters h.element ++ item_characters behind) =
+    flat_map-append item_character (drawn (slice_range cells at h.place) tag) (element_items h.element ++ behind)
+    ∙ ap (λ cs. cs ++ item_characters (element_items h.element ++ behind)) (text_characters between tag)
+    ∙ ap (λ cs. between ++ cs) (flat_map-append item_character (element_items h.element) behind ∙ ap (λ cs. cs ++ item_characters behind) (element_has h.element)) in
+    ap (λ cs. cs ++ item_characters behind) (f ∙ ap (λ cs. cs ++ element_characters h.element) e)
+    ∙ append_assoc (text ++ between) (element_characters h.element) (item_characters behind)
+    ∙ append_assoc text between (element_characters h.element ++ item_characters behind)
+    ∙ ap (λ cs. text ++ cs) (sym parts)
+
+pub text_end : {A : Type 0} (tag : A) (cells : List Cell) (at : ℕ) (text all : List ℕ) → all ≡ text ++ map character (drop at cells) → all ≡ text ++ item_characters (shown_from tag cells at [])
+text_end tag cells at text all e = e ∙ ap (λ cs. text ++ cs) (sym (text_characters (map character (drop at cells)) tag))
+
+module _ {A : Type 0} (eq : A → A → Bool) (laws : IsEquivalence eq) where
+  -- one more hole of the line
+  pub line_step : (tag : A) (cells : List Cell) (at : ℕ) (h : Hole A) (rest : List (Hole A)) (line more all : List (Item A)) →
+      SameItems eq more (line ++ drawn (slice_range cells at h.place) tag) → SameItems eq all (more ++ element_items h.element) →
+      SameItems eq (all ++ shown_from tag cells (h.place + h.width) rest) (line ++ shown_from tag cells at (h ∷ rest))
+  line_step tag cells at h rest line more all e f =
+      let between = drawn (slice_range cells at h.place) tag in
+      let behind = shown_from tag cells (h.place + h.width) rest in
+      let one : SameItems eq all ((line ++ between) ++ element_items h.element) =
+      same_items_trans eq laws all (more ++ element_items h.element) ((line ++ between) ++ element_items h.element) f
+      (same_items_append eq laws more (line ++ between) (element_items h.element) (element_items h.element) e (same_items eq laws (element_items h.element))) in
+      let regrouped : ((line ++ between) ++ element_items h.element) ++ behind ≡ line ++ (between ++ (element_items h.element ++ behind)) =
+      append_assoc (line ++ between) (element_items h.element) behind ∙ append_assoc line between (element_items h.element ++ behind) in
+      same_items_trans eq laws (all ++ behind) (((line ++ between) ++ element_items h.element) ++ behind) (line ++ shown_from tag cells at (h ∷ rest))
+      (same_items_append eq laws all ((line ++ between) ++ element_items h.element) behind behind one (same_items eq laws behind))
+      (same_from_path eq laws (((line ++ between) ++ element_items h.element) ++ behind) (line ++ shown_from tag cells at (h ∷ rest)) regrouped)
+
+-- the holes from one on, as a walk has them before it
+pub hole_here : {X : Type 0} {A : Type 0} (f : X → Hole A) (all xs rest : List X) (x : X) (at len : ℕ) → all ≡ xs ++ (x ∷ rest) →
+    ((hs : List (Hole A)) → map f all ≡ map f xs ++ hs → AreInOrder at hs len) → AreInOrder at (f x ∷ map f rest) len
+hole_here f all xs rest x at len e fit = fit (f x ∷ map f rest) (ap (map f) e ∙ map-append f xs (x ∷ rest))
+
+-- the same of a loop over a slice
+pub hole_at : {X : Type 0} {A : Type 0} (f : X → Hole A) (xs : List X) (i : ℕ) (x : X) (at len : ℕ) → i < length xs → x ≡ get_or xs i x →
+    AreInOrder at (map f (drop i xs)) len → (at ≤ (f x).place) × AreInOrder ((f x).place + (f x).width) (map f (drop (i + 1) xs)) len
+hole_at f xs i x at len below is fit =
+    let next : suc i ≡ i + 1 = omega arith in
+    let parts : drop i xs ≡ x ∷ drop (i + 1) xs = drop-cons xs i x below ∙ ap (λ y. y ∷ drop (suc i) xs) (sym is) ∙ ap (λ n. x ∷ drop n xs) next in
+    subst (λ hs. AreInOrder at hs len) (ap (map f) parts) fit
+
+-- the cells from a place on
+pub cells_from : {X : Type 0} (cell : X → Cell) (xs : List X) (at : ℕ) → map cell (take (length xs - at) (drop at xs)) ≡ drop at (map cell xs)
+cells_from cell xs at = ap (map cell) (take_all (length xs - at) (drop at xs) (omega (arith, length-drop at xs))) ∙ map-drop cell at xs

@@ -1,0 +1,51 @@
+-- Holes in order.
+use Rattle.std.proofs.Common.{◌≡◌, ℕ, suc, ◌+◌, ◌-◌, ◌<◌, ◌≤◌, Bool, List, [], ◌∷◌, ◌++◌, map, length, get_or, refl, subst, arith}
+use Rattle.std.specs.List.{AllZip}
+use Rattle.tbr_border.specs.Border.{Hole, span_end, AreInOrder, SameHole}
+
+-- where holes from a place on end
+abbrev pub last_end : {A : Type 0} → ℕ → List (Hole A) → ℕ
+last_end from [] = from
+last_end from (h ∷ hs) = last_end (h.place + h.width) hs
+
+pub span_end-is : {A : Type 0} (hs : List (Hole A)) → span_end hs ≡ last_end 0 hs
+span_end-is [] = refl
+span_end-is (h ∷ []) = refl
+span_end-is (h ∷ k ∷ hs) = span_end-is (k ∷ hs)
+
+pub in_order_push : {A : Type 0} (from : ℕ) (hs : List (Hole A)) (h : Hole A) (end longer : ℕ) → AreInOrder from hs end → last_end from hs ≤ h.place → h.place + h.width ≤ longer → AreInOrder from (hs ++ h ∷ []) longer
+in_order_push from [] h end longer k p q = (p, q)
+in_order_push from (g ∷ hs) h end longer k p q = (k.0, in_order_push (g.place + g.width) hs h end longer k.1 p q)
+
+pub in_order_longer : {A : Type 0} (from : ℕ) (hs : List (Hole A)) (end longer : ℕ) → AreInOrder from hs end → end ≤ longer → AreInOrder from hs longer
+in_order_longer from [] end longer h k = omega arith
+in_order_longer from (g ∷ hs) end longer h k = (h.0, in_order_longer (g.place + g.width) hs end longer h.1 k)
+
+pub in_order_end : {A : Type 0} (from : ℕ) (hs : List (Hole A)) (end : ℕ) → AreInOrder from hs end → last_end from hs ≤ end
+in_order_end from [] end h = h
+in_order_end from (g ∷ hs) end h = in_order_end (g.place + g.width) hs end h.1
+
+-- the last hole's end
+pub span_end-last : {X : Type 0} {A : Type 0} (f : X → Hole A) (xs : List X) (d : X) → 0 < length xs → (f (get_or xs (length xs - 1) d)).place + (f (get_or xs (length xs - 1) d)).width ≡ span_end (map f xs)
+span_end-last f [] d h = absurd (omega arith)
+span_end-last f (x ∷ []) d h = refl
+span_end-last f (x ∷ y ∷ xs) d h =
+    let e : length (x ∷ y ∷ xs) - 1 ≡ suc (length (y ∷ xs) - 1) = omega arith in
+    rw e (span_end-last f (y ∷ xs) d (omega arith))
+
+-- one more hole, the same on both sides
+pub same_holes_push : {A : Type 0} (eq : A → A → Bool) (hs ks : List (Hole A)) (h k : Hole A) → AllZip (SameHole eq) hs ks → SameHole eq h k → AllZip (SameHole eq) (hs ++ h ∷ []) (ks ++ k ∷ [])
+same_holes_push eq [] [] h k p q = (q, tt)
+same_holes_push eq [] (l ∷ ks) h k p q = absurd p
+same_holes_push eq (g ∷ hs) [] h k p q = absurd p
+same_holes_push eq (g ∷ hs) (l ∷ ks) h k p q = (p.0, same_holes_push eq hs ks h k p.1 q)
+
+-- holes of the same places are in the same order
+pub same_order : {A : Type 0} (eq : A → A → Bool) (from : ℕ) (hs ks : List (Hole A)) (end : ℕ) → AllZip (SameHole eq) hs ks → AreInOrder from ks end → AreInOrder from hs end
+same_order eq from [] [] end p h = h
+same_order eq from [] (k ∷ ks) end p h = absurd p
+same_order eq from (h ∷ hs) [] end p o = absurd p
+same_order eq from (h ∷ hs) (k ∷ ks) end p o =
+    let place : from ≤ h.place = omega (arith, p.0.0, o.0) in
+    let ends : k.place + k.width ≡ h.place + h.width = omega (arith, p.0.0, p.0.1) in
+    (place, subst (λ n. AreInOrder n hs end) ends (same_order eq (k.place + k.width) hs ks end p.1 o.1))

@@ -1,0 +1,3 @@
+pub mod BorderText
+pub mod HolesInOrder
+pub mod JoinedCells

@@ -1,0 +1,16 @@
+use Rattle.std.proofs.Common.{map, take, refl}
+use Rattle.std.proofs.lemmas.List.{map_push}
+use Rattle.tbr_border.specs.BorderView.{hole_of}
+use Rattle.tbr_tagged.proofs.ElementLoops.{one_more}
+use Rattle.tbr_border.proofs.HolesInOrder.{same_holes_push}
+use Rattle.tbr_border.proofs.border.copied.Goals as goal
+
+pub loop-span-preserved : goal.loop-span-preserved
+loop-span-preserved g c =
+    rw (
+      c.in_ok-push.ensures.items,
+      map_push,
+      one_more hole_of c.args.holes.now c.loop-span.span-index c.span-item.result c.loop-span-test.true c.span-item.is,
+    )
+    (same_holes_push g.T.PartialEq.eq (map hole_of c.loop-span.copies.items) (map hole_of (take c.loop-span.span-index c.args.holes.now)) _ (hole_of c.span-item.result)
+    c.loop-span.invariant (refl, refl, c.in_ok-clone.ensures))

@@ -1,0 +1,4 @@
+pub mod Cell
+pub mod Border
+pub mod BorderView
+pub mod RenderLine

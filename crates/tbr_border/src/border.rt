@@ -1,0 +1,445 @@
+//! Horizontal borders, with text in front of them.
+ghost use Rattle.std.specs.Prelude.{◌≡◌, ◌+◌, ◌≤◌, ◌++◌, ◌∷◌, [], true, map, length, replicate, chars, string_bytes, IfOk, OnOk, OnErr};
+ghost use Rattle.tbr_model.specs.Run.{items_width};
+ghost use Rattle.tbr_tagged.specs.Elements.{element_items, items_of, characters, SameItems, IsMerged};
+ghost use Rattle.tbr_tagged.specs.View.{element_of};
+ghost use Rattle.tbr_tagged.specs.Walks.{item_characters};
+ghost use Rattle.tbr_border.specs.Cell.{cell_of, above, below, side_of, chopped_left, chopped_right, character};
+ghost use Rattle.tbr_border.specs.Border as model;
+ghost use Rattle.std.specs.List.{AllZip};
+ghost use Rattle.tbr_tagged.specs.Copies.{CopiesAreEqual};
+ghost use Rattle.tbr_border.specs.Border.{drawn, shown, shown_from, AreInOrder, SameBorder, SameHole};
+ghost use Rattle.tbr_border.specs.BorderView.{hole_of};
+
+pub use cell::BorderSegHoriz;
+use cell::Side;
+pub use laws::{
+    cell_has_two_arms, cells_keep_two_arms, chops_are_idempotent, joins_are_idempotent,
+    joins_commute, stretching_appends,
+};
+use std::alloc::Global;
+use std::marker::Model;
+use tbr_model::CharWidth;
+use tbr_tagged::{OutOfMemory, TaggedLine, TaggedLineElement, TaggedString};
+
+mod cell;
+mod laws;
+
+/// A horizontal border: cells under a tag, and elements that stand in front of some of them. A contract sees its cells as sets of
+/// arms, its tag, and the elements as holes, each with its place and its width in columns.
+#[derive(Debug, Drop)]
+pub struct BorderHoriz<T> {
+    segments: Vec<BorderSegHoriz>,
+    tag: T,
+    holes: Vec<Span<T>>,
+}
+
+/// An element in front of the cells from a place on.
+#[derive(Debug, Drop)]
+struct Span<T> {
+    place: usize,
+    width: usize,
+    element: TaggedLineElement<T>,
+}
+
+impl<T> Model for BorderHoriz<T> {
+    ghost use Rattle.tbr_border.specs.Border.{Border};
+
+    ghost Value = { Border T };
+
+    ghost use Rattle.tbr_border.specs.BorderView.{border_of, SpansFit};
+
+    ghost view = { border_of };
+
+    ghost invariant = { SpansFit };
+}
+
+impl<T: Drop> BorderHoriz<T> {
+    /// A border of `width` cells `─`, without holes.
+    pub fn new(alloc: Global, width: usize, tag: T) -> Result<BorderHoriz<T>, OutOfMemory>
+        ensures { IfOk result (λ b. b ≡ record { cells = replicate width (cell_of BorderSegHoriz.Horiz); tag = tag; holes = [] }) }
+    {
+        BorderHoriz::new_type(alloc, width, BorderSegHoriz::Horiz, tag)
+    }
+
+    /// A border of `width` cells of one kind, without holes.
+    pub fn new_type(
+        alloc: Global,
+        width: usize,
+        linetype: BorderSegHoriz,
+        tag: T,
+    ) -> Result<BorderHoriz<T>, OutOfMemory>
+        ensures { IfOk result (λ b. b ≡ record { cells = replicate width (cell_of linetype); tag = tag; holes = [] }) }
+    {
+        let mut segments = Vec::new(alloc);
+        segments.resize(width, linetype)?;
+        Ok(BorderHoriz {
+            segments,
+            tag,
+            holes: Vec::new(alloc),
+        })
+    }
+}
+
+impl<T> BorderHoriz<T> {
+    /// Appends cells `─` up to `width` cells.
+    ///
+    /// Where memory is refused the border stays as it was.
+    pub fn stretch_to(&mut self, width: usize) -> Result<(), OutOfMemory>
+        ensures ok { OnOk result (self.new ≡ record self.old { cells = model.stretched width self.old.cells }) }
+        ensures err { OnErr result (self.new ≡ self.old) }
+    {
+        stretch(&mut self.segments, width)
+    }
+
+    /// Stretches the border to `x + 1` cells, and adds the arm up to the cell at `x`.
+    ///
+    /// Where memory is refused, or `x + 1` passes `usize`, the border stays as it was.
+    pub fn join_above(&mut self, x: usize) -> Result<(), OutOfMemory>
+        ensures ok { OnOk result (self.new ≡ record self.old { cells = model.joined_at above x self.old.cells }) }
+        ensures err { OnErr result (self.new ≡ self.old) }
+    {
+        join_at(&mut self.segments, Side::Above, x)
+    }
+
+    /// Stretches the border to `x + 1` cells, and adds the arm down to the cell at `x`.
+    ///
+    /// Where memory is refused, or `x + 1` passes `usize`, the border stays as it was.
+    pub fn join_below(&mut self, x: usize) -> Result<(), OutOfMemory>
+        ensures ok { OnOk result (self.new ≡ record self.old { cells = model.joined_at below x self.old.cells }) }
+        ensures err { OnErr result (self.new ≡ self.old) }
+    {
+        join_at(&mut self.segments, Side::Below, x)
+    }
+
+    /// Adds an arm down at `pos + i` for each place `i` where the other border, which is seen from above, has one of `┴ ┬ ┼ └ ┘`, also
+    /// under its holes. The border is stretched as far as joins come.
+    ///
+    /// Where memory is refused, or a place passes `usize`, the border stays as it was.
+    pub fn merge_from_below(
+        &mut self,
+        other: &BorderHoriz<T>,
+        pos: usize,
+    ) -> Result<(), OutOfMemory>
+        ensures ok { OnOk result (self.new ≡ record self.old { cells = model.merged below self.old.cells pos other.now.cells }) }
+        ensures err { OnErr result (self.new ≡ self.old) }
+    {
+        merge(&mut self.segments, Side::Below, &other.segments, pos)
+    }
+
+    /// Adds an arm up at `pos + i` for each place `i` where the other border, which is seen from below, has one of `┴ ┬ ┼ ┌ ┐`, also
+    /// under its holes. The border is stretched as far as joins come.
+    ///
+    /// Where memory is refused, or a place passes `usize`, the border stays as it was.
+    pub fn merge_from_above(
+        &mut self,
+        other: &BorderHoriz<T>,
+        pos: usize,
+    ) -> Result<(), OutOfMemory>
+        ensures ok { OnOk result (self.new ≡ record self.old { cells = model.merged above self.old.cells pos other.now.cells }) }
+        ensures err { OnErr result (self.new ≡ self.old) }
+    {
+        merge(&mut self.segments, Side::Above, &other.segments, pos)
+    }
+
+    /// Puts an element in front of the cells from `pos` on, for as many columns as it takes. The border is stretched to its end, and the
+    /// cells beside it are chopped on the side to it. A marker takes no column.
+    ///
+    /// Where memory is refused, or the element's columns or its end pass `usize`, the border stays as it was and the element is
+    /// dropped.
+    pub fn add_text_span<W: CharWidth>(
+        &mut self,
+        pos: usize,
+        element: TaggedLineElement<T>,
+    ) -> Result<(), OutOfMemory>
+    where
+        T: Drop,
+        requires { model.span_end self.old.holes ≤ pos }
+        ensures ok { OnOk result (let width = items_width W.columns (element_items (element_of element)) in self.new ≡ record self.old { cells = model.opened pos (pos + width) (model.stretched (pos + width) self.old.cells); holes = self.old.holes ++ record { place = pos; width = width; element = element_of element } ∷ [] }) }
+        ensures err { OnErr result (self.new ≡ self.old) }
+    {
+        let width = element.width::<W>()?;
+        let Some(end) = pos.checked_add(width) else {
+            return Err(OutOfMemory);
+        };
+        self.holes.push(Span {
+            place: pos,
+            width,
+            element,
+        })?;
+        if let Err(e) = stretch(&mut self.segments, end) {
+            self.holes.pop();
+            return Err(e);
+        }
+        open(&mut self.segments, pos, end);
+        Ok(())
+    }
+
+    /// The end of the last hole, 0 if there is none.
+    pub fn span_end(&self) -> usize
+        ensures { result ≡ model.span_end self.now.holes }
+    {
+        match self.holes.last() {
+            Some(span) => span.place + span.width,
+            None => 0,
+        }
+    }
+
+    /// Whether something stands in front of the cells.
+    pub fn has_holes(&self) -> bool
+        ensures { result ≡ model.has_holes self.now.holes }
+    {
+        !self.holes.is_empty()
+    }
+
+    /// How many cells the border has.
+    pub fn len(&self) -> usize
+        ensures { result ≡ length self.now.cells }
+    {
+        self.segments.len()
+    }
+
+    /// The text of the line above: `│` above each `┴`, `┼`, `└` and `┘`, also under holes, and spaces else.
+    pub fn to_vertical_lines_above(&self) -> Result<String, OutOfMemory>
+        ensures { IfOk result (λ text. chars (string_bytes text) ≡ model.lines_above self.now) }
+    {
+        let mut text = String::new(*self.segments.allocator());
+        for cell in &self.segments {
+            text.push(cell.line_above())?;
+        }
+        Ok(text)
+    }
+}
+
+fn stretch(segments: &mut Vec<BorderSegHoriz>, width: usize) -> Result<(), OutOfMemory>
+    ensures ok { OnOk result (map cell_of segments.new.items ≡ model.stretched width (map cell_of segments.old.items)) }
+    ensures len { OnOk result (width ≤ length segments.new.items) }
+    ensures longer { length segments.old.items ≤ length segments.new.items }
+    ensures err { OnErr result (segments.new.items ≡ segments.old.items) }
+{
+    if segments.len() < width {
+        segments.resize(width, BorderSegHoriz::Horiz)?;
+    }
+    Ok(())
+}
+
+fn join_at(segments: &mut Vec<BorderSegHoriz>, side: Side, x: usize) -> Result<(), OutOfMemory>
+    ensures ok { OnOk result (map cell_of segments.new.items ≡ model.joined_at (side_of side) x (map cell_of segments.old.items)) }
+    ensures longer { length segments.old.items ≤ length segments.new.items }
+    ensures err { OnErr result (segments.new.items ≡ segments.old.items) }
+{
+    let Some(width) = x.checked_add(1) else {
+        return Err(OutOfMemory);
+    };
+    stretch(segments, width)?;
+    segments[x].join(side);
+    Ok(())
+}
+
+fn merge(
+    segments: &mut Vec<BorderSegHoriz>,
+    side: Side,
+    other: &[BorderSegHoriz],
+    pos: usize,
+) -> Result<(), OutOfMemory>
+    ensures ok { OnOk result (map cell_of segments.new.items ≡ model.merged (side_of side) (map cell_of segments.old.items) pos (map cell_of other.now)) }
+    ensures longer { length segments.old.items ≤ length segments.new.items }
+    ensures err { OnErr result (segments.new.items ≡ segments.old.items) }
+{
+    let count = joins_end(side, other);
+    if count == 0 {
+        return Ok(());
+    }
+    let Some(width) = pos.checked_add(count) else {
+        return Err(OutOfMemory);
+    };
+    stretch(segments, width)?;
+    join_under(segments, side, other, pos);
+    Ok(())
+}
+
+/// One past the last cell that joins.
+fn joins_end(side: Side, other: &[BorderSegHoriz]) -> usize
+    ensures { result ≡ model.joins_end (side_of side) (map cell_of other.now) }
+{
+    let mut end = 0;
+    for (i, cell) in other.iter().enumerate() {
+        if cell.merges(side) {
+            end = i + 1;
+        }
+    }
+    end
+}
+
+/// Joins each cell under another that joins.
+fn join_under(segments: &mut Vec<BorderSegHoriz>, side: Side, other: &[BorderSegHoriz], pos: usize)
+    requires { pos + model.joins_end (side_of side) (map cell_of other.now) ≤ length segments.old.items }
+    ensures cells { map cell_of segments.new.items ≡ model.joined_under (side_of side) (map cell_of segments.old.items) pos (map cell_of other.now) }
+    ensures len { length segments.new.items ≡ length segments.old.items }
+{
+    for (i, cell) in other.iter().enumerate() {
+        if cell.merges(side) {
+            segments[pos + i].join(side);
+        }
+    }
+}
+
+/// Chops the cells beside the columns from `pos` to `end`.
+fn open(segments: &mut Vec<BorderSegHoriz>, pos: usize, end: usize)
+    ensures cells { map cell_of segments.new.items ≡ model.opened pos end (map cell_of segments.old.items) }
+    ensures len { length segments.new.items ≡ length segments.old.items }
+{
+    if pos > 0 {
+        chop_right_at(segments, pos - 1);
+    }
+    chop_left_at(segments, end);
+}
+
+fn chop_right_at(segments: &mut Vec<BorderSegHoriz>, place: usize)
+    ensures cells { map cell_of segments.new.items ≡ model.changed_at chopped_right place (map cell_of segments.old.items) }
+    ensures len { length segments.new.items ≡ length segments.old.items }
+{
+    if let Some(cell) = segments.get_mut(place) {
+        cell.chop_right();
+    }
+}
+
+fn chop_left_at(segments: &mut Vec<BorderSegHoriz>, place: usize)
+    ensures cells { map cell_of segments.new.items ≡ model.changed_at chopped_left place (map cell_of segments.old.items) }
+    ensures len { length segments.new.items ≡ length segments.old.items }
+{
+    if let Some(cell) = segments.get_mut(place) {
+        cell.chop_left();
+    }
+}
+
+impl<T> BorderHoriz<T> {
+    /// The border's text: for each column what stands in front of it, or the cell's character.
+    pub fn to_text(&self) -> Result<String, OutOfMemory>
+        ensures { IfOk result (λ text. chars (string_bytes text) ≡ item_characters (shown self.now.tag self.now)) }
+    {
+        let cells = self.segments.as_slice();
+        let mut text = String::new(*self.segments.allocator());
+        let mut at = 0;
+        for span in &self.holes {
+            draw(&mut text, &cells[at..span.place])?;
+            text.push_str(span.element.as_str())?;
+            at = span.place + span.width;
+        }
+        draw(&mut text, &cells[at..])?;
+        Ok(text)
+    }
+}
+
+impl<T: Eq + Clone + Drop> BorderHoriz<T> {
+    /// The border as a line of pieces: cells stand under copies of its tag, and what stands in front of them keeps tags and markers.
+    /// Pieces are the longest stretches under equal tags.
+    pub fn into_tagged_line(self) -> Result<TaggedLine<T>, OutOfMemory>
+        requires { CopiesAreEqual T.is_clone T.eq }
+        ensures items { IfOk result (λ line. SameItems T.eq (items_of line) (shown self.tag self)) }
+        ensures merged { IfOk result (λ line. IsMerged T.eq line) }
+    {
+        let segments = self.segments;
+        let holes = self.holes;
+        let tag = self.tag;
+        flattened(&segments, holes, &tag)
+    }
+
+    /// The border as a line of pieces: cells stand under copies of the given tag, and what stands in front of them keeps tags and
+    /// markers. Pieces are the longest stretches under equal tags.
+    pub fn into_tagged_line_with(self, tag: &T) -> Result<TaggedLine<T>, OutOfMemory>
+        requires { CopiesAreEqual T.is_clone T.eq }
+        ensures items { IfOk result (λ line. SameItems T.eq (items_of line) (shown tag.now self)) }
+        ensures merged { IfOk result (λ line. IsMerged T.eq line) }
+    {
+        let segments = self.segments;
+        let holes = self.holes;
+        flattened(&segments, holes, tag)
+    }
+
+    /// The same cells and holes under copies of their tags.
+    pub fn clone(&self) -> Result<BorderHoriz<T>, OutOfMemory>
+        requires { CopiesAreEqual T.is_clone T.eq }
+        ensures { IfOk result (λ b. SameBorder T.eq b self.now) }
+    {
+        let holes = copied(*self.segments.allocator(), &self.holes)?;
+        let segments = Vec::from_slice(*self.segments.allocator(), &self.segments)?;
+        let tag = self.tag.clone()?;
+        Ok(BorderHoriz {
+            segments,
+            tag,
+            holes,
+        })
+    }
+}
+
+fn copied<T: Eq + Clone + Drop>(
+    alloc: Global,
+    holes: &[Span<T>],
+) -> Result<Vec<Span<T>>, OutOfMemory>
+    requires { CopiesAreEqual T.is_clone T.eq }
+    ensures { IfOk result (λ copies. AllZip (SameHole T.eq) (map hole_of copies.items) (map hole_of holes.now)) }
+{
+    let mut copies = Vec::with_capacity(alloc, holes.len())?;
+    for span in holes {
+        copies.push(Span {
+            place: span.place,
+            width: span.width,
+            element: span.element.clone()?,
+        })?;
+    }
+    Ok(copies)
+}
+
+fn flattened<T: Eq + Clone + Drop>(
+    segments: &Vec<BorderSegHoriz>,
+    holes: Vec<Span<T>>,
+    tag: &T,
+) -> Result<TaggedLine<T>, OutOfMemory>
+    requires copies { CopiesAreEqual T.is_clone T.eq }
+    requires fit { AreInOrder 0 (map hole_of holes.items) (length segments.now.items) }
+    ensures items { IfOk result (λ line. SameItems T.eq (items_of line) (shown_from tag.now (map cell_of segments.now.items) 0 (map hole_of holes.items))) }
+    ensures merged { IfOk result (λ line. IsMerged T.eq line) }
+{
+    let alloc = *segments.allocator();
+    let cells = segments.as_slice();
+    let mut line = TaggedLine::new(alloc);
+    let mut at = 0;
+    for span in holes {
+        push_cells(alloc, &mut line, &cells[at..span.place], tag)?;
+        line.push(span.element)?;
+        at = span.place + span.width;
+    }
+    push_cells(alloc, &mut line, &cells[at..], tag)?;
+    Ok(line)
+}
+
+/// Appends the characters of cells under a copy of the tag.
+fn push_cells<T: Eq + Clone + Drop>(
+    alloc: Global,
+    line: &mut TaggedLine<T>,
+    cells: &[BorderSegHoriz],
+    tag: &T,
+) -> Result<(), OutOfMemory>
+    requires { CopiesAreEqual T.is_clone T.eq }
+    ensures items { OnOk result (SameItems T.eq (items_of line.new) (items_of line.old ++ drawn (map cell_of cells.now) tag.now)) }
+    ensures merged { IsMerged T.eq line.old → OnOk result (IsMerged T.eq line.new) }
+{
+    if cells.is_empty() {
+        return Ok(());
+    }
+    let mut s = String::new(alloc);
+    draw(&mut s, cells)?;
+    let tag = tag.clone()?;
+    line.push_str(TaggedString { s, tag })
+}
+
+/// Appends the characters of cells.
+fn draw(text: &mut String, cells: &[BorderSegHoriz]) -> Result<(), OutOfMemory>
+    ensures { OnOk result (chars (string_bytes text.new) ≡ chars (string_bytes text.old) ++ map character (map cell_of cells.now)) }
+{
+    for cell in cells {
+        text.push(cell.character())?;
+    }
+    Ok(())
+}

@@ -1,0 +1,66 @@
+//! Lines as a renderer keeps them.
+ghost use Rattle.std.specs.Prelude.{◌≡◌, true, chars, string_bytes, IfOk};
+ghost use Rattle.tbr_tagged.specs.Copies.{CopiesAreEqual};
+ghost use Rattle.tbr_tagged.specs.Elements.{items_of, SameItems, IsMerged};
+ghost use Rattle.tbr_tagged.specs.Walks.{item_characters};
+ghost use Rattle.tbr_border.specs.RenderLine as model;
+
+use crate::border::BorderHoriz;
+use tbr_tagged::{OutOfMemory, TaggedLine};
+
+/// A line of text, or a border.
+#[derive(Debug, Drop)]
+pub enum RenderLine<T> {
+    /// Pieces of text and markers.
+    Text(TaggedLine<T>),
+    /// A horizontal border.
+    Line(BorderHoriz<T>),
+}
+
+impl<T> RenderLine<T> {
+    /// The line's text: that of a line of text, or of a border, column by column.
+    pub fn to_text(&self) -> Result<String, OutOfMemory>
+        ensures { IfOk result (λ text. chars (string_bytes text) ≡ item_characters (model.line_items self.now)) }
+    {
+        match self {
+            RenderLine::Text(line) => line.to_text(),
+            RenderLine::Line(border) => border.to_text(),
+        }
+    }
+
+    /// Whether it is a line of text with a piece, or a border without holes. It takes no memory.
+    pub fn has_content(&self) -> bool
+        ensures { result ≡ model.has_content self.now }
+    {
+        match self {
+            RenderLine::Text(line) => !line.is_empty(),
+            RenderLine::Line(border) => !border.has_holes(),
+        }
+    }
+}
+
+impl<T: Eq + Clone + Drop> RenderLine<T> {
+    /// A line of text itself, or a border as a line of pieces, with its cells under copies of its tag.
+    pub fn into_tagged_line(self) -> Result<TaggedLine<T>, OutOfMemory>
+        requires { CopiesAreEqual T.is_clone T.eq }
+        ensures items { IfOk result (λ line. SameItems T.eq (items_of line) (model.line_items self)) }
+        ensures text { IfOk result (λ line. model.IsItself self line) }
+        ensures merged { model.IsMergedText T.eq self → IfOk result (λ line. IsMerged T.eq line) }
+    {
+        match self {
+            RenderLine::Text(line) => Ok(line),
+            RenderLine::Line(border) => border.into_tagged_line(),
+        }
+    }
+
+    /// The same line, its pieces and cells under copies of their tags.
+    pub fn clone(&self) -> Result<RenderLine<T>, OutOfMemory>
+        requires { CopiesAreEqual T.is_clone T.eq }
+        ensures { IfOk result (λ line. model.SameLine T.eq line self.now) }
+    {
+        Ok(match self {
+            RenderLine::Text(line) => RenderLine::Text(line.clone()?),
+            RenderLine::Line(border) => RenderLine::Line(border.clone()?),
+        })
+    }
+}

@@ -1,7 +1,0 @@
-use Rattle.std.proofs.Common.{map}
-use Rattle.tbr_lines.specs.BorderView.{hole_of}
-use Rattle.tbr_lines.proofs.Spans.{in_order_longer}
-use Rattle.tbr_lines.proofs.border.BorderHoriz.merge_from_below.Goals as goal
-
-pub invariant_of-self : goal.invariant_of-self
-invariant_of-self g c = in_order_longer 0 (map hole_of c.self.inside.holes.items) _ _ c.self.invariant c.merge.ensures.longer

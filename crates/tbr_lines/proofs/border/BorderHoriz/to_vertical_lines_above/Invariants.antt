@@ -1,7 +1,0 @@
-use Rattle.std.proofs.Common.{◌≡◌, map, take, chars}
-use Rattle.std.specs.String.{string_bytes}
-use Rattle.tbr_lines.specs.Cell.{cell_of, line_above}
-use Rattle.tbr_lines.proofs.border.BorderHoriz.to_vertical_lines_above.Given as goal
-
-abbrev pub invariant-loop-cell : goal.invariant-loop-cell
-invariant-loop-cell g l = chars (string_bytes l.text) ≡ map line_above (map cell_of (take l.cell-index l.cell-items))

@@ -1,7 +1,0 @@
-use Rattle.std.proofs.Common.{◌≡◌, map, take}
-use Rattle.tbr_lines.specs.Cell.{cell_of, side_of}
-use Rattle.tbr_lines.specs.Border.{joins_end}
-use Rattle.tbr_lines.proofs.border.joins_end.Given as goal
-
-abbrev pub invariant-loop-i : goal.invariant-loop-i
-invariant-loop-i l = l.end ≡ joins_end (side_of l.side) (map cell_of (take l.i l.other))

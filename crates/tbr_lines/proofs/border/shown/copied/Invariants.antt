@@ -1,8 +1,0 @@
-use Rattle.std.proofs.Common.{map, take}
-use Rattle.std.specs.List.{AllZip}
-use Rattle.tbr_lines.specs.Border.{SameHole}
-use Rattle.tbr_lines.specs.BorderView.{hole_of}
-use Rattle.tbr_lines.proofs.border.shown.copied.Given as goal
-
-abbrev pub invariant-loop-span : goal.invariant-loop-span
-invariant-loop-span g l = AllZip (SameHole g.T.PartialEq.eq) (map hole_of l.copies.items) (map hole_of (take l.span-index l.holes))

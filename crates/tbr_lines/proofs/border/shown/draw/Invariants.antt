@@ -1,7 +1,0 @@
-use Rattle.std.proofs.Common.{◌≡◌, ◌++◌, map, take, chars}
-use Rattle.std.specs.String.{string_bytes}
-use Rattle.tbr_lines.specs.Cell.{cell_of, character}
-use Rattle.tbr_lines.proofs.border.shown.draw.Given as goal
-
-abbrev pub invariant-loop-cell : goal.invariant-loop-cell
-invariant-loop-cell l = chars (string_bytes l.text) ≡ chars (string_bytes l.fn.text) ++ map character (map cell_of (take l.cell-index l.cells))

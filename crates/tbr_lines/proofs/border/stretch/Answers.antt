@@ -1,9 +1,0 @@
-use Rattle.std.proofs.Common.{refl, ap, map, ◌∙◌, arith}
-use Rattle.tbr_lines.specs.declared.border.cell.BorderSegHoriz.TheVariants.{Horiz}
-use Rattle.tbr_lines.specs.Cell.{cell_of}
-use Rattle.tbr_lines.proofs.Cells.{stretched_items}
-use Rattle.tbr_lines.proofs.border.stretch.Goals as goal
-
-pub returns-in_ok-resize-clause-ok : goal.returns-in_ok-resize-clause-ok
-returns-in_ok-resize-clause-ok c =
-    ap (map cell_of) c.in_ok-resize.ensures.items ∙ stretched_items cell_of c.args.segments.now.items Horiz c.args.width _ refl c.args.segments.now.ok.0 (omega arith)

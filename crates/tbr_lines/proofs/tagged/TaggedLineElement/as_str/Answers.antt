@@ -1,5 +1,0 @@
-use Rattle.std.proofs.lemmas.Str.{chars-nil}
-use Rattle.tbr_lines.proofs.tagged.TaggedLineElement.as_str.Goals as goal
-
-pub returns-in-FragmentStart : goal.returns-in-FragmentStart
-returns-in-FragmentStart g c = rw c.in-FragmentStart.is chars-nil

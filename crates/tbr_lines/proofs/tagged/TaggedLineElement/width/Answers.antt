@@ -1,7 +1,0 @@
-use Rattle.std.specs.String.{string_bytes}
-use Rattle.std.specs.Str.{chars}
-use Rattle.tbr_lines.proofs.Columns.{items_width-text}
-use Rattle.tbr_lines.proofs.tagged.TaggedLineElement.width.Goals as goal
-
-pub returns-in-Str : goal.returns-in-Str
-returns-in-Str g c = rw (c.in-Str.is, items_width-text g.W.CharWidth.columns (chars (string_bytes c.in-Str.piece.s)) c.in-Str.piece.tag) c.width.ensures

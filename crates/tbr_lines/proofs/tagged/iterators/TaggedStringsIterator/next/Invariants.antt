@@ -1,9 +1,0 @@
-use Rattle.std.proofs.Common.{◌≡◌, length}
-use Rattle.tbr_lines.specs.Walks.{strings_left}
-use Rattle.tbr_lines.proofs.tagged.iterators.TaggedStringsIterator.next.Given as goal
-
-abbrev pub invariant-loop-first : goal.invariant-loop-first
-invariant-loop-first g l = strings_left l.self ≡ strings_left l.fn.self
-
-abbrev pub decreases-loop-first : goal.decreases-loop-first
-decreases-loop-first g l = length l.self.rest.now

@@ -1,5 +1,0 @@
-use Rattle.tbr_lines.proofs.FlatItems.{flat_word_first}
-use Rattle.tbr_lines.proofs.wrap.flat.characters.Characters.first.Goals as goal
-
-pub returns : goal.returns
-returns g c = rw (← c.self.view_is) (flat_word_first c.self.inside.text c.self.inside.tags c.first.result c.self.invariant c.first.ensures)

@@ -1,8 +1,0 @@
-use Rattle.std.proofs.Common.{ap, ◌∙◌, sym, length}
-use Rattle.tbr_lines.specs.Flat.{Flat}
-use Rattle.tbr_lines.proofs.FlatItems.{flat_word_len}
-use Rattle.tbr_lines.proofs.wrap.flat.characters.Characters.word_len.Goals as goal
-
-pub returns : goal.returns
-returns g c =
-    c.word_len.ensures ∙ sym (flat_word_len c.self.inside.text c.self.inside.tags c.self.invariant) ∙ ap (λ (f : Flat g.row.T.Denot). length f.word) c.self.view_is

@@ -1,4 +1,0 @@
-use Rattle.tbr_lines.proofs.wrap.open.Open.begins_again.Goals as goal
-
-pub returns-in-Pre : goal.returns-in-Pre
-returns-in-Pre g c = λ widths before given p s. rw c.in-Pre.is (c.passes.ensures widths before given p s)

@@ -1,0 +1,58 @@
+-- One more element of a line, as a loop over them takes it.
+use Rattle.std.proofs.Common.{◌≡◌, ℕ, suc, ◌+◌, ◌<◌, true, false, Option, List, [], ◌∷◌, ◌++◌, map, length, get_or, take, drop, refl, ap, sym, ◌∙◌, arith, drop-cons, Result, Ok, Err, OnOk}
+use Rattle.std.proofs.lemmas.List.{take_more, map_push, map-append, take-append-drop}
+use Rattle.std.proofs.lemmas.List.Concat.{flat_map-append}
+use Rattle.tbr_model.specs.Run.{Item, glyph, marker, items_width}
+use Rattle.tbr_model.specs.Width.{text_columns}
+use Rattle.tbr_tagged.specs.Elements.{Element, piece, marker_element, element_items, items_of, has_piece}
+use Rattle.tbr_tagged.proofs.TextColumns.{items_width-text}
+
+module _ {X : Type 0} {A : Type 0} (f : X → A) (xs : List X) (i : ℕ) (x : X) (below : i < length xs) (is : x ≡ get_or xs i x) where
+  pub one_more : map f (take (i + 1) xs) ≡ map f (take i xs) ++ f x ∷ []
+  one_more = ap (map f) (take_more xs i x below ∙ ap (λ (y : X). take i xs ++ y ∷ []) (sym is)) ∙ map_push f (take i xs) x
+
+  pub one_and_rest : map f xs ≡ map f (take i xs) ++ (f x ∷ map f (drop (suc i) xs))
+  one_and_rest =
+      ap (map f) (sym (take-append-drop i xs) ∙ ap (λ (ys : List X). take i xs ++ ys) (drop-cons xs i x below ∙ ap (λ (y : X). y ∷ drop (suc i) xs) (sym is)))
+      ∙ map-append f (take i xs) (x ∷ drop (suc i) xs)
+
+-- the same where the element is read with a default
+pub one_more_at : {X : Type 0} {A : Type 0} (f : X → A) (xs : List X) (i : ℕ) (d : X) → i < length xs → map f (take (i + 1) xs) ≡ map f (take i xs) ++ f (get_or xs i d) ∷ []
+one_more_at f xs i d below = ap (map f) (take_more xs i d below) ∙ map_push f (take i xs) (get_or xs i d)
+
+pub items_width-append : {A : Type 0} (columns : ℕ → Option ℕ) (a b : List (Item A)) → items_width columns (a ++ b) ≡ items_width columns a + items_width columns b
+items_width-append columns [] b = omega arith
+items_width-append columns (i ∷ a) b = omega (arith, items_width-append columns a b)
+
+pub items_width-piece : {A : Type 0} (columns : ℕ → Option ℕ) (es fs : List (Element A)) (cs : List ℕ) (a : A) →
+    items_width columns (items_of (es ++ (piece cs a ∷ fs))) ≡ items_width columns (items_of es) + (text_columns columns cs + items_width columns (items_of fs))
+items_width-piece columns es fs cs a =
+    omega (
+      arith,
+      ap (items_width columns) (flat_map-append element_items es (piece cs a ∷ fs)),
+      items_width-append columns (items_of es) (map (λ c. glyph c a) cs ++ items_of fs),
+      items_width-append columns (map (λ c. glyph c a) cs) (items_of fs),
+      items_width-text columns cs a,
+    )
+
+pub items_width-marker : {A : Type 0} (columns : ℕ → Option ℕ) (es : List (Element A)) (name : List ℕ) → items_width columns (items_of (es ++ marker_element name ∷ [])) ≡ items_width columns (items_of es)
+items_width-marker columns es name = omega (arith, ap (items_width columns) (flat_map-append element_items es (marker_element name ∷ [])), items_width-append columns (items_of es) (marker name ∷ []))
+
+pub has_piece-push : {A : Type 0} (es : List (Element A)) (name : List ℕ) → has_piece es ≡ false → has_piece (es ++ marker_element name ∷ []) ≡ false
+has_piece-push [] name h = refl
+has_piece-push (piece cs a ∷ es) name h = cc
+has_piece-push (marker_element m ∷ es) name h = has_piece-push es name h
+
+pub has_piece-within : {A : Type 0} (es fs : List (Element A)) (cs : List ℕ) (a : A) → has_piece (es ++ (piece cs a ∷ fs)) ≡ true
+has_piece-within [] fs cs a = refl
+has_piece-within (piece bs b ∷ es) fs cs a = refl
+has_piece-within (marker_element m ∷ es) fs cs a = has_piece-within es fs cs a
+
+-- two facts of one result
+pub on_ok_both : {T E P Q R : Type 0} (r : Result T E) → (P → Q → R) → OnOk r P → OnOk r Q → OnOk r R
+on_ok_both (Ok x) f p q = f p q
+on_ok_both (Err e) f p q = tt
+
+pub on_ok_three : {T E P Q R S : Type 0} (r : Result T E) → (P → Q → R → S) → OnOk r P → OnOk r Q → OnOk r R → OnOk r S
+on_ok_three (Ok x) f p q s = f p q s
+on_ok_three (Err e) f p q s = tt

@@ -1,0 +1,60 @@
+-- Equality of lines, element by element.
+use Rattle.std.proofs.Common.{◌≡◌, ℕ, ◌&&◌, Bool, true, false, List, [], ◌∷◌, map, refl, ap, sym, ◌∙◌, nat_eq}
+use Rattle.std.specs.Cmp.{both_ways, first_so, second_so}
+use Rattle.std.specs.Cmp.Lexicographic.{pointwise, nat_list_eq_equiv}
+use Rattle.std.specs.Str.{IsUtf8, chars}
+use Rattle.std.proofs.lemmas.Bool.{eqb-true}
+use Rattle.std.proofs.lemmas.Str.{chars-encodes}
+use lib.Utf8.{encodes}
+use Rattle.std.specs.String.{string_bytes}
+use Rattle.std.specs.declared.string.String.{String}
+use Rattle.std.specs.declared.alloc.Global.{Global}
+use Rattle.std.proofs.lemmas.Str.{IsUtf8-string_bytes}
+use Rattle.tbr_tagged.specs.declared.element.TaggedString.{TaggedString}
+use Rattle.tbr_tagged.specs.declared.element.TaggedLineElement.{TaggedLineElement}
+use Rattle.tbr_tagged.specs.declared.element.TaggedLineElement.TheVariants.{Str, FragmentStart}
+use Rattle.tbr_tagged.specs.Equal.{same_text, equal_elements, equal_lines}
+use Rattle.tbr_tagged.specs.View.{element_of}
+
+-- equal texts are the same
+same_path : (cs ds : List ℕ) → same_text cs ds ≡ true → cs ≡ ds
+same_path [] [] h = refl
+same_path [] (d ∷ ds) h = cc
+same_path (c ∷ cs) [] h = cc
+same_path (c ∷ cs) (d ∷ ds) h =
+    let head = eqb-true c d (first_so (nat_eq c d) (same_text cs ds) h) in
+    let tail = same_path cs ds (second_so (nat_eq c d) (same_text cs ds) h) in
+    λ i. head i ∷ tail i
+
+path_same : (cs ds : List ℕ) → cs ≡ ds → same_text cs ds ≡ true
+path_same cs ds e = ap (same_text cs) (sym e) ∙ nat_list_eq_equiv.refl cs
+
+same_characters : (bs ds : List ℕ) → IsUtf8 bs → IsUtf8 ds → chars bs ≡ chars ds → bs ≡ ds
+same_characters bs ds u v e =
+    let from : (xs : List ℕ) → (w : IsUtf8 xs) → xs ≡ encodes (chars xs) = λ xs w. sym w.1.1 ∙ ap encodes (sym (ap chars (sym w.1.1) ∙ chars-encodes w.0 w.1.0)) in
+    from bs u ∙ ap encodes e ∙ sym (from ds v)
+
+-- texts are equal by their bytes as by their characters
+pub same_bytes : (bs ds : List ℕ) → IsUtf8 bs → IsUtf8 ds → same_text bs ds ≡ same_text (chars bs) (chars ds)
+same_bytes bs ds u v =
+    both_ways (same_text bs ds) (same_text (chars bs) (chars ds))
+    (λ h. path_same (chars bs) (chars ds) (ap chars (same_path bs ds h)))
+    (λ h. path_same bs ds (same_characters bs ds u v (same_path (chars bs) (chars ds) h)))
+
+module _ {A : Type 0} (eq : A → A → Bool) (E : TaggedLineElement A → TaggedLineElement A → Bool)
+    (pieces : (s t : TaggedString A) → E (Str s) (Str t) ≡ (same_text (string_bytes s.s) (string_bytes t.s) && eq s.tag t.tag))
+    (marks : (m n : String Global) → E (FragmentStart m) (FragmentStart n) ≡ same_text (string_bytes m) (string_bytes n))
+    (left : (s : TaggedString A) (n : String Global) → E (Str s) (FragmentStart n) ≡ false)
+    (right : (m : String Global) (t : TaggedString A) → E (FragmentStart m) (Str t) ≡ false) where
+  same_stored : (x y : TaggedLineElement A) → E x y ≡ equal_elements eq (element_of x) (element_of y)
+  same_stored (Str s) (Str t) = pieces s t ∙ ap (λ b. b && eq s.tag t.tag) (same_bytes (string_bytes s.s) (string_bytes t.s) (IsUtf8-string_bytes s.s) (IsUtf8-string_bytes t.s))
+  same_stored (FragmentStart m) (FragmentStart n) = marks m n
+  same_stored (Str s) (FragmentStart n) = left s n
+  same_stored (FragmentStart m) (Str t) = right m t
+
+  -- lines are equal by what is stored as by their elements
+  pub same_lines : (xs ys : List (TaggedLineElement A)) → pointwise E xs ys ≡ equal_lines eq (map element_of xs) (map element_of ys)
+  same_lines [] [] = refl
+  same_lines [] (y ∷ ys) = refl
+  same_lines (x ∷ xs) [] = refl
+  same_lines (x ∷ xs) (y ∷ ys) = λ i. same_stored x y i && same_lines xs ys i

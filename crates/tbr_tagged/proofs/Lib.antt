@@ -1,0 +1,9 @@
+pub mod ElementLoops
+pub mod EqualLines
+pub mod LineWalks
+pub mod MappedTags
+pub mod PaddedLines
+pub mod SameItems
+pub mod TextBehind
+pub mod TextColumns
+pub mod TextInFront

@@ -1,0 +1,148 @@
+-- Lines with spaces in front and behind.
+use Rattle.std.proofs.Common.{◌≡◌, ℕ, zero, suc, ◌+◌, ◌<◌, ◌≤◌, Bool, true, false, Option, Some, unwrap_or, List, [], ◌∷◌, ◌++◌, refl, ap, ◌∙◌, arith, cond}
+use Rattle.std.specs.Cmp.{IsEquivalence}
+use Rattle.tbr_model.specs.Run.{Item, glyph, marker, items_width}
+use Rattle.tbr_tagged.specs.Elements.{Element, piece, marker_element, text_items, items_of, SameItems, SameElement, SameElements, is_piece_under, with_text, last_of, extend_last, push_text, text_before, insert_text, IsMerged}
+use Rattle.tbr_tagged.specs.declared.padding.CellAlign.{CellAlign}
+use Rattle.tbr_tagged.specs.declared.padding.CellAlign.TheVariants.{Left, Right, Centre}
+use Rattle.tbr_tagged.specs.Padding.{spaces, columns_in_front, spaces_before, padded}
+use Rattle.tbr_tagged.proofs.SameItems.{same_items, same_items_append, same_items_trans, items_push}
+use Rattle.tbr_tagged.proofs.TextBehind.{same_element, same_elements, same_merged, merged_push}
+use Rattle.tbr_tagged.proofs.TextInFront.{items_inserted, merged_inserted}
+use Rattle.tbr_tagged.proofs.ElementLoops.{items_width-append}
+
+-- spaces in front, where there are any
+pub spaces_before_some : {A : Type 0} (eq : A → A → Bool) (es : List (Element A)) (n : ℕ) (a : A) → 0 < n → spaces_before eq es n a ≡ insert_text eq es (spaces n) a
+spaces_before_some eq es zero a h = absurd (omega arith)
+spaces_before_some eq es (suc n) a h = refl
+
+pub front_within : (align : CellAlign) (missing : ℕ) → columns_in_front align missing ≤ missing
+front_within Left missing = omega arith
+front_within Right missing = omega arith
+front_within Centre missing = omega arith
+
+module _ {A : Type 0} (eq : A → A → Bool) (laws : IsEquivalence eq) where
+  same_element_trans : (d e f : Element A) → SameElement eq d e → SameElement eq e f → SameElement eq d f
+  same_element_trans (piece cs a) (piece ds b) (piece es x) h k = (h.0 ∙ k.0, laws.congr a b x h.1 ∙ k.1)
+  same_element_trans (piece cs a) (piece ds b) (marker_element n) h k = absurd k
+  same_element_trans (piece cs a) (marker_element m) f h k = absurd h
+  same_element_trans (marker_element l) (piece ds b) f h k = absurd h
+  same_element_trans (marker_element l) (marker_element m) (piece es x) h k = absurd k
+  same_element_trans (marker_element l) (marker_element m) (marker_element n) h k = h ∙ k
+
+  pub same_elements_trans : (ds es fs : List (Element A)) → SameElements eq ds es → SameElements eq es fs → SameElements eq ds fs
+  same_elements_trans [] [] [] h k = tt
+  same_elements_trans [] [] (f ∷ fs) h k = absurd k
+  same_elements_trans [] (e ∷ es) fs h k = absurd h
+  same_elements_trans (d ∷ ds) [] fs h k = absurd h
+  same_elements_trans (d ∷ ds) (e ∷ es) [] h k = absurd k
+  same_elements_trans (d ∷ ds) (e ∷ es) (f ∷ fs) h k = (same_element_trans d e f h.0 k.0, same_elements_trans ds es fs h.1 k.1)
+
+  -- equal tags stand under the same pieces
+  same_under : (e f : Element A) (a : A) → SameElement eq e f → is_piece_under eq (Some e) a ≡ is_piece_under eq (Some f) a
+  same_under (piece cs a) (piece ds b) x h = laws.congr a b x h.1
+  same_under (marker_element m) (marker_element n) x h = refl
+  same_under (piece cs a) (marker_element n) x h = absurd h
+  same_under (marker_element m) (piece ds b) x h = absurd h
+
+  same_with : (e f : Element A) (cs : List ℕ) → SameElement eq e f → SameElement eq (with_text e cs) (with_text f cs)
+  same_with (piece cs a) (piece ds b) es h = (ap (λ xs. xs ++ es) h.0, h.1)
+  same_with (marker_element m) (marker_element n) es h = h
+  same_with (piece cs a) (marker_element n) es h = absurd h
+  same_with (marker_element m) (piece ds b) es h = absurd h
+
+  same_last : (es fs : List (Element A)) (a : A) → SameElements eq es fs → is_piece_under eq (last_of es) a ≡ is_piece_under eq (last_of fs) a
+  same_last [] [] a h = refl
+  same_last [] (f ∷ fs) a h = absurd h
+  same_last (e ∷ es) [] a h = absurd h
+  same_last (e ∷ []) (f ∷ []) a h = same_under e f a h.0
+  same_last (e ∷ []) (f ∷ g ∷ fs) a h = absurd h.1
+  same_last (e ∷ d ∷ es) (f ∷ []) a h = absurd h.1
+  same_last (e ∷ d ∷ es) (f ∷ g ∷ fs) a h = same_last (d ∷ es) (g ∷ fs) a h.1
+
+  same_extended : (es fs : List (Element A)) (cs : List ℕ) → SameElements eq es fs → SameElements eq (extend_last es cs) (extend_last fs cs)
+  same_extended [] [] cs h = tt
+  same_extended [] (f ∷ fs) cs h = absurd h
+  same_extended (e ∷ es) [] cs h = absurd h
+  same_extended (e ∷ []) (f ∷ []) cs h = (same_with e f cs h.0, tt)
+  same_extended (e ∷ []) (f ∷ g ∷ fs) cs h = absurd h.1
+  same_extended (e ∷ d ∷ es) (f ∷ []) cs h = absurd h.1
+  same_extended (e ∷ d ∷ es) (f ∷ g ∷ fs) cs h = (h.0, same_extended (d ∷ es) (g ∷ fs) cs h.1)
+
+  same_appended : (es fs ds : List (Element A)) → SameElements eq es fs → SameElements eq (es ++ ds) (fs ++ ds)
+  same_appended [] [] ds h = same_elements eq laws ds
+  same_appended [] (f ∷ fs) ds h = absurd h
+  same_appended (e ∷ es) [] ds h = absurd h
+  same_appended (e ∷ es) (f ∷ fs) ds h = (h.0, same_appended es fs ds h.1)
+
+  -- text behind lines that are the same
+  pub same_push : (es fs : List (Element A)) (cs : List ℕ) (a : A) → SameElements eq es fs → SameElements eq (push_text eq es cs a) (push_text eq fs cs a)
+  same_push es fs [] a h = h
+  same_push es fs (c ∷ cs) a h =
+      rw (same_last es fs a h) (go (is_piece_under eq (last_of fs) a))
+    where
+      go : (t : Bool) → SameElements eq (cond t (extend_last es (c ∷ cs)) (es ++ piece (c ∷ cs) a ∷ [])) (cond t (extend_last fs (c ∷ cs)) (fs ++ piece (c ∷ cs) a ∷ []))
+      go true = same_extended es fs (c ∷ cs) h
+      go false = same_appended es fs (piece (c ∷ cs) a ∷ []) h
+
+  same_before : (cs : List ℕ) (e : Element A) → SameElement eq (text_before cs e) (text_before cs e)
+  same_before cs e = same_element eq laws (text_before cs e)
+
+  under_equal : (e : Element A) (a b : A) → eq a b ≡ true → is_piece_under eq (Some e) a ≡ is_piece_under eq (Some e) b
+  under_equal (piece cs x) a b h = laws.symm x a ∙ laws.congr a b x h ∙ laws.symm b x
+  under_equal (marker_element m) a b h = refl
+
+  -- text in front under an equal tag
+  pub same_insert : (es : List (Element A)) (cs : List ℕ) (a b : A) → eq a b ≡ true → SameElements eq (insert_text eq es cs a) (insert_text eq es cs b)
+  same_insert [] cs a b h = ((refl, h), tt)
+  same_insert (e ∷ es) cs a b h =
+      rw (under_equal e a b h) (go (is_piece_under eq (Some e) b))
+    where
+      go : (t : Bool) → SameElements eq (cond t (text_before cs e ∷ es) (piece cs a ∷ e ∷ es)) (cond t (text_before cs e ∷ es) (piece cs b ∷ e ∷ es))
+      go true = same_elements eq laws (text_before cs e ∷ es)
+      go false = ((refl, h), same_elements eq laws (e ∷ es))
+
+  before_items : (es : List (Element A)) (n : ℕ) (a : A) → SameItems eq (items_of (spaces_before eq es n a)) (text_items (spaces n) a ++ items_of es)
+  before_items es zero a = same_items eq laws (items_of es)
+  before_items es (suc n) a = items_inserted eq laws es (spaces (suc n)) a
+
+  pub padded_items : (es : List (Element A)) (front behind : ℕ) (a : A) → SameItems eq (items_of (padded eq es front behind a)) (text_items (spaces front) a ++ items_of es ++ text_items (spaces behind) a)
+  padded_items es front behind a =
+      same_items_trans eq laws (items_of (padded eq es front behind a)) (items_of (spaces_before eq es front a) ++ text_items (spaces behind) a) (text_items (spaces front) a ++ items_of es ++ text_items (spaces behind) a)
+      (items_push eq laws (spaces_before eq es front a) (spaces behind) a)
+      (same_items_append eq laws (items_of (spaces_before eq es front a)) (text_items (spaces front) a ++ items_of es) (text_items (spaces behind) a) (text_items (spaces behind) a)
+      (before_items es front a) (same_items eq laws (text_items (spaces behind) a)))
+
+  before_merged : (es : List (Element A)) (n : ℕ) (a : A) → IsMerged eq es → IsMerged eq (spaces_before eq es n a)
+  before_merged es zero a h = h
+  before_merged es (suc n) a h = merged_inserted eq laws es (spaces (suc n)) a (omega arith) h
+
+  pub padded_merged : (es fs : List (Element A)) (front behind : ℕ) (a : A) → SameElements eq fs (padded eq es front behind a) → IsMerged eq es → IsMerged eq fs
+  padded_merged es fs front behind a same h =
+      same_merged eq laws fs (padded eq es front behind a) same (merged_push eq (spaces_before eq es front a) (spaces behind) a (before_merged es front a h))
+
+  same_columns : (columns : ℕ → Option ℕ) (is js : List (Item A)) → SameItems eq is js → items_width columns is ≡ items_width columns js
+  same_columns columns [] [] h = refl
+  same_columns columns [] (j ∷ js) h = absurd h
+  same_columns columns (i ∷ is) [] h = absurd h
+  same_columns columns (glyph c a ∷ is) (glyph d b ∷ js) h = omega (arith, ap (λ x. unwrap_or (columns x) 0) h.0.0, same_columns columns is js h.1)
+  same_columns columns (marker m ∷ is) (marker n ∷ js) h = omega (arith, same_columns columns is js h.1)
+  same_columns columns (glyph c a ∷ is) (marker n ∷ js) h = absurd h.0
+  same_columns columns (marker m ∷ is) (glyph d b ∷ js) h = absurd h.0
+
+  spaces_columns : (columns : ℕ → Option ℕ) (n : ℕ) (a : A) → columns 32 ≡ Some 1 → items_width columns (text_items (spaces n) a) ≡ n
+  spaces_columns columns zero a h = refl
+  spaces_columns columns (suc n) a h = omega (arith, ap (λ o. unwrap_or o 0) h, spaces_columns columns n a h)
+
+  -- the columns of a padded line
+  pub padded_columns : (columns : ℕ → Option ℕ) (is js : List (Item A)) (front behind : ℕ) (a : A) → columns 32 ≡ Some 1 →
+      SameItems eq is (text_items (spaces front) a ++ js ++ text_items (spaces behind) a) → items_width columns is ≡ front + items_width columns js + behind
+  padded_columns columns is js front behind a h same =
+      omega (
+        arith,
+        same_columns columns is (text_items (spaces front) a ++ js ++ text_items (spaces behind) a) same,
+        items_width-append columns (text_items (spaces front) a ++ js) (text_items (spaces behind) a),
+        items_width-append columns (text_items (spaces front) a) js,
+        spaces_columns columns front a h,
+        spaces_columns columns behind a h,
+      )

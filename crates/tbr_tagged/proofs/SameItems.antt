@@ -1,0 +1,120 @@
+-- Items that are the same up to equal tags.
+use Rattle.std.proofs.Common.{◌≡◌, ℕ, suc, Option, Bool, true, List, [], ◌∷◌, ◌++◌, map, length, refl, ap, sym, ◌∙◌, subst, arith, append_assoc, append-nil}
+use Rattle.std.specs.Cmp.{IsEquivalence}
+use Rattle.std.specs.List.{AllZip}
+use Rattle.std.proofs.lemmas.Bool.{cond_both}
+use Rattle.std.proofs.lemmas.List.Concat.{flat_map-append}
+use Rattle.tbr_model.specs.Run.{Item, glyph, marker, item_width, items_width, has_character}
+use Rattle.tbr_tagged.specs.Elements.{Element, piece, marker_element, element_items, items_of, SameItem, SameItems, SameElement, SameElements, extend_last, last_of, is_piece_under, push_text, push_element}
+
+module _ {A : Type 0} (eq : A → A → Bool) (laws : IsEquivalence eq) where
+  pub same_item : (i : Item A) → SameItem eq i i
+  same_item (glyph c a) = (refl, laws.refl a)
+  same_item (marker m) = refl
+
+  pub same_items : (is : List (Item A)) → SameItems eq is is
+  same_items [] = tt
+  same_items (i ∷ is) = (same_item i, same_items is)
+
+  pub same_from_path : (is js : List (Item A)) → is ≡ js → SameItems eq is js
+  same_from_path is js e = subst (SameItems eq is) e (same_items is)
+
+  pub same_item_trans : (i j k : Item A) → SameItem eq i j → SameItem eq j k → SameItem eq i k
+  same_item_trans (glyph c a) (glyph d b) (glyph e x) h k = (h.0 ∙ k.0, laws.congr a b x h.1 ∙ k.1)
+  same_item_trans (marker m) (marker n) (marker o) h k = h ∙ k
+  same_item_trans (glyph c a) (glyph d b) (marker o) h k = k
+  same_item_trans (glyph c a) (marker n) k h l = absurd h
+  same_item_trans (marker m) (glyph d b) k h l = absurd h
+  same_item_trans (marker m) (marker n) (glyph e x) h k = k
+
+  pub same_items_trans : (is js ks : List (Item A)) → SameItems eq is js → SameItems eq js ks → SameItems eq is ks
+  same_items_trans [] [] ks h k = k
+  same_items_trans [] (j ∷ js) ks h k = absurd h
+  same_items_trans (i ∷ is) [] ks h k = absurd h
+  same_items_trans (i ∷ is) (j ∷ js) [] h k = k
+  same_items_trans (i ∷ is) (j ∷ js) (l ∷ ks) h k = (same_item_trans i j l h.0 k.0, same_items_trans is js ks h.1 k.1)
+
+  pub same_items_append : (is js ks ls : List (Item A)) → SameItems eq is js → SameItems eq ks ls → SameItems eq (is ++ ks) (js ++ ls)
+  same_items_append [] [] ks ls h k = k
+  same_items_append [] (j ∷ js) ks ls h k = absurd h
+  same_items_append (i ∷ is) [] ks ls h k = absurd h
+  same_items_append (i ∷ is) (j ∷ js) ks ls h k = (h.0, same_items_append is js ks ls h.1 k)
+
+  same_texts : (cs : List ℕ) (a b : A) → eq a b ≡ true → SameItems eq (map (λ c. glyph c a) cs) (map (λ c. glyph c b) cs)
+  same_texts [] a b h = tt
+  same_texts (c ∷ cs) a b h = ((refl, h), same_texts cs a b h)
+
+  same_element_items : (e f : Element A) → SameElement eq e f → SameItems eq (element_items e) (element_items f)
+  same_element_items (piece cs a) (piece ds b) h = subst (λ xs. SameItems eq (map (λ c. glyph c a) cs) (map (λ c. glyph c b) xs)) h.0 (same_texts cs a b h.1)
+  same_element_items (marker_element m) (marker_element n) h = (h, tt)
+  same_element_items (piece cs a) (marker_element n) h = absurd h
+  same_element_items (marker_element m) (piece ds b) h = absurd h
+
+  pub same_items_of : (es fs : List (Element A)) → SameElements eq es fs → SameItems eq (items_of es) (items_of fs)
+  same_items_of [] [] h = tt
+  same_items_of [] (f ∷ fs) h = absurd h
+  same_items_of (e ∷ es) [] h = absurd h
+  same_items_of (e ∷ es) (f ∷ fs) h = same_items_append (element_items e) (element_items f) (items_of es) (items_of fs) (same_element_items e f h.0) (same_items_of es fs h.1)
+
+  text_push : (cs ds : List ℕ) (a b : A) → eq b a ≡ true → SameItems eq (map (λ d. glyph d b) (cs ++ ds)) (map (λ d. glyph d b) cs ++ map (λ d. glyph d a) ds)
+  text_push [] ds a b h = same_texts ds b a h
+  text_push (c ∷ cs) ds a b h = ((refl, laws.refl b), text_push cs ds a b h)
+
+  extend_items : (es : List (Element A)) (ds : List ℕ) (a : A) → is_piece_under eq (last_of es) a ≡ true → SameItems eq (items_of (extend_last es ds)) (items_of es ++ map (λ d. glyph d a) ds)
+  extend_items [] ds a h = cc
+  extend_items (piece cs b ∷ []) ds a h = rw (append-nil, append-nil) (text_push cs ds a b h)
+  extend_items (marker_element m ∷ []) ds a h = cc
+  extend_items (e ∷ f ∷ es) ds a h =
+      rw append_assoc (same_items_append (element_items e) (element_items e) (items_of (extend_last (f ∷ es) ds)) (items_of (f ∷ es) ++ map (λ d. glyph d a) ds)
+      (same_items (element_items e)) (extend_items (f ∷ es) ds a h))
+
+  pub items_push : (es : List (Element A)) (cs : List ℕ) (a : A) → SameItems eq (items_of (push_text eq es cs a)) (items_of es ++ map (λ c. glyph c a) cs)
+  items_push es [] a = same_from_path (items_of es) (items_of es ++ []) (sym (append-nil (items_of es)))
+  items_push es (c ∷ cs) a =
+      cond_both (is_piece_under eq (last_of es) a) _ _ (λ (fs : List (Element A)). SameItems eq (items_of fs) (items_of es ++ map (λ d. glyph d a) (c ∷ cs)))
+      (extend_items es (c ∷ cs) a)
+      (λ _. same_from_path (items_of (es ++ piece (c ∷ cs) a ∷ [])) (items_of es ++ map (λ d. glyph d a) (c ∷ cs))
+      (flat_map-append element_items es (piece (c ∷ cs) a ∷ []) ∙ ap (λ is. items_of es ++ is) (append-nil (map (λ d. glyph d a) (c ∷ cs)))))
+
+  pub push_items : (es fs : List (Element A)) (cs : List ℕ) (a : A) → SameElements eq fs (push_text eq es cs a) → SameItems eq (items_of fs) (items_of es ++ map (λ c. glyph c a) cs)
+  push_items es fs cs a h =
+      same_items_trans (items_of fs) (items_of (push_text eq es cs a)) (items_of es ++ map (λ c. glyph c a) cs) (same_items_of fs (push_text eq es cs a) h) (items_push es cs a)
+
+  pub element_pushed : (es : List (Element A)) (e : Element A) → SameItems eq (items_of (push_element eq es e)) (items_of es ++ element_items e)
+  element_pushed es (piece cs a) = items_push es cs a
+  element_pushed es (marker_element name) = same_from_path (items_of (es ++ marker_element name ∷ [])) (items_of es ++ marker name ∷ []) (flat_map-append element_items es (marker_element name ∷ []))
+
+-- ---- what items that are the same have in common
+
+pub same_length : {A : Type 0} (eq : A → A → Bool) (is js : List (Item A)) → SameItems eq is js → length is ≡ length js
+same_length eq [] [] h = refl
+same_length eq [] (j ∷ js) h = absurd h
+same_length eq (i ∷ is) [] h = absurd h
+same_length eq (i ∷ is) (j ∷ js) h = ap suc (same_length eq is js h.1)
+
+pub same_width_one : {A : Type 0} (columns : ℕ → Option ℕ) (eq : A → A → Bool) (i j : Item A) → SameItem eq i j → item_width columns i ≡ item_width columns j
+same_width_one columns eq (glyph c a) (glyph d b) h = ap (λ x. item_width columns (glyph x a)) h.0
+same_width_one columns eq (marker m) (marker n) h = refl
+same_width_one columns eq (glyph c a) (marker n) h = absurd h
+same_width_one columns eq (marker m) (glyph d b) h = absurd h
+
+pub same_width : {A : Type 0} (columns : ℕ → Option ℕ) (eq : A → A → Bool) (is js : List (Item A)) → SameItems eq is js → items_width columns is ≡ items_width columns js
+same_width columns eq [] [] h = refl
+same_width columns eq [] (j ∷ js) h = absurd h
+same_width columns eq (i ∷ is) [] h = absurd h
+same_width columns eq (i ∷ is) (j ∷ js) h = omega (arith, same_width_one columns eq i j h.0, same_width columns eq is js h.1)
+
+pub all_zip_append : {A B : Type 0} (R : A → B → Type 0) (xs zs : List A) (ys ws : List B) → AllZip R xs ys → AllZip R zs ws → AllZip R (xs ++ zs) (ys ++ ws)
+all_zip_append R [] zs [] ws h k = k
+all_zip_append R [] zs (y ∷ ys) ws h k = absurd h
+all_zip_append R (x ∷ xs) zs [] ws h k = absurd h
+all_zip_append R (x ∷ xs) zs (y ∷ ys) ws h k = (h.0, all_zip_append R xs zs ys ws h.1 k)
+
+pub same_has : {A : Type 0} (eq : A → A → Bool) (is js : List (Item A)) → SameItems eq is js → has_character is ≡ has_character js
+same_has eq [] [] h = refl
+same_has eq [] (j ∷ js) h = absurd h
+same_has eq (i ∷ is) [] h = absurd h
+same_has eq (glyph c a ∷ is) (glyph d b ∷ js) h = refl
+same_has eq (glyph c a ∷ is) (marker n ∷ js) h = absurd h.0
+same_has eq (marker m ∷ is) (glyph d b ∷ js) h = absurd h.0
+same_has eq (marker m ∷ is) (marker n ∷ js) h = same_has eq is js h.1

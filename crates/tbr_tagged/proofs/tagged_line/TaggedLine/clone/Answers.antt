@@ -1,0 +1,16 @@
+use Rattle.std.proofs.Common.{map, take}
+use Rattle.std.proofs.lemmas.List.{map_push}
+use Rattle.tbr_tagged.specs.View.{element_of}
+use Rattle.tbr_tagged.proofs.ElementLoops.{one_more}
+use Rattle.tbr_tagged.proofs.TextBehind.{same_elements_both}
+use Rattle.tbr_tagged.proofs.tagged_line.TaggedLine.clone.Goals as goal
+
+pub loop-element-preserved : goal.loop-element-preserved
+loop-element-preserved g c =
+    rw (
+      c.in_ok-push.ensures.items,
+      map_push,
+      one_more element_of c.deref-element-items.result.now c.loop-element.element-index c.element-item.result c.loop-element-test.true c.element-item.is,
+    )
+    (same_elements_both g.T.PartialEq.eq (map element_of c.loop-element.elements.items) (map element_of (take c.loop-element.element-index c.deref-element-items.result.now)) (element_of c.in_ok-clone.field-0) (element_of c.element-item.result)
+    c.loop-element.invariant c.in_ok-clone.ensures)

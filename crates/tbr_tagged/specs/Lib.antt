@@ -1,0 +1,9 @@
+pub mod Copies
+pub mod Elements
+pub mod View
+pub mod Mapped
+pub mod Walks
+pub mod Restored
+pub mod Equal
+pub mod Padding
+pub mod UnicodeColumns

@@ -1,0 +1,27 @@
+-- Lines with spaces behind and in front.
+use Rattle.std.specs.Prelude.{ℕ, suc, zero, ◌-◌, ◌/◌, Bool, List, replicate}
+use Rattle.tbr_tagged.specs.declared.padding.CellAlign.{CellAlign}
+use Rattle.tbr_tagged.specs.declared.padding.CellAlign.TheVariants.{Left, Right, Centre}
+use Rattle.tbr_tagged.specs.Elements.{Element, push_text, insert_text}
+
+abbrev pub spaces : ℕ → List ℕ
+spaces n = replicate n 32
+
+-- how many of the missing columns stand in front
+abbrev pub columns_in_front : CellAlign → ℕ → ℕ
+columns_in_front Left missing = 0
+columns_in_front Right missing = missing
+columns_in_front Centre missing = missing / 2
+
+-- with spaces in front, where there are any
+abbrev pub spaces_before : {A : Type 0} → (A → A → Bool) → List (Element A) → ℕ → A → List (Element A)
+spaces_before eq es zero a = es
+spaces_before eq es (suc n) a = insert_text eq es (spaces (suc n)) a
+
+-- with spaces in front and behind
+abbrev pub padded : {A : Type 0} → (A → A → Bool) → List (Element A) → ℕ → ℕ → A → List (Element A)
+padded eq es front behind a = push_text eq (spaces_before eq es front a) (spaces behind) a
+
+-- with the missing columns as spaces, by the alignment
+abbrev pub aligned : {A : Type 0} → (A → A → Bool) → CellAlign → List (Element A) → ℕ → A → List (Element A)
+aligned eq align es missing a = padded eq es (columns_in_front align missing) (missing - columns_in_front align missing) a

@@ -1,0 +1,188 @@
+//! Pieces of text and markers, one by one.
+ghost use Rattle.std.specs.Prelude.{◌≡◌, ℕ, ◌<◌, ◌∷◌, [], true, Option, chars, string_bytes, IfOk, OnOk, OnErr, MatchResult};
+ghost use Rattle.std.specs.Option.{option_copied, option_map};
+ghost use Rattle.tbr_tagged.specs.Copies.{CopiesAreEqual};
+ghost use Rattle.tbr_model.specs.Run.{items_width};
+ghost use Rattle.tbr_model.specs.Width.{text_columns};
+ghost use Rattle.tbr_tagged.specs.Elements.{piece, element_items, element_characters, is_piece_under, with_text, text_before, SameElement};
+ghost use Rattle.tbr_tagged.specs.Mapped.{MapsElement};
+ghost use Rattle.tbr_tagged.specs.Restored.{with_characters};
+ghost use Rattle.tbr_tagged.specs.View.{element_of};
+
+use crate::error::OutOfMemory;
+use crate::width::text_width;
+use std::alloc::Global;
+use std::mem;
+use tbr_model::CharWidth;
+
+/// Text under one tag.
+#[derive(PartialEq, Debug, Drop)]
+pub struct TaggedString<T> {
+    /// The text.
+    pub s: String,
+    /// The tag that it stands under.
+    pub tag: T,
+}
+
+/// Text under one tag, or where a fragment of the document begins.
+#[derive(PartialEq, Debug, Drop)]
+pub enum TaggedLineElement<T> {
+    /// A piece of text.
+    Str(TaggedString<T>),
+    /// A marker, by its name. It takes no column.
+    FragmentStart(String),
+}
+
+impl<T> TaggedString<T> {
+    /// The columns that the text takes: the sum over its characters, one without a width counting 0.
+    ///
+    /// It takes no memory, and refuses exactly where the sum passes `usize`.
+    pub fn width<W: CharWidth>(&self) -> Result<usize, OutOfMemory>
+        ensures { MatchResult result (λ n. n ≡ text_columns W.columns (chars (string_bytes self.now.s))) (λ _. usize.MAX < text_columns W.columns (chars (string_bytes self.now.s))) }
+    {
+        text_width::<W>(self.s.as_str())
+    }
+
+    /// The same text under the tag that `f` makes of this one's. It takes no memory.
+    pub fn map_tag<U, F: Fn(T) -> U>(self, f: &F) -> TaggedString<U>
+        requires { F.IsAlwaysCallable f.now }
+        ensures text { result.s ≡ self.s }
+        ensures tag { F.post f.now self.tag result.tag }
+    {
+        TaggedString {
+            s: self.s,
+            tag: f(self.tag),
+        }
+    }
+
+    /// The same text under a copy of the tag.
+    pub fn clone(&self) -> Result<TaggedString<T>, OutOfMemory>
+    where
+        T: Eq + Clone,
+        requires { CopiesAreEqual T.is_clone T.eq }
+        ensures text { IfOk result (λ copy. string_bytes copy.s ≡ string_bytes self.now.s) }
+        ensures tag { IfOk result (λ copy. T.eq copy.tag self.now.tag ≡ true) }
+    {
+        let s = self.s.clone()?;
+        let tag = self.tag.clone()?;
+        Ok(TaggedString { s, tag })
+    }
+}
+
+impl<T> TaggedLineElement<T> {
+    /// The columns that the element takes: those of its text, and none for a marker.
+    ///
+    /// It takes no memory, and refuses exactly where the sum passes `usize`.
+    pub fn width<W: CharWidth>(&self) -> Result<usize, OutOfMemory>
+        ensures { MatchResult result (λ n. n ≡ items_width W.columns (element_items (element_of self.now))) (λ _. usize.MAX < items_width W.columns (element_items (element_of self.now))) }
+    {
+        match self {
+            TaggedLineElement::Str(piece) => piece.width::<W>(),
+            TaggedLineElement::FragmentStart(_) => Ok(0),
+        }
+    }
+
+    /// The element's text, which is empty for a marker.
+    pub fn as_str(&self) -> &str
+        ensures { chars result.now ≡ element_characters (element_of self.now) }
+    {
+        match self {
+            TaggedLineElement::Str(piece) => piece.s.as_str(),
+            TaggedLineElement::FragmentStart(_) => "",
+        }
+    }
+
+    /// The same text under the tag that `f` makes of this one's, or the same marker. It takes no memory.
+    pub fn map_tag<U, F: Fn(T) -> U>(self, f: &F) -> TaggedLineElement<U>
+        requires { F.IsAlwaysCallable f.now }
+        ensures mapped { MapsElement (F.post f.now) (element_of self) (element_of result) }
+        ensures width { (columns : ℕ → Option ℕ) → items_width columns (element_items (element_of result)) ≡ items_width columns (element_items (element_of self)) }
+    {
+        match self {
+            TaggedLineElement::Str(piece) => TaggedLineElement::Str(piece.map_tag(f)),
+            TaggedLineElement::FragmentStart(name) => TaggedLineElement::FragmentStart(name),
+        }
+    }
+
+    /// The same element, a piece under a copy of its tag.
+    pub fn clone(&self) -> Result<TaggedLineElement<T>, OutOfMemory>
+    where
+        T: Eq + Clone,
+        requires { CopiesAreEqual T.is_clone T.eq }
+        ensures { IfOk result (λ copy. SameElement T.eq (element_of copy) (element_of self.now)) }
+    {
+        Ok(match self {
+            TaggedLineElement::Str(piece) => TaggedLineElement::Str(piece.clone()?),
+            TaggedLineElement::FragmentStart(name) => {
+                TaggedLineElement::FragmentStart(name.clone()?)
+            }
+        })
+    }
+}
+
+pub fn is_under<T: Eq>(element: Option<&TaggedLineElement<T>>, tag: &T) -> bool
+    ensures { result ≡ is_piece_under T.eq (option_map element_of (option_copied element.entry)) tag.now }
+{
+    match element {
+        Some(TaggedLineElement::Str(last)) => last.tag == *tag,
+        _ => false,
+    }
+}
+
+pub fn extend<T>(element: &mut TaggedLineElement<T>, text: &str) -> Result<(), OutOfMemory>
+    ensures ok { OnOk result (element_of element.new ≡ with_text (element_of element.old) (chars text.now)) }
+    ensures err { OnErr result (element_of element.new ≡ element_of element.old) }
+{
+    if let TaggedLineElement::Str(last) = element {
+        last.s.push_str(text)?;
+    }
+    Ok(())
+}
+
+pub fn extend_by_char<T>(element: &mut TaggedLineElement<T>, c: char) -> Result<(), OutOfMemory>
+    ensures ok { OnOk result (element_of element.new ≡ with_text (element_of element.old) (c ∷ [])) }
+    ensures err { OnErr result (element_of element.new ≡ element_of element.old) }
+{
+    if let TaggedLineElement::Str(last) = element {
+        last.s.push(c)?;
+    }
+    Ok(())
+}
+
+pub fn new_piece<T: Eq + Clone>(
+    alloc: Global,
+    c: char,
+    tag: &T,
+) -> Result<TaggedLineElement<T>, OutOfMemory>
+    requires { CopiesAreEqual T.is_clone T.eq }
+    ensures { IfOk result (λ e. SameElement T.eq (element_of e) (piece (c ∷ []) tag.now)) }
+{
+    let mut s = String::new(alloc);
+    s.push(c)?;
+    let tag = tag.clone()?;
+    Ok(TaggedLineElement::Str(TaggedString { s, tag }))
+}
+
+/// Puts text in front of a piece's. It answers the text that the piece had.
+pub fn extend_front<T>(
+    element: &mut TaggedLineElement<T>,
+    mut text: String,
+) -> Result<String, OutOfMemory>
+    ensures ok { OnOk result (element_of element.new ≡ text_before (chars (string_bytes text)) (element_of element.old)) }
+    ensures back { IfOk result (λ had. with_characters (element_of element.new) (chars (string_bytes had)) ≡ element_of element.old) }
+    ensures err { OnErr result (element_of element.new ≡ element_of element.old) }
+{
+    if let TaggedLineElement::Str(first) = element {
+        text.push_str(first.s.as_str())?;
+        return Ok(mem::replace(&mut first.s, text));
+    }
+    Ok(text)
+}
+
+pub fn set_text<T>(element: &mut TaggedLineElement<T>, text: String)
+    ensures { element_of element.new ≡ with_characters (element_of element.old) (chars (string_bytes text)) }
+{
+    if let TaggedLineElement::Str(piece) = element {
+        piece.s = text;
+    }
+}

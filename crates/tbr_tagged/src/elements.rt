@@ -1,0 +1,124 @@
+//! Lists of pieces and markers.
+ghost use Rattle.std.specs.Prelude.{◌≡◌, ◌<◌, ◌∷◌, [], true, map, length, chars, string_bytes, string_len, IfOk, OnOk, OnErr, MatchResult};
+ghost use Rattle.std.specs.Option.{option_map};
+ghost use Rattle.tbr_tagged.specs.Copies.{CopiesAreEqual};
+ghost use Rattle.tbr_model.specs.Run.{items_width};
+ghost use Rattle.tbr_tagged.specs.Elements.{items_of, characters, push_text, insert_text, SameElements};
+ghost use Rattle.tbr_tagged.specs.Elements as model;
+ghost use Rattle.tbr_tagged.specs.Restored.{restored};
+ghost use Rattle.tbr_tagged.specs.View.{element_of};
+
+use crate::element::{
+    TaggedLineElement, TaggedString, extend, extend_by_char, extend_front, is_under, new_piece, set_text,
+};
+use crate::error::OutOfMemory;
+use crate::width::text_width;
+use std::alloc::Global;
+use tbr_model::CharWidth;
+
+pub fn has_piece<T>(elements: &[TaggedLineElement<T>]) -> bool
+    ensures { result ≡ model.has_piece (map element_of elements.now) }
+{
+    for element in elements {
+        if let TaggedLineElement::Str(_) = element {
+            return true;
+        }
+    }
+    false
+}
+
+pub fn columns_of<T, W: CharWidth>(elements: &[TaggedLineElement<T>]) -> Result<usize, OutOfMemory>
+    ensures { MatchResult result (λ n. n ≡ items_width W.columns (items_of (map element_of elements.now))) (λ _. usize.MAX < items_width W.columns (items_of (map element_of elements.now))) }
+{
+    let mut width = 0usize;
+    for element in elements {
+        if let TaggedLineElement::Str(piece) = element {
+            let more = text_width::<W>(piece.s.as_str())?;
+            let Some(sum) = width.checked_add(more) else {
+                return Err(OutOfMemory);
+            };
+            width = sum;
+        }
+    }
+    Ok(width)
+}
+
+pub fn text_of<T>(alloc: Global, elements: &[TaggedLineElement<T>]) -> Result<String, OutOfMemory>
+    ensures { IfOk result (λ text. chars (string_bytes text) ≡ characters (map element_of elements.now)) }
+{
+    let mut text = String::new(alloc);
+    for element in elements {
+        if let TaggedLineElement::Str(piece) = element {
+            text.push_str(piece.s.as_str())?;
+        }
+    }
+    Ok(text)
+}
+
+/// Appends text that isn't empty.
+pub fn push_piece<T: Eq + Drop>(
+    elements: &mut Vec<TaggedLineElement<T>>,
+    ts: TaggedString<T>,
+) -> Result<(), OutOfMemory>
+    requires { 0 < string_len ts.s }
+    ensures ok { OnOk result (map element_of elements.new.items ≡ push_text T.eq (map element_of elements.old.items) (chars (string_bytes ts.s)) ts.tag) }
+    ensures err { OnErr result (map element_of elements.new.items ≡ map element_of elements.old.items) }
+{
+    if is_under(elements.last(), &ts.tag) {
+        let end = elements.len() - 1;
+        return extend(&mut elements[end], ts.s.as_str());
+    }
+    elements.push(TaggedLineElement::Str(ts))?;
+    Ok(())
+}
+
+pub fn push_glyph<T: Eq + Clone>(
+    elements: &mut Vec<TaggedLineElement<T>>,
+    c: char,
+    tag: &T,
+) -> Result<(), OutOfMemory>
+    requires { CopiesAreEqual T.is_clone T.eq }
+    ensures ok { OnOk result (SameElements T.eq (map element_of elements.new.items) (push_text T.eq (map element_of elements.old.items) (c ∷ []) tag.now)) }
+    ensures err { OnErr result (map element_of elements.new.items ≡ map element_of elements.old.items) }
+{
+    if is_under(elements.last(), tag) {
+        let end = elements.len() - 1;
+        return extend_by_char(&mut elements[end], c);
+    }
+    let piece = new_piece(*elements.allocator(), c, tag)?;
+    elements.push(piece)?;
+    Ok(())
+}
+
+/// Puts text in front. It answers the text of the first piece where that piece was extended.
+pub fn put_in_front<T: Eq + Drop>(
+    elements: &mut Vec<TaggedLineElement<T>>,
+    ts: TaggedString<T>,
+) -> Result<Option<String>, OutOfMemory>
+    ensures ok { OnOk result (map element_of elements.new.items ≡ insert_text T.eq (map element_of elements.old.items) (chars (string_bytes ts.s)) ts.tag) }
+    ensures back { IfOk result (λ text. restored (map element_of elements.new.items) (option_map (λ s. chars (string_bytes s)) text) ≡ map element_of elements.old.items) }
+    ensures err { OnErr result (map element_of elements.new.items ≡ map element_of elements.old.items) }
+{
+    if is_under(elements.first(), &ts.tag) {
+        let text = extend_front(&mut elements[0], ts.s)?;
+        return Ok(Some(text));
+    }
+    elements.insert(0, TaggedLineElement::Str(ts))?;
+    Ok(None)
+}
+
+/// Undoes [`put_in_front`], which answered this text.
+pub fn take_from_front<T: Drop>(
+    elements: &mut Vec<TaggedLineElement<T>>,
+    text: Option<String>,
+)
+    requires { 0 < length elements.old.items }
+    ensures { map element_of elements.new.items ≡ restored (map element_of elements.old.items) (option_map (λ s. chars (string_bytes s)) text) }
+{
+    match text {
+        Some(text) => set_text(&mut elements[0], text),
+        None => {
+            elements.remove(0);
+        }
+    }
+}

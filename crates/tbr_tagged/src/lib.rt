@@ -1,0 +1,19 @@
+//! Widths of characters, and lines of text under tags.
+#![tactic(auto)]
+
+pub use element::{TaggedLineElement, TaggedString};
+pub use error::{Error, OutOfMemory, TooNarrow};
+pub use iterators::{Chars, Iter, TaggedStrings};
+pub use padding::CellAlign;
+pub use space::{always_takes_space, is_wordbreak_point, spaces};
+pub use tagged_line::TaggedLine;
+pub use width::{UnicodeColumns, text_width};
+
+mod element;
+mod elements;
+mod error;
+mod iterators;
+mod padding;
+mod space;
+mod tagged_line;
+mod width;

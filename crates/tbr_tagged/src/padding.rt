@@ -1,0 +1,96 @@
+//! Spaces behind and in front of a line.
+ghost use Rattle.std.specs.Prelude.{◌≡◌, ◌+◌, ◌≤◌, true, map, chars, string_bytes, IfOk, OnOk, OnErr};
+ghost use Rattle.tbr_tagged.specs.Copies.{CopiesAreEqual};
+ghost use Rattle.tbr_tagged.specs.Elements.{push_text, SameElements};
+ghost use Rattle.tbr_tagged.specs.Padding as model;
+ghost use Rattle.tbr_tagged.specs.View.{element_of};
+
+use crate::element::{TaggedLineElement, TaggedString, extend, is_under};
+use crate::elements::{put_in_front, take_from_front};
+use crate::error::OutOfMemory;
+use crate::space::spaces;
+use std::alloc::Global;
+
+/// Where a line stands in more columns than it takes. In the middle, the odd column is on the right.
+#[derive(Clone, Copy, PartialEq, Eq, Debug, Default)]
+pub enum CellAlign {
+    /// At the left, with the spaces behind it.
+    #[default]
+    Left,
+    /// At the right, with the spaces in front of it.
+    Right,
+    /// In the middle, with half of the spaces in front of it, rounded down.
+    Centre,
+}
+
+pub fn columns_in_front(align: CellAlign, missing: usize) -> usize
+    ensures value { result ≡ model.columns_in_front align missing }
+    ensures bound { result ≤ missing }
+{
+    match align {
+        CellAlign::Left => 0,
+        CellAlign::Right => missing,
+        CellAlign::Centre => missing / 2,
+    }
+}
+
+pub fn pad<T: Eq + Clone + Drop>(
+    elements: &mut Vec<TaggedLineElement<T>>,
+    front: usize,
+    behind: usize,
+    tag: &T,
+) -> Result<(), OutOfMemory>
+    requires { CopiesAreEqual T.is_clone T.eq }
+    ensures ok { OnOk result (SameElements T.eq (map element_of elements.new.items) (model.padded T.eq (map element_of elements.old.items) front behind tag.now)) }
+    ensures none { front + behind ≡ 0 → map element_of elements.new.items ≡ map element_of elements.old.items }
+    ensures err { OnErr result (map element_of elements.new.items ≡ map element_of elements.old.items) }
+{
+    if front == 0 {
+        return push_spaces(elements, behind, tag);
+    }
+    let piece = spaces_under(*elements.allocator(), front, tag)?;
+    let had = put_in_front(elements, piece)?;
+    if let Err(e) = push_spaces(elements, behind, tag) {
+        take_from_front(elements, had);
+        return Err(e);
+    }
+    Ok(())
+}
+
+/// Appends spaces.
+fn push_spaces<T: Eq + Clone + Drop>(
+    elements: &mut Vec<TaggedLineElement<T>>,
+    count: usize,
+    tag: &T,
+) -> Result<(), OutOfMemory>
+    requires { CopiesAreEqual T.is_clone T.eq }
+    ensures ok { OnOk result (SameElements T.eq (map element_of elements.new.items) (push_text T.eq (map element_of elements.old.items) (model.spaces count) tag.now)) }
+    ensures none { count ≡ 0 → map element_of elements.new.items ≡ map element_of elements.old.items }
+    ensures err { OnErr result (map element_of elements.new.items ≡ map element_of elements.old.items) }
+{
+    if count == 0 {
+        return Ok(());
+    }
+    if is_under(elements.last(), tag) {
+        let s = spaces(*elements.allocator(), count)?;
+        let end = elements.len() - 1;
+        return extend(&mut elements[end], s.as_str());
+    }
+    let piece = spaces_under(*elements.allocator(), count, tag)?;
+    elements.push(TaggedLineElement::Str(piece))?;
+    Ok(())
+}
+
+fn spaces_under<T: Eq + Clone>(
+    alloc: Global,
+    count: usize,
+    tag: &T,
+) -> Result<TaggedString<T>, OutOfMemory>
+    requires { CopiesAreEqual T.is_clone T.eq }
+    ensures text { IfOk result (λ ts. chars (string_bytes ts.s) ≡ model.spaces count) }
+    ensures tag { IfOk result (λ ts. T.eq ts.tag tag.now ≡ true) }
+{
+    let s = spaces(alloc, count)?;
+    let tag = tag.clone()?;
+    Ok(TaggedString { s, tag })
+}

@@ -1,0 +1,31 @@
+//! White space.
+ghost use Rattle.std.specs.Prelude.{◌≡◌, chars, string_bytes, replicate, IfOk};
+ghost use Rattle.tbr_model.specs.Run as model;
+
+use crate::error::OutOfMemory;
+use std::alloc::Global;
+
+/// Whether a character takes space wherever it stands: it is no white space, or U+00A0.
+pub fn always_takes_space(c: char) -> bool
+    ensures { result ≡ model.always_takes_space c }
+{
+    !c.is_whitespace() || c == '\u{a0}'
+}
+
+/// Whether a word may end before a character: it is U+200B, or white space other than U+00A0.
+pub fn is_wordbreak_point(c: char) -> bool
+    ensures { result ≡ model.is_break c }
+{
+    c == '\u{200b}' || (c.is_whitespace() && c != '\u{a0}')
+}
+
+/// A text of so many spaces.
+pub fn spaces(alloc: Global, count: usize) -> Result<String, OutOfMemory>
+    ensures { IfOk result (λ s. chars (string_bytes s) ≡ replicate count 32) }
+{
+    let mut s = String::with_capacity(alloc, count)?;
+    for _ in 0..count {
+        s.push(' ')?;
+    }
+    Ok(s)
+}

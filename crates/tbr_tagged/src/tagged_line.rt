@@ -1,0 +1,288 @@
+//! Lines of text under tags.
+ghost use Rattle.std.specs.Prelude.{◌≡◌, ℕ, ◌-◌, ◌≤◌, ◌<◌, ◌++◌, ◌∷◌, [], true, max, not, Option, None, Some, List, map, chars, string_bytes, string_len, IfOk, OnOk, OnErr, MatchResult};
+ghost use Rattle.tbr_tagged.specs.Copies.{CopiesAreEqual};
+ghost use Rattle.tbr_model.specs.Run.{glyph, items_width};
+ghost use Rattle.tbr_tagged.specs.Elements.{items_of, element_items, characters, piece, push_text, push_element, insert_text, text_items, SameItems, SameElements, IsMerged};
+ghost use Rattle.tbr_tagged.specs.Elements as model;
+ghost use Rattle.tbr_tagged.specs.Mapped.{MapsElements};
+ghost use Rattle.tbr_tagged.specs.Padding.{spaces, aligned, columns_in_front};
+ghost use Rattle.tbr_tagged.specs.View.{element_of};
+ghost use Rattle.tbr_tagged.specs.Walks.{elements_left, strings_left, characters_left, pieces_of, piece_of, item_characters};
+
+use crate::element::{TaggedLineElement, TaggedString};
+use crate::elements::{columns_of, has_piece, push_glyph, push_piece, put_in_front, text_of};
+use crate::error::OutOfMemory;
+use crate::iterators::{Chars, Iter, TaggedStrings};
+use crate::padding::{CellAlign, columns_in_front, pad};
+use std::alloc::Global;
+use std::marker::Model;
+use std::vec;
+use tbr_model::CharWidth;
+
+/// A line of pieces of text, each under its tag, and of markers. A contract sees the list of these elements.
+#[derive(Debug, Drop)]
+pub struct TaggedLine<T> {
+    elements: Vec<TaggedLineElement<T>>,
+}
+
+impl<T> Model for TaggedLine<T> {
+    ghost use Rattle.std.specs.Prelude.{List, map};
+    ghost use Rattle.tbr_tagged.specs.Elements.{Element};
+
+    ghost Value = { List (Element T) };
+
+    ghost use Rattle.tbr_tagged.specs.View.{element_of};
+
+    ghost view = { λ a. map element_of a.elements.items };
+}
+
+impl<T> TaggedLine<T> {
+    /// A line without elements. It takes no memory.
+    pub fn new(alloc: Global) -> TaggedLine<T>
+        ensures { result ≡ [] }
+    {
+        TaggedLine {
+            elements: Vec::new(alloc),
+        }
+    }
+
+    /// Whether the line has no piece. Markers don't count.
+    pub fn is_empty(&self) -> bool
+        ensures { result ≡ not (model.has_piece self.now) }
+    {
+        !has_piece(&self.elements)
+    }
+
+    /// The columns that the line takes: the sum over its characters, one without a width counting 0.
+    ///
+    /// It takes no memory, and refuses exactly where the sum passes `usize`.
+    pub fn width<W: CharWidth>(&self) -> Result<usize, OutOfMemory>
+        ensures { MatchResult result (λ n. n ≡ items_width W.columns (items_of self.now)) (λ _. usize.MAX < items_width W.columns (items_of self.now)) }
+    {
+        columns_of::<T, W>(&self.elements)
+    }
+
+    /// The line's characters, without tags and markers.
+    pub fn to_text(&self) -> Result<String, OutOfMemory>
+        ensures { IfOk result (λ text. chars (string_bytes text) ≡ characters self.now) }
+    {
+        text_of(*self.elements.allocator(), &self.elements)
+    }
+}
+
+impl<T> TaggedLine<T> {
+    /// A line of one piece under a copy of the tag, even for the empty text.
+    pub fn from_string(alloc: Global, s: String, tag: &T) -> Result<TaggedLine<T>, OutOfMemory>
+    where
+        T: Eq + Clone + Drop,
+        requires { CopiesAreEqual T.is_clone T.eq }
+        ensures { IfOk result (λ line. SameElements T.eq line (piece (chars (string_bytes s)) tag.now ∷ [])) }
+    {
+        let tag = tag.clone()?;
+        let mut elements = Vec::new(alloc);
+        elements.push(TaggedLineElement::Str(TaggedString { s, tag }))?;
+        Ok(TaggedLine { elements })
+    }
+
+    /// The line with each tag replaced by what `f` makes of it. Texts, markers and their order stay.
+    pub fn map_tag<U: Drop, F: Fn(T) -> U>(self, f: &F) -> Result<TaggedLine<U>, OutOfMemory>
+    where
+        T: Drop,
+        requires { F.IsAlwaysCallable f.now }
+        ensures mapped { IfOk result (λ line. MapsElements (F.post f.now) self line) }
+        ensures text { IfOk result (λ line. characters line ≡ characters self) }
+        ensures width { IfOk result (λ line. (columns : ℕ → Option ℕ) → items_width columns (items_of line) ≡ items_width columns (items_of self)) }
+    {
+        let mut elements = Vec::with_capacity(*self.elements.allocator(), self.elements.len())?;
+        for element in self.elements {
+            elements.push(element.map_tag(f))?;
+        }
+        Ok(TaggedLine { elements })
+    }
+
+    /// The same elements, each piece under a copy of its tag.
+    pub fn clone(&self) -> Result<TaggedLine<T>, OutOfMemory>
+    where
+        T: Eq + Clone + Drop,
+        requires { CopiesAreEqual T.is_clone T.eq }
+        ensures { IfOk result (λ line. SameElements T.eq line self.now) }
+    {
+        let mut elements = Vec::with_capacity(*self.elements.allocator(), self.elements.len())?;
+        for element in &self.elements {
+            elements.push(element.clone()?)?;
+        }
+        Ok(TaggedLine { elements })
+    }
+}
+
+impl<T: Eq> TaggedLine<T> {
+    /// Appends text. It extends the last piece if that stands under an equal tag, and else is a piece of its own. The empty text
+    /// does nothing.
+    ///
+    /// Where memory is refused the line stays as it was, and the text is dropped.
+    pub fn push_str(&mut self, ts: TaggedString<T>) -> Result<(), OutOfMemory>
+    where
+        T: Drop,
+        ensures ok { OnOk result (self.new ≡ push_text T.eq self.old (chars (string_bytes ts.s)) ts.tag) }
+        ensures items { OnOk result (SameItems T.eq (items_of self.new) (items_of self.old ++ text_items (chars (string_bytes ts.s)) ts.tag)) }
+        ensures merged { IsMerged T.eq self.old → OnOk result (IsMerged T.eq self.new) }
+        ensures err { OnErr result (self.new ≡ self.old) }
+    {
+        if ts.s.is_empty() {
+            return Ok(());
+        }
+        push_piece(&mut self.elements, ts)
+    }
+
+    /// Appends a character. It extends the last piece if that stands under an equal tag, and else begins a piece under a copy of the
+    /// tag.
+    ///
+    /// Where memory is refused the line stays as it was.
+    pub fn push_char(&mut self, c: char, tag: &T) -> Result<(), OutOfMemory>
+    where
+        T: Clone,
+        requires { CopiesAreEqual T.is_clone T.eq }
+        ensures ok { OnOk result (SameElements T.eq self.new (push_text T.eq self.old (c ∷ []) tag.now)) }
+        ensures items { OnOk result (SameItems T.eq (items_of self.new) (items_of self.old ++ glyph c tag.now ∷ [])) }
+        ensures merged { IsMerged T.eq self.old → OnOk result (IsMerged T.eq self.new) }
+        ensures err { OnErr result (self.new ≡ self.old) }
+    {
+        push_glyph(&mut self.elements, c, tag)
+    }
+}
+
+impl<T: Eq + Drop> TaggedLine<T> {
+    /// Appends an element. Text is appended as by [`TaggedLine::push_str`], and a marker stands behind what the line has.
+    ///
+    /// Where memory is refused the line stays as it was, and the element is dropped.
+    pub fn push(&mut self, element: TaggedLineElement<T>) -> Result<(), OutOfMemory>
+        ensures ok { OnOk result (self.new ≡ push_element T.eq self.old (element_of element)) }
+        ensures items { OnOk result (SameItems T.eq (items_of self.new) (items_of self.old ++ element_items (element_of element))) }
+        ensures merged { IsMerged T.eq self.old → OnOk result (IsMerged T.eq self.new) }
+        ensures err { OnErr result (self.new ≡ self.old) }
+    {
+        match element {
+            TaggedLineElement::Str(ts) => self.push_str(ts),
+            TaggedLineElement::FragmentStart(name) => {
+                self.elements.push(TaggedLineElement::FragmentStart(name))?;
+                Ok(())
+            }
+        }
+    }
+
+    /// Puts text in front. It extends the first piece if that stands under an equal tag, and else is a piece of its own, also
+    /// where the text is empty.
+    ///
+    /// Where memory is refused the line stays as it was, and the text is dropped.
+    pub fn insert_front(&mut self, ts: TaggedString<T>) -> Result<(), OutOfMemory>
+        ensures ok { OnOk result (self.new ≡ insert_text T.eq self.old (chars (string_bytes ts.s)) ts.tag) }
+        ensures items { OnOk result (SameItems T.eq (items_of self.new) (text_items (chars (string_bytes ts.s)) ts.tag ++ items_of self.old)) }
+        ensures merged { 0 < string_len ts.s → IsMerged T.eq self.old → OnOk result (IsMerged T.eq self.new) }
+        ensures err { OnErr result (self.new ≡ self.old) }
+    {
+        put_in_front(&mut self.elements, ts)?;
+        Ok(())
+    }
+}
+
+impl<T: Eq + Clone + Drop> TaggedLine<T> {
+    /// Fills the line up to `width` columns with spaces behind it, under a copy of the tag. A line that is as wide already stays as
+    /// it is.
+    ///
+    /// It refuses where memory is refused, or where the line's columns pass `usize`. The line then stays as it was.
+    pub fn pad_to<W: CharWidth>(&mut self, width: usize, tag: &T) -> Result<(), OutOfMemory>
+        requires { CopiesAreEqual T.is_clone T.eq }
+        ensures ok { OnOk result (SameElements T.eq self.new (push_text T.eq self.old (spaces (width - items_width W.columns (items_of self.old))) tag.now)) }
+        ensures items { OnOk result (SameItems T.eq (items_of self.new) (items_of self.old ++ text_items (spaces (width - items_width W.columns (items_of self.old))) tag.now)) }
+        ensures width { OnOk result (items_width W.columns (items_of self.new) ≡ max width (items_width W.columns (items_of self.old))) }
+        ensures merged { IsMerged T.eq self.old → OnOk result (IsMerged T.eq self.new) }
+        ensures wide { width ≤ items_width W.columns (items_of self.old) → self.new ≡ self.old }
+        ensures err { OnErr result (self.new ≡ self.old) }
+    {
+        self.pad_aligned::<W>(width, CellAlign::Left, tag)
+    }
+
+    /// Fills the line up to `width` columns with spaces under copies of the tag: behind it, in front of it, or on both sides, as the
+    /// alignment says. Spaces in front stand before the first element, markers included. A line that is as wide already stays as it
+    /// is.
+    ///
+    /// It refuses where memory is refused, or where the line's columns pass `usize`. The line then stays as it was.
+    pub fn pad_aligned<W: CharWidth>(
+        &mut self,
+        width: usize,
+        align: CellAlign,
+        tag: &T,
+    ) -> Result<(), OutOfMemory>
+        requires { CopiesAreEqual T.is_clone T.eq }
+        ensures ok { OnOk result (SameElements T.eq self.new (aligned T.eq align self.old (width - items_width W.columns (items_of self.old)) tag.now)) }
+        ensures items { OnOk result (let missing = width - items_width W.columns (items_of self.old) in let front = columns_in_front align missing in SameItems T.eq (items_of self.new) (text_items (spaces front) tag.now ++ items_of self.old ++ text_items (spaces (missing - front)) tag.now)) }
+        ensures width { OnOk result (items_width W.columns (items_of self.new) ≡ max width (items_width W.columns (items_of self.old))) }
+        ensures merged { IsMerged T.eq self.old → OnOk result (IsMerged T.eq self.new) }
+        ensures wide { width ≤ items_width W.columns (items_of self.old) → self.new ≡ self.old }
+        ensures err { OnErr result (self.new ≡ self.old) }
+    {
+        let missing = width.saturating_sub(self.width::<W>()?);
+        let front = columns_in_front(align, missing);
+        pad(&mut self.elements, front, missing - front, tag)
+    }
+}
+
+impl<T> TaggedLine<T> {
+    /// The elements of the line, in order.
+    pub fn iter(&self) -> Iter<'_, T>
+        ensures { map element_of (elements_left result) ≡ self.now }
+    {
+        Iter {
+            rest: self.elements.as_slice(),
+        }
+    }
+
+    /// The pieces of the line without its markers, in order.
+    pub fn tagged_strings(&self) -> TaggedStrings<'_, T>
+        ensures { map piece_of (strings_left result) ≡ pieces_of self.now }
+    {
+        TaggedStrings {
+            rest: self.elements.as_slice(),
+        }
+    }
+
+    /// The characters of the line, in order.
+    pub fn chars(&self) -> Chars<'_, T>
+        ensures text { characters_left result ≡ characters self.now }
+        ensures items { characters_left result ≡ item_characters (items_of self.now) }
+    {
+        Chars {
+            text: "".chars(),
+            rest: self.elements.as_slice(),
+        }
+    }
+}
+
+/// Two lines are equal where they have equal elements, in order.
+impl<T: PartialEq> PartialEq for TaggedLine<T> {
+    ghost use Rattle.tbr_tagged.specs.Equal.{equal_lines, equal_lines_laws};
+
+    ghost eq = { equal_lines T.eq };
+
+    ghost laws = { equal_lines_laws T.laws };
+
+    fn eq(&self, other: &Self) -> bool {
+        self.elements == other.elements
+    }
+}
+
+impl<T: Drop> IntoIterator for TaggedLine<T> {
+    type Item = TaggedLineElement<T>;
+
+    type IntoIter = vec::IntoIter<TaggedLineElement<T>>;
+
+    ghost use Rattle.std.specs.Prelude.{◌≡◌, map, length};
+    ghost use Rattle.std.specs.Vec.Iter.{into_iter_items, into_iter_len};
+    ghost use Rattle.tbr_tagged.specs.View.{element_of};
+
+    ghost into_iter_gives = { λ line walk. (map element_of (into_iter_items walk) ≡ line) × (into_iter_len walk ≡ length line) };
+
+    fn into_iter(self) -> vec::IntoIter<TaggedLineElement<T>> {
+        self.elements.into_iter()
+    }
+}

@@ -1,0 +1,81 @@
+//! How many columns characters take in a terminal.
+ghost use Rattle.std.specs.Prelude.{◌≡◌, ◌<◌, chars, unwrap_or, MatchResult};
+ghost use Rattle.tbr_model.specs.Width as fixed;
+ghost use Rattle.tbr_tagged.specs.UnicodeColumns.{unicode_columns, unicode_columns_at_most_two, unicode_columns_drawn};
+
+use crate::error::OutOfMemory;
+use tbr_model::CharWidth;
+use unicode_width::UnicodeWidthChar;
+
+/// U+0336, which strikes out the character before it.
+const STROKE: char = '\u{336}';
+
+/// The columns that terminals give characters, by the crate `unicode_width`.
+///
+/// The characters whose columns [`CharWidth`] fixes have those, and a character to which `unicode_width` gives more than two
+/// columns has two.
+#[derive(Clone, Copy, Debug)]
+pub struct UnicodeColumns;
+
+impl CharWidth for UnicodeColumns {
+    ghost columns = { unicode_columns };
+
+    ghost at_most_two = { unicode_columns_at_most_two };
+
+    ghost drawn_in_one = { unicode_columns_drawn };
+
+    ghost use Rattle.std.specs.Prelude.{refl};
+
+    ghost stroke_takes_none = { refl };
+
+    fn width(c: char) -> Option<usize> {
+        if takes_one_column(c) {
+            return Some(1);
+        }
+        if c == STROKE {
+            return Some(0);
+        }
+        let columns = c.width()?;
+        Some(columns.min(2))
+    }
+}
+
+/// Whether the character is the space, the slash, or one that borders are drawn with.
+fn takes_one_column(c: char) -> bool
+    ensures { result ≡ fixed.takes_one_column c }
+{
+    c == ' ' || c == '/' || draws_border(c)
+}
+
+fn draws_border(c: char) -> bool
+    ensures { result ≡ fixed.draws_border c }
+{
+    c == '─'
+        || c == '│'
+        || c == '┌'
+        || c == '┐'
+        || c == '└'
+        || c == '┘'
+        || c == '├'
+        || c == '┤'
+        || c == '┬'
+        || c == '┴'
+        || c == '┼'
+}
+
+/// The columns that a text takes: the sum over its characters, one without a width counting 0.
+///
+/// It takes no memory, and refuses exactly where the sum passes `usize`.
+pub fn text_width<W: CharWidth>(s: &str) -> Result<usize, OutOfMemory>
+    ensures { MatchResult result (λ n. n ≡ fixed.text_columns W.columns (chars s.now)) (λ _. usize.MAX < fixed.text_columns W.columns (chars s.now)) }
+{
+    let mut width = 0usize;
+    for c in s.chars() {
+        let columns = W::width(c).unwrap_or(0);
+        let Some(sum) = width.checked_add(columns) else {
+            return Err(OutOfMemory);
+        };
+        width = sum;
+    }
+    Ok(width)
+}

@@ -1,0 +1,4 @@
+pub mod lines
+pub mod runs
+pub mod storage
+pub mod words

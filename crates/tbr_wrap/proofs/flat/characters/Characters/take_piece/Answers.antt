@@ -1,0 +1,39 @@
+use Rattle.std.proofs.Common.{◌≡◌, ◌≤◌, length, drop, take, ap, ◌∙◌, subst, arith}
+use Rattle.std.specs.Str.{chars}
+use Rattle.std.specs.String.{string_bytes}
+use Rattle.tbr_tagged.specs.Elements.{SameItems, text_items}
+use Rattle.tbr_wrap.specs.Flat.{Flat}
+use Rattle.tbr_wrap.proofs.storage.TaggedCharacters.{placed_len, taken_fits, taken_rest, piece_items}
+use Rattle.tbr_wrap.proofs.flat.characters.Characters.take_piece.Goals as goal
+
+pub first-requires-clause-within : goal.first-requires-clause-within
+first-requires-clause-within g c =
+    let len = placed_len c.self.inside.text c.self.inside.tags c.args.self.now c.self.invariant c.self.view_is in
+    omega (arith, len, c.requires.placed, c.self.invariant)
+
+pub take-requires : goal.take-requires
+take-requires g c =
+    let len = placed_len c.self.inside.text c.self.inside.tags c.args.self.now c.self.invariant c.self.view_is in
+    omega (arith, len, c.requires.placed, c.in_ok-count.ensures.count.1)
+
+pub invariant_of-self-2 : goal.invariant_of-self-2
+invariant_of-self-2 g c =
+    let len = placed_len c.self.inside.text c.self.inside.tags c.args.self.now c.self.invariant c.self.view_is in
+    let within : c.in_ok-count.count ≤ length c.self.inside.text.placed = omega (arith, len, c.requires.placed, c.in_ok-count.ensures.count.1) in
+    taken_fits c.self.inside.text c.take.new.self c.self.inside.tags c.skip.new.self c.in_ok-count.count c.self.invariant within c.in_ok-s.ensures.rest c.skip.ensures
+
+pub returns-clause-items : goal.returns-clause-items
+returns-clause-items g c =
+    let len = placed_len c.self.inside.text c.self.inside.tags c.args.self.now c.self.invariant c.self.view_is in
+    let within : c.in_ok-count.count ≤ length c.self.inside.text.placed = omega (arith, len, c.requires.placed, c.in_ok-count.ensures.count.1) in
+    let t = c.in_ok-count.ensures.tags in
+    let cs = chars (string_bytes c.in_ok-s.s) in
+    subst (λ (f : Flat g.row.T.Denot). (length cs ≡ c.in_ok-count.count) × SameItems g.T.PartialEq.eq (text_items cs c.in_ok-count.tag) (take c.in_ok-count.count f.placed)) c.self.view_is
+    (piece_items g.T.PartialEq.eq cs c.self.inside.text.placed c.self.inside.tags c.in_ok-count.count t.0 c.in_ok-count.tag c.in_ok-s.ensures.taken t.2 t.1 within)
+
+pub returns-clause-rest : goal.returns-clause-rest
+returns-clause-rest g c =
+    let len = placed_len c.self.inside.text c.self.inside.tags c.args.self.now c.self.invariant c.self.view_is in
+    let within : c.in_ok-count.count ≤ length c.self.inside.text.placed = omega (arith, len, c.requires.placed, c.in_ok-count.ensures.count.1) in
+    taken_rest c.self.inside.text c.take.new.self c.self.inside.tags c.skip.new.self c.in_ok-count.count within c.in_ok-s.ensures.rest c.skip.ensures
+    ∙ ap (λ (f : Flat g.row.T.Denot). record f { placed = drop c.in_ok-count.count f.placed }) c.self.view_is

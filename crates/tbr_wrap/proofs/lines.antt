@@ -1,0 +1,6 @@
+pub mod HeldLines
+pub mod LaidByRule
+pub mod LineWidths
+pub mod ManySpaces
+pub mod ReservedSpaces
+pub mod TrimmedSpaces

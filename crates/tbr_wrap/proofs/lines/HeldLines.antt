@@ -1,0 +1,89 @@
+-- What the fields hold after a line is ended and characters are placed.
+use Rattle.std.proofs.Common.{◌≡◌, ℕ, ◌+◌, ◌≤◌, Bool, Option, None, Some, List, [], ◌∷◌, ◌++◌, map, length, refl, ap, sym, ◌∙◌, subst, arith, append_assoc, append-nil, length-append, nat_lt, is_some, take, drop, IfSome, slice_index_or, option_copied, Bor}
+use Rattle.std.proofs.lemmas.List.{take_at, drop_at, map-append}
+use Rattle.tbr_tagged.specs.Elements.{SameItems}
+use Rattle.tbr_model.specs.Run.{Item}
+use Rattle.tbr_model.specs.Layout.{joined}
+use Rattle.tbr_model.specs.Laid.{Laid, extended, ended}
+use Rattle.tbr_model.proofs.Lists.{joined-append}
+use Rattle.tbr_wrap.specs.declared.wrapper.Wrapper.{Wrapper}
+use Rattle.tbr_wrap.specs.Wrapper.{HoldsLaid, KeepsSettings, LeavesAfterLine}
+
+-- the open line is ended, as it was or with more items
+pub holds_end : {A : Type 0} (b c : Wrapper A) (before : List (List (Item A))) (l : Laid A) (n : ℕ) → HoldsLaid b before l → n ≡ length l.line → c.flat.placed ≡ b.flat.placed → c.lines.items ≡ b.lines.items ++ n ∷ [] → c.line_len ≡ 0 → c.line_width ≡ 0 →
+    HoldsLaid c before (ended l)
+holds_end {A} b c before l n h same flat lines len width = record {
+  placed = flat ∙ h.placed ∙ sym (append-nil (joined (before ++ (l.done ++ l.line ∷ []))) ∙ ap joined (sym (append_assoc before l.done (l.line ∷ []))) ∙ joined-append (before ++ l.done) (l.line ∷ []) ∙ ap (λ is. joined (before ++ l.done) ++ is) (append-nil l.line));
+  lens = lines ∙ ap (λ ns. ns ++ n ∷ []) h.lens ∙ ap (λ m. map length (before ++ l.done) ++ m ∷ []) same ∙ sym (ap (map length) (sym (append_assoc before l.done (l.line ∷ []))) ∙ map-append length (before ++ l.done) (l.line ∷ []));
+  len = len;
+  width = width;
+}
+
+-- more items on the open line
+pub holds_more : {A : Type 0} (b c : Wrapper A) (before : List (List (Item A))) (l : Laid A) (is : List (Item A)) (columns : ℕ) → HoldsLaid b before l → c.flat.placed ≡ b.flat.placed ++ is → c.lines ≡ b.lines → c.line_len ≡ b.line_len + length is → c.line_width ≡ b.line_width + columns →
+    HoldsLaid c before (extended l is columns)
+holds_more b c before l is columns h placed lines len width = record {
+  placed = placed ∙ ap (λ js. js ++ is) h.placed ∙ append_assoc (joined (before ++ l.done)) l.line is;
+  lens = ap (λ q. q.items) lines ∙ h.lens;
+  len = omega (arith, len, h.len, length-append l.line is);
+  width = omega (arith, width, h.width);
+}
+
+pub keeps_trans : {A : Type 0} (a b c : Wrapper A) → KeepsSettings a b → KeepsSettings b c → KeepsSettings a c
+keeps_trans a b c h k = record {
+  width = k.width ∙ h.width;
+  may_overflow = k.may_overflow ∙ h.may_overflow;
+  space = k.space ∙ h.space;
+  word_width = k.word_width ∙ h.word_width;
+  word_mode = k.word_mode ∙ h.word_mode;
+  continued = k.continued ∙ h.continued;
+  again = k.again ∙ h.again;
+}
+
+-- where no other field changed
+pub holds_same : {A : Type 0} (b c : Wrapper A) (before : List (List (Item A))) (l : Laid A) → HoldsLaid b before l → c.flat.placed ≡ b.flat.placed → c.lines ≡ b.lines → c.line_len ≡ b.line_len → c.line_width ≡ b.line_width → HoldsLaid c before l
+holds_same b c before l h flat lines len width = record { placed = flat ∙ h.placed; lens = ap (λ q. q.items) lines ∙ h.lens; len = len ∙ h.len; width = width ∙ h.width }
+
+-- ---- the first ended line
+
+pub front_of : (o : Option (Bor ℕ)) (ls : List ℕ) (n : ℕ) → Some n ≡ option_copied o → is_some o ≡ nat_lt 0 (length ls) → IfSome o (λ x. x.now ≡ slice_index_or ls 0 x.now) → (rest : List ℕ) × (ls ≡ n ∷ rest)
+front_of None ls n e some at = cc
+front_of (Some x) [] n e some at = cc
+front_of (Some x) (m ∷ ls) n e some at = (ls, (let same : n ≡ x.now = cc in let is : x.now ≡ m = at in cc))
+
+pub first_line : {X : Type 0} (xs : List (List X)) (n : ℕ) (rest : List ℕ) → n ∷ rest ≡ map length xs → (is : List X) × (others : List (List X)) × (xs ≡ is ∷ others) × (length is ≡ n) × (map length others ≡ rest)
+first_line [] n rest e = cc
+first_line (is ∷ xs) n rest e = (is, xs, refl, cc, cc)
+
+pub front_fits : {A : Type 0} (b : Wrapper A) (before : List (List (Item A))) (l : Laid A) (n : ℕ) (rest : List ℕ) → HoldsLaid b before l → b.lines.items ≡ n ∷ rest → n ≤ length b.flat.placed
+front_fits b before l n rest h e =
+    let w = first_line (before ++ l.done) n rest (sym e ∙ h.lens) in
+    omega (arith, ap length h.placed, length-append (joined (before ++ l.done)) l.line, ap (λ ls. length (joined ls)) w.2, length-append w.0 (joined w.1), w.3)
+
+pub taken : {A : Type 0} (eq : A → A → Bool) (b c : Wrapper A) (before : List (List (Item A))) (l : Laid A) (is : List (Item A)) (rest : List (List (Item A))) (n : ℕ) (ns : List ℕ) (line : List (Item A)) → HoldsLaid b before l → before ++ l.done ≡ is ∷ rest → b.lines.items ≡ n ∷ ns →
+    SameItems eq line (take n b.flat.placed) → c.flat ≡ record b.flat { placed = drop n b.flat.placed } → c.lines.items ≡ ns → c.line_len ≡ b.line_len → c.line_width ≡ b.line_width → SameItems eq line is × LeavesAfterLine b c rest l
+taken {A} eq b c before l is rest n ns line h first e same flat lens len width =
+    let parts : b.flat.placed ≡ is ++ (joined rest ++ l.line) = h.placed ∙ ap (λ ls. joined ls ++ l.line) first ∙ append_assoc is (joined rest) l.line in
+    let both : n ∷ ns ≡ map length (is ∷ rest) = sym e ∙ h.lens ∙ ap (map length) first in
+    let long : length is ≡ n = cc in (
+      subst (λ (js : List (Item A)). SameItems eq line js) (ap (take n) parts ∙ take_at is (joined rest ++ l.line) n long) same,
+      record {
+        placed = ap (λ f. f.placed) flat ∙ ap (drop n) parts ∙ drop_at is (joined rest ++ l.line) n long;
+        word = ap (λ f. f.word) flat;
+        lens = lens ∙ (let others : ns ≡ map length rest = cc in others);
+        len = len;
+        width = width;
+      },
+    )
+
+-- one more item, with which the open line is ended
+pub holds_wide : {A : Type 0} (b c : Wrapper A) (before : List (List (Item A))) (l : Laid A) (i : Item A) (columns n : ℕ) → HoldsLaid b before l → c.flat.placed ≡ b.flat.placed ++ i ∷ [] → n ≡ b.line_len + 1 → c.lines.items ≡ b.lines.items ++ n ∷ [] → c.line_len ≡ 0 → c.line_width ≡ 0 →
+    HoldsLaid c before (ended (extended l (i ∷ []) columns))
+holds_wide {A} b c before l i columns n h placed count lines len width = record {
+  placed = placed ∙ ap (λ js. js ++ i ∷ []) h.placed ∙ append_assoc (joined (before ++ l.done)) l.line (i ∷ [])
+      ∙ sym (append-nil (joined (before ++ (l.done ++ (l.line ++ i ∷ []) ∷ []))) ∙ ap joined (sym (append_assoc before l.done ((l.line ++ i ∷ []) ∷ []))) ∙ joined-append (before ++ l.done) ((l.line ++ i ∷ []) ∷ []) ∙ ap (λ is. joined (before ++ l.done) ++ is) (append-nil (l.line ++ i ∷ [])));
+  lens = lines ∙ ap (λ ns. ns ++ n ∷ []) h.lens ∙ ap (λ m. map length (before ++ l.done) ++ m ∷ []) (let e : n ≡ length (l.line ++ i ∷ []) = omega (arith, count, h.len, length-append l.line (i ∷ [])) in e)
+      ∙ sym (ap (map length) (sym (append_assoc before l.done ((l.line ++ i ∷ []) ∷ []))) ∙ map-append length (before ++ l.done) ((l.line ++ i ∷ []) ∷ []));
+  len = len;
+  width = width;
+}

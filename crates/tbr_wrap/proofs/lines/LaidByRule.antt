@@ -1,0 +1,136 @@
+-- What the fields hold is what the rule lays.
+use Rattle.std.proofs.Common.{◌≡◌, ◌≢◌, None, nat_le, ℕ, zero, suc, Some, ◌+◌, ◌<◌, ◌≤◌, Bool, true, false, Option, List, [], ◌∷◌, ◌++◌, length, refl, ap, sym, ◌∙◌, subst, arith, append_assoc, unwrap_or}
+use borrow.Author.Tests.{le-leb, lt-leb}
+use Rattle.std.specs.Cmp.{IsEquivalence}
+use Rattle.std.specs.Prelude.{MatchOption}
+use Rattle.tbr_model.specs.Run.{Item, glyph, marker, item_width, items_width, has_character}
+use Rattle.tbr_model.specs.Greedy.{IsNarrow}
+use Rattle.tbr_model.specs.Rule.{spaces}
+use Rattle.tbr_model.specs.Laid.{Laid, extended, ended, fresh, blanked, put_item}
+use Rattle.tbr_model.proofs.Letters.{no_character_no_width}
+use Rattle.tbr_tagged.specs.Elements.{SameItem, SameItems}
+use Rattle.tbr_wrap.specs.Wrapper.{HoldsLaid, LaidLikeRule, HoldsRule, KeepsLimits}
+use Rattle.tbr_wrap.specs.declared.wrapper.Wrapper.{Wrapper}
+use Rattle.tbr_tagged.proofs.SameItems.{same_items_append, all_zip_append, same_has}
+use Rattle.tbr_wrap.proofs.lines.LineWidths.{measured_ended, measured_extended, measured_wide}
+
+module _ {A : Type 0} (eq : A → A → Bool) (laws : IsEquivalence eq) (given : List (List (Item A))) where
+  pub shows_ended : (l r : Laid A) → LaidLikeRule eq given l r → LaidLikeRule eq given (ended l) (ended r)
+  shows_ended l r h = record {
+    rest = h.rest ++ r.line ∷ [];
+    split = ap (λ ls. ls ++ r.line ∷ []) h.split ∙ append_assoc given h.rest (r.line ∷ []);
+    done = all_zip_append (SameItems eq) l.done (l.line ∷ []) h.rest (r.line ∷ []) h.done (h.last, tt);
+    last = tt;
+    width = refl;
+  }
+
+  pub shows_extended : (l r : Laid A) (is js : List (Item A)) (m n : ℕ) → LaidLikeRule eq given l r → SameItems eq is js → m ≡ n → LaidLikeRule eq given (extended l is m) (extended r js n)
+  shows_extended l r is js m n h same e = record {
+    rest = h.rest;
+    split = h.split;
+    done = h.done;
+    last = same_items_append eq laws l.line r.line is js h.last same;
+    width = omega (arith, h.width, e);
+  }
+
+module _ {A : Type 0} (columns : ℕ → Option ℕ) (eq : A → A → Bool) (laws : IsEquivalence eq) (b c : Wrapper A) (same : KeepsLimits b c) (before given : List (List (Item A))) (r : Laid A) (h : HoldsRule columns eq b before given r) where
+  pub lays_ended : HoldsLaid c before (ended h.laid) → HoldsRule columns eq c before given (ended r)
+  lays_ended k = record {
+    laid = ended h.laid;
+    holds = k;
+    shows = shows_ended eq laws given h.laid r h.shows;
+    measured = rw same.width (rw same.may_overflow (measured_ended columns b.width b.may_overflow r h.measured));
+  }
+
+  pub lays_extended : (is js : List (Item A)) (n : ℕ) → SameItems eq is js → n ≡ items_width columns js → b.line_width + n ≤ b.width → HoldsLaid c before (extended h.laid is n) → HoldsRule columns eq c before given (extended r js n)
+  lays_extended is js n items e room k = record {
+    laid = extended h.laid is n;
+    holds = k;
+    shows = shows_extended eq laws given h.laid r is js n n h.shows items refl;
+    measured = rw same.width (rw same.may_overflow (measured_extended columns b.width b.may_overflow r js n h.measured e (omega (arith, room, h.holds.width, h.shows.width))));
+  }
+
+  pub lays_wide : (i j : Item A) → SameItem eq i j → b.may_overflow ≡ true → b.line_width ≡ 0 → b.width < item_width columns j → HoldsLaid c before (ended (extended h.laid (i ∷ []) (item_width columns j))) →
+      HoldsRule columns eq c before given (ended (extended r (j ∷ []) (item_width columns j)))
+  lays_wide i j item may none wide k = record {
+    laid = ended (extended h.laid (i ∷ []) (item_width columns j));
+    holds = k;
+    shows = shows_ended eq laws given (extended h.laid (i ∷ []) (item_width columns j)) (extended r (j ∷ []) (item_width columns j)) (shows_extended eq laws given h.laid r (i ∷ []) (j ∷ []) (item_width columns j) (item_width columns j) h.shows (item, tt) refl);
+    measured = rw same.width (rw same.may_overflow (measured_wide columns b.width b.may_overflow r j h.measured may (omega (arith, none, h.holds.width, h.shows.width)) (omega (arith, wide))));
+  }
+
+  -- where the fields hold the same
+  pub lays_same : HoldsLaid c before h.laid → HoldsRule columns eq c before given r
+  lays_same k = record { laid = h.laid; holds = k; shows = h.shows; measured = rw same.width (rw same.may_overflow h.measured) }
+
+  -- a line without a character isn't ended
+  pub lays_none : has_character h.laid.line ≡ false → HoldsLaid c before h.laid → c.line_width ≡ b.line_width → HoldsRule columns eq c before given (fresh r) × (c.line_width ≡ 0)
+  lays_none none k width =
+      let test : has_character r.line ≡ false = sym (same_has eq h.laid.line r.line h.shows.last) ∙ none in
+      (rw test (lays_same k), omega (arith, width, h.holds.width, h.shows.width, h.measured.line, no_character_no_width columns r.line test))
+
+  -- and one with a character is
+  pub lays_some : has_character h.laid.line ≡ true → HoldsRule columns eq c before given (ended r) → HoldsRule columns eq c before given (fresh r)
+  lays_some some k = let test : has_character r.line ≡ true = sym (same_has eq h.laid.line r.line h.shows.last) ∙ some in rw test k
+
+  pub is_zero : b.line_width ≡ 0 → r.width ≡ 0
+  is_zero none = omega (arith, none, h.holds.width, h.shows.width)
+
+-- ---- which case of putting an item it is
+
+module _ {A : Type 0} (columns : ℕ → Option ℕ) (width : ℕ) (P : Laid A → Type 0) (r : Laid A) (i : Item A) where
+  pub item_here : r.width + item_width columns i ≤ width → P (extended r (i ∷ []) (item_width columns i)) → P (put_item columns width r i)
+  item_here fits h = let test : nat_le (r.width + item_width columns i) width ≡ true = le-leb _ _ fits in rw test h
+
+  pub item_next : width < r.width + item_width columns i → item_width columns i ≤ width → P (extended (ended r) (i ∷ []) (item_width columns i)) → P (put_item columns width r i)
+  item_next full fits h =
+      let test : nat_le (r.width + item_width columns i) width ≡ false = lt-leb _ _ full in
+      let narrow : nat_le (item_width columns i) width ≡ true = le-leb _ _ fits in rw (test, narrow) h
+
+  pub item_wide : width < item_width columns i → P (ended (extended (blanked r) (i ∷ []) (item_width columns i))) → P (put_item columns width r i)
+  item_wide wide h =
+      let test : nat_le (r.width + item_width columns i) width ≡ false = lt-leb _ _ (omega arith) in
+      let narrow : nat_le (item_width columns i) width ≡ false = lt-leb _ _ wide in rw (test, narrow) h
+
+-- a word's first item is as narrow as all of them
+pub narrow_first : {A : Type 0} (columns : ℕ → Option ℕ) (width : ℕ) (word rest : List (Item A)) (i : Item A) → word ≡ i ∷ rest → IsNarrow columns width word → (item_width columns i ≤ width) × IsNarrow columns width rest
+narrow_first columns width word rest i e h = let k = subst (IsNarrow columns width) e h in (k.0, k.1)
+
+-- ---- spaces
+
+pub same_spaces : {A : Type 0} (eq : A → A → Bool) (n : ℕ) (a b : A) → eq a b ≡ true → SameItems eq (spaces n a) (spaces n b)
+same_spaces eq zero a b h = tt
+same_spaces eq (suc n) a b h = ((refl, h), same_spaces eq n a b h)
+
+pub spaces_width : {A : Type 0} (columns : ℕ → Option ℕ) → columns 32 ≡ Some 1 → (n : ℕ) (a : A) → items_width columns (spaces n a) ≡ n
+spaces_width columns one zero a = refl
+spaces_width columns one (suc n) a = omega (arith, ap (λ o. unwrap_or o 0) one, spaces_width columns one n a)
+
+pub spaces_length : {A : Type 0} (n : ℕ) (a : A) → length (spaces n a) ≡ n
+spaces_length zero a = refl
+spaces_length (suc n) a = ap suc (spaces_length n a)
+
+pub front_is : {X : Type 0} (xs : List X) (x y : X) (more rest : List X) → xs ≡ x ∷ more → xs ≡ y ∷ rest → (x ≡ y) × (more ≡ rest)
+front_is xs x y more rest e f = (cc, cc)
+
+-- items that are the same as others, first by first
+pub split_same : {A : Type 0} (eq : A → A → Bool) (word : List (Item A)) (i : Item A) (rest js : List (Item A)) → word ≡ i ∷ rest → SameItems eq word js →
+    (j : Item A) × (others : List (Item A)) × (js ≡ j ∷ others) × SameItem eq i j × SameItems eq rest others
+split_same eq word i rest [] e h = absurd (subst (λ is. SameItems eq is []) e h)
+split_same eq word i rest (j ∷ js) e h = let k = subst (λ is. SameItems eq is (j ∷ js)) e h in (j, js, refl, k.0, k.1)
+
+pub none_same : {A : Type 0} (eq : A → A → Bool) (js : List (Item A)) → SameItems eq [] js → js ≡ []
+none_same eq [] h = refl
+none_same eq (j ∷ js) h = absurd h
+
+-- a word without a first item
+pub none_first : {A : Type 0} (columns : ℕ → Option ℕ) (o : Option ℕ) (word : List (Item A)) → MatchOption o (word ≡ []) (λ n. (i : Item A) × (rest : List (Item A)) × (word ≡ i ∷ rest) × (n ≡ item_width columns i)) → ((n : ℕ) → o ≢ Some n) → word ≡ []
+none_first columns None word h not = h
+none_first columns (Some n) word h not = absurd (not n refl)
+
+-- the first item is as wide as another that is the same
+pub same_width : {A : Type 0} (columns : ℕ → Option ℕ) (eq : A → A → Bool) (i j : Item A) → SameItem eq i j → item_width columns i ≡ item_width columns j
+same_width columns eq (glyph c a) (glyph d b) h = ap (λ x. unwrap_or (columns x) 0) h.0
+same_width columns eq (marker m) (marker n) h = refl
+same_width columns eq (glyph c a) (marker n) h = absurd h
+same_width columns eq (marker m) (glyph d b) h = absurd h

@@ -1,0 +1,74 @@
+-- Spaces that are placed at once, and taken onto lines one line after another.
+use Rattle.std.proofs.Common.{◌≡◌, ℕ, zero, suc, ◌+◌, ◌≤◌, Bool, true, Option, Some, List, [], ◌∷◌, ◌++◌, map, length, refl, ap, sym, ◌∙◌, arith, append_assoc, append-nil, length-append}
+use Rattle.std.specs.Cmp.{IsEquivalence}
+use Rattle.std.proofs.lemmas.List.{map-append}
+use Rattle.tbr_model.specs.Run.{Item}
+use Rattle.tbr_model.specs.Layout.{joined}
+use Rattle.tbr_model.specs.Laid.{Laid, extended, ended}
+use Rattle.tbr_model.specs.Rule.{spaces}
+use Rattle.tbr_model.proofs.Lists.{joined-append}
+use Rattle.tbr_wrap.specs.declared.wrapper.Wrapper.{Wrapper}
+use Rattle.tbr_wrap.specs.Wrapper.{HoldsRule, HoldsRuleBefore, KeepsLimits}
+use Rattle.tbr_wrap.proofs.lines.LaidByRule.{shows_extended, shows_ended, same_spaces, spaces_width, spaces_length}
+use Rattle.tbr_wrap.proofs.lines.LineWidths.{measured_extended, measured_ended}
+
+pub spaces_more : {A : Type 0} (m n : ℕ) (a : A) → spaces (m + n) a ≡ spaces m a ++ spaces n a
+spaces_more zero n a = ap (λ k. spaces k a) (let e : zero + n ≡ n = omega arith in e)
+spaces_more (suc m) n a = ap (λ k. spaces k a) (let e : suc m + n ≡ suc (m + n) = omega arith in e) ∙ ap (λ is. spaces 1 a ++ is) (spaces_more m n a)
+
+module _ {A : Type 0} (columns : ℕ → Option ℕ) (eq : A → A → Bool) (laws : IsEquivalence eq) (b c : Wrapper A) (limits : KeepsLimits b c) (before given : List (List (Item A))) (r : Laid A) where
+  -- where items are placed behind what is laid
+  pub reserved : (behind : List (Item A)) → HoldsRule columns eq b before given r → c.flat.placed ≡ b.flat.placed ++ behind → c.lines ≡ b.lines → c.line_len ≡ b.line_len → c.line_width ≡ b.line_width → HoldsRuleBefore columns eq c before given r behind
+  reserved behind h placed lines len width = record {
+    laid = h.laid;
+    holds = record { placed = placed ∙ ap (λ is. is ++ behind) h.holds.placed; lens = ap (λ q. q.items) lines ∙ h.holds.lens; len = len ∙ h.holds.len; width = width ∙ h.holds.width };
+    shows = h.shows;
+    measured = rw limits.width (rw limits.may_overflow h.measured);
+  }
+
+  module _ (n : ℕ) (x a : A) (behind : List (Item A)) (one : columns 32 ≡ Some 1) (same : eq x a ≡ true) (h : HoldsRuleBefore columns eq b before given r (spaces n x ++ behind)) (room : b.line_width + n ≤ b.width) where
+    small : r.width + n ≤ b.width
+    small = omega (arith, room, h.holds.width, h.shows.width)
+
+    -- they are taken onto the open line
+    pub taken_here : c.flat ≡ b.flat → c.lines ≡ b.lines → c.line_len ≡ b.line_len + n → c.line_width ≡ b.line_width + n → HoldsRuleBefore columns eq c before given (extended r (spaces n a) n) behind
+    taken_here flat lines len width = record {
+      laid = extended h.laid (spaces n x) n;
+      holds = record {
+        placed = ap (λ f. f.placed) flat ∙ h.holds.placed ∙ sym (append_assoc (joined (before ++ h.laid.done) ++ h.laid.line) (spaces n x) behind) ∙ ap (λ is. is ++ behind) (append_assoc (joined (before ++ h.laid.done)) h.laid.line (spaces n x));
+        lens = ap (λ q. q.items) lines ∙ h.holds.lens;
+        len = omega (arith, len, h.holds.len, length-append h.laid.line (spaces n x), spaces_length n x);
+        width = omega (arith, width, h.holds.width);
+      };
+      shows = shows_extended eq laws given h.laid r (spaces n x) (spaces n a) n n h.shows (same_spaces eq n x a same) refl;
+      measured = rw limits.width (rw limits.may_overflow (measured_extended columns b.width b.may_overflow r (spaces n a) n h.measured (sym (spaces_width columns one n a)) small));
+    }
+
+    -- they fill the open line, which is ended
+    pub taken_full : c.flat ≡ b.flat → c.lines.items ≡ b.lines.items ++ (b.line_len + n) ∷ [] → c.line_len ≡ 0 → c.line_width ≡ 0 → HoldsRuleBefore columns eq c before given (ended (extended r (spaces n a) n)) behind
+    taken_full flat lines len width =
+        let line = h.laid.line ++ spaces n x in
+        let many : b.line_len + n ≡ length line = omega (arith, h.holds.len, length-append h.laid.line (spaces n x), spaces_length n x) in
+        record {
+          laid = ended (extended h.laid (spaces n x) n);
+          holds = record {
+            placed = ap (λ f. f.placed) flat ∙ h.holds.placed ∙ sym (append_assoc (joined (before ++ h.laid.done) ++ h.laid.line) (spaces n x) behind)
+                ∙ ap (λ is. is ++ behind) (append_assoc (joined (before ++ h.laid.done)) h.laid.line (spaces n x)
+                ∙ sym (append-nil (joined (before ++ (h.laid.done ++ line ∷ []))) ∙ ap joined (sym (append_assoc before h.laid.done (line ∷ []))) ∙ joined-append (before ++ h.laid.done) (line ∷ []) ∙ ap (λ is. joined (before ++ h.laid.done) ++ is) (append-nil line)));
+            lens = lines ∙ ap (λ ns. ns ++ (b.line_len + n) ∷ []) h.holds.lens ∙ ap (λ m. map length (before ++ h.laid.done) ++ m ∷ []) many
+                ∙ sym (ap (map length) (sym (append_assoc before h.laid.done (line ∷ []))) ∙ map-append length (before ++ h.laid.done) (line ∷ []));
+            len = len;
+            width = width;
+          };
+          shows = shows_ended eq laws given (extended h.laid (spaces n x) n) (extended r (spaces n a) n) (shows_extended eq laws given h.laid r (spaces n x) (spaces n a) n n h.shows (same_spaces eq n x a same) refl);
+          measured = rw limits.width (rw limits.may_overflow (measured_ended columns b.width b.may_overflow (extended r (spaces n a) n) (measured_extended columns b.width b.may_overflow r (spaces n a) n h.measured (sym (spaces_width columns one n a)) small)));
+        }
+
+-- nothing is left behind what is laid
+pub all_taken : {A : Type 0} (columns : ℕ → Option ℕ) (eq : A → A → Bool) (b : Wrapper A) (before given : List (List (Item A))) (r : Laid A) → HoldsRuleBefore columns eq b before given r [] → HoldsRule columns eq b before given r
+all_taken columns eq b before given r h = record {
+  laid = h.laid;
+  holds = record { placed = h.holds.placed ∙ append-nil (joined (before ++ h.laid.done) ++ h.laid.line); lens = h.holds.lens; len = h.holds.len; width = h.holds.width };
+  shows = h.shows;
+  measured = h.measured;
+}

@@ -1,0 +1,262 @@
+-- What a block's lines show of its run.
+use Rattle.std.proofs.Common.{◌≡◌, ◌≢◌, ℕ, ◌<◌, ◌≤◌, inl, inr, Bool, true, false, Option, Some, None, IfSome, unwrap_or, List, [], ◌∷◌, ◌++◌, map, filter, fold, refl, ap, sym, ◌∙◌, subst, arith, lt-ltb}
+use Rattle.std.specs.Prelude.{nat_lt, ◌&&◌, IsTrue}
+use Rattle.std.specs.List.{AllZip, AllByRecursion as Each}
+use Rattle.std.specs.Cmp.{IsEquivalence}
+use Rattle.std.proofs.lemmas.Bool.{cond_both}
+use Rattle.std.proofs.lemmas.List.Sums.{fold-append}
+use Rattle.tbr_model.specs.declared.white_space.WhiteSpace.{WhiteSpace}
+use Rattle.tbr_model.specs.declared.white_space.WhiteSpace.TheVariants.{Normal, Pre, PreWrap}
+use Rattle.tbr_model.specs.Run.{Entry, character, fragment, Item, glyph, marker, items_width, has_character, is_break_entry, blank_of, trailing, Word, word_of, Reading, start, works, read, reading}
+use Rattle.tbr_model.specs.Layout.{Slot, line_text, joined}
+use Rattle.tbr_model.specs.Greedy.{IsNarrow, wrapped}
+use Rattle.tbr_model.specs.Laid.{Laid, fresh}
+use Rattle.tbr_model.specs.Rule.{Event, run_of, progress, finished, flush_word, waiting, lines_of}
+use Rattle.tbr_model.specs.Hard.{HasMode, Preserves, IsNarrowEntry, glyphs_of, is_visible, visible_glyphs, visible_entries, IsShown, ShowsHardLine, ShowsPre, ShowsPreWrap, ShowsTabs, Parted, hard_lines}
+use Rattle.tbr_model.proofs.Ahead.{each_append, each_front, each_back}
+use Rattle.tbr_model.proofs.Runs.{narrow_markers}
+use Rattle.tbr_model.proofs.Characters.{HasGlyph, best_characters}
+use Rattle.tbr_model.proofs.HardLines.{hard_lines_parted}
+use Rattle.tbr_model.proofs.Visible.{fresh_line, visible_shown, hard_lines_shown}
+use Rattle.tbr_model.proofs.PreLines.{pre_line}
+use Rattle.tbr_model.proofs.PreWrapLine.{prewrap_line}
+use Rattle.tbr_model.proofs.TabsLine.{tab_line}
+use Rattle.tbr_model.proofs.NarrowWords.{word_from_run}
+use Rattle.tbr_model.proofs.NormalTexts.{text_has}
+use Rattle.tbr_model.proofs.NormalKept.{AllLaid, IsNarrowItem}
+use Rattle.tbr_model.proofs.NormalRule.{NormalStands, normal_stands}
+use Rattle.tbr_model.proofs.Trailing.{normal_waiting}
+use Rattle.tbr_model.proofs.NormalEnd.{NormalBlank, normal_lines, normal_blank}
+use Rattle.tbr_tagged.specs.Elements.{SameItems}
+use Rattle.tbr_wrap.specs.Wrapped.{IsTextOf, HasBestLines, FitsBlock, EndedWordsFit, WordsFit, ended_lines}
+use Rattle.tbr_wrap.specs.State.{IsNormal, CharactersFit, IsNarrowIfVisible, VisibleFit, IsShownBy}
+use Rattle.tbr_tagged.proofs.SameItems.{same_has}
+use Rattle.tbr_wrap.proofs.runs.EqualTags.{visible_same, parted_same, hard_line_same, pre_same, prewrap_same, tabs_same}
+
+-- ---- no line without a character
+
+-- texts of a layout's lines, one by one
+pub texts_of_lines : {A : Type 0} (eq : A → A → Bool) (texts : List (List (Item A))) (lines : List (List (Slot A))) → AllZip (SameItems eq) texts (map line_text lines) → AllZip (IsTextOf eq) texts lines
+texts_of_lines eq [] [] h = tt
+texts_of_lines eq [] (l ∷ lines) h = absurd h
+texts_of_lines eq (is ∷ texts) [] h = absurd h
+texts_of_lines eq (is ∷ texts) (l ∷ lines) h = (h.0, texts_of_lines eq texts lines h.1)
+
+texts_full : {A : Type 0} (eq : A → A → Bool) (texts : List (List (Item A))) (lines : List (List (Slot A))) → AllZip (IsTextOf eq) texts lines → Each HasGlyph lines → Each (λ is. IsTrue (has_character is)) texts
+texts_full eq [] lines h k = tt
+texts_full eq (is ∷ texts) [] h k = absurd h
+texts_full eq (is ∷ texts) (l ∷ lines) h k = (same_has eq is (line_text l) h.0 ∙ text_has l k.0, texts_full eq texts lines h.1 k.1)
+
+-- ---- narrow items
+
+each_filter : {X : Type 0} (P : X → Type 0) (f : X → Bool) (xs : List X) → Each P xs → Each P (filter f xs)
+each_filter P f [] h = tt
+each_filter {X} P f (x ∷ xs) h = cond_both (f x) _ _ (λ (ys : List X). Each P ys) (λ _. (h.0, each_filter P f xs h.1)) (λ _. each_filter P f xs h.1)
+
+module _ {A : Type 0} (columns : ℕ → Option ℕ) (width : ℕ) where
+  narrow_within : (is : List (Item A)) → items_width columns is ≤ width → IsNarrow columns width is
+  narrow_within [] h = tt
+  narrow_within (i ∷ is) h = (omega arith, narrow_within is (omega arith))
+
+  -- what no line may be wider than
+  narrow_lines : (ls : List (List (Item A))) → Each (FitsBlock columns width false) ls → Each (λ line. Each (IsNarrowItem columns width) line) ls
+  narrow_lines [] h = tt
+  narrow_lines (l ∷ ls) h = (elim h.0 [ inl fits ↦ narrow_within l fits | inr never ↦ absurd (let t : false ≡ true = never.0 in cc) ], narrow_lines ls h.1)
+
+  narrow_joined : (ls : List (List (Item A))) → Each (λ line. Each (IsNarrowItem columns width) line) ls → IsNarrow columns width (joined ls)
+  narrow_joined [] h = tt
+  narrow_joined (l ∷ ls) h = each_append (IsNarrowItem columns width) l (joined ls) h.0 (narrow_joined ls h.1)
+
+  narrow_fresh : (l : Laid A) → Each (FitsBlock columns width false) (fresh l).done → AllLaid (IsNarrowItem columns width) (fresh l)
+  narrow_fresh l h = (narrow_lines (fresh l).done h, narrow_markers columns width (fresh l).line (fresh_line l))
+
+  -- ---- where a run ends
+
+  module _ (es : List (Event A)) (fits : Each (FitsBlock columns width false) (lines_of columns width es)) where
+    narrow_end : AllLaid (IsNarrowItem columns width) (finished columns width (progress columns width es))
+    narrow_end = narrow_fresh (flush_word columns width (progress columns width es)).laid fits
+
+    words_fit : IsNormal (run_of es) → WordsFit columns width (run_of es)
+    words_fit normal = (normal_lines columns width es normal narrow_end).0
+
+    pub waits_normal : (run : List (Entry A)) → run_of es ≡ run → IsNormal run → waiting columns width (progress columns width es) ≡ trailing columns run
+    waits_normal run is normal =
+        subst (λ (rs : List (Entry A)). IsNormal rs → waiting columns width (progress columns width es) ≡ trailing columns rs) is (λ modes. normal_waiting columns width es modes narrow_end) normal
+
+    best_texts : (eq : A → A → Bool) (texts : List (List (Item A))) → AllZip (SameItems eq) texts (lines_of columns width es) → IsNormal (run_of es) → HasBestLines columns eq width (run_of es) texts
+    best_texts eq texts same normal =
+        let (words, (lines, best, are)) = normal_lines columns width es normal narrow_end in
+        let shown = texts_of_lines eq texts lines (subst (λ (ls : List (List (Item A))). AllZip (SameItems eq) texts ls) are same) in
+        record { lines = lines; best = best; shown = shown; full = texts_full eq texts lines shown (best_characters columns width (run_of es) lines best) }
+
+  -- ---- visible characters
+
+  abbrev IsNarrowGlyph : ℕ × A → Type 0
+  IsNarrowGlyph g = unwrap_or (columns g.0) 0 ≤ width
+
+  glyphs_narrow : (is : List (Item A)) → IsNarrow columns width is → Each IsNarrowGlyph (glyphs_of is)
+  glyphs_narrow [] h = tt
+  glyphs_narrow (glyph c a ∷ is) h = (h.0, glyphs_narrow is h.1)
+  glyphs_narrow (marker m ∷ is) h = glyphs_narrow is h.1
+
+  shown_narrow : (eq : A → A → Bool) (gs : List (ℕ × A)) (es : List (Entry A)) → AllZip (IsShown eq) gs es → Each IsNarrowGlyph gs → Each (IsNarrowEntry columns width) es
+  shown_narrow eq [] [] h k = tt
+  shown_narrow eq [] (e ∷ es) h k = absurd h
+  shown_narrow eq (g ∷ gs) [] h k = absurd h
+  shown_narrow eq (g ∷ gs) (fragment name ∷ es) h k = absurd h.0
+  shown_narrow eq (g ∷ gs) (character c a b m ∷ es) h k = (subst (λ (d : ℕ). unwrap_or (columns d) 0 ≤ width) h.0.0 k.0, shown_narrow eq gs es h.1 k.1)
+
+  narrow_visible : (run : List (Entry A)) → Each (IsNarrowEntry columns width) (visible_entries columns run) → VisibleFit columns width run
+  narrow_visible [] h = tt
+  narrow_visible (fragment name ∷ run) h = (tt, narrow_visible run h)
+  narrow_visible (character c a b m ∷ run) h =
+      cond_both (is_visible columns c) _ _ (λ (es : List (Entry A)). Each (IsNarrowEntry columns width) es → IsNarrowIfVisible columns width (character c a b m) × VisibleFit columns width run)
+      (λ _ k. (λ _. k.0, narrow_visible run k.1)) (λ hidden k. (λ visible. absurd (let t : true ≡ false = sym visible ∙ hidden in cc), narrow_visible run k)) h
+
+  pub visible_fit : (es : List (Event A)) (run : List (Entry A)) → run_of es ≡ run → Each (FitsBlock columns width false) (lines_of columns width es) → VisibleFit columns width run
+  visible_fit es run is fits =
+      let ls : List (List (Item A)) = lines_of columns width es in
+      let glyphs : Each IsNarrowGlyph (glyphs_of (joined ls)) = glyphs_narrow (joined ls) (narrow_joined ls (narrow_lines ls fits)) in
+      let seen : Each IsNarrowGlyph (visible_glyphs columns (joined ls)) = each_filter IsNarrowGlyph (λ g. is_visible columns g.0) (glyphs_of (joined ls)) glyphs in
+      subst (VisibleFit columns width) is
+      (narrow_visible (run_of es) (shown_narrow (λ x y. true) (visible_glyphs columns (joined ls)) (visible_entries columns (run_of es)) (visible_shown columns width (λ x y. true) (λ x. refl) es) seen))
+
+  pub words_fit_normal : (es : List (Event A)) (run : List (Entry A)) → run_of es ≡ run → IsNormal run → Each (FitsBlock columns width false) (lines_of columns width es) → WordsFit columns width run
+  words_fit_normal es run is normal fits = subst (WordsFit columns width) is (words_fit es fits (subst IsNormal (sym is) normal))
+
+-- ---- a whole run
+
+module _ {A : Type 0} (columns : ℕ → Option ℕ) (eq : A → A → Bool) (laws : IsEquivalence eq) (width : ℕ) (one_space : columns 32 ≡ Some 1) (wide : 0 < width) where
+  preserving : (mode : WhiteSpace) → mode ≢ Normal → (e : Entry A) → HasMode mode e → Preserves e
+  preserving mode kept (character c a b m) h = λ normal. kept (sym h ∙ normal)
+  preserving mode kept (fragment name) h = tt
+
+  pre_kept : Pre ≢ Normal
+  pre_kept e = cc
+
+  prewrap_kept : PreWrap ≢ Normal
+  prewrap_kept e = cc
+
+  pre_parted : (es : List (Event A)) → Each (HasMode Pre) (run_of es) → Parted (ShowsPre columns eq width) (hard_lines (run_of es)) (lines_of columns width es)
+  pre_parted es h =
+      hard_lines_parted columns width (ShowsPre columns eq width) (HasMode Pre) (preserving Pre pre_kept) (λ p es f modes plain. pre_line columns eq width one_space wide laws.refl p es f modes plain) es h
+
+  prewrap_parted : (es : List (Event A)) → Each (HasMode PreWrap) (run_of es) → Parted (ShowsPreWrap columns width) (hard_lines (run_of es)) (lines_of columns width es)
+  prewrap_parted es h =
+      hard_lines_parted columns width (ShowsPreWrap columns width) (HasMode PreWrap) (preserving PreWrap prewrap_kept) (λ p es f modes plain. prewrap_line columns width one_space wide p es f plain modes) es h
+
+  tabs_parted : (mode : WhiteSpace) → mode ≢ Normal → (es : List (Event A)) → Each (HasMode mode) (run_of es) → Parted (ShowsTabs columns width) (hard_lines (run_of es)) (lines_of columns width es)
+  tabs_parted mode kept es h =
+      hard_lines_parted columns width (ShowsTabs columns width) (HasMode mode) (preserving mode kept) (λ p es f modes plain. tab_line columns width one_space wide mode kept p es f plain modes) es h
+
+  shown_events : (may_overflow : Bool) (es : List (Event A)) (texts : List (List (Item A))) → AllZip (SameItems eq) texts (lines_of columns width es) →
+      Each (FitsBlock columns width may_overflow) (lines_of columns width es) → IsShownBy columns eq width may_overflow (run_of es) texts
+  shown_events may_overflow es texts same fits =
+      let ls : List (List (Item A)) = lines_of columns width es in
+      let hs : List (List (Entry A)) = hard_lines (run_of es) in
+      record {
+        best = λ never normal. best_texts columns width es (subst (λ (o : Bool). Each (FitsBlock columns width o) ls) never fits) eq texts same normal;
+        visible = visible_same eq laws columns (run_of es) texts ls same (visible_shown columns width eq laws.refl es);
+        hard = λ kept. parted_same eq laws (ShowsHardLine columns eq) (hard_line_same eq laws columns) hs texts ls same (hard_lines_shown columns width eq laws.refl es kept);
+        pre = λ modes. parted_same eq laws (ShowsPre columns eq width) (pre_same eq laws columns width) hs texts ls same (pre_parted es modes);
+        prewrap = λ modes. parted_same eq laws (ShowsPreWrap columns width) (prewrap_same eq laws columns width) hs texts ls same (prewrap_parted es modes);
+        tabs = λ modes. parted_same eq laws (ShowsTabs columns width) (tabs_same eq laws columns width) hs texts ls same
+            (elim modes [ inl m ↦ tabs_parted Pre pre_kept es m | inr m ↦ tabs_parted PreWrap prewrap_kept es m ]);
+      }
+
+  -- what a block's lines show of its run
+  pub shown_run : (may_overflow : Bool) (es : List (Event A)) (run : List (Entry A)) (texts : List (List (Item A))) → run_of es ≡ run → AllZip (SameItems eq) texts (lines_of columns width es) →
+      Each (FitsBlock columns width may_overflow) (lines_of columns width es) → IsShownBy columns eq width may_overflow run texts
+  shown_run may_overflow es run texts is same fits = subst (λ (rs : List (Entry A)). IsShownBy columns eq width may_overflow rs texts) is (shown_events may_overflow es texts same fits)
+
+-- ---- a run of Normal mode under way
+
+-- what ended before stays ended
+ended_more : {A : Type 0} (columns : ℕ → Option ℕ) (width : ℕ) (more : List (Entry A)) (r : Reading A) →
+    Each (λ w. IsNarrow columns width w.items) (fold (read columns) r more).words → Each (λ w. IsNarrow columns width w.items) r.words
+ended_more columns width [] r h = h
+ended_more {A} columns width (e ∷ more) r h =
+    cond_both (works columns r e) _ _ (λ (q : Reading A). Each (λ w. IsNarrow columns width w.items) q.words → Each (λ w. IsNarrow columns width w.items) r.words)
+    (λ _ k. each_front (λ w. IsNarrow columns width w.items) r.words (word_of r ∷ []) k) (λ _ k. k) (ended_more columns width more (read columns r e) h)
+
+module _ {A : Type 0} (columns : ℕ → Option ℕ) (width : ℕ) where
+  pub ended_fit-append : (run more : List (Entry A)) → EndedWordsFit columns width (run ++ more) → EndedWordsFit columns width run
+  ended_fit-append run more h =
+      ended_more columns width more (reading columns run) (subst (λ (q : Reading A). Each (λ w. IsNarrow columns width w.items) q.words) (fold-append (read columns) start run more) h)
+
+  -- the items under way are a word's, or markers alone
+  last_fits : (run : List (Entry A)) → WordsFit columns width run → IsNarrow columns width (reading columns run).items
+  last_fits run fit =
+      let r : Reading A = reading columns run in
+      cond_both (has_character r.items) _ _ (λ (ws : List (Word A)). Each (λ w. IsNarrow columns width w.items) ws → IsNarrow columns width r.items)
+      (λ _ k. (each_back (λ w. IsNarrow columns width w.items) r.words (word_of r ∷ []) k).0) (λ none _. narrow_markers columns width r.items none) fit
+
+  -- a break point ends the items under way, if they take columns
+  broken_fits : (run : List (Entry A)) (e : Entry A) → is_break_entry e ≡ true → 0 < items_width columns (reading columns run).items → EndedWordsFit columns width (run ++ e ∷ []) → IsNarrow columns width (reading columns run).items
+  broken_fits run e breaks some fit =
+      let r : Reading A = reading columns run in
+      let wide : nat_lt 0 (items_width columns r.items) ≡ true = lt-ltb _ _ some in
+      let ends : works columns r e ≡ true = ap (λ b. b && nat_lt 0 (items_width columns r.items)) breaks ∙ wide in
+      let last : read columns r e ≡ record { words = r.words ++ word_of r ∷ []; gap = blank_of e; items = [] } = rw ends refl in
+      let words : (reading columns (run ++ e ∷ [])).words ≡ r.words ++ word_of r ∷ [] = ap (λ (q : Reading A). q.words) (fold-append (read columns) start run (e ∷ []) ∙ last) in
+      (each_back (λ w. IsNarrow columns width w.items) r.words (word_of r ∷ []) (subst (Each (λ w. IsNarrow columns width w.items)) words fit)).0
+
+  -- no line that is laid is wider than the block
+  module _ (es : List (Event A)) (run : List (Entry A)) (is : run_of es ≡ run) (normal : IsNormal run) (done : Each (FitsBlock columns width false) (progress columns width es).laid.done)
+      (small : (progress columns width es).laid.width ≤ width) (line : (progress columns width es).laid.width ≡ items_width columns (progress columns width es).laid.line) where
+    all_narrow : AllLaid (IsNarrowItem columns width) (progress columns width es).laid
+    all_narrow = (narrow_lines columns width (progress columns width es).laid.done done, narrow_within columns width (progress columns width es).laid.line (omega (arith, small, line)))
+
+    stands : EndedWordsFit columns width run × NormalStands columns width (progress columns width es) (wrapped columns width (reading columns run).words) (reading columns run).gap (reading columns run).items
+    stands =
+        subst (λ (rs : List (Entry A)). let r = reading columns rs in IsNormal rs → EndedWordsFit columns width rs × NormalStands columns width (progress columns width es) (wrapped columns width r.words) r.gap r.items) is
+        (λ modes. normal_stands columns width es modes all_narrow) normal
+
+    pub ended_words_fit_normal : EndedWordsFit columns width run
+    ended_words_fit_normal = stands.0
+
+    -- the word under way
+    pub word_normal : (progress columns width es).word ≡ (reading columns run).items
+    word_normal = stands.1.word
+
+    -- the lines that the run has ended
+    pub ended_lines_normal : (progress columns width es).laid.done ≡ map line_text (ended_lines columns width run)
+    ended_lines_normal = stands.1.done
+
+    pub blank_normal : NormalBlank columns (progress columns width es) run
+    blank_normal = subst (λ (rs : List (Entry A)). IsNormal rs → NormalBlank columns (progress columns width es) rs) is (λ modes. normal_blank columns width es modes all_narrow) normal
+
+    -- a word with a wider character can't be ended by a break point
+    pub too_narrow_normal : (e : Entry A) → is_break_entry e ≡ true → 0 < items_width columns (progress columns width es).word → ¬ (IsNarrow columns width (progress columns width es).word) → ¬ (EndedWordsFit columns width (run ++ e ∷ []))
+    too_narrow_normal e breaks some wider fit =
+        wider (subst (IsNarrow columns width) (sym stands.1.word) (broken_fits run e breaks (subst (λ (js : List (Item A)). 0 < items_width columns js) stands.1.word some) fit))
+
+    -- nor by the end of the run
+    pub too_narrow_end : ¬ (IsNarrow columns width (progress columns width es).word) → ¬ (WordsFit columns width run)
+    too_narrow_end wider fit = wider (subst (IsNarrow columns width) (sym stands.1.word) (last_fits run fit))
+
+-- ---- characters that all fit
+
+two_narrow : (width : ℕ) → 2 ≤ width → (o : Option ℕ) → IfSome o (λ n. n ≤ 2) → unwrap_or o 0 ≤ width
+two_narrow width two None h = omega arith
+two_narrow width two (Some n) h = omega (arith, h, two)
+
+module _ {A : Type 0} (columns : ℕ → Option ℕ) (width : ℕ) where
+  pub characters_word_fits : (es : List (Event A)) (run : List (Entry A)) → run_of es ≡ run → CharactersFit columns width run → IsNarrow columns width (progress columns width es).word
+  characters_word_fits es run is fit = word_from_run columns width es (subst (CharactersFit columns width) (sym is) fit)
+
+  -- at two columns
+  module _ (law : (c : ℕ) → IfSome (columns c) (λ n. n ≤ 2)) (two : 2 ≤ width) where
+    pub two_columns : (is : List (Item A)) → IsNarrow columns width is
+    two_columns [] = tt
+    two_columns (marker m ∷ is) = (omega arith, two_columns is)
+    two_columns (glyph c a ∷ is) = (two_narrow width two (columns c) (law c), two_columns is)
+
+    pub two_columns_words : (words : List (Word A)) → Each (λ w. IsNarrow columns width w.items) words
+    two_columns_words [] = tt
+    two_columns_words (w ∷ words) = (two_columns w.items, two_columns_words words)
+
+    pub two_columns_characters : (run : List (Entry A)) → CharactersFit columns width run
+    two_columns_characters [] = tt
+    two_columns_characters (fragment name ∷ run) = (tt, two_columns_characters run)
+    two_columns_characters (character c a b m ∷ run) = (two_narrow width two (columns c) (law c), two_columns_characters run)

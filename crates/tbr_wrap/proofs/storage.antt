@@ -1,0 +1,10 @@
+pub mod MarkedItems
+pub mod MarkedText
+pub mod MarkerPlaces
+pub mod StretchCuts
+pub mod StretchTags
+pub mod TaggedCharacters
+pub mod TextBytes
+pub mod TextEnds
+pub mod TrimmedCharacters
+pub mod TrimmedItems

@@ -1,0 +1,345 @@
+-- The tags that stretches stand for.
+use Rattle.std.proofs.Common.{◌≡◌, ℕ, suc, zero, ◌+◌, ◌-◌, ◌<◌, ◌≤◌, Bool, true, List, [], ◌∷◌, ◌++◌, length, take, drop, get_or, set, replicate, refl, ap, sym, ◌∙◌, subst, arith, append_assoc, append-nil, add-one}
+use Rattle.std.proofs.lemmas.List.{take_rest, take-append-drop, drop-set-lt, length-append, length-take, length-drop, drop-append-le, length-replicate, replicate_more}
+use Rattle.std.proofs.Math.Seq.{drop-append-add}
+use Rattle.std.specs.List.{AllZip}
+use Rattle.std.specs.Cmp.{IsEquivalence}
+use Rattle.tbr_wrap.proofs.storage.TaggedCharacters.{drop_twice}
+use Rattle.tbr_wrap.specs.declared.flat.tags.Stretch.{Stretch}
+use Rattle.tbr_wrap.specs.Stretches.{tags_of}
+
+pub one : {A : Type 0} → Stretch A → List A
+one s = s.tag ∷ replicate s.more s.tag
+
+module _ {A : Type 0} where
+  pub tags_of-append : (xs ys : List (Stretch A)) → tags_of (xs ++ ys) ≡ tags_of xs ++ tags_of ys
+  tags_of-append [] ys = refl
+  tags_of-append (x ∷ xs) ys = ap (λ ts. x.tag ∷ replicate x.more x.tag ++ ts) (tags_of-append xs ys) ∙ sym (append_assoc (x.tag ∷ replicate x.more x.tag) (tags_of xs) (tags_of ys))
+
+  -- the tags before a stretch, and those from it on
+  pub split_tags : (xs : List (Stretch A)) (k i : ℕ) → k ≤ i → i ≤ length xs → tags_of (drop k xs) ≡ tags_of (drop k (take i xs)) ++ tags_of (drop i xs)
+  split_tags xs k i h g =
+      ap (λ ys. tags_of (drop k ys)) (sym (take-append-drop i xs)) ∙ ap tags_of (drop-append-le k (take i xs) (drop i xs) (omega (arith, length-take i xs)))
+      ∙ tags_of-append (drop k (take i xs)) (drop i xs)
+
+  pub take-set : (xs : List (Stretch A)) (i : ℕ) (y : Stretch A) → take i (set xs i y) ≡ take i xs
+  take-set [] i y = refl
+  take-set (x ∷ xs) zero y = refl
+  take-set (x ∷ xs) (suc i) y = ap (λ ys. x ∷ ys) (take-set xs i y)
+
+  pub drop-set : (xs : List (Stretch A)) (i : ℕ) (y : Stretch A) → i < length xs → drop i (set xs i y) ≡ y ∷ drop (suc i) xs
+  drop-set [] i y h = absurd (omega arith)
+  drop-set (x ∷ xs) zero y h = refl
+  drop-set (x ∷ xs) (suc i) y h = drop-set xs i y (omega arith)
+
+  pub drop-item : (xs : List (Stretch A)) (i : ℕ) (d : Stretch A) → i < length xs → drop i xs ≡ get_or xs i d ∷ drop (suc i) xs
+  drop-item [] i d h = absurd (omega arith)
+  drop-item (x ∷ xs) zero d h = refl
+  drop-item (x ∷ xs) (suc i) d h = drop-item xs i d (omega arith)
+
+  pub length-set : (xs : List (Stretch A)) (i : ℕ) (y : Stretch A) → length (set xs i y) ≡ length xs
+  length-set [] i y = refl
+  length-set (x ∷ xs) zero y = refl
+  length-set (x ∷ xs) (suc i) y = ap suc (length-set xs i y)
+
+  -- the tags after a write to a stretch
+  pub set_tags : (xs : List (Stretch A)) (k i : ℕ) (y : Stretch A) → k ≤ i → i < length xs → tags_of (drop k (set xs i y)) ≡ tags_of (drop k (take i xs)) ++ tags_of (y ∷ drop (suc i) xs)
+  set_tags xs k i y h g =
+      split_tags (set xs i y) k i h (omega (arith, length-set xs i y))
+      ∙ ap (λ ys. tags_of (drop k ys) ++ tags_of (drop i (set xs i y))) (take-set xs i y)
+      ∙ ap (λ ys. tags_of (drop k (take i xs)) ++ tags_of ys) (drop-set xs i y g)
+
+  pub item_tags : (xs : List (Stretch A)) (k i : ℕ) (d : Stretch A) → k ≤ i → i < length xs → tags_of (drop k xs) ≡ tags_of (drop k (take i xs)) ++ tags_of (get_or xs i d ∷ drop (suc i) xs)
+  item_tags xs k i d h g = split_tags xs k i h (omega arith) ∙ ap (λ ys. tags_of (drop k (take i xs)) ++ tags_of ys) (drop-item xs i d g)
+
+  drop_all : (xs : List (Stretch A)) (i : ℕ) → length xs ≤ i → drop i xs ≡ []
+  drop_all [] zero h = refl
+  drop_all [] (suc i) h = refl
+  drop_all (x ∷ xs) zero h = absurd (omega arith)
+  drop_all (x ∷ xs) (suc i) h = drop_all xs i (omega arith)
+
+  -- the last stretch is one longer
+  pub push_last : (xs : List (Stretch A)) (k i : ℕ) (s y : Stretch A) → k ≤ i → suc i ≡ length xs → s ≡ get_or xs i s → y ≡ record s { more = s.more + 1 } →
+      tags_of (drop k (set xs i y)) ≡ tags_of (drop k xs) ++ s.tag ∷ []
+  push_last xs k i s y h g is e =
+      let front = tags_of (drop k (take i xs)) in
+      let none : drop (suc i) xs ≡ [] = drop_all xs (suc i) (omega arith) in
+      let new : tags_of (drop k (set xs i y)) ≡ front ++ ((s.tag ∷ replicate s.more s.tag) ++ s.tag ∷ []) =
+      set_tags xs k i y h (omega arith) ∙ ap (λ z. front ++ tags_of (z ∷ drop (suc i) xs)) e ∙ ap (λ zs. front ++ tags_of (record s { more = s.more + 1 } ∷ zs)) none
+      ∙ ap (λ ts. front ++ (s.tag ∷ ts)) (append-nil (replicate (s.more + 1) s.tag) ∙ sym (replicate_more s.more s.tag)) in
+      let old : tags_of (drop k xs) ≡ front ++ (s.tag ∷ replicate s.more s.tag) =
+      item_tags xs k i s h (omega arith) ∙ ap (λ z. front ++ tags_of (z ∷ drop (suc i) xs)) (sym is) ∙ ap (λ zs. front ++ tags_of (s ∷ zs)) none
+      ∙ ap (λ ts. front ++ (s.tag ∷ ts)) (append-nil (replicate s.more s.tag)) in
+      new ∙ sym (append_assoc front (s.tag ∷ replicate s.more s.tag) (s.tag ∷ [])) ∙ ap (λ ts. ts ++ s.tag ∷ []) (sym old)
+
+  -- a stretch of one is pushed
+  pub push_new : (xs : List (Stretch A)) (k : ℕ) (a : A) → k ≤ length xs → tags_of (drop k (xs ++ record { more = 0; tag = a } ∷ [])) ≡ tags_of (drop k xs) ++ a ∷ []
+  push_new xs k a h = ap tags_of (drop-append-le k xs (record { more = 0; tag = a } ∷ []) h) ∙ tags_of-append (drop k xs) (record { more = 0; tag = a } ∷ [])
+
+  -- two readings of one place
+  pub same_stretch : (xs : List (Stretch A)) (i : ℕ) (d e : Stretch A) → i < length xs → d ≡ get_or xs i d → e ≡ get_or xs i e → d ≡ e
+  same_stretch [] i d e h p q = absurd (omega arith)
+  same_stretch (x ∷ xs) zero d e h p q = p ∙ sym q
+  same_stretch (x ∷ xs) (suc i) d e h p q = same_stretch xs i d e (omega arith) p q
+
+  take_one : (n m : ℕ) (t : A) (rest : List A) → n ≤ m → take n (replicate m t ++ rest) ≡ replicate n t
+  take_one zero m t rest h = refl
+  take_one (suc n) zero t rest h = absurd (omega arith)
+  take_one (suc n) (suc m) t rest h = ap (λ ts. t ∷ ts) (take_one n m t rest (omega arith))
+
+  -- the first stretch's first tags
+  pub first_tags : (xs : List (Stretch A)) (k n : ℕ) (s : Stretch A) → k < length xs → s ≡ get_or xs k s → n ≤ s.more → take (n + 1) (tags_of (drop k xs)) ≡ replicate (n + 1) s.tag
+  first_tags xs k n s h is less =
+      let e : drop k xs ≡ s ∷ drop (suc k) xs = drop-item xs k s h ∙ ap (λ z. z ∷ drop (suc k) xs) (sym is) in
+      ap (λ ys. take (n + 1) (tags_of ys)) e ∙ rw add-one (ap (λ ts. s.tag ∷ ts) (take_one n s.more s.tag (tags_of (drop (suc k) xs)) less))
+
+  -- where a tag is left, so is a stretch
+  pub has_stretch : (xs : List (Stretch A)) (k : ℕ) → 0 < length (tags_of (drop k xs)) → k < length xs
+  has_stretch [] zero h = absurd (omega arith)
+  has_stretch [] (suc k) h = absurd (omega arith)
+  has_stretch (x ∷ xs) zero h = omega arith
+  has_stretch (x ∷ xs) (suc k) h = let r = has_stretch xs k h in omega (arith, r)
+
+  drop_one : (n m : ℕ) (t : A) (rest : List A) → n ≤ m → drop n (t ∷ replicate m t ++ rest) ≡ t ∷ replicate (m - n) t ++ rest
+  drop_one zero m t rest h = let e : m ≡ m - 0 = omega arith in ap (λ k. t ∷ replicate k t ++ rest) e
+  drop_one (suc n) zero t rest h = absurd (omega arith)
+  drop_one (suc n) (suc m) t rest h = let e : m - n ≡ suc m - suc n = omega arith in drop_one n m t rest (omega arith) ∙ ap (λ k. t ∷ replicate k t ++ rest) e
+
+  -- some of a stretch's tags are skipped
+  pub skip_part : (xs : List (Stretch A)) (k n : ℕ) (s y : Stretch A) → k < length xs → s ≡ get_or xs k s → n ≤ s.more → y ≡ record s { more = s.more - n } →
+      tags_of (drop k (set xs k y)) ≡ drop n (tags_of (drop k xs))
+  skip_part xs k n s y h is less e =
+      let old : drop k xs ≡ s ∷ drop (suc k) xs = drop-item xs k s h ∙ ap (λ z. z ∷ drop (suc k) xs) (sym is) in
+      ap tags_of (drop-set xs k y h) ∙ ap (λ z. tags_of (z ∷ drop (suc k) xs)) e ∙ sym (drop_one n s.more s.tag (tags_of (drop (suc k) xs)) less) ∙ ap (λ ys. drop n (tags_of ys)) (sym old)
+
+  stretch_tags : (xs : List (Stretch A)) (k : ℕ) (s : Stretch A) → k < length xs → s ≡ get_or xs k s → tags_of (drop k xs) ≡ (s.tag ∷ replicate s.more s.tag) ++ tags_of (drop (suc k) xs)
+  stretch_tags xs k s h is = ap tags_of (drop-item xs k s h) ∙ ap (λ z. tags_of (z ∷ drop (suc k) xs)) (sym is)
+
+  pub stretch_len : (xs : List (Stretch A)) (k : ℕ) (s : Stretch A) → k < length xs → s ≡ get_or xs k s → length (tags_of (drop k xs)) ≡ s.more + 1 + length (tags_of (drop (suc k) xs))
+  stretch_len xs k s h is =
+      let e = stretch_tags xs k s h is in
+      omega (arith, ap length e, length-append (s.tag ∷ replicate s.more s.tag) (tags_of (drop (suc k) xs)), length-replicate s.more s.tag)
+
+  -- a whole stretch is skipped
+  pub skip_whole : (xs : List (Stretch A)) (k n : ℕ) (s : Stretch A) → k < length xs → s ≡ get_or xs k s → s.more < n → drop n (tags_of (drop k xs)) ≡ drop (n - (s.more + 1)) (tags_of (drop (k + 1) xs))
+  skip_whole xs k n s h is less =
+      let m : n ≡ length (s.tag ∷ replicate s.more s.tag) + (n - (s.more + 1)) = omega (arith, less, length-replicate s.more s.tag) in
+      ap (λ ts. drop n ts) (stretch_tags xs k s h is)
+      ∙ ap (λ i. drop i ((s.tag ∷ replicate s.more s.tag) ++ tags_of (drop (suc k) xs))) m
+      ∙ drop-append-add (s.tag ∷ replicate s.more s.tag) (tags_of (drop (suc k) xs)) (n - (s.more + 1))
+      ∙ ap (λ i. drop (n - (s.more + 1)) (tags_of (drop i xs))) (sym (add-one k))
+
+  -- what the loop that skips keeps
+  pub skip_turn : (xs : List (Stretch A)) (k n : ℕ) (s : Stretch A) → k < length xs → s ≡ get_or xs k s → s.more < n → n ≤ length (tags_of (drop k xs)) →
+      (k + 1 ≤ length (set xs k s)) × (n - (s.more + 1) ≤ length (tags_of (drop (k + 1) (set xs k s)))) × (drop (n - (s.more + 1)) (tags_of (drop (k + 1) (set xs k s))) ≡ drop n (tags_of (drop k xs)))
+  skip_turn xs k n s h is less within =
+      let e : drop (k + 1) (set xs k s) ≡ drop (k + 1) xs = drop-set-lt (k + 1) xs k s (omega arith) in
+      let len : length (tags_of (drop (k + 1) (set xs k s))) ≡ length (tags_of (drop (suc k) xs)) = ap (λ ys. length (tags_of ys)) e ∙ ap (λ i. length (tags_of (drop i xs))) (add-one k) in (
+        omega (arith, h, length-set xs k s),
+        omega (arith, len, stretch_len xs k s h is, within, less),
+        ap (λ ys. drop (n - (s.more + 1)) (tags_of ys)) e ∙ sym (skip_whole xs k n s h is less),
+      )
+
+  -- where a count from the end reaches
+  pub count_len : (xs : List (Stretch A)) (k i : ℕ) (s : Stretch A) → k ≡ suc i → k ≤ length xs → s ≡ get_or xs i s → length (tags_of (drop i xs)) ≡ s.more + 1 + length (tags_of (drop k xs))
+  count_len xs k i s e h is = stretch_len xs i s (omega arith) is ∙ ap (λ j. s.more + 1 + length (tags_of (drop j xs))) (sym e)
+
+  pub drop_none_len : (xs : List (Stretch A)) (n : ℕ) → n ≡ length xs → length (tags_of (drop n xs)) ≡ 0
+  drop_none_len xs n h = ap (λ ys. length (tags_of ys)) (drop_all xs n (omega arith))
+
+-- ---- a tag is inserted
+
+module _ {A : Type 0} where
+  -- a run goes on with the first of another one under the same tag
+  replicate_turn : (n : ℕ) (t : A) (ts : List A) → t ∷ (replicate n t ++ ts) ≡ replicate n t ++ t ∷ ts
+  replicate_turn zero t ts = refl
+  replicate_turn (suc n) t ts = ap (λ us. t ∷ us) (replicate_turn n t ts)
+
+  -- a longer run has more of the tag anywhere in it
+  replicate_insert : (o m n : ℕ) (t : A) (rest : List A) → o ≤ m → replicate n t ++ (replicate m t ++ rest) ≡ take o (replicate m t ++ rest) ++ (replicate n t ++ drop o (replicate m t ++ rest))
+  replicate_insert zero m n t rest h = refl
+  replicate_insert (suc o) zero n t rest h = absurd (omega arith)
+  replicate_insert (suc o) (suc m) n t rest h = sym (replicate_turn n t (replicate m t ++ rest)) ∙ ap (λ ts. t ∷ ts) (replicate_insert o m n t rest (omega arith))
+
+  pub replicate_sum : (m n : ℕ) (t : A) (rest : List A) → replicate (m + n) t ++ rest ≡ replicate n t ++ (replicate m t ++ rest)
+  replicate_sum m zero t rest = let e : m + 0 ≡ m = omega arith in ap (λ i. replicate i t ++ rest) e
+  replicate_sum m (suc n) t rest = let e : m + suc n ≡ suc (m + n) = omega arith in ap (λ i. replicate i t ++ rest) e ∙ ap (λ ts. t ∷ ts) (replicate_sum m n t rest)
+
+  pub take_behind : (front ts : List A) (o p : ℕ) → p ≡ length front + o → take p (front ++ ts) ≡ front ++ take o ts
+  take_behind [] ts o p e = ap (λ i. take i ts) (drop_zero p o e)
+    where
+      drop_zero : (p o : ℕ) → p ≡ 0 + o → p ≡ o
+      drop_zero p o e = omega arith
+  take_behind (x ∷ front) ts o zero e = absurd (omega arith)
+  take_behind (x ∷ front) ts o (suc p) e = ap (λ us. x ∷ us) (take_behind front ts o p (omega arith))
+
+  pub drop_behind : (front ts : List A) (o p : ℕ) → p ≡ length front + o → drop p (front ++ ts) ≡ drop o ts
+  drop_behind [] ts o p e = ap (λ i. drop i ts) (drop_zero p o e)
+    where
+      drop_zero : (p o : ℕ) → p ≡ 0 + o → p ≡ o
+      drop_zero p o e = omega arith
+  drop_behind (x ∷ front) ts o zero e = absurd (omega arith)
+  drop_behind (x ∷ front) ts o (suc p) e = drop_behind front ts o p (omega arith)
+
+  insert_behind : (front ts us behind more : List A) (o p : ℕ) → p ≡ length front + o → us ≡ take o ts ++ (more ++ behind) → front ++ us ≡ take p (front ++ ts) ++ (more ++ behind)
+  insert_behind front ts us behind more o p e h =
+      ap (λ vs. front ++ vs) h ∙ sym (append_assoc front (take o ts) (more ++ behind)) ∙ ap (λ vs. vs ++ (more ++ behind)) (sym (take_behind front ts o p e))
+
+  pub before_len : (xs : List (Stretch A)) (k j o last : ℕ) → k ≤ j → j ≤ length xs → length (tags_of (drop j xs)) ≡ o + last →
+      length (tags_of (drop k xs)) - last ≡ length (tags_of (drop k (take j xs))) + o
+  before_len xs k j o last h g e =
+      omega (arith, ap length (split_tags xs k j h g), length-append (tags_of (drop k (take j xs))) (tags_of (drop j xs)), e)
+
+  -- a stretch is longer, wherever in it the tag is meant
+  pub bumped : (xs : List (Stretch A)) (k j o last n : ℕ) (s y : Stretch A) → k ≤ j → j < length xs → s ≡ get_or xs j s → y ≡ record s { more = s.more + n } → o ≤ s.more + 1 → length (tags_of (drop j xs)) ≡ o + last →
+      tags_of (drop k (set xs j y)) ≡
+      take (length (tags_of (drop k xs)) - last) (tags_of (drop k xs)) ++ (replicate n s.tag ++ drop (length (tags_of (drop k xs)) - last) (tags_of (drop k xs)))
+  bumped xs k j o last n s y h g is e less len =
+      let ts = tags_of (drop k xs) in
+      let front = tags_of (drop k (take j xs)) in
+      let rest = tags_of (drop (suc j) xs) in
+      let run = replicate (s.more + 1) s.tag ++ rest in
+      let old : ts ≡ front ++ run = item_tags xs k j s h g ∙ ap (λ z. front ++ tags_of (z ∷ drop (suc j) xs)) (sym is) ∙ ap (λ i. front ++ (replicate i s.tag ++ rest)) (sym (add-one s.more)) in
+      let count : suc (s.more + n) ≡ s.more + 1 + n = omega arith in
+      let new : tags_of (drop k (set xs j y)) ≡ front ++ (replicate n s.tag ++ run) =
+      set_tags xs k j y h g ∙ ap (λ z. front ++ tags_of (z ∷ drop (suc j) xs)) e ∙ ap (λ i. front ++ (replicate i s.tag ++ rest)) count ∙ ap (λ us. front ++ us) (replicate_sum (s.more + 1) n s.tag rest) in
+      let p : length ts - last ≡ length front + o = before_len xs k j o last h (omega arith) len in
+      let back : drop (length ts - last) ts ≡ drop o run = ap (λ us. drop (length ts - last) us) old ∙ drop_behind front run o (length ts - last) p in
+      new
+      ∙ insert_behind front run (replicate n s.tag ++ run) (drop o run) (replicate n s.tag) o (length ts - last) p (replicate_insert o (s.more + 1) n s.tag rest less)
+      ∙ ap (λ us. take (length ts - last) us ++ (replicate n s.tag ++ drop o run)) (sym old)
+      ∙ ap (λ us. take (length ts - last) ts ++ (replicate n s.tag ++ us)) (sym back)
+
+  -- a stretch is inserted
+  pub inserted : (xs : List (Stretch A)) (k j last n m : ℕ) (a : A) → k ≤ j → j ≤ length xs → length (tags_of (drop j xs)) ≡ last → n ≡ suc m →
+      tags_of (drop k (take j xs ++ record { more = m; tag = a } ∷ drop j xs)) ≡
+      take (length (tags_of (drop k xs)) - last) (tags_of (drop k xs)) ++ (replicate n a ++ drop (length (tags_of (drop k xs)) - last) (tags_of (drop k xs)))
+  inserted xs k j last n m a h g len e =
+      let ts = tags_of (drop k xs) in
+      let front = tags_of (drop k (take j xs)) in
+      let rest = tags_of (drop j xs) in
+      let old : ts ≡ front ++ rest = split_tags xs k j h g in
+      let new : tags_of (drop k (take j xs ++ record { more = m; tag = a } ∷ drop j xs)) ≡ front ++ (replicate n a ++ rest) =
+      ap tags_of (drop-append-le k (take j xs) (record { more = m; tag = a } ∷ drop j xs) (omega (arith, length-take j xs))) ∙ tags_of-append (drop k (take j xs)) (record { more = m; tag = a } ∷ drop j xs)
+      ∙ ap (λ i. front ++ (replicate i a ++ rest)) (sym e) in
+      let zero_len : length (tags_of (drop j xs)) ≡ 0 + last = omega (arith, len) in
+      let p : length ts - last ≡ length front + 0 = before_len xs k j 0 last h g zero_len in
+      let back : drop (length ts - last) ts ≡ rest = ap (λ us. drop (length ts - last) us) old ∙ drop_behind front rest 0 (length ts - last) p in
+      new ∙ insert_behind front rest (replicate n a ++ rest) rest (replicate n a) 0 (length ts - last) p refl
+      ∙ ap (λ us. take (length ts - last) us ++ (replicate n a ++ rest)) (sym old)
+      ∙ ap (λ us. take (length ts - last) ts ++ (replicate n a ++ us)) (sym back)
+
+suc_in : (k r : ℕ) → suc (k + r) ≡ k + suc r
+suc_in k r = omega arith
+
+-- where the last so many tags begin, among all stretches
+pub record IsPlace {A : Type 0} (xs : List (Stretch A)) (i o last : ℕ) : Type 0 where
+  pub within : i ≤ length xs
+  pub tags : length (tags_of (drop i xs)) ≡ o + last
+  pub offset : 0 < o → length (tags_of (drop (suc i) xs)) < last
+
+pub at_place : {A : Type 0} (xs ys : List (Stretch A)) (k r o last : ℕ) → ys ≡ xs → k ≤ length xs → r ≤ length (take (length ys - k) (drop k ys)) → length (tags_of (drop r (take (length ys - k) (drop k ys)))) ≡ o + last →
+    (0 < o → length (tags_of (drop (suc r) (take (length ys - k) (drop k ys)))) < last) → IsPlace xs (k + r) o last
+at_place {A} xs ys k r o last e h g n f =
+    let live : take (length ys - k) (drop k ys) ≡ drop k xs = take_rest ys k ∙ ap (λ zs. drop k zs) e in
+    let inside : r ≤ length (drop k xs) = subst (λ (zs : List (Stretch A)). r ≤ length zs) live g in
+    record {
+      within = omega (arith, inside, h, length-drop k xs);
+      tags = ap (λ zs. length (tags_of zs)) (sym (drop_twice k r xs)) ∙ ap (λ zs. length (tags_of (drop r zs))) (sym live) ∙ n;
+      offset = λ some. subst (λ (m : ℕ). m < last) (ap (λ zs. length (tags_of (drop (suc r) zs))) live ∙ ap (λ zs. length (tags_of zs)) (drop_twice k (suc r) xs ∙ ap (λ i. drop i xs) (sym (suc_in k r)))) (f some);
+    }
+
+pub offset_in : {A : Type 0} (xs : List (Stretch A)) (i o last : ℕ) (s : Stretch A) → IsPlace xs i o last → i < length xs → s ≡ get_or xs i s → o ≤ s.more
+offset_in xs i zero last s p h is = omega arith
+offset_in xs i (suc o) last s p h is = omega (arith, p.tags, p.offset (omega arith), stretch_len xs i s h is)
+
+-- what is inserted, where the tags before it and behind it stay
+pub unchanged : {A : Type 0} (eq : A → A → Bool) (laws : IsEquivalence eq) (ts : List A) → AllZip (λ x y. eq x y ≡ true) ts ts
+unchanged eq laws [] = tt
+unchanged eq laws (t ∷ ts) = (laws.refl t, unchanged eq laws ts)
+
+module _ {A : Type 0} where
+  -- an item is put behind the one that follows a list
+  put_behind : (front behind : List (Stretch A)) (y b : Stretch A) (n : ℕ) → n ≡ suc (length front) → take n (front ++ y ∷ behind) ++ b ∷ drop n (front ++ y ∷ behind) ≡ front ++ y ∷ b ∷ behind
+  put_behind [] behind y b zero e = absurd (omega arith)
+  put_behind [] behind y b (suc zero) e = refl
+  put_behind [] behind y b (suc (suc n)) e = absurd (omega arith)
+  put_behind (x ∷ front) behind y b zero e = absurd (omega arith)
+  put_behind (x ∷ front) behind y b (suc n) e = ap (λ ys. x ∷ ys) (put_behind front behind y b n (omega arith))
+
+  set_parts : (xs : List (Stretch A)) (i : ℕ) (y : Stretch A) → i < length xs → set xs i y ≡ take i xs ++ y ∷ drop (suc i) xs
+  set_parts [] i y h = absurd (omega arith)
+  set_parts (x ∷ xs) zero y h = refl
+  set_parts (x ∷ xs) (suc i) y h = ap (λ ys. x ∷ ys) (set_parts xs i y (omega arith))
+
+  -- the stretches after one is split and a tag is put between
+  pub split_items : (xs one two : List (Stretch A)) (i : ℕ) (y b m : Stretch A) → i < length xs → one ≡ take (i + 1) (set xs i y) ++ b ∷ drop (i + 1) (set xs i y) → two ≡ take (i + 1) one ++ m ∷ drop (i + 1) one →
+      two ≡ take i xs ++ y ∷ m ∷ b ∷ drop (suc i) xs
+  split_items xs one two i y b m h e f =
+      let n : i + 1 ≡ suc (length (take i xs)) = omega (arith, length-take i xs, h) in
+      let first : one ≡ take i xs ++ y ∷ b ∷ drop (suc i) xs = e ∙ ap (λ zs. take (i + 1) zs ++ b ∷ drop (i + 1) zs) (set_parts xs i y h) ∙ put_behind (take i xs) (drop (suc i) xs) y b (i + 1) n in
+      f ∙ ap (λ zs. take (i + 1) zs ++ m ∷ drop (i + 1) zs) first ∙ put_behind (take i xs) (b ∷ drop (suc i) xs) y m (i + 1) n
+
+  pub take_run : (o m : ℕ) (t : A) (rest : List A) → o ≤ m → take o (replicate m t ++ rest) ≡ replicate o t
+  take_run zero m t rest h = refl
+  take_run (suc o) zero t rest h = absurd (omega arith)
+  take_run (suc o) (suc m) t rest h = ap (λ ts. t ∷ ts) (take_run o m t rest (omega arith))
+
+  pub drop_run : (o m n : ℕ) (t : A) (rest : List A) → m ≡ o + n → drop o (replicate m t ++ rest) ≡ replicate n t ++ rest
+  drop_run zero m n t rest h = let e : m ≡ n = omega arith in ap (λ i. replicate i t ++ rest) e
+  drop_run (suc o) zero n t rest h = absurd (omega arith)
+  drop_run (suc o) (suc m) n t rest h = drop_run o m n t rest (omega arith)
+
+  same_run : (eq : A → A → Bool) (laws : IsEquivalence eq) (n : ℕ) (b t : A) (rest : List A) → eq b t ≡ true → AllZip (λ x y. eq x y ≡ true) (replicate n b ++ rest) (replicate n t ++ rest)
+  same_run eq laws zero b t rest h = unchanged eq laws rest
+  same_run eq laws (suc n) b t rest h = (h, same_run eq laws n b t rest h)
+
+  -- what is split off, and the tags between
+  pub split_tags_new : (xs two : List (Stretch A)) (k i o last n m : ℕ) (s b : Stretch A) (a : A) → k ≤ i → i < length xs → s ≡ get_or xs i s → 0 < o → o ≤ s.more → length (tags_of (drop i xs)) ≡ o + last → n ≡ suc m →
+      two ≡ take i xs ++ record s { more = o - 1 } ∷ record { more = m; tag = a } ∷ b ∷ drop (suc i) xs →
+      tags_of (drop k two) ≡ take (length (tags_of (drop k xs)) - last) (tags_of (drop k xs)) ++ (replicate n a ++ tags_of (b ∷ drop (suc i) xs))
+  split_tags_new xs two k i o last n m s b a h g is some less len count e =
+      let front = tags_of (drop k (take i xs)) in
+      let rest = tags_of (drop (suc i) xs) in
+      let run = replicate (s.more + 1) s.tag ++ rest in
+      let behind = tags_of (b ∷ drop (suc i) xs) in
+      let tail = record { more = m; tag = a } ∷ b ∷ drop (suc i) xs in
+      let old : tags_of (drop k xs) ≡ front ++ run =
+      item_tags xs k i s h g ∙ ap (λ z. front ++ tags_of (z ∷ drop (suc i) xs)) (sym is) ∙ ap (λ j. front ++ (replicate j s.tag ++ rest)) (sym (add-one s.more)) in
+      let p : length (tags_of (drop k xs)) - last ≡ length front + o = before_len xs k i o last h (omega arith) len in
+      let whole : suc (o - 1) ≡ o = omega arith in
+      let new : tags_of (drop k two) ≡ front ++ (replicate o s.tag ++ (replicate n a ++ behind)) =
+      ap (λ ys. tags_of (drop k ys)) e
+      ∙ ap tags_of (drop-append-le k (take i xs) (record s { more = o - 1 } ∷ tail) (omega (arith, length-take i xs)))
+      ∙ tags_of-append (drop k (take i xs)) (record s { more = o - 1 } ∷ tail) ∙ ap (λ j. front ++ (replicate j s.tag ++ (replicate (suc m) a ++ behind))) whole
+      ∙ ap (λ j. front ++ (replicate o s.tag ++ (replicate j a ++ behind))) (sym count) in
+      new
+      ∙ insert_behind front run (replicate o s.tag ++ (replicate n a ++ behind)) behind (replicate n a) o (length (tags_of (drop k xs)) - last) p
+      (ap (λ ts. ts ++ (replicate n a ++ behind)) (sym (take_run o (s.more + 1) s.tag rest (omega arith))))
+      ∙ ap (λ ts. take (length (tags_of (drop k xs)) - last) ts ++ (replicate n a ++ behind)) (sym old)
+
+  pub split_same : (eq : A → A → Bool) (laws : IsEquivalence eq) (xs : List (Stretch A)) (k i o last : ℕ) (s b : Stretch A) → k ≤ i → i < length xs → s ≡ get_or xs i s → o ≤ s.more → length (tags_of (drop i xs)) ≡ o + last →
+      b.more ≡ s.more - o → eq b.tag s.tag ≡ true → AllZip (λ x y. eq x y ≡ true) (tags_of (b ∷ drop (suc i) xs)) (drop (length (tags_of (drop k xs)) - last) (tags_of (drop k xs)))
+  split_same eq laws xs k i o last s b h g is less n e same =
+      let front = tags_of (drop k (take i xs)) in
+      let rest = tags_of (drop (suc i) xs) in
+      let old : tags_of (drop k xs) ≡ front ++ (replicate (s.more + 1) s.tag ++ rest) =
+      item_tags xs k i s h g ∙ ap (λ z. front ++ tags_of (z ∷ drop (suc i) xs)) (sym is) ∙ ap (λ j. front ++ (replicate j s.tag ++ rest)) (sym (add-one s.more)) in
+      let p : length (tags_of (drop k xs)) - last ≡ length front + o = before_len xs k i o last h (omega arith) n in
+      let m : s.more + 1 ≡ o + suc b.more = omega (arith, e, less) in
+      let back : drop (length (tags_of (drop k xs)) - last) (tags_of (drop k xs)) ≡ replicate (suc b.more) s.tag ++ rest =
+      ap (λ ts. drop (length (tags_of (drop k xs)) - last) ts) old ∙ drop_behind front (replicate (s.more + 1) s.tag ++ rest) o (length (tags_of (drop k xs)) - last) p
+      ∙ drop_run o (s.more + 1) (suc b.more) s.tag rest m in
+      subst (λ (ts : List A). AllZip (λ x y. eq x y ≡ true) (tags_of (b ∷ drop (suc i) xs)) ts) (sym back) (same_run eq laws (suc b.more) b.tag s.tag rest same)
+
+pub nearly : {A : Type 0} (eq : A → A → Bool) (ts now new behind : List A) (last n : ℕ) (a tag : A) → ts ≡ now → eq a tag ≡ true → new ≡ take (length ts - last) ts ++ (replicate n a ++ behind) →
+    AllZip (λ y z. eq y z ≡ true) behind (drop (length ts - last) ts) →
+    (x : A) × (behind : List A) × (eq x tag ≡ true) × (new ≡ take (length now - last) now ++ (replicate n x ++ behind)) × AllZip (λ y z. eq y z ≡ true) behind (drop (length now - last) now)
+nearly {A} eq ts now new behind last n a tag e h f same =
+    subst (λ (us : List A). (x : A) × (behind : List A) × (eq x tag ≡ true) × (new ≡ take (length us - last) us ++ (replicate n x ++ behind)) × AllZip (λ y z. eq y z ≡ true) behind (drop (length us - last) us)) e
+    (a, behind, h, f, same)
+
+pub exactly : {A : Type 0} (eq : A → A → Bool) (laws : IsEquivalence eq) (ts now new : List A) (last n : ℕ) (a tag : A) → ts ≡ now → eq a tag ≡ true →
+    new ≡ take (length ts - last) ts ++ (replicate n a ++ drop (length ts - last) ts) →
+    (x : A) × (behind : List A) × (eq x tag ≡ true) × (new ≡ take (length now - last) now ++ (replicate n x ++ behind)) × AllZip (λ y z. eq y z ≡ true) behind (drop (length now - last) now)
+exactly eq laws ts now new last n a tag e h f = nearly eq ts now new (drop (length ts - last) ts) last n a tag e h f (unchanged eq laws (drop (length ts - last) ts))

@@ -1,0 +1,3 @@
+pub mod ModeCases
+pub mod RunEnds
+pub mod WordsLaid

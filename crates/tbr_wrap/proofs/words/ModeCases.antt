@@ -1,0 +1,146 @@
+-- What the rule does with a character, by tests that the code makes.
+use Rattle.std.proofs.Common.{◌≡◌, ◌≢◌, nat_lt, ◌&&◌, ◌||◌, not, ◌==◌, ℕ, zero, suc, ◌+◌, ◌<◌, Bool, true, false, if◌then◌else◌, Option, None, Some, is_none, is_some, List, refl, ap, ◌∙◌, arith, Result, Ok, Err, OnOk}
+use borrow.Author.Tests.{le-ltb, ne_eqb}
+use Rattle.std.specs.Cmp.{IsEquivalence}
+use Rattle.std.specs.Char.{is_whitespace}
+use Rattle.tbr_model.specs.declared.white_space.WhiteSpace.{WhiteSpace}
+use Rattle.tbr_model.specs.declared.white_space.WhiteSpace.TheVariants.{Normal}
+use Rattle.tbr_model.specs.Laid.{Laid}
+use Rattle.tbr_model.specs.Run.{Item, has_character, is_blank, is_break, always_takes_space}
+use Rattle.tbr_model.specs.Rule.{Space, Progress, space_of, space_columns, tag_of, collapse, preserve, newline, tab, flush_word, break_word, keep_space, keep_character, enter_normal, join}
+use Rattle.tbr_tagged.specs.Elements.{SameItems}
+use Rattle.tbr_wrap.specs.Wrapper.{SameSpace, HoldsRule, IsAtProgress, KeepsSettings, KeepsLimits}
+use Rattle.tbr_wrap.specs.declared.wrapper.Wrapper.{Wrapper}
+use Rattle.tbr_wrap.proofs.lines.HeldLines.{holds_same}
+use Rattle.tbr_wrap.proofs.lines.LaidByRule.{lays_same}
+use Rattle.tbr_wrap.proofs.words.WordsLaid.{stands_laid}
+use Rattle.tbr_wrap.specs.declared.wrapper.Space.{Space as HeldSpace}
+
+and_left : (x y : Bool) → x ≡ false → (x && y) ≡ false
+and_left x y e = ap (λ b. b && y) e
+
+and_right : (x y : Bool) → y ≡ false → (x && y) ≡ false
+and_right false y e = refl
+and_right true y e = e
+
+-- U+200B, white space that waits already, and an empty line: nothing is noted
+pub collapse_zero : {A : Type 0} (c : ℕ) (a : A) (p : Progress A) → c ≡ 8203 → collapse c a p ≡ p
+collapse_zero c a p e =
+    let test : (is_blank c && (nat_lt 0 p.laid.width && is_none p.space)) ≡ false = and_left _ _ (ap is_blank e) in rw test refl
+
+pub collapse_pending : {A : Type 0} (c : ℕ) (a : A) (p : Progress A) → is_none p.space ≡ false → collapse c a p ≡ p
+collapse_pending c a p e =
+    let test : (is_blank c && (nat_lt 0 p.laid.width && is_none p.space)) ≡ false = and_right (is_blank c) _ (and_right (nat_lt 0 p.laid.width) _ e) in rw test refl
+
+pub collapse_empty : {A : Type 0} (c : ℕ) (a : A) (p : Progress A) → p.laid.width ≡ 0 → collapse c a p ≡ p
+collapse_empty c a p e =
+    let none : nat_lt 0 p.laid.width ≡ false = le-ltb _ _ (omega (arith, e)) in
+    let test : (is_blank c && (nat_lt 0 p.laid.width && is_none p.space)) ≡ false = and_right (is_blank c) _ (and_left _ _ none) in rw test refl
+
+pub same_some : {A : Type 0} (eq : A → A → Bool) (held : Option (HeldSpace A)) (o : Option (Space A)) → SameSpace eq held o → is_some held ≡ true → is_none o ≡ false
+same_some eq None o h e = cc
+same_some eq (Some s) (Some t) h e = refl
+same_some eq (Some s) None h e = absurd h
+
+-- ---- space that waits
+
+-- where other space waits
+pub spaced_stands : {A : Type 0} (columns : ℕ → Option ℕ) (eq : A → A → Bool) (laws : IsEquivalence eq) (b c : Wrapper A) (before given : List (List (Item A))) (p : Progress A) (o : Option (Space A)) → IsAtProgress columns eq b before given p → SameSpace eq c.space o → c.flat ≡ b.flat → c.lines ≡ b.lines → c.line_len ≡ b.line_len → c.line_width ≡ b.line_width →
+    c.word_width ≡ b.word_width → c.word_mode ≡ b.word_mode → KeepsLimits b c → c.continued ≡ b.continued → c.again ≡ b.again → IsAtProgress columns eq c before given (record p { space = o })
+spaced_stands columns eq laws b c before given p o s space flat lines len width word_width mode limits continued again = record {
+  lays = lays_same columns eq laws b c limits before given p.laid s.lays (holds_same b c before s.lays.laid s.lays.holds (ap (λ f. f.placed) flat) lines len width);
+  space = space;
+  word = rw flat s.word;
+  word_width = word_width ∙ s.word_width;
+  mode = mode ∙ s.mode;
+  continued = continued ∙ s.continued;
+  again = again ∙ s.again;
+}
+
+pub some_space : {A : Type 0} (n : ℕ) (a : A) (mode : WhiteSpace) → 0 < n → space_of n a mode ≡ Some (record { columns = n; tag = a; mode = mode })
+some_space zero a mode some = absurd (omega (arith, some))
+some_space (suc n) a mode some = refl
+
+pub none_held : {A : Type 0} (eq : A → A → Bool) (n : ℕ) (a : A) (mode : WhiteSpace) → n ≡ 0 → SameSpace eq None (space_of n a mode)
+none_held eq zero a mode e = tt
+none_held eq (suc n) a mode e = absurd (omega (arith, e))
+
+-- white space joins a word that has a character, and else waits
+pub keep_joins : {A : Type 0} (c : ℕ) (a : A) (mode : WhiteSpace) (n : ℕ) (p : Progress A) → has_character p.word ≡ true → keep_space c a mode (Some n) p ≡ join c a mode p
+keep_joins c a mode n p e = rw e refl
+
+pub keep_waits : {A : Type 0} (c : ℕ) (a : A) (mode : WhiteSpace) (n : ℕ) (p : Progress A) → has_character p.word ≡ false → keep_space c a mode (Some n) p ≡ record p { space = space_of (space_columns p.space + n) a mode }
+keep_waits c a mode n p e = rw e refl
+
+-- ---- the tag of this call
+
+module _ {A : Type 0} (eq : A → A → Bool) (laws : IsEquivalence eq) (p : Progress A) (a b : A) where
+  pub tag_wrap : p.again ≡ true → eq b (tag_of p a b) ≡ true
+  tag_wrap e = rw e (laws.refl b)
+
+  pub tag_main : p.again ≡ false → eq a (tag_of p a b) ≡ true
+  tag_main e = rw e (laws.refl a)
+
+-- ---- spaces of a tab
+
+-- where they were put on the lines
+pub stands_put : {A E : Type 0} (columns : ℕ → Option ℕ) (eq : A → A → Bool) (b c : Wrapper A) (before given : List (List (Item A))) (p : Progress A) (l : Laid A) (result : Result (Unit {0}) E) → IsAtProgress columns eq b before given p → OnOk result (HoldsRule columns eq c before given l) → OnOk result (SameItems eq c.flat.word p.word) → KeepsSettings b c →
+    OnOk result (IsAtProgress columns eq c before given (record p { laid = l }))
+stands_put columns eq b c before given p l (Ok x) s lays word same = stands_laid columns eq b c before given p l s lays word same
+stands_put columns eq b c before given p l (Err e) s lays word same = tt
+
+-- ---- the preserving modes, by character
+
+blank_not : (x y : Bool) → (x && not y) ≡ not (not x || y)
+blank_not false false = refl
+blank_not false true = refl
+blank_not true false = refl
+blank_not true true = refl
+
+pub blank_is : (c : ℕ) (b : Bool) → always_takes_space c ≡ b → is_blank c ≡ not b
+blank_is c b e = blank_not (is_whitespace c) (c == 160) ∙ ap not e
+
+module _ {A : Type 0} (columns : ℕ → Option ℕ) (width c : ℕ) (a b : A) (mode : WhiteSpace) (p : Progress A) where
+  pub preserve_newline : c ≡ 10 → preserve columns width c a b mode p ≡ newline (flush_word columns width p)
+  preserve_newline e = rw e refl
+
+  pub preserve_tab : c ≡ 9 → preserve columns width c a b mode p ≡ tab width (tag_of p a b) (flush_word columns width p)
+  preserve_tab e = rw e refl
+
+  -- any other character but U+200B
+  module _ (zero : c ≢ 8203) (line : c ≢ 10) (stop : c ≢ 9) where
+    preserve_other : preserve columns width c a b mode p ≡ (if is_blank c then keep_space c (tag_of p a b) mode (columns c) p else keep_character columns width c a b mode (columns c) p)
+    preserve_other =
+        let no_zero : (c == 8203) ≡ false = ne_eqb _ _ zero in
+        let no_line : (c == 10) ≡ false = ne_eqb _ _ line in
+        let no_stop : (c == 9) ≡ false = ne_eqb _ _ stop in rw (no_zero, no_line, no_stop) refl
+
+    by_width : (blank : Bool) (o : Option ℕ) → is_blank c ≡ blank → columns c ≡ o → preserve columns width c a b mode p ≡ (if blank then keep_space c (tag_of p a b) mode o p else keep_character columns width c a b mode o p)
+    by_width blank o e w = preserve_other ∙ ap (λ t. if t then keep_space c (tag_of p a b) mode (columns c) p else keep_character columns width c a b mode (columns c) p) e
+        ∙ ap (λ n. if blank then keep_space c (tag_of p a b) mode n p else keep_character columns width c a b mode n p) w
+
+    pub preserve_space : (n : ℕ) → always_takes_space c ≡ false → columns c ≡ Some n → preserve columns width c a b mode p ≡ keep_space c (tag_of p a b) mode (Some n) p
+    preserve_space n e w = by_width true (Some n) (blank_is c false e) w
+
+    pub preserve_kept : (n : ℕ) → always_takes_space c ≡ true → columns c ≡ Some n → preserve columns width c a b mode p ≡ keep_character columns width c a b mode (Some n) p
+    preserve_kept n e w = by_width false (Some n) (blank_is c true e) w
+
+    pub preserve_none : columns c ≡ None → preserve columns width c a b mode p ≡ p
+    preserve_none w = by_width (is_blank c) None refl w ∙ both (is_blank c)
+      where
+        both : (t : Bool) → (if t then keep_space c (tag_of p a b) mode None p else keep_character columns width c a b mode None p) ≡ p
+        both true = refl
+        both false = refl
+
+pub none_of : {X : Type 0} (o : Option X) → ((x : X) → o ≢ Some x) → o ≡ None
+none_of None h = refl
+none_of (Some x) h = absurd (h x refl)
+
+-- ---- where white space collapses
+
+module _ {A : Type 0} (columns : ℕ → Option ℕ) (width c : ℕ) (a : A) (p : Progress A) where
+  pub normal_break : is_break c ≡ true → enter_normal columns width c a p ≡ collapse c a (break_word columns width p)
+  normal_break e = ap (λ t. if t then collapse c a (break_word columns width p) else (if is_some (columns c) then join c a Normal p else p)) e
+
+  pub normal_kept : (n : ℕ) → is_break c ≡ false → columns c ≡ Some n → enter_normal columns width c a p ≡ join c a Normal p
+  normal_kept n e w = ap (λ t. if t then collapse c a (break_word columns width p) else (if is_some (columns c) then join c a Normal p else p)) e ∙ ap (λ o. if is_some o then join c a Normal p else p) w

@@ -1,0 +1,119 @@
+-- The block stands where the rule stands.
+use Rattle.std.proofs.Common.{◌≡◌, nat_le, ℕ, ◌+◌, ◌<◌, ◌≤◌, Bool, true, false, if◌then◌else◌, Option, None, Some, List, [], ◌∷◌, ◌++◌, refl, ap, sym, ◌∙◌, subst, arith, append_assoc, append-nil, Result, Ok, Err, OnOk}
+use borrow.Author.Tests.{le-leb, leb-true, leb-false}
+use Rattle.std.specs.Cmp.{IsEquivalence}
+use Rattle.tbr_model.specs.Run.{Item, items_width, item_width, has_character}
+use Rattle.tbr_model.specs.Laid.{Laid, extended, fresh, put_items}
+use Rattle.tbr_model.specs.Greedy.{IsNarrow}
+use Rattle.tbr_model.specs.Rule.{Space, Progress, space_columns, put_pending, is_pre, lay_fresh}
+use Rattle.tbr_tagged.specs.Elements.{SameItems}
+use Rattle.tbr_wrap.specs.Wrapper.{HoldsRule, IsAtProgress, SameSpace, KeepsSettings, KeepsLimits, held_columns}
+use Rattle.tbr_wrap.specs.declared.wrapper.Wrapper.{Wrapper}
+use Rattle.tbr_wrap.specs.declared.wrapper.Space.{Space as HeldSpace}
+use Rattle.tbr_tagged.proofs.SameItems.{same_width_one}
+use Rattle.tbr_wrap.proofs.lines.HeldLines.{holds_same}
+use Rattle.tbr_wrap.proofs.lines.LaidByRule.{lays_same}
+
+pub on_ok_both : {T E : Type 0} (r : Result T E) (P Q : Type 0) → OnOk r P → OnOk r Q → OnOk r (P × Q)
+on_ok_both (Ok x) P Q p q = (p, q)
+on_ok_both (Err e) P Q p q = tt
+
+pub same_columns : {A : Type 0} (eq : A → A → Bool) (held : Option (HeldSpace A)) (o : Option (Space A)) → SameSpace eq held o → held_columns held ≡ space_columns o
+same_columns eq None None h = refl
+same_columns eq (Some s) (Some t) h = h.0
+same_columns eq None (Some t) h = absurd h
+same_columns eq (Some s) None h = absurd h
+
+pub laid_is : {A : Type 0} (l m : Laid A) → l.done ≡ m.done → l.line ≡ m.line → l.width ≡ m.width → l ≡ m
+laid_is l m d e w = rw (d, e, w) refl
+
+pub extended_none : {A : Type 0} (l : Laid A) → extended l [] 0 ≡ l
+extended_none l = laid_is _ l refl (append-nil l.line) (omega arith)
+
+pub extended_twice : {A : Type 0} (l : Laid A) (is js : List (Item A)) (m n : ℕ) → extended (extended l is m) js n ≡ extended l (is ++ js) (m + n)
+extended_twice l is js m n = laid_is _ _ refl (append_assoc l.line is js) (omega arith)
+
+-- a word that fits is put as it is
+pub put_fitting : {A : Type 0} (columns : ℕ → Option ℕ) (width : ℕ) (l : Laid A) (is : List (Item A)) → l.width + items_width columns is ≤ width → put_items columns width l is ≡ extended l is (items_width columns is)
+put_fitting columns width l [] h = sym (extended_none l)
+put_fitting columns width l (i ∷ is) h =
+    let test : nat_le (l.width + item_width columns i) width ≡ true = le-leb _ _ (omega (arith, h)) in
+    rw test (put_fitting columns width (extended l (i ∷ []) (item_width columns i)) is (omega (arith, h)) ∙ extended_twice l (i ∷ []) is (item_width columns i) (items_width columns is))
+
+-- the mode of a word with one more character
+pub mode_kept : {X : Type 0} (b : Bool) (x y : X) → b ≡ true → x ≡ (if b then x else y)
+mode_kept b x y e = rw e refl
+
+pub mode_given : {X : Type 0} (b : Bool) (x y : X) → b ≡ false → y ≡ (if b then x else y)
+mode_given b x y e = rw e refl
+
+-- more on the lines, and the word as it was
+pub stands_laid : {A : Type 0} (columns : ℕ → Option ℕ) (eq : A → A → Bool) (b c : Wrapper A) (before given : List (List (Item A))) (p : Progress A) (r : Laid A) → IsAtProgress columns eq b before given p → HoldsRule columns eq c before given r → SameItems eq c.flat.word p.word → KeepsSettings b c →
+    IsAtProgress columns eq c before given (record p { laid = r })
+stands_laid columns eq b c before given p r s lays word same = record {
+  lays = lays;
+  space = rw same.space s.space;
+  word = word;
+  word_width = same.word_width ∙ s.word_width;
+  mode = same.word_mode ∙ s.mode;
+  continued = same.continued ∙ s.continued;
+  again = same.again ∙ s.again;
+}
+
+-- what is pending, by what is held
+pub held_some : {A : Type 0} (eq : A → A → Bool) (o : Option (HeldSpace A)) (held : HeldSpace A) (space : Option (Space A)) → o ≡ Some held → SameSpace eq o space → (s : Space A) × (space ≡ Some s) × (held.columns ≡ s.columns) × (eq held.tag s.tag ≡ true) × (held.mode ≡ s.mode)
+held_some eq o held None e h = absurd (subst (λ x. SameSpace eq x None) e h)
+held_some eq o held (Some s) e h = let k = subst (λ x. SameSpace eq x (Some s)) e h in (s, refl, k.0, k.1, k.2)
+
+pub held_none : {A : Type 0} (eq : A → A → Bool) (o : Option (HeldSpace A)) (space : Option (Space A)) → o ≡ None → SameSpace eq o space → space ≡ None
+held_none eq o None e h = refl
+held_none eq o (Some s) e h = absurd (subst (λ x. SameSpace eq x (Some s)) e h)
+
+-- where the pending space is taken out
+pub taken_stands : {A : Type 0} (columns : ℕ → Option ℕ) (eq : A → A → Bool) (laws : IsEquivalence eq) (b c : Wrapper A) (before given : List (List (Item A))) (p : Progress A) → IsAtProgress columns eq b before given p → c.space ≡ None → c.flat ≡ b.flat → c.lines ≡ b.lines → c.line_len ≡ b.line_len → c.line_width ≡ b.line_width →
+    c.word_width ≡ b.word_width → c.word_mode ≡ b.word_mode → KeepsLimits b c → c.continued ≡ b.continued → c.again ≡ b.again → IsAtProgress columns eq c before given (record p { space = None })
+taken_stands columns eq laws b c before given p s none flat lines len width word_width mode limits continued again = record {
+  lays = lays_same columns eq laws b c limits before given p.laid s.lays (holds_same b c before s.lays.laid s.lays.holds (ap (λ f. f.placed) flat) lines len width);
+  space = rw none tt;
+  word = rw flat s.word;
+  word_width = word_width ∙ s.word_width;
+  mode = mode ∙ s.mode;
+  continued = continued ∙ s.continued;
+  again = again ∙ s.again;
+}
+
+-- a word with as narrow characters
+pub same_narrow : {A : Type 0} (columns : ℕ → Option ℕ) (eq : A → A → Bool) (width : ℕ) (is js : List (Item A)) → SameItems eq is js → IsNarrow columns width js → IsNarrow columns width is
+same_narrow columns eq width [] js same h = tt
+same_narrow columns eq width (i ∷ is) [] same h = absurd same
+same_narrow columns eq width (i ∷ is) (j ∷ js) same h = (omega (arith, h.0, same_width_one columns eq i j same.0), same_narrow columns eq width is js same.1 h.1)
+
+-- a word that has a character is put behind what is pending
+pub lay_fresh_some : {A : Type 0} (columns : ℕ → Option ℕ) (width : ℕ) (p : Progress A) → has_character p.word ≡ true →
+    lay_fresh columns width p ≡ record p { laid = put_items columns width (put_pending width p.space (fresh p.laid)) p.word; space = None; word = []; continued = is_pre p.mode }
+lay_fresh_some columns width p e = rw e refl
+
+-- and one that has lost its characters stays
+pub lay_fresh_none : {A : Type 0} (columns : ℕ → Option ℕ) (width : ℕ) (p : Progress A) → has_character p.word ≡ false →
+    lay_fresh columns width p ≡ record p { laid = put_pending width p.space (fresh p.laid); space = None; continued = is_pre p.mode }
+lay_fresh_none columns width p e = rw e refl
+
+-- where the flag for the next call changes
+pub flagged_stands : {A : Type 0} (columns : ℕ → Option ℕ) (eq : A → A → Bool) (laws : IsEquivalence eq) (b c : Wrapper A) (before given : List (List (Item A))) (p : Progress A) (x : Bool) → IsAtProgress columns eq b before given p → c.flat ≡ b.flat → c.lines ≡ b.lines → c.line_len ≡ b.line_len → c.line_width ≡ b.line_width →
+    c.space ≡ b.space → c.word_width ≡ b.word_width → c.word_mode ≡ b.word_mode → KeepsLimits b c → c.again ≡ b.again → c.continued ≡ x → IsAtProgress columns eq c before given (record p { continued = x })
+flagged_stands columns eq laws b c before given p x s flat lines len width space word_width mode limits again flag = record {
+  lays = lays_same columns eq laws b c limits before given p.laid s.lays (holds_same b c before s.lays.laid s.lays.holds (ap (λ f. f.placed) flat) lines len width);
+  space = rw space s.space;
+  word = rw flat s.word;
+  word_width = word_width ∙ s.word_width;
+  mode = mode ∙ s.mode;
+  continued = flag;
+  again = again ∙ s.again;
+}
+
+pub no_room : (m n : ℕ) → (m ≤ n → ⊥) → n < m
+no_room m n h = go (nat_le m n) refl
+  where
+    go : (b : Bool) → nat_le m n ≡ b → n < m
+    go true e = absurd (h (leb-true m n e))
+    go false e = leb-false m n e

@@ -1,0 +1,27 @@
+use Rattle.std.proofs.Common.{◌≡◌, ◌∙◌, sym, Err}
+use Rattle.std.proofs.lemmas.Result.{err_from_is_err_and}
+use Rattle.tbr_model.specs.Rule.{break_word}
+use Rattle.tbr_tagged.specs.declared.error.Error.TheVariants as E
+use Rattle.tbr_wrap.proofs.words.ModeCases.{normal_break, normal_kept}
+use Rattle.tbr_wrap.proofs.wrapper.Wrapper.enter_normal.Goals as goal
+
+pub returns-in_err-break_word-clause-too_narrow : goal.returns-in_err-break_word-clause-too_narrow
+returns-in_err-break_word-clause-too_narrow g c = λ e before given p s.
+    let q = err_from_is_err_and c.from_residual.result c.from_residual.ensures.1 in
+    let was = c.in_err-break_word.was in
+    let is : c.break_word.result ≡ Err E.TooNarrow = cc (q.1, q.2, e, was) in
+    let k = c.break_word.ensures.too_narrow is before given p s in
+    (k.0, sym c.is_wordbreak_point.ensures ∙ c.if-is_wordbreak_point.true, k.1, k.2)
+
+pub returns-then-is_wordbreak_point-clause-entered : goal.returns-then-is_wordbreak_point-clause-entered
+returns-then-is_wordbreak_point-clause-entered g c = λ before given p a same s.
+    let columns = g.W.CharWidth.columns in
+    rw (normal_break columns c.args.self.now.width c.args.c a p (sym c.is_wordbreak_point.ensures ∙ c.if-is_wordbreak_point.true))
+    (c.in_ok-collapse.ensures.after_change columns before given (break_word columns c.args.self.now.width p) a same (c.in_ok-break_word.ensures.laid before given p s))
+
+pub returns-in_ok-join-clause-entered : goal.returns-in_ok-join-clause-entered
+returns-in_ok-join-clause-entered g c = λ before given p a same s.
+    let columns = g.W.CharWidth.columns in
+    let is = sym c.width.ensures ∙ c.in-Some.is in
+    rw (normal_kept columns c.args.self.now.width c.args.c a p c.in-Some.columns (sym c.is_wordbreak_point.ensures ∙ c.if-is_wordbreak_point.false) is)
+    (c.in_ok-join.ensures.joined columns before given p a is same s)

@@ -1,0 +1,92 @@
+-- What a contract sees of characters under tags in one text.
+use Rattle.std.specs.Prelude.{◌≡◌, ◌≤◌, ◌⊎◌, ℕ, ◌+◌, ◌-◌, true, List, [], ◌∷◌, ◌++◌, length, take, drop, slice_range, chars}
+use Rattle.std.specs.List.{AllByRecursion as Each}
+use Rattle.std.specs.Str.{is_utf8}
+use Rattle.tbr_model.specs.Run.{Item, glyph, marker}
+
+-- The items that are placed on lines and not handed out yet, and those of the current word.
+pub record Flat (A : Type 0) : Type 0 where
+  pub placed : List (Item A)
+  pub word : List (Item A)
+
+-- characters, each under its tag
+abbrev pub glyphs : {A : Type 0} → List ℕ → List A → List (Item A)
+glyphs [] ts = []
+glyphs (c ∷ cs) [] = []
+glyphs (c ∷ cs) (t ∷ ts) = glyph c t ∷ glyphs cs ts
+
+-- The characters that are placed and not handed out yet, and those of the current word.
+pub record Letters : Type 0 where
+  pub placed : List ℕ
+  pub word : List ℕ
+
+-- Characters under tags: those that are placed stand under the first tags.
+abbrev pub flat : {A : Type 0} → Letters → List A → Flat A
+flat l ts = record { placed = glyphs l.placed ts; word = glyphs l.word (drop (length l.placed) ts) }
+
+-- the texts between two places in bytes and behind the second
+abbrev pub letters : List ℕ → ℕ → ℕ → Letters
+letters bytes start word_start = record { placed = chars (slice_range bytes start word_start); word = chars (drop word_start bytes) }
+
+-- Two places in bytes part them into texts, the last of which has so many characters.
+pub record AreParts (bytes : List ℕ) (start word_start word : ℕ) : Type 0 where
+  pub start_in : start ≤ word_start
+  pub word_in : word_start ≤ length bytes
+  pub placed_utf8 : is_utf8 (slice_range bytes start word_start) ≡ true
+  pub word_utf8 : is_utf8 (drop word_start bytes) ≡ true
+  pub word_len : word ≡ length (chars (drop word_start bytes))
+
+-- ---- markers among items
+
+-- Markers among characters: how many characters stand behind each one's predecessor and before it, its name, and how many stand
+-- behind the last one.
+pub record MarkerPlaces : Type 0 where
+  pub markers : List (ℕ × List ℕ)
+  pub behind : ℕ
+
+-- items with the markers among them
+abbrev pub marked : {A : Type 0} → List (Item A) → List (ℕ × List ℕ) → List (Item A)
+marked is [] = is
+marked is ((n, name) ∷ ms) = take n is ++ marker name ∷ marked (drop n is) ms
+
+-- how many characters stand before the last marker
+abbrev pub before_last : List (ℕ × List ℕ) → ℕ
+before_last [] = 0
+before_last ((n, name) ∷ ms) = n + before_last ms
+
+-- how many characters the markers are among
+abbrev pub covered : MarkerPlaces → ℕ
+covered m = before_last m.markers + m.behind
+
+-- how many characters stand before the first marker, or in all where there is none
+abbrev pub before_first : MarkerPlaces → ℕ
+before_first m = first m.markers m.behind
+  where
+    first : List (ℕ × List ℕ) → ℕ → ℕ
+    first [] k = k
+    first ((n, name) ∷ ms) k = n
+
+-- so many characters fewer before the first marker
+abbrev pub shortened : ℕ → MarkerPlaces → MarkerPlaces
+shortened k m = go m.markers
+  where
+    go : List (ℕ × List ℕ) → MarkerPlaces
+    go [] = record m { behind = m.behind - k }
+    go ((n, name) ∷ ms) = record m { markers = (n - k, name) ∷ ms }
+
+-- markers behind others
+abbrev pub followed : MarkerPlaces → MarkerPlaces → MarkerPlaces
+followed m n = go n.markers
+  where
+    go : List (ℕ × List ℕ) → MarkerPlaces
+    go [] = record m { behind = m.behind + n.behind }
+    go ((k, name) ∷ ms) = record { markers = m.markers ++ (m.behind + k, name) ∷ ms; behind = n.behind }
+
+-- all but the first stand right behind their predecessors
+abbrev pub AreNeighbours : List (ℕ × List ℕ) → Type 0
+AreNeighbours [] = Unit {0}
+AreNeighbours (m ∷ ms) = Each (λ n. n.0 ≡ 0) ms
+
+-- the last so many of the characters and markers are markers alone
+abbrev pub EndsWithMarkers : ℕ → MarkerPlaces → Type 0
+EndsWithMarkers n m = (n ≡ 0) ⊎ ((m.behind ≡ 0) × ((front back : List (ℕ × List ℕ)) × (m.markers ≡ front ++ back) × (length back ≡ n) × AreNeighbours back))

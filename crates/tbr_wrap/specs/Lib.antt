@@ -1,0 +1,6 @@
+pub mod Stretches
+pub mod Flat
+pub mod Wrapped
+pub mod Wrapper
+pub mod State
+pub mod Block

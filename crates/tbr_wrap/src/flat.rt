@@ -1,0 +1,283 @@
+//! Characters under tags and markers, in one text.
+ghost use Rattle.std.specs.Prelude.{◌≡◌, ◌<◌, ◌≤◌, ◌+◌, ◌++◌, ◌∷◌, [], true, false, List, length, map, take, drop, string_bytes, MatchOption, OnOk, IfOk};
+ghost use Rattle.tbr_tagged.specs.Copies.{CopiesAreEqual};
+ghost use Rattle.tbr_model.specs.Run.{Item, glyph, marker, item_width, items_width, has_character};
+ghost use Rattle.tbr_model.specs.Rule.{spaces, without_leading, without_trailing};
+ghost use Rattle.tbr_model.specs.Markers.{marker_names};
+ghost use Rattle.tbr_tagged.specs.Elements.{SameItems, IsMerged, items_of, marker_element};
+ghost use Rattle.tbr_tagged.specs.View.{element_of};
+
+use crate::flat::characters::Characters;
+use crate::flat::markers::Markers;
+use std::alloc::Global;
+use std::marker::Model;
+use tbr_model::CharWidth;
+use tbr_tagged::{OutOfMemory, TaggedLine, TaggedLineElement};
+
+mod characters;
+mod markers;
+mod split_text;
+mod tags;
+
+/// Characters under tags and markers, in one text: those that are placed on lines, and behind them those of the current word.
+///
+/// Placing a word moves no character, and handing out a line costs its own length. A contract sees the items that are placed and not
+/// handed out yet, and those of the word.
+#[derive(Drop)]
+pub struct FlatText<T> {
+    alloc: Global,
+    text: Characters<T>,
+    /// The markers among the placed characters.
+    placed: Markers,
+    /// The markers among the word's characters.
+    word: Markers,
+}
+
+impl<T> Model for FlatText<T> {
+    ghost use Rattle.std.specs.Prelude.{◌≡◌, length};
+    ghost use Rattle.tbr_wrap.specs.Flat.{Flat, marked, covered};
+
+    ghost Value = { Flat T };
+
+    ghost view = { λ a. record { placed = marked a.text.placed a.placed.markers; word = marked a.text.word a.word.markers } };
+
+    ghost invariant = { λ a. (covered a.placed ≡ length a.text.placed) × (covered a.word ≡ length a.text.word) };
+}
+
+impl<T> FlatText<T> {
+    /// A text without items. It takes no memory.
+    pub fn new(alloc: Global) -> FlatText<T>
+        ensures { result ≡ record { placed = []; word = [] } }
+    {
+        FlatText {
+            alloc,
+            text: Characters::new(alloc),
+            placed: Markers::new(alloc),
+            word: Markers::new(alloc),
+        }
+    }
+
+    /// Whether the word has a character.
+    pub fn has_word(&self) -> bool
+        ensures { result ≡ has_character self.now.word }
+    {
+        let _ = &self.word;
+        self.text.holds_characters();
+        !self.text.is_word_empty()
+    }
+
+    /// How many items the word has.
+    pub fn word_len(&self) -> Result<usize, OutOfMemory>
+        ensures { IfOk result (λ n. n ≡ length self.now.word) }
+    {
+        match self.text.word_len().checked_add(self.word.len()) {
+            Some(len) => Ok(len),
+            None => Err(OutOfMemory),
+        }
+    }
+
+    /// How many markers the word has.
+    pub fn word_markers(&self) -> usize
+        ensures { has_character self.now.word ≡ false → result ≡ length self.now.word }
+    {
+        self.text.holds_characters();
+        self.word.len()
+    }
+
+    /// The columns of the word.
+    pub fn word_width<W: CharWidth>(&self) -> Result<usize, OutOfMemory>
+        ensures { IfOk result (λ n. n ≡ items_width W.columns self.now.word) }
+    {
+        let _ = &self.word;
+        self.text.word_width::<W>()
+    }
+
+    /// The columns of the word's first item.
+    pub fn first_width<W: CharWidth>(&self) -> Option<usize>
+        ensures { MatchOption result (self.now.word ≡ []) (λ n. (i : Item T) × (rest : List (Item T)) × (self.now.word ≡ i ∷ rest) × (n ≡ item_width W.columns i)) }
+    {
+        if self.word.begins_with_marker() {
+            return Some(0);
+        }
+        let c = self.text.first()?;
+        Some(W::width(c).unwrap_or(0))
+    }
+
+    /// Whether there is a character among the last so many placed items.
+    pub fn has_character(&self, last: usize) -> bool
+        ensures { (before line : List (Item T)) → self.now.placed ≡ before ++ line → length line ≡ last → result ≡ has_character line }
+    {
+        self.text.holds_characters();
+        !self.placed.ends_with_markers(last)
+    }
+
+    /// Adds a marker to the word. Where memory is refused the items stay as they were.
+    pub fn push_marker(&mut self, name: String) -> Result<(), OutOfMemory>
+        ensures { OnOk result (self.new ≡ record self.old { word = self.old.word ++ marker (string_bytes name) ∷ [] }) }
+    {
+        self.word.push(name)
+    }
+
+    /// Places the word. It takes the time of moving its markers.
+    ///
+    /// Where memory is refused the items may be lost.
+    pub fn place_word(&mut self) -> Result<(), OutOfMemory>
+        ensures { OnOk result (self.new ≡ record { placed = self.old.placed ++ self.old.word; word = [] }) }
+    {
+        if let Err(e) = self.placed.append(&mut self.word) {
+            clear(&mut self.text, &mut self.placed, &mut self.word);
+            return Err(e);
+        }
+        self.text.place_word();
+        Ok(())
+    }
+
+    /// Places the word's first item. It takes constant time.
+    ///
+    /// Where memory is refused the item may be lost.
+    pub fn place_first(&mut self) -> Result<(), OutOfMemory>
+        requires { 0 < length self.old.word }
+        ensures { OnOk result ((i : Item T) × (rest : List (Item T)) × (self.old.word ≡ i ∷ rest) × (self.new ≡ record { placed = self.old.placed ++ i ∷ []; word = rest })) }
+    {
+        if let Some(name) = self.word.pop_first() {
+            return self.placed.push(name);
+        }
+        self.placed.add_characters(1)?;
+        self.text.place_first();
+        self.word.remove_first(1);
+        Ok(())
+    }
+
+    /// Puts the last so many placed items in front of the word, if they are markers.
+    ///
+    /// Where memory is refused a marker may be lost.
+    pub fn unplace(&mut self, last: usize) -> Result<(), OutOfMemory>
+        ensures { (before line : List (Item T)) → self.old.placed ≡ before ++ line → length line ≡ last → has_character line ≡ false →
+            OnOk result (self.new ≡ record { placed = before; word = line ++ self.old.word }) }
+    {
+        self.text.holds_characters();
+        for _ in 0..last {
+            let Some(name) = self.placed.pop_last() else {
+                return Ok(());
+            };
+            self.word.push_first(name)?;
+        }
+        Ok(())
+    }
+}
+
+impl<T: Drop> FlatText<T> {
+    /// Takes the markers out that the word begins with.
+    pub fn take_markers(&mut self) -> Result<Vec<TaggedLineElement<T>>, OutOfMemory>
+        requires { has_character self.old.word ≡ false }
+        ensures markers { IfOk result (λ es. map element_of es.items ≡ map marker_element (marker_names self.old.word)) }
+        ensures rest { OnOk result (self.new ≡ record self.old { word = [] }) }
+    {
+        let mut markers = Vec::new(self.alloc);
+        while let Some(name) = self.word.pop_first() {
+            markers.push(TaggedLineElement::FragmentStart(name))?;
+        }
+        self.text.holds_characters();
+        Ok(markers)
+    }
+
+    /// Takes away the spaces at the end of the last so many placed items, back to a marker, and the white space at the word's beginning,
+    /// up to a marker. It answers how many spaces that were. It takes the time of moving the word, and of going over its stretches.
+    ///
+    /// Where memory is refused the items stay as they were.
+    pub fn trim(&mut self, most: usize) -> Result<usize, OutOfMemory>
+        requires { most ≤ length self.old.placed }
+        ensures placed { (before line : List (Item T)) → self.old.placed ≡ before ++ line → length line ≡ most →
+            IfOk result (λ n. (self.new.placed ≡ before ++ without_trailing line) × (n + length (without_trailing line) ≡ length line)) }
+        ensures word { OnOk result (self.new.word ≡ without_leading self.old.word) }
+    {
+        let last = most.min(self.placed.behind());
+        let (spaces, blanks) = self.text.trim(last, self.word.before())?;
+        self.placed.remove_last(spaces);
+        self.word.remove_first(blanks);
+        Ok(spaces)
+    }
+}
+
+impl<T: Eq + Clone> FlatText<T> {
+    /// Adds a character to the word. The tag is copied only where a stretch of it begins.
+    ///
+    /// Where memory is refused the items may be lost.
+    pub fn push(&mut self, c: char, tag: &T) -> Result<(), OutOfMemory>
+        requires { CopiesAreEqual T.is_clone T.eq }
+        ensures { OnOk result ((a : T) × (T.eq a tag.now ≡ true) × (self.new ≡ record self.old { word = self.old.word ++ glyph c a ∷ [] })) }
+    {
+        self.word.add_characters(1)?;
+        if let Err(e) = self.text.push(c, tag) {
+            clear(&mut self.text, &mut self.placed, &mut self.word);
+            return Err(e);
+        }
+        Ok(())
+    }
+
+    /// Places so many spaces before the word. It takes the time of moving the word, and of going over its stretches.
+    ///
+    /// Where the spaces part a stretch, the tag is copied, and the word's first characters stand under the copy. Where memory is
+    /// refused the items may be lost.
+    pub fn push_spaces(&mut self, count: usize, tag: T) -> Result<(), OutOfMemory>
+        requires faithful { CopiesAreEqual T.is_clone T.eq }
+        requires some { 0 < count }
+        ensures placed { OnOk result ((a : T) × (T.eq a tag ≡ true) × (self.new.placed ≡ self.old.placed ++ spaces count a)) }
+        ensures word { OnOk result (SameItems T.eq self.new.word self.old.word) }
+    {
+        self.placed.add_characters(count)?;
+        if let Err(e) = self.text.push_spaces(count, tag) {
+            clear(&mut self.text, &mut self.placed, &mut self.word);
+            return Err(e);
+        }
+        Ok(())
+    }
+
+    /// Hands out the first so many placed items as a line. It takes the time of the line's length.
+    pub fn take_line(&mut self, items: usize) -> Result<TaggedLine<T>, OutOfMemory>
+        requires faithful { CopiesAreEqual T.is_clone T.eq }
+        requires placed { items ≤ length self.old.placed }
+        ensures items { IfOk result (λ line. SameItems T.eq (items_of line) (take items self.old.placed)) }
+        ensures merged { IfOk result (λ line. IsMerged T.eq line) }
+        ensures rest { OnOk result (self.new ≡ record self.old { placed = drop items self.old.placed }) }
+    {
+        let mut line = TaggedLine::new(self.alloc);
+        let mut left = items;
+        while left > 0 {
+            left -= self.move_element(&mut line, left)?;
+        }
+        Ok(line)
+    }
+
+    /// Hands the first placed items to a line, a marker, or at most so many characters, all under one tag. It answers how many they
+    /// are.
+    fn move_element(&mut self, line: &mut TaggedLine<T>, most: usize) -> Result<usize, OutOfMemory>
+        requires faithful { CopiesAreEqual T.is_clone T.eq }
+        requires some { 0 < most }
+        requires placed { most ≤ length self.old.placed }
+        ensures some { IfOk result (λ n. (0 < n) × (n ≤ most)) }
+        ensures items { IfOk result (λ n. SameItems T.eq (items_of line.new) (items_of line.old ++ take n self.old.placed)) }
+        ensures merged { IsMerged T.eq line.old → OnOk result (IsMerged T.eq line.new) }
+        ensures rest { IfOk result (λ n. self.new ≡ record self.old { placed = drop n self.old.placed }) }
+    {
+        if let Some(name) = self.placed.pop_first() {
+            line.push(TaggedLineElement::FragmentStart(name))?;
+            return Ok(1);
+        }
+        let (count, piece) = self.text.take_piece(most.min(self.placed.before()))?;
+        self.placed.remove_first(count);
+        line.push_str(piece)?;
+        Ok(count)
+    }
+}
+
+/// Forgets all items.
+fn clear<T>(text: &mut Characters<T>, placed: &mut Markers, word: &mut Markers)
+    ensures text { text.new ≡ record { placed = []; word = [] } }
+    ensures placed { placed.new ≡ record { markers = []; behind = 0 } }
+    ensures word { word.new ≡ record { markers = []; behind = 0 } }
+{
+    text.clear();
+    placed.clear();
+    word.clear();
+}

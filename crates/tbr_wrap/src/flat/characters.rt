@@ -1,0 +1,201 @@
+//! Characters under tags, in one text.
+ghost use Rattle.std.specs.Prelude.{◌≡◌, ◌<◌, ◌≤◌, ◌+◌, ◌++◌, ◌∷◌, [], true, List, length, take, drop, chars, string_bytes, MatchOption, OnOk, OnErr, IfOk, IsTrue, ◌↔◌};
+ghost use Rattle.std.specs.List.{AllByRecursion as Each};
+ghost use Rattle.tbr_tagged.specs.Copies.{CopiesAreEqual};
+ghost use Rattle.tbr_model.specs.Run.{Item, glyph, items_width};
+ghost use Rattle.tbr_model.specs.Entry.{is_glyph};
+ghost use Rattle.tbr_model.specs.Rule.{spaces, without_leading, without_trailing};
+ghost use Rattle.tbr_tagged.specs.Elements.{SameItems, text_items};
+
+use crate::flat::split_text::SplitText;
+use crate::flat::tags::Stretches;
+use std::alloc::Global;
+use std::marker::Model;
+use tbr_model::CharWidth;
+use tbr_tagged::{OutOfMemory, TaggedString};
+
+/// Characters under tags, in one text: those that are placed on lines, and behind them those of the current word.
+///
+/// A tag is stored once for each stretch of it, however many lines or words that covers. Placing a word moves no character, and
+/// handing out characters costs their own length. A contract sees the characters that are placed and not handed out yet, and those
+/// of the word.
+#[derive(Drop)]
+pub struct Characters<T> {
+    text: SplitText,
+    tags: Stretches<T>,
+}
+
+impl<T> Model for Characters<T> {
+    ghost use Rattle.std.specs.Prelude.{◌≡◌, ◌+◌, length};
+    ghost use Rattle.tbr_wrap.specs.Flat.{Flat, flat};
+
+    ghost Value = { Flat T };
+
+    ghost view = { λ a. flat a.text a.tags };
+
+    ghost invariant = { λ a. length a.tags ≡ length a.text.placed + length a.text.word };
+}
+
+impl<T> Characters<T> {
+    /// A text without characters. It takes no memory.
+    pub fn new(alloc: Global) -> Characters<T>
+        ensures { result ≡ record { placed = []; word = [] } }
+    {
+        Characters {
+            text: SplitText::new(alloc),
+            tags: Stretches::new(alloc),
+        }
+    }
+
+    /// How many characters the word has.
+    pub fn word_len(&self) -> usize
+        ensures { result ≡ length self.now.word }
+    {
+        let _ = &self.tags;
+        self.text.word_len()
+    }
+
+    /// Whether the word has no character.
+    pub fn is_word_empty(&self) -> bool
+        ensures { IsTrue result ↔ (self.now.word ≡ []) }
+    {
+        self.word_len() == 0
+    }
+
+    /// The word's first character.
+    pub fn first(&self) -> Option<char>
+        ensures { MatchOption result (self.now.word ≡ []) (λ c. (a : T) × (rest : List (Item T)) × (self.now.word ≡ glyph c a ∷ rest)) }
+    {
+        let _ = &self.tags;
+        self.text.first()
+    }
+
+    /// Changes nothing: it holds characters alone.
+    pub fn holds_characters(&self)
+        ensures placed { Each (λ i. is_glyph i ≡ true) self.now.placed }
+        ensures word { Each (λ i. is_glyph i ≡ true) self.now.word }
+    {
+        let _ = &self.tags;
+    }
+
+    /// Places the word. It takes constant time.
+    pub fn place_word(&mut self)
+        ensures { self.new ≡ record { placed = self.old.placed ++ self.old.word; word = [] } }
+    {
+        self.text.place_word();
+    }
+
+    /// The columns of the word.
+    pub fn word_width<W: CharWidth>(&self) -> Result<usize, OutOfMemory>
+        ensures { IfOk result (λ n. n ≡ items_width W.columns self.now.word) }
+    {
+        let _ = &self.tags;
+        self.text.word_width::<W>()
+    }
+
+    /// Places the word's first character. It takes constant time.
+    pub fn place_first(&mut self)
+        requires { 0 < length self.old.word }
+        ensures { (i : Item T) × (rest : List (Item T)) × (self.old.word ≡ i ∷ rest) × (self.new ≡ record { placed = self.old.placed ++ i ∷ []; word = rest }) }
+    {
+        self.text.place_first();
+    }
+}
+
+impl<T: Drop> Characters<T> {
+    /// Takes away the spaces at the end of the last so many placed characters, and the white space at the beginning of the word's
+    /// first so many ones. It answers how many these were. It takes the time of moving the word, and of going over its stretches.
+    ///
+    /// Where memory is refused the characters stay as they were.
+    pub fn trim(&mut self, last: usize, first: usize) -> Result<(usize, usize), OutOfMemory>
+        requires last { last ≤ length self.old.placed }
+        requires first { first ≤ length self.old.word }
+        ensures placed { (before line : List (Item T)) → self.old.placed ≡ before ++ line → length line ≡ last →
+            IfOk result (λ n. (self.new.placed ≡ before ++ without_trailing line) × (n.0 + length (without_trailing line) ≡ length line)) }
+        ensures word { (front rest : List (Item T)) → self.old.word ≡ front ++ rest → length front ≡ first →
+            IfOk result (λ n. (self.new.word ≡ without_leading front ++ rest) × (n.1 + length (without_leading front) ≡ length front)) }
+        ensures err { OnErr result (self.new ≡ self.old) }
+    {
+        let spaces = self.text.trailing_spaces(last);
+        let blanks = self.text.leading_blanks().min(first);
+        let kept = self.text.word_len() - blanks;
+        self.text.remove_between(spaces, blanks)?;
+        self.tags.remove_before(kept, spaces + blanks);
+        Ok((spaces, blanks))
+    }
+}
+
+impl<T: Eq + Clone> Characters<T> {
+    /// Adds a character to the word. The tag is copied only where a stretch of it begins.
+    ///
+    /// Where memory is refused the characters may be lost.
+    pub fn push(&mut self, c: char, tag: &T) -> Result<(), OutOfMemory>
+        requires { CopiesAreEqual T.is_clone T.eq }
+        ensures { OnOk result ((a : T) × (T.eq a tag.now ≡ true) × (self.new ≡ record self.old { word = self.old.word ++ glyph c a ∷ [] })) }
+    {
+        self.tags.push(tag)?;
+        if let Err(e) = self.text.push(c) {
+            clear(&mut self.text, &mut self.tags);
+            return Err(e);
+        }
+        Ok(())
+    }
+
+    /// Places so many spaces before the word. It takes the time of moving the word, and of going over its stretches.
+    ///
+    /// Where the spaces part a stretch, the tag is copied, and the word's first characters stand under the copy. Where memory is
+    /// refused the characters may be lost.
+    pub fn push_spaces(&mut self, count: usize, tag: T) -> Result<(), OutOfMemory>
+        requires faithful { CopiesAreEqual T.is_clone T.eq }
+        requires some { 0 < count }
+        ensures placed { OnOk result ((a : T) × (T.eq a tag ≡ true) × (self.new.placed ≡ self.old.placed ++ spaces count a)) }
+        ensures word { OnOk result (SameItems T.eq self.new.word self.old.word) }
+    {
+        let word = self.text.word_len();
+        if let Err(e) = self.tags.insert_before(word, count, tag) {
+            clear(&mut self.text, &mut self.tags);
+            return Err(e);
+        }
+        if let Err(e) = self.text.push_spaces(count) {
+            clear(&mut self.text, &mut self.tags);
+            return Err(e);
+        }
+        Ok(())
+    }
+
+    /// Hands out the first placed characters, at most so many and all under one tag, and answers how many they are.
+    ///
+    /// Where memory is refused the characters stay as they were.
+    pub fn take_piece(&mut self, most: usize) -> Result<(usize, TaggedString<T>), OutOfMemory>
+        requires faithful { CopiesAreEqual T.is_clone T.eq }
+        requires some { 0 < most }
+        requires placed { most ≤ length self.old.placed }
+        ensures some { IfOk result (λ r. (0 < r.0) × (r.0 ≤ most)) }
+        ensures items { IfOk result (λ r. (length (chars (string_bytes r.1.s)) ≡ r.0) × SameItems T.eq (text_items (chars (string_bytes r.1.s)) r.1.tag) (take r.0 self.old.placed)) }
+        ensures rest { IfOk result (λ r. self.new ≡ record self.old { placed = drop r.0 self.old.placed }) }
+        ensures err { OnErr result (self.new ≡ self.old) }
+    {
+        let (count, tag) = self.tags.first(most)?;
+        let s = self.text.take(count)?;
+        self.tags.skip(count);
+        Ok((count, TaggedString { s, tag }))
+    }
+}
+
+impl<T> Characters<T> {
+    /// Forgets all characters.
+    pub fn clear(&mut self)
+        ensures { self.new ≡ record { placed = []; word = [] } }
+    {
+        clear(&mut self.text, &mut self.tags);
+    }
+}
+
+/// Forgets all characters and tags.
+fn clear<T>(text: &mut SplitText, tags: &mut Stretches<T>)
+    ensures text { text.new ≡ record { placed = []; word = [] } }
+    ensures tags { tags.new ≡ [] }
+{
+    text.clear();
+    tags.clear();
+}

@@ -1,0 +1,201 @@
+//! Where markers stand among characters.
+ghost use Rattle.std.specs.Prelude.{◌≡◌, ◌≤◌, ◌<◌, ◌+◌, ◌-◌, ◌++◌, ◌∷◌, ◌⊎◌, [], ℕ, List, length, string_bytes, OnOk, OnErr, MatchOption, IsTrue, ◌↔◌};
+ghost use Rattle.tbr_wrap.specs.Flat.{MarkerPlaces, before_first, shortened, followed, EndsWithMarkers};
+
+use std::alloc::Global;
+use std::collections::VecDeque;
+use std::marker::Model;
+use tbr_tagged::OutOfMemory;
+
+/// A marker.
+#[derive(Drop)]
+pub struct Marker {
+    /// How many characters stand before it, behind the marker before it.
+    pub before: usize,
+    pub name: String,
+}
+
+/// Markers among characters.
+///
+/// A contract sees how many characters stand before each marker, its name, and how many characters stand behind the last one.
+#[derive(Drop)]
+pub struct Markers {
+    markers: VecDeque<Marker>,
+    behind: usize,
+}
+
+impl Model for Markers {
+    ghost use Rattle.std.specs.Prelude.{◌≡◌, map, length, string_bytes};
+    ghost use Rattle.std.specs.VecDeque.{deque_len};
+    ghost use Rattle.tbr_wrap.specs.Flat.{MarkerPlaces};
+
+    ghost Value = { MarkerPlaces };
+
+    ghost view = { λ a. record { markers = map (λ m. (m.before, string_bytes m.name)) a.markers.items; behind = a.behind } };
+
+    ghost invariant = { λ a. deque_len a.markers ≡ length a.markers.items };
+}
+
+impl Markers {
+    /// No markers among no characters. It takes no memory.
+    pub fn new(alloc: Global) -> Markers
+        ensures { result ≡ record { markers = []; behind = 0 } }
+    {
+        Markers {
+            markers: VecDeque::new(alloc),
+            behind: 0,
+        }
+    }
+
+    /// How many markers there are.
+    pub fn len(&self) -> usize
+        ensures { result ≡ length self.now.markers }
+    {
+        self.markers.len()
+    }
+
+    /// How many characters stand behind the last marker, or in all where there is none.
+    pub fn behind(&self) -> usize
+        ensures { result ≡ self.now.behind }
+    {
+        self.behind
+    }
+
+    /// How many characters stand before the first marker, or in all where there is none.
+    pub fn before(&self) -> usize
+        ensures { result ≡ before_first self.now }
+    {
+        match self.markers.front() {
+            Some(marker) => marker.before,
+            None => self.behind,
+        }
+    }
+
+    /// Whether a marker stands before all characters.
+    pub fn begins_with_marker(&self) -> bool
+        ensures { IsTrue result ↔ ((name : List ℕ) × (rest : List (ℕ × List ℕ)) × (self.now.markers ≡ (0, name) ∷ rest)) }
+    {
+        match self.markers.front() {
+            Some(marker) => marker.before == 0,
+            None => false,
+        }
+    }
+
+    /// Whether the last so many characters and markers are markers alone.
+    pub fn ends_with_markers(&self, last: usize) -> bool
+        ensures { IsTrue result ↔ EndsWithMarkers last self.now }
+    {
+        if last == 0 {
+            return true;
+        }
+        let count = self.markers.len();
+        if self.behind > 0 || count < last {
+            return false;
+        }
+        let first = count - last;
+        for index in first + 1..count {
+            if self.markers[index].before > 0 {
+                return false;
+            }
+        }
+        true
+    }
+
+    /// Notes so many characters behind the last marker. Where they pass `usize` it changes nothing.
+    pub fn add_characters(&mut self, count: usize) -> Result<(), OutOfMemory>
+        ensures ok { OnOk result (self.new ≡ record self.old { behind = self.old.behind + count }) }
+        ensures err { OnErr result (self.new ≡ self.old) }
+    {
+        let Some(behind) = self.behind.checked_add(count) else {
+            return Err(OutOfMemory);
+        };
+        self.behind = behind;
+        Ok(())
+    }
+
+    /// Notes a marker behind all characters. Where memory is refused it changes nothing.
+    pub fn push(&mut self, name: String) -> Result<(), OutOfMemory>
+        ensures ok { OnOk result (self.new ≡ record { markers = self.old.markers ++ (self.old.behind, string_bytes name) ∷ []; behind = 0 }) }
+        ensures err { OnErr result (self.new ≡ self.old) }
+    {
+        let before = self.behind;
+        self.markers.push_back(Marker { before, name })?;
+        self.behind = 0;
+        Ok(())
+    }
+
+    /// Notes a marker before all characters. Where memory is refused it changes nothing.
+    pub fn push_first(&mut self, name: String) -> Result<(), OutOfMemory>
+        ensures ok { OnOk result (self.new ≡ record self.old { markers = (0, string_bytes name) ∷ self.old.markers }) }
+        ensures err { OnErr result (self.new ≡ self.old) }
+    {
+        self.markers.push_front(Marker { before: 0, name })?;
+        Ok(())
+    }
+
+    /// Takes the first marker, if it stands before all characters.
+    pub fn pop_first(&mut self) -> Option<String>
+        ensures { MatchOption result ((self.new ≡ self.old) × ((name : List ℕ) (rest : List (ℕ × List ℕ)) → self.old.markers ≡ (0, name) ∷ rest → ⊥))
+            (λ name. (rest : List (ℕ × List ℕ)) × (self.old.markers ≡ (0, string_bytes name) ∷ rest) × (self.new ≡ record self.old { markers = rest })) }
+    {
+        if !self.begins_with_marker() {
+            return None;
+        }
+        let marker = self.markers.pop_front()?;
+        Some(marker.name)
+    }
+
+    /// Takes the last marker, if no character stands behind it.
+    pub fn pop_last(&mut self) -> Option<String>
+        ensures { MatchOption result ((self.new ≡ self.old) × ((0 < self.old.behind) ⊎ (self.old.markers ≡ [])))
+            (λ name. (front : List (ℕ × List ℕ)) × (n : ℕ) × (self.old ≡ record { markers = front ++ (n, string_bytes name) ∷ []; behind = 0 }) × (self.new ≡ record { markers = front; behind = n })) }
+    {
+        if self.behind > 0 {
+            return None;
+        }
+        let marker = self.markers.pop_back()?;
+        self.behind = marker.before;
+        Some(marker.name)
+    }
+
+    /// Takes so many of the last characters away, which stand behind the last marker.
+    pub fn remove_last(&mut self, count: usize)
+        requires { count ≤ self.old.behind }
+        ensures { self.new ≡ record self.old { behind = self.old.behind - count } }
+    {
+        self.behind -= count;
+    }
+
+    /// Takes so many of the first characters away, which stand before the first marker.
+    pub fn remove_first(&mut self, count: usize)
+        requires { count ≤ before_first self.old }
+        ensures { self.new ≡ shortened count self.old }
+    {
+        match self.markers.front_mut() {
+            Some(marker) => marker.before -= count,
+            None => self.behind -= count,
+        }
+    }
+
+    /// Notes the characters and markers of another behind its own ones. Where memory is refused markers may be lost.
+    pub fn append(&mut self, other: &mut Markers) -> Result<(), OutOfMemory>
+        ensures ok { OnOk result ((self.new ≡ followed self.old other.old) × (other.new ≡ record { markers = []; behind = 0 })) }
+    {
+        if let Some(first) = other.markers.pop_front() {
+            self.add_characters(first.before)?;
+            self.push(first.name)?;
+            self.markers.append(&mut other.markers)?;
+        }
+        self.add_characters(other.behind)?;
+        other.behind = 0;
+        Ok(())
+    }
+
+    /// Forgets all characters and markers.
+    pub fn clear(&mut self)
+        ensures { self.new ≡ record { markers = []; behind = 0 } }
+    {
+        self.markers.clear();
+        self.behind = 0;
+    }
+}

@@ -1,0 +1,240 @@
+//! Characters in one text, of which the first are placed.
+ghost use Rattle.std.specs.Prelude.{◌≡◌, ◌<◌, ◌≤◌, ◌+◌, ◌-◌, ◌++◌, ◌∷◌, [], ℕ, suc, true, false, List, length, take, drop, replicate, chars, string_bytes, encode_utf8, MatchOption, OnOk, OnErr, IfOk};
+ghost use lib.Utf8.{encodes};
+ghost use Rattle.std.specs.Char.{is_whitespace};
+ghost use Rattle.std.specs.List.{AllByRecursion as Each};
+ghost use Rattle.std.specs.Str.{IsUtf8};
+ghost use Rattle.tbr_model.specs.Width.{text_columns};
+
+use std::alloc::Global;
+use std::marker::Model;
+use tbr_model::CharWidth;
+use tbr_tagged::{OutOfMemory, spaces, text_width};
+
+/// Characters that are placed, and behind them those of the current word. What is handed out is forgotten.
+///
+/// A contract sees the two lists of characters.
+#[derive(Drop)]
+pub struct SplitText {
+    text: String,
+    /// The byte at which the characters begin that aren't handed out.
+    start: usize,
+    /// The byte at which the word begins.
+    word_start: usize,
+    /// The word's length in characters.
+    word: usize,
+}
+
+impl Model for SplitText {
+    ghost use Rattle.std.specs.Prelude.{string_bytes};
+    ghost use Rattle.tbr_wrap.specs.Flat.{Letters, letters, AreParts};
+
+    ghost Value = { Letters };
+
+    ghost view = { λ a. letters (string_bytes a.text) a.start a.word_start };
+
+    ghost invariant = { λ a. AreParts (string_bytes a.text) a.start a.word_start a.word };
+}
+
+impl SplitText {
+    /// A text without characters. It takes no memory.
+    pub fn new(alloc: Global) -> SplitText
+        ensures { result ≡ record { placed = []; word = [] } }
+    {
+        SplitText {
+            text: String::new(alloc),
+            start: 0,
+            word_start: 0,
+            word: 0,
+        }
+    }
+
+    /// How many characters the word has.
+    pub fn word_len(&self) -> usize
+        ensures { result ≡ length self.now.word }
+    {
+        self.word
+    }
+
+    /// The word's first character.
+    pub fn first(&self) -> Option<char>
+        ensures { MatchOption result (self.now.word ≡ []) (λ c. (rest : List ℕ) × (self.now.word ≡ c ∷ rest)) }
+    {
+        let word = &self.text.as_str()[self.word_start..];
+        word.chars().next()
+    }
+
+    /// Adds a character to the word. Where memory is refused the text stays as it was.
+    pub fn push(&mut self, c: char) -> Result<(), OutOfMemory>
+        ensures { OnOk result (self.new ≡ record self.old { word = self.old.word ++ c ∷ [] }) }
+    {
+        self.text.push(c)?;
+        self.word += 1;
+        Ok(())
+    }
+
+    /// Places the word.
+    pub fn place_word(&mut self)
+        ensures { self.new ≡ record { placed = self.old.placed ++ self.old.word; word = [] } }
+    {
+        self.word_start = self.text.len();
+        self.word = 0;
+    }
+
+    /// Places the word's first character.
+    pub fn place_first(&mut self)
+        requires { 0 < length self.old.word }
+        ensures { (c : ℕ) × (rest : List ℕ) × (self.old.word ≡ c ∷ rest) × (self.new ≡ record { placed = self.old.placed ++ c ∷ []; word = rest }) }
+    {
+        let word = &self.text.as_str()[self.word_start..];
+        if let Some(c) = word.chars().next() {
+            self.word_start += c.len_utf8();
+            self.word -= 1;
+        }
+    }
+
+    /// Places so many spaces before the word. It takes the time of moving the word.
+    ///
+    /// Where memory is refused the text stays as it was.
+    pub fn push_spaces(&mut self, count: usize) -> Result<(), OutOfMemory>
+        ensures ok { OnOk result (self.new ≡ record self.old { placed = self.old.placed ++ replicate count 32 }) }
+        ensures err { OnErr result (self.new ≡ self.old) }
+    {
+        if count == 1 {
+            return self.push_space();
+        }
+        let spaces = spaces(*self.text.allocator(), count)?;
+        self.text.insert_str(self.word_start, spaces.as_str())?;
+        self.word_start += spaces.len();
+        Ok(())
+    }
+
+    /// Places one space before the word, without a text of its own.
+    fn push_space(&mut self) -> Result<(), OutOfMemory>
+        ensures ok { OnOk result (self.new ≡ record self.old { placed = self.old.placed ++ 32 ∷ [] }) }
+        ensures err { OnErr result (self.new ≡ self.old) }
+    {
+        self.text.insert(self.word_start, ' ')?;
+        self.word_start += 1;
+        Ok(())
+    }
+
+    /// How many of the last so many placed characters are spaces at the end. It takes the time of going over these.
+    pub fn trailing_spaces(&self, most: usize) -> usize
+        ensures most { result ≤ most }
+        ensures spaces { (front : List ℕ) × (self.now.placed ≡ front ++ replicate result 32) }
+        ensures all { result < most → (front : List ℕ) → self.now.placed ≡ front ++ replicate (suc result) 32 → ⊥ }
+        ensures fits { result + length self.now.word ≤ usize.MAX }
+    {
+        spaces_at_end(&self.text.as_str()[self.start..self.word_start], most)
+    }
+
+    /// How many characters at the word's beginning are white space. It takes the time of going over these.
+    pub fn leading_blanks(&self) -> usize
+        ensures within { result ≤ length self.now.word }
+        ensures blank { Each (λ c. is_whitespace c ≡ true) (take result self.now.word) }
+        ensures all { (c : ℕ) → (rest : List ℕ) → drop result self.now.word ≡ c ∷ rest → is_whitespace c ≡ false }
+    {
+        blanks_in_front(&self.text.as_str()[self.word_start..])
+    }
+
+    /// Takes away so many spaces at the end of what is placed, and so many of the word's first characters. It takes the time of
+    /// moving the word.
+    ///
+    /// Where memory is refused the text stays as it was.
+    pub fn remove_between(&mut self, spaces: usize, blanks: usize) -> Result<(), OutOfMemory>
+        requires spaces { (front : List ℕ) × (self.old.placed ≡ front ++ replicate spaces 32) }
+        requires blanks { blanks ≤ length self.old.word }
+        ensures ok { OnOk result (self.new ≡ record { placed = take (length self.old.placed - spaces) self.old.placed; word = drop blanks self.old.word }) }
+        ensures err { OnErr result (self.new ≡ self.old) }
+    {
+        if spaces == 0 && blanks == 0 {
+            return Ok(());
+        }
+        let from = self.word_start - spaces;
+        let to = self.word_start + bytes_of(&self.text.as_str()[self.word_start..], blanks);
+        self.text.replace_range(from..to, "")?;
+        self.word_start = from;
+        self.word -= blanks;
+        Ok(())
+    }
+
+    /// The columns of the word.
+    pub fn word_width<W: CharWidth>(&self) -> Result<usize, OutOfMemory>
+        ensures { IfOk result (λ n. n ≡ text_columns W.columns self.now.word) }
+    {
+        text_width::<W>(&self.text.as_str()[self.word_start..])
+    }
+
+    /// Hands out the first so many placed characters. It takes the time of going over them.
+    ///
+    /// Where memory is refused the text stays as it was.
+    pub fn take(&mut self, count: usize) -> Result<String, OutOfMemory>
+        requires { count ≤ length self.old.placed }
+        ensures taken { IfOk result (λ s. chars (string_bytes s) ≡ take count self.old.placed) }
+        ensures rest { IfOk result (λ _. self.new ≡ record self.old { placed = drop count self.old.placed }) }
+        ensures err { OnErr result (self.new ≡ self.old) }
+    {
+        let placed = &self.text.as_str()[self.start..self.word_start];
+        let bytes = bytes_of(placed, count);
+        let taken = String::from_str(*self.text.allocator(), &placed[..bytes])?;
+        self.start += bytes;
+        Ok(taken)
+    }
+
+    /// Forgets all characters.
+    pub fn clear(&mut self)
+        ensures { self.new ≡ record { placed = []; word = [] } }
+    {
+        self.text.clear();
+        self.start = 0;
+        self.word_start = 0;
+        self.word = 0;
+    }
+}
+
+/// How many bytes the first so many characters take.
+fn bytes_of(text: &str, count: usize) -> usize
+    requires { count ≤ length (chars text.now) }
+    ensures { result ≡ length (encodes (take count (chars text.now))) }
+{
+    let mut rest = text.chars();
+    for _ in 0..count {
+        let _ = rest.next();
+    }
+    text.len() - rest.as_str().len()
+}
+
+/// How many of the last so many characters are spaces at the end. A space is one byte, and no other character has that byte.
+fn spaces_at_end(text: &str, most: usize) -> usize
+    ensures most { result ≤ most }
+    ensures spaces { (front : List ℕ) × (chars text.now ≡ front ++ replicate result 32) }
+    ensures all { result < most → (front : List ℕ) → chars text.now ≡ front ++ replicate (suc result) 32 → ⊥ }
+{
+    let bytes = text.as_bytes();
+    let longest = most.min(bytes.len());
+    let mut count = 0;
+    while count < longest {
+        if bytes[bytes.len() - 1 - count] != b' ' {
+            return count;
+        }
+        count += 1;
+    }
+    count
+}
+
+/// How many of the first characters are white space.
+fn blanks_in_front(text: &str) -> usize
+    ensures within { result ≤ length (chars text.now) }
+    ensures blank { Each (λ c. is_whitespace c ≡ true) (take result (chars text.now)) }
+    ensures all { (c : ℕ) → (rest : List ℕ) → drop result (chars text.now) ≡ c ∷ rest → is_whitespace c ≡ false }
+{
+    let mut count = 0;
+    for c in text.chars() {
+        if !c.is_whitespace() {
+            return count;
+        }
+        count += 1;
+    }
+    count
+}

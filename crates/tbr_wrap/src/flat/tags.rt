@@ -1,0 +1,250 @@
+//! Tags of characters, each stored once for a stretch of it.
+ghost use Rattle.tbr_tagged.specs.Copies.{CopiesAreEqual};
+ghost use Rattle.std.specs.Prelude.{◌≡◌, ◌<◌, ◌≤◌, ◌+◌, ◌-◌, ◌++◌, ◌∷◌, [], true, ℕ, suc, List, length, take, drop, replicate, OnOk, OnErr, IfOk};
+ghost use Rattle.std.specs.List.{AllZip};
+ghost use Rattle.tbr_wrap.specs.Stretches.{tags_of};
+
+use std::alloc::Global;
+use std::marker::Model;
+use tbr_tagged::OutOfMemory;
+
+/// A character, and so many more behind it, under one tag.
+#[derive(Drop)]
+pub struct Stretch<T> {
+    pub more: usize,
+    pub tag: T,
+}
+
+/// The tags of characters in order, each stored once for a stretch of it. What is skipped is forgotten.
+///
+/// A contract sees the list of the tags.
+#[derive(Drop)]
+pub struct Stretches<T> {
+    stretches: Vec<Stretch<T>>,
+    /// So many stretches are skipped.
+    skipped: usize,
+}
+
+impl<T> Model for Stretches<T> {
+    ghost use Rattle.std.specs.Prelude.{◌≤◌, List, drop, length};
+
+    ghost Value = { List T };
+
+    ghost use Rattle.tbr_wrap.specs.Stretches.{tags_of};
+
+    ghost view = { λ a. tags_of (drop a.skipped a.stretches.items) };
+
+    ghost invariant = { λ a. a.skipped ≤ length a.stretches.items };
+}
+
+impl<T> Stretches<T> {
+    /// No tags. It takes no memory.
+    pub fn new(alloc: Global) -> Stretches<T>
+        ensures { result ≡ [] }
+    {
+        Stretches {
+            stretches: Vec::new(alloc),
+            skipped: 0,
+        }
+    }
+
+    /// Skips the first so many tags. It takes the time of going over their stretches.
+    pub fn skip(&mut self, count: usize)
+        requires { count ≤ length self.old }
+        ensures { self.new ≡ drop count self.old }
+    {
+        let mut left = count;
+        while left > 0 {
+            let stretch = &mut self.stretches[self.skipped];
+            if left <= stretch.more {
+                stretch.more -= left;
+                return;
+            }
+            left -= stretch.more + 1;
+            self.skipped += 1;
+        }
+    }
+
+    /// Forgets all tags.
+    pub fn clear(&mut self)
+        ensures { self.new ≡ [] }
+    {
+        self.skipped = self.stretches.len();
+    }
+}
+
+impl<T: Drop> Stretches<T> {
+    /// Takes so many tags out in front of the last so many ones. It takes the time of going over the stretches of all these.
+    pub fn remove_before(&mut self, last: usize, count: usize)
+        requires within { last + count ≤ length self.old }
+        requires fits { last + count ≤ usize.MAX }
+        ensures { self.new ≡ take (length self.old - (last + count)) self.old ++ drop (length self.old - last) self.old }
+    {
+        if count == 0 {
+            return;
+        }
+        let live = &self.stretches[self.skipped..];
+        let mut from = place_before(live, last + count);
+        let mut to = place_before(live, last);
+        from.stretch += self.skipped;
+        to.stretch += self.skipped;
+        if from.stretch == to.stretch {
+            self.stretches[from.stretch].more -= count;
+            return;
+        }
+        let first = end_at(&mut self.stretches, from);
+        begin_at(&mut self.stretches, to);
+        self.stretches.drain(first..to.stretch);
+    }
+}
+
+impl<T: Eq + Clone> Stretches<T> {
+    /// Adds a tag at the end. It is copied only where a stretch of it begins.
+    ///
+    /// Where memory is refused the tags stay as they were.
+    pub fn push(&mut self, tag: &T) -> Result<(), OutOfMemory>
+        requires { CopiesAreEqual T.is_clone T.eq }
+        ensures ok { OnOk result ((a : T) × (T.eq a tag.now ≡ true) × (self.new ≡ self.old ++ a ∷ [])) }
+        ensures err { OnErr result (self.new ≡ self.old) }
+    {
+        let count = self.stretches.len();
+        if self.skipped < count && self.stretches[count - 1].tag == *tag {
+            return lengthen(&mut self.stretches[count - 1], 1);
+        }
+        let tag = tag.clone()?;
+        self.stretches.push(Stretch { more: 0, tag })?;
+        Ok(())
+    }
+
+    /// A copy of the first tag, and how many tags, at most so many, are one stretch with it.
+    pub fn first(&self, most: usize) -> Result<(usize, T), OutOfMemory>
+        requires faithful { CopiesAreEqual T.is_clone T.eq }
+        requires some { 0 < most }
+        requires within { most ≤ length self.now }
+        ensures count { IfOk result (λ r. (0 < r.0) × (r.0 ≤ most)) }
+        ensures tags { IfOk result (λ r. (a : T) × (T.eq r.1 a ≡ true) × (take r.0 self.now ≡ replicate r.0 a)) }
+    {
+        let stretch = &self.stretches[self.skipped];
+        let count = stretch.more.min(most - 1) + 1;
+        let tag = stretch.tag.clone()?;
+        Ok((count, tag))
+    }
+
+    /// Adds a tag so many times before the last so many ones. It takes the time of going over the stretches of these.
+    ///
+    /// Where it parts a stretch, the part behind it stands under a copy of its tag.
+    pub fn insert_before(&mut self, last: usize, count: usize, tag: T) -> Result<(), OutOfMemory>
+        requires faithful { CopiesAreEqual T.is_clone T.eq }
+        requires within { last ≤ length self.old }
+        requires some { 0 < count }
+        ensures { OnOk result ((a : T) × (behind : List T) × (T.eq a tag ≡ true) × (self.new ≡ take (length self.old - last) self.old ++ (replicate count a ++ behind))
+            × AllZip (λ x y. T.eq x y ≡ true) behind (drop (length self.old - last) self.old)) }
+    {
+        let place = place_before(&self.stretches[self.skipped..], last);
+        let index = self.skipped + place.stretch;
+        if index < self.stretches.len() && self.stretches[index].tag == tag {
+            return lengthen(&mut self.stretches[index], count);
+        }
+        let more = count - 1;
+        if place.offset > 0 {
+            let back = split_off(&mut self.stretches[index], place.offset)?;
+            self.stretches.insert(index + 1, back)?;
+            self.stretches.insert(index + 1, Stretch { more, tag })?;
+            return Ok(());
+        }
+        if place.stretch > 0 && self.stretches[index - 1].tag == tag {
+            return lengthen(&mut self.stretches[index - 1], count);
+        }
+        self.stretches.insert(index, Stretch { more, tag })?;
+        Ok(())
+    }
+}
+
+/// Makes a stretch longer. Where it would have more characters than `usize` counts, it stays as it was.
+fn lengthen<T>(stretch: &mut Stretch<T>, count: usize) -> Result<(), OutOfMemory>
+    ensures ok { OnOk result (stretch.new ≡ record stretch.old { more = stretch.old.more + count }) }
+    ensures err { OnErr result (stretch.new ≡ stretch.old) }
+{
+    let Some(more) = stretch.more.checked_add(count) else {
+        return Err(OutOfMemory);
+    };
+    stretch.more = more;
+    Ok(())
+}
+
+/// A place among stretches: behind so many tags of one, or before it.
+#[derive(Clone, Copy)]
+struct Place {
+    stretch: usize,
+    offset: usize,
+}
+
+/// Where the last so many tags begin.
+fn place_before<T>(stretches: &[Stretch<T>], last: usize) -> Place
+    requires { last ≤ length (tags_of stretches.now) }
+    ensures stretch { result.stretch ≤ length stretches.now }
+    ensures tags { length (tags_of (drop result.stretch stretches.now)) ≡ result.offset + last }
+    ensures offset { 0 < result.offset → length (tags_of (drop (suc result.stretch) stretches.now)) < last }
+{
+    let mut stretch = stretches.len();
+    let mut left = last;
+    while left > 0 {
+        stretch -= 1;
+        let more = stretches[stretch].more;
+        if left <= more {
+            let offset = more - left + 1;
+            return Place { stretch, offset };
+        }
+        left -= more + 1;
+    }
+    Place { stretch, offset: 0 }
+}
+
+/// Ends the stretch that a place parts there, and answers which stretch comes next.
+fn end_at<T>(stretches: &mut Vec<Stretch<T>>, place: Place) -> usize
+    requires within { place.stretch ≤ length stretches.old.items }
+    requires offset { 0 < place.offset → place.offset + length (tags_of (drop (suc place.stretch) stretches.old.items)) < length (tags_of (drop place.stretch stretches.old.items)) }
+    ensures next { (place.stretch ≤ result) × (result ≤ suc place.stretch) × (result ≤ length stretches.new.items) }
+    ensures len { length stretches.new.items ≡ length stretches.old.items }
+    ensures front { (k : ℕ) → k ≤ place.stretch → tags_of (drop k (take result stretches.new.items)) ≡ tags_of (drop k (take place.stretch stretches.old.items)) ++ take place.offset (tags_of (drop place.stretch stretches.old.items)) }
+    ensures behind { drop (suc place.stretch) stretches.new.items ≡ drop (suc place.stretch) stretches.old.items }
+{
+    if place.offset == 0 {
+        return place.stretch;
+    }
+    stretches[place.stretch].more = place.offset - 1;
+    place.stretch + 1
+}
+
+/// Begins the stretch that a place parts there.
+fn begin_at<T>(stretches: &mut Vec<Stretch<T>>, place: Place)
+    requires within { place.stretch ≤ length stretches.old.items }
+    requires offset { 0 < place.offset → place.offset + length (tags_of (drop (suc place.stretch) stretches.old.items)) < length (tags_of (drop place.stretch stretches.old.items)) }
+    ensures len { length stretches.new.items ≡ length stretches.old.items }
+    ensures front { take place.stretch stretches.new.items ≡ take place.stretch stretches.old.items }
+    ensures tags { tags_of (drop place.stretch stretches.new.items) ≡ drop place.offset (tags_of (drop place.stretch stretches.old.items)) }
+{
+    if place.offset > 0 {
+        stretches[place.stretch].more -= place.offset;
+    }
+}
+
+/// Ends a stretch behind so many of its tags, and answers what came behind them, under a copy of the tag.
+///
+/// Where memory is refused the stretch stays as it was.
+fn split_off<T: Eq + Clone>(
+    stretch: &mut Stretch<T>,
+    offset: usize,
+) -> Result<Stretch<T>, OutOfMemory>
+    requires faithful { CopiesAreEqual T.is_clone T.eq }
+    requires some { 0 < offset }
+    requires within { offset ≤ stretch.old.more }
+    ensures front { OnOk result (stretch.new ≡ record stretch.old { more = offset - 1 }) }
+    ensures back { IfOk result (λ back. (back.more ≡ stretch.old.more - offset) × (T.eq back.tag stretch.old.tag ≡ true)) }
+    ensures err { OnErr result (stretch.new ≡ stretch.old) }
+{
+    let tag = stretch.tag.clone()?;
+    let more = stretch.more - offset;
+    stretch.more = offset - 1;
+    Ok(Stretch { more, tag })
+}
