@@ -1,6 +1,6 @@
 -- The refusals of a script, and those of the blocks below it.
-use Rattle.tbr_lines.specs.declared.error.Error.{Error}
-use Rattle.tbr_lines.specs.declared.error.Error.TheVariants as block
+use Rattle.tbr_lines.specs.declared.Error.{Error}
+use Rattle.tbr_lines.specs.declared.Error.TheVariants as block
 use Rattle.blockrender.specs.declared.error.RunError.{RunError}
 use Rattle.blockrender.specs.declared.error.RunError.TheVariants.{TooNarrow, OutOfMemory, NotACommand, NothingToEnd, RowDoesNotFit, ReadFailed, WriteFailed}
 

@@ -2,7 +2,7 @@
 ghost use Rattle.std.specs.Prelude.{◌≡◌, ◌≢◌, ◌++◌, ◌∷◌, [], OnOk, IfOk, IfErr, Ok, Err, None, Some, flat_map, string_bytes, encode_utf8_all};
 ghost use Rattle.tbr_lines.specs.Elements.{characters};
 ghost use Rattle.tbr_lines.specs.Wrapped.{WordsFit, EndedWordsFit};
-ghost use Rattle.tbr_lines.specs.declared.error.Error.TheVariants as E;
+ghost use Rattle.tbr_lines.specs.declared.Error.TheVariants as E;
 ghost use Rattle.blockrender.specs.Command.{call_of};
 ghost use Rattle.blockrender.specs.Program.{IsLive};
 ghost use Rattle.blockrender.specs.Meaning.{Does, Refuses, LineDoes, LineRefuses, Ends, IsRendered, run_with, unbegun};
