@@ -21,7 +21,7 @@ pub mod Walked
 pub mod Fresh
 pub mod Apart
 pub mod HardLines
-pub mod Shown
+pub mod Content
 pub mod Visible
 pub mod Markers
 pub mod TakenOut

@@ -11,7 +11,7 @@ use Rattle.tbr_model.specs.Rule.{Event, call, entry, run_of, Space, Progress, sp
 use Rattle.tbr_model.specs.Hard.{HasMode, is_newline, entry_letters}
 use Rattle.tbr_model.proofs.Letters.{break_lost, WaitsIn}
 use Rattle.tbr_model.proofs.Fresh.{IsFresh}
-use Rattle.tbr_model.proofs.PreTexts.{text, text-extended, joined-ended, text-ended, text-fresh, text-put_items, text-put_pending, kept_of, kept-append, none_kept, kept_one, kept-spaces, kept-space_text}
+use Rattle.tbr_model.proofs.PreTexts.{text, text-extended, joined-ended, text-fresh, text-put_items, text-put_pending, text-put_tab, kept_of, kept-append, none_kept, kept_one, kept-spaces, kept-space_text}
 
 -- the kept characters on the lines and in the word
 abbrev pub kept_so_far : {A : Type 0} → (ℕ → Option ℕ) → Progress A → List ℕ
@@ -144,13 +144,9 @@ character_goes {A} columns width c a b (Some n) p h is =
     (λ _. record { kept = word_goes columns p (glyph c (tag_of p a b) ∷ []); pends = h })
 
 tab_kept : {A : Type 0} (columns : ℕ → Option ℕ) (width column : ℕ) (a : A) (l : Laid A) → kept_of columns (text (put_tab width column a l)) ≡ kept_of columns (text l)
-tab_kept {A} columns width column a l =
-    cond_both (nat_le (8 - column % 8) (width - column)) _ _ (λ (m : Laid A). kept_of columns (text m) ≡ kept_of columns (text l))
-    (λ _. spaces_kept (8 - column % 8))
-    (λ _. ap (kept_of columns) (text-ended (extended l (spaces (width - column) a) (width - column))) ∙ spaces_kept (width - column))
-  where
-    spaces_kept : (n : ℕ) → kept_of columns (text (extended l (spaces n a) n)) ≡ kept_of columns (text l)
-    spaces_kept n = ap (kept_of columns) (text-extended l (spaces n a) n) ∙ more_spaces columns (text l) (spaces n a) (kept-spaces columns n a)
+tab_kept columns width column a l =
+    let (n, is) = text-put_tab width column a l in
+    ap (kept_of columns) is ∙ more_spaces columns (text l) (spaces n a) (kept-spaces columns n a)
 
 tab_goes : {A : Type 0} (columns : ℕ → Option ℕ) (width : ℕ) (a : A) (p q : Progress A) → IsFlushed columns p q → Goes columns p (tab width a q) []
 tab_goes {A} columns width a p q h = record {

@@ -1,11 +1,11 @@
 -- What a block has laid, as one text, and the characters of a text.
-use Rattle.std.proofs.Common.{◌≡◌, ℕ, zero, suc, ◌+◌, nat_le, ◌==◌, false, Option, Some, None, List, [], ◌∷◌, ◌++◌, map, filter, refl, ap, sym, ◌∙◌, append_assoc, append-nil}
+use Rattle.std.proofs.Common.{◌≡◌, ℕ, zero, suc, ◌+◌, ◌-◌, ◌%◌, nat_le, ◌==◌, false, Option, Some, None, List, [], ◌∷◌, ◌++◌, map, filter, refl, ap, sym, ◌∙◌, append_assoc, append-nil}
 use Rattle.std.proofs.lemmas.Bool.{cond_both}
 use Rattle.std.proofs.lemmas.List.Elements.{filter-append}
 use Rattle.tbr_model.specs.Run.{Item, glyph, item_width, is_kept, has_character}
 use Rattle.tbr_model.specs.Layout.{joined}
 use Rattle.tbr_model.specs.Laid.{Laid, extended, ended, fresh, blanked, put_item, put_items}
-use Rattle.tbr_model.specs.Rule.{Space, spaces, space_text, put_space, put_spaces, put_pending}
+use Rattle.tbr_model.specs.Rule.{Space, spaces, space_text, put_space, put_spaces, put_pending, put_tab}
 use Rattle.tbr_model.specs.Hard.{letters_of}
 use Rattle.tbr_model.proofs.Letters.{letters_of-append, no_glyphs, break_lost}
 use Rattle.tbr_model.proofs.Lists.{joined-append}
@@ -58,6 +58,13 @@ text-put_spaces width a (suc n) l =
 pub text-put_pending : {A : Type 0} (width : ℕ) (o : Option (Space A)) (l : Laid A) → text (put_pending width o l) ≡ text l ++ space_text o
 text-put_pending width None l = sym (append-nil (text l))
 text-put_pending width (Some s) l = text-put_spaces width s.tag s.columns l
+
+-- a tab is some spaces
+pub text-put_tab : {A : Type 0} (width column : ℕ) (a : A) (l : Laid A) → (n : ℕ) × (text (put_tab width column a l) ≡ text l ++ spaces n a)
+text-put_tab {A} width column a l =
+    cond_both (nat_le (8 - column % 8) (width - column)) _ _ (λ (m : Laid A). (n : ℕ) × (text m ≡ text l ++ spaces n a))
+    (λ _. (8 - column % 8, text-extended l (spaces (8 - column % 8) a) (8 - column % 8)))
+    (λ _. (width - column, text-ended (extended l (spaces (width - column) a) (width - column)) ∙ text-extended l (spaces (width - column) a) (width - column)))
 
 -- ---- characters
 
