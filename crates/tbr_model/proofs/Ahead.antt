@@ -98,11 +98,6 @@ pub fewest : {A : Type 0} (width : ℕ) (slots : List (Slot A)) (lines others : 
 fewest width slots lines others best other =
     few (length others) lines best.full (omega (arith, best.ahead others other (length others), placed_all others, ap length other.whole, ap length best.legal.whole))
 
--- two such lists of lines that are each ahead of the other are one
-empty_from_length : {X : Type 0} (z : List X) → length z ≡ 0 → z ≡ []
-empty_from_length [] h = refl
-empty_from_length (x ∷ z) h = absurd (omega arith)
-
 -- two ways to cut a list at one place are one
 pub cut_once : {X : Type 0} (a b c e : List X) → a ++ b ≡ c ++ e → length a ≡ length c → (a ≡ c) × (b ≡ e)
 cut_once [] b [] e h len = (refl, h)
@@ -114,6 +109,7 @@ cut_once (x ∷ a) b (y ∷ c) e h len =
     let both = cut_once a b c e rest (omega arith) in
     ((let p : a ≡ c = both.0 in cc), both.1)
 
+-- two such lists of lines that are each ahead of the other are one
 same_lines : {X : Type 0} (ls ms : List (List X)) → joined ms ≡ joined ls → HasNoEmptyLine ls → HasNoEmptyLine ms → IsAhead ls ms → IsAhead ms ls → ms ≡ ls
 same_lines [] [] e p q f g = refl
 same_lines [] (m ∷ ms) e p q f g = absurd (omega (arith, ap length e, length-append m (joined ms), q.0))

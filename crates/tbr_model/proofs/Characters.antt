@@ -1,7 +1,7 @@
 -- No line of the best layout is without a character.
 use Rattle.std.proofs.Common.{◌≡◌, ℕ, ◌+◌, ◌<◌, ◌≤◌, Bool, true, false, nat_lt, nat_le, ◌||◌, ◌&&◌, Option, None, List, [], ◌∷◌, ◌++◌, map, fold, refl, ap, sym, ◌∙◌, arith, append_assoc, append-nil, leb-true, leb-false, ltb-true, ltb-false, le-leb}
 use Rattle.std.specs.List.{AllByRecursion as Each}
-use Rattle.std.proofs.lemmas.Bool.{cond_both, or_right, or_parts}
+use Rattle.std.proofs.lemmas.Bool.{cond_both, and_parts, or_right, or_parts}
 use Rattle.std.proofs.lemmas.List.{map-append}
 use Rattle.tbr_model.specs.Run.{Entry, Item, glyph, marker, item_width, items_width, has_character, Word, word_of, Reading, start, works, read, reading, words_of}
 use Rattle.tbr_model.specs.Layout.{Slot, slot_of, slots_of, line_width, gap_width, line_has_character, IsBest}
@@ -145,16 +145,12 @@ wide_items columns [] h = absurd (omega arith)
 wide_items columns (glyph c a ∷ is) h = refl
 wide_items columns (marker m ∷ is) h = wide_items columns is (omega arith)
 
-and_second : (a b : Bool) → a && b ≡ true → b ≡ true
-and_second true b e = e
-and_second false b e = cc
-
 ended_words : {A : Type 0} (columns : ℕ → Option ℕ) (run : List (Entry A)) (r : Reading A) → Each WordHas r.words → Each WordHas (fold (read columns) r run).words
 ended_words columns [] r h = h
 ended_words {A} columns (e ∷ run) r h =
     ended_words columns run (read columns r e)
     (cond_both (works columns r e) _ _ (λ (q : Reading A). Each WordHas q.words)
-    (λ w. each_append WordHas r.words (word_of r ∷ []) h (wide_items columns r.items (ltb-true _ _ (and_second _ _ w)), tt)) (λ _. h))
+    (λ w. each_append WordHas r.words (word_of r ∷ []) h (wide_items columns r.items (ltb-true _ _ (and_parts _ _ w).1), tt)) (λ _. h))
 
 pub words_have : {A : Type 0} (columns : ℕ → Option ℕ) (run : List (Entry A)) → Each WordHas (words_of columns run)
 words_have {A} columns run =

@@ -1,6 +1,7 @@
 -- Layouts as cuts are layouts as lines.
-use Rattle.std.proofs.Common.{◌≡◌, ℕ, zero, suc, ◌+◌, ◌-◌, ◌<◌, ◌≤◌, Bool, true, false, not, IsTrue, Option, List, [], ◌∷◌, ◌++◌, map, length, take, drop, get_or, Some, Contains, slice_get, slice_range, refl, ap, sym, ◌∙◌, inl, inr, arith, length-append, length-take, length-drop, subst, take-append-drop, drop-drop, take_at, drop_of_length-le, add-one, ◌↔◌}
+use Rattle.std.proofs.Common.{◌≡◌, ℕ, zero, suc, ◌+◌, ◌-◌, ◌<◌, ◌≤◌, Bool, true, false, not, IsTrue, Option, List, [], ◌∷◌, ◌++◌, map, length, take, drop, get_or, Some, Contains, slice_get, slice_range, refl, ap, sym, ◌∙◌, inl, inr, arith, length-append, length-take, length-drop, subst, drop-drop, take_at, drop_of_length-le, add-one, ◌↔◌}
 use Rattle.std.proofs.lemmas.List.{drop_at}
+use Rattle.std.proofs.lemmas.List.Folds.{drop_split}
 use Rattle.std.specs.List.{AllByRecursion as Each}
 use Rattle.std.specs.List.Sorted.{IsNonDecreasing, IsStrictlyIncreasing}
 use Rattle.std.proofs.lemmas.Option.{slice_get_within}
@@ -23,9 +24,7 @@ slice_get-append (x ∷ xs) ys (suc k) h = slice_get-append xs ys k (omega arith
 
 -- a line and what stands behind it
 pub line_and_rest : {X : Type 0} (xs : List X) (c d : ℕ) → c ≤ d → slice_range xs c d ++ drop d xs ≡ drop c xs
-line_and_rest {X} xs c d h =
-    ap (λ (r : List X). take (d - c) (drop c xs) ++ r) (ap (λ n. drop n xs) (let e : d ≡ c + (d - c) = omega arith in e) ∙ sym (drop-drop (d - c) c xs))
-    ∙ take-append-drop (d - c) (drop c xs)
+line_and_rest xs c d h = sym (drop_split xs c d h)
 
 pub length-line : {X : Type 0} (xs : List X) (c d : ℕ) → c ≤ d → d ≤ length xs → length (slice_range xs c d) ≡ d - c
 length-line xs c d h k = omega (arith, length-take (d - c) (drop c xs), length-drop c xs)

@@ -2,22 +2,15 @@
 use Rattle.std.proofs.Common.{◌≡◌, ℕ, ◌+◌, ◌-◌, ◌<◌, ◌||◌, Bool, true, false, Some, option_map, List, [], ◌∷◌, ◌++◌, length, take, drop, get_or, slice_get, slice_range, refl, ap, sym, ◌∙◌}
 use Rattle.std.specs.List.{list_any}
 use Rattle.std.proofs.lemmas.List.{take-map, drop-map, take_rest, map-append}
+use Rattle.std.proofs.Math.Bool.{or-false}
+use Rattle.std.proofs.lemmas.List.Folds.{list_any-append}
 use Rattle.std.proofs.lemmas.Option.{slice_get-map, slice_get_read}
 use Rattle.tbr_model.specs.declared.entry.Entry.{Entry as StoredEntry}
 use Rattle.tbr_model.specs.Entry.{entry_value, entry_values}
 use Rattle.tbr_model.proofs.Lists.{take_item}
 
-pub or_false : (b : Bool) → b || false ≡ b
-or_false true = refl
-or_false false = refl
-
 pub list_any_more : {X : Type 0} (p : X → Bool) (xs : List X) (x : X) → list_any p (xs ++ x ∷ []) ≡ list_any p xs || p x
-list_any_more p [] x = or_false (p x)
-list_any_more p (y ∷ xs) x = ap (λ b. p y || b) (list_any_more p xs x) ∙ or_assoc (p y) (list_any p xs) (p x)
-  where
-    or_assoc : (a b c : Bool) → a || (b || c) ≡ (a || b) || c
-    or_assoc true b c = refl
-    or_assoc false b c = refl
+list_any_more p xs x = list_any-append p xs (x ∷ []) ∙ ap (λ b. list_any p xs || b) (or-false (p x))
 
 -- the values with one entry more
 pub values_more : {A : Type 0} (es : List (StoredEntry A)) (i : ℕ) (e : StoredEntry A) → i < length es → e ≡ get_or es i e →

@@ -1,5 +1,6 @@
 -- Lists that are joined, and how much of them the first lines hold.
-use Rattle.std.proofs.Common.{◌≡◌, ℕ, zero, suc, ◌+◌, ◌<◌, ◌≤◌, ◌⊎◌, List, [], ◌∷◌, ◌++◌, length, take, get_or, refl, ap, sym, inl, inr, arith, length-append, append_assoc, add-one}
+use Rattle.std.proofs.Common.{◌≡◌, ℕ, zero, suc, ◌+◌, ◌<◌, ◌≤◌, ◌⊎◌, List, [], ◌∷◌, ◌++◌, length, take, get_or, refl, ap, sym, inl, inr, arith, length-append, append_assoc, ◌∙◌}
+use Rattle.std.proofs.lemmas.List.{take_more}
 use Rattle.tbr_model.specs.Layout.{joined, placed}
 
 -- one of two ways to cut a list is as long as the other, or longer
@@ -30,9 +31,4 @@ placed_all (l ∷ ls) = omega (arith, placed_all ls, length-append l (joined (ta
 
 -- a loop's item, behind what is done
 pub take_item : {X : Type 0} (xs : List X) (i : ℕ) (x : X) → i < length xs → x ≡ get_or xs i x → take (i + 1) xs ≡ take i xs ++ x ∷ []
-take_item {X} xs i x h e = rw add-one (grow xs i h e)
-  where
-    grow : (ys : List X) (k : ℕ) → k < length ys → x ≡ get_or ys k x → take (suc k) ys ≡ take k ys ++ x ∷ []
-    grow [] k p q = absurd (omega arith)
-    grow (y ∷ ys) zero p q = ap (λ z. z ∷ []) (sym q)
-    grow (y ∷ ys) (suc k) p q = ap (λ zs. y ∷ zs) (grow ys k (omega arith) q)
+take_item xs i x h e = take_more xs i x h ∙ ap (λ y. take i xs ++ y ∷ []) (sym e)

@@ -1,5 +1,6 @@
 -- A layout of longest lines is the best one.
 use Rattle.std.proofs.Common.{◌≡◌, ℕ, zero, suc, ◌+◌, ◌-◌, ◌<◌, ◌≤◌, ◌↔◌, Bool, true, false, IsTrue, Option, Some, None, is_some, MatchOption, List, [], ◌∷◌, ◌++◌, length, take, drop, slice_index_or, refl, ap, sym, ◌∙◌, inl, inr, arith, length-append, length-drop, subst, take-append-drop, drop-drop, take_at, drop_of_length-le}
+use Rattle.std.proofs.lemmas.List.{get_or_push}
 use Rattle.std.specs.List.{AllByRecursion as Each}
 use Rattle.std.proofs.lemmas.List.{drop_at}
 use Rattle.std.proofs.lemmas.Bool.{cases_lt}
@@ -119,12 +120,6 @@ get_or-push [] x d k h = absurd (omega arith)
 get_or-push (y ∷ xs) x d zero h = refl
 get_or-push (y ∷ xs) x d (suc k) h = get_or-push xs x d k (omega arith)
 
-get_or-pushed : {X : Type 0} (xs : List X) (x d : X) (k : ℕ) → k ≡ length xs → slice_index_or (xs ++ x ∷ []) k d ≡ x
-get_or-pushed [] x d zero h = refl
-get_or-pushed [] x d (suc k) h = absurd (omega arith)
-get_or-pushed (y ∷ xs) x d zero h = absurd (omega arith)
-get_or-pushed (y ∷ xs) x d (suc k) h = get_or-pushed xs x d k (omega arith)
-
 -- nothing is left
 pub tells_first : {A : Type 0} (width : ℕ) (slots : List (Slot A)) (solved : List Bool) → solved ≡ true ∷ [] → TellsRests width slots 1 solved
 tells_first {A} width slots solved e = record {
@@ -144,7 +139,7 @@ tells_more {A} width slots n solved b h long new = record {
   long = omega (arith, length-append solved (b ∷ []));
   at = λ k p. elim (cases_lt k n) [
     | inl below ↦ rw (get_or-push solved b false k (omega arith)) (h.at k below)
-    | inr here ↦ let same : k ≡ n = omega arith in rw (get_or-pushed solved b false k (omega arith), same) new
+    | inr here ↦ let same : k ≡ n = omega arith in rw (get_or_push solved b false k (omega arith), same) new
   ];
 }
 

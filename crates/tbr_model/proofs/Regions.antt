@@ -3,7 +3,7 @@ use Rattle.std.proofs.Common.{◌≡◌, ℕ, zero, suc, ◌+◌, Bool, true, fa
 use Rattle.std.specs.List.{AllByRecursion as Each, list_any}
 use Rattle.std.proofs.lemmas.List.Concat.{flat_map-append}
 use Rattle.std.proofs.lemmas.List.Sums.{fold-append}
-use Rattle.std.proofs.lemmas.Bool.{and_parts}
+use Rattle.std.proofs.lemmas.Bool.{and_from, and_parts}
 use Rattle.tbr_model.specs.Run.{Entry, character, fragment, Item, glyph, items_width, items_of, kept_items, is_kept, is_break, is_break_entry, blank_of, first_of, has_character, Word, word_of, Reading, works, read, words_of, trailing}
 use Rattle.tbr_model.specs.Regions.{takes_columns, HasColumns, NoBreakWorks, Region, region_entries, EndsAtWorkingBreak, IsParted, first_blank, word_behind, words_behind, words_between, markers_left}
 use Rattle.tbr_model.proofs.Letters.{items_width-append}
@@ -83,16 +83,13 @@ still {A} columns words before since (e ∷ es) h =
 
 -- ---- reading over the regions
 
-and_true : (a b : Bool) → a ≡ true → b ≡ true → a && b ≡ true
-and_true a b p q = rw (p, q) refl
-
 stops : {A : Type 0} (columns : ℕ → Option ℕ) (words : List (Word A)) (before : List (Entry A)) (r : Region A) → EndsAtWorkingBreak columns r →
     read columns (read_since columns words before r.content) r.break ≡ read_since columns (words ++ word_behind columns before r.content ∷ []) (r.break ∷ []) []
 stops {A} columns words before r h =
     rw ends (ap (λ (gap : Option A). let q : Reading A = record { words = words ++ word_behind columns before r.content ∷ []; gap = gap; items = [] } in q) (sym (first_of_none (blank_of r.break))))
   where
     ends : works columns (read_since columns words before r.content) r.break ≡ true
-    ends = and_true _ _ h.is_break (sym (has_columns_width columns r.content) ∙ h.works)
+    ends = and_from _ _ h.is_break (sym (has_columns_width columns r.content) ∙ h.works)
 
 pub over_region : {A : Type 0} (columns : ℕ → Option ℕ) (words : List (Word A)) (before : List (Entry A)) (r : Region A) (es : List (Entry A)) → EndsAtWorkingBreak columns r →
     fold (read columns) (read_since columns words before []) (region_entries r ++ es) ≡ fold (read columns) (read_since columns (words ++ word_behind columns before r.content ∷ []) (r.break ∷ []) []) es

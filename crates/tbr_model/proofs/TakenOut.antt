@@ -10,7 +10,7 @@ use Rattle.tbr_model.specs.Rule.{Event, call, entry, run_of, Space, Progress, at
 use Rattle.tbr_model.specs.Markers.{fragment_names, last, without_last_markers}
 use Rattle.tbr_model.proofs.Letters.{items_width-append, has_character-append, back_has, no_character_no_width}
 use Rattle.tbr_model.proofs.HardLines.{run_of-append}
-use Rattle.tbr_model.proofs.Entries.{or_false}
+use Rattle.std.proofs.Math.Bool.{or-false}
 use Rattle.tbr_model.proofs.Markers.{fragment_names-append}
 
 -- ---- the last markers of a run
@@ -100,7 +100,7 @@ last_of_back (z ∷ w) x (y ∷ front) back h =
     ]
 
 has_front : {A : Type 0} (is front ms : List (Item A)) → is ≡ front ++ ms → has_character ms ≡ false → has_character front ≡ has_character is
-has_front is front ms e h = sym (ap has_character e ∙ has_character-append front ms ∙ ap (λ x. has_character front || x) h ∙ or_false (has_character front))
+has_front is front ms e h = sym (ap has_character e ∙ has_character-append front ms ∙ ap (λ x. has_character front || x) h ∙ or-false (has_character front))
 
 width_front : {A : Type 0} (columns : ℕ → Option ℕ) (is front ms : List (Item A)) → is ≡ front ++ ms → has_character ms ≡ false → items_width columns front ≡ items_width columns is
 width_front columns is front ms e h = omega (arith, ap (items_width columns) e, items_width-append columns front ms, no_character_no_width columns ms h)
