@@ -1,4 +1,4 @@
-use Rattle.tbr_model.proofs.Visible.{hard_lines_shown}
+use Rattle.tbr_model.proofs.rule.VisibleCharacters.{hard_lines_shown}
 use Rattle.tbr_model.proofs.hard.hard_lines_are_shown.Goals as goal
 
 pub returns : goal.returns

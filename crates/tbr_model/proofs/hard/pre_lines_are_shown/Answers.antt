@@ -1,4 +1,4 @@
-use Rattle.tbr_model.proofs.Modes.{pre_shown}
+use Rattle.tbr_model.proofs.rule.PreservingModes.{pre_shown}
 use Rattle.tbr_model.proofs.hard.pre_lines_are_shown.Goals as goal
 
 pub returns : goal.returns

@@ -31,7 +31,7 @@ use denote.Triple.Spec.{Meets, triple_of}
 use denote.Triple.Table.{entered}
 use denote.Triple.Walked.{says, Stays, stay_dropped, walk_of, ends_at, walk_Meets, Goes-dropped}
 use Rattle.std.specs.contracts.marker.PhantomData as Mark
-use Rattle.tbr_model.proofs.Walks.{none, one, one_made}
+use Rattle.tbr_model.proofs.HistorySteps.{none, one, one_made}
 use Rattle.tbr_model.specs.contracts.history.History as Log
 use Rattle.tbr_model.specs.contracts.history.History.and as F
 use Rattle.tbr_model.specs.contracts.history.History.and.Key.{name as #self}
