@@ -1,6 +1,7 @@
 -- Layouts of a run's words in lines, which are legal, and which is best.
 use Rattle.std.specs.Prelude.{◌≡◌, ℕ, ◌+◌, ◌<◌, ◌≤◌, Bool, true, false, not, ◌&&◌, ◌||◌, nat_lt, IsTrue, List, [], ◌∷◌, ◌++◌, map, flat_map, length, take, Option, Some, None}
 use Rattle.std.specs.List.{AllByRecursion as Each}
+use Rattle.tbr_model.specs.Codes.{space_character}
 use Rattle.tbr_model.specs.Run.{Entry, Item, glyph, item_width, items_width, has_character, Word, words_of}
 
 -- An item of a run, with what a line has to know of it: its width, whether it begins a word and behind which gap, and
@@ -45,7 +46,7 @@ line_width (s ∷ ss) = s.width + rest_width ss
 -- the text of slots that stand behind others, with a space at each spaced gap
 abbrev pub gap_text : {A : Type 0} → Option A → List (Item A)
 gap_text None = []
-gap_text (Some a) = glyph 32 a ∷ []
+gap_text (Some a) = glyph space_character a ∷ []
 
 abbrev pub rest_text : {A : Type 0} → List (Slot A) → List (Item A)
 rest_text [] = []

@@ -1,3 +1,4 @@
+pub mod Codes
 pub mod WhiteSpace
 pub mod Width
 pub mod Run

@@ -1,12 +1,12 @@
 -- The words of a run as its working break points part it.
 use Rattle.std.specs.Prelude.{◌≡◌, ℕ, Bool, false, ◌&&◌, nat_lt, IsTrue, if◌then◌else◌, Option, Some, None, take, slice_get, List, [], ◌∷◌, ◌++◌, flat_map, unwrap_or}
 use Rattle.std.specs.List.{AllByRecursion as Each, list_any}
-use Rattle.tbr_model.specs.Run.{Entry, character, fragment, Item, is_kept, is_break_entry, blank_of, first_of, has_character, kept_items, Word}
+use Rattle.tbr_model.specs.Run.{Entry, character, marker_entry, Item, is_kept, is_break_entry, blank_of, first_of, has_character, kept_items, Word}
 
 -- a kept character of positive width
 abbrev pub takes_columns : {A : Type 0} → (ℕ → Option ℕ) → Entry A → Bool
 takes_columns columns (character c a b mode) = is_kept columns c && nat_lt 0 (unwrap_or (columns c) 0)
-takes_columns columns (fragment name) = false
+takes_columns columns (marker_entry name) = false
 
 -- A kept character of positive width stands among the entries.
 abbrev pub HasColumns : {A : Type 0} → (ℕ → Option ℕ) → List (Entry A) → Type 0

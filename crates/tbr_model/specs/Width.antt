@@ -1,5 +1,6 @@
 -- The characters whose columns are fixed.
 use Rattle.std.specs.Prelude.{ℕ, ◌+◌, ◌==◌, Bool, ◌||◌, Option, unwrap_or, List, [], ◌∷◌}
+use Rattle.tbr_model.specs.Codes.{space_character, slash}
 
 -- ─ │ ┌ ┐ └ ┘ ├ ┤ ┬ ┴ ┼
 abbrev pub draws_border : ℕ → Bool
@@ -8,7 +9,7 @@ draws_border c =
 
 -- the space, the slash, and what borders are drawn with
 abbrev pub takes_one_column : ℕ → Bool
-takes_one_column c = (c == 32) || (c == 47) || draws_border c
+takes_one_column c = (c == space_character) || (c == slash) || draws_border c
 
 -- U+0336, which strikes out the character before it
 abbrev pub stroke : ℕ

@@ -3,6 +3,7 @@ ghost use Rattle.std.specs.Prelude.{◌≡◌, ◌≢◌, ℕ, ◌<◌, ◌≤�
 ghost use Rattle.std.specs.List.{AllByRecursion as Each};
 ghost use Rattle.tbr_model.specs.declared.white_space.WhiteSpace.{WhiteSpace};
 ghost use Rattle.tbr_model.specs.declared.white_space.WhiteSpace.TheVariants.{Normal, Pre, PreWrap};
+ghost use Rattle.tbr_model.specs.Codes.{space_character};
 ghost use Rattle.tbr_model.specs.Run.{item_width, kept_items};
 ghost use Rattle.tbr_model.specs.Layout.{Slot, slots_of, line_text, IsBest};
 ghost use Rattle.tbr_model.specs.Rule.{Event, run_of, lines_of};
@@ -18,20 +19,20 @@ pub fn hard_lines_are_shown<T>()
 /// is one line where it fits. If it begins with a non-blank, it is cut after every so many characters as a line has columns, and
 /// those behind the first cut have the continuation annotation. A newline behind spaces alone leaves an empty line.
 pub fn pre_lines_are_shown<T>()
-    ensures { (columns : ℕ → Option ℕ) (eq : T → T → Bool) (width : ℕ) → columns 32 ≡ Some 1 → 0 < width → ((x : T) → eq x x ≡ true) → (es : List (Event T)) → Each (HasMode Pre) (run_of es) → Parted (ShowsPre columns eq width) (hard_lines (run_of es)) (lines_of columns width es) }
+    ensures { (columns : ℕ → Option ℕ) (eq : T → T → Bool) (width : ℕ) → columns space_character ≡ Some 1 → 0 < width → ((x : T) → eq x x ≡ true) → (es : List (Event T)) → Each (HasMode Pre) (run_of es) → Parted (ShowsPre columns eq width) (hard_lines (run_of es)) (lines_of columns width es) }
 {}
 
 /// In a run of `PreWrap` alone a hard line of printable characters, not of spaces alone, is one line where it fits without the
 /// spaces at its end, which are dropped. In any case its stretches of non-blanks stand in order, and a stretch is cut only if it is
 /// wider than a line.
 pub fn prewrap_lines_are_shown<T>()
-    ensures { (columns : ℕ → Option ℕ) (width : ℕ) → columns 32 ≡ Some 1 → 0 < width → (es : List (Event T)) → Each (HasMode PreWrap) (run_of es) → Parted (ShowsPreWrap columns width) (hard_lines (run_of es)) (lines_of columns width es) }
+    ensures { (columns : ℕ → Option ℕ) (width : ℕ) → columns space_character ≡ Some 1 → 0 < width → (es : List (Event T)) → Each (HasMode PreWrap) (run_of es) → Parted (ShowsPreWrap columns width) (hard_lines (run_of es)) (lines_of columns width es) }
 {}
 
 /// In a run of one preserving mode, a hard line of printable characters and tabs that ends with a non-blank shows each tab as
 /// spaces up to the next multiple of eight, where it then fits a line.
 pub fn tabs_are_shown<T>()
-    ensures { (columns : ℕ → Option ℕ) (width : ℕ) → columns 32 ≡ Some 1 → 0 < width → (mode : WhiteSpace) → mode ≢ Normal → (es : List (Event T)) → Each (HasMode mode) (run_of es) → Parted (ShowsTabs columns width) (hard_lines (run_of es)) (lines_of columns width es) }
+    ensures { (columns : ℕ → Option ℕ) (width : ℕ) → columns space_character ≡ Some 1 → 0 < width → (mode : WhiteSpace) → mode ≢ Normal → (es : List (Event T)) → Each (HasMode mode) (run_of es) → Parted (ShowsTabs columns width) (hard_lines (run_of es)) (lines_of columns width es) }
 {}
 
 /// In a run of `Normal` alone the lines are the texts of the best layout of its words, if no item of the run is wider than a line.

@@ -5,7 +5,7 @@ use Rattle.tbr_model.specs.declared.white_space.WhiteSpace.TheVariants.{Normal}
 use Rattle.tbr_model.specs.Run.{Entry, Item, item_width, items_width, has_character, kept_items, Word, word_of, Reading, start, reading, words_of}
 use Rattle.tbr_model.specs.Layout.{Slot, slots_of, line_text, line_width, IsBest}
 use Rattle.tbr_model.specs.Greedy.{Lines, close, no_lines, wrapped, IsNarrow}
-use Rattle.tbr_model.specs.Laid.{Laid, fresh}
+use Rattle.tbr_model.specs.Laid.{Laid, end_if_character}
 use Rattle.tbr_model.specs.Rule.{Event, run_of, Progress, at_start, lay, flush_word, progress, finished, lines_of}
 use Rattle.tbr_model.specs.Hard.{HasMode}
 use Rattle.tbr_model.proofs.words.Items.{items_width-append, no_character_no_width}
@@ -13,8 +13,8 @@ use Rattle.tbr_model.proofs.lists.Each.{each_append}
 use Rattle.tbr_model.proofs.words.BestLayout.{wrapped_holds, holds_best}
 use Rattle.tbr_model.proofs.words.KeptItems.{held-fold}
 use Rattle.tbr_model.proofs.words.LinesHaveCharacters.{LastHas, place_characters}
-use Rattle.tbr_model.proofs.normal.LaidWords.{text_of, fresh_text, text_has}
-use Rattle.tbr_model.proofs.normal.StaysLaid.{AllLaid, IsNarrowItem, laid_fresh, laid_flush, run_waits}
+use Rattle.tbr_model.proofs.normal.LaidWords.{text_of, end_if_character_text, text_has}
+use Rattle.tbr_model.proofs.normal.StaysLaid.{AllLaid, IsNarrowItem, laid_end_if_character, laid_flush, run_waits}
 use Rattle.tbr_model.proofs.normal.LayoutSoFar.{Lined, no_words, state_of, lay_narrow, lay_reading, wrapped-push, narrow_runs, normal_state}
 
 -- A run shows no columns where it keeps none, and no character where it keeps none.
@@ -44,18 +44,18 @@ module _ {A : Type 0} (columns : ℕ → Option ℕ) (width : ℕ) where
   ends : (r : Reading A) (b : Bool) → has_character r.items ≡ b → Lined columns width r.words → (b ≡ true → IsNarrow columns width r.items) →
       (let words = (if b then r.words ++ word_of r ∷ [] else r.words) in
       Each (λ w. IsNarrow columns width w.items) words ×
-      ((fresh (if b then lay columns width (state_of columns width r) else state_of columns width r).laid).done ≡ map line_text (close (wrapped columns width words).done (wrapped columns width words).last)))
+      ((end_if_character (if b then lay columns width (state_of columns width r) else state_of columns width r).laid).done ≡ map line_text (close (wrapped columns width words).done (wrapped columns width words).last)))
   ends r true e h narrow =
       let words : List (Word A) = r.words ++ word_of r ∷ [] in (
         each_append (λ w. IsNarrow columns width w.items) r.words (word_of r ∷ []) h.narrow (narrow refl, tt),
-        ap (λ (p : Progress A). (fresh p.laid).done) (lay_reading columns width r h e (narrow refl))
-            ∙ ap (λ (l : Laid A). l.done) (fresh_text (wrapped columns width words) (last_push r h e (narrow refl))),
+        ap (λ (p : Progress A). (end_if_character p.laid).done) (lay_reading columns width r h e (narrow refl))
+            ∙ ap (λ (l : Laid A). l.done) (end_if_character_text (wrapped columns width words) (last_push r h e (narrow refl))),
       )
-  ends r false e h narrow = (h.narrow, ap (λ (l : Laid A). l.done) (fresh_text (wrapped columns width r.words) h.last))
+  ends r false e h narrow = (h.narrow, ap (λ (l : Laid A). l.done) (end_if_character_text (wrapped columns width r.words) h.last))
 
-  last_narrow : (r : Reading A) (b : Bool) → has_character r.items ≡ b → AllLaid (IsNarrowItem columns width) (fresh (if b then lay columns width (state_of columns width r) else state_of columns width r).laid) →
+  last_narrow : (r : Reading A) (b : Bool) → has_character r.items ≡ b → AllLaid (IsNarrowItem columns width) (end_if_character (if b then lay columns width (state_of columns width r) else state_of columns width r).laid) →
       b ≡ true → IsNarrow columns width r.items
-  last_narrow r true e all some = lay_narrow columns width r e (laid_fresh (IsNarrowItem columns width) (lay columns width (state_of columns width r)).laid all)
+  last_narrow r true e all some = lay_narrow columns width r e (laid_end_if_character (IsNarrowItem columns width) (lay columns width (state_of columns width r)).laid all)
   last_narrow r false e all some = cc
 
   -- a run that ends where its reading ends has the best layout's lines
@@ -82,7 +82,7 @@ module _ {A : Type 0} (columns : ℕ → Option ℕ) (width : ℕ) where
       let P : Item A → Type 0 = IsNarrowItem columns width in
       let p : Progress A = progress columns width es in
       let r : Reading A = reading columns (run_of es) in
-      let before : AllLaid P p.laid = laid_flush P columns width p (run_waits P columns width es at_start modes tt) (laid_fresh P (flush_word columns width p).laid all) in
+      let before : AllLaid P p.laid = laid_flush P columns width p (run_waits P columns width es at_start modes tt) (laid_end_if_character P (flush_word columns width p).laid all) in
       let state = normal_state columns width es modes before in
       ends_best es state.0 state.1 (last_narrow r (has_character r.items) refl (subst (λ (q : Progress A). AllLaid P (finished columns width q)) state.0 all))
 

@@ -7,7 +7,7 @@ use Rattle.tbr_model.specs.declared.white_space.WhiteSpace.TheVariants.{Normal}
 use Rattle.tbr_model.specs.Run.{Item, glyph, marker, item_width, items_width, has_character}
 use Rattle.tbr_model.specs.Layout.{Slot, slot_of, slots_within, line_text, rest_text, gap_text, line_width, rest_width, gap_width, line_has_character}
 use Rattle.tbr_model.specs.Greedy.{Lines, close, fill, place_word, IsNarrow}
-use Rattle.tbr_model.specs.Laid.{Laid, extended, fresh, put_item, put_items}
+use Rattle.tbr_model.specs.Laid.{Laid, extended, end_if_character, put_item, put_items}
 use Rattle.tbr_model.specs.Rule.{Progress, Space, lay}
 use Rattle.tbr_model.proofs.layouts.Ahead.{rest_width-append, line_width_back}
 use Rattle.tbr_model.proofs.layouts.Greedy.{line_width_front}
@@ -26,18 +26,18 @@ text_of lines = record { done = map line_text lines.done; line = line_text lines
 -- the space that waits at a gap
 abbrev pub normal_space : {A : Type 0} → Option A → Option (Space A)
 normal_space None = None
-normal_space (Some a) = Some (record { columns = 1; tag = a; mode = Normal })
+normal_space (Some a) = Some (record { width = 1; tag = a; mode = Normal })
 
 -- a state of a run in Normal mode
 abbrev pub normal_at : {A : Type 0} → Laid A → Option A → List (Item A) → Progress A
-normal_at l gap items = record { laid = l; space = normal_space gap; word = items; mode = Normal; continued = false; again = false }
+normal_at l gap items = record { laid = l; space = normal_space gap; word = items; mode = Normal; continuation_flag = false; in_continuation = false }
 
 -- a word behind a gap: on the open line where both fit, else on a fresh one
 abbrev pub laid_word : {A : Type 0} → (ℕ → Option ℕ) → ℕ → Laid A → Option A → List (Item A) → Laid A
 laid_word columns width l gap items =
     if nat_le (l.width + (gap_width gap + items_width columns items)) width
     then extended l (gap_text gap ++ items) (gap_width gap + items_width columns items)
-    else put_items columns width (fresh l) items
+    else put_items columns width (end_if_character l) items
 
 -- ---- texts of slots
 
@@ -88,10 +88,10 @@ laid_same : {A : Type 0} (d e : List (List (Item A))) (is js : List (Item A)) (m
 laid_same d e is js m n p q r = rw (p, q, r) refl
 
 -- the open line, ended if it has anything
-pub fresh_text : {A : Type 0} (lines : Lines A) → LastHas lines.last → fresh (text_of lines) ≡ text_of (record { done = close lines.done lines.last; last = [] })
-fresh_text {A} lines h = go lines.last h
+pub end_if_character_text : {A : Type 0} (lines : Lines A) → LastHas lines.last → end_if_character (text_of lines) ≡ text_of (record { done = close lines.done lines.last; last = [] })
+end_if_character_text {A} lines h = go lines.last h
   where
-    go : (last : List (Slot A)) → LastHas last → fresh (text_of (record { done = lines.done; last = last })) ≡ text_of (record { done = close lines.done last; last = [] })
+    go : (last : List (Slot A)) → LastHas last → end_if_character (text_of (record { done = lines.done; last = last })) ≡ text_of (record { done = close lines.done last; last = [] })
     go [] k = refl
     go (s ∷ last) k = rw (text_has (s ∷ last) k) (ap (λ (d : List (List (Item A))). let l : Laid A = record { done = d; line = []; width = 0 } in l) (sym (map-append line_text lines.done ((s ∷ last) ∷ []))))
 
@@ -191,8 +191,8 @@ module _ {A : Type 0} (columns : ℕ → Option ℕ) (width : ℕ) where
       text : line_text (lines.last ++ slots) ≡ line_text lines.last ++ (gap_text (gap_behind lines.last gap) ++ (i ∷ is))
       text = word_text lines.last (slot_of columns wider gap true i) rest (no_gaps columns wider is) ∙ ap (λ js. line_text lines.last ++ (gap_text (gap_behind lines.last gap) ++ (i ∷ js))) (items_within columns wider is)
 
-      put : put_items columns width (fresh (text_of lines)) (i ∷ is) ≡ text_of (fill width (close lines.done lines.last) [] slots)
-      put = ap (λ (l : Laid A). put_items columns width l (i ∷ is)) (fresh_text lines has) ∙ put_slots (close lines.done lines.last) wider gap (i ∷ is) narrow
+      put : put_items columns width (end_if_character (text_of lines)) (i ∷ is) ≡ text_of (fill width (close lines.done lines.last) [] slots)
+      put = ap (λ (l : Laid A). put_items columns width l (i ∷ is)) (end_if_character_text lines has) ∙ put_slots (close lines.done lines.last) wider gap (i ∷ is) narrow
 
       closed : (last : List (Slot A)) → width < line_width (last ++ slots) → line_width slots ≤ width → lines.done ++ last ∷ [] ≡ close lines.done last
       closed [] full fits = absurd (omega (arith, full, fits))

@@ -5,10 +5,10 @@ use Rattle.std.proofs.lemmas.Bool.{cond_both, or_parts}
 use Rattle.std.proofs.lemmas.List.Sums.{fold-append}
 use Rattle.tbr_model.specs.declared.white_space.WhiteSpace.{WhiteSpace}
 use Rattle.tbr_model.specs.declared.white_space.WhiteSpace.TheVariants.{Normal, Pre, PreWrap}
-use Rattle.tbr_model.specs.Run.{Entry, character, fragment, Item, glyph, marker, items_width, items_of, kept_items, is_break, is_break_entry, is_blank, blank_of, first_of, has_character, Word, word_of, Reading, start, works, read, reading}
+use Rattle.tbr_model.specs.Run.{Entry, character, marker_entry, Item, glyph, marker, items_width, items_of, kept_items, is_break, is_break_entry, is_blank, blank_of, first_of, has_character, Word, word_of, Reading, start, works, read, reading}
 use Rattle.tbr_model.specs.Layout.{Slot, line_text, line_width, gap_text, gap_width}
 use Rattle.tbr_model.specs.Greedy.{Lines, place_word, no_lines, wrapped, IsNarrow}
-use Rattle.tbr_model.specs.Laid.{Laid, fresh}
+use Rattle.tbr_model.specs.Laid.{Laid, end_if_character}
 use Rattle.tbr_model.specs.Rule.{Event, call, entry, run_of, Progress, lay, break_word, join, collapse, enter, step, progress}
 use Rattle.tbr_model.specs.Hard.{HasMode}
 use Rattle.tbr_model.proofs.words.Items.{WaitsIn}
@@ -28,8 +28,8 @@ pub record NormalStands {A : Type 0} (columns : ℕ → Option ℕ) (limit : ℕ
   pub width : p.laid.width ≡ line_width lines.last
   pub space : p.space ≡ normal_space (gap_behind lines.last gap)
   pub word : p.word ≡ items
-  pub continued : p.continued ≡ false
-  pub again : p.again ≡ false
+  pub continuation_flag : p.continuation_flag ≡ false
+  pub in_continuation : p.in_continuation ≡ false
   pub mode : p.mode ≡ Normal
   pub fits : line_width lines.last ≤ limit
   pub begun : (lines ≡ no_lines) ⊎ (0 < line_width lines.last)
@@ -120,7 +120,7 @@ module _ {A : Type 0} (columns : ℕ → Option ℕ) (width : ℕ) where
   word_kept P l gap items h =
       cond_both (nat_le (l.width + (gap_width gap + items_width columns items)) width) _ _ (λ (k : Laid A). AllLaid P k → Each P items)
       (λ _ k. each_back P (gap_text gap) items (laid_extended P l (gap_text gap ++ items) (gap_width gap + items_width columns items) k).1)
-      (λ _ k. (laid_items P columns width items (fresh l) k).1) h
+      (λ _ k. (laid_items P columns width items (end_if_character l) k).1) h
 
   laid_at : (r : Reading A) → has_character r.items ≡ true →
       lay columns width (state_of r) ≡ normal_at (laid_word columns width (text_of (wrapped columns width r.words)) (gap_behind (wrapped columns width r.words).last r.gap) r.items) None []
@@ -148,7 +148,7 @@ module _ {A : Type 0} (columns : ℕ → Option ℕ) (width : ℕ) where
   abbrev after : Reading A → Entry A → Bool → Reading A
   after r e p = if p then record { words = r.words ++ word_of r ∷ []; gap = blank_of e; items = [] } else record { words = r.words; gap = first_of r.gap (blank_of e); items = r.items ++ items_of columns e }
 
-  goes_marker : (r : Reading A) (name : List ℕ) → Lined r.words → Goes r (fragment name) (read columns r (fragment name))
+  goes_marker : (r : Reading A) (name : List ℕ) → Lined r.words → Goes r (marker_entry name) (read columns r (marker_entry name))
   goes_marker r name h = (ap (λ (o : Option A). normal_at (text_of (wrapped columns width r.words)) (gap_behind (wrapped columns width r.words).last o) (r.items ++ marker name ∷ [])) (sym (first_of_none r.gap)), h)
 
   goes_break : (r : Reading A) (c : ℕ) (a b : A) → is_break c ≡ true → Lined r.words → (0 < items_width columns r.items → IsNarrow columns width r.items) →
@@ -206,7 +206,7 @@ module _ {A : Type 0} (columns : ℕ → Option ℕ) (width : ℕ) where
   -- a word that a break point ends is narrow where all that is laid is
   enter_narrow : (r : Reading A) (e : Entry A) → HasMode Normal e → is_break_entry e ≡ true → AllLaid (IsNarrowItem columns width) (enter columns width (state_of r) e).laid →
       0 < items_width columns r.items → IsNarrow columns width r.items
-  enter_narrow r (fragment name) mode breaks all wide = cc
+  enter_narrow r (marker_entry name) mode breaks all wide = cc
   enter_narrow r (character c a b Pre) mode breaks all wide = cc
   enter_narrow r (character c a b PreWrap) mode breaks all wide = cc
   enter_narrow r (character c a b Normal) mode breaks all wide =
@@ -217,7 +217,7 @@ module _ {A : Type 0} (columns : ℕ → Option ℕ) (width : ℕ) where
       lay_narrow r (wide_items columns r.items wide) (subst (AllLaid P) entered all)
 
   goes : (r : Reading A) (e : Entry A) → HasMode Normal e → Lined r.words → (is_break_entry e ≡ true → 0 < items_width columns r.items → IsNarrow columns width r.items) → Goes r e (read columns r e)
-  goes r (fragment name) mode h narrow = goes_marker r name h
+  goes r (marker_entry name) mode h narrow = goes_marker r name h
   goes r (character c a b Pre) mode h narrow = cc
   goes r (character c a b PreWrap) mode h narrow = cc
   goes r (character c a b Normal) mode h narrow = go (is_break c) refl
@@ -276,8 +276,8 @@ module _ {A : Type 0} (columns : ℕ → Option ℕ) (width : ℕ) where
             width = refl;
             space = refl;
             word = refl;
-            continued = refl;
-            again = refl;
+            continuation_flag = refl;
+            in_continuation = refl;
             mode = refl;
             fits = lined_fits r.words lined;
             begun = elim lined.begun [ inl none ↦ inl (ap (wrapped columns width) none) | inr some ↦ inr some ];

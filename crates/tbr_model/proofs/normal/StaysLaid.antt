@@ -3,9 +3,9 @@ use Rattle.std.proofs.Common.{◌≡◌, ℕ, ◌+◌, ◌≤◌, nat_lt, nat_le
 use Rattle.std.specs.List.{AllByRecursion as Each}
 use Rattle.std.proofs.lemmas.Bool.{cond_both}
 use Rattle.tbr_model.specs.declared.white_space.WhiteSpace.TheVariants.{Normal, Pre, PreWrap}
-use Rattle.tbr_model.specs.Run.{Entry, character, fragment, Item, item_width, items_width, is_break, is_blank, has_character}
-use Rattle.tbr_model.specs.Laid.{Laid, extended, ended, fresh, blanked, put_item, put_items}
-use Rattle.tbr_model.specs.Rule.{Event, call, entry, run_of, Progress, Space, unfit, space_text, space_columns, put_pending, lay_fresh, lay, flush_word, break_word, collapse, tag_of, enter, step}
+use Rattle.tbr_model.specs.Run.{Entry, character, marker_entry, Item, item_width, items_width, is_break, is_blank, has_character}
+use Rattle.tbr_model.specs.Laid.{Laid, extended, end_line, end_if_character, end_if_columns, put_item, put_items}
+use Rattle.tbr_model.specs.Rule.{Event, call, entry, run_of, Progress, Space, wrap_space, space_text, pending_width, put_pending, lay_fresh, lay, flush_word, break_word, collapse, tag_of, enter, step}
 use Rattle.tbr_model.specs.Hard.{HasMode}
 use Rattle.tbr_model.proofs.words.Items.{WaitsIn}
 use Rattle.tbr_model.proofs.lists.Each.{each_front, each_back}
@@ -21,13 +21,13 @@ module _ {A : Type 0} (P : Item A → Type 0) where
   pub laid_extended : (l : Laid A) (is : List (Item A)) (n : ℕ) → AllLaid P (extended l is n) → AllLaid P l × Each P is
   laid_extended l is n h = ((h.0, each_front P l.line is h.1), each_back P l.line is h.1)
 
-  laid_ended : (l : Laid A) → AllLaid P (ended l) → AllLaid P l
+  laid_ended : (l : Laid A) → AllLaid P (end_line l) → AllLaid P l
   laid_ended l h = (each_front (λ line. Each P line) l.done (l.line ∷ []) h.0, (each_back (λ line. Each P line) l.done (l.line ∷ []) h.0).0)
 
-  pub laid_fresh : (l : Laid A) → AllLaid P (fresh l) → AllLaid P l
-  laid_fresh l h = cond_both (has_character l.line) _ _ (λ (k : Laid A). AllLaid P k → AllLaid P l) (λ _. laid_ended l) (λ _ k. k) h
+  pub laid_end_if_character : (l : Laid A) → AllLaid P (end_if_character l) → AllLaid P l
+  laid_end_if_character l h = cond_both (has_character l.line) _ _ (λ (k : Laid A). AllLaid P k → AllLaid P l) (λ _. laid_ended l) (λ _ k. k) h
 
-  laid_blanked : (l : Laid A) → AllLaid P (blanked l) → AllLaid P l
+  laid_blanked : (l : Laid A) → AllLaid P (end_if_columns l) → AllLaid P l
   laid_blanked l h = cond_both (l.width == 0) _ _ (λ (k : Laid A). AllLaid P k → AllLaid P l) (λ _ k. k) (λ _. laid_ended l) h
 
   module _ (columns : ℕ → Option ℕ) (width : ℕ) where
@@ -36,8 +36,8 @@ module _ {A : Type 0} (P : Item A → Type 0) where
         cond_both (nat_le (l.width + item_width columns i) width) _ _ (λ (k : Laid A). AllLaid P k → AllLaid P l × P i)
         (λ _ k. let e = laid_extended l (i ∷ []) (item_width columns i) k in (e.0, e.1.0))
         (λ _. cond_both (nat_le (item_width columns i) width) _ _ (λ (k : Laid A). AllLaid P k → AllLaid P l × P i)
-        (λ _ k. let e = laid_extended (ended l) (i ∷ []) (item_width columns i) k in (laid_ended l e.0, e.1.0))
-        (λ _ k. let e = laid_extended (blanked l) (i ∷ []) (item_width columns i) (laid_ended (extended (blanked l) (i ∷ []) (item_width columns i)) k) in (laid_blanked l e.0, e.1.0))) h
+        (λ _ k. let e = laid_extended (end_line l) (i ∷ []) (item_width columns i) k in (laid_ended l e.0, e.1.0))
+        (λ _ k. let e = laid_extended (end_if_columns l) (i ∷ []) (item_width columns i) (laid_ended (extended (end_if_columns l) (i ∷ []) (item_width columns i)) k) in (laid_blanked l e.0, e.1.0))) h
 
     pub laid_items : (is : List (Item A)) (l : Laid A) → AllLaid P (put_items columns width l is) → AllLaid P l × Each P is
     laid_items [] l h = (h, tt)
@@ -50,26 +50,26 @@ module _ {A : Type 0} (P : Item A → Type 0) where
 
     laid_lay_fresh : (p : Progress A) → p.space ≡ None → AllLaid P (lay_fresh columns width p).laid → AllLaid P p.laid
     laid_lay_fresh p none h =
-        let waits : put_pending width p.space (fresh p.laid) ≡ fresh p.laid = rw none refl in
-        laid_fresh p.laid (subst (AllLaid P) waits (cond_both (has_character p.word) _ _ (λ (q : Progress A). AllLaid P q.laid → AllLaid P (put_pending width p.space (fresh p.laid)))
-        (λ _ k. (laid_items p.word (put_pending width p.space (fresh p.laid)) k).0) (λ _ k. k) h))
+        let waits : put_pending width p.space (end_if_character p.laid) ≡ end_if_character p.laid = rw none refl in
+        laid_end_if_character p.laid (subst (AllLaid P) waits (cond_both (has_character p.word) _ _ (λ (q : Progress A). AllLaid P q.laid → AllLaid P (put_pending width p.space (end_if_character p.laid)))
+        (λ _ k. (laid_items p.word (put_pending width p.space (end_if_character p.laid)) k).0) (λ _ k. k) h))
 
     -- space that doesn't fit is dropped
-    unfit_normal : (p : Progress A) (o : Option (Space A)) → p.space ≡ o → WaitsIn Normal o → (unfit columns width p o).laid ≡ p.laid × (unfit columns width p o).space ≡ None
+    unfit_normal : (p : Progress A) (o : Option (Space A)) → p.space ≡ o → WaitsIn Normal o → (wrap_space columns width p o).laid ≡ p.laid × (wrap_space columns width p o).space ≡ None
     unfit_normal p None e h = (refl, e)
     unfit_normal p (Some s) e h = rw h (refl, refl)
 
     pub laid_lay : (p : Progress A) → WaitsIn Normal p.space → AllLaid P (lay columns width p).laid → AllLaid P p.laid
     laid_lay p waits h =
         let dropped = unfit_normal p p.space refl waits in
-        cond_both (nat_le (p.laid.width + (space_columns p.space + items_width columns p.word)) width) _ _ (λ (q : Progress A). AllLaid P q.laid → AllLaid P p.laid)
-        (λ _ k. (laid_extended p.laid (space_text p.space ++ p.word) (space_columns p.space + items_width columns p.word) k).0)
-        (λ _ k. subst (AllLaid P) dropped.0 (laid_lay_fresh (unfit columns width p p.space) dropped.1 k)) h
+        cond_both (nat_le (p.laid.width + (pending_width p.space + items_width columns p.word)) width) _ _ (λ (q : Progress A). AllLaid P q.laid → AllLaid P p.laid)
+        (λ _ k. (laid_extended p.laid (space_text p.space ++ p.word) (pending_width p.space + items_width columns p.word) k).0)
+        (λ _ k. subst (AllLaid P) dropped.0 (laid_lay_fresh (wrap_space columns width p p.space) dropped.1 k)) h
 
     lay_waits : (p : Progress A) → WaitsIn Normal p.space → WaitsIn Normal (lay columns width p).space
     lay_waits p waits =
-        cond_both (nat_le (p.laid.width + (space_columns p.space + items_width columns p.word)) width) _ _ (λ (q : Progress A). WaitsIn Normal q.space)
-        (λ _. tt) (λ _. cond_both (has_character (unfit columns width p p.space).word) _ _ (λ (q : Progress A). WaitsIn Normal q.space) (λ _. tt) (λ _. tt))
+        cond_both (nat_le (p.laid.width + (pending_width p.space + items_width columns p.word)) width) _ _ (λ (q : Progress A). WaitsIn Normal q.space)
+        (λ _. tt) (λ _. cond_both (has_character (wrap_space columns width p p.space).word) _ _ (λ (q : Progress A). WaitsIn Normal q.space) (λ _. tt) (λ _. tt))
 
     pub laid_flush : (p : Progress A) → WaitsIn Normal p.space → AllLaid P (flush_word columns width p).laid → AllLaid P p.laid
     laid_flush p waits h = cond_both (has_character p.word) _ _ (λ (q : Progress A). AllLaid P q.laid → AllLaid P p.laid) (λ _. laid_lay p waits) (λ _ k. k) h
@@ -89,7 +89,7 @@ module _ {A : Type 0} (P : Item A → Type 0) where
     -- ---- an entry
 
     pub laid_enter : (p : Progress A) (e : Entry A) → HasMode Normal e → WaitsIn Normal p.space → AllLaid P (enter columns width p e).laid → AllLaid P p.laid
-    laid_enter p (fragment name) mode waits h = h
+    laid_enter p (marker_entry name) mode waits h = h
     laid_enter p (character c a b Pre) mode waits h = cc
     laid_enter p (character c a b PreWrap) mode waits h = cc
     laid_enter p (character c a b Normal) mode waits h =
@@ -98,7 +98,7 @@ module _ {A : Type 0} (P : Item A → Type 0) where
         (λ _. cond_both (is_some (columns c)) _ _ (λ (q : Progress A). AllLaid P q.laid → AllLaid P p.laid) (λ _ k. k) (λ _ k. k)) h
 
     pub enter_waits : (p : Progress A) (e : Entry A) → HasMode Normal e → WaitsIn Normal p.space → WaitsIn Normal (enter columns width p e).space
-    enter_waits p (fragment name) mode waits = waits
+    enter_waits p (marker_entry name) mode waits = waits
     enter_waits p (character c a b Pre) mode waits = cc
     enter_waits p (character c a b PreWrap) mode waits = cc
     enter_waits p (character c a b Normal) mode waits =

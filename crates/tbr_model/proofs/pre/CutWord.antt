@@ -4,8 +4,8 @@ use Rattle.std.specs.List.{AllByRecursion as Each}
 use Rattle.std.proofs.lemmas.Bool.{cond_both}
 use Rattle.std.proofs.Math.Seq.{take-append_seam, drop-append_seam}
 use Rattle.tbr_model.specs.Run.{Item, glyph, marker, item_width, items_width, has_character}
-use Rattle.tbr_model.specs.Laid.{Laid, extended, ended, put_items}
-use Rattle.tbr_model.specs.Rule.{Progress, space_columns, unfit, lay_fresh, flush_word}
+use Rattle.tbr_model.specs.Laid.{Laid, extended, end_line, put_items}
+use Rattle.tbr_model.specs.Rule.{Progress, pending_width, wrap_space, lay_fresh, flush_word}
 use Rattle.tbr_model.specs.Hard.{letters_of, IsCutEvery}
 use Rattle.tbr_model.proofs.words.Items.{letters_of-append, some_letters, has_letters}
 use Rattle.tbr_model.proofs.rule.LaidText.{text, text-put_items}
@@ -60,12 +60,12 @@ put_cut {A} columns width (glyph c a ∷ is) l wide units same fits some =
     })
     (λ e. cond_both (nat_le (item_width columns (glyph c a)) width) _ _ Holds
     (λ _.
-    let k = put_cut columns width is (extended (ended l) (glyph c a ∷ []) (item_width columns (glyph c a))) wide units.1 (omega (arith, one)) (omega (arith, one, wide)) (omega arith) in
+    let k = put_cut columns width is (extended (end_line l) (glyph c a ∷ []) (item_width columns (glyph c a))) wide units.1 (omega (arith, one)) (omega (arith, one, wide)) (omega arith) in
     record {
       lines = l.line ∷ k.lines;
       done = k.done ∙ append_assoc l.done (l.line ∷ []) k.lines;
       some = k.some;
-      cut = full_first width (letters_of l.line) (c ∷ letters_of is) (map letters_of (k.lines ++ (put_items columns width (extended (ended l) (glyph c a ∷ []) (item_width columns (glyph c a))) is).line ∷ []))
+      cut = full_first width (letters_of l.line) (c ∷ letters_of is) (map letters_of (k.lines ++ (put_items columns width (extended (end_line l) (glyph c a ∷ []) (item_width columns (glyph c a))) is).line ∷ []))
           (omega (arith, same, fits, one, leb-false _ _ e)) k.cut;
     })
     (λ f. absurd (omega (arith, one, wide, leb-false _ _ f))))
@@ -80,20 +80,20 @@ put_cut {A} columns width (glyph c a ∷ is) l wide units same fits some =
 
 -- a word stands cut on these lines, the open one too
 pub record IsCutOn {A : Type 0} (width : ℕ) (is : List (Item A)) (l : Laid A) : Type 0 where
-  pub cut : IsCutEvery width (letters_of is) (map letters_of (ended l).done)
+  pub cut : IsCutEvery width (letters_of is) (map letters_of (end_line l).done)
   pub last : has_character l.line ≡ true
   pub whole : text l ≡ is
 
 pub cut_laid : {A : Type 0} (columns : ℕ → Option ℕ) (width : ℕ) (q : Progress A) → 0 < width → IsPlain columns q → q.space ≡ None → has_character q.word ≡ true → IsCutOn width q.word (flush_word columns width q).laid
 cut_laid {A} columns width q wide h none some =
     rw some
-    (cond_both (nat_le (q.laid.width + (space_columns q.space + items_width columns q.word)) width) _ _ (λ (r : Progress A). IsCutOn width q.word r.laid)
+    (cond_both (nat_le (q.laid.width + (pending_width q.space + items_width columns q.word)) width) _ _ (λ (r : Progress A). IsCutOn width q.word r.laid)
     (λ e.
     let length_fits : length (letters_of q.word) ≤ width = omega (arith, leb-true _ _ e, units_width columns q.word h.units) in
     rw (h.done, h.line, none) (record { cut = (refl, some_letters q.word some, length_fits); last = some; whole = refl }))
     (λ _. subst (λ (m : Laid A). IsCutOn width q.word m) (sym laid) over))
   where
-    laid : (lay_fresh columns width (unfit columns width q q.space)).laid ≡ put_items columns width q.laid q.word
+    laid : (lay_fresh columns width (wrap_space columns width q q.space)).laid ≡ put_items columns width q.laid q.word
     laid = rw (none, some, h.line) refl
 
     over : IsCutOn width q.word (put_items columns width q.laid q.word)

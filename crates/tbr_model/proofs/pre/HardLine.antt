@@ -2,14 +2,14 @@
 use Rattle.std.proofs.Common.{◌≡◌, ℕ, suc, ◌+◌, ◌<◌, ◌≤◌, nat_le, Bool, true, false, Option, Some, None, List, [], ◌∷◌, ◌++◌, map, fold, length, take, drop, refl, ap, sym, ◌∙◌, arith, subst, le-leb}
 use Rattle.std.specs.List.{AllByRecursion as Each}
 use Rattle.tbr_model.specs.declared.white_space.WhiteSpace.TheVariants.{Pre}
-use Rattle.tbr_model.specs.Run.{Entry, character, fragment, Item, items_width, has_character}
+use Rattle.tbr_model.specs.Run.{Entry, character, marker_entry, Item, items_width, has_character}
 use Rattle.tbr_model.specs.Layout.{joined}
-use Rattle.tbr_model.specs.Laid.{Laid, ended, fresh}
-use Rattle.tbr_model.specs.Rule.{Event, run_of, Space, Progress, space_columns, space_text, flush_word, newline, finished, step}
+use Rattle.tbr_model.specs.Laid.{Laid, end_line, end_if_character}
+use Rattle.tbr_model.specs.Rule.{Event, run_of, Space, Progress, pending_width, space_text, flush_word, newline, finished, step}
 use Rattle.tbr_model.specs.Hard.{HasMode, is_newline, glyphs_of, letters_of, entry_letters, IsPrintableEntry, IsPrintableLine, IsSpaces, BeginsWithNonBlank, IsCutEvery, StandUnder, HasMain, HasContinuation, ShowsPre}
 use Rattle.tbr_model.proofs.words.Items.{back_has}
-use Rattle.tbr_model.proofs.rule.HardLineStart.{IsFresh}
-use Rattle.tbr_model.proofs.rule.LaidText.{joined-ended}
+use Rattle.tbr_model.proofs.rule.HardLineStart.{BeginsHardLine}
+use Rattle.tbr_model.proofs.rule.LaidText.{joined-end_line}
 use Rattle.tbr_model.proofs.pre.KeptCharacters.{pre_kept}
 use Rattle.tbr_model.proofs.pre.WaitingWord.{IsPlain, waiting, waiting_length, Waits, line_waits, fresh_plain, fresh_waiting}
 use Rattle.tbr_model.proofs.pre.CutWord.{IsCutOn, cut_laid}
@@ -19,31 +19,31 @@ use Rattle.tbr_model.proofs.pre.Tags.{IsTagged, tagged_main, tagged_continuation
 
 -- these lines are those before a newline, and the open line has a character
 record IsShownBy {A : Type 0} (ls : List (List ℕ)) (l : Laid A) : Type 0 where
-  same : map letters_of (ended l).done ≡ ls
+  same : map letters_of (end_line l).done ≡ ls
   last : has_character l.line ≡ true
 
 -- what waits stands on one line, where it fits
 fitting : {A : Type 0} (columns : ℕ → Option ℕ) (width : ℕ) (q : Progress A) → IsPlain columns q → has_character q.word ≡ true → length (waiting q) ≤ width → IsShownBy (waiting q ∷ []) (flush_word columns width q).laid
 fitting columns width q h some fits =
-    let test : nat_le (q.laid.width + (space_columns q.space + items_width columns q.word)) width ≡ true = le-leb _ _ (omega (arith, fits, h.width, waiting_length columns q h)) in
+    let test : nat_le (q.laid.width + (pending_width q.space + items_width columns q.word)) width ≡ true = le-leb _ _ (omega (arith, fits, h.width, waiting_length columns q h)) in
     rw (some, test, h.done, h.line) (record { same = refl; last = back_has (space_text q.space) q.word some })
 
 -- nothing stands on one line
-nothing : {A : Type 0} (columns : ℕ → Option ℕ) (width : ℕ) (q : Progress A) → IsPlain columns q → has_character q.word ≡ false → map letters_of (ended (flush_word columns width q).laid).done ≡ [] ∷ []
+nothing : {A : Type 0} (columns : ℕ → Option ℕ) (width : ℕ) (q : Progress A) → IsPlain columns q → has_character q.word ≡ false → map letters_of (end_line (flush_word columns width q).laid).done ≡ [] ∷ []
 nothing columns width q h none = rw (none, h.done, h.line) refl
 
 printable_length : {A : Type 0} (columns : ℕ → Option ℕ) (h : List (Entry A)) → Each (IsPrintableEntry columns) h → length (entry_letters h) ≡ length h
 printable_length columns [] printable = refl
 printable_length columns (character c a b m ∷ h) printable = ap suc (printable_length columns h printable.1)
-printable_length columns (fragment name ∷ h) printable = absurd printable.0
+printable_length columns (marker_entry name ∷ h) printable = absurd printable.0
 
 -- a line that has a character is ended in either way
-ended_alike : {A : Type 0} (l : Laid A) → has_character l.line ≡ true → (ended l).done ≡ (fresh l).done
+ended_alike : {A : Type 0} (l : Laid A) → has_character l.line ≡ true → (end_line l).done ≡ (end_if_character l).done
 ended_alike l h = rw h refl
 
 -- ---- a hard line
 
-module _ {A : Type 0} (columns : ℕ → Option ℕ) (width : ℕ) (p : Progress A) (es : List (Event A)) (one_space : columns 32 ≡ Some 1) (f : IsFresh p) (pre : Each (HasMode Pre) (run_of es)) where
+module _ {A : Type 0} (columns : ℕ → Option ℕ) (width : ℕ) (p : Progress A) (es : List (Event A)) (one_space : columns 32 ≡ Some 1) (f : BeginsHardLine p) (pre : Each (HasMode Pre) (run_of es)) where
   abbrev q : Progress A
   q = fold (step columns width) p es
 
@@ -69,7 +69,7 @@ module _ {A : Type 0} (columns : ℕ → Option ℕ) (width : ℕ) (p : Progress
       subst (λ (cs : List ℕ). IsShownBy (cs ∷ []) (flush_word columns width q).laid) all
       (fitting columns width q (waits printable).plain (some_waits printable other) (omega (arith, fits, ap length all, printable_length columns (run_of es) printable)))
 
-  line_blank : IsPrintableLine columns (run_of es) → IsSpaces (entry_letters (run_of es)) → map letters_of (ended laid).done ≡ [] ∷ []
+  line_blank : IsPrintableLine columns (run_of es) → IsSpaces (entry_letters (run_of es)) → map letters_of (end_line laid).done ≡ [] ∷ []
   line_blank printable all =
       let w = waits printable in
       nothing columns width q w.plain (w.blank f.word all)
@@ -83,14 +83,14 @@ module _ {A : Type 0} (columns : ℕ → Option ℕ) (width : ℕ) (p : Progress
       cut_laid columns width q wide (waits printable).plain none (some_waits printable (begins_other (entry_letters (run_of es)) begins))
 
   -- the lines before a newline
-  shows_ended : (eq : A → A → Bool) → 0 < width → ((x : A) → eq x x ≡ true) → Each (λ e. is_newline e ≡ false) (run_of es) → ShowsPre columns eq width true (run_of es) (ended laid).done
+  shows_ended : (eq : A → A → Bool) → 0 < width → ((x : A) → eq x x ≡ true) → Each (λ e. is_newline e ≡ false) (run_of es) → ShowsPre columns eq width true (run_of es) (end_line laid).done
   shows_ended eq wide reflexive more = record {
     kept = (pre_kept columns width p es f pre more).0;
     fits = λ printable other fits. (line_fits printable other fits).same;
     cut = λ printable begins.
         (let none = (tags printable begins).1 in
         let word : letters_of q.word ≡ entry_letters (run_of es) = ap (λ (o : Option (Space A)). letters_of (space_text o ++ q.word)) (sym none) ∙ all_waiting printable in
-        subst (λ (cs : List ℕ). IsCutEvery width cs (map letters_of (ended laid).done)) word (line_cut wide printable begins none).cut);
+        subst (λ (cs : List ℕ). IsCutEvery width cs (map letters_of (end_line laid).done)) word (line_cut wide printable begins none).cut);
     blank = λ printable all _. line_blank printable all;
     main = λ printable begins.
         (let t = tags printable begins in
@@ -103,11 +103,11 @@ module _ {A : Type 0} (columns : ℕ → Option ℕ) (width : ℕ) (p : Progress
       tags : IsPrintableLine columns (run_of es) → BeginsWithNonBlank (entry_letters (run_of es)) → IsTagged eq width 0 (glyphs_of q.word) (run_of es) × (q.space ≡ None)
       tags printable begins = pre_tags columns eq width reflexive one_space p es f pre printable begins
 
-      glyphs : IsPrintableLine columns (run_of es) → BeginsWithNonBlank (entry_letters (run_of es)) → glyphs_of (joined (ended laid).done) ≡ glyphs_of q.word
-      glyphs printable begins = ap glyphs_of (joined-ended laid ∙ (line_cut wide printable begins (tags printable begins).1).whole)
+      glyphs : IsPrintableLine columns (run_of es) → BeginsWithNonBlank (entry_letters (run_of es)) → glyphs_of (joined (end_line laid).done) ≡ glyphs_of q.word
+      glyphs printable begins = ap glyphs_of (joined-end_line laid ∙ (line_cut wide printable begins (tags printable begins).1).whole)
 
   -- the lines at the end of the run
-  shows_freshened : (eq : A → A → Bool) → 0 < width → ((x : A) → eq x x ≡ true) → Each (λ e. is_newline e ≡ false) (run_of es) → ShowsPre columns eq width false (run_of es) (fresh laid).done
+  shows_freshened : (eq : A → A → Bool) → 0 < width → ((x : A) → eq x x ≡ true) → Each (λ e. is_newline e ≡ false) (run_of es) → ShowsPre columns eq width false (run_of es) (end_if_character laid).done
   shows_freshened eq wide reflexive more = record {
     kept = (pre_kept columns width p es f pre more).1;
     fits = λ printable other fits.
@@ -120,14 +120,14 @@ module _ {A : Type 0} (columns : ℕ → Option ℕ) (width : ℕ) (p : Progress
         subst (λ (ls : List (List (Item A))). StandUnder (HasContinuation eq) (drop width (glyphs_of (joined ls))) (drop width (run_of es))) (alike printable begins) (shown.continuation printable begins);
   }
     where
-      shown : ShowsPre columns eq width true (run_of es) (ended laid).done
+      shown : ShowsPre columns eq width true (run_of es) (end_line laid).done
       shown = shows_ended eq wide reflexive more
 
-      alike : IsPrintableLine columns (run_of es) → BeginsWithNonBlank (entry_letters (run_of es)) → (ended laid).done ≡ (fresh laid).done
+      alike : IsPrintableLine columns (run_of es) → BeginsWithNonBlank (entry_letters (run_of es)) → (end_line laid).done ≡ (end_if_character laid).done
       alike printable begins = ended_alike laid (line_cut wide printable begins (pre_tags columns eq width reflexive one_space p es f pre printable begins).1).last
 
 -- one hard line of a run of Pre, before a newline and at the end of the run
-pub pre_line : {A : Type 0} (columns : ℕ → Option ℕ) (eq : A → A → Bool) (width : ℕ) → columns 32 ≡ Some 1 → 0 < width → ((x : A) → eq x x ≡ true) → (p : Progress A) (es : List (Event A)) → IsFresh p →
+pub pre_line : {A : Type 0} (columns : ℕ → Option ℕ) (eq : A → A → Bool) (width : ℕ) → columns 32 ≡ Some 1 → 0 < width → ((x : A) → eq x x ≡ true) → (p : Progress A) (es : List (Event A)) → BeginsHardLine p →
     Each (HasMode Pre) (run_of es) → Each (λ e. is_newline e ≡ false) (run_of es) →
     ShowsPre columns eq width true (run_of es) (newline (flush_word columns width (fold (step columns width) p es))).laid.done
     × ShowsPre columns eq width false (run_of es) (finished columns width (fold (step columns width) p es)).done

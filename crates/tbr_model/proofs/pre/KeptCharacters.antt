@@ -4,14 +4,14 @@ use Rattle.std.specs.List.{AllByRecursion as Each}
 use Rattle.std.proofs.lemmas.Bool.{cond_both, eqb-true}
 use Rattle.std.proofs.lemmas.List.Elements.{filter-append}
 use Rattle.tbr_model.specs.declared.white_space.WhiteSpace.TheVariants.{Pre}
-use Rattle.tbr_model.specs.Run.{Entry, character, fragment, Item, glyph, marker, items_width, is_blank, is_break, is_kept, has_character}
+use Rattle.tbr_model.specs.Run.{Entry, character, marker_entry, Item, glyph, marker, items_width, is_blank, is_break, is_kept, has_character}
 use Rattle.tbr_model.specs.Layout.{joined}
-use Rattle.tbr_model.specs.Laid.{Laid, extended, fresh, put_items}
-use Rattle.tbr_model.specs.Rule.{Event, call, entry, run_of, Space, Progress, spaces, space_columns, space_text, space_of, unfit, put_pending, lay_here, lay_fresh, lay, flush_word, keep_space, keep_character, passes, tag_of, put_tab, tab, preserve, enter, step, newline, finished}
+use Rattle.tbr_model.specs.Laid.{Laid, extended, end_if_character, put_items}
+use Rattle.tbr_model.specs.Rule.{Event, call, entry, run_of, Space, Progress, spaces, pending_width, space_text, space_of, wrap_space, put_pending, lay_here, lay_fresh, lay, flush_word, keep_space, keep_character, passes, tag_of, put_tab, tab, preserve, enter, step, newline, finished}
 use Rattle.tbr_model.specs.Hard.{HasMode, is_newline, entry_letters}
 use Rattle.tbr_model.proofs.words.Items.{break_lost, WaitsIn}
-use Rattle.tbr_model.proofs.rule.HardLineStart.{IsFresh}
-use Rattle.tbr_model.proofs.rule.LaidText.{text, text-extended, joined-ended, text-fresh, text-put_items, text-put_pending, text-put_tab, kept_of, kept-append, none_kept, kept_one, kept-spaces, kept-space_text}
+use Rattle.tbr_model.proofs.rule.HardLineStart.{BeginsHardLine}
+use Rattle.tbr_model.proofs.rule.LaidText.{text, text-extended, joined-end_line, text-end_if_character, text-put_items, text-put_pending, text-put_tab, kept_of, kept-append, none_kept, kept_one, kept-spaces, kept-space_text}
 
 -- the kept characters on the lines and in the word
 abbrev pub kept_so_far : {A : Type 0} → (ℕ → Option ℕ) → Progress A → List ℕ
@@ -32,36 +32,36 @@ without_spaces columns a s b h =
 here_laid : {A : Type 0} (columns : ℕ → Option ℕ) (p : Progress A) → IsLaid columns p (lay_here columns p)
 here_laid columns p = record {
   kept =
-      ap (kept_of columns) (append-nil (text (lay_here columns p).laid) ∙ text-extended p.laid (space_text p.space ++ p.word) (space_columns p.space + items_width columns p.word))
+      ap (kept_of columns) (append-nil (text (lay_here columns p).laid) ∙ text-extended p.laid (space_text p.space ++ p.word) (pending_width p.space + items_width columns p.word))
       ∙ without_spaces columns (text p.laid) (space_text p.space) p.word (kept-space_text columns p.space);
   word = refl;
   space = refl;
 }
 
 -- the second differs in spaces on its lines, and in what is pending
-pub record IsUnfit {A : Type 0} (columns : ℕ → Option ℕ) (p q : Progress A) : Type 0 where
+pub record HasWrappedSpace {A : Type 0} (columns : ℕ → Option ℕ) (p q : Progress A) : Type 0 where
   pub kept : kept_of columns (text q.laid) ≡ kept_of columns (text p.laid)
   pub word : q.word ≡ p.word
 
 more_spaces : {A : Type 0} (columns : ℕ → Option ℕ) (a s : List (Item A)) → kept_of columns s ≡ [] → kept_of columns (a ++ s) ≡ kept_of columns a
 more_spaces columns a s h = kept-append columns a s ∙ ap (λ ks. kept_of columns a ++ ks) h ∙ append-nil (kept_of columns a)
 
-pre_unfit : {A : Type 0} (columns : ℕ → Option ℕ) (width : ℕ) (p : Progress A) (o : Option (Space A)) → WaitsIn Pre o → IsUnfit columns p (unfit columns width p o)
-pre_unfit columns width p None h = record { kept = refl; word = refl }
-pre_unfit {A} columns width p (Some s) h =
+pre_wrap_space : {A : Type 0} (columns : ℕ → Option ℕ) (width : ℕ) (p : Progress A) (o : Option (Space A)) → WaitsIn Pre o → HasWrappedSpace columns p (wrap_space columns width p o)
+pre_wrap_space columns width p None h = record { kept = refl; word = refl }
+pre_wrap_space {A} columns width p (Some s) h =
     rw h
-    (cond_both (nat_le (width - p.laid.width) s.columns) _ _ (IsUnfit columns p) (λ _. record { kept = refl; word = refl })
+    (cond_both (nat_le (width - p.laid.width) s.width) _ _ (HasWrappedSpace columns p) (λ _. record { kept = refl; word = refl })
     (λ _. record {
-      kept = ap (kept_of columns) (text-extended p.laid (spaces s.columns s.tag) s.columns) ∙ more_spaces columns (text p.laid) (spaces s.columns s.tag) (kept-spaces columns s.columns s.tag);
+      kept = ap (kept_of columns) (text-extended p.laid (spaces s.width s.tag) s.width) ∙ more_spaces columns (text p.laid) (spaces s.width s.tag) (kept-spaces columns s.width s.tag);
       word = refl;
     }))
 
-fresh_laid : {A : Type 0} (columns : ℕ → Option ℕ) (width : ℕ) (p q : Progress A) → IsUnfit columns p q → has_character q.word ≡ true → IsLaid columns p (lay_fresh columns width q)
+fresh_laid : {A : Type 0} (columns : ℕ → Option ℕ) (width : ℕ) (p q : Progress A) → HasWrappedSpace columns p q → has_character q.word ≡ true → IsLaid columns p (lay_fresh columns width q)
 fresh_laid {A} columns width p q h some =
     rw some (record { kept = same; word = refl; space = refl })
   where
     under : Laid A
-    under = put_pending width q.space (fresh q.laid)
+    under = put_pending width q.space (end_if_character q.laid)
 
     over : Laid A
     over = put_items columns width under q.word
@@ -69,7 +69,7 @@ fresh_laid {A} columns width p q h some =
     laid : text over ≡ text q.laid ++ (space_text q.space ++ q.word)
     laid =
         text-put_items columns width q.word under
-        ∙ ap (λ is. is ++ q.word) (text-put_pending width q.space (fresh q.laid) ∙ ap (λ is. is ++ space_text q.space) (text-fresh q.laid))
+        ∙ ap (λ is. is ++ q.word) (text-put_pending width q.space (end_if_character q.laid) ∙ ap (λ is. is ++ space_text q.space) (text-end_if_character q.laid))
         ∙ append_assoc (text q.laid) (space_text q.space) q.word
 
     same : kept_of columns (text over ++ []) ≡ kept_so_far columns p
@@ -83,10 +83,10 @@ fresh_laid {A} columns width p q h some =
 
 pub pre_laid : {A : Type 0} (columns : ℕ → Option ℕ) (width : ℕ) (p : Progress A) → WaitsIn Pre p.space → has_character p.word ≡ true → IsLaid columns p (lay columns width p)
 pre_laid {A} columns width p h some =
-    cond_both (nat_le (p.laid.width + (space_columns p.space + items_width columns p.word)) width) _ _ (IsLaid columns p) (λ _. here_laid columns p)
+    cond_both (nat_le (p.laid.width + (pending_width p.space + items_width columns p.word)) width) _ _ (IsLaid columns p) (λ _. here_laid columns p)
     (λ _.
-    let u = pre_unfit columns width p p.space h in
-    fresh_laid columns width p (unfit columns width p p.space) u (ap has_character u.word ∙ some))
+    let u = pre_wrap_space columns width p p.space h in
+    fresh_laid columns width p (wrap_space columns width p p.space) u (ap has_character u.word ∙ some))
 
 -- the second has no character in its word
 record IsFlushed {A : Type 0} (columns : ℕ → Option ℕ) (p q : Progress A) : Type 0 where
@@ -123,7 +123,7 @@ space_goes columns c x None p h lost = record { kept = sym (append-nil (kept_so_
 space_goes {A} columns c x (Some n) p h lost =
     cond_both (has_character p.word) _ _ (λ (q : Progress A). Goes columns p q [])
     (λ _. record { kept = word_goes columns p (glyph c x ∷ []) ∙ ap (λ ks. kept_so_far columns p ++ ks) (kept_one columns c x lost); pends = h })
-    (λ _. record { kept = sym (append-nil (kept_so_far columns p)); pends = pends_of (space_columns p.space + n) x })
+    (λ _. record { kept = sym (append-nil (kept_so_far columns p)); pends = pends_of (pending_width p.space + n) x })
 
 one_kept : (ℕ → Option ℕ) → ℕ → List ℕ
 one_kept columns c = filter (is_kept columns) (c ∷ [])
@@ -153,12 +153,12 @@ tab_goes {A} columns width a p q h = record {
   kept =
       cond_both (nat_lt column width) _ _ (λ (m : Laid A). kept_of columns (text m ++ q.word) ≡ kept_so_far columns p ++ [])
       (λ _. same (put_tab width column a q.laid) (tab_kept columns width column a q.laid))
-      (λ _. same (put_tab width 0 a (fresh q.laid)) (tab_kept columns width 0 a (fresh q.laid) ∙ ap (kept_of columns) (text-fresh q.laid)));
+      (λ _. same (put_tab width 0 a (end_if_character q.laid)) (tab_kept columns width 0 a (end_if_character q.laid) ∙ ap (kept_of columns) (text-end_if_character q.laid)));
   pends = h.pends;
 }
   where
     column : ℕ
-    column = q.laid.width + space_columns q.space
+    column = q.laid.width + pending_width q.space
 
     same : (m : Laid A) → kept_of columns (text m) ≡ kept_of columns (text q.laid) → kept_of columns (text m ++ q.word) ≡ kept_so_far columns p ++ []
     same m e =
@@ -194,19 +194,19 @@ entry_goes : {A : Type 0} (columns : ℕ → Option ℕ) (width : ℕ) (e : Entr
     Goes columns p (enter columns width p e) (filter (is_kept columns) (entry_letters (e ∷ [])))
 unfolding one_kept
 entry_goes columns width (character c a b m) p h pre more = rw pre (preserve_goes columns width c a b p h more)
-entry_goes columns width (fragment name) p h pre more = record { kept = word_goes columns p (marker name ∷ []); pends = h }
+entry_goes columns width (marker_entry name) p h pre more = record { kept = word_goes columns p (marker name ∷ []); pends = h }
 
 -- ---- a hard line
 
 letters_of_entries : {A : Type 0} (e : Entry A) (es : List (Entry A)) → entry_letters (e ∷ []) ++ entry_letters es ≡ entry_letters (e ∷ es)
 letters_of_entries (character c a b m) es = refl
-letters_of_entries (fragment name) es = refl
+letters_of_entries (marker_entry name) es = refl
 
 line_goes : {A : Type 0} (columns : ℕ → Option ℕ) (width : ℕ) (es : List (Event A)) (p : Progress A) → WaitsIn Pre p.space → Each (HasMode Pre) (run_of es) → Each (λ e. is_newline e ≡ false) (run_of es) →
     Goes columns p (fold (step columns width) p es) (filter (is_kept columns) (entry_letters (run_of es)))
 line_goes columns width [] p h pre more = record { kept = sym (append-nil (kept_so_far columns p)); pends = h }
 line_goes columns width (call ∷ es) p h pre more =
-    let g = line_goes columns width es (record p { again = p.continued }) h pre more in
+    let g = line_goes columns width es (record p { in_continuation = p.continuation_flag }) h pre more in
     record { kept = g.kept; pends = g.pends }
 line_goes columns width (entry e ∷ es) p h pre more =
     let first = entry_goes columns width e p h pre.0 more.0 in
@@ -220,22 +220,22 @@ line_goes columns width (entry e ∷ es) p h pre more =
       pends = rest.pends;
     }
 
-fresh_kept : {A : Type 0} (columns : ℕ → Option ℕ) (p : Progress A) → IsFresh p → kept_so_far columns p ≡ []
+fresh_kept : {A : Type 0} (columns : ℕ → Option ℕ) (p : Progress A) → BeginsHardLine p → kept_so_far columns p ≡ []
 fresh_kept columns p f = rw (f.done, f.line) (none_kept columns p.word f.word)
 
-fresh_pends : {A : Type 0} (p : Progress A) → IsFresh p → WaitsIn Pre p.space
+fresh_pends : {A : Type 0} (p : Progress A) → BeginsHardLine p → WaitsIn Pre p.space
 fresh_pends p f = rw (f.space) tt
 
 ended_kept : {A : Type 0} (columns : ℕ → Option ℕ) (q : Progress A) → has_character q.word ≡ false → kept_of columns (joined (newline q).laid.done) ≡ kept_so_far columns q
-ended_kept columns q none = ap (kept_of columns) (joined-ended q.laid) ∙ sym (more_spaces columns (text q.laid) q.word (none_kept columns q.word none))
+ended_kept columns q none = ap (kept_of columns) (joined-end_line q.laid) ∙ sym (more_spaces columns (text q.laid) q.word (none_kept columns q.word none))
 
-freshened_kept : {A : Type 0} (columns : ℕ → Option ℕ) (q : Progress A) → has_character q.word ≡ false → kept_of columns (joined (fresh q.laid).done) ≡ kept_so_far columns q
+freshened_kept : {A : Type 0} (columns : ℕ → Option ℕ) (q : Progress A) → has_character q.word ≡ false → kept_of columns (joined (end_if_character q.laid).done) ≡ kept_so_far columns q
 freshened_kept {A} columns q none =
     cond_both (has_character q.laid.line) _ _ (λ (m : Laid A). kept_of columns (joined m.done) ≡ kept_so_far columns q) (λ _. ended_kept columns q none)
     (λ bare. sym (more_spaces columns (joined q.laid.done) q.laid.line (none_kept columns q.laid.line bare)) ∙ sym (more_spaces columns (text q.laid) q.word (none_kept columns q.word none)))
 
 -- the kept characters of a hard line's own lines are its own, before a newline and at the end
-pub pre_kept : {A : Type 0} (columns : ℕ → Option ℕ) (width : ℕ) (p : Progress A) (es : List (Event A)) → IsFresh p → Each (HasMode Pre) (run_of es) → Each (λ e. is_newline e ≡ false) (run_of es) →
+pub pre_kept : {A : Type 0} (columns : ℕ → Option ℕ) (width : ℕ) (p : Progress A) (es : List (Event A)) → BeginsHardLine p → Each (HasMode Pre) (run_of es) → Each (λ e. is_newline e ≡ false) (run_of es) →
     let q = fold (step columns width) p es in
     let ks = filter (is_kept columns) (entry_letters (run_of es)) in
     (kept_of columns (joined (newline (flush_word columns width q)).laid.done) ≡ ks) × (kept_of columns (joined (finished columns width q).done) ≡ ks)

@@ -4,12 +4,12 @@ use Rattle.std.specs.List.{AllByRecursion as Each}
 use Rattle.std.proofs.lemmas.Bool.{cond_both, eqb-true, eqb-false}
 use Rattle.tbr_model.specs.declared.white_space.WhiteSpace.{WhiteSpace}
 use Rattle.tbr_model.specs.declared.white_space.WhiteSpace.TheVariants.{Pre}
-use Rattle.tbr_model.specs.Run.{Entry, character, fragment, Item, glyph, marker, items_width, has_character}
-use Rattle.tbr_model.specs.Rule.{Event, call, entry, run_of, Progress, space_columns, keep_space, keep_character, passes, tag_of, enter, step}
+use Rattle.tbr_model.specs.Run.{Entry, character, marker_entry, Item, glyph, marker, items_width, has_character}
+use Rattle.tbr_model.specs.Rule.{Event, call, entry, run_of, Progress, pending_width, keep_space, keep_character, passes, tag_of, enter, step}
 use Rattle.tbr_model.specs.Hard.{HasMode, glyphs_of, entry_letters, IsPrintable, IsPrintableEntry, BeginsWithNonBlank, StandUnder, HasMain, HasContinuation}
 use Rattle.tbr_model.proofs.rule.Printable.{preserved_space, preserved_visible, visible_of}
 use Rattle.tbr_model.proofs.words.Items.{glyphs_of-append, no_glyphs, back_has}
-use Rattle.tbr_model.proofs.rule.HardLineStart.{IsFresh}
+use Rattle.tbr_model.proofs.rule.HardLineStart.{BeginsHardLine}
 use Rattle.tbr_model.proofs.pre.WaitingWord.{unit_markers, units_width}
 
 -- ---- annotations, place by place
@@ -48,7 +48,7 @@ record IsBegun {A : Type 0} (columns : ℕ → Option ℕ) (width : ℕ) (q : Pr
   space : q.space ≡ None
   empty : q.laid.width ≡ 0
   begins : has_character q.word ≡ false → BeginsWithNonBlank cs
-  first : items_width columns q.word < width → (q.again ≡ false) × (q.continued ≡ false)
+  first : items_width columns q.word < width → (q.in_continuation ≡ false) × (q.continuation_flag ≡ false)
 
 -- the second's word has these entries more
 record Tags {A : Type 0} (columns : ℕ → Option ℕ) (eq : A → A → Bool) (width : ℕ) (q r : Progress A) (es : List (Entry A)) : Type 0 where
@@ -64,15 +64,15 @@ joined_width columns (marker name ∷ is) c x one = omega (arith, joined_width c
 
 module _ {A : Type 0} (columns : ℕ → Option ℕ) (eq : A → A → Bool) (width : ℕ) (reflexive : (x : A) → eq x x ≡ true) (one_space : columns 32 ≡ Some 1) where
   -- a character has joined the word, and the rest goes on
-  joined_tags : (q : Progress A) (c : ℕ) (a b x : A) (m : WhiteSpace) (continued again : Bool) (es : List (Event A)) →
-      let s : Progress A = record { laid = q.laid; space = q.space; word = q.word ++ glyph c x ∷ []; mode = m; continued = continued; again = again } in
+  joined_tags : (q : Progress A) (c : ℕ) (a b x : A) (m : WhiteSpace) (continuation_flag in_continuation : Bool) (es : List (Event A)) →
+      let s : Progress A = record { laid = q.laid; space = q.space; word = q.word ++ glyph c x ∷ []; mode = m; continuation_flag = continuation_flag; in_continuation = in_continuation } in
       IsBegun columns width q (c ∷ entry_letters (run_of es)) → columns c ≡ Some 1 →
       (c ≢ 32 → (items_width columns q.word < width → HasMain eq (character c a b Pre) x) × (width ≤ items_width columns q.word → HasContinuation eq (character c a b Pre) x)) →
-      (items_width columns q.word + 1 < width → (again ≡ false) × (continued ≡ false)) →
+      (items_width columns q.word + 1 < width → (in_continuation ≡ false) × (continuation_flag ≡ false)) →
       (IsBegun columns width s (entry_letters (run_of es)) → Tags columns eq width s (fold (step columns width) s es) (run_of es)) →
       Tags columns eq width q (fold (step columns width) s es) (character c a b Pre ∷ run_of es)
-  joined_tags q c a b x m continued again es h one has first rest =
-      let s : Progress A = record { laid = q.laid; space = q.space; word = q.word ++ glyph c x ∷ []; mode = m; continued = continued; again = again } in
+  joined_tags q c a b x m continuation_flag in_continuation es h one has first rest =
+      let s : Progress A = record { laid = q.laid; space = q.space; word = q.word ++ glyph c x ∷ []; mode = m; continuation_flag = continuation_flag; in_continuation = in_continuation } in
       let wider : items_width columns (q.word ++ glyph c x ∷ []) ≡ items_width columns q.word + 1 = joined_width columns q.word c x one in
       let begun : IsBegun columns width s (entry_letters (run_of es)) = record {
         space = h.space;
@@ -99,13 +99,13 @@ module _ {A : Type 0} (columns : ℕ → Option ℕ) (eq : A → A → Bool) (wi
       spaced : c ≡ 32 → Holds (keep_space c (tag_of q a b) Pre (Some 1) q)
       spaced same =
           cond_both (has_character q.word) _ _ Holds
-          (λ some. joined_tags q c a b (tag_of q a b) (if has_character q.word then q.mode else Pre) q.continued q.again es h printable.2 (λ other. absurd (other same)) (λ less. h.first (omega arith))
+          (λ some. joined_tags q c a b (tag_of q a b) (if has_character q.word then q.mode else Pre) q.continuation_flag q.in_continuation es h printable.2 (λ other. absurd (other same)) (λ less. h.first (omega arith))
           (rest _))
           (λ none. absurd (h.begins none same))
 
       visible : Holds (keep_character columns width c a b Pre (Some 1) q)
       visible =
-          let columns_before : space_columns q.space ≡ 0 = ap space_columns h.space in
+          let columns_before : pending_width q.space ≡ 0 = ap pending_width h.space in
           cond_both (passes columns width 1 q) _ _ Holds
           (λ past.
           let behind : width ≤ items_width columns q.word = omega (arith, ltb-true _ _ past, h.empty, columns_before) in
@@ -114,7 +114,7 @@ module _ {A : Type 0} (columns : ℕ → Option ℕ) (eq : A → A → Bool) (wi
           (λ within.
           let before : items_width columns q.word < width = omega (arith, ltb-false _ _ within, h.empty, columns_before) in
           let tag : tag_of q a b ≡ a = rw ((h.first before).0) refl in
-          joined_tags q c a b (tag_of q a b) (if has_character q.word then q.mode else Pre) q.continued q.again es h printable.2
+          joined_tags q c a b (tag_of q a b) (if has_character q.word then q.mode else Pre) q.continuation_flag q.in_continuation es h printable.2
           (λ _. (λ _. ap (λ y. eq y a) tag ∙ reflexive a, λ past. absurd (omega (arith, past, before)))) (λ less. h.first before)
           (rest _))
 
@@ -128,20 +128,20 @@ module _ {A : Type 0} (columns : ℕ → Option ℕ) (eq : A → A → Bool) (wi
       Tags columns eq width q (fold (step columns width) q es) (run_of es)
   line_tags [] q h pre printable = record { more = []; glyphs = sym (append-nil (glyphs_of q.word)); tagged = tt; space = h.space }
   line_tags (call ∷ es) q h pre printable =
-      let s : Progress A = record q { again = q.continued } in
+      let s : Progress A = record q { in_continuation = q.continuation_flag } in
       let begun : IsBegun columns width s (entry_letters (run_of es)) = record { space = h.space; empty = h.empty; begins = h.begins; first = λ less. (let f = h.first less in (f.1, f.1)) } in
       let t = line_tags es s begun pre printable in
       record { more = t.more; glyphs = t.glyphs; tagged = t.tagged; space = t.space }
-  line_tags (entry (fragment name) ∷ es) q h pre printable = absurd printable.0
+  line_tags (entry (marker_entry name) ∷ es) q h pre printable = absurd printable.0
   line_tags (entry (character c a b m) ∷ es) q h pre printable =
       rw (pre.0) (character_tags c a b es q printable.0 h (λ s begun. line_tags es s begun pre.1 printable.1))
 
   -- the word of a hard line that begins with a non-blank
-  pub pre_tags : (p : Progress A) (es : List (Event A)) → IsFresh p → Each (HasMode Pre) (run_of es) → Each (IsPrintableEntry columns) (run_of es) → BeginsWithNonBlank (entry_letters (run_of es)) →
+  pub pre_tags : (p : Progress A) (es : List (Event A)) → BeginsHardLine p → Each (HasMode Pre) (run_of es) → Each (IsPrintableEntry columns) (run_of es) → BeginsWithNonBlank (entry_letters (run_of es)) →
       let q = fold (step columns width) p es in
       IsTagged eq width 0 (glyphs_of q.word) (run_of es) × (q.space ≡ None)
   pre_tags p es f pre printable begins =
-      let t = line_tags es p (record { space = f.space; empty = f.width; begins = λ _. begins; first = λ _. (f.again, f.continued) }) pre printable in
+      let t = line_tags es p (record { space = f.space; empty = f.width; begins = λ _. begins; first = λ _. (f.in_continuation, f.continuation_flag) }) pre printable in
       let empty : glyphs_of p.word ≡ [] = no_glyphs p.word f.word in
       let glyphs : glyphs_of (fold (step columns width) p es).word ≡ t.more = t.glyphs ∙ ap (λ gs. gs ++ t.more) empty in
       let start : items_width columns p.word ≡ 0 = units_width columns p.word (unit_markers columns p.word f.word) ∙ ap (λ gs. length (map (λ g. g.0) gs)) empty in

@@ -11,13 +11,13 @@ use Rattle.tbr_model.proofs.rule.Printable.{IsVisible, break_not, preserved_spac
 
 module _ {A : Type 0} (columns : ℕ → Option ℕ) (width : ℕ) (a b : A) (mode : WhiteSpace) (p : Progress A) (wraps : mode ≡ PreWrap) where
   -- a space breaks the word and waits
-  pub wrap_space : columns 32 ≡ Some 1 →
+  pub enter_wrap_space : columns 32 ≡ Some 1 →
       enter columns width p (character 32 a b mode) ≡ keep_space 32 (tag_of (break_word columns width p) a b) PreWrap (Some 1) (break_word columns width p)
-  wrap_space one = ap (λ m. enter columns width p (character 32 a b m)) wraps ∙ preserved_space columns width a b PreWrap (break_word columns width p) one
+  enter_wrap_space one = ap (λ m. enter columns width p (character 32 a b m)) wraps ∙ preserved_space columns width a b PreWrap (break_word columns width p) one
 
   -- a visible character joins the word
-  pub wrap_visible : (c : ℕ) → IsVisible columns c → enter columns width p (character c a b mode) ≡ join c (tag_of p a b) PreWrap p
-  wrap_visible c v = ap (λ m. enter columns width p (character c a b m)) wraps ∙ joins
+  pub enter_wrap_visible : (c : ℕ) → IsVisible columns c → enter columns width p (character c a b mode) ≡ join c (tag_of p a b) PreWrap p
+  enter_wrap_visible c v = ap (λ m. enter columns width p (character c a b m)) wraps ∙ joins
     where
       joins : enter columns width p (character c a b PreWrap) ≡ join c (tag_of p a b) PreWrap p
       joins =

@@ -4,14 +4,14 @@ use Rattle.std.specs.List.{AllByRecursion as Each}
 use Rattle.std.proofs.lemmas.Bool.Decides.{eqb_tells}
 use Rattle.tbr_model.specs.declared.white_space.WhiteSpace.{WhiteSpace}
 use Rattle.tbr_model.specs.declared.white_space.WhiteSpace.TheVariants.{Normal, PreWrap}
-use Rattle.tbr_model.specs.Run.{character, fragment, has_character}
+use Rattle.tbr_model.specs.Run.{character, marker_entry, has_character}
 use Rattle.tbr_model.specs.Rule.{Event, call, entry, run_of, Progress, lay_here, flush_word, break_word, tag_of, keep_space, enter, step}
 use Rattle.tbr_model.specs.Hard.{HasMode, letters_of, entry_letters, IsPrintableLine, IsSpaces, without_last_spaces}
 use Rattle.tbr_model.proofs.rule.Printable.{visible_of}
 use Rattle.tbr_model.proofs.words.Items.{some_letters}
-use Rattle.tbr_model.proofs.tabs.FittingText.{Reads, lay_fits, laid_letters, again_reads}
+use Rattle.tbr_model.proofs.tabs.FittingText.{Reads, lay_fits, laid_letters, continuation_reads}
 use Rattle.tbr_model.proofs.tabs.HardLine.{IsLine, line_is, end_reads, laid_has, space_entered, visible_entered}
-use Rattle.tbr_model.proofs.prewrap.Entry.{wrap_space, break_none, break_some, last_spaces}
+use Rattle.tbr_model.proofs.prewrap.Entry.{enter_wrap_space, break_none, break_some, last_spaces}
 
 -- the text is the open line, and no word is under way
 record Waits {A : Type 0} (x : List ℕ) (p : Progress A) : Type 0 where
@@ -26,7 +26,7 @@ Stands columns x p = (Reads columns x p × has_character p.word ≡ true) ⊎ Wa
 
 space_waits : {A : Type 0} (columns : ℕ → Option ℕ) (width : ℕ) (a b : A) (mode : WhiteSpace) (x : List ℕ) (p : Progress A) → mode ≡ PreWrap → columns 32 ≡ Some 1 → length x ≤ width → Stands columns x p →
     Waits x (enter columns width p (character 32 a b mode))
-space_waits {A} columns width a b mode x p wraps one fits h = subst (Waits x) (sym (wrap_space columns width a b mode p wraps one)) (go h)
+space_waits {A} columns width a b mode x p wraps one fits h = subst (Waits x) (sym (enter_wrap_space columns width a b mode p wraps one)) (go h)
   where
     keeps : (q : Progress A) → Waits x q → Waits x (keep_space 32 (tag_of q a b) PreWrap (Some 1) q)
     keeps q w = rw (w.word) (record { done = w.done; letters = w.letters; some = w.some; word = w.word })
@@ -41,12 +41,12 @@ spaces_stand : {A : Type 0} (columns : ℕ → Option ℕ) (width : ℕ) (es : L
     IsSpaces (entry_letters (run_of es)) → length x ≤ width → Stands columns x p → Stands columns x (fold (step columns width) p es)
 spaces_stand columns width [] x p one modes printable spaces fits h = h
 spaces_stand {A} columns width (call ∷ es) x p one modes printable spaces fits h =
-    spaces_stand columns width es x (record p { again = p.continued }) one modes printable spaces fits (go h)
+    spaces_stand columns width es x (record p { in_continuation = p.continuation_flag }) one modes printable spaces fits (go h)
   where
-    go : Stands columns x p → Stands columns x (record p { again = p.continued })
-    go (inl r) = inl (again_reads columns x p p.continued p.continued r.0, r.1)
+    go : Stands columns x p → Stands columns x (record p { in_continuation = p.continuation_flag })
+    go (inl r) = inl (continuation_reads columns x p p.continuation_flag p.continuation_flag r.0, r.1)
     go (inr w) = inr (record { done = w.done; letters = w.letters; some = w.some; word = w.word })
-spaces_stand columns width (entry (fragment name) ∷ es) x p one modes printable spaces fits h = absurd printable.0
+spaces_stand columns width (entry (marker_entry name) ∷ es) x p one modes printable spaces fits h = absurd printable.0
 spaces_stand {A} columns width (entry (character c a b mode) ∷ es) x p one modes printable spaces fits h =
     spaces_stand columns width es x (enter columns width p (character c a b mode)) one modes.1 printable.1 spaces.1 fits
     (inr (subst (λ d. Waits x (enter columns width p (character d a b mode))) (sym spaces.0) (space_waits columns width a b mode x p modes.0 one fits h)))
@@ -61,8 +61,8 @@ pub fits_read : {A : Type 0} (columns : ℕ → Option ℕ) (width : ℕ) (es : 
     IsLine (x ++ without_last_spaces (entry_letters (run_of es))) (flush_word columns width (fold (step columns width) p es)).laid
 fits_read {A} columns width [] x p one modes printable fits has h = subst (λ (t : List ℕ). IsLine t (flush_word columns width p).laid) (sym (append-nil x)) (end_reads columns width x p h (omega (arith, fits)) (has refl))
 fits_read columns width (call ∷ es) x p one modes printable fits has h =
-    fits_read columns width es x (record p { again = p.continued }) one modes printable fits has (again_reads columns x p p.continued p.continued h)
-fits_read columns width (entry (fragment name) ∷ es) x p one modes printable fits has h = absurd printable.0
+    fits_read columns width es x (record p { in_continuation = p.continuation_flag }) one modes printable fits has (continuation_reads columns x p p.continuation_flag p.continuation_flag h)
+fits_read columns width (entry (marker_entry name) ∷ es) x p one modes printable fits has h = absurd printable.0
 fits_read {A} columns width (entry (character c a b mode) ∷ es) x p one modes printable fits has h = elim (last_spaces c cs) [
   | inl w ↦
       let short : length x ≤ width = omega (arith, fits) in

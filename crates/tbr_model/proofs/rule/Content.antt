@@ -5,12 +5,12 @@ use Rattle.std.specs.List.{AllZip}
 use Rattle.std.proofs.lemmas.Bool.{cond_both, eqb-true, and_parts, and_left, and_right, not_from_true}
 use Rattle.tbr_model.specs.declared.white_space.WhiteSpace.{WhiteSpace}
 use Rattle.tbr_model.specs.declared.white_space.WhiteSpace.TheVariants.{Normal, Pre, PreWrap}
-use Rattle.tbr_model.specs.Run.{Entry, character, fragment, Item, glyph, marker, items_width, has_character, is_blank, is_break, is_kept}
+use Rattle.tbr_model.specs.Run.{Entry, character, marker_entry, Item, glyph, marker, items_width, has_character, is_blank, is_break, is_kept}
 use Rattle.tbr_model.specs.Layout.{joined}
-use Rattle.tbr_model.specs.Laid.{Laid, extended, ended, fresh, put_items}
-use Rattle.tbr_model.specs.Rule.{Event, call, entry, run_of, Space, Progress, spaces, space_columns, space_text, is_space_item, is_white_item, without_leading, without_trailing, trimmed, unfit_by, unfit, put_pending, lay_here, lay_fresh, lay, flush_word, break_word, join, collapse, newline, put_tab, tab, keep_space, is_pre, passes, tag_of, keep_character, preserve, enter, step, finished}
+use Rattle.tbr_model.specs.Laid.{Laid, extended, end_line, end_if_character, put_items}
+use Rattle.tbr_model.specs.Rule.{Event, call, entry, run_of, Space, Progress, spaces, pending_width, space_text, is_space_item, is_white_item, without_leading, without_trailing, trimmed, wrap_space_by, wrap_space, put_pending, lay_here, lay_fresh, lay, flush_word, break_word, join, collapse, newline, put_tab, tab, keep_space, is_pre, passes, tag_of, keep_character, preserve, enter, step, finished}
 use Rattle.tbr_model.specs.Hard.{is_visible}
-use Rattle.tbr_model.proofs.rule.LaidText.{text, text-extended, text-ended, text-fresh, text-put_items, text-put_pending, text-put_tab}
+use Rattle.tbr_model.proofs.rule.LaidText.{text, text-extended, text-end_line, text-end_if_character, text-put_items, text-put_pending, text-put_tab}
 
 -- ---- white space is not visible
 
@@ -43,9 +43,9 @@ pub record LooksAtVisible {A X : Type 0} (columns : ℕ → Option ℕ) (found :
 -- an item stands for an entry: a character under one of its annotations, or a marker
 abbrev pub StandsFor : {A : Type 0} → Item A → Entry A → Type 0
 StandsFor (glyph c x) (character d a b m) = (c ≡ d) × ((x ≡ a) ⊎ (x ≡ b))
-StandsFor (glyph c x) (fragment name) = ⊥
+StandsFor (glyph c x) (marker_entry name) = ⊥
 StandsFor (marker name) (character d a b m) = ⊥
-StandsFor (marker name) (fragment other) = name ≡ other
+StandsFor (marker name) (marker_entry other) = name ≡ other
 
 module _ {A X : Type 0} (columns : ℕ → Option ℕ) (found : List (Item A) → List X) (looks : LooksAtVisible columns found) where
   spaces_hidden : (n : ℕ) (a : A) → found (spaces n a) ≡ []
@@ -99,7 +99,7 @@ module _ {A X : Type 0} (columns : ℕ → Option ℕ) (found : List (Item A) �
 
   put_pending_content : (width : ℕ) (o : Option (Space A)) (l : Laid A) → on_lines (put_pending width o l) ≡ on_lines l
   put_pending_content width None l = refl
-  put_pending_content width (Some s) l = no_more_found l (put_pending width (Some s) l) (spaces s.columns s.tag) (text-put_pending width (Some s) l) (spaces_hidden s.columns s.tag)
+  put_pending_content width (Some s) l = no_more_found l (put_pending width (Some s) l) (spaces s.width s.tag) (text-put_pending width (Some s) l) (spaces_hidden s.width s.tag)
 
   put_tab_content : (width column : ℕ) (a : A) (l : Laid A) → on_lines (put_tab width column a l) ≡ on_lines l
   put_tab_content width column a l =
@@ -112,21 +112,21 @@ module _ {A X : Type 0} (columns : ℕ → Option ℕ) (found : List (Item A) �
 
   -- ---- a word
 
-  unfit_by_content : (width : ℕ) (p : Progress A) (s : Space A) (mode : WhiteSpace) → content (unfit_by columns width p s mode) ≡ content p
-  unfit_by_content width p s Normal = refl
-  unfit_by_content width p s Pre =
-      cond_both (nat_le (width - p.laid.width) s.columns) _ _ (λ (q : Progress A). content q ≡ content p) (λ _. refl)
+  wrap_space_by_content : (width : ℕ) (p : Progress A) (s : Space A) (mode : WhiteSpace) → content (wrap_space_by columns width p s mode) ≡ content p
+  wrap_space_by_content width p s Normal = refl
+  wrap_space_by_content width p s Pre =
+      cond_both (nat_le (width - p.laid.width) s.width) _ _ (λ (q : Progress A). content q ≡ content p) (λ _. refl)
       (λ _. ap (λ xs. xs ++ found p.word)
-      (no_more_found p.laid (extended p.laid (spaces s.columns s.tag) s.columns) (spaces s.columns s.tag) (text-extended p.laid (spaces s.columns s.tag) s.columns) (spaces_hidden s.columns s.tag)))
-  unfit_by_content width p s PreWrap = ap (λ xs. xs ++ found (without_leading p.word)) (trimmed_content p.laid) ∙ ap (λ xs. on_lines p.laid ++ xs) (leading_same p.word)
+      (no_more_found p.laid (extended p.laid (spaces s.width s.tag) s.width) (spaces s.width s.tag) (text-extended p.laid (spaces s.width s.tag) s.width) (spaces_hidden s.width s.tag)))
+  wrap_space_by_content width p s PreWrap = ap (λ xs. xs ++ found (without_leading p.word)) (trimmed_content p.laid) ∙ ap (λ xs. on_lines p.laid ++ xs) (leading_same p.word)
 
-  unfit_content : (width : ℕ) (p : Progress A) (o : Option (Space A)) → content (unfit columns width p o) ≡ content p
-  unfit_content width p None = refl
-  unfit_content width p (Some s) = unfit_by_content width p s s.mode
+  wrap_space_content : (width : ℕ) (p : Progress A) (o : Option (Space A)) → content (wrap_space columns width p o) ≡ content p
+  wrap_space_content width p None = refl
+  wrap_space_content width p (Some s) = wrap_space_by_content width p s s.mode
 
   space_text_hidden : (o : Option (Space A)) → found (space_text o) ≡ []
   space_text_hidden None = looks.nothing
-  space_text_hidden (Some s) = spaces_hidden s.columns s.tag
+  space_text_hidden (Some s) = spaces_hidden s.width s.tag
 
   -- a word that is laid holds nothing
   emptied : (l : Laid A) → on_lines l ++ found [] ≡ on_lines l
@@ -135,7 +135,7 @@ module _ {A X : Type 0} (columns : ℕ → Option ℕ) (found : List (Item A) �
   lay_here_content : (p : Progress A) → content (lay_here columns p) ≡ content p
   lay_here_content p =
       emptied (lay_here columns p).laid
-      ∙ more_found p.laid (lay_here columns p).laid (space_text p.space ++ p.word) (text-extended p.laid (space_text p.space ++ p.word) (space_columns p.space + items_width columns p.word))
+      ∙ more_found p.laid (lay_here columns p).laid (space_text p.space ++ p.word) (text-extended p.laid (space_text p.space ++ p.word) (pending_width p.space + items_width columns p.word))
       ∙ ap (λ xs. on_lines p.laid ++ xs) (looks.append (space_text p.space) p.word ∙ ap (λ xs. xs ++ found p.word) (space_text_hidden p.space))
 
   lay_fresh_content : (width : ℕ) (p : Progress A) → content (lay_fresh columns width p) ≡ content p
@@ -145,15 +145,15 @@ module _ {A X : Type 0} (columns : ℕ → Option ℕ) (found : List (Item A) �
       (λ _. ap (λ xs. xs ++ found p.word) same)
     where
       l : Laid A
-      l = put_pending width p.space (fresh p.laid)
+      l = put_pending width p.space (end_if_character p.laid)
 
       same : on_lines l ≡ on_lines p.laid
-      same = put_pending_content width p.space (fresh p.laid) ∙ ap found (text-fresh p.laid)
+      same = put_pending_content width p.space (end_if_character p.laid) ∙ ap found (text-end_if_character p.laid)
 
   lay_content : (width : ℕ) (p : Progress A) → content (lay columns width p) ≡ content p
   lay_content width p =
-      cond_both (nat_le (p.laid.width + (space_columns p.space + items_width columns p.word)) width) _ _ (λ (q : Progress A). content q ≡ content p)
-      (λ _. lay_here_content p) (λ _. lay_fresh_content width (unfit columns width p p.space) ∙ unfit_content width p p.space)
+      cond_both (nat_le (p.laid.width + (pending_width p.space + items_width columns p.word)) width) _ _ (λ (q : Progress A). content q ≡ content p)
+      (λ _. lay_here_content p) (λ _. lay_fresh_content width (wrap_space columns width p p.space) ∙ wrap_space_content width p p.space)
 
   flush_word_content : (width : ℕ) (p : Progress A) → content (flush_word columns width p) ≡ content p
   flush_word_content width p = cond_both (has_character p.word) _ _ (λ (q : Progress A). content q ≡ content p) (λ _. lay_content width p) (λ _. refl)
@@ -162,13 +162,13 @@ module _ {A X : Type 0} (columns : ℕ → Option ℕ) (found : List (Item A) �
   break_word_content width p = cond_both (nat_lt 0 (items_width columns p.word)) _ _ (λ (q : Progress A). content q ≡ content p) (λ _. lay_content width p) (λ _. refl)
 
   newline_content : (p : Progress A) → content (newline p) ≡ content p
-  newline_content p = ap (λ l. found l ++ found p.word) (text-ended p.laid)
+  newline_content p = ap (λ l. found l ++ found p.word) (text-end_line p.laid)
 
   tab_content : (width : ℕ) (a : A) (p : Progress A) → content (tab width a p) ≡ content p
   tab_content width a p =
       ap (λ xs. xs ++ found p.word)
-      (cond_both (nat_lt (p.laid.width + space_columns p.space) width) _ _ (λ (m : Laid A). on_lines m ≡ on_lines p.laid)
-      (λ _. put_tab_content width (p.laid.width + space_columns p.space) a p.laid) (λ _. put_tab_content width 0 a (fresh p.laid) ∙ ap found (text-fresh p.laid)))
+      (cond_both (nat_lt (p.laid.width + pending_width p.space) width) _ _ (λ (m : Laid A). on_lines m ≡ on_lines p.laid)
+      (λ _. put_tab_content width (p.laid.width + pending_width p.space) a p.laid) (λ _. put_tab_content width 0 a (end_if_character p.laid) ∙ ap found (text-end_if_character p.laid)))
 
   collapse_content : (c : ℕ) (a : A) (p : Progress A) → content (collapse c a p) ≡ content p
   collapse_content c a p = cond_both (is_blank c && (nat_lt 0 p.laid.width && is_none p.space)) _ _ (λ (q : Progress A). content q ≡ content p) (λ _. refl) (λ _. refl)
@@ -195,7 +195,7 @@ module _ {A X : Type 0} (columns : ℕ → Option ℕ) (found : List (Item A) �
     grows_tagged : (m : WhiteSpace) (p : Progress A) → Grows p (character c a b m) (join c (tag_of p a b) m p)
     grows_tagged m p = (
       glyph c (tag_of p a b),
-      (refl, cond_both p.again _ _ (λ (x : A). (x ≡ a) ⊎ (x ≡ b)) (λ _. inr refl) (λ _. inl refl)),
+      (refl, cond_both p.in_continuation _ _ (λ (x : A). (x ≡ a) ⊎ (x ≡ b)) (λ _. inr refl) (λ _. inl refl)),
       word_content p (glyph c (tag_of p a b)),
     )
 
@@ -235,7 +235,7 @@ module _ {A X : Type 0} (columns : ℕ → Option ℕ) (found : List (Item A) �
             (i, stands, is ∙ ap (λ xs. xs ++ found (i ∷ [])) (break_word_content width p))
 
   enter_grows : (width : ℕ) (p : Progress A) (e : Entry A) → Grows p e (enter columns width p e)
-  enter_grows width p (fragment name) = (marker name, refl, word_content p (marker name))
+  enter_grows width p (marker_entry name) = (marker name, refl, word_content p (marker name))
   enter_grows width p (character c a b Normal) = collapse_grows width c a b p
   enter_grows width p (character c a b Pre) = preserve_grows width c a b Pre p
   enter_grows width p (character c a b PreWrap) = break_grows width c a b p
@@ -246,7 +246,7 @@ module _ {A X : Type 0} (columns : ℕ → Option ℕ) (found : List (Item A) �
   pub fold_content : (width : ℕ) (es : List (Event A)) (p : Progress A) →
       (is : List (Item A)) × AllZip StandsFor is (run_of es) × (content (fold (step columns width) p es) ≡ content p ++ found is)
   fold_content width [] p = ([], tt, sym (ap (λ xs. content p ++ xs) looks.nothing ∙ append-nil (content p)))
-  fold_content width (call ∷ es) p = fold_content width es (record p { again = p.continued })
+  fold_content width (call ∷ es) p = fold_content width es (record p { in_continuation = p.continuation_flag })
   fold_content width (entry e ∷ es) p =
       let (i, stands, first) = enter_grows width p e in
       let (is, stand, rest) = fold_content width es (enter columns width p e) in
@@ -257,7 +257,7 @@ module _ {A X : Type 0} (columns : ℕ → Option ℕ) (found : List (Item A) �
   pub finished_content : (width : ℕ) (p : Progress A) → on_lines (finished columns width p) ++ found (flush_word columns width p).word ≡ content p
   finished_content width p =
       let q : Progress A = flush_word columns width p in
-      ap (λ l. found l ++ found q.word) (text-fresh q.laid) ∙ flush_word_content width p
+      ap (λ l. found l ++ found q.word) (text-end_if_character q.laid) ∙ flush_word_content width p
 
   -- and so does a hard line
   pub newline_flushed : (width : ℕ) (p : Progress A) → content (newline (flush_word columns width p)) ≡ content p

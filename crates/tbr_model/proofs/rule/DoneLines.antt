@@ -2,9 +2,9 @@
 use Rattle.std.proofs.Common.{◌≡◌, ℕ, zero, suc, ◌+◌, ◌-◌, ◌%◌, ◌==◌, ◌&&◌, nat_le, nat_lt, Bool, true, false, if◌then◌else◌, is_some, is_none, Option, Some, None, List, [], ◌∷◌, ◌++◌, fold, refl, ap, ◌∙◌, append_assoc}
 use Rattle.tbr_model.specs.declared.white_space.WhiteSpace.{WhiteSpace}
 use Rattle.tbr_model.specs.declared.white_space.WhiteSpace.TheVariants.{Normal, Pre, PreWrap}
-use Rattle.tbr_model.specs.Run.{character, fragment, Item, glyph, item_width, items_width, has_character, is_blank, is_break, Entry}
-use Rattle.tbr_model.specs.Laid.{Laid, extended, ended, fresh, blanked, put_item, put_items}
-use Rattle.tbr_model.specs.Rule.{Event, call, entry, Space, Progress, spaces, space_columns, unfit_by, unfit, put_space, put_spaces, put_pending, is_pre, lay_fresh, lay, flush_word, break_word, collapse, newline, put_tab, tab, keep_space, passes, tag_of, keep_character, preserve, enter, step, finished}
+use Rattle.tbr_model.specs.Run.{character, marker_entry, Item, glyph, item_width, items_width, has_character, is_blank, is_break, Entry}
+use Rattle.tbr_model.specs.Laid.{Laid, extended, end_line, end_if_character, end_if_columns, put_item, put_items}
+use Rattle.tbr_model.specs.Rule.{Event, call, entry, Space, Progress, spaces, pending_width, wrap_space_by, wrap_space, put_space, put_spaces, put_pending, is_pre, lay_fresh, lay, flush_word, break_word, collapse, newline, put_tab, tab, keep_space, passes, tag_of, keep_character, preserve, enter, step, finished}
 
 -- ---- cases
 
@@ -22,20 +22,20 @@ under d l = record l { done = d ++ l.done }
 abbrev pub behind : {A : Type 0} → List (List (Item A)) → Progress A → Progress A
 behind d p = record p { laid = under d p.laid }
 
-pub ended_under : {A : Type 0} (d : List (List (Item A))) (l : Laid A) → ended (under d l) ≡ under d (ended l)
-ended_under d l = ap (λ ls. record { done = ls; line = []; width = 0 }) (append_assoc d l.done (l.line ∷ []))
+pub end_line_under : {A : Type 0} (d : List (List (Item A))) (l : Laid A) → end_line (under d l) ≡ under d (end_line l)
+end_line_under d l = ap (λ ls. record { done = ls; line = []; width = 0 }) (append_assoc d l.done (l.line ∷ []))
 
-pub fresh_under : {A : Type 0} (d : List (List (Item A))) (l : Laid A) → fresh (under d l) ≡ under d (fresh l)
-fresh_under d l = if_same (under d) (has_character l.line) (ended l) l (ended (under d l)) (under d l) (ended_under d l) refl
+pub end_if_character_under : {A : Type 0} (d : List (List (Item A))) (l : Laid A) → end_if_character (under d l) ≡ under d (end_if_character l)
+end_if_character_under d l = if_same (under d) (has_character l.line) (end_line l) l (end_line (under d l)) (under d l) (end_line_under d l) refl
 
-blanked_under : {A : Type 0} (d : List (List (Item A))) (l : Laid A) → blanked (under d l) ≡ under d (blanked l)
-blanked_under d l = if_same (under d) (l.width == 0) l (ended l) (under d l) (ended (under d l)) refl (ended_under d l)
+end_if_columns_under : {A : Type 0} (d : List (List (Item A))) (l : Laid A) → end_if_columns (under d l) ≡ under d (end_if_columns l)
+end_if_columns_under d l = if_same (under d) (l.width == 0) l (end_line l) (under d l) (end_line (under d l)) refl (end_line_under d l)
 
 put_item_under : {A : Type 0} (columns : ℕ → Option ℕ) (width : ℕ) (d : List (List (Item A))) (l : Laid A) (i : Item A) → put_item columns width (under d l) i ≡ under d (put_item columns width l i)
 put_item_under {A} columns width d l i =
     if_same (under d) (nat_le (l.width + item_width columns i) width) _ _ _ _ refl
-    (if_same (under d) (nat_le (item_width columns i) width) _ _ _ _ (ap (λ (m : Laid A). extended m (i ∷ []) (item_width columns i)) (ended_under d l))
-    (ap (λ (m : Laid A). ended (extended m (i ∷ []) (item_width columns i))) (blanked_under d l) ∙ ended_under d (extended (blanked l) (i ∷ []) (item_width columns i))))
+    (if_same (under d) (nat_le (item_width columns i) width) _ _ _ _ (ap (λ (m : Laid A). extended m (i ∷ []) (item_width columns i)) (end_line_under d l))
+    (ap (λ (m : Laid A). end_line (extended m (i ∷ []) (item_width columns i))) (end_if_columns_under d l) ∙ end_line_under d (extended (end_if_columns l) (i ∷ []) (item_width columns i))))
 
 put_items_under : {A : Type 0} (columns : ℕ → Option ℕ) (width : ℕ) (d : List (List (Item A))) (l : Laid A) (is : List (Item A)) → put_items columns width (under d l) is ≡ under d (put_items columns width l is)
 put_items_under columns width d l [] = refl
@@ -43,7 +43,7 @@ put_items_under {A} columns width d l (i ∷ is) =
     ap (λ (m : Laid A). put_items columns width m is) (put_item_under columns width d l i) ∙ put_items_under columns width d (put_item columns width l i) is
 
 put_space_under : {A : Type 0} (width : ℕ) (a : A) (d : List (List (Item A))) (l : Laid A) → put_space width a (under d l) ≡ under d (put_space width a l)
-put_space_under width a d l = if_same (under d) (l.width + 1 == width) _ _ _ _ (ended_under d (extended l (glyph 32 a ∷ []) 1)) refl
+put_space_under width a d l = if_same (under d) (l.width + 1 == width) _ _ _ _ (end_line_under d (extended l (glyph 32 a ∷ []) 1)) refl
 
 put_spaces_under : {A : Type 0} (width : ℕ) (a : A) (d : List (List (Item A))) (n : ℕ) (l : Laid A) → put_spaces width a n (under d l) ≡ under d (put_spaces width a n l)
 put_spaces_under width a d zero l = refl
@@ -52,38 +52,38 @@ put_spaces_under {A} width a d (suc n) l =
 
 put_pending_under : {A : Type 0} (width : ℕ) (d : List (List (Item A))) (o : Option (Space A)) (l : Laid A) → put_pending width o (under d l) ≡ under d (put_pending width o l)
 put_pending_under width d None l = refl
-put_pending_under width d (Some s) l = put_spaces_under width s.tag d s.columns l
+put_pending_under width d (Some s) l = put_spaces_under width s.tag d s.width l
 
 put_tab_under : {A : Type 0} (width column : ℕ) (a : A) (d : List (List (Item A))) (l : Laid A) → put_tab width column a (under d l) ≡ under d (put_tab width column a l)
 put_tab_under width column a d l =
-    if_same (under d) (nat_le (8 - column % 8) (width - column)) _ _ _ _ refl (ended_under d (extended l (spaces (width - column) a) (width - column)))
+    if_same (under d) (nat_le (8 - column % 8) (width - column)) _ _ _ _ refl (end_line_under d (extended l (spaces (width - column) a) (width - column)))
 
 -- ---- where a block stands
 
-unfit_by_behind : {A : Type 0} (columns : ℕ → Option ℕ) (width : ℕ) (d : List (List (Item A))) (p : Progress A) (s : Space A) (mode : WhiteSpace) →
-    unfit_by columns width (behind d p) s mode ≡ behind d (unfit_by columns width p s mode)
-unfit_by_behind columns width d p s Normal = refl
-unfit_by_behind columns width d p s Pre = if_same (behind d) (nat_le (width - p.laid.width) s.columns) _ _ _ _ refl refl
-unfit_by_behind columns width d p s PreWrap = refl
+wrap_space_by_behind : {A : Type 0} (columns : ℕ → Option ℕ) (width : ℕ) (d : List (List (Item A))) (p : Progress A) (s : Space A) (mode : WhiteSpace) →
+    wrap_space_by columns width (behind d p) s mode ≡ behind d (wrap_space_by columns width p s mode)
+wrap_space_by_behind columns width d p s Normal = refl
+wrap_space_by_behind columns width d p s Pre = if_same (behind d) (nat_le (width - p.laid.width) s.width) _ _ _ _ refl refl
+wrap_space_by_behind columns width d p s PreWrap = refl
 
-unfit_behind : {A : Type 0} (columns : ℕ → Option ℕ) (width : ℕ) (d : List (List (Item A))) (p : Progress A) (o : Option (Space A)) → unfit columns width (behind d p) o ≡ behind d (unfit columns width p o)
-unfit_behind columns width d p None = refl
-unfit_behind columns width d p (Some s) = unfit_by_behind columns width d p s s.mode
+wrap_space_behind : {A : Type 0} (columns : ℕ → Option ℕ) (width : ℕ) (d : List (List (Item A))) (p : Progress A) (o : Option (Space A)) → wrap_space columns width (behind d p) o ≡ behind d (wrap_space columns width p o)
+wrap_space_behind columns width d p None = refl
+wrap_space_behind columns width d p (Some s) = wrap_space_by_behind columns width d p s s.mode
 
 lay_fresh_behind : {A : Type 0} (columns : ℕ → Option ℕ) (width : ℕ) (d : List (List (Item A))) (p : Progress A) → lay_fresh columns width (behind d p) ≡ behind d (lay_fresh columns width p)
 lay_fresh_behind {A} columns width d p =
     if_same (behind d) (has_character p.word) _ _ _ _
-    (ap (λ (l : Laid A). record p { laid = l; space = None; word = []; continued = is_pre p.mode })
-    (ap (λ (l : Laid A). put_items columns width l p.word) same ∙ put_items_under columns width d (put_pending width p.space (fresh p.laid)) p.word))
-    (ap (λ (l : Laid A). record p { laid = l; space = None; continued = is_pre p.mode }) same)
+    (ap (λ (l : Laid A). record p { laid = l; space = None; word = []; continuation_flag = is_pre p.mode })
+    (ap (λ (l : Laid A). put_items columns width l p.word) same ∙ put_items_under columns width d (put_pending width p.space (end_if_character p.laid)) p.word))
+    (ap (λ (l : Laid A). record p { laid = l; space = None; continuation_flag = is_pre p.mode }) same)
   where
-    same : put_pending width p.space (fresh (under d p.laid)) ≡ under d (put_pending width p.space (fresh p.laid))
-    same = ap (λ (l : Laid A). put_pending width p.space l) (fresh_under d p.laid) ∙ put_pending_under width d p.space (fresh p.laid)
+    same : put_pending width p.space (end_if_character (under d p.laid)) ≡ under d (put_pending width p.space (end_if_character p.laid))
+    same = ap (λ (l : Laid A). put_pending width p.space l) (end_if_character_under d p.laid) ∙ put_pending_under width d p.space (end_if_character p.laid)
 
 lay_behind : {A : Type 0} (columns : ℕ → Option ℕ) (width : ℕ) (d : List (List (Item A))) (p : Progress A) → lay columns width (behind d p) ≡ behind d (lay columns width p)
 lay_behind {A} columns width d p =
-    if_same (behind d) (nat_le (p.laid.width + (space_columns p.space + items_width columns p.word)) width) _ _ _ _ refl
-    (ap (lay_fresh columns width) (unfit_behind columns width d p p.space) ∙ lay_fresh_behind columns width d (unfit columns width p p.space))
+    if_same (behind d) (nat_le (p.laid.width + (pending_width p.space + items_width columns p.word)) width) _ _ _ _ refl
+    (ap (lay_fresh columns width) (wrap_space_behind columns width d p p.space) ∙ lay_fresh_behind columns width d (wrap_space columns width p p.space))
 
 pub flush_word_behind : {A : Type 0} (columns : ℕ → Option ℕ) (width : ℕ) (d : List (List (Item A))) (p : Progress A) → flush_word columns width (behind d p) ≡ behind d (flush_word columns width p)
 flush_word_behind columns width d p = if_same (behind d) (has_character p.word) _ _ _ _ (lay_behind columns width d p) refl
@@ -95,14 +95,14 @@ collapse_behind : {A : Type 0} (c : ℕ) (a : A) (d : List (List (Item A))) (p :
 collapse_behind c a d p = if_same (behind d) (is_blank c && (nat_lt 0 p.laid.width && is_none p.space)) _ _ _ _ refl refl
 
 pub newline_behind : {A : Type 0} (d : List (List (Item A))) (p : Progress A) → newline (behind d p) ≡ behind d (newline p)
-newline_behind {A} d p = ap (λ (l : Laid A). record p { laid = l; space = None; continued = false; again = false }) (ended_under d p.laid)
+newline_behind {A} d p = ap (λ (l : Laid A). record p { laid = l; space = None; continuation_flag = false; in_continuation = false }) (end_line_under d p.laid)
 
 tab_behind : {A : Type 0} (width : ℕ) (a : A) (d : List (List (Item A))) (p : Progress A) → tab width a (behind d p) ≡ behind d (tab width a p)
 tab_behind {A} width a d p =
-    let column : ℕ = p.laid.width + space_columns p.space in
+    let column : ℕ = p.laid.width + pending_width p.space in
     ap (λ (l : Laid A). record p { laid = l })
     (if_same (under d) (nat_lt column width) _ _ _ _ (put_tab_under width column a d p.laid)
-    (ap (put_tab width 0 a) (fresh_under d p.laid) ∙ put_tab_under width 0 a d (fresh p.laid)))
+    (ap (put_tab width 0 a) (end_if_character_under d p.laid) ∙ put_tab_under width 0 a d (end_if_character p.laid)))
 
 keep_space_behind : {A : Type 0} (columns : ℕ → Option ℕ) (c : ℕ) (a : A) (mode : WhiteSpace) (d : List (List (Item A))) (o : Option ℕ) (p : Progress A) →
     keep_space c a mode o (behind d p) ≡ behind d (keep_space c a mode o p)
@@ -126,7 +126,7 @@ preserve_behind {A} columns width c a b mode d p =
     flushed = flush_word_behind columns width d p
 
 enter_behind : {A : Type 0} (columns : ℕ → Option ℕ) (width : ℕ) (d : List (List (Item A))) (p : Progress A) (e : Entry A) → enter columns width (behind d p) e ≡ behind d (enter columns width p e)
-enter_behind columns width d p (fragment name) = refl
+enter_behind columns width d p (marker_entry name) = refl
 enter_behind {A} columns width d p (character c a b Normal) =
     if_same (behind d) (is_break c) _ _ _ _
     (ap (collapse c (tag_of p a b)) (break_word_behind columns width d p) ∙ collapse_behind c (tag_of p a b) d (break_word columns width p))
@@ -148,4 +148,4 @@ fold_behind columns width d p (e ∷ es) =
 
 pub finished_behind : {A : Type 0} (columns : ℕ → Option ℕ) (width : ℕ) (d : List (List (Item A))) (p : Progress A) → finished columns width (behind d p) ≡ under d (finished columns width p)
 finished_behind {A} columns width d p =
-    ap (λ (q : Progress A). fresh q.laid) (flush_word_behind columns width d p) ∙ fresh_under d (flush_word columns width p).laid
+    ap (λ (q : Progress A). end_if_character q.laid) (flush_word_behind columns width d p) ∙ end_if_character_under d (flush_word columns width p).laid

@@ -4,20 +4,20 @@ use Rattle.std.specs.List.{AllByRecursion as Each}
 use Rattle.std.proofs.lemmas.Bool.{cond_both, eqb-true}
 use Rattle.std.proofs.lemmas.List.Sums.{fold-append}
 use Rattle.tbr_model.specs.declared.white_space.WhiteSpace.TheVariants.{Normal, Pre, PreWrap}
-use Rattle.tbr_model.specs.Run.{Entry, character, fragment, Item, items_width, has_character, is_break}
-use Rattle.tbr_model.specs.Laid.{Laid, fresh}
-use Rattle.tbr_model.specs.Rule.{Event, call, entry, run_of, Progress, at_start, unfit, space_columns, lay_fresh, lay, flush_word, break_word, newline, enter, step, finished, lines_of}
+use Rattle.tbr_model.specs.Run.{Entry, character, marker_entry, Item, items_width, has_character, is_break}
+use Rattle.tbr_model.specs.Laid.{Laid, end_if_character}
+use Rattle.tbr_model.specs.Rule.{Event, call, entry, run_of, Progress, at_start, wrap_space, pending_width, lay_fresh, lay, flush_word, break_word, newline, enter, step, finished, lines_of}
 use Rattle.tbr_model.specs.Hard.{Preserves, is_newline, onto_first, hard_lines, Parted}
 use Rattle.tbr_model.proofs.lists.Each.{each_append}
 use Rattle.tbr_model.proofs.words.LinesHaveCharacters.{wide_items}
-use Rattle.tbr_model.proofs.rule.HardLineStart.{IsFresh}
+use Rattle.tbr_model.proofs.rule.HardLineStart.{BeginsHardLine}
 use Rattle.tbr_model.proofs.rule.DoneLines.{behind, fold_behind, finished_behind}
 
 -- ---- a word that is flushed
 
 -- no character stands on a fresh line
-pub fresh_bare : {A : Type 0} (l : Laid A) → has_character (fresh l).line ≡ false
-fresh_bare {A} l = cond_both (has_character l.line) _ _ (λ (m : Laid A). has_character m.line ≡ false) (λ _. refl) (λ h. h)
+pub no_character_after_end : {A : Type 0} (l : Laid A) → has_character (end_if_character l).line ≡ false
+no_character_after_end {A} l = cond_both (has_character l.line) _ _ (λ (m : Laid A). has_character m.line ≡ false) (λ _. refl) (λ h. h)
 
 lay_fresh_flushes : {A : Type 0} (columns : ℕ → Option ℕ) (width : ℕ) (p : Progress A) → has_character (lay_fresh columns width p).word ≡ false
 lay_fresh_flushes {A} columns width p = cond_both (has_character p.word) _ _ (λ (q : Progress A). has_character q.word ≡ false) (λ _. refl) (λ e. e)
@@ -25,8 +25,8 @@ lay_fresh_flushes {A} columns width p = cond_both (has_character p.word) _ _ (λ
 -- no character is left in a word that is laid
 pub lay_flushes : {A : Type 0} (columns : ℕ → Option ℕ) (width : ℕ) (p : Progress A) → has_character (lay columns width p).word ≡ false
 lay_flushes {A} columns width p =
-    cond_both (nat_le (p.laid.width + (space_columns p.space + items_width columns p.word)) width) _ _ (λ (q : Progress A). has_character q.word ≡ false)
-    (λ _. refl) (λ _. lay_fresh_flushes columns width (unfit columns width p p.space))
+    cond_both (nat_le (p.laid.width + (pending_width p.space + items_width columns p.word)) width) _ _ (λ (q : Progress A). has_character q.word ≡ false)
+    (λ _. refl) (λ _. lay_fresh_flushes columns width (wrap_space columns width p p.space))
 
 pub flush_flushes : {A : Type 0} (columns : ℕ → Option ℕ) (width : ℕ) (p : Progress A) → has_character (flush_word columns width p).word ≡ false
 flush_flushes {A} columns width p =
@@ -46,14 +46,14 @@ flush_after_break {A} columns width p =
 pub restart : {A : Type 0} → Progress A → Progress A
 restart p = record p { laid = record p.laid { done = [] } }
 
-pub newline_fresh : {A : Type 0} (columns : ℕ → Option ℕ) (width : ℕ) (p : Progress A) → IsFresh (restart (newline (flush_word columns width p)))
+pub newline_fresh : {A : Type 0} (columns : ℕ → Option ℕ) (width : ℕ) (p : Progress A) → BeginsHardLine (restart (newline (flush_word columns width p)))
 unfolding restart
 newline_fresh columns width p =
-    record { done = refl; line = refl; width = refl; space = refl; word = flush_flushes columns width p; continued = refl; again = refl }
+    record { done = refl; line = refl; width = refl; space = refl; word = flush_flushes columns width p; continuation_flag = refl; in_continuation = refl }
 
 -- where a run begins
-pub start_fresh : {A : Type 0} → IsFresh (at_start {A = A})
-start_fresh = record { done = refl; line = refl; width = refl; space = refl; word = refl; continued = refl; again = refl }
+pub start_fresh : {A : Type 0} → BeginsHardLine (at_start {A = A})
+start_fresh = record { done = refl; line = refl; width = refl; space = refl; word = refl; continuation_flag = refl; in_continuation = refl }
 
 pub restart_behind : {A : Type 0} (p : Progress A) → behind p.laid.done (restart p) ≡ p
 unfolding restart
@@ -66,7 +66,7 @@ if_break columns width false p = refl
 -- in a preserving mode a newline ends the line behind the word
 pub enter_newline : {A : Type 0} (columns : ℕ → Option ℕ) (width : ℕ) (p : Progress A) (e : Entry A) → Preserves e → is_newline e ≡ true →
     enter columns width p e ≡ newline (flush_word columns width p)
-enter_newline columns width p (fragment name) m h = cc
+enter_newline columns width p (marker_entry name) m h = cc
 enter_newline columns width p (character c a b Normal) m h = absurd (m refl)
 enter_newline {A} columns width p (character c a b Pre) m h = let n : c ≡ 10 = eqb-true c 10 h in rw n refl
 enter_newline {A} columns width p (character c a b PreWrap) m h =
@@ -105,11 +105,11 @@ parted_front {A} {Y} R x es front back first others =
     subst (λ (r : List (List (Entry A))). Parted R (x ∷ r) (front ++ back)) (sym is) (front, back, refl, first, subst (λ (r : List (List (Entry A))). Parted R r back) is others)
 
 module _ {A : Type 0} (columns : ℕ → Option ℕ) (width : ℕ) (R : Bool → List (Entry A) → List (List (Item A)) → Type 0) (M : Entry A → Type 0) (preserves : (e : Entry A) → M e → Preserves e)
-    (one : (p : Progress A) (es : List (Event A)) → IsFresh p → Each M (run_of es) → NoNewline (run_of es) →
+    (one : (p : Progress A) (es : List (Event A)) → BeginsHardLine p → Each M (run_of es) → NoNewline (run_of es) →
     R true (run_of es) (newline (flush_word columns width (fold (step columns width) p es))).laid.done × R false (run_of es) (finished columns width (fold (step columns width) p es)).done) where
   -- entries that come, behind a hard line's entries so far
   abbrev pub GoOn : List (Event A) → Type 0
-  GoOn es = (p : Progress A) (so_far : List (Event A)) → IsFresh p → Each M (run_of so_far) → NoNewline (run_of so_far) →
+  GoOn es = (p : Progress A) (so_far : List (Event A)) → BeginsHardLine p → Each M (run_of so_far) → NoNewline (run_of so_far) →
       Parted R (hard_lines (run_of so_far ++ run_of es)) (finished columns width (fold (step columns width) (fold (step columns width) p so_far) es)).done
 
   go_on_end : GoOn []
@@ -162,7 +162,7 @@ module _ {A : Type 0} (columns : ℕ → Option ℕ) (width : ℕ) (R : Bool →
       go_on_either e es m false k rest = go_on_entry e es m k rest
 
   -- what holds of each hard line, begun afresh, holds of the hard lines of a run
-  pub fresh_lines_parted : (p : Progress A) (es : List (Event A)) → IsFresh p → Each M (run_of es) →
+  pub fresh_lines_parted : (p : Progress A) (es : List (Event A)) → BeginsHardLine p → Each M (run_of es) →
       Parted R (hard_lines (run_of es)) (finished columns width (fold (step columns width) p es)).done
   fresh_lines_parted p es is_fresh h = go_on es h p [] is_fresh tt tt
 

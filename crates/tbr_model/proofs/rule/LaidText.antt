@@ -4,7 +4,7 @@ use Rattle.std.proofs.lemmas.Bool.{cond_both}
 use Rattle.std.proofs.lemmas.List.Elements.{filter-append}
 use Rattle.tbr_model.specs.Run.{Item, glyph, item_width, is_kept, has_character}
 use Rattle.tbr_model.specs.Layout.{joined}
-use Rattle.tbr_model.specs.Laid.{Laid, extended, ended, fresh, blanked, put_item, put_items}
+use Rattle.tbr_model.specs.Laid.{Laid, extended, end_line, end_if_character, end_if_columns, put_item, put_items}
 use Rattle.tbr_model.specs.Rule.{Space, spaces, space_text, put_space, put_spaces, put_pending, put_tab}
 use Rattle.tbr_model.specs.Hard.{letters_of}
 use Rattle.tbr_model.proofs.words.Items.{letters_of-append, no_glyphs, break_lost}
@@ -18,24 +18,24 @@ text l = joined l.done ++ l.line
 pub text-extended : {A : Type 0} (l : Laid A) (is : List (Item A)) (n : ℕ) → text (extended l is n) ≡ text l ++ is
 text-extended l is n = sym (append_assoc (joined l.done) l.line is)
 
-pub joined-ended : {A : Type 0} (l : Laid A) → joined (ended l).done ≡ text l
-joined-ended l = joined-append l.done (l.line ∷ []) ∙ ap (λ is. joined l.done ++ is) (append-nil l.line)
+pub joined-end_line : {A : Type 0} (l : Laid A) → joined (end_line l).done ≡ text l
+joined-end_line l = joined-append l.done (l.line ∷ []) ∙ ap (λ is. joined l.done ++ is) (append-nil l.line)
 
-pub text-ended : {A : Type 0} (l : Laid A) → text (ended l) ≡ text l
-text-ended l = append-nil (joined (ended l).done) ∙ joined-ended l
+pub text-end_line : {A : Type 0} (l : Laid A) → text (end_line l) ≡ text l
+text-end_line l = append-nil (joined (end_line l).done) ∙ joined-end_line l
 
-pub text-fresh : {A : Type 0} (l : Laid A) → text (fresh l) ≡ text l
-text-fresh {A} l = cond_both (has_character l.line) _ _ (λ (m : Laid A). text m ≡ text l) (λ _. text-ended l) (λ _. refl)
+pub text-end_if_character : {A : Type 0} (l : Laid A) → text (end_if_character l) ≡ text l
+text-end_if_character {A} l = cond_both (has_character l.line) _ _ (λ (m : Laid A). text m ≡ text l) (λ _. text-end_line l) (λ _. refl)
 
-text-blanked : {A : Type 0} (l : Laid A) → text (blanked l) ≡ text l
-text-blanked {A} l = cond_both (l.width == 0) _ _ (λ (m : Laid A). text m ≡ text l) (λ _. refl) (λ _. text-ended l)
+text-end_if_columns : {A : Type 0} (l : Laid A) → text (end_if_columns l) ≡ text l
+text-end_if_columns {A} l = cond_both (l.width == 0) _ _ (λ (m : Laid A). text m ≡ text l) (λ _. refl) (λ _. text-end_line l)
 
 text-put_item : {A : Type 0} (columns : ℕ → Option ℕ) (width : ℕ) (l : Laid A) (i : Item A) → text (put_item columns width l i) ≡ text l ++ i ∷ []
 text-put_item {A} columns width l i =
     cond_both (nat_le (l.width + item_width columns i) width) _ _ Holds (λ _. text-extended l (i ∷ []) (item_width columns i))
     (λ _. cond_both (nat_le (item_width columns i) width) _ _ Holds
-    (λ _. text-extended (ended l) (i ∷ []) (item_width columns i) ∙ ap (λ is. is ++ i ∷ []) (text-ended l))
-    (λ _. text-ended (extended (blanked l) (i ∷ []) (item_width columns i)) ∙ text-extended (blanked l) (i ∷ []) (item_width columns i) ∙ ap (λ is. is ++ i ∷ []) (text-blanked l)))
+    (λ _. text-extended (end_line l) (i ∷ []) (item_width columns i) ∙ ap (λ is. is ++ i ∷ []) (text-end_line l))
+    (λ _. text-end_line (extended (end_if_columns l) (i ∷ []) (item_width columns i)) ∙ text-extended (end_if_columns l) (i ∷ []) (item_width columns i) ∙ ap (λ is. is ++ i ∷ []) (text-end_if_columns l)))
   where
     Holds : Laid A → Type 0
     Holds m = text m ≡ text l ++ i ∷ []
@@ -48,7 +48,7 @@ text-put_items columns width (i ∷ is) l =
 text-put_space : {A : Type 0} (width : ℕ) (a : A) (l : Laid A) → text (put_space width a l) ≡ text l ++ glyph 32 a ∷ []
 text-put_space {A} width a l =
     cond_both (l.width + 1 == width) _ _ (λ (m : Laid A). text m ≡ text l ++ glyph 32 a ∷ [])
-    (λ _. text-ended (extended l (glyph 32 a ∷ []) 1) ∙ text-extended l (glyph 32 a ∷ []) 1) (λ _. text-extended l (glyph 32 a ∷ []) 1)
+    (λ _. text-end_line (extended l (glyph 32 a ∷ []) 1) ∙ text-extended l (glyph 32 a ∷ []) 1) (λ _. text-extended l (glyph 32 a ∷ []) 1)
 
 text-put_spaces : {A : Type 0} (width : ℕ) (a : A) (n : ℕ) (l : Laid A) → text (put_spaces width a n l) ≡ text l ++ spaces n a
 text-put_spaces width a zero l = sym (append-nil (text l))
@@ -57,14 +57,14 @@ text-put_spaces width a (suc n) l =
 
 pub text-put_pending : {A : Type 0} (width : ℕ) (o : Option (Space A)) (l : Laid A) → text (put_pending width o l) ≡ text l ++ space_text o
 text-put_pending width None l = sym (append-nil (text l))
-text-put_pending width (Some s) l = text-put_spaces width s.tag s.columns l
+text-put_pending width (Some s) l = text-put_spaces width s.tag s.width l
 
 -- a tab is some spaces
 pub text-put_tab : {A : Type 0} (width column : ℕ) (a : A) (l : Laid A) → (n : ℕ) × (text (put_tab width column a l) ≡ text l ++ spaces n a)
 text-put_tab {A} width column a l =
     cond_both (nat_le (8 - column % 8) (width - column)) _ _ (λ (m : Laid A). (n : ℕ) × (text m ≡ text l ++ spaces n a))
     (λ _. (8 - column % 8, text-extended l (spaces (8 - column % 8) a) (8 - column % 8)))
-    (λ _. (width - column, text-ended (extended l (spaces (width - column) a) (width - column)) ∙ text-extended l (spaces (width - column) a) (width - column)))
+    (λ _. (width - column, text-end_line (extended l (spaces (width - column) a) (width - column)) ∙ text-extended l (spaces (width - column) a) (width - column)))
 
 -- ---- characters
 
@@ -87,4 +87,4 @@ kept-spaces columns (suc n) a = let e : is_kept columns 32 ≡ false = break_los
 
 pub kept-space_text : {A : Type 0} (columns : ℕ → Option ℕ) (o : Option (Space A)) → kept_of columns (space_text o) ≡ []
 kept-space_text columns None = refl
-kept-space_text columns (Some s) = kept-spaces columns s.columns s.tag
+kept-space_text columns (Some s) = kept-spaces columns s.width s.tag

@@ -4,12 +4,12 @@ use Rattle.std.specs.List.{AllByRecursion as Each}
 use Rattle.std.proofs.lemmas.Bool.{cond_both}
 use Rattle.tbr_model.specs.declared.white_space.WhiteSpace.{WhiteSpace}
 use Rattle.tbr_model.specs.declared.white_space.WhiteSpace.TheVariants.{Normal, Pre, PreWrap}
-use Rattle.tbr_model.specs.Run.{Entry, character, fragment, Item, glyph, marker, item_width, items_width, has_character, is_blank, is_break}
+use Rattle.tbr_model.specs.Run.{Entry, character, marker_entry, Item, glyph, marker, item_width, items_width, has_character, is_blank, is_break}
 use Rattle.tbr_model.specs.Greedy.{IsNarrow}
-use Rattle.tbr_model.specs.Rule.{Event, call, entry, run_of, Progress, at_start, Space, space_columns, is_white_item, without_leading, unfit_by, unfit, lay_fresh, lay, flush_word, break_word, join, collapse, keep_space, is_pre, passes, tag_of, keep_character, preserve, enter, step, progress}
+use Rattle.tbr_model.specs.Rule.{Event, call, entry, run_of, Progress, at_start, Space, pending_width, is_white_item, without_leading, wrap_space_by, wrap_space, lay_fresh, lay, flush_word, break_word, join, collapse, keep_space, is_pre, passes, tag_of, keep_character, preserve, enter, step, progress}
 use Rattle.tbr_model.specs.Hard.{IsNarrowEntry}
 use Rattle.tbr_model.proofs.lists.Each.{each_append}
-use Rattle.tbr_model.proofs.rule.HardLineStart.{IsFresh}
+use Rattle.tbr_model.proofs.rule.HardLineStart.{BeginsHardLine}
 use Rattle.tbr_model.proofs.words.KeptItems.{narrow_markers}
 
 module _ {A : Type 0} (columns : ℕ → Option ℕ) (width : ℕ) where
@@ -21,22 +21,22 @@ module _ {A : Type 0} (columns : ℕ → Option ℕ) (width : ℕ) where
   narrow_leading [] h = h
   narrow_leading (i ∷ is) h = cond_both (is_white_item i) _ _ (λ (js : List (Item A)). IsNarrow columns width js) (λ _. narrow_leading is h.1) (λ _. h)
 
-  narrow_unfit_by : (p : Progress A) (s : Space A) (mode : WhiteSpace) → HasNarrowWord p → HasNarrowWord (unfit_by columns width p s mode)
-  narrow_unfit_by p s Normal h = h
-  narrow_unfit_by p s Pre h = cond_both (nat_le (width - p.laid.width) s.columns) _ _ HasNarrowWord (λ _. h) (λ _. h)
-  narrow_unfit_by p s PreWrap h = narrow_leading p.word h
+  narrow_wrap_space_by : (p : Progress A) (s : Space A) (mode : WhiteSpace) → HasNarrowWord p → HasNarrowWord (wrap_space_by columns width p s mode)
+  narrow_wrap_space_by p s Normal h = h
+  narrow_wrap_space_by p s Pre h = cond_both (nat_le (width - p.laid.width) s.width) _ _ HasNarrowWord (λ _. h) (λ _. h)
+  narrow_wrap_space_by p s PreWrap h = narrow_leading p.word h
 
-  pub narrow_unfit : (p : Progress A) (o : Option (Space A)) → HasNarrowWord p → HasNarrowWord (unfit columns width p o)
-  narrow_unfit p None h = h
-  narrow_unfit p (Some s) h = narrow_unfit_by p s s.mode h
+  pub narrow_wrap_space : (p : Progress A) (o : Option (Space A)) → HasNarrowWord p → HasNarrowWord (wrap_space columns width p o)
+  narrow_wrap_space p None h = h
+  narrow_wrap_space p (Some s) h = narrow_wrap_space_by p s s.mode h
 
   narrow_lay_fresh : (p : Progress A) → HasNarrowWord p → HasNarrowWord (lay_fresh columns width p)
   narrow_lay_fresh p h = cond_both (has_character p.word) _ _ HasNarrowWord (λ _. tt) (λ _. h)
 
   narrow_lay : (p : Progress A) → HasNarrowWord p → HasNarrowWord (lay columns width p)
   narrow_lay p h =
-      cond_both (nat_le (p.laid.width + (space_columns p.space + items_width columns p.word)) width) _ _ HasNarrowWord
-      (λ _. tt) (λ _. narrow_lay_fresh (unfit columns width p p.space) (narrow_unfit p p.space h))
+      cond_both (nat_le (p.laid.width + (pending_width p.space + items_width columns p.word)) width) _ _ HasNarrowWord
+      (λ _. tt) (λ _. narrow_lay_fresh (wrap_space columns width p p.space) (narrow_wrap_space p p.space h))
 
   pub narrow_flush : (p : Progress A) → HasNarrowWord p → HasNarrowWord (flush_word columns width p)
   narrow_flush p h = cond_both (has_character p.word) _ _ HasNarrowWord (λ _. narrow_lay p h) (λ _. h)
@@ -59,7 +59,7 @@ module _ {A : Type 0} (columns : ℕ → Option ℕ) (width : ℕ) where
   narrow_keep_character c a b mode None p n h = h
   narrow_keep_character c a b mode (Some k) p n h =
       cond_both (is_pre mode && passes columns width k p) _ _ HasNarrowWord
-      (λ _. narrow_join c b mode (record p { continued = true; again = true }) n h) (λ _. narrow_join c (tag_of p a b) mode p n h)
+      (λ _. narrow_join c b mode (record p { continuation_flag = true; in_continuation = true }) n h) (λ _. narrow_join c (tag_of p a b) mode p n h)
 
   narrow_preserve : (c : ℕ) (a b : A) (mode : WhiteSpace) (p : Progress A) → unwrap_or (columns c) 0 ≤ width → HasNarrowWord p → HasNarrowWord (preserve columns width c a b mode p)
   narrow_preserve c a b mode p n h =
@@ -69,7 +69,7 @@ module _ {A : Type 0} (columns : ℕ → Option ℕ) (width : ℕ) where
       (λ _. cond_both (is_blank c) _ _ HasNarrowWord (λ _. narrow_keep_space c (tag_of p a b) mode (columns c) p n h) (λ _. narrow_keep_character c a b mode (columns c) p n h))))
 
   narrow_enter : (p : Progress A) (e : Entry A) → IsNarrowEntry columns width e → HasNarrowWord p → HasNarrowWord (enter columns width p e)
-  narrow_enter p (fragment name) n h = each_append (λ (i : Item A). item_width columns i ≤ width) p.word (marker name ∷ []) h (omega arith, tt)
+  narrow_enter p (marker_entry name) n h = each_append (λ (i : Item A). item_width columns i ≤ width) p.word (marker name ∷ []) h (omega arith, tt)
   narrow_enter p (character c a b Normal) n h =
       cond_both (is_break c) _ _ HasNarrowWord (λ _. narrow_collapse c (tag_of p a b) (break_word columns width p) (narrow_break p h))
       (λ _. cond_both (is_some (columns c)) _ _ HasNarrowWord (λ _. narrow_join c (tag_of p a b) Normal p n h) (λ _. h))
@@ -81,16 +81,16 @@ module _ {A : Type 0} (columns : ℕ → Option ℕ) (width : ℕ) where
   -- a run's items make the word, behind what was there
   pub narrow_fold : (p : Progress A) (es : List (Event A)) → Each (IsNarrowEntry columns width) (run_of es) → HasNarrowWord p → HasNarrowWord (fold (step columns width) p es)
   narrow_fold p [] n h = h
-  narrow_fold p (call ∷ es) n h = narrow_fold (record p { again = p.continued }) es n h
+  narrow_fold p (call ∷ es) n h = narrow_fold (record p { in_continuation = p.continuation_flag }) es n h
   narrow_fold p (entry e ∷ es) n h = narrow_fold (enter columns width p e) es n.1 (narrow_enter p e n.0 h)
 
   -- from where a hard line begins
-  pub word_from_fresh : (p : Progress A) (es : List (Event A)) → IsFresh p → Each (IsNarrowEntry columns width) (run_of es) → HasNarrowWord (fold (step columns width) p es)
+  pub word_from_fresh : (p : Progress A) (es : List (Event A)) → BeginsHardLine p → Each (IsNarrowEntry columns width) (run_of es) → HasNarrowWord (fold (step columns width) p es)
   word_from_fresh p es f n = narrow_fold p es n (narrow_markers columns width p.word f.word)
 
   pub word_from_run : (es : List (Event A)) → Each (IsNarrowEntry columns width) (run_of es) → IsNarrow columns width (progress columns width es).word
   word_from_run es n = narrow_fold at_start es n tt
 
   -- also once white space in front of it is gone
-  pub unfit_word_from_run : (es : List (Event A)) (o : Option (Space A)) → Each (IsNarrowEntry columns width) (run_of es) → IsNarrow columns width (unfit columns width (progress columns width es) o).word
-  unfit_word_from_run es o n = narrow_unfit (progress columns width es) o (word_from_run es n)
+  pub wrap_space_word_from_run : (es : List (Event A)) (o : Option (Space A)) → Each (IsNarrowEntry columns width) (run_of es) → IsNarrow columns width (wrap_space columns width (progress columns width es) o).word
+  wrap_space_word_from_run es o n = narrow_wrap_space (progress columns width es) o (word_from_run es n)

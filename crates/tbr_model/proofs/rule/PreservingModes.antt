@@ -3,7 +3,7 @@ use Rattle.std.proofs.Common.{◌≡◌, ◌≢◌, ℕ, ◌<◌, Bool, true, Op
 use Rattle.std.specs.List.{AllByRecursion as Each}
 use Rattle.tbr_model.specs.declared.white_space.WhiteSpace.{WhiteSpace}
 use Rattle.tbr_model.specs.declared.white_space.WhiteSpace.TheVariants.{Normal, Pre, PreWrap}
-use Rattle.tbr_model.specs.Run.{Entry, character, fragment}
+use Rattle.tbr_model.specs.Run.{Entry, character, marker_entry}
 use Rattle.tbr_model.specs.Rule.{Event, run_of, lines_of}
 use Rattle.tbr_model.specs.Hard.{HasMode, Preserves, hard_lines, Parted, ShowsPre, ShowsPreWrap, ShowsTabs}
 use Rattle.tbr_model.proofs.rule.HardLines.{hard_lines_parted}
@@ -14,7 +14,7 @@ use Rattle.tbr_model.proofs.tabs.HardLine.{tab_line}
 -- an entry of a mode that isn't `Normal` preserves
 pub mode_preserves : {A : Type 0} (mode : WhiteSpace) → mode ≢ Normal → (e : Entry A) → HasMode mode e → Preserves e
 mode_preserves mode kept (character c a b m) h = λ e. kept (sym h ∙ e)
-mode_preserves mode kept (fragment name) h = tt
+mode_preserves mode kept (marker_entry name) h = tt
 
 -- each hard line of a run of `Pre` alone
 pub pre_shown : {A : Type 0} (columns : ℕ → Option ℕ) (eq : A → A → Bool) (width : ℕ) → columns 32 ≡ Some 1 → 0 < width → ((x : A) → eq x x ≡ true) → (es : List (Event A)) →

@@ -4,40 +4,40 @@ use Rattle.std.proofs.lemmas.Bool.{cond_both, le-ltb, or_parts}
 use Rattle.std.proofs.lemmas.List.Sums.{fold-append}
 use Rattle.tbr_model.specs.declared.white_space.WhiteSpace.{WhiteSpace}
 use Rattle.tbr_model.specs.declared.white_space.WhiteSpace.TheVariants.{Normal, Pre, PreWrap}
-use Rattle.tbr_model.specs.Run.{Entry, character, fragment, Item, glyph, marker, items_width, has_character, is_blank, is_break}
-use Rattle.tbr_model.specs.Laid.{extended, fresh, put_items}
-use Rattle.tbr_model.specs.Rule.{Event, call, entry, run_of, Space, Progress, at_start, spaces, space_columns, space_of, is_white_item, without_leading, unfit_by, unfit, put_pending, lay_here, lay_fresh, lay, flush_word, break_word, join, collapse, newline, tab, keep_space, is_pre, passes, tag_of, keep_character, preserve, enter_normal, enter, step, progress}
-use Rattle.tbr_model.specs.Markers.{fragment_names, last, without_last_markers}
+use Rattle.tbr_model.specs.Run.{Entry, character, marker_entry, Item, glyph, marker, items_width, has_character, is_blank, is_break}
+use Rattle.tbr_model.specs.Laid.{extended, end_if_character, put_items}
+use Rattle.tbr_model.specs.Rule.{Event, call, entry, run_of, Space, Progress, at_start, spaces, pending_width, space_of, is_white_item, without_leading, wrap_space_by, wrap_space, put_pending, lay_here, lay_fresh, lay, flush_word, break_word, join, collapse, newline, tab, keep_space, is_pre, passes, tag_of, keep_character, preserve, enter_normal, enter, step, progress}
+use Rattle.tbr_model.specs.Markers.{names_in_run, last, without_last_markers}
 use Rattle.tbr_model.proofs.words.Items.{items_width-append, has_character-append, back_has, no_character_no_width}
 use Rattle.tbr_model.proofs.rule.HardLines.{run_of-append}
 use Rattle.std.proofs.Math.Bool.{or-false}
-use Rattle.tbr_model.proofs.rule.Markers.{fragment_names-append}
+use Rattle.tbr_model.proofs.rule.Markers.{names_in_run-append}
 
 -- ---- the last markers of a run
 
 pub without_none : {A : Type 0} (es : List (Entry A)) → without_last_markers 0 es ≡ es
 without_none [] = refl
 without_none {A} (character c a b mode ∷ es) = ap (λ (fs : List (Entry A)). character c a b mode ∷ fs) (without_none es)
-without_none {A} (fragment name ∷ es) = rw (le-ltb (length (fragment_names es)) 0 (omega arith)) (ap (λ (fs : List (Entry A)). fragment name ∷ fs) (without_none es))
+without_none {A} (marker_entry name ∷ es) = rw (le-ltb (length (names_in_run es)) 0 (omega arith)) (ap (λ (fs : List (Entry A)). marker_entry name ∷ fs) (without_none es))
 
-pub without_last-append : {A : Type 0} (n : ℕ) (es fs : List (Entry A)) → length (fragment_names fs) ≤ n →
-    without_last_markers n (es ++ fs) ≡ without_last_markers (n - length (fragment_names fs)) es ++ without_last_markers n fs
+pub without_last-append : {A : Type 0} (n : ℕ) (es fs : List (Entry A)) → length (names_in_run fs) ≤ n →
+    without_last_markers n (es ++ fs) ≡ without_last_markers (n - length (names_in_run fs)) es ++ without_last_markers n fs
 without_last-append n [] fs h = refl
 without_last-append {A} n (character c a b mode ∷ es) fs h = ap (λ (gs : List (Entry A)). character c a b mode ∷ gs) (without_last-append n es fs h)
-without_last-append {A} n (fragment name ∷ es) fs h = go (nat_lt (length (fragment_names es)) (n - length (fragment_names fs))) refl (without_last-append n es fs h)
+without_last-append {A} n (marker_entry name ∷ es) fs h = go (nat_lt (length (names_in_run es)) (n - length (names_in_run fs))) refl (without_last-append n es fs h)
   where
-    both : length (fragment_names (es ++ fs)) ≡ length (fragment_names es) + length (fragment_names fs)
-    both = ap length (fragment_names-append es fs) ∙ length-append (fragment_names es) (fragment_names fs)
+    both : length (names_in_run (es ++ fs)) ≡ length (names_in_run es) + length (names_in_run fs)
+    both = ap length (names_in_run-append es fs) ∙ length-append (names_in_run es) (names_in_run fs)
 
-    go : (x : Bool) → nat_lt (length (fragment_names es)) (n - length (fragment_names fs)) ≡ x →
-        without_last_markers n (es ++ fs) ≡ without_last_markers (n - length (fragment_names fs)) es ++ without_last_markers n fs →
-        without_last_markers n (fragment name ∷ (es ++ fs)) ≡ without_last_markers (n - length (fragment_names fs)) (fragment name ∷ es) ++ without_last_markers n fs
+    go : (x : Bool) → nat_lt (length (names_in_run es)) (n - length (names_in_run fs)) ≡ x →
+        without_last_markers n (es ++ fs) ≡ without_last_markers (n - length (names_in_run fs)) es ++ without_last_markers n fs →
+        without_last_markers n (marker_entry name ∷ (es ++ fs)) ≡ without_last_markers (n - length (names_in_run fs)) (marker_entry name ∷ es) ++ without_last_markers n fs
     go true e rest =
-        let test : nat_lt (length (fragment_names (es ++ fs))) n ≡ true = lt-ltb _ _ (omega (arith, both, ltb-true _ _ e)) in
+        let test : nat_lt (length (names_in_run (es ++ fs))) n ≡ true = lt-ltb _ _ (omega (arith, both, ltb-true _ _ e)) in
         rw (test, e) rest
     go false e rest =
-        let test : nat_lt (length (fragment_names (es ++ fs))) n ≡ false = le-ltb _ _ (omega (arith, both, ltb-false _ _ e)) in
-        rw (test, e) (ap (λ (gs : List (Entry A)). fragment name ∷ gs) rest)
+        let test : nat_lt (length (names_in_run (es ++ fs))) n ≡ false = le-ltb _ _ (omega (arith, both, ltb-false _ _ e)) in
+        rw (test, e) (ap (λ (gs : List (Entry A)). marker_entry name ∷ gs) rest)
 
 -- one more character, and one more marker that goes
 without_behind : {A : Type 0} (n : ℕ) (es : List (Entry A)) (c : ℕ) (a b : A) (mode : WhiteSpace) → without_last_markers n (es ++ character c a b mode ∷ []) ≡ without_last_markers n es ++ character c a b mode ∷ []
@@ -45,39 +45,39 @@ without_behind {A} n es c a b mode =
     without_last-append n es (character c a b mode ∷ []) (omega arith)
     ∙ ap (λ k. without_last_markers k es ++ character c a b mode ∷ []) (let e : n - 0 ≡ n = omega arith in e)
 
-without_one : {A : Type 0} (n : ℕ) (es : List (Entry A)) (name : List ℕ) → without_last_markers (n + 1) (es ++ fragment name ∷ []) ≡ without_last_markers n es
+without_one : {A : Type 0} (n : ℕ) (es : List (Entry A)) (name : List ℕ) → without_last_markers (n + 1) (es ++ marker_entry name ∷ []) ≡ without_last_markers n es
 without_one {A} n es name =
     let goes : nat_lt 0 (n + 1) ≡ true = lt-ltb _ _ (omega arith) in
-    let one : List (Entry A) = fragment name ∷ [] in
+    let one : List (Entry A) = marker_entry name ∷ [] in
     let alone : without_last_markers (n + 1) one ≡ [] = rw goes refl in
-    without_last-append (n + 1) es (fragment name ∷ []) (omega arith)
+    without_last-append (n + 1) es (marker_entry name ∷ []) (omega arith)
     ∙ ap (λ (fs : List (Entry A)). without_last_markers ((n + 1) - 1) es ++ fs) alone ∙ append-nil (without_last_markers ((n + 1) - 1) es)
     ∙ ap (λ k. without_last_markers k es) (let e : (n + 1) - 1 ≡ n = omega arith in e)
 
-none_left : {A : Type 0} (n : ℕ) (es : List (Entry A)) → length (fragment_names es) ≤ n → fragment_names (without_last_markers n es) ≡ []
+none_left : {A : Type 0} (n : ℕ) (es : List (Entry A)) → length (names_in_run es) ≤ n → names_in_run (without_last_markers n es) ≡ []
 none_left n [] h = refl
 none_left n (character c a b mode ∷ es) h = none_left n es h
-none_left n (fragment name ∷ es) h =
-    let goes : nat_lt (length (fragment_names es)) n ≡ true = lt-ltb _ _ (omega arith) in
+none_left n (marker_entry name ∷ es) h =
+    let goes : nat_lt (length (names_in_run es)) n ≡ true = lt-ltb _ _ (omega arith) in
     rw goes (none_left n es (omega arith))
 
 -- the markers that are left, and the last ones
-pub last_names : {A : Type 0} (n : ℕ) (es : List (Entry A)) → fragment_names (without_last_markers n es) ++ last n (fragment_names es) ≡ fragment_names es
+pub last_names : {A : Type 0} (n : ℕ) (es : List (Entry A)) → names_in_run (without_last_markers n es) ++ last n (names_in_run es) ≡ names_in_run es
 last_names n [] = drop_nil (0 - n)
   where
     drop_nil : (k : ℕ) → drop k (let l : List (List ℕ) = [] in l) ≡ []
     drop_nil zero = refl
     drop_nil (suc k) = refl
 last_names n (character c a b mode ∷ es) = last_names n es
-last_names {A} n (fragment name ∷ es) = go (nat_lt (length (fragment_names es)) n) refl (last_names n es)
+last_names {A} n (marker_entry name ∷ es) = go (nat_lt (length (names_in_run es)) n) refl (last_names n es)
   where
-    go : (x : Bool) → nat_lt (length (fragment_names es)) n ≡ x → fragment_names (without_last_markers n es) ++ last n (fragment_names es) ≡ fragment_names es →
-        fragment_names (without_last_markers n (fragment name ∷ es)) ++ last n (name ∷ fragment_names es) ≡ name ∷ fragment_names es
+    go : (x : Bool) → nat_lt (length (names_in_run es)) n ≡ x → names_in_run (without_last_markers n es) ++ last n (names_in_run es) ≡ names_in_run es →
+        names_in_run (without_last_markers n (marker_entry name ∷ es)) ++ last n (name ∷ names_in_run es) ≡ name ∷ names_in_run es
     go true e rest =
-        let all : suc (length (fragment_names es)) - n ≡ 0 = omega (arith, ltb-true _ _ e) in
+        let all : suc (length (names_in_run es)) - n ≡ 0 = omega (arith, ltb-true _ _ e) in
         rw (e, all, none_left n es (omega (arith, ltb-true _ _ e))) refl
     go false e rest =
-        let one : suc (length (fragment_names es)) - n ≡ suc (length (fragment_names es) - n) = omega (arith, ltb-false _ _ e) in
+        let one : suc (length (names_in_run es)) - n ≡ suc (length (names_in_run es) - n) = omega (arith, ltb-false _ _ e) in
         rw (e, one) (ap (λ ns. name ∷ ns) rest)
 
 -- ---- markers at the end of items
@@ -190,36 +190,36 @@ module _ {A : Type 0} where
   keep_space_leaves : (c : ℕ) (a : A) (mode : WhiteSpace) (o : Option ℕ) (p : Progress A) → Leaves (keep_space c a mode o) p
   keep_space_leaves c a mode None p = λ front ms h e. inr (front, e, refl)
   keep_space_leaves c a mode (Some n) p =
-      leaves_if (λ q. has_character q.word) (join c a mode) (λ q. record q { space = space_of (space_columns q.space + n) a mode }) p blind_character
+      leaves_if (λ q. has_character q.word) (join c a mode) (λ q. record q { space = space_of (pending_width q.space + n) a mode }) p blind_character
       (λ _. whole_leaves (join c a mode) p (joined_whole c a mode p)) (λ _ front ms h e. inr (front, e, refl))
 
 module _ {A : Type 0} (columns : ℕ → Option ℕ) (width : ℕ) where
-  unfit_by_leaves : (p : Progress A) (s : Space A) (mode : WhiteSpace) → Leaves (λ q. unfit_by columns width q s mode) p
+  unfit_by_leaves : (p : Progress A) (s : Space A) (mode : WhiteSpace) → Leaves (λ q. wrap_space_by columns width q s mode) p
   unfit_by_leaves p s Normal = λ front ms h e. inr (front, e, refl)
   unfit_by_leaves p s Pre =
-      leaves_if (λ q. nat_le (width - q.laid.width) s.columns) (λ q. record q { space = space_of (s.columns - (width - q.laid.width)) s.tag Pre })
-      (λ q. record q { laid = extended q.laid (spaces s.columns s.tag) s.columns; space = None }) p (λ q before ms e h. refl) (λ _ front ms h e. inr (front, e, refl)) (λ _ front ms h e. inr (front, e, refl))
+      leaves_if (λ q. nat_le (width - q.laid.width) s.width) (λ q. record q { space = space_of (s.width - (width - q.laid.width)) s.tag Pre })
+      (λ q. record q { laid = extended q.laid (spaces s.width s.tag) s.width; space = None }) p (λ q before ms e h. refl) (λ _ front ms h e. inr (front, e, refl)) (λ _ front ms h e. inr (front, e, refl))
   unfit_by_leaves p s PreWrap = λ front ms h e.
       let (before, whole, left) = leading_front p.word front ms e in
-      inr (before, whole, ap (with_word (unfit_by columns width p s PreWrap)) left)
+      inr (before, whole, ap (with_word (wrap_space_by columns width p s PreWrap)) left)
 
-  unfit_leaves : (p : Progress A) (o : Option (Space A)) → Leaves (λ q. unfit columns width q o) p
+  unfit_leaves : (p : Progress A) (o : Option (Space A)) → Leaves (λ q. wrap_space columns width q o) p
   unfit_leaves p None = λ front ms h e. inr (front, e, refl)
   unfit_leaves p (Some s) = unfit_by_leaves p s s.mode
 
   lay_fresh_leaves : (p : Progress A) → Leaves (lay_fresh columns width) p
   lay_fresh_leaves p =
       leaves_if (λ q. has_character q.word)
-      (λ q. record q { laid = put_items columns width (put_pending width q.space (fresh q.laid)) q.word; space = None; word = []; continued = is_pre q.mode })
-      (λ q. record q { laid = put_pending width q.space (fresh q.laid); space = None; continued = is_pre q.mode }) p blind_character
+      (λ q. record q { laid = put_items columns width (put_pending width q.space (end_if_character q.laid)) q.word; space = None; word = []; continuation_flag = is_pre q.mode })
+      (λ q. record q { laid = put_pending width q.space (end_if_character q.laid); space = None; continuation_flag = is_pre q.mode }) p blind_character
       (λ _ front ms h e. inl (append_none front ms e)) (λ _ front ms h e. inr (front, e, refl))
 
   lay_leaves : (p : Progress A) → Leaves (lay columns width) p
   lay_leaves p =
-      leaves_if (λ q. nat_le (q.laid.width + (space_columns q.space + items_width columns q.word)) width) (lay_here columns) (λ q. lay_fresh columns width (unfit columns width q q.space)) p
-      (λ q before ms e h. ap (λ n. nat_le (q.laid.width + (space_columns q.space + n)) width) (width_front columns q.word before ms e h))
+      leaves_if (λ q. nat_le (q.laid.width + (pending_width q.space + items_width columns q.word)) width) (lay_here columns) (λ q. lay_fresh columns width (wrap_space columns width q q.space)) p
+      (λ q before ms e h. ap (λ n. nat_le (q.laid.width + (pending_width q.space + n)) width) (width_front columns q.word before ms e h))
       (λ _ front ms h e. inl (append_none front ms e))
-      (λ _. leaves_then (λ q. unfit columns width q p.space) (lay_fresh columns width) p (unfit_leaves p p.space) (lay_fresh_leaves (unfit columns width p p.space)))
+      (λ _. leaves_then (λ q. wrap_space columns width q p.space) (lay_fresh columns width) p (unfit_leaves p p.space) (lay_fresh_leaves (wrap_space columns width p p.space)))
 
   flush_word_leaves : (p : Progress A) → Leaves (flush_word columns width) p
   flush_word_leaves p = leaves_if (λ q. has_character q.word) (lay columns width) (λ q. q) p blind_character
@@ -236,7 +236,7 @@ module _ {A : Type 0} (columns : ℕ → Option ℕ) (width : ℕ) where
   keep_character_leaves c a b mode None p = λ front ms h e. inr (front, e, refl)
   keep_character_leaves c a b mode (Some n) p =
       whole_leaves (keep_character columns width c a b mode (Some n)) p
-      (cond_both (is_pre mode && passes columns width n p) _ _ EndsWhole (λ _. joined_whole c b mode (record p { continued = true; again = true })) (λ _. joined_whole c (tag_of p a b) mode p))
+      (cond_both (is_pre mode && passes columns width n p) _ _ EndsWhole (λ _. joined_whole c b mode (record p { continuation_flag = true; in_continuation = true })) (λ _. joined_whole c (tag_of p a b) mode p))
 
   preserve_leaves : (c : ℕ) (a b : A) (mode : WhiteSpace) (p : Progress A) → Leaves (preserve columns width c a b mode) p
   preserve_leaves c a b mode p = go (c == 8203) (c == 10) (c == 9) (is_blank c)
@@ -305,26 +305,26 @@ module _ {A : Type 0} (columns : ℕ → Option ℕ) (width : ℕ) where
             )
       ]
 
-  out_marker : (es : List (Event A)) (name : List ℕ) → CanTakeOut es → CanTakeOut (es ++ entry (fragment name) ∷ [])
+  out_marker : (es : List (Event A)) (name : List ℕ) → CanTakeOut es → CanTakeOut (es ++ entry (marker_entry name) ∷ [])
   out_marker es name can front ms e h =
       let p : Progress A = progress columns width es in
-      let now : p.word ++ marker name ∷ [] ≡ front ++ ms = ap (λ (q : Progress A). q.word) (sym (progress-push es (entry (fragment name)))) ∙ e in
+      let now : p.word ++ marker name ∷ [] ≡ front ++ ms = ap (λ (q : Progress A). q.word) (sym (progress-push es (entry (marker_entry name)))) ∙ e in
       elim (last_of_back p.word (marker name) front ms now) [
-        | inl none ↦ nothing_out (es ++ entry (fragment name) ∷ []) front ms e none
+        | inl none ↦ nothing_out (es ++ entry (marker_entry name) ∷ []) front ms e none
         | inr r ↦
             let bare : has_character r.0 ≡ false = (or_parts (has_character r.0) false (sym (has_character-append r.0 (marker name ∷ [])) ∙ ap has_character (sym r.1) ∙ h)).0 in
             let count : length ms ≡ length r.0 + 1 = ap length r.1 ∙ length-append r.0 (marker name ∷ []) in
             let (fs, run, state) = can front r.0 r.2 bare in (
               fs,
-              run ∙ sym (without_one (length r.0) (run_of es) name) ∙ ap (λ n. without_last_markers n (run_of es ++ fragment name ∷ [])) (sym count)
-                  ∙ ap (without_last_markers (length ms)) (sym (run_of-append es (entry (fragment name) ∷ []))),
-              state ∙ ap (λ (q : Progress A). with_word q front) (sym (progress-push es (entry (fragment name)))),
+              run ∙ sym (without_one (length r.0) (run_of es) name) ∙ ap (λ n. without_last_markers n (run_of es ++ marker_entry name ∷ [])) (sym count)
+                  ∙ ap (without_last_markers (length ms)) (sym (run_of-append es (entry (marker_entry name) ∷ []))),
+              state ∙ ap (λ (q : Progress A). with_word q front) (sym (progress-push es (entry (marker_entry name)))),
             )
       ]
 
   out_event : (es : List (Event A)) (x : Event A) → CanTakeOut es → CanTakeOut (es ++ x ∷ [])
   out_event es call can = out_behind es call can (λ front ms h e. inr (front, e, refl)) (λ n. ap (without_last_markers n) (append-nil (run_of es)) ∙ sym (append-nil (without_last_markers n (run_of es))))
-  out_event es (entry (fragment name)) can = out_marker es name can
+  out_event es (entry (marker_entry name)) can = out_marker es name can
   out_event es (entry (character c a b mode)) can =
       out_behind es (entry (character c a b mode)) can (enter_leaves c a b mode (progress columns width es)) (λ n. without_behind n (run_of es) c a b mode)
 

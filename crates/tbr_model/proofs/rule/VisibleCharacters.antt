@@ -2,15 +2,15 @@
 use Rattle.std.proofs.Common.{◌≡◌, ℕ, ◌<◌, ◌⊎◌, inl, inr, Bool, true, false, Option, List, [], ◌∷◌, ◌++◌, filter, fold, length, refl, ap, sym, ◌∙◌, arith, append-nil, length-append}
 use Rattle.std.specs.List.{AllZip, AllByRecursion as Each}
 use Rattle.std.proofs.lemmas.List.Elements.{filter-append}
-use Rattle.tbr_model.specs.Run.{Entry, character, fragment, Item, glyph, marker, has_character}
+use Rattle.tbr_model.specs.Run.{Entry, character, marker_entry, Item, glyph, marker, has_character}
 use Rattle.tbr_model.specs.Layout.{joined}
 use Rattle.tbr_model.specs.Laid.{Laid}
 use Rattle.tbr_model.specs.Rule.{Event, run_of, Progress, at_start, flush_word, newline, step, finished, lines_of}
 use Rattle.tbr_model.specs.Hard.{glyphs_of, is_visible, visible_glyphs, visible_entries, IsShown, ShowsVisible, Preserves, hard_lines, Parted, ShowsHardLine}
-use Rattle.tbr_model.proofs.rule.HardLineStart.{IsFresh}
+use Rattle.tbr_model.proofs.rule.HardLineStart.{BeginsHardLine}
 use Rattle.tbr_model.proofs.words.Items.{glyphs_of-append}
 use Rattle.tbr_model.proofs.rule.Content.{LooksAtVisible, StandsFor, on_lines, content, fold_content, finished_content, newline_flushed}
-use Rattle.tbr_model.proofs.rule.HardLines.{fresh_bare, NoNewline, flush_flushes, start_fresh, hard_lines_parted}
+use Rattle.tbr_model.proofs.rule.HardLines.{no_character_after_end, NoNewline, flush_flushes, start_fresh, hard_lines_parted}
 
 visible-append : {A : Type 0} (columns : ℕ → Option ℕ) (is js : List (Item A)) → visible_glyphs columns (is ++ js) ≡ visible_glyphs columns is ++ visible_glyphs columns js
 visible-append {A} columns is js = ap (filter (λ g. is_visible columns g.0)) (glyphs_of-append is js) ∙ filter-append (λ (g : ℕ × A). is_visible columns g.0) (glyphs_of is) (glyphs_of js)
@@ -43,14 +43,14 @@ module _ {A : Type 0} (columns : ℕ → Option ℕ) (width : ℕ) (eq : A → A
           AllZip (IsShown eq) (visible_glyphs columns (glyph d x ∷ is)) (visible_entries columns (character d a b m ∷ es))
       go rest true e = rw e ((refl, under x a b h.0.1), rest)
       go rest false e = rw e rest
-  all_shown (glyph c x ∷ is) (fragment name ∷ es) h = elim h.0 [ ]
+  all_shown (glyph c x ∷ is) (marker_entry name ∷ es) h = elim h.0 [ ]
   all_shown (marker name ∷ is) (character d a b m ∷ es) h = elim h.0 [ ]
-  all_shown (marker name ∷ is) (fragment other ∷ es) h = all_shown is es h.1
+  all_shown (marker name ∷ is) (marker_entry other ∷ es) h = all_shown is es h.1
 
-  fresh_has_none : (p : Progress A) → IsFresh p → shown p ≡ []
+  fresh_has_none : (p : Progress A) → BeginsHardLine p → shown p ≡ []
   fresh_has_none p f = rw (f.done, f.line) (none_visible columns p.word f.word)
 
-  from_fresh : (p : Progress A) (es : List (Event A)) → IsFresh p → AllZip (IsShown eq) (shown (fold (step columns width) p es)) (visible_entries columns (run_of es))
+  from_fresh : (p : Progress A) (es : List (Event A)) → BeginsHardLine p → AllZip (IsShown eq) (shown (fold (step columns width) p es)) (visible_entries columns (run_of es))
   from_fresh p es f =
       let (is, stand, found) = fold_content columns (visible_glyphs columns) (looks_at_characters columns) width es p in
       rw (found, fresh_has_none p f) (all_shown is (run_of es) stand)
@@ -66,7 +66,7 @@ module _ {A : Type 0} (columns : ℕ → Option ℕ) (width : ℕ) (eq : A → A
 
   finished_shown : (p : Progress A) → visible_glyphs columns (joined (finished columns width p).done) ≡ shown p
   finished_shown p =
-      lines_alone (finished columns width p) (flush_word columns width p).word (fresh_bare (flush_word columns width p).laid) (flush_flushes columns width p)
+      lines_alone (finished columns width p) (flush_word columns width p).word (no_character_after_end (flush_word columns width p).laid) (flush_flushes columns width p)
       ∙ finished_content columns (visible_glyphs columns) (looks_at_characters columns) width p
 
   ended_line_shown : (p : Progress A) → visible_glyphs columns (joined (newline (flush_word columns width p)).laid.done) ≡ shown p
@@ -75,10 +75,10 @@ module _ {A : Type 0} (columns : ℕ → Option ℕ) (width : ℕ) (eq : A → A
       ∙ newline_flushed columns (visible_glyphs columns) (looks_at_characters columns) width p
 
   -- the visible characters of a run from where a hard line begins
-  pub visible_from : (p : Progress A) (es : List (Event A)) → IsFresh p → ShowsVisible columns eq (run_of es) (finished columns width (fold (step columns width) p es)).done
+  pub visible_from : (p : Progress A) (es : List (Event A)) → BeginsHardLine p → ShowsVisible columns eq (run_of es) (finished columns width (fold (step columns width) p es)).done
   visible_from p es f = rw (finished_shown (fold (step columns width) p es)) (from_fresh p es f)
 
-  pub visible_ended : (p : Progress A) (es : List (Event A)) → IsFresh p → ShowsVisible columns eq (run_of es) (newline (flush_word columns width (fold (step columns width) p es))).laid.done
+  pub visible_ended : (p : Progress A) (es : List (Event A)) → BeginsHardLine p → ShowsVisible columns eq (run_of es) (newline (flush_word columns width (fold (step columns width) p es))).laid.done
   visible_ended p es f = rw (ended_line_shown (fold (step columns width) p es)) (from_fresh p es f)
 
   -- A block shows the visible characters of its run once, in order, each under an annotation of its call.
@@ -90,7 +90,7 @@ module _ {A : Type 0} (columns : ℕ → Option ℕ) (width : ℕ) (eq : A → A
   ends_a_line : (p : Progress A) → 0 < length (newline p).laid.done
   ends_a_line p = omega (arith, length-append p.laid.done (p.laid.line ∷ []))
 
-  one_hard_line : (p : Progress A) (es : List (Event A)) → IsFresh p → Each Preserves (run_of es) → NoNewline (run_of es) →
+  one_hard_line : (p : Progress A) (es : List (Event A)) → BeginsHardLine p → Each Preserves (run_of es) → NoNewline (run_of es) →
       ShowsHardLine columns eq true (run_of es) (newline (flush_word columns width (fold (step columns width) p es))).laid.done
       × ShowsHardLine columns eq false (run_of es) (finished columns width (fold (step columns width) p es)).done
   one_hard_line p es f m n = (

@@ -6,9 +6,9 @@ use Rattle.tbr_model.specs.declared.white_space.WhiteSpace.{WhiteSpace}
 use Rattle.tbr_model.specs.declared.white_space.WhiteSpace.TheVariants.{Normal, Pre, PreWrap}
 use Rattle.tbr_model.specs.Run.{glyph, items_width, has_character, is_break}
 use Rattle.tbr_model.specs.Laid.{Laid, extended}
-use Rattle.tbr_model.specs.Rule.{Progress, spaces, space_columns, space_text, space_of, is_pre, lay_here, lay, flush_word, break_word, join, tab, tag_of, keep_space, passes, keep_character}
+use Rattle.tbr_model.specs.Rule.{Progress, spaces, pending_width, space_text, space_of, is_pre, lay_here, lay, flush_word, break_word, join, tab, tag_of, keep_space, passes, keep_character}
 use Rattle.tbr_model.specs.Hard.{letters_of}
-use Rattle.tbr_model.proofs.words.Items.{back_has, letters_of-append, items_width-append, no_character_no_width, no_letters, letters_of-spaces, letters_of-space_text, space_columns-of}
+use Rattle.tbr_model.proofs.words.Items.{back_has, letters_of-append, items_width-append, no_character_no_width, no_letters, letters_of-spaces, letters_of-space_text, pending_width-of}
 use Rattle.tbr_model.proofs.rule.Printable.{prepared}
 
 -- a text stands on the open line, in the pending space and in the word, and no line is ended
@@ -16,30 +16,30 @@ pub record Reads {A : Type 0} (columns : ℕ → Option ℕ) (x : List ℕ) (p :
   pub done : p.laid.done ≡ []
   pub width : p.laid.width ≡ length (letters_of p.laid.line)
   pub word : items_width columns p.word ≡ length (letters_of p.word)
-  pub text : letters_of p.laid.line ++ (replicate (space_columns p.space) 32 ++ letters_of p.word) ≡ x
+  pub text : letters_of p.laid.line ++ (replicate (pending_width p.space) 32 ++ letters_of p.word) ≡ x
 
 -- how long the text is
 pub reads_length : {A : Type 0} (columns : ℕ → Option ℕ) (x : List ℕ) (p : Progress A) → Reads columns x p →
-    p.laid.width + (space_columns p.space + items_width columns p.word) ≡ length x
+    p.laid.width + (pending_width p.space + items_width columns p.word) ≡ length x
 reads_length columns x p h =
     omega (
       arith,
       h.width,
       h.word,
       ap length h.text,
-      length-append (letters_of p.laid.line) (replicate (space_columns p.space) 32 ++ letters_of p.word),
-      length-append (replicate (space_columns p.space) 32) (letters_of p.word),
-      length-replicate {A = ℕ} (space_columns p.space) 32,
+      length-append (letters_of p.laid.line) (replicate (pending_width p.space) 32 ++ letters_of p.word),
+      length-append (replicate (pending_width p.space) 32) (letters_of p.word),
+      length-replicate {A = ℕ} (pending_width p.space) 32,
     )
 
 pub lay_fits : {A : Type 0} (columns : ℕ → Option ℕ) (width : ℕ) (x : List ℕ) (p : Progress A) → Reads columns x p → length x ≤ width → lay columns width p ≡ lay_here columns p
 lay_fits columns width x p h fits =
-    let e : nat_le (p.laid.width + (space_columns p.space + items_width columns p.word)) width ≡ true = le-leb _ _ (omega (arith, fits, reads_length columns x p h)) in
+    let e : nat_le (p.laid.width + (pending_width p.space + items_width columns p.word)) width ≡ true = le-leb _ _ (omega (arith, fits, reads_length columns x p h)) in
     rw e refl
 
 -- the letters of the line on which space and word are laid
 pub laid_letters : {A : Type 0} (columns : ℕ → Option ℕ) (p : Progress A) →
-    letters_of (lay_here columns p).laid.line ≡ letters_of p.laid.line ++ (replicate (space_columns p.space) 32 ++ letters_of p.word)
+    letters_of (lay_here columns p).laid.line ≡ letters_of p.laid.line ++ (replicate (pending_width p.space) 32 ++ letters_of p.word)
 laid_letters columns p =
     letters_of-append p.laid.line (space_text p.space ++ p.word) ∙ ap (λ cs. letters_of p.laid.line ++ cs) (letters_of-append (space_text p.space) p.word ∙ ap (λ cs. cs ++ letters_of p.word) (letters_of-space_text p.space))
 
@@ -75,9 +75,9 @@ join_reads {A} columns c a mode x p one h = record {
   done = h.done;
   width = h.width;
   word = omega (arith, items_width-append columns p.word (glyph c a ∷ []), h.word, ap length (letters_of-append p.word (glyph c a ∷ [])), length-append (letters_of p.word) (c ∷ []), wide);
-  text = ap (λ cs. letters_of p.laid.line ++ (replicate (space_columns p.space) 32 ++ cs)) (letters_of-append p.word (glyph c a ∷ []))
-      ∙ ap (λ cs. letters_of p.laid.line ++ cs) (sym (append_assoc (replicate (space_columns p.space) 32) (letters_of p.word) (c ∷ [])))
-      ∙ sym (append_assoc (letters_of p.laid.line) (replicate (space_columns p.space) 32 ++ letters_of p.word) (c ∷ []))
+  text = ap (λ cs. letters_of p.laid.line ++ (replicate (pending_width p.space) 32 ++ cs)) (letters_of-append p.word (glyph c a ∷ []))
+      ∙ ap (λ cs. letters_of p.laid.line ++ cs) (sym (append_assoc (replicate (pending_width p.space) 32) (letters_of p.word) (c ∷ [])))
+      ∙ sym (append_assoc (letters_of p.laid.line) (replicate (pending_width p.space) 32 ++ letters_of p.word) (c ∷ []))
       ∙ ap (λ cs. cs ++ c ∷ []) h.text;
 }
   where
@@ -91,26 +91,26 @@ space_reads {A} columns a mode x p one h =
       done = h.done;
       width = h.width;
       word = h.word;
-      text = waits (no_letters p.word none) (space_columns p.space) (letters_of p.laid.line) h.text;
+      text = waits (no_letters p.word none) (pending_width p.space) (letters_of p.laid.line) h.text;
     })
   where
     waits : letters_of p.word ≡ [] → (n : ℕ) (l : List ℕ) → l ++ (replicate n 32 ++ letters_of p.word) ≡ x →
-        l ++ (replicate (space_columns (space_of (n + 1) a mode)) 32 ++ letters_of p.word) ≡ x ++ 32 ∷ []
+        l ++ (replicate (pending_width (space_of (n + 1) a mode)) 32 ++ letters_of p.word) ≡ x ++ 32 ∷ []
     waits e n l k =
         let more : replicate (n + 1) 32 ≡ replicate n 32 ++ 32 ∷ [] = sym (replicate-append-replicate n 1 32) in
         let without : l ++ replicate n 32 ≡ x = ap (λ cs. l ++ cs) (sym (append-nil (replicate n 32)) ∙ ap (λ cs. replicate n 32 ++ cs) (sym e)) ∙ k in
-        rw (space_columns-of (n + 1) a mode) (ap (λ cs. l ++ (replicate (n + 1) 32 ++ cs)) e ∙ ap (λ cs. l ++ cs) (append-nil (replicate (n + 1) 32) ∙ more)
+        rw (pending_width-of (n + 1) a mode) (ap (λ cs. l ++ (replicate (n + 1) 32 ++ cs)) e ∙ ap (λ cs. l ++ cs) (append-nil (replicate (n + 1) 32) ∙ more)
         ∙ sym (append_assoc l (replicate n 32) (32 ∷ [])) ∙ ap (λ cs. cs ++ 32 ∷ []) without)
 
-pub again_reads : {A : Type 0} (columns : ℕ → Option ℕ) (x : List ℕ) (p : Progress A) (continued again : Bool) → Reads columns x p → Reads columns x (record p { continued = continued; again = again })
-again_reads columns x p continued again h = record { done = h.done; width = h.width; word = h.word; text = h.text }
+pub continuation_reads : {A : Type 0} (columns : ℕ → Option ℕ) (x : List ℕ) (p : Progress A) (continuation_flag in_continuation : Bool) → Reads columns x p → Reads columns x (record p { continuation_flag = continuation_flag; in_continuation = in_continuation })
+continuation_reads columns x p continuation_flag in_continuation h = record { done = h.done; width = h.width; word = h.word; text = h.text }
 
 -- any other character joins the word
 pub character_reads : {A : Type 0} (columns : ℕ → Option ℕ) (width c : ℕ) (a b : A) (mode : WhiteSpace) (x : List ℕ) (p : Progress A) → columns c ≡ Some 1 → Reads columns x p →
     Reads columns (x ++ c ∷ []) (keep_character columns width c a b mode (Some 1) p)
 character_reads {A} columns width c a b mode x p one h =
     cond_both (is_pre mode && passes columns width 1 p) _ _ (λ (q : Progress A). Reads columns (x ++ c ∷ []) q)
-    (λ _. join_reads columns c b mode x (record p { continued = true; again = true }) one (again_reads columns x p true true h)) (λ _. join_reads columns c (tag_of p a b) mode x p one h)
+    (λ _. join_reads columns c b mode x (record p { continuation_flag = true; in_continuation = true }) one (continuation_reads columns x p true true h)) (λ _. join_reads columns c (tag_of p a b) mode x p one h)
 
 pub character_joins : {A : Type 0} (columns : ℕ → Option ℕ) (width c : ℕ) (a b : A) (mode : WhiteSpace) (p : Progress A) →
     has_character (keep_character columns width c a b mode (Some 1) p).word ≡ true
@@ -132,7 +132,7 @@ tab_reads {A} columns width a x p h none fits = subst (λ (l : Laid A). Reads co
     n = 8 - length x % 8
 
     s : ℕ
-    s = space_columns p.space
+    s = pending_width p.space
 
     empty : letters_of p.word ≡ []
     empty = no_letters p.word none

@@ -6,14 +6,14 @@ use Rattle.std.proofs.lemmas.Bool.Decides.{eqb_tells}
 use Rattle.std.proofs.lemmas.List.{length-replicate}
 use Rattle.tbr_model.specs.declared.white_space.WhiteSpace.{WhiteSpace}
 use Rattle.tbr_model.specs.declared.white_space.WhiteSpace.TheVariants.{Normal}
-use Rattle.tbr_model.specs.Run.{Entry, character, fragment, has_character}
-use Rattle.tbr_model.specs.Laid.{Laid, ended, fresh}
-use Rattle.tbr_model.specs.Rule.{Event, call, entry, run_of, Progress, space_columns, space_text, lay_here, flush_word, tag_of, newline, enter, step, finished}
+use Rattle.tbr_model.specs.Run.{Entry, character, marker_entry, has_character}
+use Rattle.tbr_model.specs.Laid.{Laid, end_line, end_if_character}
+use Rattle.tbr_model.specs.Rule.{Event, call, entry, run_of, Progress, pending_width, space_text, lay_here, flush_word, tag_of, newline, enter, step, finished}
 use Rattle.tbr_model.specs.Hard.{HasMode, Preserves, is_newline, letters_of, entry_letters, IsPrintable, IsTabbedLine, EndsWithNonBlank, tabs_filled, ShowsTabs}
 use Rattle.tbr_model.proofs.words.Items.{back_has, no_character_no_width, no_letters}
-use Rattle.tbr_model.proofs.rule.HardLineStart.{IsFresh}
+use Rattle.tbr_model.proofs.rule.HardLineStart.{BeginsHardLine}
 use Rattle.tbr_model.proofs.rule.Printable.{IsVisible, prepared, entered, preserved_tab, preserved_space, preserved_visible, visible_of}
-use Rattle.tbr_model.proofs.tabs.FittingText.{Reads, lay_fits, laid_letters, flush_reads, prepared_reads, space_reads, again_reads, character_reads, character_joins, tab_reads}
+use Rattle.tbr_model.proofs.tabs.FittingText.{Reads, lay_fits, laid_letters, flush_reads, prepared_reads, space_reads, continuation_reads, character_reads, character_joins, tab_reads}
 
 -- ---- one entry
 
@@ -83,8 +83,8 @@ tabs_read : {A : Type 0} (columns : ℕ → Option ℕ) (width : ℕ) (es : List
     Reads columns all (fold (step columns width) p es) × has_character (fold (step columns width) p es).word ≡ true
 tabs_read columns width [] x all p one kept tabbed ends whole fits h = (subst (λ (t : List ℕ). Reads columns t p) (sym (append-nil x) ∙ whole) h, ends)
 tabs_read columns width (call ∷ es) x all p one kept tabbed ends whole fits h =
-    tabs_read columns width es x all (record p { again = p.continued }) one kept tabbed ends whole fits (again_reads columns x p p.continued p.continued h)
-tabs_read columns width (entry (fragment name) ∷ es) x all p one kept tabbed ends whole fits h = absurd tabbed.0
+    tabs_read columns width es x all (record p { in_continuation = p.continuation_flag }) one kept tabbed ends whole fits (continuation_reads columns x p p.continuation_flag p.continuation_flag h)
+tabs_read columns width (entry (marker_entry name) ∷ es) x all p one kept tabbed ends whole fits h = absurd tabbed.0
 tabs_read columns width (entry (character c a b mode) ∷ es) x all p one kept tabbed ends whole fits h =
     let cs = entry_letters (run_of es) in
     let first : x ++ (filled (length x) c ++ tabs_filled (length x + length (filled (length x) c)) cs) ≡ all = ap (λ ds. x ++ ds) (sym (filled_first (length x) c cs)) ∙ whole in
@@ -99,17 +99,17 @@ tabs_read columns width (entry (character c a b mode) ∷ es) x all p one kept t
 -- ---- the end
 
 -- nothing is read
-pub fresh_reads : {A : Type 0} (columns : ℕ → Option ℕ) (p : Progress A) → IsFresh p → Reads columns [] p
+pub fresh_reads : {A : Type 0} (columns : ℕ → Option ℕ) (p : Progress A) → BeginsHardLine p → Reads columns [] p
 fresh_reads columns p h = record {
   done = h.done;
   width = h.width ∙ ap (λ is. length (letters_of is)) (sym h.line);
   word = no_character_no_width columns p.word h.word ∙ ap length (sym (no_letters p.word h.word));
-  text = ap (λ is. letters_of is ++ (replicate (space_columns p.space) 32 ++ letters_of p.word)) h.line ∙ ap (λ s. replicate (space_columns s) 32 ++ letters_of p.word) h.space ∙ no_letters p.word h.word;
+  text = ap (λ is. letters_of is ++ (replicate (pending_width p.space) 32 ++ letters_of p.word)) h.line ∙ ap (λ s. replicate (pending_width s) 32 ++ letters_of p.word) h.space ∙ no_letters p.word h.word;
 }
 
 -- The lines of a hard line whose only line has the letters, where another follows and where none does.
 abbrev pub IsLine : {A : Type 0} → List ℕ → Laid A → Type 0
-IsLine x l = (map letters_of (ended l).done ≡ x ∷ []) × (map letters_of (fresh l).done ≡ x ∷ [])
+IsLine x l = (map letters_of (end_line l).done ≡ x ∷ []) × (map letters_of (end_if_character l).done ≡ x ∷ [])
 
 pub line_is : {A : Type 0} (x : List ℕ) (l : Laid A) → l.done ≡ [] → letters_of l.line ≡ x → has_character l.line ≡ true → IsLine x l
 line_is {A} x l done letters has =
@@ -126,7 +126,7 @@ end_reads columns width x p h fits has =
 kept_by : {A : Type 0} (mode : WhiteSpace) → mode ≢ Normal → (es : List (Entry A)) → Each (HasMode mode) es → Each Preserves es
 kept_by mode kept [] h = tt
 kept_by mode kept (character c a b m ∷ es) h = (λ e. kept (sym h.0 ∙ e), kept_by mode kept es h.1)
-kept_by mode kept (fragment name ∷ es) h = (tt, kept_by mode kept es h.1)
+kept_by mode kept (marker_entry name ∷ es) h = (tt, kept_by mode kept es h.1)
 
 some_end : (cs : List ℕ) → EndsWithNonBlank cs → Ends false cs
 some_end [] h = absurd h
@@ -134,7 +134,7 @@ some_end (c ∷ cs) h = h
 
 -- Tabs of a hard line in a run of one preserving mode.
 pub tab_line : {A : Type 0} (columns : ℕ → Option ℕ) (width : ℕ) → columns 32 ≡ Some 1 → 0 < width → (mode : WhiteSpace) → mode ≢ Normal → (p : Progress A) (es : List (Event A)) →
-    IsFresh p → Each (λ e. is_newline e ≡ false) (run_of es) → Each (HasMode mode) (run_of es) →
+    BeginsHardLine p → Each (λ e. is_newline e ≡ false) (run_of es) → Each (HasMode mode) (run_of es) →
     ShowsTabs columns width true (run_of es) (newline (flush_word columns width (fold (step columns width) p es))).laid.done
     × ShowsTabs columns width false (run_of es) (finished columns width (fold (step columns width) p es)).done
 tab_line {A} columns width one some mode kept p es h no_newline modes = (record { tabs = λ tabbed ends fits. (line tabbed ends fits).0 }, record { tabs = λ tabbed ends fits. (line tabbed ends fits).1 })

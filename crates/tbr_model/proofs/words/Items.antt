@@ -4,7 +4,7 @@ use Rattle.std.proofs.lemmas.Bool.{and_right, or_right, not_from_true}
 use Rattle.std.proofs.lemmas.List.{map-append}
 use Rattle.tbr_model.specs.declared.white_space.WhiteSpace.{WhiteSpace}
 use Rattle.tbr_model.specs.Run.{Item, glyph, marker, items_width, has_character, is_kept, is_break}
-use Rattle.tbr_model.specs.Rule.{Space, spaces, space_columns, space_text, space_of}
+use Rattle.tbr_model.specs.Rule.{Space, spaces, pending_width, space_text, space_of}
 use Rattle.tbr_model.specs.Hard.{glyphs_of, letters_of}
 
 -- ---- items behind items
@@ -70,13 +70,13 @@ pub letters_of-spaces : {A : Type 0} (n : ℕ) (a : A) → letters_of (spaces n 
 letters_of-spaces zero a = refl
 letters_of-spaces (suc n) a = ap (λ cs. 32 ∷ cs) (letters_of-spaces n a)
 
-pub letters_of-space_text : {A : Type 0} (o : Option (Space A)) → letters_of (space_text o) ≡ replicate (space_columns o) 32
+pub letters_of-space_text : {A : Type 0} (o : Option (Space A)) → letters_of (space_text o) ≡ replicate (pending_width o) 32
 letters_of-space_text None = refl
-letters_of-space_text (Some s) = letters_of-spaces s.columns s.tag
+letters_of-space_text (Some s) = letters_of-spaces s.width s.tag
 
-pub space_columns-of : {A : Type 0} (n : ℕ) (a : A) (mode : WhiteSpace) → space_columns (space_of n a mode) ≡ n
-space_columns-of zero a mode = refl
-space_columns-of (suc n) a mode = refl
+pub pending_width-of : {A : Type 0} (n : ℕ) (a : A) (mode : WhiteSpace) → pending_width (space_of n a mode) ≡ n
+pending_width-of zero a mode = refl
+pending_width-of (suc n) a mode = refl
 
 pub letters_of-space_of : {A : Type 0} (n : ℕ) (a : A) (mode : WhiteSpace) → letters_of (space_text (space_of n a mode)) ≡ replicate n 32
-letters_of-space_of n a mode = letters_of-space_text (space_of n a mode) ∙ ap (λ k. replicate k 32) (space_columns-of n a mode)
+letters_of-space_of n a mode = letters_of-space_text (space_of n a mode) ∙ ap (λ k. replicate k 32) (pending_width-of n a mode)

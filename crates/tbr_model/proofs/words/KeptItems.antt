@@ -3,7 +3,7 @@ use Rattle.std.proofs.Common.{◌≡◌, ℕ, ◌≤◌, Bool, true, false, nat_
 use Rattle.std.specs.List.{AllByRecursion as Each}
 use Rattle.std.proofs.lemmas.Bool.{cond_both, and_parts}
 use Rattle.std.proofs.lemmas.List.Concat.{flat_map-append}
-use Rattle.tbr_model.specs.Run.{Entry, character, fragment, Item, glyph, marker, item_width, items_width, items_of, kept_items, is_kept, is_break_entry, has_character, Word, word_of, Reading, start, works, read, reading, words_of, trailing}
+use Rattle.tbr_model.specs.Run.{Entry, character, marker_entry, Item, glyph, marker, item_width, items_width, items_of, kept_items, is_kept, is_break_entry, has_character, Word, word_of, Reading, start, works, read, reading, words_of, trailing}
 use Rattle.tbr_model.specs.Layout.{Slot, slot_of, word_slots, slots_of, joined, line_width, rest_width, IsLegalLine, IsLegal, IsBest}
 use Rattle.tbr_model.proofs.lists.Each.{each_front, each_back, each_append}
 use Rattle.tbr_model.specs.Greedy.{close, wrapped, IsNarrow}
@@ -18,7 +18,7 @@ held r = flat_map (λ w. w.items) r.words ++ r.items
 -- a break point is not kept
 pub break_left : {A : Type 0} (columns : ℕ → Option ℕ) (e : Entry A) → is_break_entry e ≡ true → items_of columns e ≡ []
 break_left columns (character c a b mode) h = let k : is_kept columns c ≡ false = break_lost columns c h in rw k refl
-break_left columns (fragment name) h = cc
+break_left columns (marker_entry name) h = cc
 
 pub held-read : {A : Type 0} (columns : ℕ → Option ℕ) (r : Reading A) (e : Entry A) → held (read columns r e) ≡ held r ++ items_of columns e
 held-read {A} columns r e =

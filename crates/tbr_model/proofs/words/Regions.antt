@@ -4,7 +4,7 @@ use Rattle.std.specs.List.{AllByRecursion as Each, list_any}
 use Rattle.std.proofs.lemmas.List.Concat.{flat_map-append}
 use Rattle.std.proofs.lemmas.List.Sums.{fold-append}
 use Rattle.std.proofs.lemmas.Bool.{and_from, and_parts}
-use Rattle.tbr_model.specs.Run.{Entry, character, fragment, Item, glyph, items_width, items_of, kept_items, is_kept, is_break, is_break_entry, blank_of, first_of, has_character, Word, word_of, Reading, works, read, words_of, trailing}
+use Rattle.tbr_model.specs.Run.{Entry, character, marker_entry, Item, glyph, items_width, items_of, kept_items, is_kept, is_break, is_break_entry, blank_of, first_of, has_character, Word, word_of, Reading, works, read, words_of, trailing}
 use Rattle.tbr_model.specs.Regions.{takes_columns, HasColumns, NoBreakWorks, Region, region_entries, EndsAtWorkingBreak, IsParted, first_blank, word_behind, words_behind, words_between, markers_left}
 use Rattle.tbr_model.proofs.words.Items.{items_width-append}
 use Rattle.tbr_model.proofs.lists.Joined.{cut_twice}
@@ -22,7 +22,7 @@ takes_columns_width columns (character c a b mode) = go (is_kept columns c)
     go : (b : Bool) → b && nat_lt 0 (unwrap_or (columns c) 0) ≡ nat_lt 0 (items_width columns (if b then glyph c a ∷ [] else []))
     go true = ap (nat_lt 0) (let e : unwrap_or (columns c) 0 ≡ unwrap_or (columns c) 0 + 0 = omega arith in e)
     go false = refl
-takes_columns_width columns (fragment name) = refl
+takes_columns_width columns (marker_entry name) = refl
 
 pub has_columns_width : {A : Type 0} (columns : ℕ → Option ℕ) (es : List (Entry A)) → list_any (takes_columns columns) es ≡ nat_lt 0 (items_width columns (kept_items columns es))
 has_columns_width columns [] = refl

@@ -1,4 +1,4 @@
--- `and` makes the empty struct, with the items that its clause names. Assumes `Logic`.
+-- `appended` makes the empty struct, with the items that its clause names. Assumes `Logic`.
 use Rattle.std.proofs.Common.{List, [], ◌∷◌, ◌++◌, refl}
 use seplogic.Ra.Ura.{Ura}
 use mir.Syntax.{Fn, Args, a_type}
@@ -33,10 +33,10 @@ use denote.Triple.Walked.{says, Stays, stay_dropped, walk_of, ends_at, walk_Meet
 use Rattle.std.specs.contracts.marker.PhantomData as Mark
 use Rattle.tbr_model.proofs.HistorySteps.{none, one, one_made}
 use Rattle.tbr_model.specs.contracts.history.History as Log
-use Rattle.tbr_model.specs.contracts.history.History.and as F
-use Rattle.tbr_model.specs.contracts.history.History.and.Key.{name as #self}
-use Rattle.tbr_model.proofs.history.History.and.Statement as stated
-use Rattle.tbr_model.proofs.history.History.and.Code as code
+use Rattle.tbr_model.specs.contracts.history.History.appended as F
+use Rattle.tbr_model.specs.contracts.history.History.appended.Key.{name as #self}
+use Rattle.tbr_model.proofs.history.History.appended.Statement as stated
+use Rattle.tbr_model.proofs.history.History.appended.Code as code
 
 module _ (A B D : RattleType) where
   abbrev args : Args
@@ -113,9 +113,9 @@ module _ (A B D : RattleType) where
         ) held
         (WpFn 𝓤 H 𝓣.C 𝓣.Λ function) (WpFn-mono 𝓤 H 𝓛.laws 𝓣 function) (walks 𝓣.C 𝓣.Λ)
 
-pub and_spec : {M : Type 1} → stated.statement M
+pub appended_spec : {M : Type 1} → stated.statement M
 unfolding tables_of
-and_spec 𝓤 𝓛 𝓜 𝓡 wired A B D LA LB LD =
+appended_spec 𝓤 𝓛 𝓜 𝓡 wired A B D LA LB LD =
     let 𝓣 : Tables 𝓤 𝓛.H = tables_of 𝓤 𝓛.H 𝓜 (tables 𝓤 𝓛.H 𝓜 𝓡 𝓡.env) in
     entered 𝓤 𝓛.H (triple_of 𝓛 (ended A B D).signature (closing 𝓛 (ended A B D) (held A B D 𝓛 𝓜.mem 𝓡.returns))) 𝓣.C 𝓣.Λ (#self (args A B D)) (function A B D)
     (code.unfolded 𝓤 𝓛.H 𝓜 𝓡 wired (A, (B, (D, tt)))) (meets A B D 𝓛 𝓜.mem 𝓡.returns 𝓣)
