@@ -13,6 +13,10 @@ abbrev pub HasMode : {A : Type 0} → WhiteSpace → Entry A → Type 0
 HasMode mode (character c a b m) = m ≡ mode
 HasMode mode (marker_entry name) = Unit {0}
 
+-- all characters of a run have the mode
+abbrev pub AllHaveMode : {A : Type 0} → WhiteSpace → List (Entry A) → Type 0
+AllHaveMode mode run = Each (HasMode mode) run
+
 -- a character has a preserving mode
 abbrev pub Preserves : {A : Type 0} → Entry A → Type 0
 Preserves (character c a b m) = m ≢ Normal
@@ -39,12 +43,13 @@ abbrev pub hard_lines : {A : Type 0} → List (Entry A) → List (List (Entry A)
 hard_lines [] = [] ∷ []
 hard_lines (e ∷ es) = if is_newline e then [] ∷ hard_lines es else onto_first e (hard_lines es)
 
--- The lines are groups, one for each part, and each part has its relation to its group. The relation is told whether another part
--- follows.
+-- The lines are groups, one for each part, and each part has its relation to its group. The relation is told whether
+-- another part follows.
 abbrev pub Parted : {X Y : Type 0} → (Bool → X → List Y → Type 0) → List X → List Y → Type 0
 Parted R [] ys = ys ≡ []
 Parted R (x ∷ []) ys = R false x ys
-Parted {X} {Y} R (x ∷ z ∷ xs) ys = (front back : List Y) × (ys ≡ front ++ back) × R true x front × Parted R (z ∷ xs) back
+Parted {X} {Y} R (x ∷ z ∷ xs) ys =
+    (front back : List Y) × (ys ≡ front ++ back) × R true x front × Parted R (z ∷ xs) back
 
 -- ---- characters
 
@@ -82,7 +87,8 @@ IsShown eq g (character c a b m) = (g.0 ≡ c) × ((eq g.1 a ≡ true) ⊎ (eq g
 IsShown eq g (marker_entry name) = ⊥
 
 -- The visible characters of a run stand in lines once, in order, each under an annotation of its call.
-abbrev pub ShowsVisible : {A : Type 0} → (ℕ → Option ℕ) → (A → A → Bool) → List (Entry A) → List (List (Item A)) → Type 0
+abbrev pub ShowsVisible : {A : Type 0} →
+    (ℕ → Option ℕ) → (A → A → Bool) → List (Entry A) → List (List (Item A)) → Type 0
 ShowsVisible columns eq run ls = AllZip (IsShown eq) (visible_glyphs columns (joined ls)) (visible_entries columns run)
 
 -- ---- printable hard lines
@@ -122,7 +128,7 @@ EndsWithNonBlank [] = ⊥
 EndsWithNonBlank (c ∷ []) = (c ≢ space_character) × (c ≢ tab_character)
 EndsWithNonBlank (c ∷ d ∷ cs) = EndsWithNonBlank (d ∷ cs)
 
--- A text cut after every so many characters: the last part has at least one, and at most so many.
+-- A text cut after every `width` characters: the last part has at least one, and at most `width`.
 abbrev pub IsCutEvery : ℕ → List ℕ → List (List ℕ) → Type 0
 IsCutEvery width cs [] = ⊥
 IsCutEvery width cs (l ∷ []) = (l ≡ cs) × (0 < length l) × (length l ≤ width)
@@ -145,22 +151,32 @@ begins_stretch (c ∷ cs) = not (c == space_character)
 -- the stretches of non-blanks of a text
 abbrev pub stretches : List ℕ → List (List ℕ)
 stretches [] = []
-stretches (c ∷ cs) = if c == space_character then stretches cs else if begins_stretch cs then onto_first c (stretches cs) else (c ∷ []) ∷ stretches cs
+stretches (c ∷ cs) =
+    if c == space_character then stretches cs
+    else if begins_stretch cs then onto_first c (stretches cs)
+    else (c ∷ []) ∷ stretches cs
 
 -- The parts are the stretches, in order. Only a stretch that is wider than a line may be cut.
 abbrev pub IsCutOf : ℕ → List (List ℕ) → List (List ℕ) → Type 0
 IsCutOf width [] ps = ps ≡ []
-IsCutOf width (s ∷ ss) ps = (front back : List (List ℕ)) × (ps ≡ front ++ back) × (joined front ≡ s) × (length s ≤ width → front ≡ s ∷ []) × IsCutOf width ss back
+IsCutOf width (s ∷ ss) ps =
+    (front back : List (List ℕ)) × (ps ≡ front ++ back) × (joined front ≡ s) × (length s ≤ width → front ≡ s ∷ [])
+    × IsCutOf width ss back
 
 -- from a column on, each tab as spaces up to the next multiple of eight
 abbrev pub tabs_filled : ℕ → List ℕ → List ℕ
 tabs_filled n [] = []
-tabs_filled n (c ∷ cs) = if c == tab_character then replicate (8 - n % 8) space_character ++ tabs_filled (n + (8 - n % 8)) cs else c ∷ tabs_filled (suc n) cs
+tabs_filled n (c ∷ cs) =
+    if c == tab_character
+    then replicate (8 - n % 8) space_character ++ tabs_filled (n + (8 - n % 8)) cs
+    else c ∷ tabs_filled (suc n) cs
 
 -- ---- what is shown of a hard line
 
--- In any preserving run a newline ends a line, even an empty one, and a hard line's visible characters stand on lines of its own.
-pub record ShowsHardLine {A : Type 0} (columns : ℕ → Option ℕ) (eq : A → A → Bool) (more : Bool) (h : List (Entry A)) (ls : List (List (Item A))) : Type 0 where
+-- In any preserving run a newline ends a line, even an empty one, and a hard line's visible characters stand on lines
+-- of its own.
+pub record ShowsHardLine {A : Type 0} (columns : ℕ → Option ℕ) (eq : A → A → Bool) (more : Bool)
+    (h : List (Entry A)) (ls : List (List (Item A))) : Type 0 where
   pub line : IsTrue more → 0 < length ls
   pub visible : ShowsVisible columns eq h ls
 
@@ -177,27 +193,39 @@ HasContinuation eq (character c a b m) x = eq x b ≡ true
 HasContinuation eq (marker_entry name) x = ⊥
 
 -- In a run of `Pre` alone.
-pub record ShowsPre {A : Type 0} (columns : ℕ → Option ℕ) (eq : A → A → Bool) (width : ℕ) (more : Bool) (h : List (Entry A)) (ls : List (List (Item A))) : Type 0 where
+pub record ShowsPre {A : Type 0} (columns : ℕ → Option ℕ) (eq : A → A → Bool) (width : ℕ) (more : Bool)
+    (h : List (Entry A)) (ls : List (List (Item A))) : Type 0 where
   -- its kept characters stand there once, in order
   pub kept : filter (is_kept columns) (letters_of (joined ls)) ≡ filter (is_kept columns) (entry_letters h)
   -- it is one line, where it fits
-  pub fits : IsPrintableLine columns h → ¬ (IsSpaces (entry_letters h)) → length h ≤ width → map letters_of ls ≡ entry_letters h ∷ []
-  -- if it begins with a non-blank, it is cut after every so many characters as a line has columns
-  pub cut : IsPrintableLine columns h → BeginsWithNonBlank (entry_letters h) → IsCutEvery width (entry_letters h) (map letters_of ls)
+  pub fits : IsPrintableLine columns h → ¬ (IsSpaces (entry_letters h)) → length h ≤ width →
+      map letters_of ls ≡ entry_letters h ∷ []
+  -- if it begins with a non-blank, it is cut after every `width` characters
+  pub cut : IsPrintableLine columns h → BeginsWithNonBlank (entry_letters h) →
+      IsCutEvery width (entry_letters h) (map letters_of ls)
   -- a newline behind spaces alone leaves an empty line
   pub blank : IsPrintableLine columns h → IsSpaces (entry_letters h) → IsTrue more → map letters_of ls ≡ [] ∷ []
   -- its first line's characters stand under their annotations, and those behind under the continuation annotations
-  pub main : IsPrintableLine columns h → BeginsWithNonBlank (entry_letters h) → StandUnder (HasMain eq) (take width (glyphs_of (joined ls))) (take width h)
-  pub continuation : IsPrintableLine columns h → BeginsWithNonBlank (entry_letters h) → StandUnder (HasContinuation eq) (drop width (glyphs_of (joined ls))) (drop width h)
+  pub main : IsPrintableLine columns h → BeginsWithNonBlank (entry_letters h) →
+      StandUnder (HasMain eq) (take width (glyphs_of (joined ls))) (take width h)
+  pub continuation : IsPrintableLine columns h → BeginsWithNonBlank (entry_letters h) →
+      StandUnder (HasContinuation eq) (drop width (glyphs_of (joined ls))) (drop width h)
 
 -- In a run of `PreWrap` alone.
-pub record ShowsPreWrap {A : Type 0} (columns : ℕ → Option ℕ) (width : ℕ) (more : Bool) (h : List (Entry A)) (ls : List (List (Item A))) : Type 0 where
+pub record ShowsPreWrap {A : Type 0} (columns : ℕ → Option ℕ) (width : ℕ) (more : Bool)
+    (h : List (Entry A)) (ls : List (List (Item A))) : Type 0 where
   -- it is one line, where it fits without the spaces at its end
-  pub fits : IsPrintableLine columns h → ¬ (IsSpaces (entry_letters h)) → length (without_last_spaces (entry_letters h)) ≤ width → map letters_of ls ≡ without_last_spaces (entry_letters h) ∷ []
+  pub fits : IsPrintableLine columns h → ¬ (IsSpaces (entry_letters h)) →
+      length (without_last_spaces (entry_letters h)) ≤ width →
+      map letters_of ls ≡ without_last_spaces (entry_letters h) ∷ []
   -- its stretches stand on its lines, and only those that are wider than a line are cut
-  pub whole : IsPrintableLine columns h → IsCutOf width (stretches (entry_letters h)) (flat_map stretches (map letters_of ls))
+  pub whole : IsPrintableLine columns h →
+      IsCutOf width (stretches (entry_letters h)) (flat_map stretches (map letters_of ls))
 
 -- In a run of one preserving mode.
-pub record ShowsTabs {A : Type 0} (columns : ℕ → Option ℕ) (width : ℕ) (more : Bool) (h : List (Entry A)) (ls : List (List (Item A))) : Type 0 where
+pub record ShowsTabs {A : Type 0} (columns : ℕ → Option ℕ) (width : ℕ) (more : Bool)
+    (h : List (Entry A)) (ls : List (List (Item A))) : Type 0 where
   -- where it fits, a tab is spaces up to the next multiple of eight
-  pub tabs : IsTabbedLine columns h → EndsWithNonBlank (entry_letters h) → length (tabs_filled 0 (entry_letters h)) ≤ width → map letters_of ls ≡ tabs_filled 0 (entry_letters h) ∷ []
+  pub tabs : IsTabbedLine columns h → EndsWithNonBlank (entry_letters h) →
+      length (tabs_filled 0 (entry_letters h)) ≤ width →
+      map letters_of ls ≡ tabs_filled 0 (entry_letters h) ∷ []

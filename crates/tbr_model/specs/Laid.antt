@@ -11,7 +11,7 @@ pub record Laid (A : Type 0) : Type 0 where
 abbrev pub nothing_laid : {A : Type 0} → Laid A
 nothing_laid = record { done = []; line = []; width = 0 }
 
--- the open line goes on with items that take so many columns
+-- the open line goes on with items that take n columns
 abbrev pub extended : {A : Type 0} → Laid A → List (Item A) → ℕ → Laid A
 extended l is n = record { done = l.done; line = l.line ++ is; width = l.width + n }
 
@@ -27,8 +27,8 @@ end_if_character l = if has_character l.line then end_line l else l
 abbrev pub end_if_columns : {A : Type 0} → Laid A → Laid A
 end_if_columns l = if l.width == 0 then l else end_line l
 
--- An item of a wider word: on the open line where it fits, else on a fresh one. An item that fits no line goes behind items of no
--- width, and its line is ended at once.
+-- An item of a wider word: on the open line where it fits, else on a fresh one. An item that fits no line goes behind
+-- items of no width, and its line is ended at once.
 abbrev pub put_item : {A : Type 0} → (ℕ → Option ℕ) → ℕ → Laid A → Item A → Laid A
 put_item columns width l i =
     if nat_le (l.width + item_width columns i) width then extended l (i ∷ []) (item_width columns i)

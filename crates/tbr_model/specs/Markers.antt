@@ -22,13 +22,15 @@ marker_run names = map marker_entry names
 abbrev pub marker_items : {A : Type 0} → List (List ℕ) → List (Item A)
 marker_items names = map marker names
 
--- the last so many
+-- the last n
 abbrev pub last : {X : Type 0} → ℕ → List X → List X
 last n xs = drop (length xs - n) xs
 
--- a run without its last so many markers
+-- a run without its last n markers
 abbrev pub without_last_markers : {A : Type 0} → ℕ → List (Entry A) → List (Entry A)
 without_last_markers n [] = []
 without_last_markers n (character c a b mode ∷ es) = character c a b mode ∷ without_last_markers n es
 without_last_markers n (marker_entry name ∷ es) =
-    if nat_lt (length (names_in_run es)) n then without_last_markers n es else marker_entry name ∷ without_last_markers n es
+    if nat_lt (length (names_in_run es)) n
+    then without_last_markers n es
+    else marker_entry name ∷ without_last_markers n es

@@ -1,4 +1,10 @@
 -- How a block goes on with each entry of a run, in every mode.
+--
+-- A character or marker joins the word under way, and white space in front of a word is pending. A break lays both:
+-- on the open line where they fit (`lay_here`), and else on a fresh one (`lay_fresh`), where `wrap_space` says what
+-- becomes of the space. Space and a word that is wider than a line are put item by item (`put_spaces`, `put_items`),
+-- and a line that is full is ended. A newline ends the open line. What is left where a run ends is laid, or waits if
+-- it has no character.
 use Rattle.std.specs.Prelude.{ℕ, zero, suc, ◌+◌, ◌-◌, ◌%◌, Bool, true, false, ◌&&◌, nat_lt, nat_le, ◌==◌, if◌then◌else◌, Option, None, Some, is_none, is_some, List, [], ◌∷◌, ◌++◌, fold, replicate}
 use Rattle.std.specs.Char.{is_whitespace}
 use Rattle.tbr_model.specs.Codes.{tab_character, newline_character, space_character, zero_width_space}
@@ -38,7 +44,14 @@ pub record Progress (A : Type 0) : Type 0 where
   pub in_continuation : Bool
 
 abbrev pub at_start : {A : Type 0} → Progress A
-at_start = record { laid = nothing_laid; space = None; word = []; mode = Normal; continuation_flag = false; in_continuation = false }
+at_start = record {
+  laid = nothing_laid;
+  space = None;
+  word = [];
+  mode = Normal;
+  continuation_flag = false;
+  in_continuation = false;
+}
 
 abbrev pub spaces : {A : Type 0} → ℕ → A → List (Item A)
 spaces n a = replicate n (glyph space_character a)
@@ -82,18 +95,23 @@ without_trailing (i ∷ is) = front i (without_trailing is)
 
 -- the open line without the spaces at its end
 abbrev pub trimmed : {A : Type 0} → (ℕ → Option ℕ) → Laid A → Laid A
-trimmed columns l = record { done = l.done; line = without_trailing l.line; width = items_width columns (without_trailing l.line) }
+trimmed columns l = record {
+  done = l.done;
+  line = without_trailing l.line;
+  width = items_width columns (without_trailing l.line);
+}
 
--- What becomes of pending space in front of a word that doesn't fit, by the space's mode. `Normal` space is dropped. `Pre` space is
--- laid if it ends before the line does, else what is left of it behind the line's end waits. `PreWrap` space is dropped, with the
--- spaces before it on the line and the white space behind it in the word.
+-- What becomes of pending space in front of a word that doesn't fit, by the space's mode. `Normal` space is dropped.
+-- `Pre` space is laid if it ends before the line does, else what is left of it behind the line's end waits. `PreWrap`
+-- space is dropped, with the spaces before it on the line and the white space behind it in the word.
 abbrev pub wrap_space_by : {A : Type 0} → (ℕ → Option ℕ) → ℕ → Progress A → Space A → WhiteSpace → Progress A
 wrap_space_by columns width p s Normal = record p { space = None }
 wrap_space_by columns width p s Pre =
     if nat_le (width - p.laid.width) s.width
     then record p { space = space_of (s.width - (width - p.laid.width)) s.tag Pre }
     else record p { laid = extended p.laid (spaces s.width s.tag) s.width; space = None }
-wrap_space_by columns width p s PreWrap = record p { laid = trimmed columns p.laid; space = None; word = without_leading p.word }
+wrap_space_by columns width p s PreWrap =
+    record p { laid = trimmed columns p.laid; space = None; word = without_leading p.word }
 
 -- the same of space that may wait
 abbrev pub wrap_space : {A : Type 0} → (ℕ → Option ℕ) → ℕ → Progress A → Option (Space A) → Progress A
@@ -102,7 +120,9 @@ wrap_space columns width p (Some s) = wrap_space_by columns width p s s.mode
 
 -- one space; a line that it fills is ended
 abbrev pub put_space : {A : Type 0} → ℕ → A → Laid A → Laid A
-put_space width a l = if l.width + 1 == width then end_line (extended l (glyph space_character a ∷ []) 1) else extended l (glyph space_character a ∷ []) 1
+put_space width a l =
+    let m = extended l (glyph space_character a ∷ []) 1 in
+    if l.width + 1 == width then end_line m else m
 
 -- spaces, one by one
 abbrev pub put_spaces : {A : Type 0} → ℕ → A → ℕ → Laid A → Laid A
@@ -135,7 +155,12 @@ abbrev pub lay_fresh : {A : Type 0} → (ℕ → Option ℕ) → ℕ → Progres
 lay_fresh columns width p =
     let l = put_pending width p.space (end_if_character p.laid) in
     if has_character p.word
-    then record p { laid = put_items columns width l p.word; space = None; word = []; continuation_flag = is_pre p.mode }
+    then record p {
+      laid = put_items columns width l p.word;
+      space = None;
+      word = [];
+      continuation_flag = is_pre p.mode;
+    }
     else record p { laid = l; space = None; continuation_flag = is_pre p.mode }
 
 -- the word is laid, on the open line where it fits with the space
@@ -172,13 +197,20 @@ newline p = record p { laid = end_line p.laid; space = None; continuation_flag =
 abbrev pub put_tab : {A : Type 0} → ℕ → ℕ → A → Laid A → Laid A
 put_tab width column a l =
     let n = 8 - column % 8 in
-    if nat_le n (width - column) then extended l (spaces n a) n else end_line (extended l (spaces (width - column) a) (width - column))
+    if nat_le n (width - column)
+    then extended l (spaces n a) n
+    else end_line (extended l (spaces (width - column) a) (width - column))
 
 -- A tab counts pending space, which goes on waiting. Where no column is left, it begins a fresh line.
 abbrev pub tab : {A : Type 0} → ℕ → A → Progress A → Progress A
 tab width a p =
     let column = p.laid.width + pending_width p.space in
-    record p { laid = (if nat_lt column width then put_tab width column a p.laid else put_tab width 0 a (end_if_character p.laid)) }
+    record p {
+      laid =
+          if nat_lt column width
+          then put_tab width column a p.laid
+          else put_tab width 0 a (end_if_character p.laid);
+    }
 
 -- white space that is kept: it waits, or joins the word's characters
 abbrev pub keep_space : {A : Type 0} → ℕ → A → WhiteSpace → Option ℕ → Progress A → Progress A
@@ -186,7 +218,7 @@ keep_space c a mode None p = p
 keep_space c a mode (Some n) p =
     if has_character p.word then join c a mode p else record p { space = space_of (pending_width p.space + n) a mode }
 
--- whether line, space and word would pass the width with so many columns more
+-- whether line, space and word would pass the width with n columns more
 abbrev pub passes : {A : Type 0} → (ℕ → Option ℕ) → ℕ → ℕ → Progress A → Bool
 passes columns width n p = nat_lt width (p.laid.width + (pending_width p.space + (items_width columns p.word + n)))
 
@@ -194,9 +226,10 @@ passes columns width n p = nat_lt width (p.laid.width + (pending_width p.space +
 abbrev pub tag_of : {A : Type 0} → Progress A → A → A → A
 tag_of p a b = if p.in_continuation then b else a
 
--- Any other character joins the word, if it has a width. In `Pre` the one that would pass the line's end, and those behind it,
--- have the continuation annotation.
-abbrev pub keep_character : {A : Type 0} → (ℕ → Option ℕ) → ℕ → ℕ → A → A → WhiteSpace → Option ℕ → Progress A → Progress A
+-- Any other character joins the word, if it has a width. In `Pre` the one that would pass the line's end, and those
+-- behind it, have the continuation annotation.
+abbrev pub keep_character : {A : Type 0} →
+    (ℕ → Option ℕ) → ℕ → ℕ → A → A → WhiteSpace → Option ℕ → Progress A → Progress A
 keep_character columns width c a b mode None p = p
 keep_character columns width c a b mode (Some n) p =
     if is_pre mode && passes columns width n p
@@ -223,7 +256,8 @@ abbrev pub enter : {A : Type 0} → (ℕ → Option ℕ) → ℕ → Progress A 
 enter columns width p (marker_entry name) = record p { word = p.word ++ marker name ∷ [] }
 enter columns width p (character c a b Normal) = enter_normal columns width c (tag_of p a b) p
 enter columns width p (character c a b Pre) = preserve columns width c a b Pre p
-enter columns width p (character c a b PreWrap) = preserve columns width c a b PreWrap (if is_break c then break_word columns width p else p)
+enter columns width p (character c a b PreWrap) =
+    preserve columns width c a b PreWrap (if is_break c then break_word columns width p else p)
 
 -- an event
 abbrev pub step : {A : Type 0} → (ℕ → Option ℕ) → ℕ → Progress A → Event A → Progress A

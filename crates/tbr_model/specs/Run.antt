@@ -67,8 +67,8 @@ has_character [] = false
 has_character (glyph c a ∷ is) = true
 has_character (marker name ∷ is) = has_character is
 
--- A word: the gap before it, spaced if there is an annotation, and its items. The first word's gap never counts, since that
--- word always begins a line.
+-- A word: the gap before it, spaced if there is an annotation, and its items. The first word's gap never counts, since
+-- that word always begins a line.
 pub record Word (A : Type 0) : Type 0 where
   pub gap : Option A
   pub items : List (Item A)

@@ -47,7 +47,8 @@ impl<T> Entry<T> {
 
     /// Whether it is a kept character, or a marker, and so an item of its word.
     pub fn is_item<W: CharWidth>(&self) -> bool
-        ensures { items_of W.columns (entry_value self.now) ≡ (if result then item_of (entry_value self.now) ∷ [] else []) }
+        ensures { items_of W.columns (entry_value self.now)
+            ≡ (if result then item_of (entry_value self.now) ∷ [] else []) }
     {
         match self {
             Entry::Character { c, .. } => W::width(*c).is_some() && !is_break(*c),

@@ -1,4 +1,4 @@
--- A word of Pre that doesn't fit is cut after every so many characters.
+-- A word of Pre that doesn't fit is cut after every `width` characters.
 use Rattle.std.proofs.Common.{◌≡◌, ℕ, ◌+◌, ◌<◌, ◌≤◌, nat_le, true, Option, None, List, [], ◌∷◌, ◌++◌, map, length, take, drop, refl, ap, sym, ◌∙◌, arith, append_assoc, append-nil, length-append, subst, leb-true, leb-false}
 use Rattle.std.specs.List.{AllByRecursion as Each}
 use Rattle.std.proofs.lemmas.Bool.{cond_both}

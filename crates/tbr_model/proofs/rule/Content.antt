@@ -249,9 +249,11 @@ module _ {A X : Type 0} (columns : ℕ → Option ℕ) (found : List (Item A) �
   fold_content width (call ∷ es) p = fold_content width es (record p { in_continuation = p.continuation_flag })
   fold_content width (entry e ∷ es) p =
       let (i, stands, first) = enter_grows width p e in
-      let (is, stand, rest) = fold_content width es (enter columns width p e) in
-      (i ∷ is, (stands, stand),
-      rest ∙ ap (λ xs. xs ++ found is) first ∙ append_assoc (content p) (found (i ∷ [])) (found is) ∙ ap (λ xs. content p ++ xs) (sym (looks.append (i ∷ []) is)))
+      let (is, stand, rest) = fold_content width es (enter columns width p e) in (
+        i ∷ is,
+        (stands, stand),
+        rest ∙ ap (λ xs. xs ++ found is) first ∙ append_assoc (content p) (found (i ∷ [])) (found is) ∙ ap (λ xs. content p ++ xs) (sym (looks.append (i ∷ []) is)),
+      )
 
   -- a run ends with what it found on its lines, and in a word that is left
   pub finished_content : (width : ℕ) (p : Progress A) → on_lines (finished columns width p) ++ found (flush_word columns width p).word ≡ content p

@@ -17,7 +17,7 @@ use Rattle.tbr_model.proofs.tabs.FittingText.{Reads, lay_fits, laid_letters, flu
 
 -- ---- one entry
 
--- what a character adds to the text behind so many columns
+-- what a character adds to the text behind n columns
 abbrev pub filled : ℕ → ℕ → List ℕ
 filled n c = if c == 9 then replicate (8 - n % 8) 32 else c ∷ []
 
