@@ -82,14 +82,14 @@ abbrev pub visible_entries : {A : Type 0} → (ℕ → Option ℕ) → List (Ent
 visible_entries columns es = filter (is_visible_entry columns) es
 
 -- a character stands under its annotation, or under the one that it has where its hard line goes on
-abbrev pub IsShown : {A : Type 0} → (A → A → Bool) → ℕ × A → Entry A → Type 0
-IsShown eq g (character c a b m) = (g.0 ≡ c) × ((eq g.1 a ≡ true) ⊎ (eq g.1 b ≡ true))
-IsShown eq g (marker_entry name) = ⊥
+abbrev pub IsShown : {A : Type 0} → (A → A → Type 0) → ℕ × A → Entry A → Type 0
+IsShown Same g (character c a b m) = (g.0 ≡ c) × (Same g.1 a ⊎ Same g.1 b)
+IsShown Same g (marker_entry name) = ⊥
 
 -- The visible characters of a run stand in lines once, in order, each under an annotation of its call.
 abbrev pub ShowsVisible : {A : Type 0} →
-    (ℕ → Option ℕ) → (A → A → Bool) → List (Entry A) → List (List (Item A)) → Type 0
-ShowsVisible columns eq run ls = AllZip (IsShown eq) (visible_glyphs columns (joined ls)) (visible_entries columns run)
+    (ℕ → Option ℕ) → (A → A → Type 0) → List (Entry A) → List (List (Item A)) → Type 0
+ShowsVisible columns Same run ls = AllZip (IsShown Same) (visible_glyphs columns (joined ls)) (visible_entries columns run)
 
 -- ---- printable hard lines
 
@@ -175,25 +175,25 @@ tabs_filled n (c ∷ cs) =
 
 -- In any preserving run a newline ends a line, even an empty one, and a hard line's visible characters stand on lines
 -- of its own.
-pub record ShowsHardLine {A : Type 0} (columns : ℕ → Option ℕ) (eq : A → A → Bool) (more : Bool)
+pub record ShowsHardLine {A : Type 0} (columns : ℕ → Option ℕ) (Same : A → A → Type 0) (more : Bool)
     (h : List (Entry A)) (ls : List (List (Item A))) : Type 0 where
   pub line : IsTrue more → 0 < length ls
-  pub visible : ShowsVisible columns eq h ls
+  pub visible : ShowsVisible columns Same h ls
 
 -- characters that are no spaces stand under annotations that their entries have
 abbrev pub StandUnder : {A : Type 0} → (Entry A → A → Type 0) → List (ℕ × A) → List (Entry A) → Type 0
 StandUnder Has gs es = AllZip (λ g e. g.0 ≢ space_character → Has e g.1) gs es
 
-abbrev pub HasMain : {A : Type 0} → (A → A → Bool) → Entry A → A → Type 0
-HasMain eq (character c a b m) x = eq x a ≡ true
-HasMain eq (marker_entry name) x = ⊥
+abbrev pub HasMain : {A : Type 0} → (A → A → Type 0) → Entry A → A → Type 0
+HasMain Same (character c a b m) x = Same x a
+HasMain Same (marker_entry name) x = ⊥
 
-abbrev pub HasContinuation : {A : Type 0} → (A → A → Bool) → Entry A → A → Type 0
-HasContinuation eq (character c a b m) x = eq x b ≡ true
-HasContinuation eq (marker_entry name) x = ⊥
+abbrev pub HasContinuation : {A : Type 0} → (A → A → Type 0) → Entry A → A → Type 0
+HasContinuation Same (character c a b m) x = Same x b
+HasContinuation Same (marker_entry name) x = ⊥
 
 -- In a run of `Pre` alone.
-pub record ShowsPre {A : Type 0} (columns : ℕ → Option ℕ) (eq : A → A → Bool) (width : ℕ) (more : Bool)
+pub record ShowsPre {A : Type 0} (columns : ℕ → Option ℕ) (Same : A → A → Type 0) (width : ℕ) (more : Bool)
     (h : List (Entry A)) (ls : List (List (Item A))) : Type 0 where
   -- its kept characters stand there once, in order
   pub kept : filter (is_kept columns) (letters_of (joined ls)) ≡ filter (is_kept columns) (entry_letters h)
@@ -207,9 +207,9 @@ pub record ShowsPre {A : Type 0} (columns : ℕ → Option ℕ) (eq : A → A �
   pub blank : IsPrintableLine columns h → IsSpaces (entry_letters h) → IsTrue more → map letters_of ls ≡ [] ∷ []
   -- its first line's characters stand under their annotations, and those behind under the continuation annotations
   pub main : IsPrintableLine columns h → BeginsWithNonBlank (entry_letters h) →
-      StandUnder (HasMain eq) (take width (glyphs_of (joined ls))) (take width h)
+      StandUnder (HasMain Same) (take width (glyphs_of (joined ls))) (take width h)
   pub continuation : IsPrintableLine columns h → BeginsWithNonBlank (entry_letters h) →
-      StandUnder (HasContinuation eq) (drop width (glyphs_of (joined ls))) (drop width h)
+      StandUnder (HasContinuation Same) (drop width (glyphs_of (joined ls))) (drop width h)
 
 -- In a run of `PreWrap` alone.
 pub record ShowsPreWrap {A : Type 0} (columns : ℕ → Option ℕ) (width : ℕ) (more : Bool)

@@ -13,7 +13,7 @@ ghost use Rattle.tbr_model.specs.Hard.{AllHaveMode, Preserves, hard_lines, Parte
 pub fn hard_lines_are_shown<T>()
     ensures { (columns : ℕ → Option ℕ) (width : ℕ) (eq : T → T → Bool) → ((x : T) → eq x x ≡ true) →
         (es : List (Event T)) → Each Preserves (run_of es) →
-        Parted (ShowsHardLine columns eq) (hard_lines (run_of es)) (lines_of columns width es) }
+        Parted (ShowsHardLine columns (λ a b. eq a b ≡ true)) (hard_lines (run_of es)) (lines_of columns width es) }
 {}
 
 /// In a run of `Pre` alone each hard line keeps its characters, in order. A hard line of printable characters, not of
@@ -24,7 +24,7 @@ pub fn pre_lines_are_shown<T>()
     ensures { (columns : ℕ → Option ℕ) (eq : T → T → Bool) (width : ℕ) →
         columns space_character ≡ Some 1 → 0 < width → ((x : T) → eq x x ≡ true) →
         (es : List (Event T)) → AllHaveMode Pre (run_of es) →
-        Parted (ShowsPre columns eq width) (hard_lines (run_of es)) (lines_of columns width es) }
+        Parted (ShowsPre columns (λ a b. eq a b ≡ true) width) (hard_lines (run_of es)) (lines_of columns width es) }
 {}
 
 /// In a run of `PreWrap` alone a hard line of printable characters, not of spaces alone, is one line where it fits

@@ -83,8 +83,8 @@ module _ {A : Type 0} (columns : ℕ → Option ℕ) (width : ℕ) (p : Progress
       cut_laid columns width q wide (waits printable).plain none (some_waits printable (begins_other (entry_letters (run_of es)) begins))
 
   -- the lines before a newline
-  shows_ended : (eq : A → A → Bool) → 0 < width → ((x : A) → eq x x ≡ true) → Each (λ e. is_newline e ≡ false) (run_of es) → ShowsPre columns eq width true (run_of es) (end_line laid).done
-  shows_ended eq wide reflexive more = record {
+  shows_ended : (Same : A → A → Type 0) → 0 < width → ((x : A) → Same x x) → Each (λ e. is_newline e ≡ false) (run_of es) → ShowsPre columns Same width true (run_of es) (end_line laid).done
+  shows_ended Same wide reflexive more = record {
     kept = (pre_kept columns width p es f pre more).0;
     fits = λ printable other fits. (line_fits printable other fits).same;
     cut = λ printable begins.
@@ -94,42 +94,42 @@ module _ {A : Type 0} (columns : ℕ → Option ℕ) (width : ℕ) (p : Progress
     blank = λ printable all _. line_blank printable all;
     main = λ printable begins.
         (let t = tags printable begins in
-        rw (glyphs printable begins) (tagged_main eq width 0 width (glyphs_of q.word) (run_of es) (omega arith) t.0));
+        rw (glyphs printable begins) (tagged_main Same width 0 width (glyphs_of q.word) (run_of es) (omega arith) t.0));
     continuation = λ printable begins.
         (let t = tags printable begins in
-        rw (glyphs printable begins) (tagged_continuation eq width 0 width (glyphs_of q.word) (run_of es) (omega arith) t.0));
+        rw (glyphs printable begins) (tagged_continuation Same width 0 width (glyphs_of q.word) (run_of es) (omega arith) t.0));
   }
     where
-      tags : IsPrintableLine columns (run_of es) → BeginsWithNonBlank (entry_letters (run_of es)) → IsTagged eq width 0 (glyphs_of q.word) (run_of es) × (q.space ≡ None)
-      tags printable begins = pre_tags columns eq width reflexive one_space p es f pre printable begins
+      tags : IsPrintableLine columns (run_of es) → BeginsWithNonBlank (entry_letters (run_of es)) → IsTagged Same width 0 (glyphs_of q.word) (run_of es) × (q.space ≡ None)
+      tags printable begins = pre_tags columns Same width reflexive one_space p es f pre printable begins
 
       glyphs : IsPrintableLine columns (run_of es) → BeginsWithNonBlank (entry_letters (run_of es)) → glyphs_of (joined (end_line laid).done) ≡ glyphs_of q.word
       glyphs printable begins = ap glyphs_of (joined-end_line laid ∙ (line_cut wide printable begins (tags printable begins).1).whole)
 
   -- the lines at the end of the run
-  shows_freshened : (eq : A → A → Bool) → 0 < width → ((x : A) → eq x x ≡ true) → Each (λ e. is_newline e ≡ false) (run_of es) → ShowsPre columns eq width false (run_of es) (end_if_character laid).done
-  shows_freshened eq wide reflexive more = record {
+  shows_freshened : (Same : A → A → Type 0) → 0 < width → ((x : A) → Same x x) → Each (λ e. is_newline e ≡ false) (run_of es) → ShowsPre columns Same width false (run_of es) (end_if_character laid).done
+  shows_freshened Same wide reflexive more = record {
     kept = (pre_kept columns width p es f pre more).1;
     fits = λ printable other fits.
         subst (λ (ls : List (List (Item A))). map letters_of ls ≡ entry_letters (run_of es) ∷ []) (ended_alike laid (line_fits printable other fits).last) (shown.fits printable other fits);
     cut = λ printable begins. subst (λ (ls : List (List (Item A))). IsCutEvery width (entry_letters (run_of es)) (map letters_of ls)) (alike printable begins) (shown.cut printable begins);
     blank = λ printable all follows. cc;
     main = λ printable begins.
-        subst (λ (ls : List (List (Item A))). StandUnder (HasMain eq) (take width (glyphs_of (joined ls))) (take width (run_of es))) (alike printable begins) (shown.main printable begins);
+        subst (λ (ls : List (List (Item A))). StandUnder (HasMain Same) (take width (glyphs_of (joined ls))) (take width (run_of es))) (alike printable begins) (shown.main printable begins);
     continuation = λ printable begins.
-        subst (λ (ls : List (List (Item A))). StandUnder (HasContinuation eq) (drop width (glyphs_of (joined ls))) (drop width (run_of es))) (alike printable begins) (shown.continuation printable begins);
+        subst (λ (ls : List (List (Item A))). StandUnder (HasContinuation Same) (drop width (glyphs_of (joined ls))) (drop width (run_of es))) (alike printable begins) (shown.continuation printable begins);
   }
     where
-      shown : ShowsPre columns eq width true (run_of es) (end_line laid).done
-      shown = shows_ended eq wide reflexive more
+      shown : ShowsPre columns Same width true (run_of es) (end_line laid).done
+      shown = shows_ended Same wide reflexive more
 
       alike : IsPrintableLine columns (run_of es) → BeginsWithNonBlank (entry_letters (run_of es)) → (end_line laid).done ≡ (end_if_character laid).done
-      alike printable begins = ended_alike laid (line_cut wide printable begins (pre_tags columns eq width reflexive one_space p es f pre printable begins).1).last
+      alike printable begins = ended_alike laid (line_cut wide printable begins (pre_tags columns Same width reflexive one_space p es f pre printable begins).1).last
 
 -- one hard line of a run of Pre, before a newline and at the end of the run
-pub pre_line : {A : Type 0} (columns : ℕ → Option ℕ) (eq : A → A → Bool) (width : ℕ) → columns 32 ≡ Some 1 → 0 < width → ((x : A) → eq x x ≡ true) → (p : Progress A) (es : List (Event A)) → BeginsHardLine p →
+pub pre_line : {A : Type 0} (columns : ℕ → Option ℕ) (Same : A → A → Type 0) (width : ℕ) → columns 32 ≡ Some 1 → 0 < width → ((x : A) → Same x x) → (p : Progress A) (es : List (Event A)) → BeginsHardLine p →
     Each (HasMode Pre) (run_of es) → Each (λ e. is_newline e ≡ false) (run_of es) →
-    ShowsPre columns eq width true (run_of es) (newline (flush_word columns width (fold (step columns width) p es))).laid.done
-    × ShowsPre columns eq width false (run_of es) (finished columns width (fold (step columns width) p es)).done
-pre_line columns eq width one_space wide reflexive p es f pre more =
-    (shows_ended columns width p es one_space f pre eq wide reflexive more, shows_freshened columns width p es one_space f pre eq wide reflexive more)
+    ShowsPre columns Same width true (run_of es) (newline (flush_word columns width (fold (step columns width) p es))).laid.done
+    × ShowsPre columns Same width false (run_of es) (finished columns width (fold (step columns width) p es)).done
+pre_line columns Same width one_space wide reflexive p es f pre more =
+    (shows_ended columns width p es one_space f pre Same wide reflexive more, shows_freshened columns width p es one_space f pre Same wide reflexive more)

@@ -15,31 +15,31 @@ use Rattle.tbr_model.proofs.pre.WaitingWord.{unit_markers, units_width}
 -- ---- annotations, place by place
 
 -- from the k-th place on
-abbrev pub IsTagged : {A : Type 0} → (A → A → Bool) → ℕ → ℕ → List (ℕ × A) → List (Entry A) → Type 0
-IsTagged eq width k [] [] = Unit {0}
-IsTagged eq width k [] (e ∷ es) = ⊥
-IsTagged eq width k (g ∷ gs) [] = ⊥
-IsTagged eq width k (g ∷ gs) (e ∷ es) = (g.0 ≢ 32 → (k < width → HasMain eq e g.1) × (width ≤ k → HasContinuation eq e g.1)) × IsTagged eq width (suc k) gs es
+abbrev pub IsTagged : {A : Type 0} → (A → A → Type 0) → ℕ → ℕ → List (ℕ × A) → List (Entry A) → Type 0
+IsTagged Same width k [] [] = Unit {0}
+IsTagged Same width k [] (e ∷ es) = ⊥
+IsTagged Same width k (g ∷ gs) [] = ⊥
+IsTagged Same width k (g ∷ gs) (e ∷ es) = (g.0 ≢ 32 → (k < width → HasMain Same e g.1) × (width ≤ k → HasContinuation Same e g.1)) × IsTagged Same width (suc k) gs es
 
-pub tagged_main : {A : Type 0} (eq : A → A → Bool) (width k m : ℕ) (gs : List (ℕ × A)) (es : List (Entry A)) → k + m ≡ width → IsTagged eq width k gs es → StandUnder (HasMain eq) (take m gs) (take m es)
-tagged_main eq width k zero gs es sum h = tt
-tagged_main eq width k (suc m) [] [] sum h = tt
-tagged_main eq width k (suc m) [] (e ∷ es) sum h = absurd h
-tagged_main eq width k (suc m) (g ∷ gs) [] sum h = absurd h
-tagged_main eq width k (suc m) (g ∷ gs) (e ∷ es) sum h = (λ other. (h.0 other).0 (omega arith), tagged_main eq width (suc k) m gs es (omega arith) h.1)
+pub tagged_main : {A : Type 0} (Same : A → A → Type 0) (width k m : ℕ) (gs : List (ℕ × A)) (es : List (Entry A)) → k + m ≡ width → IsTagged Same width k gs es → StandUnder (HasMain Same) (take m gs) (take m es)
+tagged_main Same width k zero gs es sum h = tt
+tagged_main Same width k (suc m) [] [] sum h = tt
+tagged_main Same width k (suc m) [] (e ∷ es) sum h = absurd h
+tagged_main Same width k (suc m) (g ∷ gs) [] sum h = absurd h
+tagged_main Same width k (suc m) (g ∷ gs) (e ∷ es) sum h = (λ other. (h.0 other).0 (omega arith), tagged_main Same width (suc k) m gs es (omega arith) h.1)
 
-tagged_behind : {A : Type 0} (eq : A → A → Bool) (width k : ℕ) (gs : List (ℕ × A)) (es : List (Entry A)) → width ≤ k → IsTagged eq width k gs es → StandUnder (HasContinuation eq) gs es
-tagged_behind eq width k [] [] past h = tt
-tagged_behind eq width k [] (e ∷ es) past h = absurd h
-tagged_behind eq width k (g ∷ gs) [] past h = absurd h
-tagged_behind eq width k (g ∷ gs) (e ∷ es) past h = (λ other. (h.0 other).1 past, tagged_behind eq width (suc k) gs es (omega arith) h.1)
+tagged_behind : {A : Type 0} (Same : A → A → Type 0) (width k : ℕ) (gs : List (ℕ × A)) (es : List (Entry A)) → width ≤ k → IsTagged Same width k gs es → StandUnder (HasContinuation Same) gs es
+tagged_behind Same width k [] [] past h = tt
+tagged_behind Same width k [] (e ∷ es) past h = absurd h
+tagged_behind Same width k (g ∷ gs) [] past h = absurd h
+tagged_behind Same width k (g ∷ gs) (e ∷ es) past h = (λ other. (h.0 other).1 past, tagged_behind Same width (suc k) gs es (omega arith) h.1)
 
-pub tagged_continuation : {A : Type 0} (eq : A → A → Bool) (width k m : ℕ) (gs : List (ℕ × A)) (es : List (Entry A)) → k + m ≡ width → IsTagged eq width k gs es → StandUnder (HasContinuation eq) (drop m gs) (drop m es)
-tagged_continuation eq width k zero gs es sum h = tagged_behind eq width k gs es (omega arith) h
-tagged_continuation eq width k (suc m) [] [] sum h = tt
-tagged_continuation eq width k (suc m) [] (e ∷ es) sum h = absurd h
-tagged_continuation eq width k (suc m) (g ∷ gs) [] sum h = absurd h
-tagged_continuation eq width k (suc m) (g ∷ gs) (e ∷ es) sum h = tagged_continuation eq width (suc k) m gs es (omega arith) h.1
+pub tagged_continuation : {A : Type 0} (Same : A → A → Type 0) (width k m : ℕ) (gs : List (ℕ × A)) (es : List (Entry A)) → k + m ≡ width → IsTagged Same width k gs es → StandUnder (HasContinuation Same) (drop m gs) (drop m es)
+tagged_continuation Same width k zero gs es sum h = tagged_behind Same width k gs es (omega arith) h
+tagged_continuation Same width k (suc m) [] [] sum h = tt
+tagged_continuation Same width k (suc m) [] (e ∷ es) sum h = absurd h
+tagged_continuation Same width k (suc m) (g ∷ gs) [] sum h = absurd h
+tagged_continuation Same width k (suc m) (g ∷ gs) (e ∷ es) sum h = tagged_continuation Same width (suc k) m gs es (omega arith) h.1
 
 -- ---- a hard line that begins with a non-blank
 
@@ -51,10 +51,10 @@ record IsBegun {A : Type 0} (columns : ℕ → Option ℕ) (width : ℕ) (q : Pr
   first : items_width columns q.word < width → (q.in_continuation ≡ false) × (q.continuation_flag ≡ false)
 
 -- the second's word has these entries more
-record Tags {A : Type 0} (columns : ℕ → Option ℕ) (eq : A → A → Bool) (width : ℕ) (q r : Progress A) (es : List (Entry A)) : Type 0 where
+record Tags {A : Type 0} (columns : ℕ → Option ℕ) (Same : A → A → Type 0) (width : ℕ) (q r : Progress A) (es : List (Entry A)) : Type 0 where
   more : List (ℕ × A)
   glyphs : glyphs_of r.word ≡ glyphs_of q.word ++ more
-  tagged : IsTagged eq width (items_width columns q.word) more es
+  tagged : IsTagged Same width (items_width columns q.word) more es
   space : r.space ≡ None
 
 joined_width : {A : Type 0} (columns : ℕ → Option ℕ) (is : List (Item A)) (c : ℕ) (x : A) → columns c ≡ Some 1 → items_width columns (is ++ glyph c x ∷ []) ≡ items_width columns is + 1
@@ -62,15 +62,15 @@ joined_width columns [] c x one = rw one refl
 joined_width columns (glyph d y ∷ is) c x one = omega (arith, joined_width columns is c x one)
 joined_width columns (marker name ∷ is) c x one = omega (arith, joined_width columns is c x one)
 
-module _ {A : Type 0} (columns : ℕ → Option ℕ) (eq : A → A → Bool) (width : ℕ) (reflexive : (x : A) → eq x x ≡ true) (one_space : columns 32 ≡ Some 1) where
+module _ {A : Type 0} (columns : ℕ → Option ℕ) (Same : A → A → Type 0) (width : ℕ) (reflexive : (x : A) → Same x x) (one_space : columns 32 ≡ Some 1) where
   -- a character has joined the word, and the rest goes on
   joined_tags : (q : Progress A) (c : ℕ) (a b x : A) (m : WhiteSpace) (continuation_flag in_continuation : Bool) (es : List (Event A)) →
       let s : Progress A = record { laid = q.laid; space = q.space; word = q.word ++ glyph c x ∷ []; mode = m; continuation_flag = continuation_flag; in_continuation = in_continuation } in
       IsBegun columns width q (c ∷ entry_letters (run_of es)) → columns c ≡ Some 1 →
-      (c ≢ 32 → (items_width columns q.word < width → HasMain eq (character c a b Pre) x) × (width ≤ items_width columns q.word → HasContinuation eq (character c a b Pre) x)) →
+      (c ≢ 32 → (items_width columns q.word < width → HasMain Same (character c a b Pre) x) × (width ≤ items_width columns q.word → HasContinuation Same (character c a b Pre) x)) →
       (items_width columns q.word + 1 < width → (in_continuation ≡ false) × (continuation_flag ≡ false)) →
-      (IsBegun columns width s (entry_letters (run_of es)) → Tags columns eq width s (fold (step columns width) s es) (run_of es)) →
-      Tags columns eq width q (fold (step columns width) s es) (character c a b Pre ∷ run_of es)
+      (IsBegun columns width s (entry_letters (run_of es)) → Tags columns Same width s (fold (step columns width) s es) (run_of es)) →
+      Tags columns Same width q (fold (step columns width) s es) (character c a b Pre ∷ run_of es)
   joined_tags q c a b x m continuation_flag in_continuation es h one has first rest =
       let s : Progress A = record { laid = q.laid; space = q.space; word = q.word ++ glyph c x ∷ []; mode = m; continuation_flag = continuation_flag; in_continuation = in_continuation } in
       let wider : items_width columns (q.word ++ glyph c x ∷ []) ≡ items_width columns q.word + 1 = joined_width columns q.word c x one in
@@ -84,17 +84,17 @@ module _ {A : Type 0} (columns : ℕ → Option ℕ) (eq : A → A → Bool) (wi
       record {
         more = (c, x) ∷ t.more;
         glyphs = t.glyphs ∙ ap (λ gs. gs ++ t.more) (glyphs_of-append q.word (glyph c x ∷ [])) ∙ append_assoc (glyphs_of q.word) ((c, x) ∷ []) t.more;
-        tagged = (has, subst (λ (n : ℕ). IsTagged eq width n t.more (run_of es)) (wider ∙ add-one (items_width columns q.word)) t.tagged);
+        tagged = (has, subst (λ (n : ℕ). IsTagged Same width n t.more (run_of es)) (wider ∙ add-one (items_width columns q.word)) t.tagged);
         space = t.space;
       }
 
   character_tags : (c : ℕ) (a b : A) (es : List (Event A)) (q : Progress A) → IsPrintable columns c → IsBegun columns width q (c ∷ entry_letters (run_of es)) →
-      ((s : Progress A) → IsBegun columns width s (entry_letters (run_of es)) → Tags columns eq width s (fold (step columns width) s es) (run_of es)) →
-      Tags columns eq width q (fold (step columns width) (enter columns width q (character c a b Pre)) es) (character c a b Pre ∷ run_of es)
+      ((s : Progress A) → IsBegun columns width s (entry_letters (run_of es)) → Tags columns Same width s (fold (step columns width) s es) (run_of es)) →
+      Tags columns Same width q (fold (step columns width) (enter columns width q (character c a b Pre)) es) (character c a b Pre ∷ run_of es)
   character_tags c a b es q printable h rest = go (c == 32) refl
     where
       Holds : Progress A → Type 0
-      Holds s = Tags columns eq width q (fold (step columns width) s es) (character c a b Pre ∷ run_of es)
+      Holds s = Tags columns Same width q (fold (step columns width) s es) (character c a b Pre ∷ run_of es)
 
       spaced : c ≡ 32 → Holds (keep_space c (tag_of q a b) Pre (Some 1) q)
       spaced same =
@@ -115,7 +115,7 @@ module _ {A : Type 0} (columns : ℕ → Option ℕ) (eq : A → A → Bool) (wi
           let before : items_width columns q.word < width = omega (arith, ltb-false _ _ within, h.empty, columns_before) in
           let tag : tag_of q a b ≡ a = rw ((h.first before).0) refl in
           joined_tags q c a b (tag_of q a b) (if has_character q.word then q.mode else Pre) q.continuation_flag q.in_continuation es h printable.2
-          (λ _. (λ _. ap (λ y. eq y a) tag ∙ reflexive a, λ past. absurd (omega (arith, past, before)))) (λ less. h.first before)
+          (λ _. (λ _. subst (λ (y : A). Same y a) (sym tag) (reflexive a), λ past. absurd (omega (arith, past, before)))) (λ less. h.first before)
           (rest _))
 
       go : (t : Bool) → (c == 32) ≡ t → Holds (enter columns width q (character c a b Pre))
@@ -125,7 +125,7 @@ module _ {A : Type 0} (columns : ℕ → Option ℕ) (eq : A → A → Bool) (wi
       go false e = subst Holds (sym (preserved_visible columns width c a b Pre q (visible_of columns c printable (eqb-false c 32 e)))) visible
 
   line_tags : (es : List (Event A)) (q : Progress A) → IsBegun columns width q (entry_letters (run_of es)) → Each (HasMode Pre) (run_of es) → Each (IsPrintableEntry columns) (run_of es) →
-      Tags columns eq width q (fold (step columns width) q es) (run_of es)
+      Tags columns Same width q (fold (step columns width) q es) (run_of es)
   line_tags [] q h pre printable = record { more = []; glyphs = sym (append-nil (glyphs_of q.word)); tagged = tt; space = h.space }
   line_tags (call ∷ es) q h pre printable =
       let s : Progress A = record q { in_continuation = q.continuation_flag } in
@@ -139,10 +139,10 @@ module _ {A : Type 0} (columns : ℕ → Option ℕ) (eq : A → A → Bool) (wi
   -- the word of a hard line that begins with a non-blank
   pub pre_tags : (p : Progress A) (es : List (Event A)) → BeginsHardLine p → Each (HasMode Pre) (run_of es) → Each (IsPrintableEntry columns) (run_of es) → BeginsWithNonBlank (entry_letters (run_of es)) →
       let q = fold (step columns width) p es in
-      IsTagged eq width 0 (glyphs_of q.word) (run_of es) × (q.space ≡ None)
+      IsTagged Same width 0 (glyphs_of q.word) (run_of es) × (q.space ≡ None)
   pre_tags p es f pre printable begins =
       let t = line_tags es p (record { space = f.space; empty = f.width; begins = λ _. begins; first = λ _. (f.in_continuation, f.continuation_flag) }) pre printable in
       let empty : glyphs_of p.word ≡ [] = no_glyphs p.word f.word in
       let glyphs : glyphs_of (fold (step columns width) p es).word ≡ t.more = t.glyphs ∙ ap (λ gs. gs ++ t.more) empty in
       let start : items_width columns p.word ≡ 0 = units_width columns p.word (unit_markers columns p.word f.word) ∙ ap (λ gs. length (map (λ g. g.0) gs)) empty in
-      (rw glyphs (subst (λ (n : ℕ). IsTagged eq width n t.more (run_of es)) start t.tagged), t.space)
+      (rw glyphs (subst (λ (n : ℕ). IsTagged Same width n t.more (run_of es)) start t.tagged), t.space)

@@ -17,11 +17,11 @@ mode_preserves mode kept (character c a b m) h = λ e. kept (sym h ∙ e)
 mode_preserves mode kept (marker_entry name) h = tt
 
 -- each hard line of a run of `Pre` alone
-pub pre_shown : {A : Type 0} (columns : ℕ → Option ℕ) (eq : A → A → Bool) (width : ℕ) → columns 32 ≡ Some 1 → 0 < width → ((x : A) → eq x x ≡ true) → (es : List (Event A)) →
-    Each (HasMode Pre) (run_of es) → Parted (ShowsPre columns eq width) (hard_lines (run_of es)) (lines_of columns width es)
-pre_shown columns eq width one some same es modes =
-    hard_lines_parted columns width (ShowsPre columns eq width) (HasMode Pre) (mode_preserves Pre (λ e. cc))
-    (λ p fs fresh all plain. pre_line columns eq width one some same p fs fresh all plain) es modes
+pub pre_shown : {A : Type 0} (columns : ℕ → Option ℕ) (Same : A → A → Type 0) (width : ℕ) → columns 32 ≡ Some 1 → 0 < width → ((x : A) → Same x x) → (es : List (Event A)) →
+    Each (HasMode Pre) (run_of es) → Parted (ShowsPre columns Same width) (hard_lines (run_of es)) (lines_of columns width es)
+pre_shown columns Same width one some same es modes =
+    hard_lines_parted columns width (ShowsPre columns Same width) (HasMode Pre) (mode_preserves Pre (λ e. cc))
+    (λ p fs fresh all plain. pre_line columns Same width one some same p fs fresh all plain) es modes
 
 -- each hard line of a run of `PreWrap` alone
 pub prewrap_shown : {A : Type 0} (columns : ℕ → Option ℕ) (width : ℕ) → columns 32 ≡ Some 1 → 0 < width → (es : List (Event A)) →

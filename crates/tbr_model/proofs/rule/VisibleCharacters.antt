@@ -24,23 +24,23 @@ none_visible columns (marker m ∷ is) h = none_visible columns is h
 looks_at_characters : {A : Type 0} (columns : ℕ → Option ℕ) → LooksAtVisible {A = A} columns (visible_glyphs columns)
 looks_at_characters columns = record { append = visible-append columns; nothing = refl; hidden = λ c a h. rw h refl }
 
-module _ {A : Type 0} (columns : ℕ → Option ℕ) (width : ℕ) (eq : A → A → Bool) (same : (x : A) → eq x x ≡ true) where
+module _ {A : Type 0} (columns : ℕ → Option ℕ) (width : ℕ) (Same : A → A → Type 0) (same : (x : A) → Same x x) where
   abbrev shown : Progress A → List (ℕ × A)
   shown p = content columns (visible_glyphs columns) (looks_at_characters columns) p
 
-  under : (x a b : A) → (x ≡ a) ⊎ (x ≡ b) → (eq x a ≡ true) ⊎ (eq x b ≡ true)
+  under : (x a b : A) → (x ≡ a) ⊎ (x ≡ b) → Same x a ⊎ Same x b
   under x a b (inl e) = inl (rw (← e) (same x))
   under x a b (inr e) = inr (rw (← e) (same x))
 
   -- the visible ones among items that stand for entries
-  all_shown : (is : List (Item A)) (es : List (Entry A)) → AllZip StandsFor is es → AllZip (IsShown eq) (visible_glyphs columns is) (visible_entries columns es)
+  all_shown : (is : List (Item A)) (es : List (Entry A)) → AllZip StandsFor is es → AllZip (IsShown Same) (visible_glyphs columns is) (visible_entries columns es)
   all_shown [] [] h = tt
   all_shown [] (e ∷ es) h = elim h [ ]
   all_shown (i ∷ is) [] h = elim h [ ]
   all_shown (glyph c x ∷ is) (character d a b m ∷ es) h = rw (h.0.0) (go (all_shown is es h.1) (is_visible columns d) refl)
     where
-      go : AllZip (IsShown eq) (visible_glyphs columns is) (visible_entries columns es) → (v : Bool) → is_visible columns d ≡ v →
-          AllZip (IsShown eq) (visible_glyphs columns (glyph d x ∷ is)) (visible_entries columns (character d a b m ∷ es))
+      go : AllZip (IsShown Same) (visible_glyphs columns is) (visible_entries columns es) → (v : Bool) → is_visible columns d ≡ v →
+          AllZip (IsShown Same) (visible_glyphs columns (glyph d x ∷ is)) (visible_entries columns (character d a b m ∷ es))
       go rest true e = rw e ((refl, under x a b h.0.1), rest)
       go rest false e = rw e rest
   all_shown (glyph c x ∷ is) (marker_entry name ∷ es) h = elim h.0 [ ]
@@ -50,7 +50,7 @@ module _ {A : Type 0} (columns : ℕ → Option ℕ) (width : ℕ) (eq : A → A
   fresh_has_none : (p : Progress A) → BeginsHardLine p → shown p ≡ []
   fresh_has_none p f = rw (f.done, f.line) (none_visible columns p.word f.word)
 
-  from_fresh : (p : Progress A) (es : List (Event A)) → BeginsHardLine p → AllZip (IsShown eq) (shown (fold (step columns width) p es)) (visible_entries columns (run_of es))
+  from_fresh : (p : Progress A) (es : List (Event A)) → BeginsHardLine p → AllZip (IsShown Same) (shown (fold (step columns width) p es)) (visible_entries columns (run_of es))
   from_fresh p es f =
       let (is, stand, found) = fold_content columns (visible_glyphs columns) (looks_at_characters columns) width es p in
       rw (found, fresh_has_none p f) (all_shown is (run_of es) stand)
@@ -75,14 +75,14 @@ module _ {A : Type 0} (columns : ℕ → Option ℕ) (width : ℕ) (eq : A → A
       ∙ newline_flushed columns (visible_glyphs columns) (looks_at_characters columns) width p
 
   -- the visible characters of a run from where a hard line begins
-  pub visible_from : (p : Progress A) (es : List (Event A)) → BeginsHardLine p → ShowsVisible columns eq (run_of es) (finished columns width (fold (step columns width) p es)).done
+  pub visible_from : (p : Progress A) (es : List (Event A)) → BeginsHardLine p → ShowsVisible columns Same (run_of es) (finished columns width (fold (step columns width) p es)).done
   visible_from p es f = rw (finished_shown (fold (step columns width) p es)) (from_fresh p es f)
 
-  pub visible_ended : (p : Progress A) (es : List (Event A)) → BeginsHardLine p → ShowsVisible columns eq (run_of es) (newline (flush_word columns width (fold (step columns width) p es))).laid.done
+  pub visible_ended : (p : Progress A) (es : List (Event A)) → BeginsHardLine p → ShowsVisible columns Same (run_of es) (newline (flush_word columns width (fold (step columns width) p es))).laid.done
   visible_ended p es f = rw (ended_line_shown (fold (step columns width) p es)) (from_fresh p es f)
 
   -- A block shows the visible characters of its run once, in order, each under an annotation of its call.
-  pub visible_shown : (es : List (Event A)) → ShowsVisible columns eq (run_of es) (lines_of columns width es)
+  pub visible_shown : (es : List (Event A)) → ShowsVisible columns Same (run_of es) (lines_of columns width es)
   visible_shown es = visible_from at_start es start_fresh
 
   -- ---- hard lines
@@ -91,13 +91,13 @@ module _ {A : Type 0} (columns : ℕ → Option ℕ) (width : ℕ) (eq : A → A
   ends_a_line p = omega (arith, length-append p.laid.done (p.laid.line ∷ []))
 
   one_hard_line : (p : Progress A) (es : List (Event A)) → BeginsHardLine p → Each Preserves (run_of es) → NoNewline (run_of es) →
-      ShowsHardLine columns eq true (run_of es) (newline (flush_word columns width (fold (step columns width) p es))).laid.done
-      × ShowsHardLine columns eq false (run_of es) (finished columns width (fold (step columns width) p es)).done
+      ShowsHardLine columns Same true (run_of es) (newline (flush_word columns width (fold (step columns width) p es))).laid.done
+      × ShowsHardLine columns Same false (run_of es) (finished columns width (fold (step columns width) p es)).done
   one_hard_line p es f m n = (
     record { line = λ _. ends_a_line (flush_word columns width (fold (step columns width) p es)); visible = visible_ended p es f },
     record { line = λ h. cc; visible = visible_from p es f },
   )
 
   -- In a preserving run each hard line's visible characters stand on lines of its own, and a newline ends a line.
-  pub hard_lines_shown : (es : List (Event A)) → Each Preserves (run_of es) → Parted (ShowsHardLine columns eq) (hard_lines (run_of es)) (lines_of columns width es)
-  hard_lines_shown es h = hard_lines_parted columns width (ShowsHardLine columns eq) Preserves (λ e m. m) one_hard_line es h
+  pub hard_lines_shown : (es : List (Event A)) → Each Preserves (run_of es) → Parted (ShowsHardLine columns Same) (hard_lines (run_of es)) (lines_of columns width es)
+  hard_lines_shown es h = hard_lines_parted columns width (ShowsHardLine columns Same) Preserves (λ e m. m) one_hard_line es h
