@@ -6,4 +6,5 @@ pub mod normal
 pub mod pre
 pub mod prewrap
 pub mod tabs
+pub mod maps
 pub mod HistorySteps

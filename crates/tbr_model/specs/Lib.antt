@@ -14,3 +14,4 @@ pub mod Laid
 pub mod Rule
 pub mod Markers
 pub mod Hard
+pub mod Mapped
