@@ -4,7 +4,8 @@ use Rattle.std.specs.List.{AllByRecursion as Each}
 use Rattle.std.specs.List.Sorted.{IsNonDecreasing, IsStrictlyIncreasing}
 use Rattle.tbr_model.specs.Layout.{Slot, line_width, MayBegin}
 
--- A layout of items is a list of positions, the cuts, that begins with 0, never falls, and ends with the number of items.
+-- A layout of items is a list of positions, the cuts, that begins with 0, never falls, and ends with the number of
+-- items.
 pub record IsLayout (items : ℕ) (cuts : List ℕ) : Type 0 where
   pub begins : slice_get cuts 0 ≡ Some 0
   pub never_falls : IsNonDecreasing cuts
@@ -37,19 +38,21 @@ placed_by_cuts items n cuts = slice_index_or cuts n items
 abbrev pub BeginsWider : {A : Type 0} → Slot A → Type 0
 BeginsWider s = IsTrue (s.begins && s.wider)
 
--- A legal layout: every line fits; no cut is inside a word that is no wider than a line; and the first item of a wider word
--- stands at a cut. Cuts inside a wider word are free.
+-- A legal layout: every line fits; no cut is inside a word that is no wider than a line; and the first item of a wider
+-- word stands at a cut. Cuts inside a wider word are free.
 pub record IsLegalLayout {A : Type 0} (width : ℕ) (slots : List (Slot A)) (cuts : List ℕ) : Type 0 where
   pub layout : IsLayout (length slots) cuts
   pub fits : Each (λ line. line_width line ≤ width) (lines_between slots cuts)
   pub between_words : (cut : ℕ) (s : Slot A) → Contains cuts cut → slice_get slots cut ≡ Some s → MayBegin s
   pub wider_at_cut : (place : ℕ) (s : Slot A) → slice_get slots place ≡ Some s → BeginsWider s → Contains cuts place
 
--- The legal layout without empty lines that is ahead of every legal one: after every n lines it has placed at least as much.
+-- The legal layout without empty lines that is ahead of every legal one: after every n lines it has placed at least as
+-- much.
 pub record IsBestLayout {A : Type 0} (width : ℕ) (slots : List (Slot A)) (cuts : List ℕ) : Type 0 where
   pub legal : IsLegalLayout width slots cuts
   pub no_empty_line : IsStrictlyIncreasing cuts
-  pub ahead : (others : List ℕ) → IsLegalLayout width slots others → (n : ℕ) → placed_by_cuts (length slots) n others ≤ placed_by_cuts (length slots) n cuts
+  pub ahead : (others : List ℕ) → IsLegalLayout width slots others →
+      (n : ℕ) → placed_by_cuts (length slots) n others ≤ placed_by_cuts (length slots) n cuts
 
 abbrev pub HasLegalLayout : {A : Type 0} → ℕ → List (Slot A) → Type 0
 HasLegalLayout width slots = (cuts : List ℕ) × IsLegalLayout width slots cuts

@@ -2,31 +2,36 @@
 use Rattle.std.specs.Prelude.{◌≡◌, ◌≢◌, ℕ, suc, ◌+◌, ◌-◌, ◌%◌, ◌<◌, ◌≤◌, ◌⊎◌, Bool, true, false, not, ◌&&◌, ◌==◌, if◌then◌else◌, Option, Some, unwrap_or, IsTrue, List, [], ◌∷◌, ◌++◌, map, flat_map, filter, length, take, drop, replicate}
 use Rattle.std.specs.Char.{is_whitespace}
 use Rattle.std.specs.List.{AllZip, AllByRecursion as Each}
+use Rattle.tbr_model.specs.Codes.{tab_character, newline_character, space_character, last_printable}
 use Rattle.tbr_model.specs.declared.white_space.WhiteSpace.{WhiteSpace}
 use Rattle.tbr_model.specs.declared.white_space.WhiteSpace.TheVariants.{Normal}
-use Rattle.tbr_model.specs.Run.{Entry, character, fragment, Item, glyph, marker, is_kept}
+use Rattle.tbr_model.specs.Run.{Entry, character, marker_entry, Item, glyph, marker, is_kept}
 use Rattle.tbr_model.specs.Layout.{joined}
 
 -- a character has the mode
 abbrev pub HasMode : {A : Type 0} → WhiteSpace → Entry A → Type 0
 HasMode mode (character c a b m) = m ≡ mode
-HasMode mode (fragment name) = Unit {0}
+HasMode mode (marker_entry name) = Unit {0}
+
+-- all characters of a run have the mode
+abbrev pub AllHaveMode : {A : Type 0} → WhiteSpace → List (Entry A) → Type 0
+AllHaveMode mode run = Each (HasMode mode) run
 
 -- a character has a preserving mode
 abbrev pub Preserves : {A : Type 0} → Entry A → Type 0
 Preserves (character c a b m) = m ≢ Normal
-Preserves (fragment name) = Unit {0}
+Preserves (marker_entry name) = Unit {0}
 
 -- a character is no wider than a line
 abbrev pub IsNarrowEntry : {A : Type 0} → (ℕ → Option ℕ) → ℕ → Entry A → Type 0
 IsNarrowEntry columns width (character c a b mode) = unwrap_or (columns c) 0 ≤ width
-IsNarrowEntry columns width (fragment name) = Unit {0}
+IsNarrowEntry columns width (marker_entry name) = Unit {0}
 
 -- ---- hard lines
 
 abbrev pub is_newline : {A : Type 0} → Entry A → Bool
-is_newline (character c a b m) = c == 10
-is_newline (fragment name) = false
+is_newline (character c a b m) = c == newline_character
+is_newline (marker_entry name) = false
 
 -- with something more at the front of the first part
 abbrev pub onto_first : {X : Type 0} → X → List (List X) → List (List X)
@@ -38,12 +43,13 @@ abbrev pub hard_lines : {A : Type 0} → List (Entry A) → List (List (Entry A)
 hard_lines [] = [] ∷ []
 hard_lines (e ∷ es) = if is_newline e then [] ∷ hard_lines es else onto_first e (hard_lines es)
 
--- The lines are groups, one for each part, and each part has its relation to its group. The relation is told whether another part
--- follows.
+-- The lines are groups, one for each part, and each part has its relation to its group. The relation is told whether
+-- another part follows.
 abbrev pub Parted : {X Y : Type 0} → (Bool → X → List Y → Type 0) → List X → List Y → Type 0
 Parted R [] ys = ys ≡ []
 Parted R (x ∷ []) ys = R false x ys
-Parted {X} {Y} R (x ∷ z ∷ xs) ys = (front back : List Y) × (ys ≡ front ++ back) × R true x front × Parted R (z ∷ xs) back
+Parted {X} {Y} R (x ∷ z ∷ xs) ys =
+    (front back : List Y) × (ys ≡ front ++ back) × R true x front × Parted R (z ∷ xs) back
 
 -- ---- characters
 
@@ -59,7 +65,7 @@ letters_of is = map (λ g. g.0) (glyphs_of is)
 abbrev pub entry_letters : {A : Type 0} → List (Entry A) → List ℕ
 entry_letters [] = []
 entry_letters (character c a b m ∷ es) = c ∷ entry_letters es
-entry_letters (fragment name ∷ es) = entry_letters es
+entry_letters (marker_entry name ∷ es) = entry_letters es
 
 -- A character is visible if it is kept and no white space.
 abbrev pub is_visible : (ℕ → Option ℕ) → ℕ → Bool
@@ -70,37 +76,38 @@ visible_glyphs columns is = filter (λ g. is_visible columns g.0) (glyphs_of is)
 
 abbrev pub is_visible_entry : {A : Type 0} → (ℕ → Option ℕ) → Entry A → Bool
 is_visible_entry columns (character c a b m) = is_visible columns c
-is_visible_entry columns (fragment name) = false
+is_visible_entry columns (marker_entry name) = false
 
 abbrev pub visible_entries : {A : Type 0} → (ℕ → Option ℕ) → List (Entry A) → List (Entry A)
 visible_entries columns es = filter (is_visible_entry columns) es
 
 -- a character stands under its annotation, or under the one that it has where its hard line goes on
-abbrev pub IsShown : {A : Type 0} → (A → A → Bool) → ℕ × A → Entry A → Type 0
-IsShown eq g (character c a b m) = (g.0 ≡ c) × ((eq g.1 a ≡ true) ⊎ (eq g.1 b ≡ true))
-IsShown eq g (fragment name) = ⊥
+abbrev pub IsShown : {A : Type 0} → (A → A → Type 0) → ℕ × A → Entry A → Type 0
+IsShown Same g (character c a b m) = (g.0 ≡ c) × (Same g.1 a ⊎ Same g.1 b)
+IsShown Same g (marker_entry name) = ⊥
 
 -- The visible characters of a run stand in lines once, in order, each under an annotation of its call.
-abbrev pub ShowsVisible : {A : Type 0} → (ℕ → Option ℕ) → (A → A → Bool) → List (Entry A) → List (List (Item A)) → Type 0
-ShowsVisible columns eq run ls = AllZip (IsShown eq) (visible_glyphs columns (joined ls)) (visible_entries columns run)
+abbrev pub ShowsVisible : {A : Type 0} →
+    (ℕ → Option ℕ) → (A → A → Type 0) → List (Entry A) → List (List (Item A)) → Type 0
+ShowsVisible columns Same run ls = AllZip (IsShown Same) (visible_glyphs columns (joined ls)) (visible_entries columns run)
 
 -- ---- printable hard lines
 
 -- printable ASCII, in one column
 abbrev pub IsPrintable : (ℕ → Option ℕ) → ℕ → Type 0
-IsPrintable columns c = (32 ≤ c) × (c ≤ 126) × (columns c ≡ Some 1)
+IsPrintable columns c = (space_character ≤ c) × (c ≤ last_printable) × (columns c ≡ Some 1)
 
 abbrev pub IsPrintableEntry : {A : Type 0} → (ℕ → Option ℕ) → Entry A → Type 0
 IsPrintableEntry columns (character c a b m) = IsPrintable columns c
-IsPrintableEntry columns (fragment name) = ⊥
+IsPrintableEntry columns (marker_entry name) = ⊥
 
 -- a hard line of printable characters
 abbrev pub IsPrintableLine : {A : Type 0} → (ℕ → Option ℕ) → List (Entry A) → Type 0
 IsPrintableLine columns h = Each (IsPrintableEntry columns) h
 
 abbrev pub IsTabbedEntry : {A : Type 0} → (ℕ → Option ℕ) → Entry A → Type 0
-IsTabbedEntry columns (character c a b m) = (c ≡ 9) ⊎ IsPrintable columns c
-IsTabbedEntry columns (fragment name) = ⊥
+IsTabbedEntry columns (character c a b m) = (c ≡ tab_character) ⊎ IsPrintable columns c
+IsTabbedEntry columns (marker_entry name) = ⊥
 
 -- a hard line of printable characters and tabs
 abbrev pub IsTabbedLine : {A : Type 0} → (ℕ → Option ℕ) → List (Entry A) → Type 0
@@ -108,20 +115,20 @@ IsTabbedLine columns h = Each (IsTabbedEntry columns) h
 
 -- a text of spaces alone
 abbrev pub IsSpaces : List ℕ → Type 0
-IsSpaces cs = Each (λ c. c ≡ 32) cs
+IsSpaces cs = Each (λ c. c ≡ space_character) cs
 
 -- the first character is no space
 abbrev pub BeginsWithNonBlank : List ℕ → Type 0
 BeginsWithNonBlank [] = ⊥
-BeginsWithNonBlank (c ∷ cs) = c ≢ 32
+BeginsWithNonBlank (c ∷ cs) = c ≢ space_character
 
 -- the last character is neither a space nor a tab
 abbrev pub EndsWithNonBlank : List ℕ → Type 0
 EndsWithNonBlank [] = ⊥
-EndsWithNonBlank (c ∷ []) = (c ≢ 32) × (c ≢ 9)
+EndsWithNonBlank (c ∷ []) = (c ≢ space_character) × (c ≢ tab_character)
 EndsWithNonBlank (c ∷ d ∷ cs) = EndsWithNonBlank (d ∷ cs)
 
--- A text cut after every so many characters: the last part has at least one, and at most so many.
+-- A text cut after every `width` characters: the last part has at least one, and at most `width`.
 abbrev pub IsCutEvery : ℕ → List ℕ → List (List ℕ) → Type 0
 IsCutEvery width cs [] = ⊥
 IsCutEvery width cs (l ∷ []) = (l ≡ cs) × (0 < length l) × (length l ≤ width)
@@ -133,70 +140,92 @@ without_last_spaces [] = []
 without_last_spaces (c ∷ cs) = front c (without_last_spaces cs)
   where
     front : ℕ → List ℕ → List ℕ
-    front c [] = if c == 32 then [] else c ∷ []
+    front c [] = if c == space_character then [] else c ∷ []
     front c (d ∷ ds) = c ∷ d ∷ ds
 
 -- whether the text goes on with a non-blank
 abbrev pub begins_stretch : List ℕ → Bool
 begins_stretch [] = false
-begins_stretch (c ∷ cs) = not (c == 32)
+begins_stretch (c ∷ cs) = not (c == space_character)
 
 -- the stretches of non-blanks of a text
 abbrev pub stretches : List ℕ → List (List ℕ)
 stretches [] = []
-stretches (c ∷ cs) = if c == 32 then stretches cs else if begins_stretch cs then onto_first c (stretches cs) else (c ∷ []) ∷ stretches cs
+stretches (c ∷ cs) =
+    if c == space_character then stretches cs
+    else if begins_stretch cs then onto_first c (stretches cs)
+    else (c ∷ []) ∷ stretches cs
 
 -- The parts are the stretches, in order. Only a stretch that is wider than a line may be cut.
 abbrev pub IsCutOf : ℕ → List (List ℕ) → List (List ℕ) → Type 0
 IsCutOf width [] ps = ps ≡ []
-IsCutOf width (s ∷ ss) ps = (front back : List (List ℕ)) × (ps ≡ front ++ back) × (joined front ≡ s) × (length s ≤ width → front ≡ s ∷ []) × IsCutOf width ss back
+IsCutOf width (s ∷ ss) ps =
+    (front back : List (List ℕ)) × (ps ≡ front ++ back) × (joined front ≡ s) × (length s ≤ width → front ≡ s ∷ [])
+    × IsCutOf width ss back
 
 -- from a column on, each tab as spaces up to the next multiple of eight
 abbrev pub tabs_filled : ℕ → List ℕ → List ℕ
 tabs_filled n [] = []
-tabs_filled n (c ∷ cs) = if c == 9 then replicate (8 - n % 8) 32 ++ tabs_filled (n + (8 - n % 8)) cs else c ∷ tabs_filled (suc n) cs
+tabs_filled n (c ∷ cs) =
+    if c == tab_character
+    then replicate (8 - n % 8) space_character ++ tabs_filled (n + (8 - n % 8)) cs
+    else c ∷ tabs_filled (suc n) cs
 
 -- ---- what is shown of a hard line
 
--- In any preserving run a newline ends a line, even an empty one, and a hard line's visible characters stand on lines of its own.
-pub record ShowsHardLine {A : Type 0} (columns : ℕ → Option ℕ) (eq : A → A → Bool) (more : Bool) (h : List (Entry A)) (ls : List (List (Item A))) : Type 0 where
+-- In any preserving run a newline ends a line, even an empty one, and a hard line's visible characters stand on lines
+-- of its own.
+pub record ShowsHardLine {A : Type 0} (columns : ℕ → Option ℕ) (Same : A → A → Type 0) (more : Bool)
+    (h : List (Entry A)) (ls : List (List (Item A))) : Type 0 where
   pub line : IsTrue more → 0 < length ls
-  pub visible : ShowsVisible columns eq h ls
+  pub visible : ShowsVisible columns Same h ls
 
 -- characters that are no spaces stand under annotations that their entries have
 abbrev pub StandUnder : {A : Type 0} → (Entry A → A → Type 0) → List (ℕ × A) → List (Entry A) → Type 0
-StandUnder Has gs es = AllZip (λ g e. g.0 ≢ 32 → Has e g.1) gs es
+StandUnder Has gs es = AllZip (λ g e. g.0 ≢ space_character → Has e g.1) gs es
 
-abbrev pub HasMain : {A : Type 0} → (A → A → Bool) → Entry A → A → Type 0
-HasMain eq (character c a b m) x = eq x a ≡ true
-HasMain eq (fragment name) x = ⊥
+abbrev pub HasMain : {A : Type 0} → (A → A → Type 0) → Entry A → A → Type 0
+HasMain Same (character c a b m) x = Same x a
+HasMain Same (marker_entry name) x = ⊥
 
-abbrev pub HasContinuation : {A : Type 0} → (A → A → Bool) → Entry A → A → Type 0
-HasContinuation eq (character c a b m) x = eq x b ≡ true
-HasContinuation eq (fragment name) x = ⊥
+abbrev pub HasContinuation : {A : Type 0} → (A → A → Type 0) → Entry A → A → Type 0
+HasContinuation Same (character c a b m) x = Same x b
+HasContinuation Same (marker_entry name) x = ⊥
 
 -- In a run of `Pre` alone.
-pub record ShowsPre {A : Type 0} (columns : ℕ → Option ℕ) (eq : A → A → Bool) (width : ℕ) (more : Bool) (h : List (Entry A)) (ls : List (List (Item A))) : Type 0 where
+pub record ShowsPre {A : Type 0} (columns : ℕ → Option ℕ) (Same : A → A → Type 0) (width : ℕ) (more : Bool)
+    (h : List (Entry A)) (ls : List (List (Item A))) : Type 0 where
   -- its kept characters stand there once, in order
   pub kept : filter (is_kept columns) (letters_of (joined ls)) ≡ filter (is_kept columns) (entry_letters h)
   -- it is one line, where it fits
-  pub fits : IsPrintableLine columns h → ¬ (IsSpaces (entry_letters h)) → length h ≤ width → map letters_of ls ≡ entry_letters h ∷ []
-  -- if it begins with a non-blank, it is cut after every so many characters as a line has columns
-  pub cut : IsPrintableLine columns h → BeginsWithNonBlank (entry_letters h) → IsCutEvery width (entry_letters h) (map letters_of ls)
+  pub fits : IsPrintableLine columns h → ¬ (IsSpaces (entry_letters h)) → length h ≤ width →
+      map letters_of ls ≡ entry_letters h ∷ []
+  -- if it begins with a non-blank, it is cut after every `width` characters
+  pub cut : IsPrintableLine columns h → BeginsWithNonBlank (entry_letters h) →
+      IsCutEvery width (entry_letters h) (map letters_of ls)
   -- a newline behind spaces alone leaves an empty line
   pub blank : IsPrintableLine columns h → IsSpaces (entry_letters h) → IsTrue more → map letters_of ls ≡ [] ∷ []
   -- its first line's characters stand under their annotations, and those behind under the continuation annotations
-  pub main : IsPrintableLine columns h → BeginsWithNonBlank (entry_letters h) → StandUnder (HasMain eq) (take width (glyphs_of (joined ls))) (take width h)
-  pub continuation : IsPrintableLine columns h → BeginsWithNonBlank (entry_letters h) → StandUnder (HasContinuation eq) (drop width (glyphs_of (joined ls))) (drop width h)
+  pub main : IsPrintableLine columns h → BeginsWithNonBlank (entry_letters h) →
+      StandUnder (HasMain Same) (take width (glyphs_of (joined ls))) (take width h)
+  pub continuation : IsPrintableLine columns h → BeginsWithNonBlank (entry_letters h) →
+      StandUnder (HasContinuation Same) (drop width (glyphs_of (joined ls))) (drop width h)
 
 -- In a run of `PreWrap` alone.
-pub record ShowsPreWrap {A : Type 0} (columns : ℕ → Option ℕ) (width : ℕ) (more : Bool) (h : List (Entry A)) (ls : List (List (Item A))) : Type 0 where
+pub record ShowsPreWrap {A : Type 0} (columns : ℕ → Option ℕ) (width : ℕ) (more : Bool)
+    (h : List (Entry A)) (ls : List (List (Item A))) : Type 0 where
   -- it is one line, where it fits without the spaces at its end
-  pub fits : IsPrintableLine columns h → ¬ (IsSpaces (entry_letters h)) → length (without_last_spaces (entry_letters h)) ≤ width → map letters_of ls ≡ without_last_spaces (entry_letters h) ∷ []
+  pub fits : IsPrintableLine columns h → ¬ (IsSpaces (entry_letters h)) →
+      length (without_last_spaces (entry_letters h)) ≤ width →
+      map letters_of ls ≡ without_last_spaces (entry_letters h) ∷ []
   -- its stretches stand on its lines, and only those that are wider than a line are cut
-  pub whole : IsPrintableLine columns h → IsCutOf width (stretches (entry_letters h)) (flat_map stretches (map letters_of ls))
+  pub whole : IsPrintableLine columns h →
+      IsCutOf width (stretches (entry_letters h)) (flat_map stretches (map letters_of ls))
 
 -- In a run of one preserving mode.
-pub record ShowsTabs {A : Type 0} (columns : ℕ → Option ℕ) (width : ℕ) (more : Bool) (h : List (Entry A)) (ls : List (List (Item A))) : Type 0 where
+pub record ShowsTabs {A : Type 0} (columns : ℕ → Option ℕ) (width : ℕ) (more : Bool)
+    (h : List (Entry A)) (ls : List (List (Item A))) : Type 0 where
   -- where it fits, a tab is spaces up to the next multiple of eight
-  pub tabs : IsTabbedLine columns h → EndsWithNonBlank (entry_letters h) → length (tabs_filled 0 (entry_letters h)) ≤ width → map letters_of ls ≡ tabs_filled 0 (entry_letters h) ∷ []
+  pub tabs : IsTabbedLine columns h → EndsWithNonBlank (entry_letters h) →
+      length (tabs_filled 0 (entry_letters h)) ≤ width →
+      map letters_of ls ≡ tabs_filled 0 (entry_letters h) ∷ []

@@ -1,7 +1,8 @@
 -- Layouts of a run's words in lines, which are legal, and which is best.
 use Rattle.std.specs.Prelude.{◌≡◌, ℕ, ◌+◌, ◌<◌, ◌≤◌, Bool, true, false, not, ◌&&◌, ◌||◌, nat_lt, IsTrue, List, [], ◌∷◌, ◌++◌, map, flat_map, length, take, Option, Some, None}
 use Rattle.std.specs.List.{AllByRecursion as Each}
-use Rattle.tbr_model.specs.Run.{Entry, Item, glyph, item_width, items_width, has_character, Word, words_of}
+use Rattle.tbr_model.specs.Codes.{space_character}
+use Rattle.tbr_model.specs.Run.{Entry, Item, glyph, item_width, items_width, kept_items, has_character, Word, words_of}
 
 -- An item of a run, with what a line has to know of it: its width, whether it begins a word and behind which gap, and
 -- whether its word is wider than a line.
@@ -13,7 +14,13 @@ pub record Slot (A : Type 0) : Type 0 where
   pub wider : Bool
 
 abbrev pub slot_of : {A : Type 0} → (ℕ → Option ℕ) → Bool → Option A → Bool → Item A → Slot A
-slot_of columns wider gap begins i = record { item = i; width = item_width columns i; gap = gap; begins = begins; wider = wider }
+slot_of columns wider gap begins i = record {
+  item = i;
+  width = item_width columns i;
+  gap = gap;
+  begins = begins;
+  wider = wider;
+}
 
 abbrev pub slots_within : {A : Type 0} → (ℕ → Option ℕ) → Bool → Option A → List (Item A) → List (Slot A)
 slots_within columns wider gap [] = []
@@ -45,7 +52,7 @@ line_width (s ∷ ss) = s.width + rest_width ss
 -- the text of slots that stand behind others, with a space at each spaced gap
 abbrev pub gap_text : {A : Type 0} → Option A → List (Item A)
 gap_text None = []
-gap_text (Some a) = glyph 32 a ∷ []
+gap_text (Some a) = glyph space_character a ∷ []
 
 abbrev pub rest_text : {A : Type 0} → List (Slot A) → List (Item A)
 rest_text [] = []
@@ -92,6 +99,13 @@ pub record IsLegal {A : Type 0} (width : ℕ) (slots : List (Slot A)) (lines : L
   pub whole : joined lines ≡ slots
   pub each : Each (IsLegalLine width) lines
 
+abbrev pub HasLegalLines : {A : Type 0} → ℕ → List (Slot A) → Type 0
+HasLegalLines {A} width slots = (lines : List (List (Slot A))) × IsLegal width slots lines
+
+-- no item of the run is wider than a line
+abbrev pub AllItemsFit : {A : Type 0} → (ℕ → Option ℕ) → ℕ → List (Entry A) → Type 0
+AllItemsFit columns width run = Each (λ i. item_width columns i ≤ width) (kept_items columns run)
+
 -- How many items a layout has placed after n lines.
 abbrev pub placed : {X : Type 0} → ℕ → List (List X) → ℕ
 placed n lines = length (joined (take n lines))
@@ -111,7 +125,9 @@ pub record IsBest {A : Type 0} (width : ℕ) (slots : List (Slot A)) (lines : Li
 
 -- No longer line could stand here, whatever of the rest it took.
 abbrev pub IsLongest : {A : Type 0} → ℕ → List (Slot A) → List (Slot A) → Type 0
-IsLongest {A} width line rest = (more others : List (Slot A)) → more ++ others ≡ rest → 0 < length more → FirstMayBegin others → ¬ (IsLegalLine width (line ++ more))
+IsLongest {A} width line rest =
+    (more others : List (Slot A)) → more ++ others ≡ rest → 0 < length more → FirstMayBegin others →
+    ¬ (IsLegalLine width (line ++ more))
 
 -- Each line is as long as a legal line can be there.
 abbrev pub IsGreedy : {A : Type 0} → ℕ → List (List (Slot A)) → Type 0

@@ -1,3 +1,4 @@
+pub mod Codes
 pub mod WhiteSpace
 pub mod Width
 pub mod Run
@@ -13,3 +14,4 @@ pub mod Laid
 pub mod Rule
 pub mod Markers
 pub mod Hard
+pub mod Mapped

@@ -1,34 +1,36 @@
 -- The markers of a run and of lines, by name.
 use Rattle.std.specs.Prelude.{ℕ, ◌-◌, nat_lt, if◌then◌else◌, List, [], ◌∷◌, map, length, drop}
-use Rattle.tbr_model.specs.Run.{Entry, character, fragment, Item, glyph, marker}
+use Rattle.tbr_model.specs.Run.{Entry, character, marker_entry, Item, glyph, marker}
 
 -- those among items
-abbrev pub marker_names : {A : Type 0} → List (Item A) → List (List ℕ)
-marker_names [] = []
-marker_names (glyph c a ∷ is) = marker_names is
-marker_names (marker name ∷ is) = name ∷ marker_names is
+abbrev pub names_in_items : {A : Type 0} → List (Item A) → List (List ℕ)
+names_in_items [] = []
+names_in_items (glyph c a ∷ is) = names_in_items is
+names_in_items (marker name ∷ is) = name ∷ names_in_items is
 
 -- those of a run
-abbrev pub fragment_names : {A : Type 0} → List (Entry A) → List (List ℕ)
-fragment_names [] = []
-fragment_names (character c a b mode ∷ es) = fragment_names es
-fragment_names (fragment name ∷ es) = name ∷ fragment_names es
+abbrev pub names_in_run : {A : Type 0} → List (Entry A) → List (List ℕ)
+names_in_run [] = []
+names_in_run (character c a b mode ∷ es) = names_in_run es
+names_in_run (marker_entry name ∷ es) = name ∷ names_in_run es
 
 -- a run of markers alone
-abbrev pub fragments : {A : Type 0} → List (List ℕ) → List (Entry A)
-fragments names = map fragment names
+abbrev pub marker_run : {A : Type 0} → List (List ℕ) → List (Entry A)
+marker_run names = map marker_entry names
 
 -- items that are markers alone
-abbrev pub markers : {A : Type 0} → List (List ℕ) → List (Item A)
-markers names = map marker names
+abbrev pub marker_items : {A : Type 0} → List (List ℕ) → List (Item A)
+marker_items names = map marker names
 
--- the last so many
+-- the last n
 abbrev pub last : {X : Type 0} → ℕ → List X → List X
 last n xs = drop (length xs - n) xs
 
--- a run without its last so many markers
+-- a run without its last n markers
 abbrev pub without_last_markers : {A : Type 0} → ℕ → List (Entry A) → List (Entry A)
 without_last_markers n [] = []
 without_last_markers n (character c a b mode ∷ es) = character c a b mode ∷ without_last_markers n es
-without_last_markers n (fragment name ∷ es) =
-    if nat_lt (length (fragment_names es)) n then without_last_markers n es else fragment name ∷ without_last_markers n es
+without_last_markers n (marker_entry name ∷ es) =
+    if nat_lt (length (names_in_run es)) n
+    then without_last_markers n es
+    else marker_entry name ∷ without_last_markers n es

@@ -1,12 +1,12 @@
 -- The words of a run as its working break points part it.
 use Rattle.std.specs.Prelude.{◌≡◌, ℕ, Bool, false, ◌&&◌, nat_lt, IsTrue, if◌then◌else◌, Option, Some, None, take, slice_get, List, [], ◌∷◌, ◌++◌, flat_map, unwrap_or}
 use Rattle.std.specs.List.{AllByRecursion as Each, list_any}
-use Rattle.tbr_model.specs.Run.{Entry, character, fragment, Item, is_kept, is_break_entry, blank_of, first_of, has_character, kept_items, Word}
+use Rattle.tbr_model.specs.Run.{Entry, character, marker_entry, Item, is_kept, is_break_entry, blank_of, first_of, has_character, kept_items, Word}
 
 -- a kept character of positive width
 abbrev pub takes_columns : {A : Type 0} → (ℕ → Option ℕ) → Entry A → Bool
 takes_columns columns (character c a b mode) = is_kept columns c && nat_lt 0 (unwrap_or (columns c) 0)
-takes_columns columns (fragment name) = false
+takes_columns columns (marker_entry name) = false
 
 -- A kept character of positive width stands among the entries.
 abbrev pub HasColumns : {A : Type 0} → (ℕ → Option ℕ) → List (Entry A) → Type 0
@@ -14,9 +14,12 @@ HasColumns columns es = IsTrue (list_any (takes_columns columns) es)
 
 -- No break point among the entries has a kept character of positive width before it there.
 abbrev pub NoBreakWorks : {A : Type 0} → (ℕ → Option ℕ) → List (Entry A) → Type 0
-NoBreakWorks {A} columns es = (before : List (Entry A)) (e : Entry A) (after : List (Entry A)) → es ≡ before ++ e ∷ after → IsTrue (is_break_entry e) → ¬ HasColumns columns before
+NoBreakWorks {A} columns es =
+    (before : List (Entry A)) (e : Entry A) (after : List (Entry A)) → es ≡ before ++ e ∷ after →
+    IsTrue (is_break_entry e) → ¬ HasColumns columns before
 
--- What stands between two neighbouring working break points, or the run's start and the first, and the break point behind it.
+-- What stands between two neighbouring working break points, or the run's start and the first, and the break point
+-- behind it.
 pub record Region (A : Type 0) : Type 0 where
   pub content : List (Entry A)
   pub break : Entry A
@@ -31,12 +34,16 @@ pub record EndsAtWorkingBreak {A : Type 0} (columns : ℕ → Option ℕ) (r : R
   pub works : HasColumns columns r.content
   pub none_before : NoBreakWorks columns r.content
 
--- The break point that ends the first region stands behind so many entries.
+-- The break point that ends the first region stands at this place.
 abbrev pub IsFirstWorkingBreak : {A : Type 0} → (ℕ → Option ℕ) → List (Entry A) → ℕ → Type 0
-IsFirstWorkingBreak {A} columns es place = (e : Entry A) × (slice_get es place ≡ Some e) × EndsAtWorkingBreak columns (record { content = take place es; break = e })
+IsFirstWorkingBreak {A} columns es place =
+    (e : Entry A) × (slice_get es place ≡ Some e)
+    × EndsAtWorkingBreak columns (record { content = take place es; break = e })
 
--- The run is the regions, each with its break point behind it, one after another, and the rest, where no break point works.
-pub record IsParted {A : Type 0} (columns : ℕ → Option ℕ) (run : List (Entry A)) (regions : List (Region A)) (rest : List (Entry A)) : Type 0 where
+-- The run is the regions, each with its break point behind it, one after another, and the rest, where no break point
+-- works.
+pub record IsParted {A : Type 0} (columns : ℕ → Option ℕ) (run : List (Entry A))
+    (regions : List (Region A)) (rest : List (Entry A)) : Type 0 where
   pub whole : flat_map region_entries regions ++ rest ≡ run
   pub each : Each (EndsAtWorkingBreak columns) regions
   pub last : NoBreakWorks columns rest
@@ -46,19 +53,25 @@ abbrev pub first_blank : {A : Type 0} → List (Entry A) → Option A
 first_blank [] = None
 first_blank (e ∷ es) = first_of (blank_of e) (first_blank es)
 
--- The word of a region's content: its kept characters and markers. Its gap is spaced if white space other than U+00A0 stands
--- from the break point that ended the word before, which is all of `before`, up to the one that ends this word, or the run's
--- end, and has the annotation of the first.
+-- The word of a region's content: its kept characters and markers. Its gap is spaced if white space other than U+00A0
+-- stands from the break point that ended the word before, which is all of `before`, up to the one that ends this word,
+-- or the run's end, and has the annotation of the first.
 abbrev pub word_behind : {A : Type 0} → (ℕ → Option ℕ) → List (Entry A) → List (Entry A) → Word A
-word_behind columns before content = record { gap = first_blank (before ++ content); items = kept_items columns content }
+word_behind columns before content = record {
+  gap = first_blank (before ++ content);
+  items = kept_items columns content;
+}
 
 -- The words of the regions behind a break point, and of the rest, if that has a character.
-abbrev pub words_behind : {A : Type 0} → (ℕ → Option ℕ) → List (Entry A) → List (Region A) → List (Entry A) → List (Word A)
-words_behind columns before [] rest = if has_character (kept_items columns rest) then word_behind columns before rest ∷ [] else []
-words_behind columns before (r ∷ rs) rest = word_behind columns before r.content ∷ words_behind columns (r.break ∷ []) rs rest
+abbrev pub words_behind : {A : Type 0} →
+    (ℕ → Option ℕ) → List (Entry A) → List (Region A) → List (Entry A) → List (Word A)
+words_behind columns before [] rest =
+    if has_character (kept_items columns rest) then word_behind columns before rest ∷ [] else []
+words_behind columns before (r ∷ rs) rest =
+    word_behind columns before r.content ∷ words_behind columns (r.break ∷ []) rs rest
 
--- The words of the regions and the rest. No break point ended a word before the first, so its gap looks from the run's start
--- on. It never counts, since the first word begins a line.
+-- The words of the regions and the rest. No break point ended a word before the first, so its gap looks from the run's
+-- start on. It never counts, since the first word begins a line.
 abbrev pub words_between : {A : Type 0} → (ℕ → Option ℕ) → List (Region A) → List (Entry A) → List (Word A)
 words_between columns regions rest = words_behind columns [] regions rest
 

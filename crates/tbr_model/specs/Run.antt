@@ -1,12 +1,13 @@
 -- What a run is, and its words.
 use Rattle.std.specs.Prelude.{ℕ, ◌+◌, Bool, true, false, not, ◌&&◌, ◌||◌, nat_lt, ◌==◌, if◌then◌else◌, List, [], ◌∷◌, ◌++◌, fold, flat_map, Option, Some, None, is_some, unwrap_or}
 use Rattle.std.specs.Char.{is_whitespace}
+use Rattle.tbr_model.specs.Codes.{no_break_space, zero_width_space}
 use Rattle.tbr_model.specs.declared.white_space.WhiteSpace.{WhiteSpace}
 
 -- A character with its annotation, the one it has where its hard line goes on, and its mode; or a marker by its name.
 pub data Entry (A : Type 0) : Type 0 where
   character : ℕ → A → A → WhiteSpace → Entry A
-  fragment : List ℕ → Entry A
+  marker_entry : List ℕ → Entry A
 
 -- An annotated character, or a marker.
 pub data Item (A : Type 0) : Type 0 where
@@ -24,15 +25,15 @@ items_width columns (i ∷ is) = item_width columns i + items_width columns is
 
 -- U+00A0 takes space like any character that is no white space
 abbrev pub always_takes_space : ℕ → Bool
-always_takes_space c = not (is_whitespace c) || c == 160
+always_takes_space c = not (is_whitespace c) || c == no_break_space
 
 -- white space other than U+00A0
 abbrev pub is_blank : ℕ → Bool
-is_blank c = is_whitespace c && not (c == 160)
+is_blank c = is_whitespace c && not (c == no_break_space)
 
 -- U+200B, or white space other than U+00A0
 abbrev pub is_break : ℕ → Bool
-is_break c = c == 8203 || is_blank c
+is_break c = c == zero_width_space || is_blank c
 
 -- A character is kept if it has a width, isn't U+200B, and is U+00A0 or no white space.
 abbrev pub is_kept : (ℕ → Option ℕ) → ℕ → Bool
@@ -41,7 +42,7 @@ is_kept columns c = is_some (columns c) && not (is_break c)
 -- what an entry leaves in its word
 abbrev pub items_of : {A : Type 0} → (ℕ → Option ℕ) → Entry A → List (Item A)
 items_of columns (character c a b mode) = if is_kept columns c then glyph c a ∷ [] else []
-items_of columns (fragment name) = marker name ∷ []
+items_of columns (marker_entry name) = marker name ∷ []
 
 -- the kept characters and the markers of a run, in order
 abbrev pub kept_items : {A : Type 0} → (ℕ → Option ℕ) → List (Entry A) → List (Item A)
@@ -50,11 +51,11 @@ kept_items columns run = flat_map (items_of columns) run
 -- The annotation of white space other than U+00A0.
 abbrev pub blank_of : {A : Type 0} → Entry A → Option A
 blank_of (character c a b mode) = if is_blank c then Some a else None
-blank_of (fragment name) = None
+blank_of (marker_entry name) = None
 
 abbrev pub is_break_entry : {A : Type 0} → Entry A → Bool
 is_break_entry (character c a b mode) = is_break c
-is_break_entry (fragment name) = false
+is_break_entry (marker_entry name) = false
 
 -- the earlier of the two
 abbrev pub first_of : {A : Type 0} → Option A → Option A → Option A
@@ -66,8 +67,8 @@ has_character [] = false
 has_character (glyph c a ∷ is) = true
 has_character (marker name ∷ is) = has_character is
 
--- A word: the gap before it, spaced if there is an annotation, and its items. The first word's gap never counts, since that
--- word always begins a line.
+-- A word: the gap before it, spaced if there is an annotation, and its items. The first word's gap never counts, since
+-- that word always begins a line.
 pub record Word (A : Type 0) : Type 0 where
   pub gap : Option A
   pub items : List (Item A)

@@ -72,15 +72,16 @@ fn best_cuts<T>(
 
 /// The cuts of the best layout of a run in lines of a width, in columns, or `None` where it has no legal layout.
 ///
-/// It looks at every line between two positions of the run, so its time grows with the third power of the number of items.
-/// It fails only for want of memory.
+/// It looks at every line between two positions of the run, so its time grows with the third power of the number of
+/// items. It fails only for want of memory.
 pub fn best_layout<T, W: CharWidth>(
     alloc: Global,
     run: &[Entry<T>],
     width: usize,
 ) -> Result<Option<Vec<usize>>, AllocError>
     ensures cuts { let slots = slots_of W.columns width (entry_values run.now) in
-        IfOk result (λ found. MatchOption found (¬ HasLegalLayout width slots) (λ cuts. IsBestLayout width slots cuts.items)) }
+        IfOk result (λ found. MatchOption found (¬ HasLegalLayout width slots)
+        (λ cuts. IsBestLayout width slots cuts.items)) }
     ensures lines { let slots = slots_of W.columns width (entry_values run.now) in
         IfOk result (λ found. IfSome found (λ cuts. IsBest width slots (lines_between slots cuts.items))) }
 {

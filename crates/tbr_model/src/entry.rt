@@ -19,7 +19,7 @@ pub enum Entry<T> {
         mode: WhiteSpace,
     },
     /// A marker by its name.
-    Fragment {
+    Marker {
         name: String,
     },
 }
@@ -31,7 +31,7 @@ impl<T> Entry<T> {
     {
         match self {
             Entry::Character { c, tag, .. } => { if is_blank(*c) { Some(tag) } else { None } }
-            Entry::Fragment { .. } => None,
+            Entry::Marker { .. } => None,
         }
     }
 
@@ -41,17 +41,18 @@ impl<T> Entry<T> {
     {
         match self {
             Entry::Character { c, .. } => is_break(*c),
-            Entry::Fragment { .. } => false,
+            Entry::Marker { .. } => false,
         }
     }
 
     /// Whether it is a kept character, or a marker, and so an item of its word.
     pub fn is_item<W: CharWidth>(&self) -> bool
-        ensures { items_of W.columns (entry_value self.now) ≡ (if result then item_of (entry_value self.now) ∷ [] else []) }
+        ensures { items_of W.columns (entry_value self.now)
+            ≡ (if result then item_of (entry_value self.now) ∷ [] else []) }
     {
         match self {
             Entry::Character { c, .. } => W::width(*c).is_some() && !is_break(*c),
-            Entry::Fragment { .. } => true,
+            Entry::Marker { .. } => true,
         }
     }
 
@@ -61,7 +62,7 @@ impl<T> Entry<T> {
     {
         match self {
             Entry::Character { c, .. } => W::width(*c).unwrap_or(0),
-            Entry::Fragment { .. } => 0,
+            Entry::Marker { .. } => 0,
         }
     }
 
@@ -80,7 +81,7 @@ impl<T> Entry<T> {
             Entry::Character { c, .. } => {
                 !is_break(*c) && W::width(*c).is_some_and(|columns| columns > 0)
             }
-            Entry::Fragment { .. } => false,
+            Entry::Marker { .. } => false,
         }
     }
 }

@@ -1,40 +1,55 @@
 //! The laws of the rule by which a block goes on, each as the contract of a function that does nothing.
-ghost use Rattle.std.specs.Prelude.{◌≡◌, ◌≢◌, ℕ, ◌<◌, ◌≤◌, Bool, true, Option, Some, List, map};
+ghost use Rattle.std.specs.Prelude.{◌≡◌, ◌≢◌, ℕ, ◌<◌, Bool, true, Option, Some, List, map};
 ghost use Rattle.std.specs.List.{AllByRecursion as Each};
 ghost use Rattle.tbr_model.specs.declared.white_space.WhiteSpace.{WhiteSpace};
 ghost use Rattle.tbr_model.specs.declared.white_space.WhiteSpace.TheVariants.{Normal, Pre, PreWrap};
-ghost use Rattle.tbr_model.specs.Run.{item_width, kept_items};
-ghost use Rattle.tbr_model.specs.Layout.{Slot, slots_of, line_text, IsBest};
+ghost use Rattle.tbr_model.specs.Codes.{space_character};
+ghost use Rattle.tbr_model.specs.Layout.{Slot, slots_of, line_text, AllItemsFit, IsBest};
 ghost use Rattle.tbr_model.specs.Rule.{Event, run_of, lines_of};
-ghost use Rattle.tbr_model.specs.Hard.{HasMode, Preserves, hard_lines, Parted, ShowsHardLine, ShowsPre, ShowsPreWrap, ShowsTabs};
+ghost use Rattle.tbr_model.specs.Hard.{AllHaveMode, Preserves, hard_lines, Parted, ShowsHardLine, ShowsPre, ShowsPreWrap, ShowsTabs};
 
-/// In a run of preserving modes each hard line has lines of its own. Its visible characters stand there once, in order, each under
-/// an annotation of its call. A newline ends a line, even an empty one.
+/// In a run of preserving modes each hard line has lines of its own. Its visible characters stand there once, in order,
+/// each under an annotation of its call. A newline ends a line, even an empty one.
 pub fn hard_lines_are_shown<T>()
-    ensures { (columns : ℕ → Option ℕ) (width : ℕ) (eq : T → T → Bool) → ((x : T) → eq x x ≡ true) → (es : List (Event T)) → Each Preserves (run_of es) → Parted (ShowsHardLine columns eq) (hard_lines (run_of es)) (lines_of columns width es) }
+    ensures { (columns : ℕ → Option ℕ) (width : ℕ) (eq : T → T → Bool) → ((x : T) → eq x x ≡ true) →
+        (es : List (Event T)) → Each Preserves (run_of es) →
+        Parted (ShowsHardLine columns (λ a b. eq a b ≡ true)) (hard_lines (run_of es)) (lines_of columns width es) }
 {}
 
-/// In a run of `Pre` alone each hard line keeps its characters, in order. A hard line of printable characters, not of spaces alone,
-/// is one line where it fits. If it begins with a non-blank, it is cut after every so many characters as a line has columns, and
-/// those behind the first cut have the continuation annotation. A newline behind spaces alone leaves an empty line.
+/// In a run of `Pre` alone each hard line keeps its characters, in order. A hard line of printable characters, not of
+/// spaces alone, is one line where it fits. If it begins with a non-blank, it is cut after every `width` characters,
+/// and those behind the first cut have the continuation annotation. A newline behind spaces alone leaves an empty
+/// line.
 pub fn pre_lines_are_shown<T>()
-    ensures { (columns : ℕ → Option ℕ) (eq : T → T → Bool) (width : ℕ) → columns 32 ≡ Some 1 → 0 < width → ((x : T) → eq x x ≡ true) → (es : List (Event T)) → Each (HasMode Pre) (run_of es) → Parted (ShowsPre columns eq width) (hard_lines (run_of es)) (lines_of columns width es) }
+    ensures { (columns : ℕ → Option ℕ) (eq : T → T → Bool) (width : ℕ) →
+        columns space_character ≡ Some 1 → 0 < width → ((x : T) → eq x x ≡ true) →
+        (es : List (Event T)) → AllHaveMode Pre (run_of es) →
+        Parted (ShowsPre columns (λ a b. eq a b ≡ true) width) (hard_lines (run_of es)) (lines_of columns width es) }
 {}
 
-/// In a run of `PreWrap` alone a hard line of printable characters, not of spaces alone, is one line where it fits without the
-/// spaces at its end, which are dropped. In any case its stretches of non-blanks stand in order, and a stretch is cut only if it is
-/// wider than a line.
+/// In a run of `PreWrap` alone a hard line of printable characters, not of spaces alone, is one line where it fits
+/// without the spaces at its end, which are dropped. In any case its stretches of non-blanks stand in order, and a
+/// stretch is cut only if it is wider than a line.
 pub fn prewrap_lines_are_shown<T>()
-    ensures { (columns : ℕ → Option ℕ) (width : ℕ) → columns 32 ≡ Some 1 → 0 < width → (es : List (Event T)) → Each (HasMode PreWrap) (run_of es) → Parted (ShowsPreWrap columns width) (hard_lines (run_of es)) (lines_of columns width es) }
+    ensures { (columns : ℕ → Option ℕ) (width : ℕ) → columns space_character ≡ Some 1 → 0 < width →
+        (es : List (Event T)) → AllHaveMode PreWrap (run_of es) →
+        Parted (ShowsPreWrap columns width) (hard_lines (run_of es)) (lines_of columns width es) }
 {}
 
-/// In a run of one preserving mode, a hard line of printable characters and tabs that ends with a non-blank shows each tab as
-/// spaces up to the next multiple of eight, where it then fits a line.
+/// In a run of one preserving mode, a hard line of printable characters and tabs that ends with a non-blank shows each
+/// tab as spaces up to the next multiple of eight, where it then fits a line.
 pub fn tabs_are_shown<T>()
-    ensures { (columns : ℕ → Option ℕ) (width : ℕ) → columns 32 ≡ Some 1 → 0 < width → (mode : WhiteSpace) → mode ≢ Normal → (es : List (Event T)) → Each (HasMode mode) (run_of es) → Parted (ShowsTabs columns width) (hard_lines (run_of es)) (lines_of columns width es) }
+    ensures { (columns : ℕ → Option ℕ) (width : ℕ) → columns space_character ≡ Some 1 → 0 < width →
+        (mode : WhiteSpace) → mode ≢ Normal →
+        (es : List (Event T)) → AllHaveMode mode (run_of es) →
+        Parted (ShowsTabs columns width) (hard_lines (run_of es)) (lines_of columns width es) }
 {}
 
-/// In a run of `Normal` alone the lines are the texts of the best layout of its words, if no item of the run is wider than a line.
+/// In a run of `Normal` alone the lines are the texts of the best layout of its words, if no item of the run is wider
+/// than a line.
 pub fn rule_is_best<T>()
-    ensures { (columns : ℕ → Option ℕ) (width : ℕ) (es : List (Event T)) → Each (HasMode Normal) (run_of es) → Each (λ i. item_width columns i ≤ width) (kept_items columns (run_of es)) → (lines : List (List (Slot T))) × IsBest width (slots_of columns width (run_of es)) lines × (lines_of columns width es ≡ map line_text lines) }
+    ensures { (columns : ℕ → Option ℕ) (width : ℕ) (es : List (Event T)) →
+        AllHaveMode Normal (run_of es) → AllItemsFit columns width (run_of es) →
+        (lines : List (List (Slot T))) × IsBest width (slots_of columns width (run_of es)) lines
+        × (lines_of columns width es ≡ map line_text lines) }
 {}

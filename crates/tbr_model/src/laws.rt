@@ -1,64 +1,101 @@
 //! The laws of layouts, each as the contract of a function that does nothing.
 ghost use Rattle.std.specs.Prelude.{◌≡◌, ◌↔◌, ℕ, ◌+◌, ◌≤◌, ◌<◌, Option, Some, IsTrue, List, ◌∷◌, ◌++◌, map, length, flat_map, slice_get, slice_index, slice_range};
 ghost use Rattle.std.specs.List.{AllByRecursion as Each};
-ghost use Rattle.tbr_model.specs.Run.{Entry, item_width, kept_items, words_of, trailing};
+ghost use Rattle.tbr_model.specs.Run.{Entry, kept_items, words_of, trailing};
 ghost use Rattle.tbr_model.specs.Regions.{Region, IsParted, words_between, markers_left};
-ghost use Rattle.tbr_model.specs.Layout.{Slot, slots_of, joined, placed, line_text, line_has_character, IsLegal, IsBest, IsGreedy, HasNoEmptyLine};
+ghost use Rattle.tbr_model.specs.Layout.{Slot, slots_of, joined, placed, line_text, line_has_character, IsLegal, HasLegalLines, AllItemsFit, IsBest, IsGreedy, HasNoEmptyLine};
 ghost use Rattle.tbr_model.specs.Cuts.{IsLayout, lines_between, cuts_of, placed_by_cuts, IsLegalLayout, IsBestLayout, with_gap};
 
 /// A legal layout without empty lines, each line as long as a legal one can be, is ahead of every legal layout.
 pub fn greedy_is_best<T>()
-    ensures { (width : ℕ) (slots : List (Slot T)) (lines : List (List (Slot T))) → IsLegal width slots lines → HasNoEmptyLine lines → IsGreedy width lines → IsBest width slots lines }
+    ensures { (width : ℕ) (slots : List (Slot T)) (lines : List (List (Slot T))) →
+        IsLegal width slots lines → HasNoEmptyLine lines → IsGreedy width lines →
+        IsBest width slots lines }
 {}
 
 /// The best layout has the fewest lines.
 pub fn best_has_fewest_lines<T>()
-    ensures { (width : ℕ) (slots : List (Slot T)) (lines others : List (List (Slot T))) → IsBest width slots lines → IsLegal width slots others → length lines ≤ length others }
+    ensures { (width : ℕ) (slots : List (Slot T)) (lines others : List (List (Slot T))) →
+        IsBest width slots lines → IsLegal width slots others →
+        length lines ≤ length others }
 {}
 
 /// There is only one best layout.
 pub fn best_is_unique<T>()
-    ensures { (width : ℕ) (slots : List (Slot T)) (lines others : List (List (Slot T))) → IsBest width slots lines → IsBest width slots others → others ≡ lines }
+    ensures { (width : ℕ) (slots : List (Slot T)) (lines others : List (List (Slot T))) →
+        IsBest width slots lines → IsBest width slots others →
+        others ≡ lines }
 {}
 
 /// A run's words, and the markers behind them, hold its kept characters and its markers once, in order.
 pub fn words_hold_kept_items<T>()
-    ensures { (columns : ℕ → Option ℕ) (run : List (Entry T)) → flat_map (λ w. w.items) (words_of columns run) ++ trailing columns run ≡ kept_items columns run }
+    ensures { (columns : ℕ → Option ℕ) (run : List (Entry T)) →
+        flat_map (λ w. w.items) (words_of columns run) ++ trailing columns run ≡ kept_items columns run }
 {}
 
 /// A run has a legal layout exactly where none of its items is wider than a line, and then it has a best one.
 pub fn legal_layouts_exist<T>()
-    ensures legal { (columns : ℕ → Option ℕ) (width : ℕ) (run : List (Entry T)) → ((lines : List (List (Slot T))) × IsLegal width (slots_of columns width run) lines) ↔ Each (λ i. item_width columns i ≤ width) (kept_items columns run) }
-    ensures best { (columns : ℕ → Option ℕ) (width : ℕ) (run : List (Entry T)) → Each (λ i. item_width columns i ≤ width) (kept_items columns run) → (lines : List (List (Slot T))) × IsBest width (slots_of columns width run) lines }
+    ensures legal { (columns : ℕ → Option ℕ) (width : ℕ) (run : List (Entry T)) →
+        HasLegalLines width (slots_of columns width run) ↔ AllItemsFit columns width run }
+    ensures best { (columns : ℕ → Option ℕ) (width : ℕ) (run : List (Entry T)) →
+        AllItemsFit columns width run →
+        (lines : List (List (Slot T))) × IsBest width (slots_of columns width run) lines }
 {}
 
 /// No line of the best layout is without a character.
 pub fn best_lines_have_characters<T>()
-    ensures { (columns : ℕ → Option ℕ) (width : ℕ) (run : List (Entry T)) (lines : List (List (Slot T))) → IsBest width (slots_of columns width run) lines → Each (λ l. IsTrue (line_has_character l)) lines }
+    ensures { (columns : ℕ → Option ℕ) (width : ℕ) (run : List (Entry T)) (lines : List (List (Slot T))) →
+        IsBest width (slots_of columns width run) lines →
+        Each (λ l. IsTrue (line_has_character l)) lines }
 {}
 
-/// The working break points part every run into regions, in one way only, and the run's words and trailing markers are those
-/// read off region by region.
+/// The working break points part every run into regions, in one way only, and the run's words and trailing markers are
+/// those read off region by region.
 pub fn words_stand_between_working_breaks<T>()
-    ensures parted { (columns : ℕ → Option ℕ) (run : List (Entry T)) → (regions : List (Region T)) × (rest : List (Entry T)) × IsParted columns run regions rest }
-    ensures one { (columns : ℕ → Option ℕ) (run : List (Entry T)) (regions others : List (Region T)) (rest other : List (Entry T)) → IsParted columns run regions rest → IsParted columns run others other → (regions ≡ others) × (rest ≡ other) }
-    ensures words { (columns : ℕ → Option ℕ) (run : List (Entry T)) (regions : List (Region T)) (rest : List (Entry T)) → IsParted columns run regions rest → words_of columns run ≡ words_between columns regions rest }
-    ensures left { (columns : ℕ → Option ℕ) (run : List (Entry T)) (regions : List (Region T)) (rest : List (Entry T)) → IsParted columns run regions rest → trailing columns run ≡ markers_left columns rest }
+    ensures parted { (columns : ℕ → Option ℕ) (run : List (Entry T)) →
+        (regions : List (Region T)) × (rest : List (Entry T)) × IsParted columns run regions rest }
+    ensures one { (columns : ℕ → Option ℕ) (run : List (Entry T)) →
+        (regions others : List (Region T)) (rest other : List (Entry T)) →
+        IsParted columns run regions rest → IsParted columns run others other →
+        (regions ≡ others) × (rest ≡ other) }
+    ensures words { (columns : ℕ → Option ℕ) (run : List (Entry T)) →
+        (regions : List (Region T)) (rest : List (Entry T)) →
+        IsParted columns run regions rest →
+        words_of columns run ≡ words_between columns regions rest }
+    ensures left { (columns : ℕ → Option ℕ) (run : List (Entry T)) →
+        (regions : List (Region T)) (rest : List (Entry T)) →
+        IsParted columns run regions rest →
+        trailing columns run ≡ markers_left columns rest }
 {}
 
 /// Layouts as cuts are layouts as lines.
 pub fn layouts_are_cuts<T>()
-    ensures lines { (items : List T) (cuts : List ℕ) → IsLayout (length items) cuts → joined (lines_between items cuts) ≡ items }
-    ensures line { (items : List T) (cuts : List ℕ) (n : ℕ) → n + 1 < length cuts → slice_get (lines_between items cuts) n ≡ Some (slice_range items (slice_index cuts n) (slice_index cuts (n + 1))) }
-    ensures cuts { (items : List T) (cuts : List ℕ) → IsLayout (length items) cuts → cuts_of (lines_between items cuts) ≡ cuts }
-    ensures cuts_of_lines { (lines : List (List T)) → IsLayout (length (joined lines)) (cuts_of lines) × (lines_between (joined lines) (cuts_of lines) ≡ lines) }
-    ensures placed { (items : List T) (cuts : List ℕ) (n : ℕ) → IsLayout (length items) cuts → placed n (lines_between items cuts) ≡ placed_by_cuts (length items) n cuts }
-    ensures legal { (width : ℕ) (slots : List (Slot T)) (cuts : List ℕ) → IsLegalLayout width slots cuts ↔ (IsLayout (length slots) cuts × IsLegal width slots (lines_between slots cuts)) }
-    ensures best { (width : ℕ) (slots : List (Slot T)) (cuts : List ℕ) → IsBestLayout width slots cuts ↔ (IsLayout (length slots) cuts × IsBest width slots (lines_between slots cuts)) }
+    ensures lines { (items : List T) (cuts : List ℕ) → IsLayout (length items) cuts →
+        joined (lines_between items cuts) ≡ items }
+    ensures line { (items : List T) (cuts : List ℕ) (n : ℕ) → n + 1 < length cuts →
+        slice_get (lines_between items cuts) n
+        ≡ Some (slice_range items (slice_index cuts n) (slice_index cuts (n + 1))) }
+    ensures cuts { (items : List T) (cuts : List ℕ) → IsLayout (length items) cuts →
+        cuts_of (lines_between items cuts) ≡ cuts }
+    ensures cuts_of_lines { (lines : List (List T)) →
+        IsLayout (length (joined lines)) (cuts_of lines)
+        × (lines_between (joined lines) (cuts_of lines) ≡ lines) }
+    ensures placed { (items : List T) (cuts : List ℕ) (n : ℕ) → IsLayout (length items) cuts →
+        placed n (lines_between items cuts) ≡ placed_by_cuts (length items) n cuts }
+    ensures legal { (width : ℕ) (slots : List (Slot T)) (cuts : List ℕ) →
+        IsLegalLayout width slots cuts
+        ↔ (IsLayout (length slots) cuts × IsLegal width slots (lines_between slots cuts)) }
+    ensures best { (width : ℕ) (slots : List (Slot T)) (cuts : List ℕ) →
+        IsBestLayout width slots cuts
+        ↔ (IsLayout (length slots) cuts × IsBest width slots (lines_between slots cuts)) }
 {}
 
-/// The gap before the first word never counts: whatever it is, the legal layouts are the same, and so are their lines' texts.
+/// The gap before the first word never counts: whatever it is, the legal layouts are the same, and so are their lines'
+/// texts.
 pub fn first_gap_never_counts<T>()
-    ensures legal { (width : ℕ) (s : Slot T) (gap : Option T) (ss : List (Slot T)) (cuts : List ℕ) → IsLegalLayout width (s ∷ ss) cuts → IsLegalLayout width (with_gap s gap ∷ ss) cuts }
-    ensures texts { (width : ℕ) (s : Slot T) (gap : Option T) (ss : List (Slot T)) (cuts : List ℕ) → IsLegalLayout width (s ∷ ss) cuts → map line_text (lines_between (with_gap s gap ∷ ss) cuts) ≡ map line_text (lines_between (s ∷ ss) cuts) }
+    ensures legal { (width : ℕ) (s : Slot T) (gap : Option T) (ss : List (Slot T)) (cuts : List ℕ) →
+        IsLegalLayout width (s ∷ ss) cuts → IsLegalLayout width (with_gap s gap ∷ ss) cuts }
+    ensures texts { (width : ℕ) (s : Slot T) (gap : Option T) (ss : List (Slot T)) (cuts : List ℕ) →
+        IsLegalLayout width (s ∷ ss) cuts →
+        map line_text (lines_between (with_gap s gap ∷ ss) cuts) ≡ map line_text (lines_between (s ∷ ss) cuts) }
 {}

@@ -11,7 +11,7 @@ use crate::slot::Slot;
 
 /// The columns of a line, or `None` where they pass `usize`.
 pub fn line_width<T>(line: &[Slot<'_, T>]) -> Option<usize>
-    ensures { SomeIff result (layout.line_width (slot_values line.now) < 2 ^ 64) (layout.line_width (slot_values line.now)) }
+    ensures { let width = layout.line_width (slot_values line.now) in SomeIff result (width < 2 ^ 64) width }
 {
     let Some((first, others)) = line.split_first() else {
         return Some(0);

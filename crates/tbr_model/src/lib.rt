@@ -14,6 +14,7 @@ pub use laws::{
     words_stand_between_working_breaks,
 };
 pub use layout::{is_legal, is_legal_line, line_width};
+pub use mapped::{annotations_change_no_hard_line, annotations_change_no_layout};
 pub use slot::Slot;
 pub use white_space::WhiteSpace;
 pub use width::CharWidth;
@@ -25,6 +26,7 @@ mod hard;
 mod history;
 mod laws;
 mod layout;
+mod mapped;
 mod slot;
 #[cfg(test)]
 mod tests;

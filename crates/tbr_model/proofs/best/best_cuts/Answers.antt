@@ -2,9 +2,9 @@ use Rattle.std.proofs.Common.{◌≡◌, ◌+◌, ◌-◌, ◌<◌, ◌∷◌, [
 use Rattle.std.proofs.lemmas.List.{length-map}
 use Rattle.tbr_model.specs.Longest.{TellsRests, IsLongestLine}
 use Rattle.tbr_model.specs.Slot.{slot_value, slot_values}
-use Rattle.tbr_model.proofs.Longest.{tells_later}
-use Rattle.tbr_model.proofs.Measured.{slot_values_rest}
-use Rattle.tbr_model.proofs.Walked.{walk_on, walk_ends}
+use Rattle.tbr_model.proofs.layouts.LongestLines.{tells_later}
+use Rattle.tbr_model.proofs.layouts.StoredSlots.{slot_values_rest}
+use Rattle.tbr_model.proofs.layouts.BestCuts.{walk_on, walk_ends}
 use Rattle.tbr_model.proofs.best.best_cuts.Goals as goal
 
 pub longest_line-requires : goal.longest_line-requires

@@ -3,7 +3,7 @@ use Rattle.tbr_model.specs.Layout.{Slot, slots_of, IsBest}
 use Rattle.tbr_model.specs.Cuts.{HasLegalLayout, IsBestLayout, lines_between}
 use Rattle.tbr_model.specs.Entry.{entry_values}
 use Rattle.tbr_model.specs.Slot.{slot_values}
-use Rattle.tbr_model.proofs.Cuts.{best_alike}
+use Rattle.tbr_model.proofs.layouts.Cuts.{best_alike}
 use Rattle.tbr_model.proofs.best.best_layout.Goals as goal
 
 abbrev IsFound : {A X E : Type 0} → (X → List ℕ) → ℕ → Result (Option X) E → List (Slot A) → Type 0

@@ -1,6 +1,6 @@
 use Rattle.std.proofs.Common.{ℕ, ◌<◌, ◌≤◌, length}
 use Rattle.tbr_model.specs.Slot.{slot_values}
-use Rattle.tbr_model.proofs.Longest.{EndsLine}
+use Rattle.tbr_model.proofs.layouts.LongestLines.{EndsLine}
 use Rattle.tbr_model.proofs.best.longest_line.Given as goal
 
 abbrev pub invariant-loop-last : goal.invariant-loop-last

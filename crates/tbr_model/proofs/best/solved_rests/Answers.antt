@@ -4,8 +4,8 @@ use Rattle.tbr_model.specs.Layout.{Slot}
 use Rattle.tbr_model.specs.Longest.{TellsRests}
 use Rattle.tbr_model.specs.Cuts.{HasLegalLayout}
 use Rattle.tbr_model.specs.Slot.{slot_value, slot_values}
-use Rattle.tbr_model.proofs.Longest.{tells_first, tells_more, tells_later, legal_if_found}
-use Rattle.tbr_model.proofs.Measured.{slot_values_rest}
+use Rattle.tbr_model.proofs.layouts.LongestLines.{tells_first, tells_more, tells_later, legal_if_found}
+use Rattle.tbr_model.proofs.layouts.StoredSlots.{slot_values_rest}
 use Rattle.tbr_model.proofs.best.solved_rests.Goals as goal
 
 pub loop-from-init : goal.loop-from-init

@@ -1,4 +1,4 @@
-use Rattle.tbr_model.proofs.Modes.{prewrap_shown}
+use Rattle.tbr_model.proofs.rule.PreservingModes.{prewrap_shown}
 use Rattle.tbr_model.proofs.hard.prewrap_lines_are_shown.Goals as goal
 
 pub returns : goal.returns

@@ -1,4 +1,4 @@
-use Rattle.tbr_model.proofs.Modes.{tabs_shown}
+use Rattle.tbr_model.proofs.rule.PreservingModes.{tabs_shown}
 use Rattle.tbr_model.proofs.hard.tabs_are_shown.Goals as goal
 
 pub returns : goal.returns

@@ -1,4 +1,4 @@
-use Rattle.tbr_model.proofs.Cuts.{first_gap}
+use Rattle.tbr_model.proofs.layouts.Cuts.{first_gap}
 use Rattle.tbr_model.proofs.laws.first_gap_never_counts.Goals as goal
 
 pub returns : goal.returns

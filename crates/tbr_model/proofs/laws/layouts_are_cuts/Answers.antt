@@ -1,4 +1,4 @@
-use Rattle.tbr_model.proofs.Cuts.{lines_joined, line_of, cuts_again, lines_again, placed_alike, legal_alike, best_alike}
+use Rattle.tbr_model.proofs.layouts.Cuts.{lines_joined, line_of, cuts_again, lines_again, placed_alike, legal_alike, best_alike}
 use Rattle.tbr_model.proofs.laws.layouts_are_cuts.Goals as goal
 
 pub returns : goal.returns

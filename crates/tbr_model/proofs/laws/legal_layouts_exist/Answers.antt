@@ -1,4 +1,4 @@
-use Rattle.tbr_model.proofs.Runs.{narrow_if_legal, best_lines, best_if_narrow}
+use Rattle.tbr_model.proofs.words.KeptItems.{narrow_if_legal, best_lines, best_if_narrow}
 use Rattle.tbr_model.proofs.laws.legal_layouts_exist.Goals as goal
 
 pub returns : goal.returns

@@ -1,4 +1,4 @@
-use Rattle.tbr_model.proofs.Regions.{words_parted, parting, parted_alike}
+use Rattle.tbr_model.proofs.words.Regions.{words_parted, parting, parted_alike}
 use Rattle.tbr_model.proofs.laws.words_stand_between_working_breaks.Goals as goal
 
 pub returns : goal.returns

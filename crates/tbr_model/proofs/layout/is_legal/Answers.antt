@@ -3,8 +3,8 @@ use Rattle.std.proofs.lemmas.List.{length-map}
 use Rattle.tbr_model.specs.Slot.{slot_value, slot_values}
 use Rattle.tbr_model.specs.Layout.{IsLegalLine}
 use Rattle.tbr_model.specs.Cuts.{IsLegalLayout}
-use Rattle.tbr_model.proofs.Cuts.{LegalBehind, legal_from_first, legal_on, rises_below}
-use Rattle.tbr_model.proofs.Measured.{slot_values_part}
+use Rattle.tbr_model.proofs.layouts.Cuts.{LegalBehind, legal_from_first, legal_on, rises_below}
+use Rattle.tbr_model.proofs.layouts.StoredSlots.{slot_values_part}
 use Rattle.tbr_model.proofs.layout.is_legal.Goals as goal
 use Rattle.tbr_model.proofs.layout.is_legal.Goals.{then-to-from-via-then-to-from, then-to-from-via-else-to-from+then-slots-to, then-to-from-via-else-to-from+else-slots-to+then-not-is_legal_line}
 

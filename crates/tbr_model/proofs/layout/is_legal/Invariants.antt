@@ -1,7 +1,7 @@
 use Rattle.std.proofs.Common.{◌↔◌, drop}
 use Rattle.tbr_model.specs.Slot.{slot_values}
 use Rattle.tbr_model.specs.Cuts.{IsLegalLayout}
-use Rattle.tbr_model.proofs.Cuts.{LegalBehind}
+use Rattle.tbr_model.proofs.layouts.Cuts.{LegalBehind}
 use Rattle.tbr_model.proofs.layout.is_legal.Given as goal
 
 -- the cuts are legal exactly where those that are left are

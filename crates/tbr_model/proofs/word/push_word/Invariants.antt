@@ -2,7 +2,7 @@ use Rattle.std.proofs.Common.{◌≡◌, ◌++◌, true, drop, option_copied}
 use Rattle.tbr_model.specs.Run.{kept_items}
 use Rattle.tbr_model.specs.Entry.{entry_values}
 use Rattle.tbr_model.specs.Slot.{slot_values}
-use Rattle.tbr_model.proofs.Pushed.{slots_on}
+use Rattle.tbr_model.proofs.words.RestSlots.{slots_on}
 use Rattle.tbr_model.proofs.word.push_word.Given as goal
 
 abbrev pub invariant-loop-entry : goal.invariant-loop-entry

@@ -6,8 +6,8 @@ use Rattle.tbr_model.specs.Layout.{Slot, word_slots}
 use Rattle.tbr_model.specs.Regions.{NoBreakWorks, IsFirstWorkingBreak, word_behind}
 use Rattle.tbr_model.specs.Entry.{entry_value, entry_values}
 use Rattle.tbr_model.specs.Slot.{slot_values}
-use Rattle.tbr_model.proofs.Entries.{values_rest, values_part}
-use Rattle.tbr_model.proofs.Reading.{HasRead, next_region, all_read}
+use Rattle.tbr_model.proofs.words.StoredEntries.{values_rest, values_part}
+use Rattle.tbr_model.proofs.words.SlotsByRegion.{HasRead, next_region, all_read}
 use Rattle.tbr_model.proofs.word.slots.Goals as goal
 use Rattle.tbr_model.proofs.word.slots.Goals.{then-has_character+in_ok-push_word-2, else-has_character}
 

@@ -29,7 +29,7 @@ use denote.Triple.Spec.{Meets, triple_of}
 use denote.Triple.Table.{entered}
 use denote.Triple.Walked.{says, Stays, walk_of, ends_at, walk_Meets}
 use Rattle.std.specs.contracts.marker.PhantomData as Mark
-use Rattle.tbr_model.proofs.Walks.{none, one, one_made}
+use Rattle.tbr_model.proofs.HistorySteps.{none, one, one_made}
 use Rattle.tbr_model.specs.contracts.history.History as Log
 use Rattle.tbr_model.specs.contracts.history.History.new as F
 use Rattle.tbr_model.specs.contracts.history.History.new.Key.{name as #self}

@@ -1,0 +1,7 @@
+-- Layouts, as lines and as cuts, and which is best.
+pub mod Ahead
+pub mod Greedy
+pub mod Cuts
+pub mod LongestLines
+pub mod BestCuts
+pub mod StoredSlots

@@ -1,0 +1,160 @@
+-- A layout of longest lines is the best one.
+use Rattle.std.proofs.Common.{◌≡◌, ℕ, zero, suc, ◌+◌, ◌-◌, ◌<◌, ◌≤◌, ◌↔◌, Bool, true, false, IsTrue, Option, Some, None, is_some, MatchOption, List, [], ◌∷◌, ◌++◌, length, take, drop, slice_index_or, refl, ap, sym, ◌∙◌, inl, inr, arith, length-append, length-drop, subst, take-append-drop, drop-drop, take_at, drop_of_length-le}
+use Rattle.std.proofs.lemmas.List.{get_or_push}
+use Rattle.std.specs.List.{AllByRecursion as Each}
+use Rattle.std.proofs.lemmas.List.{drop_at}
+use Rattle.std.proofs.lemmas.Bool.{cases_lt}
+use Rattle.tbr_model.specs.Layout.{Slot, joined, line_width, FirstMayBegin, OthersMayFollow, IsLegalLine, IsLegal}
+use Rattle.tbr_model.specs.Cuts.{cuts_of, HasLegalLayout}
+use Rattle.tbr_model.specs.Longest.{IsLongestLine, TellsRests}
+use Rattle.tbr_model.proofs.lists.Joined.{cut_twice}
+use Rattle.tbr_model.proofs.layouts.Ahead.{line_width_back, others_back}
+use Rattle.tbr_model.proofs.layouts.Cuts.{legal_alike, others_cuts}
+use Rattle.tbr_model.proofs.words.SlotsByRegion.{take_add}
+
+-- ---- which slots have a legal layout
+
+pub has_lines : {A : Type 0} (width : ℕ) (slots : List (Slot A)) → HasLegalLayout width slots → (lines : List (List (Slot A))) × IsLegal width slots lines
+has_lines width slots h = (_, ((legal_alike width slots h.0).0 h.1).1)
+
+pub has_cuts : {A : Type 0} (width : ℕ) (slots : List (Slot A)) (lines : List (List (Slot A))) → IsLegal width slots lines → HasLegalLayout width slots
+has_cuts width slots lines h = (cuts_of lines, (others_cuts width slots lines h).0)
+
+pub none_legal : {A : Type 0} (width : ℕ) → HasLegalLayout {A = A} width []
+none_legal width = has_cuts width [] [] (record { whole = refl; each = tt })
+
+-- what stands behind a place where a line may begin
+suffix_lines : {A : Type 0} (width : ℕ) (a b : List (Slot A)) (lines : List (List (Slot A))) → joined lines ≡ a ++ b → Each (IsLegalLine width) lines → FirstMayBegin b →
+    (others : List (List (Slot A))) × IsLegal width b others
+suffix_lines width [] b lines e h starts = (lines, record { whole = e; each = h })
+suffix_lines width (s ∷ a) b [] e h starts = cc
+suffix_lines {A} width (s ∷ a) b (l ∷ ls) e h starts =
+    elim (cut_twice l (joined ls) (s ∷ a) b e) [
+      | inl w ↦ suffix_lines width w.0 b ls w.2 h.1 starts
+      | inr w ↦ (
+        (w.0 ∷ w.1) ∷ ls,
+        record {
+          whole = sym w.3;
+          each = (
+            record {
+              fits = omega (arith, h.0.fits, line_width_back (s ∷ a) (w.0 ∷ w.1), ap line_width w.2);
+              first = subst FirstMayBegin w.3 starts;
+              others = others_back (s ∷ a) (w.0 ∷ w.1) (subst OthersMayFollow w.2 h.0.others);
+            },
+            h.1,
+          );
+        },
+      )
+    ]
+
+pub suffix_legal : {A : Type 0} (width : ℕ) (a b : List (Slot A)) → HasLegalLayout width (a ++ b) → FirstMayBegin b → HasLegalLayout width b
+suffix_legal {A} width a b h starts =
+    let w = has_lines width (a ++ b) h in
+    let v = suffix_lines width a b w.0 w.1.whole w.1.each starts in
+    has_cuts width b v.0 v.1
+
+pub line_before : {A : Type 0} (width : ℕ) (slots : List (Slot A)) (end : ℕ) → IsLegalLine width (take end slots) → HasLegalLayout width (drop end slots) → HasLegalLayout width slots
+line_before {A} width slots end legal rest =
+    let w = has_lines width (drop end slots) rest in
+    has_cuts width slots (take end slots ∷ w.0) (record {
+      whole = ap (λ (l : List (Slot A)). take end slots ++ l) w.1.whole ∙ take-append-drop end slots;
+      each = (legal, w.1.each);
+    })
+
+-- some legal line stands first
+first_line : {A : Type 0} (width : ℕ) (slots : List (Slot A)) (lines : List (List (Slot A))) → IsLegal width slots lines → 0 < length slots →
+    (end : ℕ) × (0 < end) × (end ≤ length slots) × IsLegalLine width (take end slots) × HasLegalLayout width (drop end slots)
+first_line width slots [] h some = absurd (omega (arith, ap length h.whole))
+first_line width slots ([] ∷ ls) h some = first_line width slots ls (record { whole = h.whole; each = h.each.1 }) some
+first_line {A} width slots ((s ∷ l) ∷ ls) h some =
+    let front : take (length (s ∷ l)) slots ≡ s ∷ l = ap (take (length (s ∷ l))) (sym h.whole) ∙ take_at (s ∷ l) (joined ls) (length (s ∷ l)) refl in
+    let back : drop (length (s ∷ l)) slots ≡ joined ls = ap (drop (length (s ∷ l))) (sym h.whole) ∙ drop_at (s ∷ l) (joined ls) (length (s ∷ l)) refl in (
+      length (s ∷ l),
+      omega arith,
+      omega (arith, ap length h.whole, length-append (s ∷ l) (joined ls)),
+      subst (IsLegalLine width) (sym front) h.each.0,
+      subst (HasLegalLayout width) (sym back) (has_cuts width (joined ls) ls (record { whole = refl; each = h.each.1 })),
+    )
+
+abbrev pub EndsLine : {A : Type 0} → ℕ → List (Slot A) → ℕ → Type 0
+EndsLine width slots end = IsLegalLine width (take end slots) × HasLegalLayout width (drop end slots)
+
+pub no_line : {A : Type 0} (width : ℕ) (slots : List (Slot A)) → ((e : ℕ) → 0 < e → e ≤ length slots → ¬ EndsLine width slots e) → 0 < length slots → ¬ HasLegalLayout width slots
+no_line width slots h some legal =
+    let lines = has_lines width slots legal in
+    let w = first_line width slots lines.0 lines.1 some in
+    h w.0 w.1 w.2 (w.3, w.4)
+
+pub longest_end_line : {A : Type 0} (width : ℕ) (slots : List (Slot A)) (end : ℕ) → 0 < end → end ≤ length slots → EndsLine width slots end →
+    ((e : ℕ) → end < e → e ≤ length slots → ¬ EndsLine width slots e) → IsLongestLine width slots end
+longest_end_line {A} width slots end some within h none = record {
+  some = some;
+  within = within;
+  legal = h.0;
+  rest = h.1;
+  longest = λ more others e p starts legal.
+      let front : take (end + length more) slots ≡ take end slots ++ more = take_add end (length more) slots
+      ∙ ap (λ (l : List (Slot A)). take end slots ++ l) (ap (take (length more)) (sym e) ∙ take_at more others (length more) refl) in
+      let back : drop (end + length more) slots ≡ others = sym (drop-drop (length more) end slots) ∙ ap (drop (length more)) (sym e) ∙ drop_at more others (length more) refl in
+      let rest : HasLegalLayout width (more ++ others) = subst (HasLegalLayout width) (sym e) h.1 in
+      none (end + length more) (omega arith) (omega (arith, ap length e, length-append more others, length-drop end slots))
+      (subst (IsLegalLine width) (sym front) legal, subst (HasLegalLayout width) (sym back) (suffix_legal width more others rest starts));
+}
+
+-- ---- by places
+
+pub none_more : (P : ℕ → Type 0) (m n end : ℕ) → end ≡ m → ((e : ℕ) → m < e → e ≤ n → ¬ P e) → ¬ P end → (e : ℕ) → m - 1 < e → e ≤ n → ¬ P e
+none_more P m n end same h here e p q k =
+    elim (cases_lt m e) [
+      | inl above ↦ h e above q k
+      | inr at ↦ here (subst P (let i : e ≡ end = omega arith in i) k)
+    ]
+
+pub rest_solved : {A : Type 0} (width n : ℕ) (slots : List (Slot A)) (solved : List Bool) → TellsRests width slots n solved → n ≡ length slots → (end : ℕ) → 0 < end → end ≤ n →
+    IsTrue (slice_index_or solved (n - end) false) ↔ HasLegalLayout width (drop end slots)
+rest_solved {A} width n slots solved h long end some within =
+    subst (λ k. IsTrue (slice_index_or solved (n - end) false) ↔ HasLegalLayout width (drop k slots)) (let e : length slots - (n - end) ≡ end = omega arith in e) (h.at (n - end) (omega arith))
+
+get_or-push : {X : Type 0} (xs : List X) (x d : X) (k : ℕ) → k < length xs → slice_index_or (xs ++ x ∷ []) k d ≡ slice_index_or xs k d
+get_or-push [] x d k h = absurd (omega arith)
+get_or-push (y ∷ xs) x d zero h = refl
+get_or-push (y ∷ xs) x d (suc k) h = get_or-push xs x d k (omega arith)
+
+-- nothing is left
+pub tells_first : {A : Type 0} (width : ℕ) (slots : List (Slot A)) (solved : List Bool) → solved ≡ true ∷ [] → TellsRests width slots 1 solved
+tells_first {A} width slots solved e = record {
+  long = omega (arith, ap length e);
+  at = λ k h. let none : drop (length slots - k) slots ≡ [] = drop_of_length-le slots (omega arith) in
+      let yes : slice_index_or solved k false ≡ true = ap (λ (l : List Bool). slice_index_or l k false) e ∙ ap (slice_index_or (true ∷ []) k) refl ∙ only k h in
+      (λ _. subst (HasLegalLayout width) (sym none) (none_legal width), λ _. yes);
+}
+  where
+    only : (k : ℕ) → k < 1 → slice_index_or (true ∷ []) k false ≡ true
+    only zero h = refl
+    only (suc k) h = absurd (omega arith)
+
+pub tells_more : {A : Type 0} (width : ℕ) (slots : List (Slot A)) (n : ℕ) (solved : List Bool) (b : Bool) → TellsRests width slots n solved → length solved ≡ n →
+    (IsTrue b ↔ HasLegalLayout width (drop (length slots - n) slots)) → TellsRests width slots (n + 1) (solved ++ b ∷ [])
+tells_more {A} width slots n solved b h long new = record {
+  long = omega (arith, length-append solved (b ∷ []));
+  at = λ k p. elim (cases_lt k n) [
+    | inl below ↦ rw (get_or-push solved b false k (omega arith)) (h.at k below)
+    | inr here ↦ let same : k ≡ n = omega arith in rw (get_or_push solved b false k (omega arith), same) new
+  ];
+}
+
+-- of later slots
+pub tells_later : {A : Type 0} (width : ℕ) (slots : List (Slot A)) (n from : ℕ) (solved : List Bool) → TellsRests width slots n solved → from ≤ length slots → length slots - from ≤ n →
+    TellsRests width (drop from slots) (length slots - from) solved
+tells_later {A} width slots n from solved h within enough = record {
+  long = omega (arith, h.long);
+  at = λ k p.
+      let place : from + (length (drop from slots) - k) ≡ length slots - k = omega (arith, length-drop from slots) in
+      let same : drop (length (drop from slots) - k) (drop from slots) ≡ drop (length slots - k) slots = drop-drop (length (drop from slots) - k) from slots ∙ ap (λ i. drop i slots) place in
+      rw same (h.at k (omega arith));
+}
+
+pub legal_if_found : {A : Type 0} (width n : ℕ) (slots : List (Slot A)) (found : Option ℕ) (b : Bool) → 0 < n → b ≡ is_some found →
+    MatchOption found (0 < n → ¬ HasLegalLayout width slots) (IsLongestLine width slots) → IsTrue b ↔ HasLegalLayout width slots
+legal_if_found width n slots None b some e h = (λ t. cc, λ k. absurd (h some k))
+legal_if_found width n slots (Some end) b some e h = (λ t. line_before width slots end h.legal h.rest, λ k. e)

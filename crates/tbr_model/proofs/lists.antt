@@ -1,0 +1,3 @@
+-- Lists, whatever they hold.
+pub mod Joined
+pub mod Each

@@ -1,0 +1,4 @@
+-- Runs under other annotations.
+pub mod Words
+pub mod Layouts
+pub mod HardLines

@@ -1,0 +1,185 @@
+-- The hard lines of a run under other annotations, and what is shown of them.
+use Rattle.std.proofs.Common.{◌≡◌, ◌≢◌, ℕ, ◌+◌, ◌<◌, ◌≤◌, ◌==◌, ◌⊎◌, inl, inr, Bool, true, false, IsTrue, if◌then◌else◌, Option, List, [], ◌∷◌, ◌++◌, map, flat_map, filter, length, take, drop, refl, ap, sym, ◌∙◌, arith, subst}
+use Rattle.std.specs.List.{AllZip, AllByRecursion as Each}
+use Rattle.std.proofs.lemmas.List.{map-append, length-map, take-map, drop-map}
+use Rattle.tbr_model.specs.Codes.{newline_character}
+use Rattle.tbr_model.specs.Run.{Entry, character, marker_entry, Item, glyph, marker, is_kept}
+use Rattle.tbr_model.specs.Layout.{joined}
+use Rattle.tbr_model.specs.Hard.{is_newline, onto_first, hard_lines, Parted, glyphs_of, letters_of, entry_letters, is_visible, visible_glyphs, visible_entries, IsShown, ShowsVisible, IsPrintableEntry, IsPrintableLine, IsTabbedEntry, IsTabbedLine, IsSpaces, BeginsWithNonBlank, IsCutEvery, StandUnder, HasMain, HasContinuation, ShowsHardLine, ShowsPre, ShowsPreWrap, ShowsTabs, stretches, IsCutOf, without_last_spaces, tabs_filled}
+use Rattle.tbr_model.specs.Mapped.{map_item, map_items, map_entry, map_run, map_lines}
+use Rattle.tbr_model.proofs.maps.Layouts.{joined-map}
+
+-- ---- hard lines
+
+onto_first-map : {X Y : Type 0} (g : X → Y) (x : X) (xss : List (List X)) → onto_first (g x) (map (map g) xss) ≡ map (map g) (onto_first x xss)
+onto_first-map g x [] = refl
+onto_first-map g x (xs ∷ xss) = refl
+
+pub hard_lines-map : {A B : Type 0} (f : A → B) (run : List (Entry A)) → hard_lines (map_run f run) ≡ map (map_run f) (hard_lines run)
+hard_lines-map f [] = refl
+hard_lines-map f (marker_entry name ∷ es) = ap (onto_first (marker_entry name)) (hard_lines-map f es) ∙ onto_first-map (map_entry f) (marker_entry name) (hard_lines es)
+hard_lines-map {A} {B} f (character c a b m ∷ es) = go (hard_lines-map f es) (c == newline_character)
+  where
+    go : hard_lines (map_run f es) ≡ map (map_run f) (hard_lines es) → (k : Bool) →
+        (let hs : List (List (Entry B)) = if k then [] ∷ hard_lines (map_run f es) else onto_first (character c (f a) (f b) m) (hard_lines (map_run f es)) in hs)
+        ≡ map (map_run f) (if k then [] ∷ hard_lines es else onto_first (character c a b m) (hard_lines es))
+    go rest true = ap (λ hs. [] ∷ hs) rest
+    go rest false = ap (onto_first (character c (f a) (f b) m)) rest ∙ onto_first-map (map_entry f) (character c a b m) (hard_lines es)
+
+pub parted-map : {X Y Z W : Type 0} (R : Bool → X → List Y → Type 0) (S : Bool → Z → List W → Type 0) (g : X → Z) (k : Y → W) →
+    ((more : Bool) (x : X) (ys : List Y) → R more x ys → S more (g x) (map k ys)) → (xs : List X) (ys : List Y) → Parted R xs ys → Parted S (map g xs) (map k ys)
+parted-map R S g k each [] ys h = ap (map k) h
+parted-map R S g k each (x ∷ []) ys h = each false x ys h
+parted-map R S g k each (x ∷ z ∷ xs) ys h =
+    let (front, back, whole, first, rest) = h in
+    (map k front, map k back, ap (map k) whole ∙ map-append k front back, each true x front first, parted-map R S g k each (z ∷ xs) back rest)
+
+-- ---- characters
+
+abbrev map_glyph : {A B : Type 0} → (A → B) → ℕ × A → ℕ × B
+map_glyph f g = (g.0, f g.1)
+
+module _ {A B : Type 0} (f : A → B) where
+  glyphs_of-map : (is : List (Item A)) → glyphs_of (map_items f is) ≡ map (map_glyph f) (glyphs_of is)
+  glyphs_of-map [] = refl
+  glyphs_of-map (glyph c a ∷ is) = ap (λ (gs : List (ℕ × B)). (c, f a) ∷ gs) (glyphs_of-map is)
+  glyphs_of-map (marker name ∷ is) = glyphs_of-map is
+
+  letters_of-map : (is : List (Item A)) → letters_of (map_items f is) ≡ letters_of is
+  letters_of-map [] = refl
+  letters_of-map (glyph c a ∷ is) = ap (λ cs. c ∷ cs) (letters_of-map is)
+  letters_of-map (marker name ∷ is) = letters_of-map is
+
+  entry_letters-map : (es : List (Entry A)) → entry_letters (map_run f es) ≡ entry_letters es
+  entry_letters-map [] = refl
+  entry_letters-map (character c a b m ∷ es) = ap (λ cs. c ∷ cs) (entry_letters-map es)
+  entry_letters-map (marker_entry name ∷ es) = entry_letters-map es
+
+  line_letters-map : (ls : List (List (Item A))) → map letters_of (map_lines f ls) ≡ map letters_of ls
+  line_letters-map [] = refl
+  line_letters-map (l ∷ ls) = let first = letters_of-map l in let rest = line_letters-map ls in cc
+
+  joined_letters-map : (ls : List (List (Item A))) → letters_of (joined (map_lines f ls)) ≡ letters_of (joined ls)
+  joined_letters-map ls = ap letters_of (joined-map (map_item f) ls) ∙ letters_of-map (joined ls)
+
+  joined_glyphs-map : (ls : List (List (Item A))) → glyphs_of (joined (map_lines f ls)) ≡ map (map_glyph f) (glyphs_of (joined ls))
+  joined_glyphs-map ls = ap glyphs_of (joined-map (map_item f) ls) ∙ glyphs_of-map (joined ls)
+
+  -- ---- visible characters
+
+  module _ (columns : ℕ → Option ℕ) where
+    visible_glyphs-map : (gs : List (ℕ × A)) → filter (λ g. is_visible columns g.0) (map (map_glyph f) gs) ≡ map (map_glyph f) (filter (λ g. is_visible columns g.0) gs)
+    visible_glyphs-map [] = refl
+    visible_glyphs-map (g ∷ gs) = go (visible_glyphs-map gs) (is_visible columns g.0)
+      where
+        go : filter (λ g. is_visible columns g.0) (map (map_glyph f) gs) ≡ map (map_glyph f) (filter (λ g. is_visible columns g.0) gs) → (k : Bool) →
+            (let hs : List (ℕ × B) = if k then map_glyph f g ∷ filter (λ g. is_visible columns g.0) (map (map_glyph f) gs) else filter (λ g. is_visible columns g.0) (map (map_glyph f) gs) in hs)
+            ≡ map (map_glyph f) (if k then g ∷ filter (λ g. is_visible columns g.0) gs else filter (λ g. is_visible columns g.0) gs)
+        go rest true = ap (λ (hs : List (ℕ × B)). map_glyph f g ∷ hs) rest
+        go rest false = rest
+
+    visible_entries-map : (es : List (Entry A)) → visible_entries columns (map_run f es) ≡ map_run f (visible_entries columns es)
+    visible_entries-map [] = refl
+    visible_entries-map (marker_entry name ∷ es) = visible_entries-map es
+    visible_entries-map (character c a b m ∷ es) = go (visible_entries-map es) (is_visible columns c)
+      where
+        go : visible_entries columns (map_run f es) ≡ map_run f (visible_entries columns es) → (k : Bool) →
+            (let fs : List (Entry B) = if k then character c (f a) (f b) m ∷ visible_entries columns (map_run f es) else visible_entries columns (map_run f es) in fs)
+            ≡ map_run f (if k then character c a b m ∷ visible_entries columns es else visible_entries columns es)
+        go rest true = ap (λ (fs : List (Entry B)). character c (f a) (f b) m ∷ fs) rest
+        go rest false = rest
+
+    printable_unmap : (es : List (Entry A)) → IsPrintableLine columns (map_run f es) → IsPrintableLine columns es
+    printable_unmap [] h = tt
+    printable_unmap (character c a b m ∷ es) h = (h.0, printable_unmap es h.1)
+    printable_unmap (marker_entry name ∷ es) h = absurd h.0
+
+    tabbed_unmap : (es : List (Entry A)) → IsTabbedLine columns (map_run f es) → IsTabbedLine columns es
+    tabbed_unmap [] h = tt
+    tabbed_unmap (character c a b m ∷ es) h = (h.0, tabbed_unmap es h.1)
+    tabbed_unmap (marker_entry name ∷ es) h = absurd h.0
+
+  -- ---- what is shown
+
+  module _ (Same : A → A → Type 0) (Other : B → B → Type 0) (keeps : (x y : A) → Same x y → Other (f x) (f y)) (columns : ℕ → Option ℕ) where
+    either : (x a b : A) → Same x a ⊎ Same x b → Other (f x) (f a) ⊎ Other (f x) (f b)
+    either x a b (inl h) = inl (keeps x a h)
+    either x a b (inr h) = inr (keeps x b h)
+
+    shown-map : (gs : List (ℕ × A)) (es : List (Entry A)) → AllZip (IsShown Same) gs es → AllZip (IsShown Other) (map (map_glyph f) gs) (map_run f es)
+    shown-map [] [] h = tt
+    shown-map [] (e ∷ es) h = absurd h
+    shown-map (g ∷ gs) [] h = absurd h
+    shown-map (g ∷ gs) (character c a b m ∷ es) h = ((h.0.0, either g.1 a b h.0.1), shown-map gs es h.1)
+    shown-map (g ∷ gs) (marker_entry name ∷ es) h = absurd h.0
+
+    pub visible-map : (run : List (Entry A)) (ls : List (List (Item A))) → ShowsVisible columns Same run ls → ShowsVisible columns Other (map_run f run) (map_lines f ls)
+    visible-map run ls h =
+        let glyphs = ap (filter (λ (g : ℕ × B). is_visible columns g.0)) (joined_glyphs-map ls) ∙ visible_glyphs-map columns (glyphs_of (joined ls)) in
+        rw (glyphs, visible_entries-map columns run) (shown-map (visible_glyphs columns (joined ls)) (visible_entries columns run) h)
+
+    stand-map : (Has : Entry A → A → Type 0) (HasNow : Entry B → B → Type 0) → ((e : Entry A) (x : A) → Has e x → HasNow (map_entry f e) (f x)) →
+        (gs : List (ℕ × A)) (es : List (Entry A)) → StandUnder Has gs es → StandUnder HasNow (map (map_glyph f) gs) (map_run f es)
+    stand-map Has HasNow each [] [] h = tt
+    stand-map Has HasNow each [] (e ∷ es) h = absurd h
+    stand-map Has HasNow each (g ∷ gs) [] h = absurd h
+    stand-map Has HasNow each (g ∷ gs) (e ∷ es) h = (λ other. each e g.1 (h.0 other), stand-map Has HasNow each gs es h.1)
+
+    main-map : (e : Entry A) (x : A) → HasMain Same e x → HasMain Other (map_entry f e) (f x)
+    main-map (character c a b m) x h = keeps x a h
+    main-map (marker_entry name) x h = absurd h
+
+    continuation-map : (e : Entry A) (x : A) → HasContinuation Same e x → HasContinuation Other (map_entry f e) (f x)
+    continuation-map (character c a b m) x h = keeps x b h
+    continuation-map (marker_entry name) x h = absurd h
+
+    pub hard_line-map : (more : Bool) (h : List (Entry A)) (ls : List (List (Item A))) → ShowsHardLine columns Same more h ls → ShowsHardLine columns Other more (map_run f h) (map_lines f ls)
+    hard_line-map more h ls s = record { line = λ some. omega (arith, s.line some, length-map ls (map_items f)); visible = visible-map h ls s.visible }
+
+    pub pre-map : (width : ℕ) (more : Bool) (h : List (Entry A)) (ls : List (List (Item A))) → ShowsPre columns Same width more h ls → ShowsPre columns Other width more (map_run f h) (map_lines f ls)
+    pre-map width more h ls s = record {
+      kept = rw (joined_letters-map ls, entry_letters-map h) s.kept;
+      fits = rw (line_letters-map ls, entry_letters-map h, length-map h (map_entry f)) (λ printable some fits. s.fits (printable_unmap columns h printable) some fits);
+      cut = rw (line_letters-map ls, entry_letters-map h) (λ printable begins. s.cut (printable_unmap columns h printable) begins);
+      blank = rw (line_letters-map ls, entry_letters-map h) (λ printable spaces next. s.blank (printable_unmap columns h printable) spaces next);
+      main = rw (entry_letters-map h, joined_glyphs-map ls, take-map (map_glyph f), take-map (map_entry f))
+          (λ printable begins. stand-map (HasMain Same) (HasMain Other) main-map (take width (glyphs_of (joined ls))) (take width h) (s.main (printable_unmap columns h printable) begins));
+      continuation = rw (entry_letters-map h, joined_glyphs-map ls, drop-map (map_glyph f), drop-map (map_entry f))
+          (λ printable begins. stand-map (HasContinuation Same) (HasContinuation Other) continuation-map (drop width (glyphs_of (joined ls))) (drop width h) (s.continuation (printable_unmap columns h printable) begins));
+    }
+
+  pub prewrap-map : (columns : ℕ → Option ℕ) (width : ℕ) (more : Bool) (h : List (Entry A)) (ls : List (List (Item A))) →
+      ShowsPreWrap columns width more h ls → ShowsPreWrap columns width more (map_run f h) (map_lines f ls)
+  prewrap-map columns width more h ls s = record {
+    fits = rw (line_letters-map ls, entry_letters-map h) (λ printable some fits. s.fits (printable_unmap columns h printable) some fits);
+    whole = rw (line_letters-map ls, entry_letters-map h) (λ printable. s.whole (printable_unmap columns h printable));
+  }
+
+  pub tabs-map : (columns : ℕ → Option ℕ) (width : ℕ) (more : Bool) (h : List (Entry A)) (ls : List (List (Item A))) →
+      ShowsTabs columns width more h ls → ShowsTabs columns width more (map_run f h) (map_lines f ls)
+  tabs-map columns width more h ls s = record {
+    tabs = rw (line_letters-map ls, entry_letters-map h) (λ tabbed ends fits. s.tabs (tabbed_unmap columns h tabbed) ends fits);
+  }
+
+  -- ---- all hard lines of a run
+
+  hard_parts-map : (R : Bool → List (Entry A) → List (List (Item A)) → Type 0) (S : Bool → List (Entry B) → List (List (Item B)) → Type 0) →
+      ((more : Bool) (h : List (Entry A)) (ls : List (List (Item A))) → R more h ls → S more (map_run f h) (map_lines f ls)) →
+      (run : List (Entry A)) (lines : List (List (Item A))) → Parted R (hard_lines run) lines → Parted S (hard_lines (map_run f run)) (map_lines f lines)
+  hard_parts-map R S each run lines h = rw (hard_lines-map f run) (parted-map R S (map_run f) (map_items f) each (hard_lines run) lines h)
+
+  pub all_hard_lines-map : (Same : A → A → Type 0) (Other : B → B → Type 0) → ((x y : A) → Same x y → Other (f x) (f y)) → (columns : ℕ → Option ℕ) (run : List (Entry A)) (lines : List (List (Item A))) →
+      Parted (ShowsHardLine columns Same) (hard_lines run) lines → Parted (ShowsHardLine columns Other) (hard_lines (map_run f run)) (map_lines f lines)
+  all_hard_lines-map Same Other keeps columns = hard_parts-map (ShowsHardLine columns Same) (ShowsHardLine columns Other) (hard_line-map Same Other keeps columns)
+
+  pub all_pre-map : (Same : A → A → Type 0) (Other : B → B → Type 0) → ((x y : A) → Same x y → Other (f x) (f y)) → (columns : ℕ → Option ℕ) (width : ℕ) (run : List (Entry A)) (lines : List (List (Item A))) →
+      Parted (ShowsPre columns Same width) (hard_lines run) lines → Parted (ShowsPre columns Other width) (hard_lines (map_run f run)) (map_lines f lines)
+  all_pre-map Same Other keeps columns width = hard_parts-map (ShowsPre columns Same width) (ShowsPre columns Other width) (pre-map Same Other keeps columns width)
+
+  pub all_prewrap-map : (columns : ℕ → Option ℕ) (width : ℕ) (run : List (Entry A)) (lines : List (List (Item A))) →
+      Parted (ShowsPreWrap columns width) (hard_lines run) lines → Parted (ShowsPreWrap columns width) (hard_lines (map_run f run)) (map_lines f lines)
+  all_prewrap-map columns width = hard_parts-map (ShowsPreWrap columns width) (ShowsPreWrap columns width) (prewrap-map columns width)
+
+  pub all_tabs-map : (columns : ℕ → Option ℕ) (width : ℕ) (run : List (Entry A)) (lines : List (List (Item A))) →
+      Parted (ShowsTabs columns width) (hard_lines run) lines → Parted (ShowsTabs columns width) (hard_lines (map_run f run)) (map_lines f lines)
+  all_tabs-map columns width = hard_parts-map (ShowsTabs columns width) (ShowsTabs columns width) (tabs-map columns width)

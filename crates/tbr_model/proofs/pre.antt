@@ -1,0 +1,6 @@
+-- Runs of `Pre` mode.
+pub mod KeptCharacters
+pub mod WaitingWord
+pub mod CutWord
+pub mod Tags
+pub mod HardLine

@@ -1,0 +1,135 @@
+-- What a block shows of one hard line of Pre.
+use Rattle.std.proofs.Common.{◌≡◌, ℕ, suc, ◌+◌, ◌<◌, ◌≤◌, nat_le, Bool, true, false, Option, Some, None, List, [], ◌∷◌, ◌++◌, map, fold, length, take, drop, refl, ap, sym, ◌∙◌, arith, subst, le-leb}
+use Rattle.std.specs.List.{AllByRecursion as Each}
+use Rattle.tbr_model.specs.declared.white_space.WhiteSpace.TheVariants.{Pre}
+use Rattle.tbr_model.specs.Run.{Entry, character, marker_entry, Item, items_width, has_character}
+use Rattle.tbr_model.specs.Layout.{joined}
+use Rattle.tbr_model.specs.Laid.{Laid, end_line, end_if_character}
+use Rattle.tbr_model.specs.Rule.{Event, run_of, Space, Progress, pending_width, space_text, flush_word, newline, finished, step}
+use Rattle.tbr_model.specs.Hard.{HasMode, is_newline, glyphs_of, letters_of, entry_letters, IsPrintableEntry, IsPrintableLine, IsSpaces, BeginsWithNonBlank, IsCutEvery, StandUnder, HasMain, HasContinuation, ShowsPre}
+use Rattle.tbr_model.proofs.words.Items.{back_has}
+use Rattle.tbr_model.proofs.rule.HardLineStart.{BeginsHardLine}
+use Rattle.tbr_model.proofs.rule.LaidText.{joined-end_line}
+use Rattle.tbr_model.proofs.pre.KeptCharacters.{pre_kept}
+use Rattle.tbr_model.proofs.pre.WaitingWord.{IsPlain, waiting, waiting_length, Waits, line_waits, fresh_plain, fresh_waiting}
+use Rattle.tbr_model.proofs.pre.CutWord.{IsCutOn, cut_laid}
+use Rattle.tbr_model.proofs.pre.Tags.{IsTagged, tagged_main, tagged_continuation, pre_tags}
+
+-- ---- one line
+
+-- these lines are those before a newline, and the open line has a character
+record IsShownBy {A : Type 0} (ls : List (List ℕ)) (l : Laid A) : Type 0 where
+  same : map letters_of (end_line l).done ≡ ls
+  last : has_character l.line ≡ true
+
+-- what waits stands on one line, where it fits
+fitting : {A : Type 0} (columns : ℕ → Option ℕ) (width : ℕ) (q : Progress A) → IsPlain columns q → has_character q.word ≡ true → length (waiting q) ≤ width → IsShownBy (waiting q ∷ []) (flush_word columns width q).laid
+fitting columns width q h some fits =
+    let test : nat_le (q.laid.width + (pending_width q.space + items_width columns q.word)) width ≡ true = le-leb _ _ (omega (arith, fits, h.width, waiting_length columns q h)) in
+    rw (some, test, h.done, h.line) (record { same = refl; last = back_has (space_text q.space) q.word some })
+
+-- nothing stands on one line
+nothing : {A : Type 0} (columns : ℕ → Option ℕ) (width : ℕ) (q : Progress A) → IsPlain columns q → has_character q.word ≡ false → map letters_of (end_line (flush_word columns width q).laid).done ≡ [] ∷ []
+nothing columns width q h none = rw (none, h.done, h.line) refl
+
+printable_length : {A : Type 0} (columns : ℕ → Option ℕ) (h : List (Entry A)) → Each (IsPrintableEntry columns) h → length (entry_letters h) ≡ length h
+printable_length columns [] printable = refl
+printable_length columns (character c a b m ∷ h) printable = ap suc (printable_length columns h printable.1)
+printable_length columns (marker_entry name ∷ h) printable = absurd printable.0
+
+-- a line that has a character is ended in either way
+ended_alike : {A : Type 0} (l : Laid A) → has_character l.line ≡ true → (end_line l).done ≡ (end_if_character l).done
+ended_alike l h = rw h refl
+
+-- ---- a hard line
+
+module _ {A : Type 0} (columns : ℕ → Option ℕ) (width : ℕ) (p : Progress A) (es : List (Event A)) (one_space : columns 32 ≡ Some 1) (f : BeginsHardLine p) (pre : Each (HasMode Pre) (run_of es)) where
+  abbrev q : Progress A
+  q = fold (step columns width) p es
+
+  abbrev laid : Laid A
+  laid = (flush_word columns width q).laid
+
+  waits : IsPrintableLine columns (run_of es) → Waits columns p q (entry_letters (run_of es))
+  waits printable = line_waits columns width es p one_space (fresh_plain columns p f) pre printable
+
+  all_waiting : IsPrintableLine columns (run_of es) → waiting q ≡ entry_letters (run_of es)
+  all_waiting printable = (waits printable).waiting ∙ ap (λ cs. cs ++ entry_letters (run_of es)) (fresh_waiting p f)
+
+  some_waits : IsPrintableLine columns (run_of es) → ¬ (IsSpaces (entry_letters (run_of es))) → has_character q.word ≡ true
+  some_waits printable other = go (has_character q.word) refl
+    where
+      go : (b : Bool) → has_character q.word ≡ b → has_character q.word ≡ true
+      go true e = e
+      go false e = absurd (other ((waits printable).spaces e).1)
+
+  line_fits : IsPrintableLine columns (run_of es) → ¬ (IsSpaces (entry_letters (run_of es))) → length (run_of es) ≤ width → IsShownBy (entry_letters (run_of es) ∷ []) laid
+  line_fits printable other fits =
+      let all = all_waiting printable in
+      subst (λ (cs : List ℕ). IsShownBy (cs ∷ []) (flush_word columns width q).laid) all
+      (fitting columns width q (waits printable).plain (some_waits printable other) (omega (arith, fits, ap length all, printable_length columns (run_of es) printable)))
+
+  line_blank : IsPrintableLine columns (run_of es) → IsSpaces (entry_letters (run_of es)) → map letters_of (end_line laid).done ≡ [] ∷ []
+  line_blank printable all =
+      let w = waits printable in
+      nothing columns width q w.plain (w.blank f.word all)
+
+  begins_other : (cs : List ℕ) → BeginsWithNonBlank cs → ¬ (IsSpaces cs)
+  begins_other [] h all = h
+  begins_other (c ∷ cs) h all = h all.0
+
+  line_cut : 0 < width → IsPrintableLine columns (run_of es) → BeginsWithNonBlank (entry_letters (run_of es)) → q.space ≡ None → IsCutOn width q.word laid
+  line_cut wide printable begins none =
+      cut_laid columns width q wide (waits printable).plain none (some_waits printable (begins_other (entry_letters (run_of es)) begins))
+
+  -- the lines before a newline
+  shows_ended : (Same : A → A → Type 0) → 0 < width → ((x : A) → Same x x) → Each (λ e. is_newline e ≡ false) (run_of es) → ShowsPre columns Same width true (run_of es) (end_line laid).done
+  shows_ended Same wide reflexive more = record {
+    kept = (pre_kept columns width p es f pre more).0;
+    fits = λ printable other fits. (line_fits printable other fits).same;
+    cut = λ printable begins.
+        (let none = (tags printable begins).1 in
+        let word : letters_of q.word ≡ entry_letters (run_of es) = ap (λ (o : Option (Space A)). letters_of (space_text o ++ q.word)) (sym none) ∙ all_waiting printable in
+        subst (λ (cs : List ℕ). IsCutEvery width cs (map letters_of (end_line laid).done)) word (line_cut wide printable begins none).cut);
+    blank = λ printable all _. line_blank printable all;
+    main = λ printable begins.
+        (let t = tags printable begins in
+        rw (glyphs printable begins) (tagged_main Same width 0 width (glyphs_of q.word) (run_of es) (omega arith) t.0));
+    continuation = λ printable begins.
+        (let t = tags printable begins in
+        rw (glyphs printable begins) (tagged_continuation Same width 0 width (glyphs_of q.word) (run_of es) (omega arith) t.0));
+  }
+    where
+      tags : IsPrintableLine columns (run_of es) → BeginsWithNonBlank (entry_letters (run_of es)) → IsTagged Same width 0 (glyphs_of q.word) (run_of es) × (q.space ≡ None)
+      tags printable begins = pre_tags columns Same width reflexive one_space p es f pre printable begins
+
+      glyphs : IsPrintableLine columns (run_of es) → BeginsWithNonBlank (entry_letters (run_of es)) → glyphs_of (joined (end_line laid).done) ≡ glyphs_of q.word
+      glyphs printable begins = ap glyphs_of (joined-end_line laid ∙ (line_cut wide printable begins (tags printable begins).1).whole)
+
+  -- the lines at the end of the run
+  shows_freshened : (Same : A → A → Type 0) → 0 < width → ((x : A) → Same x x) → Each (λ e. is_newline e ≡ false) (run_of es) → ShowsPre columns Same width false (run_of es) (end_if_character laid).done
+  shows_freshened Same wide reflexive more = record {
+    kept = (pre_kept columns width p es f pre more).1;
+    fits = λ printable other fits.
+        subst (λ (ls : List (List (Item A))). map letters_of ls ≡ entry_letters (run_of es) ∷ []) (ended_alike laid (line_fits printable other fits).last) (shown.fits printable other fits);
+    cut = λ printable begins. subst (λ (ls : List (List (Item A))). IsCutEvery width (entry_letters (run_of es)) (map letters_of ls)) (alike printable begins) (shown.cut printable begins);
+    blank = λ printable all follows. cc;
+    main = λ printable begins.
+        subst (λ (ls : List (List (Item A))). StandUnder (HasMain Same) (take width (glyphs_of (joined ls))) (take width (run_of es))) (alike printable begins) (shown.main printable begins);
+    continuation = λ printable begins.
+        subst (λ (ls : List (List (Item A))). StandUnder (HasContinuation Same) (drop width (glyphs_of (joined ls))) (drop width (run_of es))) (alike printable begins) (shown.continuation printable begins);
+  }
+    where
+      shown : ShowsPre columns Same width true (run_of es) (end_line laid).done
+      shown = shows_ended Same wide reflexive more
+
+      alike : IsPrintableLine columns (run_of es) → BeginsWithNonBlank (entry_letters (run_of es)) → (end_line laid).done ≡ (end_if_character laid).done
+      alike printable begins = ended_alike laid (line_cut wide printable begins (pre_tags columns Same width reflexive one_space p es f pre printable begins).1).last
+
+-- one hard line of a run of Pre, before a newline and at the end of the run
+pub pre_line : {A : Type 0} (columns : ℕ → Option ℕ) (Same : A → A → Type 0) (width : ℕ) → columns 32 ≡ Some 1 → 0 < width → ((x : A) → Same x x) → (p : Progress A) (es : List (Event A)) → BeginsHardLine p →
+    Each (HasMode Pre) (run_of es) → Each (λ e. is_newline e ≡ false) (run_of es) →
+    ShowsPre columns Same width true (run_of es) (newline (flush_word columns width (fold (step columns width) p es))).laid.done
+    × ShowsPre columns Same width false (run_of es) (finished columns width (fold (step columns width) p es)).done
+pre_line columns Same width one_space wide reflexive p es f pre more =
+    (shows_ended columns width p es one_space f pre Same wide reflexive more, shows_freshened columns width p es one_space f pre Same wide reflexive more)

@@ -1,0 +1,6 @@
+-- Runs of `PreWrap` mode.
+pub mod Entry
+pub mod FittingLine
+pub mod Stretches
+pub mod LaidWord
+pub mod HardLine

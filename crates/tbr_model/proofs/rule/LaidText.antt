@@ -1,0 +1,90 @@
+-- What a block has laid, as one text, and the characters of a text.
+use Rattle.std.proofs.Common.{◌≡◌, ℕ, zero, suc, ◌+◌, ◌-◌, ◌%◌, nat_le, ◌==◌, false, Option, Some, None, List, [], ◌∷◌, ◌++◌, map, filter, refl, ap, sym, ◌∙◌, append_assoc, append-nil}
+use Rattle.std.proofs.lemmas.Bool.{cond_both}
+use Rattle.std.proofs.lemmas.List.Elements.{filter-append}
+use Rattle.tbr_model.specs.Run.{Item, glyph, item_width, is_kept, has_character}
+use Rattle.tbr_model.specs.Layout.{joined}
+use Rattle.tbr_model.specs.Laid.{Laid, extended, end_line, end_if_character, end_if_columns, put_item, put_items}
+use Rattle.tbr_model.specs.Rule.{Space, spaces, space_text, put_space, put_spaces, put_pending, put_tab}
+use Rattle.tbr_model.specs.Hard.{letters_of}
+use Rattle.tbr_model.proofs.words.Items.{letters_of-append, no_glyphs, break_lost}
+use Rattle.tbr_model.proofs.lists.Joined.{joined-append}
+
+abbrev pub text : {A : Type 0} → Laid A → List (Item A)
+text l = joined l.done ++ l.line
+
+-- ---- each way to lay
+
+pub text-extended : {A : Type 0} (l : Laid A) (is : List (Item A)) (n : ℕ) → text (extended l is n) ≡ text l ++ is
+text-extended l is n = sym (append_assoc (joined l.done) l.line is)
+
+pub joined-end_line : {A : Type 0} (l : Laid A) → joined (end_line l).done ≡ text l
+joined-end_line l = joined-append l.done (l.line ∷ []) ∙ ap (λ is. joined l.done ++ is) (append-nil l.line)
+
+pub text-end_line : {A : Type 0} (l : Laid A) → text (end_line l) ≡ text l
+text-end_line l = append-nil (joined (end_line l).done) ∙ joined-end_line l
+
+pub text-end_if_character : {A : Type 0} (l : Laid A) → text (end_if_character l) ≡ text l
+text-end_if_character {A} l = cond_both (has_character l.line) _ _ (λ (m : Laid A). text m ≡ text l) (λ _. text-end_line l) (λ _. refl)
+
+text-end_if_columns : {A : Type 0} (l : Laid A) → text (end_if_columns l) ≡ text l
+text-end_if_columns {A} l = cond_both (l.width == 0) _ _ (λ (m : Laid A). text m ≡ text l) (λ _. refl) (λ _. text-end_line l)
+
+text-put_item : {A : Type 0} (columns : ℕ → Option ℕ) (width : ℕ) (l : Laid A) (i : Item A) → text (put_item columns width l i) ≡ text l ++ i ∷ []
+text-put_item {A} columns width l i =
+    cond_both (nat_le (l.width + item_width columns i) width) _ _ Holds (λ _. text-extended l (i ∷ []) (item_width columns i))
+    (λ _. cond_both (nat_le (item_width columns i) width) _ _ Holds
+    (λ _. text-extended (end_line l) (i ∷ []) (item_width columns i) ∙ ap (λ is. is ++ i ∷ []) (text-end_line l))
+    (λ _. text-end_line (extended (end_if_columns l) (i ∷ []) (item_width columns i)) ∙ text-extended (end_if_columns l) (i ∷ []) (item_width columns i) ∙ ap (λ is. is ++ i ∷ []) (text-end_if_columns l)))
+  where
+    Holds : Laid A → Type 0
+    Holds m = text m ≡ text l ++ i ∷ []
+
+pub text-put_items : {A : Type 0} (columns : ℕ → Option ℕ) (width : ℕ) (is : List (Item A)) (l : Laid A) → text (put_items columns width l is) ≡ text l ++ is
+text-put_items columns width [] l = sym (append-nil (text l))
+text-put_items columns width (i ∷ is) l =
+    text-put_items columns width is (put_item columns width l i) ∙ ap (λ js. js ++ is) (text-put_item columns width l i) ∙ append_assoc (text l) (i ∷ []) is
+
+text-put_space : {A : Type 0} (width : ℕ) (a : A) (l : Laid A) → text (put_space width a l) ≡ text l ++ glyph 32 a ∷ []
+text-put_space {A} width a l =
+    cond_both (l.width + 1 == width) _ _ (λ (m : Laid A). text m ≡ text l ++ glyph 32 a ∷ [])
+    (λ _. text-end_line (extended l (glyph 32 a ∷ []) 1) ∙ text-extended l (glyph 32 a ∷ []) 1) (λ _. text-extended l (glyph 32 a ∷ []) 1)
+
+text-put_spaces : {A : Type 0} (width : ℕ) (a : A) (n : ℕ) (l : Laid A) → text (put_spaces width a n l) ≡ text l ++ spaces n a
+text-put_spaces width a zero l = sym (append-nil (text l))
+text-put_spaces width a (suc n) l =
+    text-put_spaces width a n (put_space width a l) ∙ ap (λ js. js ++ spaces n a) (text-put_space width a l) ∙ append_assoc (text l) (glyph 32 a ∷ []) (spaces n a)
+
+pub text-put_pending : {A : Type 0} (width : ℕ) (o : Option (Space A)) (l : Laid A) → text (put_pending width o l) ≡ text l ++ space_text o
+text-put_pending width None l = sym (append-nil (text l))
+text-put_pending width (Some s) l = text-put_spaces width s.tag s.width l
+
+-- a tab is some spaces
+pub text-put_tab : {A : Type 0} (width column : ℕ) (a : A) (l : Laid A) → (n : ℕ) × (text (put_tab width column a l) ≡ text l ++ spaces n a)
+text-put_tab {A} width column a l =
+    cond_both (nat_le (8 - column % 8) (width - column)) _ _ (λ (m : Laid A). (n : ℕ) × (text m ≡ text l ++ spaces n a))
+    (λ _. (8 - column % 8, text-extended l (spaces (8 - column % 8) a) (8 - column % 8)))
+    (λ _. (width - column, text-end_line (extended l (spaces (width - column) a) (width - column)) ∙ text-extended l (spaces (width - column) a) (width - column)))
+
+-- ---- characters
+
+-- the characters that are kept
+abbrev pub kept_of : {A : Type 0} → (ℕ → Option ℕ) → List (Item A) → List ℕ
+kept_of columns is = filter (is_kept columns) (letters_of is)
+
+pub kept-append : {A : Type 0} (columns : ℕ → Option ℕ) (a b : List (Item A)) → kept_of columns (a ++ b) ≡ kept_of columns a ++ kept_of columns b
+kept-append columns a b = ap (filter (is_kept columns)) (letters_of-append a b) ∙ filter-append (is_kept columns) (letters_of a) (letters_of b)
+
+pub none_kept : {A : Type 0} (columns : ℕ → Option ℕ) (is : List (Item A)) → has_character is ≡ false → kept_of columns is ≡ []
+none_kept columns is h = ap (λ gs. filter (is_kept columns) (map (λ g. g.0) gs)) (no_glyphs is h)
+
+pub kept_one : {A : Type 0} (columns : ℕ → Option ℕ) (c : ℕ) (a : A) → is_kept columns c ≡ false → kept_of columns (glyph c a ∷ []) ≡ []
+kept_one columns c a h = rw h refl
+
+pub kept-spaces : {A : Type 0} (columns : ℕ → Option ℕ) (n : ℕ) (a : A) → kept_of columns (spaces n a) ≡ []
+kept-spaces columns zero a = refl
+kept-spaces columns (suc n) a = let e : is_kept columns 32 ≡ false = break_lost columns 32 refl in rw e (kept-spaces columns n a)
+
+pub kept-space_text : {A : Type 0} (columns : ℕ → Option ℕ) (o : Option (Space A)) → kept_of columns (space_text o) ≡ []
+kept-space_text columns None = refl
+kept-space_text columns (Some s) = kept-spaces columns s.width s.tag

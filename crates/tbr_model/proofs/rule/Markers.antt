@@ -1,0 +1,89 @@
+-- How a block goes on keeps the markers, in order.
+use Rattle.std.proofs.Common.{◌≡◌, ℕ, true, false, Option, List, [], ◌∷◌, ◌++◌, map, fold, refl, ap, sym, ◌∙◌, append_assoc, append-nil}
+use Rattle.std.specs.List.{AllZip}
+use Rattle.tbr_model.specs.Run.{Entry, character, marker_entry, Item, glyph, marker, has_character}
+use Rattle.tbr_model.specs.Layout.{joined}
+use Rattle.tbr_model.specs.Laid.{end_if_character}
+use Rattle.tbr_model.specs.Rule.{Event, entry, run_of, Progress, at_start, flush_word, enter, step, progress, finished, waiting, lines_of}
+use Rattle.tbr_model.specs.Markers.{names_in_items, names_in_run, marker_run, marker_items}
+use Rattle.tbr_model.proofs.words.Items.{has_character-append}
+use Rattle.tbr_model.proofs.rule.Content.{LooksAtVisible, StandsFor, content, fold_content, finished_content}
+use Rattle.tbr_model.proofs.rule.HardLines.{no_character_after_end, flush_flushes}
+
+-- ---- items and entries
+
+names_in_items-append : {A : Type 0} (is js : List (Item A)) → names_in_items (is ++ js) ≡ names_in_items is ++ names_in_items js
+names_in_items-append [] js = refl
+names_in_items-append (glyph c a ∷ is) js = names_in_items-append is js
+names_in_items-append (marker name ∷ is) js = ap (λ ns. name ∷ ns) (names_in_items-append is js)
+
+pub names_in_run-append : {A : Type 0} (es fs : List (Entry A)) → names_in_run (es ++ fs) ≡ names_in_run es ++ names_in_run fs
+names_in_run-append [] fs = refl
+names_in_run-append (character c a b mode ∷ es) fs = names_in_run-append es fs
+names_in_run-append (marker_entry name ∷ es) fs = ap (λ ns. name ∷ ns) (names_in_run-append es fs)
+
+-- items without a character are markers alone
+pub marker_items_alone : {A : Type 0} (is : List (Item A)) → has_character is ≡ false → is ≡ marker_items (names_in_items is)
+marker_items_alone [] h = refl
+marker_items_alone (glyph c a ∷ is) h = cc
+marker_items_alone (marker name ∷ is) h = ap (λ js. marker name ∷ js) (marker_items_alone is h)
+
+looks_at_markers : {A : Type 0} (columns : ℕ → Option ℕ) → LooksAtVisible {A = A} columns names_in_items
+looks_at_markers columns = record { append = names_in_items-append; nothing = refl; hidden = λ c a h. refl }
+
+-- items that stand for entries have their markers
+names_alike : {A : Type 0} (is : List (Item A)) (es : List (Entry A)) → AllZip StandsFor is es → names_in_items is ≡ names_in_run es
+names_alike [] [] h = refl
+names_alike [] (e ∷ es) h = elim h [ ]
+names_alike (i ∷ is) [] h = elim h [ ]
+names_alike (glyph c x ∷ is) (character d a b m ∷ es) h = names_alike is es h.1
+names_alike (glyph c x ∷ is) (marker_entry name ∷ es) h = elim h.0 [ ]
+names_alike (marker name ∷ is) (character d a b m ∷ es) h = elim h.0 [ ]
+names_alike (marker name ∷ is) (marker_entry other ∷ es) h = rw (h.0) (ap (λ ns. other ∷ ns) (names_alike is es h.1))
+
+module _ {A : Type 0} (columns : ℕ → Option ℕ) (width : ℕ) where
+  -- ---- a run
+
+  named : (es : List (Event A)) → content columns names_in_items (looks_at_markers columns) (progress columns width es) ≡ names_in_run (run_of es)
+  named es =
+      let (is, stand, found) = fold_content columns names_in_items (looks_at_markers columns) width es at_start in
+      found ∙ names_alike is (run_of es) stand
+
+  -- The markers of a run stand on its lines and in its word once, in order.
+  pub markers_run : (es : List (Event A)) → let p = progress columns width es in names_in_items (joined p.laid.done) ++ (names_in_items p.laid.line ++ names_in_items p.word) ≡ names_in_run (run_of es)
+  markers_run es =
+      let p : Progress A = progress columns width es in
+      sym (append_assoc (names_in_items (joined p.laid.done)) (names_in_items p.laid.line) (names_in_items p.word))
+      ∙ ap (λ ns. ns ++ names_in_items p.word) (sym (names_in_items-append (joined p.laid.done) p.laid.line)) ∙ named es
+
+  -- at its end they stand on its lines, or wait
+  pub markers_at_end : (es : List (Event A)) → names_in_items (joined (lines_of columns width es)) ++ names_in_items (waiting columns width (progress columns width es)) ≡ names_in_run (run_of es)
+  markers_at_end es =
+      let p : Progress A = progress columns width es in
+      let q : Progress A = flush_word columns width p in
+      ap (λ ns. names_in_items (joined (end_if_character q.laid).done) ++ ns) (names_in_items-append (end_if_character q.laid).line q.word)
+      ∙ sym (append_assoc (names_in_items (joined (end_if_character q.laid).done)) (names_in_items (end_if_character q.laid).line) (names_in_items q.word))
+      ∙ ap (λ ns. ns ++ names_in_items q.word) (sym (names_in_items-append (joined (end_if_character q.laid).done) (end_if_character q.laid).line))
+      ∙ finished_content columns names_in_items (looks_at_markers columns) width p ∙ named es
+
+  -- no character waits
+  pub waiting_none : (p : Progress A) → has_character (waiting columns width p) ≡ false
+  waiting_none p =
+      let q : Progress A = flush_word columns width p in
+      has_character-append (end_if_character q.laid).line q.word ∙ rw (no_character_after_end q.laid) (flush_flushes columns width p)
+
+  -- ---- a run of markers alone
+
+  fold_markers : (names : List (List ℕ)) (p : Progress A) → fold (step columns width) p (map (λ n. entry (marker_entry n)) names) ≡ record p { word = p.word ++ marker_items names }
+  fold_markers [] p = ap (λ (is : List (Item A)). let q : Progress A = record p { word = is } in q) (sym (append-nil p.word))
+  fold_markers (name ∷ names) p =
+      fold_markers names (enter columns width p (marker_entry name))
+      ∙ ap (λ (is : List (Item A)). let q : Progress A = record p { word = is } in q) (append_assoc p.word (marker name ∷ []) (marker_items names))
+
+  -- markers alone are the word
+  pub markers_lead : (names : List (List ℕ)) → progress {A = A} columns width (map (λ n. entry (marker_entry n)) names) ≡ record at_start { word = marker_items names }
+  markers_lead names = fold_markers names at_start
+
+pub run_of_markers : {A : Type 0} (names : List (List ℕ)) → run_of {A = A} (map (λ n. entry (marker_entry n)) names) ≡ marker_run names
+run_of_markers [] = refl
+run_of_markers {A} (name ∷ names) = ap (λ (es : List (Entry A)). marker_entry name ∷ es) (run_of_markers names)

@@ -1,0 +1,338 @@
+-- Markers at the end of the word under way can be taken out of the run.
+use Rattle.std.proofs.Common.{◌≡◌, ℕ, zero, suc, ◌+◌, ◌-◌, ◌≤◌, ◌⊎◌, inl, inr, ◌==◌, ◌&&◌, ◌||◌, Bool, true, false, nat_le, nat_lt, if◌then◌else◌, is_some, is_none, Option, Some, None, List, [], ◌∷◌, ◌++◌, length, drop, refl, ap, sym, ◌∙◌, subst, arith, append_assoc, append-nil, length-append, ltb-true, ltb-false, lt-ltb}
+use Rattle.std.proofs.lemmas.Bool.{cond_both, le-ltb, or_parts}
+use Rattle.std.proofs.lemmas.List.Sums.{fold-append}
+use Rattle.tbr_model.specs.declared.white_space.WhiteSpace.{WhiteSpace}
+use Rattle.tbr_model.specs.declared.white_space.WhiteSpace.TheVariants.{Normal, Pre, PreWrap}
+use Rattle.tbr_model.specs.Run.{Entry, character, marker_entry, Item, glyph, marker, items_width, has_character, is_blank, is_break}
+use Rattle.tbr_model.specs.Laid.{extended, end_if_character, put_items}
+use Rattle.tbr_model.specs.Rule.{Event, call, entry, run_of, Space, Progress, at_start, spaces, pending_width, space_of, is_white_item, without_leading, wrap_space_by, wrap_space, put_pending, lay_here, lay_fresh, lay, flush_word, break_word, join, collapse, newline, tab, keep_space, is_pre, passes, tag_of, keep_character, preserve, enter_normal, enter, step, progress}
+use Rattle.tbr_model.specs.Markers.{names_in_run, last, without_last_markers}
+use Rattle.tbr_model.proofs.words.Items.{items_width-append, has_character-append, back_has, no_character_no_width}
+use Rattle.tbr_model.proofs.rule.HardLines.{run_of-append}
+use Rattle.std.proofs.Math.Bool.{or-false}
+use Rattle.tbr_model.proofs.rule.Markers.{names_in_run-append}
+
+-- ---- the last markers of a run
+
+pub without_none : {A : Type 0} (es : List (Entry A)) → without_last_markers 0 es ≡ es
+without_none [] = refl
+without_none {A} (character c a b mode ∷ es) = ap (λ (fs : List (Entry A)). character c a b mode ∷ fs) (without_none es)
+without_none {A} (marker_entry name ∷ es) = rw (le-ltb (length (names_in_run es)) 0 (omega arith)) (ap (λ (fs : List (Entry A)). marker_entry name ∷ fs) (without_none es))
+
+pub without_last-append : {A : Type 0} (n : ℕ) (es fs : List (Entry A)) → length (names_in_run fs) ≤ n →
+    without_last_markers n (es ++ fs) ≡ without_last_markers (n - length (names_in_run fs)) es ++ without_last_markers n fs
+without_last-append n [] fs h = refl
+without_last-append {A} n (character c a b mode ∷ es) fs h = ap (λ (gs : List (Entry A)). character c a b mode ∷ gs) (without_last-append n es fs h)
+without_last-append {A} n (marker_entry name ∷ es) fs h = go (nat_lt (length (names_in_run es)) (n - length (names_in_run fs))) refl (without_last-append n es fs h)
+  where
+    both : length (names_in_run (es ++ fs)) ≡ length (names_in_run es) + length (names_in_run fs)
+    both = ap length (names_in_run-append es fs) ∙ length-append (names_in_run es) (names_in_run fs)
+
+    go : (x : Bool) → nat_lt (length (names_in_run es)) (n - length (names_in_run fs)) ≡ x →
+        without_last_markers n (es ++ fs) ≡ without_last_markers (n - length (names_in_run fs)) es ++ without_last_markers n fs →
+        without_last_markers n (marker_entry name ∷ (es ++ fs)) ≡ without_last_markers (n - length (names_in_run fs)) (marker_entry name ∷ es) ++ without_last_markers n fs
+    go true e rest =
+        let test : nat_lt (length (names_in_run (es ++ fs))) n ≡ true = lt-ltb _ _ (omega (arith, both, ltb-true _ _ e)) in
+        rw (test, e) rest
+    go false e rest =
+        let test : nat_lt (length (names_in_run (es ++ fs))) n ≡ false = le-ltb _ _ (omega (arith, both, ltb-false _ _ e)) in
+        rw (test, e) (ap (λ (gs : List (Entry A)). marker_entry name ∷ gs) rest)
+
+-- one more character, and one more marker that goes
+without_behind : {A : Type 0} (n : ℕ) (es : List (Entry A)) (c : ℕ) (a b : A) (mode : WhiteSpace) → without_last_markers n (es ++ character c a b mode ∷ []) ≡ without_last_markers n es ++ character c a b mode ∷ []
+without_behind {A} n es c a b mode =
+    without_last-append n es (character c a b mode ∷ []) (omega arith)
+    ∙ ap (λ k. without_last_markers k es ++ character c a b mode ∷ []) (let e : n - 0 ≡ n = omega arith in e)
+
+without_one : {A : Type 0} (n : ℕ) (es : List (Entry A)) (name : List ℕ) → without_last_markers (n + 1) (es ++ marker_entry name ∷ []) ≡ without_last_markers n es
+without_one {A} n es name =
+    let goes : nat_lt 0 (n + 1) ≡ true = lt-ltb _ _ (omega arith) in
+    let one : List (Entry A) = marker_entry name ∷ [] in
+    let alone : without_last_markers (n + 1) one ≡ [] = rw goes refl in
+    without_last-append (n + 1) es (marker_entry name ∷ []) (omega arith)
+    ∙ ap (λ (fs : List (Entry A)). without_last_markers ((n + 1) - 1) es ++ fs) alone ∙ append-nil (without_last_markers ((n + 1) - 1) es)
+    ∙ ap (λ k. without_last_markers k es) (let e : (n + 1) - 1 ≡ n = omega arith in e)
+
+none_left : {A : Type 0} (n : ℕ) (es : List (Entry A)) → length (names_in_run es) ≤ n → names_in_run (without_last_markers n es) ≡ []
+none_left n [] h = refl
+none_left n (character c a b mode ∷ es) h = none_left n es h
+none_left n (marker_entry name ∷ es) h =
+    let goes : nat_lt (length (names_in_run es)) n ≡ true = lt-ltb _ _ (omega arith) in
+    rw goes (none_left n es (omega arith))
+
+-- the markers that are left, and the last ones
+pub last_names : {A : Type 0} (n : ℕ) (es : List (Entry A)) → names_in_run (without_last_markers n es) ++ last n (names_in_run es) ≡ names_in_run es
+last_names n [] = drop_nil (0 - n)
+  where
+    drop_nil : (k : ℕ) → drop k (let l : List (List ℕ) = [] in l) ≡ []
+    drop_nil zero = refl
+    drop_nil (suc k) = refl
+last_names n (character c a b mode ∷ es) = last_names n es
+last_names {A} n (marker_entry name ∷ es) = go (nat_lt (length (names_in_run es)) n) refl (last_names n es)
+  where
+    go : (x : Bool) → nat_lt (length (names_in_run es)) n ≡ x → names_in_run (without_last_markers n es) ++ last n (names_in_run es) ≡ names_in_run es →
+        names_in_run (without_last_markers n (marker_entry name ∷ es)) ++ last n (name ∷ names_in_run es) ≡ name ∷ names_in_run es
+    go true e rest =
+        let all : suc (length (names_in_run es)) - n ≡ 0 = omega (arith, ltb-true _ _ e) in
+        rw (e, all, none_left n es (omega (arith, ltb-true _ _ e))) refl
+    go false e rest =
+        let one : suc (length (names_in_run es)) - n ≡ suc (length (names_in_run es) - n) = omega (arith, ltb-false _ _ e) in
+        rw (e, one) (ap (λ ns. name ∷ ns) rest)
+
+-- ---- markers at the end of items
+
+append_none : {X : Type 0} (a b : List X) → [] ≡ a ++ b → b ≡ []
+append_none [] b h = sym h
+append_none (x ∷ a) b h = cc
+
+-- the back of a list is nothing, or it has the last item
+last_of_back : {X : Type 0} (w : List X) (x : X) (front back : List X) → w ++ x ∷ [] ≡ front ++ back →
+    (back ≡ []) ⊎ ((rest : List X) × (back ≡ rest ++ x ∷ []) × (w ≡ front ++ rest))
+last_of_back w x [] back h = inr (w, sym h, refl)
+last_of_back [] x (y ∷ front) back h = let none : [] ≡ front ++ back = cc in inl (append_none front back none)
+last_of_back (z ∷ w) x (y ∷ front) back h =
+    let same : z ≡ y = cc in
+    let others : w ++ x ∷ [] ≡ front ++ back = cc in
+    elim (last_of_back w x front back others) [
+      | inl none ↦ inl none
+      | inr r ↦ inr (r.0, r.1, (let p : w ≡ front ++ r.0 = r.2 in cc))
+    ]
+
+has_front : {A : Type 0} (is front ms : List (Item A)) → is ≡ front ++ ms → has_character ms ≡ false → has_character front ≡ has_character is
+has_front is front ms e h = sym (ap has_character e ∙ has_character-append front ms ∙ ap (λ x. has_character front || x) h ∙ or-false (has_character front))
+
+width_front : {A : Type 0} (columns : ℕ → Option ℕ) (is front ms : List (Item A)) → is ≡ front ++ ms → has_character ms ≡ false → items_width columns front ≡ items_width columns is
+width_front columns is front ms e h = omega (arith, ap (items_width columns) e, items_width-append columns front ms, no_character_no_width columns ms h)
+
+-- what is left behind white space, with the white space
+leading_front : {A : Type 0} (is front ms : List (Item A)) → without_leading is ≡ front ++ ms → (before : List (Item A)) × (is ≡ before ++ ms) × (without_leading before ≡ front)
+leading_front [] [] ms h = ([], h, refl)
+leading_front [] (j ∷ front) ms h = cc
+leading_front {A} (i ∷ is) front ms h = go (is_white_item i) refl (leading_front is front ms) h
+  where
+    kept : (front : List (Item A)) → i ∷ is ≡ front ++ ms → is_white_item i ≡ false → without_leading front ≡ front
+    kept [] e w = refl
+    kept (j ∷ front) e w = let same : i ≡ j = cc in let not : is_white_item j ≡ false = rw (← same) w in rw not refl
+
+    go : (x : Bool) → is_white_item i ≡ x → (without_leading is ≡ front ++ ms → (before : List (Item A)) × (is ≡ before ++ ms) × (without_leading before ≡ front)) →
+        (if x then without_leading is else i ∷ is) ≡ front ++ ms → (before : List (Item A)) × (i ∷ is ≡ before ++ ms) × (without_leading before ≡ front)
+    go true w others e = let (before, whole, left) = others e in (i ∷ before, ap (λ (js : List (Item A)). i ∷ js) whole, rw w left)
+    go false w others e = (front, e, kept front e w)
+
+-- ---- a step of the rule
+
+module _ {A : Type 0} where
+  abbrev with_word : Progress A → List (Item A) → Progress A
+  with_word p is = record p { word = is }
+
+  -- no markers end the word
+  abbrev EndsWhole : Progress A → Type 0
+  EndsWhole p = (front ms : List (Item A)) → has_character ms ≡ false → p.word ≡ front ++ ms → ms ≡ []
+
+  -- markers that end the word behind the step end it before, and the step goes the same way without them
+  abbrev Leaves : (Progress A → Progress A) → Progress A → Type 0
+  Leaves f p = (front ms : List (Item A)) → has_character ms ≡ false → (f p).word ≡ front ++ ms →
+      (ms ≡ []) ⊎ ((before : List (Item A)) × (p.word ≡ before ++ ms) × (f (with_word p before) ≡ with_word (f p) front))
+
+  joined_whole : (c : ℕ) (a : A) (mode : WhiteSpace) (p : Progress A) → EndsWhole (join c a mode p)
+  joined_whole c a mode p front ms h e = elim (last_of_back p.word (glyph c a) front ms e) [
+    | inl none ↦ none
+    | inr r ↦ absurd (let some : has_character (r.0 ++ glyph c a ∷ []) ≡ true = back_has r.0 (glyph c a ∷ []) refl in let all : ms ≡ r.0 ++ glyph c a ∷ [] = r.1 in cc)
+  ]
+
+  whole_leaves : (f : Progress A → Progress A) (p : Progress A) → EndsWhole (f p) → Leaves f p
+  whole_leaves f p whole front ms h e = inl (whole front ms h e)
+
+  leaves_then : (f g : Progress A → Progress A) (p : Progress A) → Leaves f p → Leaves g (f p) → Leaves (λ q. g (f q)) p
+  leaves_then f g p first second front ms h e = elim (second front ms h e) [
+    | inl none ↦ inl none
+    | inr s ↦ elim (first s.0 ms h s.1) [ inl none ↦ inl none | inr r ↦ inr (r.0, r.1, ap g r.2 ∙ s.2) ]
+  ]
+
+  -- a test that markers at the end of the word don't change
+  abbrev IsBlind : (Progress A → Bool) → Type 0
+  IsBlind t = (p : Progress A) (before ms : List (Item A)) → p.word ≡ before ++ ms → has_character ms ≡ false → t (with_word p before) ≡ t p
+
+  leaves_if : (t : Progress A → Bool) (f g : Progress A → Progress A) (p : Progress A) → IsBlind t → (t p ≡ true → Leaves f p) → (t p ≡ false → Leaves g p) → Leaves (λ q. if t q then f q else g q) p
+  leaves_if t f g p blind h k = go (t p) refl
+    where
+      go : (x : Bool) → t p ≡ x → Leaves (λ q. if t q then f q else g q) p
+      go true is front ms none e =
+          let here : (if t p then f p else g p) ≡ f p = rw is refl in
+          elim (h is front ms none (sym (ap (λ (q : Progress A). q.word) here) ∙ e)) [
+            | inl all ↦ inl all
+            | inr r ↦ inr (r.0, r.1, (let same : t (with_word p r.0) ≡ true = blind p r.0 ms r.1 none ∙ is in rw (same, is) r.2))
+          ]
+      go false is front ms none e =
+          let here : (if t p then f p else g p) ≡ g p = rw is refl in
+          elim (k is front ms none (sym (ap (λ (q : Progress A). q.word) here) ∙ e)) [
+            | inl all ↦ inl all
+            | inr r ↦ inr (r.0, r.1, (let same : t (with_word p r.0) ≡ false = blind p r.0 ms r.1 none ∙ is in rw (same, is) r.2))
+          ]
+
+  blind_character : IsBlind (λ q. has_character q.word)
+  blind_character p before ms e h = has_front p.word before ms e h
+
+  -- ---- what leaves the word
+
+  newline_leaves : (p : Progress A) → Leaves newline p
+  newline_leaves p front ms h e = inr (front, e, refl)
+
+  tab_leaves : (width : ℕ) (a : A) (p : Progress A) → Leaves (tab width a) p
+  tab_leaves width a p front ms h e = inr (front, e, refl)
+
+  collapse_leaves : (c : ℕ) (a : A) (p : Progress A) → Leaves (collapse c a) p
+  collapse_leaves c a p =
+      leaves_if (λ q. is_blank c && (nat_lt 0 q.laid.width && is_none q.space)) (λ q. record q { space = space_of 1 a Normal }) (λ q. q) p
+      (λ q before ms e h. refl) (λ _ front ms h e. inr (front, e, refl)) (λ _ front ms h e. inr (front, e, refl))
+
+  keep_space_leaves : (c : ℕ) (a : A) (mode : WhiteSpace) (o : Option ℕ) (p : Progress A) → Leaves (keep_space c a mode o) p
+  keep_space_leaves c a mode None p = λ front ms h e. inr (front, e, refl)
+  keep_space_leaves c a mode (Some n) p =
+      leaves_if (λ q. has_character q.word) (join c a mode) (λ q. record q { space = space_of (pending_width q.space + n) a mode }) p blind_character
+      (λ _. whole_leaves (join c a mode) p (joined_whole c a mode p)) (λ _ front ms h e. inr (front, e, refl))
+
+module _ {A : Type 0} (columns : ℕ → Option ℕ) (width : ℕ) where
+  unfit_by_leaves : (p : Progress A) (s : Space A) (mode : WhiteSpace) → Leaves (λ q. wrap_space_by columns width q s mode) p
+  unfit_by_leaves p s Normal = λ front ms h e. inr (front, e, refl)
+  unfit_by_leaves p s Pre =
+      leaves_if (λ q. nat_le (width - q.laid.width) s.width) (λ q. record q { space = space_of (s.width - (width - q.laid.width)) s.tag Pre })
+      (λ q. record q { laid = extended q.laid (spaces s.width s.tag) s.width; space = None }) p (λ q before ms e h. refl) (λ _ front ms h e. inr (front, e, refl)) (λ _ front ms h e. inr (front, e, refl))
+  unfit_by_leaves p s PreWrap = λ front ms h e.
+      let (before, whole, left) = leading_front p.word front ms e in
+      inr (before, whole, ap (with_word (wrap_space_by columns width p s PreWrap)) left)
+
+  unfit_leaves : (p : Progress A) (o : Option (Space A)) → Leaves (λ q. wrap_space columns width q o) p
+  unfit_leaves p None = λ front ms h e. inr (front, e, refl)
+  unfit_leaves p (Some s) = unfit_by_leaves p s s.mode
+
+  lay_fresh_leaves : (p : Progress A) → Leaves (lay_fresh columns width) p
+  lay_fresh_leaves p =
+      leaves_if (λ q. has_character q.word)
+      (λ q. record q { laid = put_items columns width (put_pending width q.space (end_if_character q.laid)) q.word; space = None; word = []; continuation_flag = is_pre q.mode })
+      (λ q. record q { laid = put_pending width q.space (end_if_character q.laid); space = None; continuation_flag = is_pre q.mode }) p blind_character
+      (λ _ front ms h e. inl (append_none front ms e)) (λ _ front ms h e. inr (front, e, refl))
+
+  lay_leaves : (p : Progress A) → Leaves (lay columns width) p
+  lay_leaves p =
+      leaves_if (λ q. nat_le (q.laid.width + (pending_width q.space + items_width columns q.word)) width) (lay_here columns) (λ q. lay_fresh columns width (wrap_space columns width q q.space)) p
+      (λ q before ms e h. ap (λ n. nat_le (q.laid.width + (pending_width q.space + n)) width) (width_front columns q.word before ms e h))
+      (λ _ front ms h e. inl (append_none front ms e))
+      (λ _. leaves_then (λ q. wrap_space columns width q p.space) (lay_fresh columns width) p (unfit_leaves p p.space) (lay_fresh_leaves (wrap_space columns width p p.space)))
+
+  flush_word_leaves : (p : Progress A) → Leaves (flush_word columns width) p
+  flush_word_leaves p = leaves_if (λ q. has_character q.word) (lay columns width) (λ q. q) p blind_character
+      (λ _. lay_leaves p) (λ _ front ms h e. inr (front, e, refl))
+
+  break_word_leaves : (p : Progress A) → Leaves (break_word columns width) p
+  break_word_leaves p =
+      leaves_if (λ q. nat_lt 0 (items_width columns q.word)) (lay columns width) (λ q. q) p (λ q before ms e h. ap (nat_lt 0) (width_front columns q.word before ms e h))
+      (λ _. lay_leaves p) (λ _ front ms h e. inr (front, e, refl))
+
+  -- ---- an event
+
+  keep_character_leaves : (c : ℕ) (a b : A) (mode : WhiteSpace) (o : Option ℕ) (p : Progress A) → Leaves (keep_character columns width c a b mode o) p
+  keep_character_leaves c a b mode None p = λ front ms h e. inr (front, e, refl)
+  keep_character_leaves c a b mode (Some n) p =
+      whole_leaves (keep_character columns width c a b mode (Some n)) p
+      (cond_both (is_pre mode && passes columns width n p) _ _ EndsWhole (λ _. joined_whole c b mode (record p { continuation_flag = true; in_continuation = true })) (λ _. joined_whole c (tag_of p a b) mode p))
+
+  preserve_leaves : (c : ℕ) (a b : A) (mode : WhiteSpace) (p : Progress A) → Leaves (preserve columns width c a b mode) p
+  preserve_leaves c a b mode p = go (c == 8203) (c == 10) (c == 9) (is_blank c)
+    where
+      go : (zero_width newlines tabs blank : Bool) → Leaves
+          (λ q. if zero_width then q
+          else if newlines then newline (flush_word columns width q)
+          else if tabs then tab width (tag_of q a b) (flush_word columns width q)
+          else if blank then keep_space c (tag_of q a b) mode (columns c) q
+          else keep_character columns width c a b mode (columns c) q) p
+      go true newlines tabs blank = λ front ms h e. inr (front, e, refl)
+      go false true tabs blank = leaves_then (flush_word columns width) newline p (flush_word_leaves p) (newline_leaves (flush_word columns width p))
+      go false false true blank = leaves_then (flush_word columns width) (tab width (tag_of p a b)) p (flush_word_leaves p) (tab_leaves width (tag_of p a b) (flush_word columns width p))
+      go false false false true = keep_space_leaves c (tag_of p a b) mode (columns c) p
+      go false false false false = keep_character_leaves c a b mode (columns c) p
+
+  enter_normal_leaves : (c : ℕ) (a : A) (p : Progress A) → Leaves (enter_normal columns width c a) p
+  enter_normal_leaves c a p = go (is_break c) (is_some (columns c))
+    where
+      go : (breaks known : Bool) → Leaves (λ q. if breaks then collapse c a (break_word columns width q) else if known then join c a Normal q else q) p
+      go true known = leaves_then (break_word columns width) (collapse c a) p (break_word_leaves p) (collapse_leaves c a (break_word columns width p))
+      go false true = whole_leaves (join c a Normal) p (joined_whole c a Normal p)
+      go false false = λ front ms h e. inr (front, e, refl)
+
+  break_if_leaves : (x : Bool) (p : Progress A) → Leaves (λ q. if x then break_word columns width q else q) p
+  break_if_leaves true p = break_word_leaves p
+  break_if_leaves false p = λ front ms h e. inr (front, e, refl)
+
+  enter_leaves : (c : ℕ) (a b : A) (mode : WhiteSpace) (p : Progress A) → Leaves (λ q. enter columns width q (character c a b mode)) p
+  enter_leaves c a b Normal p = enter_normal_leaves c (tag_of p a b) p
+  enter_leaves c a b Pre p = preserve_leaves c a b Pre p
+  enter_leaves c a b PreWrap p =
+      leaves_then (λ q. if is_break c then break_word columns width q else q) (preserve columns width c a b PreWrap) p (break_if_leaves (is_break c) p)
+      (preserve_leaves c a b PreWrap (if is_break c then break_word columns width p else p))
+
+  -- ---- a run
+
+  -- events without the markers that end the word
+  abbrev Without : List (Event A) → List (Item A) → List (Item A) → Type 0
+  Without es front ms = (fs : List (Event A)) × (run_of fs ≡ without_last_markers (length ms) (run_of es)) × (progress columns width fs ≡ with_word (progress columns width es) front)
+
+  abbrev CanTakeOut : List (Event A) → Type 0
+  CanTakeOut es = (front ms : List (Item A)) → (progress columns width es).word ≡ front ++ ms → has_character ms ≡ false → Without es front ms
+
+  -- no markers
+  nothing_out : (es : List (Event A)) (front ms : List (Item A)) → (progress columns width es).word ≡ front ++ ms → ms ≡ [] → Without es front ms
+  nothing_out es front ms e none =
+      let word : (progress columns width es).word ≡ front = e ∙ ap (λ (is : List (Item A)). front ++ is) none ∙ append-nil front in
+      (es, sym (without_none (run_of es)) ∙ ap (λ (is : List (Item A)). without_last_markers (length is) (run_of es)) (sym none), ap (with_word (progress columns width es)) word)
+
+  progress-push : (es : List (Event A)) (x : Event A) → progress columns width (es ++ x ∷ []) ≡ step columns width (progress columns width es) x
+  progress-push es x = fold-append (step columns width) at_start es (x ∷ [])
+
+  -- an event that is no marker
+  out_behind : (es : List (Event A)) (x : Event A) → CanTakeOut es → Leaves (λ q. step columns width q x) (progress columns width es) →
+      ((n : ℕ) → without_last_markers n (run_of es ++ run_of (x ∷ [])) ≡ without_last_markers n (run_of es) ++ run_of (x ∷ [])) → CanTakeOut (es ++ x ∷ [])
+  out_behind es x can leaves stays front ms e h =
+      let now : (step columns width (progress columns width es) x).word ≡ front ++ ms = ap (λ (p : Progress A). p.word) (sym (progress-push es x)) ∙ e in
+      elim (leaves front ms h now) [
+        | inl none ↦ nothing_out (es ++ x ∷ []) front ms e none
+        | inr r ↦
+            let (fs, run, state) = can r.0 ms r.1 h in (
+              fs ++ x ∷ [],
+              run_of-append fs (x ∷ []) ∙ ap (λ (es : List (Entry A)). es ++ run_of (x ∷ [])) run ∙ sym (stays (length ms)) ∙ ap (without_last_markers (length ms)) (sym (run_of-append es (x ∷ []))),
+              progress-push fs x ∙ ap (λ (p : Progress A). step columns width p x) state ∙ r.2 ∙ ap (λ (p : Progress A). with_word p front) (sym (progress-push es x)),
+            )
+      ]
+
+  out_marker : (es : List (Event A)) (name : List ℕ) → CanTakeOut es → CanTakeOut (es ++ entry (marker_entry name) ∷ [])
+  out_marker es name can front ms e h =
+      let p : Progress A = progress columns width es in
+      let now : p.word ++ marker name ∷ [] ≡ front ++ ms = ap (λ (q : Progress A). q.word) (sym (progress-push es (entry (marker_entry name)))) ∙ e in
+      elim (last_of_back p.word (marker name) front ms now) [
+        | inl none ↦ nothing_out (es ++ entry (marker_entry name) ∷ []) front ms e none
+        | inr r ↦
+            let bare : has_character r.0 ≡ false = (or_parts (has_character r.0) false (sym (has_character-append r.0 (marker name ∷ [])) ∙ ap has_character (sym r.1) ∙ h)).0 in
+            let count : length ms ≡ length r.0 + 1 = ap length r.1 ∙ length-append r.0 (marker name ∷ []) in
+            let (fs, run, state) = can front r.0 r.2 bare in (
+              fs,
+              run ∙ sym (without_one (length r.0) (run_of es) name) ∙ ap (λ n. without_last_markers n (run_of es ++ marker_entry name ∷ [])) (sym count)
+                  ∙ ap (without_last_markers (length ms)) (sym (run_of-append es (entry (marker_entry name) ∷ []))),
+              state ∙ ap (λ (q : Progress A). with_word q front) (sym (progress-push es (entry (marker_entry name)))),
+            )
+      ]
+
+  out_event : (es : List (Event A)) (x : Event A) → CanTakeOut es → CanTakeOut (es ++ x ∷ [])
+  out_event es call can = out_behind es call can (λ front ms h e. inr (front, e, refl)) (λ n. ap (without_last_markers n) (append-nil (run_of es)) ∙ sym (append-nil (without_last_markers n (run_of es))))
+  out_event es (entry (marker_entry name)) can = out_marker es name can
+  out_event es (entry (character c a b mode)) can =
+      out_behind es (entry (character c a b mode)) can (enter_leaves c a b mode (progress columns width es)) (λ n. without_behind n (run_of es) c a b mode)
+
+  out_events : (es so_far : List (Event A)) → CanTakeOut so_far → CanTakeOut (so_far ++ es)
+  out_events [] so_far can = subst CanTakeOut (sym (append-nil so_far)) can
+  out_events (x ∷ es) so_far can = subst CanTakeOut (append_assoc so_far (x ∷ []) es) (out_events es (so_far ++ x ∷ []) (out_event so_far x can))
+
+  -- Without the markers that end the word under way, a run stands at the same place but for them.
+  pub taken_out : (es : List (Event A)) (front ms : List (Item A)) → (progress columns width es).word ≡ front ++ ms → has_character ms ≡ false →
+      (fs : List (Event A)) × (run_of fs ≡ without_last_markers (length ms) (run_of es)) × (progress columns width fs ≡ record (progress columns width es) { word = front })
+  taken_out es = out_events es [] (λ front ms e h. nothing_out [] front ms e (append_none front ms e))

@@ -1,0 +1,103 @@
+-- A block shows the visible characters of its run once, in order.
+use Rattle.std.proofs.Common.{◌≡◌, ℕ, ◌<◌, ◌⊎◌, inl, inr, Bool, true, false, Option, List, [], ◌∷◌, ◌++◌, filter, fold, length, refl, ap, sym, ◌∙◌, arith, append-nil, length-append}
+use Rattle.std.specs.List.{AllZip, AllByRecursion as Each}
+use Rattle.std.proofs.lemmas.List.Elements.{filter-append}
+use Rattle.tbr_model.specs.Run.{Entry, character, marker_entry, Item, glyph, marker, has_character}
+use Rattle.tbr_model.specs.Layout.{joined}
+use Rattle.tbr_model.specs.Laid.{Laid}
+use Rattle.tbr_model.specs.Rule.{Event, run_of, Progress, at_start, flush_word, newline, step, finished, lines_of}
+use Rattle.tbr_model.specs.Hard.{glyphs_of, is_visible, visible_glyphs, visible_entries, IsShown, ShowsVisible, Preserves, hard_lines, Parted, ShowsHardLine}
+use Rattle.tbr_model.proofs.rule.HardLineStart.{BeginsHardLine}
+use Rattle.tbr_model.proofs.words.Items.{glyphs_of-append}
+use Rattle.tbr_model.proofs.rule.Content.{LooksAtVisible, StandsFor, on_lines, content, fold_content, finished_content, newline_flushed}
+use Rattle.tbr_model.proofs.rule.HardLines.{no_character_after_end, NoNewline, flush_flushes, start_fresh, hard_lines_parted}
+
+visible-append : {A : Type 0} (columns : ℕ → Option ℕ) (is js : List (Item A)) → visible_glyphs columns (is ++ js) ≡ visible_glyphs columns is ++ visible_glyphs columns js
+visible-append {A} columns is js = ap (filter (λ g. is_visible columns g.0)) (glyphs_of-append is js) ∙ filter-append (λ (g : ℕ × A). is_visible columns g.0) (glyphs_of is) (glyphs_of js)
+
+-- nothing is visible in a word without a character
+none_visible : {A : Type 0} (columns : ℕ → Option ℕ) (is : List (Item A)) → has_character is ≡ false → visible_glyphs columns is ≡ []
+none_visible columns [] h = refl
+none_visible columns (glyph c a ∷ is) h = cc
+none_visible columns (marker m ∷ is) h = none_visible columns is h
+
+looks_at_characters : {A : Type 0} (columns : ℕ → Option ℕ) → LooksAtVisible {A = A} columns (visible_glyphs columns)
+looks_at_characters columns = record { append = visible-append columns; nothing = refl; hidden = λ c a h. rw h refl }
+
+module _ {A : Type 0} (columns : ℕ → Option ℕ) (width : ℕ) (Same : A → A → Type 0) (same : (x : A) → Same x x) where
+  abbrev shown : Progress A → List (ℕ × A)
+  shown p = content columns (visible_glyphs columns) (looks_at_characters columns) p
+
+  under : (x a b : A) → (x ≡ a) ⊎ (x ≡ b) → Same x a ⊎ Same x b
+  under x a b (inl e) = inl (rw (← e) (same x))
+  under x a b (inr e) = inr (rw (← e) (same x))
+
+  -- the visible ones among items that stand for entries
+  all_shown : (is : List (Item A)) (es : List (Entry A)) → AllZip StandsFor is es → AllZip (IsShown Same) (visible_glyphs columns is) (visible_entries columns es)
+  all_shown [] [] h = tt
+  all_shown [] (e ∷ es) h = elim h [ ]
+  all_shown (i ∷ is) [] h = elim h [ ]
+  all_shown (glyph c x ∷ is) (character d a b m ∷ es) h = rw (h.0.0) (go (all_shown is es h.1) (is_visible columns d) refl)
+    where
+      go : AllZip (IsShown Same) (visible_glyphs columns is) (visible_entries columns es) → (v : Bool) → is_visible columns d ≡ v →
+          AllZip (IsShown Same) (visible_glyphs columns (glyph d x ∷ is)) (visible_entries columns (character d a b m ∷ es))
+      go rest true e = rw e ((refl, under x a b h.0.1), rest)
+      go rest false e = rw e rest
+  all_shown (glyph c x ∷ is) (marker_entry name ∷ es) h = elim h.0 [ ]
+  all_shown (marker name ∷ is) (character d a b m ∷ es) h = elim h.0 [ ]
+  all_shown (marker name ∷ is) (marker_entry other ∷ es) h = all_shown is es h.1
+
+  fresh_has_none : (p : Progress A) → BeginsHardLine p → shown p ≡ []
+  fresh_has_none p f = rw (f.done, f.line) (none_visible columns p.word f.word)
+
+  from_fresh : (p : Progress A) (es : List (Event A)) → BeginsHardLine p → AllZip (IsShown Same) (shown (fold (step columns width) p es)) (visible_entries columns (run_of es))
+  from_fresh p es f =
+      let (is, stand, found) = fold_content columns (visible_glyphs columns) (looks_at_characters columns) width es p in
+      rw (found, fresh_has_none p f) (all_shown is (run_of es) stand)
+
+  -- ---- the end
+
+  -- the ended lines show all, where neither the open line nor the word has a character
+  lines_alone : (l : Laid A) (word : List (Item A)) → has_character l.line ≡ false → has_character word ≡ false →
+      visible_glyphs columns (joined l.done) ≡ on_lines columns (visible_glyphs columns) (looks_at_characters columns) l ++ visible_glyphs columns word
+  lines_alone l word line none =
+      sym (ap (λ gs. visible_glyphs columns (joined l.done ++ l.line) ++ gs) (none_visible columns word none) ∙ append-nil (visible_glyphs columns (joined l.done ++ l.line))
+      ∙ visible-append columns (joined l.done) l.line ∙ ap (λ gs. visible_glyphs columns (joined l.done) ++ gs) (none_visible columns l.line line) ∙ append-nil (visible_glyphs columns (joined l.done)))
+
+  finished_shown : (p : Progress A) → visible_glyphs columns (joined (finished columns width p).done) ≡ shown p
+  finished_shown p =
+      lines_alone (finished columns width p) (flush_word columns width p).word (no_character_after_end (flush_word columns width p).laid) (flush_flushes columns width p)
+      ∙ finished_content columns (visible_glyphs columns) (looks_at_characters columns) width p
+
+  ended_line_shown : (p : Progress A) → visible_glyphs columns (joined (newline (flush_word columns width p)).laid.done) ≡ shown p
+  ended_line_shown p =
+      lines_alone (newline (flush_word columns width p)).laid (flush_word columns width p).word refl (flush_flushes columns width p)
+      ∙ newline_flushed columns (visible_glyphs columns) (looks_at_characters columns) width p
+
+  -- the visible characters of a run from where a hard line begins
+  pub visible_from : (p : Progress A) (es : List (Event A)) → BeginsHardLine p → ShowsVisible columns Same (run_of es) (finished columns width (fold (step columns width) p es)).done
+  visible_from p es f = rw (finished_shown (fold (step columns width) p es)) (from_fresh p es f)
+
+  pub visible_ended : (p : Progress A) (es : List (Event A)) → BeginsHardLine p → ShowsVisible columns Same (run_of es) (newline (flush_word columns width (fold (step columns width) p es))).laid.done
+  visible_ended p es f = rw (ended_line_shown (fold (step columns width) p es)) (from_fresh p es f)
+
+  -- A block shows the visible characters of its run once, in order, each under an annotation of its call.
+  pub visible_shown : (es : List (Event A)) → ShowsVisible columns Same (run_of es) (lines_of columns width es)
+  visible_shown es = visible_from at_start es start_fresh
+
+  -- ---- hard lines
+
+  ends_a_line : (p : Progress A) → 0 < length (newline p).laid.done
+  ends_a_line p = omega (arith, length-append p.laid.done (p.laid.line ∷ []))
+
+  one_hard_line : (p : Progress A) (es : List (Event A)) → BeginsHardLine p → Each Preserves (run_of es) → NoNewline (run_of es) →
+      ShowsHardLine columns Same true (run_of es) (newline (flush_word columns width (fold (step columns width) p es))).laid.done
+      × ShowsHardLine columns Same false (run_of es) (finished columns width (fold (step columns width) p es)).done
+  one_hard_line p es f m n = (
+    record { line = λ _. ends_a_line (flush_word columns width (fold (step columns width) p es)); visible = visible_ended p es f },
+    record { line = λ h. cc; visible = visible_from p es f },
+  )
+
+  -- In a preserving run each hard line's visible characters stand on lines of its own, and a newline ends a line.
+  pub hard_lines_shown : (es : List (Event A)) → Each Preserves (run_of es) → Parted (ShowsHardLine columns Same) (hard_lines (run_of es)) (lines_of columns width es)
+  hard_lines_shown es h = hard_lines_parted columns width (ShowsHardLine columns Same) Preserves (λ e m. m) one_hard_line es h

@@ -1,0 +1,3 @@
+-- Tabs in preserving modes.
+pub mod FittingText
+pub mod HardLine
