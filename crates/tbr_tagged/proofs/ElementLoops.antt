@@ -3,7 +3,7 @@ use Rattle.std.proofs.Common.{◌≡◌, ℕ, suc, ◌+◌, ◌<◌, true, false
 use Rattle.std.proofs.lemmas.List.{take_more, map_push, map-append, take-append-drop}
 use Rattle.std.proofs.lemmas.List.Concat.{flat_map-append}
 use Rattle.tbr_model.specs.Run.{Item, glyph, marker, items_width}
-use Rattle.tbr_model.specs.Width.{text_columns}
+use Rattle.tbr_model.specs.Width.{width_of_text}
 use Rattle.tbr_tagged.specs.Elements.{Element, piece, marker_element, element_items, items_of, has_piece}
 use Rattle.tbr_tagged.proofs.TextColumns.{items_width-text}
 
@@ -25,7 +25,7 @@ items_width-append columns [] b = omega arith
 items_width-append columns (i ∷ a) b = omega (arith, items_width-append columns a b)
 
 pub items_width-piece : {A : Type 0} (columns : ℕ → Option ℕ) (es fs : List (Element A)) (cs : List ℕ) (a : A) →
-    items_width columns (items_of (es ++ (piece cs a ∷ fs))) ≡ items_width columns (items_of es) + (text_columns columns cs + items_width columns (items_of fs))
+    items_width columns (items_of (es ++ (piece cs a ∷ fs))) ≡ items_width columns (items_of es) + (width_of_text columns cs + items_width columns (items_of fs))
 items_width-piece columns es fs cs a =
     omega (
       arith,

@@ -5,7 +5,7 @@ use Rattle.std.proofs.lemmas.Iterator.{YieldsList}
 use Rattle.std.proofs.lemmas.Iterator.Consumers.{YieldsList-so_far, YieldsList-turn}
 use Rattle.std.proofs.lemmas.List.{take-append-drop}
 use Rattle.tbr_model.specs.Run.{glyph, items_width}
-use Rattle.tbr_model.specs.Width.{text_columns}
+use Rattle.tbr_model.specs.Width.{width_of_text}
 
 -- a list, from what a loop has seen of it on
 pub seen_and_rest : {A : Type 0} (all xs : List A) (x : A) → xs ≡ take (length xs) all → length xs < length all → x ≡ get_or all (length xs) x →
@@ -16,11 +16,11 @@ seen_and_rest {A} all xs x seen below is = (
       ∙ ap (λ (ys : List A). xs ++ ys) (drop-cons all (length xs) x below ∙ ap (λ (y : A). y ∷ drop (suc (length xs)) all) (sym is)),
 )
 
-pub text_columns-append : (columns : ℕ → Option ℕ) (cs ds : List ℕ) → text_columns columns (cs ++ ds) ≡ text_columns columns cs + text_columns columns ds
-text_columns-append columns [] ds = omega arith
-text_columns-append columns (c ∷ cs) ds = omega (arith, text_columns-append columns cs ds)
+pub width_of_text-append : (columns : ℕ → Option ℕ) (cs ds : List ℕ) → width_of_text columns (cs ++ ds) ≡ width_of_text columns cs + width_of_text columns ds
+width_of_text-append columns [] ds = omega arith
+width_of_text-append columns (c ∷ cs) ds = omega (arith, width_of_text-append columns cs ds)
 
-pub items_width-text : {A : Type 0} (columns : ℕ → Option ℕ) (cs : List ℕ) (a : A) → items_width columns (map (λ c. glyph c a) cs) ≡ text_columns columns cs
+pub items_width-text : {A : Type 0} (columns : ℕ → Option ℕ) (cs : List ℕ) (a : A) → items_width columns (map (λ c. glyph c a) cs) ≡ width_of_text columns cs
 items_width-text columns [] a = refl
 items_width-text columns (c ∷ cs) a = ap (λ n. unwrap_or (columns c) 0 + n) (items_width-text columns cs a)
 

@@ -3,7 +3,7 @@ ghost use Rattle.std.specs.Prelude.{◌≡◌, ℕ, ◌<◌, ◌∷◌, [], true
 ghost use Rattle.std.specs.Option.{option_copied, option_map};
 ghost use Rattle.tbr_tagged.specs.Copies.{CopiesAreEqual};
 ghost use Rattle.tbr_model.specs.Run.{items_width};
-ghost use Rattle.tbr_model.specs.Width.{text_columns};
+ghost use Rattle.tbr_model.specs.Width.{width_of_text};
 ghost use Rattle.tbr_tagged.specs.Elements.{piece, element_items, element_characters, is_piece_under, with_text, text_before, SameElement};
 ghost use Rattle.tbr_tagged.specs.Mapped.{MapsElement};
 ghost use Rattle.tbr_tagged.specs.Restored.{with_characters};
@@ -38,7 +38,7 @@ impl<T> TaggedString<T> {
     ///
     /// It takes no memory, and refuses exactly where the sum passes `usize`.
     pub fn width<W: CharWidth>(&self) -> Result<usize, OutOfMemory>
-        ensures { MatchResult result (λ n. n ≡ text_columns W.columns (chars (string_bytes self.now.s))) (λ _. usize.MAX < text_columns W.columns (chars (string_bytes self.now.s))) }
+        ensures { MatchResult result (λ n. n ≡ width_of_text W.columns (chars (string_bytes self.now.s))) (λ _. usize.MAX < width_of_text W.columns (chars (string_bytes self.now.s))) }
     {
         text_width::<W>(self.s.as_str())
     }

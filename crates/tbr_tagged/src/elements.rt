@@ -9,7 +9,8 @@ ghost use Rattle.tbr_tagged.specs.Restored.{restored};
 ghost use Rattle.tbr_tagged.specs.View.{element_of};
 
 use crate::element::{
-    TaggedLineElement, TaggedString, extend, extend_by_char, extend_front, is_under, new_piece, set_text,
+    TaggedLineElement, TaggedString, extend, extend_by_char, extend_front, is_under, new_piece,
+    set_text,
 };
 use crate::error::OutOfMemory;
 use crate::width::text_width;
@@ -108,10 +109,7 @@ pub fn put_in_front<T: Eq + Drop>(
 }
 
 /// Undoes [`put_in_front`], which answered this text.
-pub fn take_from_front<T: Drop>(
-    elements: &mut Vec<TaggedLineElement<T>>,
-    text: Option<String>,
-)
+pub fn take_from_front<T: Drop>(elements: &mut Vec<TaggedLineElement<T>>, text: Option<String>)
     requires { 0 < length elements.old.items }
     ensures { map element_of elements.new.items ≡ restored (map element_of elements.old.items) (option_map (λ s. chars (string_bytes s)) text) }
 {

@@ -67,7 +67,7 @@ fn draws_border(c: char) -> bool
 ///
 /// It takes no memory, and refuses exactly where the sum passes `usize`.
 pub fn text_width<W: CharWidth>(s: &str) -> Result<usize, OutOfMemory>
-    ensures { MatchResult result (λ n. n ≡ fixed.text_columns W.columns (chars s.now)) (λ _. usize.MAX < fixed.text_columns W.columns (chars s.now)) }
+    ensures { MatchResult result (λ n. n ≡ fixed.width_of_text W.columns (chars s.now)) (λ _. usize.MAX < fixed.width_of_text W.columns (chars s.now)) }
 {
     let mut width = 0usize;
     for c in s.chars() {

@@ -3,9 +3,9 @@ use Rattle.std.specs.Prelude.{◌≡◌, ℕ, ◌≤◌, Bool, true, false, Opti
 use Rattle.std.specs.List.{AllByRecursion as Each}
 use Rattle.tbr_model.specs.declared.white_space.WhiteSpace.{WhiteSpace}
 use Rattle.tbr_model.specs.declared.white_space.WhiteSpace.TheVariants.{Normal, Pre, PreWrap}
-use Rattle.tbr_model.specs.Run.{Entry, character, fragment, Item, trailing}
+use Rattle.tbr_model.specs.Run.{Entry, character, marker_entry, Item, trailing}
 use Rattle.tbr_model.specs.Layout.{joined}
-use Rattle.tbr_model.specs.Markers.{marker_names, fragment_names, fragments, markers, last, without_last_markers}
+use Rattle.tbr_model.specs.Markers.{names_in_items, names_in_run, marker_run, marker_items, last, without_last_markers}
 use Rattle.tbr_model.specs.Hard.{HasMode, Preserves, IsNarrowEntry, is_visible, hard_lines, Parted, ShowsVisible, ShowsHardLine, ShowsPre, ShowsPreWrap, ShowsTabs}
 use Rattle.tbr_tagged.specs.Elements.{Element, items_of}
 use Rattle.tbr_wrap.specs.Wrapped.{HasBestLines, FitsBlock}
@@ -29,9 +29,9 @@ pub record State (A : Type 0) : Type 0 where
 -- what a note makes of a run
 abbrev pub after_change : {A : Type 0} → List (Entry A) → RunChange × A × A → List (Entry A)
 after_change run (Character c mode, a, b) = run ++ character c a b mode ∷ []
-after_change run (Marker name, a, b) = run ++ fragment (string_bytes name) ∷ []
+after_change run (Marker name, a, b) = run ++ marker_entry (string_bytes name) ∷ []
 after_change run (Taken n, a, b) = without_last_markers n run
-after_change run (Ended n, a, b) = fragments (last n (fragment_names run))
+after_change run (Ended n, a, b) = marker_run (last n (names_in_run run))
 
 -- the run that notes tell of
 abbrev pub entries_of : {A : Type 0} → List (RunChange × A × A) → List (Entry A)
@@ -66,7 +66,7 @@ CharactersFit columns width run = Each (IsNarrowEntry columns width) run
 -- no visible character of the run is wider than a line
 abbrev pub IsNarrowIfVisible : {A : Type 0} → (ℕ → Option ℕ) → ℕ → Entry A → Type 0
 IsNarrowIfVisible columns width (character c a b mode) = IsTrue (is_visible columns c) → unwrap_or (columns c) 0 ≤ width
-IsNarrowIfVisible columns width (fragment name) = Unit {0}
+IsNarrowIfVisible columns width (marker_entry name) = Unit {0}
 
 abbrev pub VisibleFit : {A : Type 0} → (ℕ → Option ℕ) → ℕ → List (Entry A) → Type 0
 VisibleFit columns width run = Each (IsNarrowIfVisible columns width) run
@@ -76,9 +76,9 @@ VisibleFit columns width run = Each (IsNarrowIfVisible columns width) run
 -- run, hard line by hard line, what its mode promises.
 pub record IsShownBy {A : Type 0} (columns : ℕ → Option ℕ) (eq : A → A → Bool) (width : ℕ) (may_overflow : Bool) (run : List (Entry A)) (texts : List (List (Item A))) : Type 0 where
   pub best : may_overflow ≡ false → IsNormal run → HasBestLines columns eq width run texts
-  pub visible : ShowsVisible columns eq run texts
-  pub hard : Each Preserves run → Parted (ShowsHardLine columns eq) (hard_lines run) texts
-  pub pre : Each (HasMode Pre) run → Parted (ShowsPre columns eq width) (hard_lines run) texts
+  pub visible : ShowsVisible columns (λ a b. eq a b ≡ true) run texts
+  pub hard : Each Preserves run → Parted (ShowsHardLine columns (λ a b. eq a b ≡ true)) (hard_lines run) texts
+  pub pre : Each (HasMode Pre) run → Parted (ShowsPre columns (λ a b. eq a b ≡ true) width) (hard_lines run) texts
   pub prewrap : Each (HasMode PreWrap) run → Parted (ShowsPreWrap columns width) (hard_lines run) texts
   pub tabs : Each (HasMode Pre) run ⊎ Each (HasMode PreWrap) run → Parted (ShowsTabs columns width) (hard_lines run) texts
 
@@ -88,5 +88,5 @@ pub record IsShownBy {A : Type 0} (columns : ℕ → Option ℕ) (eq : A → A �
 pub record EndsRun {A : Type 0} (columns : ℕ → Option ℕ) (eq : A → A → Bool) (s : State A) (texts : List (List (Item A))) (names : List (List ℕ)) : Type 0 where
   pub shown : IsShownBy columns eq s.width s.may_overflow s.run (s.handed ++ texts)
   pub fits : Each (FitsBlock columns s.width s.may_overflow) (s.handed ++ texts)
-  pub marks : marker_names (joined (s.handed ++ texts)) ++ names ≡ fragment_names s.run
-  pub waits : s.may_overflow ≡ false → IsNormal s.run → markers names ≡ trailing columns s.run
+  pub marks : names_in_items (joined (s.handed ++ texts)) ++ names ≡ names_in_run s.run
+  pub waits : s.may_overflow ≡ false → IsNormal s.run → marker_items names ≡ trailing columns s.run

@@ -54,7 +54,7 @@ pub record HoldsRuleBefore {A : Type 0} (columns : ℕ → Option ℕ) (eq : A �
 -- spaces of as many columns and one mode, under equal tags
 abbrev pub SameSpace : {A : Type 0} → (A → A → Bool) → Option (HeldSpace A) → Option (Space A) → Type 0
 SameSpace eq None None = Unit {0}
-SameSpace eq (Some s) (Some t) = (s.columns ≡ t.columns) × (eq s.tag t.tag ≡ true) × (s.mode ≡ t.mode)
+SameSpace eq (Some s) (Some t) = (s.columns ≡ t.width) × (eq s.tag t.tag ≡ true) × (s.mode ≡ t.mode)
 SameSpace eq None (Some t) = ⊥
 SameSpace eq (Some s) None = ⊥
 
@@ -69,8 +69,8 @@ pub record IsAtProgress {A : Type 0} (columns : ℕ → Option ℕ) (eq : A → 
   pub word : SameItems eq b.flat.word p.word
   pub word_width : b.word_width ≡ items_width columns p.word
   pub mode : b.word_mode ≡ p.mode
-  pub continued : b.continued ≡ p.continued
-  pub again : b.again ≡ p.again
+  pub continuation_flag : b.continuation_flag ≡ p.continuation_flag
+  pub in_continuation : b.in_continuation ≡ p.in_continuation
 
 -- The block stands where its run leads.
 pub record IsAtRun {A : Type 0} (columns : ℕ → Option ℕ) (eq : A → A → Bool) (b : Wrapper A) (before given : List (List (Item A))) (run : List (Entry A)) : Type 0 where
@@ -85,8 +85,8 @@ pub record KeepsSettings {A : Type 0} (b c : Wrapper A) : Type 0 where
   pub space : c.space ≡ b.space
   pub word_width : c.word_width ≡ b.word_width
   pub word_mode : c.word_mode ≡ b.word_mode
-  pub continued : c.continued ≡ b.continued
-  pub again : c.again ≡ b.again
+  pub continuation_flag : c.continuation_flag ≡ b.continuation_flag
+  pub in_continuation : c.in_continuation ≡ b.in_continuation
 
 -- The limits are as they were.
 pub record KeepsLimits {A : Type 0} (b c : Wrapper A) : Type 0 where

@@ -58,8 +58,8 @@ impl<T: Eq + Clone, W: CharWidth> Model for WrappedBlock<T, W> {
 }
 
 impl<T: Eq + Clone, W: CharWidth> WrappedBlock<T, W> {
-    ghost use Rattle.tbr_model.specs.Run.{character, fragment, trailing};
-    ghost use Rattle.tbr_model.specs.Markers.{fragments, fragment_names, marker_names, last, without_last_markers};
+    ghost use Rattle.tbr_model.specs.Run.{character, marker_entry, trailing};
+    ghost use Rattle.tbr_model.specs.Markers.{marker_run, names_in_run, names_in_items, last, without_last_markers};
     ghost use Rattle.tbr_tagged.specs.Elements.{marker_element};
     ghost use Rattle.tbr_tagged.specs.View.{element_of};
     ghost use Rattle.tbr_wrap.specs.State.{text_entries, EndsRun};
@@ -246,7 +246,7 @@ impl<T: Eq + Clone, W: CharWidth> WrappedBlock<T, W> {
     where
         T: Drop,
         requires { (name : List ℕ) × (element_of element ≡ marker_element name) }
-        ensures ok { (name : List ℕ) → element_of element ≡ marker_element name → OnOk result (self.new ≡ record self.old { run = self.old.run ++ fragment name ∷ [] }) }
+        ensures ok { (name : List ℕ) → element_of element ≡ marker_element name → OnOk result (self.new ≡ record self.old { run = self.old.run ++ marker_entry name ∷ [] }) }
         ensures memory { self.old.failure ≡ None → IfErr result (λ e. e ≡ E.OutOfMemory) }
         ensures failed { IfErr result (λ e. self.new.failure ≡ Some e) }
         ensures kept { (e : _) → self.old.failure ≡ Some e → (result ≡ Err e) × (self.new ≡ self.old) }
@@ -263,7 +263,7 @@ impl<T: Eq + Clone, W: CharWidth> WrappedBlock<T, W> {
     where
         T: Drop,
         requires { self.old.failure ≡ None }
-        ensures ok { OnOk result (self.new ≡ record self.old { run = self.old.run ++ fragment (string_bytes name) ∷ [] }) }
+        ensures ok { OnOk result (self.new ≡ record self.old { run = self.old.run ++ marker_entry (string_bytes name) ∷ [] }) }
         ensures failed { IfErr result (λ e. (e ≡ E.OutOfMemory) × (self.new.failure ≡ Some e)) }
     {
         let (changes, name) = with_marker(&self.changes, name, &self.default_tag);
@@ -287,8 +287,8 @@ impl<T: Eq + Clone, W: CharWidth> WrappedBlock<T, W> {
     where
         T: Drop,
         ensures taken { IfOk result (λ es. self.new ≡ record self.old { run = without_last_markers (length es.items) self.old.run }) }
-        ensures markers { IfOk result (λ es. map element_of es.items ≡ map marker_element (last (length es.items) (fragment_names self.old.run))) }
-        ensures trailing { self.old.may_overflow ≡ false → IsNormal self.old.run → IfOk result (λ es. map element_of es.items ≡ map marker_element (marker_names (trailing W.columns self.old.run))) }
+        ensures markers { IfOk result (λ es. map element_of es.items ≡ map marker_element (last (length es.items) (names_in_run self.old.run))) }
+        ensures trailing { self.old.may_overflow ≡ false → IsNormal self.old.run → IfOk result (λ es. map element_of es.items ≡ map marker_element (names_in_items (trailing W.columns self.old.run))) }
         ensures memory { self.old.failure ≡ None → IfErr result (λ e. e ≡ E.OutOfMemory) }
         ensures failed { IfErr result (λ e. self.new.failure ≡ Some e) }
         ensures kept { (e : _) → self.old.failure ≡ Some e → (result ≡ Err e) × (self.new ≡ self.old) }
@@ -326,7 +326,7 @@ impl<T: Eq + Clone, W: CharWidth> WrappedBlock<T, W> {
         T: Drop,
         requires { CopiesAreEqual T.is_clone T.eq }
         ensures ok { OnOk result ((texts : List (List (Item T))) × (names : List (List ℕ)) × EndsRun W.columns T.eq self.old texts names
-            × (self.new ≡ record self.old { begun = self.old.begun || is_some_list (self.old.handed ++ texts); ended = self.old.ended ++ texts; handed = []; run = fragments names })) }
+            × (self.new ≡ record self.old { begun = self.old.begun || is_some_list (self.old.handed ++ texts); ended = self.old.ended ++ texts; handed = []; run = marker_run names })) }
         ensures fit { OnOk result (self.old.may_overflow ≡ false → IsNormal self.old.run → WordsFit W.columns self.old.width self.old.run) }
         ensures visible_fit { OnOk result (self.old.may_overflow ≡ false → VisibleFit W.columns self.old.width self.old.run) }
         ensures too_narrow { self.old.failure ≡ None → result ≡ Err E.TooNarrow → (self.old.may_overflow ≡ false) × ¬ (CharactersFit W.columns self.old.width self.old.run) }
@@ -406,7 +406,7 @@ impl<T: Eq + Clone, W: CharWidth> WrappedBlock<T, W> {
                     return Ok(Some(line));
                 }
                 self.handing = true;
-                self.handed = self.handed.and(&line, &(), &());
+                self.handed = self.handed.appended(&line, &(), &());
                 Ok(Some(line))
             }
             Ok(None) => Ok(None),

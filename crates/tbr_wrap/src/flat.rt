@@ -3,7 +3,7 @@ ghost use Rattle.std.specs.Prelude.{◌≡◌, ◌<◌, ◌≤◌, ◌+◌, ◌+
 ghost use Rattle.tbr_tagged.specs.Copies.{CopiesAreEqual};
 ghost use Rattle.tbr_model.specs.Run.{Item, glyph, marker, item_width, items_width, has_character};
 ghost use Rattle.tbr_model.specs.Rule.{spaces, without_leading, without_trailing};
-ghost use Rattle.tbr_model.specs.Markers.{marker_names};
+ghost use Rattle.tbr_model.specs.Markers.{names_in_items};
 ghost use Rattle.tbr_tagged.specs.Elements.{SameItems, IsMerged, items_of, marker_element};
 ghost use Rattle.tbr_tagged.specs.View.{element_of};
 
@@ -170,7 +170,7 @@ impl<T: Drop> FlatText<T> {
     /// Takes the markers out that the word begins with.
     pub fn take_markers(&mut self) -> Result<Vec<TaggedLineElement<T>>, OutOfMemory>
         requires { has_character self.old.word ≡ false }
-        ensures markers { IfOk result (λ es. map element_of es.items ≡ map marker_element (marker_names self.old.word)) }
+        ensures markers { IfOk result (λ es. map element_of es.items ≡ map marker_element (names_in_items self.old.word)) }
         ensures rest { OnOk result (self.new ≡ record self.old { word = [] }) }
     {
         let mut markers = Vec::new(self.alloc);

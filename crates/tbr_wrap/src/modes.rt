@@ -2,13 +2,13 @@
 ghost use Rattle.std.specs.Prelude.{◌≡◌, ◌≤◌, ◌<◌, ◌&&◌, [], ℕ, List, map, string_bytes, Option, Some, true, false, OnOk, IfOk, Err};
 ghost use Rattle.tbr_tagged.specs.Copies.{CopiesAreEqual};
 ghost use Rattle.tbr_model.specs.Run as model;
-ghost use Rattle.tbr_model.specs.Run.{Item, character, fragment, items_width, has_character};
+ghost use Rattle.tbr_model.specs.Run.{Item, character, marker_entry, items_width, has_character};
 ghost use Rattle.tbr_model.specs.Laid.{Laid};
 ghost use Rattle.tbr_model.specs.Rule.{Progress, call, step, enter, enter_normal, collapse, newline, tab, put_tab, keep_space, keep_character, passes, is_pre, preserve};
 ghost use Rattle.tbr_model.specs.declared.white_space.WhiteSpace.TheVariants.{Normal};
 ghost use Rattle.tbr_model.specs.Greedy.{IsNarrow};
 ghost use Rattle.tbr_wrap.specs.Wrapper.{IsAtProgress, HoldsRule, KeepsLimits, KeepsSettings, RunIsFinished};
-ghost use Rattle.tbr_model.specs.Markers.{marker_names};
+ghost use Rattle.tbr_model.specs.Markers.{names_in_items};
 ghost use Rattle.tbr_tagged.specs.Elements.{SameItems, marker_element};
 ghost use Rattle.tbr_tagged.specs.View.{element_of};
 ghost use Rattle.tbr_tagged.specs.declared.error.Error.TheVariants as E;
@@ -30,7 +30,7 @@ impl<T: Eq + Clone + Drop> Wrapper<T> {
             IsAtProgress columns T.eq self.new before given (step columns self.old.width p call) }
         ensures limits { KeepsLimits self.old self.new }
     {
-        self.again = self.continued;
+        self.in_continuation = self.continuation_flag;
     }
 
     /// Notes white space that collapses, behind what the line has.
@@ -60,8 +60,8 @@ impl<T: Eq + Clone + Drop> Wrapper<T> {
     {
         self.end_line()?;
         self.space = None;
-        self.continued = false;
-        self.again = false;
+        self.continuation_flag = false;
+        self.in_continuation = false;
         Ok(())
     }
 
@@ -164,11 +164,11 @@ impl<T: Eq + Clone + Drop> Wrapper<T> {
         ensures limits { KeepsLimits self.old self.new }
     {
         if self.begins_continuation(columns, mode) {
-            self.continued = true;
-            self.again = true;
+            self.continuation_flag = true;
+            self.in_continuation = true;
             return self.join(c, columns, wrap_tag, mode);
         }
-        if self.again {
+        if self.in_continuation {
             return self.join(c, columns, wrap_tag, mode);
         }
         self.join(c, columns, main_tag, mode)
@@ -198,7 +198,11 @@ impl<T: Eq + Clone + Drop> Wrapper<T> {
             self.newline()?;
             return Ok(());
         }
-        let tag = if self.again { wrap_tag } else { main_tag };
+        let tag = if self.in_continuation {
+            wrap_tag
+        } else {
+            main_tag
+        };
         if c == '\t' {
             self.flush_word::<W>()?;
             self.tab(tag)?;
@@ -254,7 +258,7 @@ impl<T: Eq + Clone + Drop> Wrapper<T> {
     {
         match mode {
             WhiteSpace::Normal => {
-                if self.again {
+                if self.in_continuation {
                     return self.enter_normal::<W>(c, wrap_tag);
                 }
                 self.enter_normal::<W>(c, main_tag)
@@ -273,7 +277,7 @@ impl<T: Eq + Clone + Drop> Wrapper<T> {
     /// Adds a marker to the word.
     pub fn add_marker(&mut self, name: String) -> Result<(), OutOfMemory>
         ensures added { (columns : ℕ → Option ℕ) (before given : List (List (Item T))) (p : Progress T) → IsAtProgress columns T.eq self.old before given p →
-            OnOk result (IsAtProgress columns T.eq self.new before given (enter columns self.old.width p (fragment (string_bytes name)))) }
+            OnOk result (IsAtProgress columns T.eq self.new before given (enter columns self.old.width p (marker_entry (string_bytes name)))) }
         ensures limits { KeepsLimits self.old self.new }
     {
         self.flat.push_marker(name)
@@ -282,7 +286,7 @@ impl<T: Eq + Clone + Drop> Wrapper<T> {
     /// Takes the markers out of a word that has no character.
     pub fn take_markers(&mut self) -> Result<Vec<TaggedLineElement<T>>, OutOfMemory>
         requires none { has_character self.old.flat.word ≡ false }
-        ensures markers { IfOk result (λ es. map element_of es.items ≡ map marker_element (marker_names self.old.flat.word)) }
+        ensures markers { IfOk result (λ es. map element_of es.items ≡ map marker_element (names_in_items self.old.flat.word)) }
         ensures taken { (columns : ℕ → Option ℕ) (before given : List (List (Item T))) (p : Progress T) → IsAtProgress columns T.eq self.old before given p →
             OnOk result (IsAtProgress columns T.eq self.new before given (record p { word = [] })) }
         ensures limits { KeepsLimits self.old self.new }
@@ -307,8 +311,8 @@ impl<T: Eq + Clone + Drop> Wrapper<T> {
         self.line_len = 0;
         self.space = None;
         self.word_mode = WhiteSpace::Normal;
-        self.continued = false;
-        self.again = false;
+        self.continuation_flag = false;
+        self.in_continuation = false;
         Ok(())
     }
 }

@@ -1,6 +1,6 @@
 //! What is noted of runs, for contracts alone.
 ghost use Rattle.std.specs.Prelude.{◌≡◌, ◌++◌, ◌∷◌, [], string_bytes};
-ghost use Rattle.tbr_model.specs.Run.{fragment};
+ghost use Rattle.tbr_model.specs.Run.{marker_entry};
 ghost use Rattle.tbr_wrap.specs.State.{after_change, entries_of};
 
 use std::marker::Model;
@@ -28,7 +28,7 @@ pub fn with_change<T>(
 ) -> History<RunChange, T, T>
     ensures { entries_of result.items ≡ after_change (entries_of changes.now.items) (change, main_tag.now, wrap_tag.now) }
 {
-    changes.and(&change, main_tag, wrap_tag)
+    changes.appended(&change, main_tag, wrap_tag)
 }
 
 /// The notes with one of a marker, which is given back. The tag stands for none.
@@ -37,11 +37,11 @@ pub fn with_marker<T>(
     name: String,
     tag: &T,
 ) -> (History<RunChange, T, T>, String)
-    ensures changes { entries_of result.0.items ≡ entries_of changes.now.items ++ fragment (string_bytes name) ∷ [] }
+    ensures changes { entries_of result.0.items ≡ entries_of changes.now.items ++ marker_entry (string_bytes name) ∷ [] }
     ensures name { result.1 ≡ name }
 {
     let change = RunChange::Marker(name);
-    let changes = changes.and(&change, tag, tag);
+    let changes = changes.appended(&change, tag, tag);
     match change {
         RunChange::Marker(name) => (changes, name),
         RunChange::Character(..) | RunChange::Taken(_) | RunChange::Ended(_) => unreachable!(),

@@ -4,7 +4,7 @@ ghost use Rattle.tbr_tagged.specs.Copies.{CopiesAreEqual};
 ghost use Rattle.tbr_model.specs.Run.{Item, items_width, has_character};
 ghost use Rattle.tbr_model.specs.Laid.{extended, put_items};
 ghost use Rattle.tbr_model.specs.Rule as model;
-ghost use Rattle.tbr_model.specs.Rule.{Progress, space_text, space_columns, put_pending, lay_here, lay_fresh, unfit_by, unfit, lay, flush_word, break_word, join};
+ghost use Rattle.tbr_model.specs.Rule.{Progress, space_text, pending_width, put_pending, lay_here, lay_fresh, wrap_space_by, wrap_space, lay, flush_word, break_word, join};
 ghost use Rattle.tbr_model.specs.declared.white_space.WhiteSpace.TheVariants.{Pre, PreWrap};
 ghost use Rattle.tbr_model.specs.Greedy.{IsNarrow};
 ghost use Rattle.tbr_wrap.specs.Wrapper.{IsAtProgress, KeepsLimits, SameSpace, held_columns};
@@ -42,7 +42,7 @@ impl<T: Eq + Clone + Drop> Wrapper<T> {
         requires faithful { CopiesAreEqual T.is_clone T.eq }
         requires room { self.old.line_width + held_columns self.old.space ≤ self.old.width }
         ensures placed { (before given : List (List (Item T))) (p : Progress T) → IsAtProgress W.columns T.eq self.old before given p →
-            OnOk result (IsAtProgress W.columns T.eq self.new before given (record p { laid = extended p.laid (space_text p.space) (space_columns p.space); space = None })) }
+            OnOk result (IsAtProgress W.columns T.eq self.new before given (record p { laid = extended p.laid (space_text p.space) (pending_width p.space); space = None })) }
         ensures line_width { OnOk result (self.new.line_width ≡ self.old.line_width + held_columns self.old.space) }
         ensures word_width { self.new.word_width ≡ self.old.word_width }
         ensures limits { KeepsLimits self.old self.new }
@@ -78,16 +78,16 @@ impl<T: Eq + Clone + Drop> Wrapper<T> {
         self.place_pending::<W>()?;
         let columns = mem::replace(&mut self.word_width, 0);
         self.place_word(columns)?;
-        self.continued = false;
+        self.continuation_flag = false;
         Ok(())
     }
 
     /// Does with the pending space what its mode asks for where the word behind it doesn't fit.
-    fn unfit<W: CharWidth>(&mut self) -> Result<(), OutOfMemory>
+    fn wrap_space<W: CharWidth>(&mut self) -> Result<(), OutOfMemory>
         requires faithful { CopiesAreEqual T.is_clone T.eq }
         requires stands { (before : List (List (Item T))) × (given : List (List (Item T))) × (p : Progress T) × IsAtProgress W.columns T.eq self.old before given p }
-        ensures unfit { (before given : List (List (Item T))) (p : Progress T) → IsAtProgress W.columns T.eq self.old before given p →
-            OnOk result (IsAtProgress W.columns T.eq self.new before given (unfit W.columns self.old.width p p.space)) }
+        ensures wrap_space { (before given : List (List (Item T))) (p : Progress T) → IsAtProgress W.columns T.eq self.old before given p →
+            OnOk result (IsAtProgress W.columns T.eq self.new before given (wrap_space W.columns self.old.width p p.space)) }
         ensures limits { KeepsLimits self.old self.new }
     {
         let Some(space) = self.space.take() else {
@@ -106,7 +106,7 @@ impl<T: Eq + Clone + Drop> Wrapper<T> {
         requires taken { self.old.space ≡ None }
         requires mode { space.mode ≡ Pre }
         ensures lessened { (before given : List (List (Item T))) (p : Progress T) (s : model.Space T) → IsAtProgress W.columns T.eq self.old before given (record p { space = None }) → SameSpace T.eq (Some space) (Some s) →
-            OnOk result (IsAtProgress W.columns T.eq self.new before given (unfit_by W.columns self.old.width p s Pre)) }
+            OnOk result (IsAtProgress W.columns T.eq self.new before given (wrap_space_by W.columns self.old.width p s Pre)) }
         ensures limits { KeepsLimits self.old self.new }
     {
         let room = self.width - self.line_width;
@@ -130,7 +130,7 @@ impl<T: Eq + Clone + Drop> Wrapper<T> {
         requires taken { self.old.space ≡ None }
         requires stands { (before : List (List (Item T))) × (given : List (List (Item T))) × (p : Progress T) × IsAtProgress W.columns T.eq self.old before given p }
         ensures trimmed { (before given : List (List (Item T))) (p : Progress T) (s : model.Space T) → IsAtProgress W.columns T.eq self.old before given (record p { space = None }) →
-            OnOk result (IsAtProgress W.columns T.eq self.new before given (unfit_by W.columns self.old.width p s PreWrap)) }
+            OnOk result (IsAtProgress W.columns T.eq self.new before given (wrap_space_by W.columns self.old.width p s PreWrap)) }
         ensures limits { KeepsLimits self.old self.new }
     {
         self.trim()?;
@@ -166,7 +166,7 @@ impl<T: Eq + Clone + Drop> Wrapper<T> {
     {
         self.end_if_character()?;
         self.put_pending::<W>()?;
-        self.continued = is_pre(self.word_mode);
+        self.continuation_flag = is_pre(self.word_mode);
         if self.flat.has_word() {
             return self.put_fresh::<W>();
         }
@@ -187,7 +187,7 @@ impl<T: Eq + Clone + Drop> Wrapper<T> {
             self.lay_here::<W>()?;
             return Ok(());
         }
-        self.unfit::<W>()?;
+        self.wrap_space::<W>()?;
         self.lay_fresh::<W>()
     }
 

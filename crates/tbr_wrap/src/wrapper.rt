@@ -42,9 +42,9 @@ pub struct Wrapper<T> {
     /// What is pending before the word.
     pub space: Option<Space<T>>,
     /// Whether the next call begins with the continuation tag.
-    pub continued: bool,
+    pub continuation_flag: bool,
     /// Whether this call has the continuation tag.
-    pub again: bool,
+    pub in_continuation: bool,
     ghost fits: { line_width ≤ width },
     ghost positive: { 0 < width },
     ghost counted: { deque_len lines ≡ length lines.items },
@@ -70,15 +70,15 @@ impl<T> Wrapper<T> {
             word_width: 0,
             word_mode: WhiteSpace::Normal,
             space: None,
-            continued: false,
-            again: false,
+            continuation_flag: false,
+            in_continuation: false,
         }
     }
 }
 
 impl<T: Eq + Clone> Wrapper<T> {
     ghost use Rattle.tbr_model.specs.Run.{item_width, items_width, has_character};
-    ghost use Rattle.tbr_model.specs.Laid.{Laid, extended, ended, fresh, blanked, put_item, put_items};
+    ghost use Rattle.tbr_model.specs.Laid.{Laid, extended, end_line, end_if_character, end_if_columns, put_item, put_items};
     ghost use Rattle.tbr_model.specs.Rule.{spaces, trimmed, without_leading, put_spaces};
     ghost use Rattle.tbr_model.specs.Greedy.{IsNarrow};
     ghost use Rattle.tbr_wrap.specs.Wrapper.{HoldsLaid, HoldsRule, HoldsRuleBefore, KeepsSettings, LeavesAfterLine};
@@ -87,9 +87,9 @@ impl<T: Eq + Clone> Wrapper<T> {
 
     /// Ends the open line.
     pub fn end_line(&mut self) -> Result<(), OutOfMemory>
-        ensures held { (before : List (List (Item T))) (l : Laid T) → HoldsLaid self.old before l → OnOk result (HoldsLaid self.new before (ended l)) }
+        ensures held { (before : List (List (Item T))) (l : Laid T) → HoldsLaid self.old before l → OnOk result (HoldsLaid self.new before (end_line l)) }
         ensures ended { (columns : ℕ → Option ℕ) (before given : List (List (Item T))) (r : Laid T) → HoldsRule columns T.eq self.old before given r →
-            OnOk result (HoldsRule columns T.eq self.new before given (ended r)) }
+            OnOk result (HoldsRule columns T.eq self.new before given (end_line r)) }
         ensures flat { self.new.flat ≡ self.old.flat }
         ensures same { KeepsSettings self.old self.new }
         ensures line_width { OnOk result (self.new.line_width ≡ 0) }
@@ -110,7 +110,7 @@ impl<T: Eq + Clone> Wrapper<T> {
     /// Ends the open line, if it has a character.
     pub fn end_if_character(&mut self) -> Result<(), OutOfMemory>
         ensures ended { (columns : ℕ → Option ℕ) (before given : List (List (Item T))) (r : Laid T) → HoldsRule columns T.eq self.old before given r →
-            OnOk result (HoldsRule columns T.eq self.new before given (fresh r) × (self.new.line_width ≡ 0)) }
+            OnOk result (HoldsRule columns T.eq self.new before given (end_if_character r) × (self.new.line_width ≡ 0)) }
         ensures flat { self.new.flat ≡ self.old.flat }
         ensures same { KeepsSettings self.old self.new }
     {
@@ -124,7 +124,7 @@ impl<T: Eq + Clone> Wrapper<T> {
     /// Ends the open line, if it has columns.
     fn end_if_columns(&mut self) -> Result<(), OutOfMemory>
         ensures ended { (columns : ℕ → Option ℕ) (before given : List (List (Item T))) (r : Laid T) → HoldsRule columns T.eq self.old before given r →
-            OnOk result (HoldsRule columns T.eq self.new before given (blanked r)) }
+            OnOk result (HoldsRule columns T.eq self.new before given (end_if_columns r)) }
         ensures flat { self.new.flat ≡ self.old.flat }
         ensures same { KeepsSettings self.old self.new }
         ensures line_width { OnOk result (self.new.line_width ≡ 0) }
@@ -162,7 +162,7 @@ impl<T: Eq + Clone> Wrapper<T> {
         ensures word { OnOk result ((i : Item T) × (rest : List (Item T)) × (self.old.flat.word ≡ i ∷ rest) × (self.new.flat.word ≡ rest)) }
         ensures placed { (widths : ℕ → Option ℕ) (before given : List (List (Item T))) (r : Laid T) (i j : Item T) (rest : List (Item T)) → HoldsRule widths T.eq self.old before given r →
             self.old.flat.word ≡ i ∷ rest → SameItem T.eq i j → self.old.width < item_width widths j →
-            OnOk result (HoldsRule widths T.eq self.new before given (ended (extended r (j ∷ []) (item_width widths j)))) }
+            OnOk result (HoldsRule widths T.eq self.new before given (end_line (extended r (j ∷ []) (item_width widths j)))) }
         ensures same { KeepsSettings self.old self.new }
     {
         let Some(line_len) = self.line_len.checked_add(1) else {
@@ -179,7 +179,7 @@ impl<T: Eq + Clone> Wrapper<T> {
         requires some { 0 < length self.old.flat.word }
         ensures put { (widths : ℕ → Option ℕ) (before given : List (List (Item T))) (r : Laid T) (i j : Item T) (rest : List (Item T)) → HoldsRule widths T.eq self.old before given r →
             self.old.flat.word ≡ i ∷ rest → SameItem T.eq i j → self.old.width < item_width widths j →
-            OnOk result (HoldsRule widths T.eq self.new before given (ended (extended (blanked r) (j ∷ []) (item_width widths j)))) }
+            OnOk result (HoldsRule widths T.eq self.new before given (end_line (extended (end_if_columns r) (j ∷ []) (item_width widths j)))) }
         ensures word { OnOk result ((i : Item T) × (rest : List (Item T)) × (self.old.flat.word ≡ i ∷ rest) × (self.new.flat.word ≡ rest)) }
         ensures too_narrow { result ≡ Err E.TooNarrow → self.old.may_overflow ≡ false }
         ensures same { KeepsSettings self.old self.new }

@@ -32,7 +32,7 @@ fn numbered(alloc: Global, length: u32, number: u32) -> Result<String, AllocErro
 fn entry(alloc: Global, c: char) -> Result<Entry<u8>, AllocError> {
     if c == MARK {
         let name = String::from_str(alloc, "m")?;
-        return Ok(Entry::Fragment { name });
+        return Ok(Entry::Marker { name });
     }
     Ok(Entry::Character {
         c,
@@ -60,7 +60,7 @@ fn append_line(all: &mut String, line: &[Slot<'_, u8>]) -> Result<(), OutOfMemor
         first = false;
         match slot.entry {
             Entry::Character { c, .. } => all.push(*c)?,
-            Entry::Fragment { name } => append_marker(all, name.as_str())?,
+            Entry::Marker { name } => append_marker(all, name.as_str())?,
         }
     }
     all.push('\n')?;
@@ -75,7 +75,7 @@ fn append_trailing(
 ) -> Result<(), OutOfMemory> {
     let mut items = items
         .iter()
-        .filter(|slot| matches!(slot.entry, Entry::Fragment { .. }));
+        .filter(|slot| matches!(slot.entry, Entry::Marker { .. }));
     for c in text.chars() {
         if c == MARK && items.next().is_none() {
             append_marker(all, "m")?;

@@ -4,14 +4,14 @@ use Rattle.std.proofs.lemmas.List.{take_at, drop_at, map-append}
 use Rattle.tbr_tagged.specs.Elements.{SameItems}
 use Rattle.tbr_model.specs.Run.{Item}
 use Rattle.tbr_model.specs.Layout.{joined}
-use Rattle.tbr_model.specs.Laid.{Laid, extended, ended}
-use Rattle.tbr_model.proofs.Lists.{joined-append}
+use Rattle.tbr_model.specs.Laid.{Laid, extended, end_line}
+use Rattle.tbr_model.proofs.lists.Joined.{joined-append}
 use Rattle.tbr_wrap.specs.declared.wrapper.Wrapper.{Wrapper}
 use Rattle.tbr_wrap.specs.Wrapper.{HoldsLaid, KeepsSettings, LeavesAfterLine}
 
 -- the open line is ended, as it was or with more items
 pub holds_end : {A : Type 0} (b c : Wrapper A) (before : List (List (Item A))) (l : Laid A) (n : ℕ) → HoldsLaid b before l → n ≡ length l.line → c.flat.placed ≡ b.flat.placed → c.lines.items ≡ b.lines.items ++ n ∷ [] → c.line_len ≡ 0 → c.line_width ≡ 0 →
-    HoldsLaid c before (ended l)
+    HoldsLaid c before (end_line l)
 holds_end {A} b c before l n h same flat lines len width = record {
   placed = flat ∙ h.placed ∙ sym (append-nil (joined (before ++ (l.done ++ l.line ∷ []))) ∙ ap joined (sym (append_assoc before l.done (l.line ∷ []))) ∙ joined-append (before ++ l.done) (l.line ∷ []) ∙ ap (λ is. joined (before ++ l.done) ++ is) (append-nil l.line));
   lens = lines ∙ ap (λ ns. ns ++ n ∷ []) h.lens ∙ ap (λ m. map length (before ++ l.done) ++ m ∷ []) same ∙ sym (ap (map length) (sym (append_assoc before l.done (l.line ∷ []))) ∙ map-append length (before ++ l.done) (l.line ∷ []));
@@ -36,8 +36,8 @@ keeps_trans a b c h k = record {
   space = k.space ∙ h.space;
   word_width = k.word_width ∙ h.word_width;
   word_mode = k.word_mode ∙ h.word_mode;
-  continued = k.continued ∙ h.continued;
-  again = k.again ∙ h.again;
+  continuation_flag = k.continuation_flag ∙ h.continuation_flag;
+  in_continuation = k.in_continuation ∙ h.in_continuation;
 }
 
 -- where no other field changed
@@ -78,7 +78,7 @@ taken {A} eq b c before l is rest n ns line h first e same flat lens len width =
 
 -- one more item, with which the open line is ended
 pub holds_wide : {A : Type 0} (b c : Wrapper A) (before : List (List (Item A))) (l : Laid A) (i : Item A) (columns n : ℕ) → HoldsLaid b before l → c.flat.placed ≡ b.flat.placed ++ i ∷ [] → n ≡ b.line_len + 1 → c.lines.items ≡ b.lines.items ++ n ∷ [] → c.line_len ≡ 0 → c.line_width ≡ 0 →
-    HoldsLaid c before (ended (extended l (i ∷ []) columns))
+    HoldsLaid c before (end_line (extended l (i ∷ []) columns))
 holds_wide {A} b c before l i columns n h placed count lines len width = record {
   placed = placed ∙ ap (λ js. js ++ i ∷ []) h.placed ∙ append_assoc (joined (before ++ l.done)) l.line (i ∷ [])
       ∙ sym (append-nil (joined (before ++ (l.done ++ (l.line ++ i ∷ []) ∷ []))) ∙ ap joined (sym (append_assoc before l.done ((l.line ++ i ∷ []) ∷ []))) ∙ joined-append (before ++ l.done) ((l.line ++ i ∷ []) ∷ []) ∙ ap (λ is. joined (before ++ l.done) ++ is) (append-nil (l.line ++ i ∷ [])));

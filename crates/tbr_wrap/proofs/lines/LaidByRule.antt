@@ -6,8 +6,8 @@ use Rattle.std.specs.Prelude.{MatchOption}
 use Rattle.tbr_model.specs.Run.{Item, glyph, marker, item_width, items_width, has_character}
 use Rattle.tbr_model.specs.Greedy.{IsNarrow}
 use Rattle.tbr_model.specs.Rule.{spaces}
-use Rattle.tbr_model.specs.Laid.{Laid, extended, ended, fresh, blanked, put_item}
-use Rattle.tbr_model.proofs.Letters.{no_character_no_width}
+use Rattle.tbr_model.specs.Laid.{Laid, extended, end_line, end_if_character, end_if_columns, put_item}
+use Rattle.tbr_model.proofs.words.Items.{no_character_no_width}
 use Rattle.tbr_tagged.specs.Elements.{SameItem, SameItems}
 use Rattle.tbr_wrap.specs.Wrapper.{HoldsLaid, LaidLikeRule, HoldsRule, KeepsLimits}
 use Rattle.tbr_wrap.specs.declared.wrapper.Wrapper.{Wrapper}
@@ -15,7 +15,7 @@ use Rattle.tbr_tagged.proofs.SameItems.{same_items_append, all_zip_append, same_
 use Rattle.tbr_wrap.proofs.lines.LineWidths.{measured_ended, measured_extended, measured_wide}
 
 module _ {A : Type 0} (eq : A → A → Bool) (laws : IsEquivalence eq) (given : List (List (Item A))) where
-  pub shows_ended : (l r : Laid A) → LaidLikeRule eq given l r → LaidLikeRule eq given (ended l) (ended r)
+  pub shows_ended : (l r : Laid A) → LaidLikeRule eq given l r → LaidLikeRule eq given (end_line l) (end_line r)
   shows_ended l r h = record {
     rest = h.rest ++ r.line ∷ [];
     split = ap (λ ls. ls ++ r.line ∷ []) h.split ∙ append_assoc given h.rest (r.line ∷ []);
@@ -34,9 +34,9 @@ module _ {A : Type 0} (eq : A → A → Bool) (laws : IsEquivalence eq) (given :
   }
 
 module _ {A : Type 0} (columns : ℕ → Option ℕ) (eq : A → A → Bool) (laws : IsEquivalence eq) (b c : Wrapper A) (same : KeepsLimits b c) (before given : List (List (Item A))) (r : Laid A) (h : HoldsRule columns eq b before given r) where
-  pub lays_ended : HoldsLaid c before (ended h.laid) → HoldsRule columns eq c before given (ended r)
+  pub lays_ended : HoldsLaid c before (end_line h.laid) → HoldsRule columns eq c before given (end_line r)
   lays_ended k = record {
-    laid = ended h.laid;
+    laid = end_line h.laid;
     holds = k;
     shows = shows_ended eq laws given h.laid r h.shows;
     measured = rw same.width (rw same.may_overflow (measured_ended columns b.width b.may_overflow r h.measured));
@@ -50,10 +50,10 @@ module _ {A : Type 0} (columns : ℕ → Option ℕ) (eq : A → A → Bool) (la
     measured = rw same.width (rw same.may_overflow (measured_extended columns b.width b.may_overflow r js n h.measured e (omega (arith, room, h.holds.width, h.shows.width))));
   }
 
-  pub lays_wide : (i j : Item A) → SameItem eq i j → b.may_overflow ≡ true → b.line_width ≡ 0 → b.width < item_width columns j → HoldsLaid c before (ended (extended h.laid (i ∷ []) (item_width columns j))) →
-      HoldsRule columns eq c before given (ended (extended r (j ∷ []) (item_width columns j)))
+  pub lays_wide : (i j : Item A) → SameItem eq i j → b.may_overflow ≡ true → b.line_width ≡ 0 → b.width < item_width columns j → HoldsLaid c before (end_line (extended h.laid (i ∷ []) (item_width columns j))) →
+      HoldsRule columns eq c before given (end_line (extended r (j ∷ []) (item_width columns j)))
   lays_wide i j item may none wide k = record {
-    laid = ended (extended h.laid (i ∷ []) (item_width columns j));
+    laid = end_line (extended h.laid (i ∷ []) (item_width columns j));
     holds = k;
     shows = shows_ended eq laws given (extended h.laid (i ∷ []) (item_width columns j)) (extended r (j ∷ []) (item_width columns j)) (shows_extended eq laws given h.laid r (i ∷ []) (j ∷ []) (item_width columns j) (item_width columns j) h.shows (item, tt) refl);
     measured = rw same.width (rw same.may_overflow (measured_wide columns b.width b.may_overflow r j h.measured may (omega (arith, none, h.holds.width, h.shows.width)) (omega (arith, wide))));
@@ -64,13 +64,13 @@ module _ {A : Type 0} (columns : ℕ → Option ℕ) (eq : A → A → Bool) (la
   lays_same k = record { laid = h.laid; holds = k; shows = h.shows; measured = rw same.width (rw same.may_overflow h.measured) }
 
   -- a line without a character isn't ended
-  pub lays_none : has_character h.laid.line ≡ false → HoldsLaid c before h.laid → c.line_width ≡ b.line_width → HoldsRule columns eq c before given (fresh r) × (c.line_width ≡ 0)
+  pub lays_none : has_character h.laid.line ≡ false → HoldsLaid c before h.laid → c.line_width ≡ b.line_width → HoldsRule columns eq c before given (end_if_character r) × (c.line_width ≡ 0)
   lays_none none k width =
       let test : has_character r.line ≡ false = sym (same_has eq h.laid.line r.line h.shows.last) ∙ none in
       (rw test (lays_same k), omega (arith, width, h.holds.width, h.shows.width, h.measured.line, no_character_no_width columns r.line test))
 
   -- and one with a character is
-  pub lays_some : has_character h.laid.line ≡ true → HoldsRule columns eq c before given (ended r) → HoldsRule columns eq c before given (fresh r)
+  pub lays_some : has_character h.laid.line ≡ true → HoldsRule columns eq c before given (end_line r) → HoldsRule columns eq c before given (end_if_character r)
   lays_some some k = let test : has_character r.line ≡ true = sym (same_has eq h.laid.line r.line h.shows.last) ∙ some in rw test k
 
   pub is_zero : b.line_width ≡ 0 → r.width ≡ 0
@@ -82,12 +82,12 @@ module _ {A : Type 0} (columns : ℕ → Option ℕ) (width : ℕ) (P : Laid A �
   pub item_here : r.width + item_width columns i ≤ width → P (extended r (i ∷ []) (item_width columns i)) → P (put_item columns width r i)
   item_here fits h = let test : nat_le (r.width + item_width columns i) width ≡ true = le-leb _ _ fits in rw test h
 
-  pub item_next : width < r.width + item_width columns i → item_width columns i ≤ width → P (extended (ended r) (i ∷ []) (item_width columns i)) → P (put_item columns width r i)
+  pub item_next : width < r.width + item_width columns i → item_width columns i ≤ width → P (extended (end_line r) (i ∷ []) (item_width columns i)) → P (put_item columns width r i)
   item_next full fits h =
       let test : nat_le (r.width + item_width columns i) width ≡ false = lt-leb _ _ full in
       let narrow : nat_le (item_width columns i) width ≡ true = le-leb _ _ fits in rw (test, narrow) h
 
-  pub item_wide : width < item_width columns i → P (ended (extended (blanked r) (i ∷ []) (item_width columns i))) → P (put_item columns width r i)
+  pub item_wide : width < item_width columns i → P (end_line (extended (end_if_columns r) (i ∷ []) (item_width columns i))) → P (put_item columns width r i)
   item_wide wide h =
       let test : nat_le (r.width + item_width columns i) width ≡ false = lt-leb _ _ (omega arith) in
       let narrow : nat_le (item_width columns i) width ≡ false = lt-leb _ _ wide in rw (test, narrow) h

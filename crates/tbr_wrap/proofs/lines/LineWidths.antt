@@ -2,14 +2,14 @@
 use Rattle.std.proofs.Common.{◌≡◌, nat_lt, ℕ, ◌+◌, ◌<◌, ◌≤◌, inl, inr, Bool, true, false, cond, Option, List, [], ◌∷◌, ◌++◌, refl, ap, arith}
 use borrow.Author.Tests.{lt-ltb, le-ltb}
 use Rattle.tbr_model.specs.Run.{Item, item_width, items_width}
-use Rattle.tbr_model.specs.Laid.{Laid, extended, ended}
-use Rattle.tbr_model.proofs.Ahead.{each_append}
+use Rattle.tbr_model.specs.Laid.{Laid, extended, end_line}
+use Rattle.tbr_model.proofs.lists.Each.{each_append}
 use Rattle.tbr_wrap.specs.Wrapped.{taking_columns, FitsBlock}
 use Rattle.tbr_wrap.specs.Wrapper.{RuleFitsWidth}
 use Rattle.tbr_tagged.proofs.ElementLoops.{items_width-append}
 
 module _ {A : Type 0} (columns : ℕ → Option ℕ) (width : ℕ) (overflow : Bool) where
-  pub measured_ended : (r : Laid A) → RuleFitsWidth columns width overflow r → RuleFitsWidth columns width overflow (ended r)
+  pub measured_ended : (r : Laid A) → RuleFitsWidth columns width overflow r → RuleFitsWidth columns width overflow (end_line r)
   measured_ended r h = record {
     small = omega arith;
     line = refl;
@@ -35,7 +35,7 @@ module _ {A : Type 0} (columns : ℕ → Option ℕ) (width : ℕ) (overflow : B
       omega (arith, ap (λ b. cond {A = ℕ} b 1 0) test, taking_push is i wide (omega arith))
 
   -- an item wider than a line, behind items of no width
-  pub measured_wide : (r : Laid A) (i : Item A) → RuleFitsWidth columns width overflow r → overflow ≡ true → r.width ≡ 0 → 0 < item_width columns i → RuleFitsWidth columns width overflow (ended (extended r (i ∷ []) (item_width columns i)))
+  pub measured_wide : (r : Laid A) (i : Item A) → RuleFitsWidth columns width overflow r → overflow ≡ true → r.width ≡ 0 → 0 < item_width columns i → RuleFitsWidth columns width overflow (end_line (extended r (i ∷ []) (item_width columns i)))
   measured_wide r i h sure zero wide = record {
     small = omega arith;
     line = refl;

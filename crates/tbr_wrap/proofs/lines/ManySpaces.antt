@@ -2,7 +2,7 @@
 use Rattle.std.proofs.Common.{◌≡◌, ℕ, zero, suc, ◌+◌, ◌<◌, true, false, [], ◌∷◌, refl, ap, sym, ◌∙◌, arith, append_assoc, append-nil, ◌==◌}
 use borrow.Author.Tests.{eq-eqb, ne_eqb}
 use Rattle.tbr_model.specs.Run.{glyph}
-use Rattle.tbr_model.specs.Laid.{Laid, extended, ended}
+use Rattle.tbr_model.specs.Laid.{Laid, extended, end_line}
 use Rattle.tbr_model.specs.Rule.{spaces, put_space, put_spaces}
 
 module _ {A : Type 0} (width : ℕ) (a : A) where
@@ -25,11 +25,11 @@ module _ {A : Type 0} (width : ℕ) (a : A) where
       rw test (put_room n (extended l (glyph 32 a ∷ []) 1) (omega (arith, h)) ∙ one_first n l)
 
   -- where they fill the line
-  pub put_full : (n : ℕ) (l : Laid A) → 0 < n → l.width + n ≡ width → put_spaces width a n l ≡ ended (extended l (spaces n a) n)
+  pub put_full : (n : ℕ) (l : Laid A) → 0 < n → l.width + n ≡ width → put_spaces width a n l ≡ end_line (extended l (spaces n a) n)
   put_full zero l some e = absurd (omega (arith, some))
   put_full (suc zero) l some e =
       let test : (l.width + 1 == width) ≡ true = eq-eqb _ _ e in
       rw test refl
   put_full (suc (suc n)) l some e =
       let test : (l.width + 1 == width) ≡ false = ne_eqb _ _ (λ f. omega (arith, e, f)) in
-      rw test (put_full (suc n) (extended l (glyph 32 a ∷ []) 1) (omega arith) (omega (arith, e)) ∙ ap ended (one_first (suc n) l))
+      rw test (put_full (suc n) (extended l (glyph 32 a ∷ []) 1) (omega arith) (omega (arith, e)) ∙ ap end_line (one_first (suc n) l))

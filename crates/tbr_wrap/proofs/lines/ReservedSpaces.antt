@@ -4,9 +4,9 @@ use Rattle.std.specs.Cmp.{IsEquivalence}
 use Rattle.std.proofs.lemmas.List.{map-append}
 use Rattle.tbr_model.specs.Run.{Item}
 use Rattle.tbr_model.specs.Layout.{joined}
-use Rattle.tbr_model.specs.Laid.{Laid, extended, ended}
+use Rattle.tbr_model.specs.Laid.{Laid, extended, end_line}
 use Rattle.tbr_model.specs.Rule.{spaces}
-use Rattle.tbr_model.proofs.Lists.{joined-append}
+use Rattle.tbr_model.proofs.lists.Joined.{joined-append}
 use Rattle.tbr_wrap.specs.declared.wrapper.Wrapper.{Wrapper}
 use Rattle.tbr_wrap.specs.Wrapper.{HoldsRule, HoldsRuleBefore, KeepsLimits}
 use Rattle.tbr_wrap.proofs.lines.LaidByRule.{shows_extended, shows_ended, same_spaces, spaces_width, spaces_length}
@@ -45,12 +45,12 @@ module _ {A : Type 0} (columns : ℕ → Option ℕ) (eq : A → A → Bool) (la
     }
 
     -- they fill the open line, which is ended
-    pub taken_full : c.flat ≡ b.flat → c.lines.items ≡ b.lines.items ++ (b.line_len + n) ∷ [] → c.line_len ≡ 0 → c.line_width ≡ 0 → HoldsRuleBefore columns eq c before given (ended (extended r (spaces n a) n)) behind
+    pub taken_full : c.flat ≡ b.flat → c.lines.items ≡ b.lines.items ++ (b.line_len + n) ∷ [] → c.line_len ≡ 0 → c.line_width ≡ 0 → HoldsRuleBefore columns eq c before given (end_line (extended r (spaces n a) n)) behind
     taken_full flat lines len width =
         let line = h.laid.line ++ spaces n x in
         let many : b.line_len + n ≡ length line = omega (arith, h.holds.len, length-append h.laid.line (spaces n x), spaces_length n x) in
         record {
-          laid = ended (extended h.laid (spaces n x) n);
+          laid = end_line (extended h.laid (spaces n x) n);
           holds = record {
             placed = ap (λ f. f.placed) flat ∙ h.holds.placed ∙ sym (append_assoc (joined (before ++ h.laid.done) ++ h.laid.line) (spaces n x) behind)
                 ∙ ap (λ is. is ++ behind) (append_assoc (joined (before ++ h.laid.done)) h.laid.line (spaces n x)

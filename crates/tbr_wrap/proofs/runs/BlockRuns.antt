@@ -7,13 +7,13 @@ use Rattle.std.proofs.lemmas.Bool.{le-ltb}
 use Rattle.std.specs.List.{AllZip, AllByRecursion as Each}
 use Rattle.std.specs.Prelude.{MatchOption, nat_lt, ◌||◌}
 use Rattle.std.specs.Cmp.{IsEquivalence}
-use Rattle.tbr_model.specs.Run.{Item, marker, items_width, Entry, fragment, is_break_entry, has_character, reading, trailing}
-use Rattle.tbr_model.specs.Markers.{marker_names, fragment_names, fragments, markers, last, without_last_markers}
-use Rattle.tbr_model.proofs.Markers.{markers_run, markers_at_end, waiting_none, markers_of_none, fragments_lead, run_of_fragments}
-use Rattle.tbr_model.proofs.TakenOut.{taken_out}
+use Rattle.tbr_model.specs.Run.{Item, marker, items_width, Entry, marker_entry, is_break_entry, has_character, reading, trailing}
+use Rattle.tbr_model.specs.Markers.{names_in_items, names_in_run, marker_run, marker_items, last, without_last_markers}
+use Rattle.tbr_model.proofs.rule.Markers.{markers_run, markers_at_end, waiting_none, marker_items_alone, markers_lead, run_of_markers}
+use Rattle.tbr_model.proofs.rule.TakenOutMarkers.{taken_out}
 use Rattle.tbr_model.specs.Layout.{joined, line_text}
 use Rattle.tbr_model.specs.Greedy.{IsNarrow}
-use Rattle.tbr_model.proofs.NormalEnd.{NormalBlank}
+use Rattle.tbr_model.proofs.normal.BestLines.{NormalBlank}
 use Rattle.tbr_model.specs.Laid.{Laid}
 use Rattle.tbr_model.specs.Rule.{Event, call, entry, run_of, Progress, at_start, step, progress, waiting, lines_of}
 use Rattle.tbr_wrap.specs.declared.wrapper.Wrapper.{Wrapper}
@@ -99,13 +99,13 @@ module _ {A : Type 0} (columns : ℕ → Option ℕ) (eq : A → A → Bool) (b 
   rule_none = sym (same_has eq b.flat.word p.word t.stands.word) ∙ none
 
   abbrev pub word_names : List (List ℕ)
-  word_names = marker_names b.flat.word
+  word_names = names_in_items b.flat.word
 
-  names_same : word_names ≡ marker_names p.word
+  names_same : word_names ≡ names_in_items p.word
   names_same = same_marker_names eq b.flat.word p.word t.stands.word
 
   word_count : length word_names ≡ length p.word
-  word_count = ap length names_same ∙ sym (length-map (marker_names p.word) marker) ∙ sym (ap length (markers_of_none p.word rule_none))
+  word_count = ap length names_same ∙ sym (length-map (names_in_items p.word) marker) ∙ sym (ap length (marker_items_alone p.word rule_none))
 
   pub tracks_taken : (n : ℕ) → n ≡ length word_names → c.width ≡ b.width → IsAtProgress columns eq c before given (record p { word = [] }) → IsAtRun columns eq c before given (without_last_markers n run)
   tracks_taken n count width s =
@@ -116,11 +116,11 @@ module _ {A : Type 0} (columns : ℕ → Option ℕ) (eq : A → A → Bool) (b 
         stands = subst (λ (w : ℕ). IsAtProgress columns eq c before given (progress columns w fs)) (sym width) (subst (λ (q : Progress A). IsAtProgress columns eq c before given q) (sym lead) s);
       }
 
-  pub last_taken : (n : ℕ) → n ≡ length word_names → last n (fragment_names run) ≡ word_names
+  pub last_taken : (n : ℕ) → n ≡ length word_names → last n (names_in_run run) ≡ word_names
   last_taken n count =
-      let line : List (List ℕ) = marker_names p.laid.line in
-      let done : List (List ℕ) = marker_names (joined p.laid.done) in
-      ap (λ es. last n (fragment_names es)) (sym t.run_is) ∙ ap (last n) (sym (markers_run columns b.width t.events) ∙ sym (append_assoc done line (marker_names p.word)) ∙ ap (λ ns. (done ++ line) ++ ns) (sym names_same))
+      let line : List (List ℕ) = names_in_items p.laid.line in
+      let done : List (List ℕ) = names_in_items (joined p.laid.done) in
+      ap (λ es. last n (names_in_run es)) (sym t.run_is) ∙ ap (last n) (sym (markers_run columns b.width t.events) ∙ sym (append_assoc done line (names_in_items p.word)) ∙ ap (λ ns. (done ++ line) ++ ns) (sym names_same))
       ∙ last_back (done ++ line) word_names n count
 
 -- ---- the end of a run
@@ -190,19 +190,19 @@ module _ {A : Type 0} (columns : ℕ → Option ℕ) (eq : A → A → Bool) (n 
   left = waiting columns b.width (progress columns b.width k.tracks.events)
 
   abbrev pub left_names : List (List ℕ)
-  left_names = marker_names left
+  left_names = names_in_items left
 
-  left_is : left ≡ markers left_names
-  left_is = markers_of_none left (waiting_none columns b.width (progress columns b.width k.tracks.events))
+  left_is : left ≡ marker_items left_names
+  left_is = marker_items_alone left (waiting_none columns b.width (progress columns b.width k.tracks.events))
 
-  pub marks_kept : IsEquivalence eq → marker_names (joined (handed ++ e.now)) ++ left_names ≡ fragment_names run
+  pub marks_kept : IsEquivalence eq → names_in_items (joined (handed ++ e.now)) ++ left_names ≡ names_in_run run
   marks_kept laws =
       let both : AllZip (SameItems eq) (handed ++ e.now) (k.given ++ e.rest) = all_zip_append (SameItems eq) handed e.now k.given e.rest k.shown e.same in
       let lines : AllZip (SameItems eq) (handed ++ e.now) (lines_of columns b.width k.tracks.events) = subst (λ (ls : List (List (Item A))). AllZip (SameItems eq) (handed ++ e.now) ls) (sym e.split) both in
       ap (λ ns. ns ++ left_names) (same_marker_names eq _ _ (same_joined eq laws (handed ++ e.now) (lines_of columns b.width k.tracks.events) lines))
-      ∙ markers_at_end columns b.width k.tracks.events ∙ ap fragment_names k.tracks.run_is
+      ∙ markers_at_end columns b.width k.tracks.events ∙ ap names_in_run k.tracks.run_is
 
-  pub trailing_waits : b.may_overflow ≡ false → IsNormal run → markers left_names ≡ trailing columns run
+  pub trailing_waits : b.may_overflow ≡ false → IsNormal run → marker_items left_names ≡ trailing columns run
   trailing_waits never normal =
       sym left_is ∙ waits_normal columns b.width k.tracks.events (subst (λ (o : Bool). Each (FitsBlock columns b.width o) (lines_of columns b.width k.tracks.events)) never e.fits) run k.tracks.run_is normal
 
@@ -212,24 +212,24 @@ module _ {A : Type 0} (columns : ℕ → Option ℕ) (eq : A → A → Bool) (n 
   left_count : length c.flat.word ≡ length left_names
   left_count = length_all_zip (SameItem eq) c.flat.word left e.stands.word ∙ ap length left_is ∙ length-map left_names marker
 
-  pub run_left : IsEquivalence eq → (m : ℕ) → m ≡ length c.flat.word → fragments {A = A} (last m (fragment_names run)) ≡ fragments left_names
-  run_left laws m count = ap fragments (ap (last m) (sym (marks_kept laws)) ∙ last_back (marker_names (joined (handed ++ e.now))) left_names m (count ∙ left_count))
+  pub run_left : IsEquivalence eq → (m : ℕ) → m ≡ length c.flat.word → marker_run {A = A} (last m (names_in_run run)) ≡ marker_run left_names
+  run_left laws m count = ap marker_run (ap (last m) (sym (marks_kept laws)) ∙ last_back (names_in_items (joined (handed ++ e.now))) left_names m (count ∙ left_count))
 
-  pub after_end : (m : ℕ) → m ≡ length c.lines.items → (earlier_texts m c ≡ earlier_texts n b ++ e.now) × HoldsRuns columns eq m c false [] (fragments left_names)
+  pub after_end : (m : ℕ) → m ≡ length c.lines.items → (earlier_texts m c ≡ earlier_texts n b ++ e.now) × HoldsRuns columns eq m c false [] (marker_run left_names)
   after_end m count =
       let before = earlier_texts n b in
       let many : length (before ++ e.now) ≡ m = length-append before e.now ∙ ap (λ i. i + length e.now) k.count ∙ sym ended_count ∙ sym count in
       let same : earlier_texts m c ≡ before ++ e.now = earlier_is c (before ++ e.now) e.stands.lays.laid m e.stands.lays.holds many in
-      let begin : ◌≡◌ {A = Progress A} (record at_start { word = left }) (progress columns c.width (map (λ n. entry (fragment n)) left_names)) =
-      ap (λ (is : List (Item A)). record at_start { word = is }) left_is ∙ sym (fragments_lead columns c.width left_names) in (
+      let begin : ◌≡◌ {A = Progress A} (record at_start { word = left }) (progress columns c.width (map (λ n. entry (marker_entry n)) left_names)) =
+      ap (λ (is : List (Item A)). record at_start { word = is }) left_is ∙ sym (markers_lead columns c.width left_names) in (
         same,
         record {
           count = ap length same ∙ many;
           given = [];
           shown = tt;
           after_change = refl;
-          tracks = subst (λ (ls : List (List (Item A))). IsAtRun columns eq c ls [] (fragments left_names)) (sym same)
-              (record { events = map (λ n. entry (fragment n)) left_names; run_is = run_of_fragments left_names; stands = subst (λ (p : Progress A). IsAtProgress columns eq c (before ++ e.now) [] p) begin e.stands });
+          tracks = subst (λ (ls : List (List (Item A))). IsAtRun columns eq c ls [] (marker_run left_names)) (sym same)
+              (record { events = map (λ n. entry (marker_entry n)) left_names; run_is = run_of_markers left_names; stands = subst (λ (p : Progress A). IsAtProgress columns eq c (before ++ e.now) [] p) begin e.stands });
         },
       )
 
@@ -253,7 +253,7 @@ module _ {A : Type 0} (columns : ℕ → Option ℕ) (eq : A → A → Bool) (b 
   word_so_far = word_normal columns b.width t.events run t.run_is normal fits_lines t.stands.lays.measured.small t.stands.lays.measured.line
 
   -- the markers that trail are those of a word without a character
-  pub trailing_so_far : has_character b.flat.word ≡ false → marker_names (trailing columns run) ≡ marker_names b.flat.word
+  pub trailing_so_far : has_character b.flat.word ≡ false → names_in_items (trailing columns run) ≡ names_in_items b.flat.word
   trailing_so_far none =
       let items : SameItems eq b.flat.word (reading columns run).items = subst (SameItems eq b.flat.word) word_so_far t.stands.word in
       let test : has_character (reading columns run).items ≡ false = sym (same_has eq b.flat.word (reading columns run).items items) ∙ none in
@@ -307,8 +307,8 @@ module _ {A : Type 0} (columns : ℕ → Option ℕ) (eq : A → A → Bool) (la
         word = rw word s.word;
         word_width = settings.word_width ∙ s.word_width;
         mode = settings.word_mode ∙ s.mode;
-        continued = settings.continued ∙ s.continued;
-        again = settings.again ∙ s.again;
+        continuation_flag = settings.continuation_flag ∙ s.continuation_flag;
+        in_continuation = settings.in_continuation ∙ s.in_continuation;
       } in
       record { events = t.events; run_is = t.run_is; stands = subst (λ (w : ℕ). IsAtProgress columns eq c after given' (progress columns w t.events)) (sym settings.width) stands }
 

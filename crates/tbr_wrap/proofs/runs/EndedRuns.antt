@@ -7,26 +7,27 @@ use Rattle.std.proofs.lemmas.Bool.{cond_both}
 use Rattle.std.proofs.lemmas.List.Sums.{fold-append}
 use Rattle.tbr_model.specs.declared.white_space.WhiteSpace.{WhiteSpace}
 use Rattle.tbr_model.specs.declared.white_space.WhiteSpace.TheVariants.{Normal, Pre, PreWrap}
-use Rattle.tbr_model.specs.Run.{Entry, character, fragment, Item, glyph, marker, items_width, has_character, is_break_entry, blank_of, trailing, Word, word_of, Reading, start, works, read, reading}
+use Rattle.tbr_model.specs.Run.{Entry, character, marker_entry, Item, glyph, marker, items_width, has_character, is_break_entry, blank_of, trailing, Word, word_of, Reading, start, works, read, reading}
 use Rattle.tbr_model.specs.Layout.{Slot, line_text, joined}
 use Rattle.tbr_model.specs.Greedy.{IsNarrow, wrapped}
-use Rattle.tbr_model.specs.Laid.{Laid, fresh}
+use Rattle.tbr_model.specs.Laid.{Laid, end_if_character}
 use Rattle.tbr_model.specs.Rule.{Event, run_of, progress, finished, flush_word, waiting, lines_of}
 use Rattle.tbr_model.specs.Hard.{HasMode, Preserves, IsNarrowEntry, glyphs_of, is_visible, visible_glyphs, visible_entries, IsShown, ShowsHardLine, ShowsPre, ShowsPreWrap, ShowsTabs, Parted, hard_lines}
-use Rattle.tbr_model.proofs.Ahead.{each_append, each_front, each_back}
-use Rattle.tbr_model.proofs.Runs.{narrow_markers}
-use Rattle.tbr_model.proofs.Characters.{HasGlyph, best_characters}
-use Rattle.tbr_model.proofs.HardLines.{hard_lines_parted}
-use Rattle.tbr_model.proofs.Visible.{fresh_line, visible_shown, hard_lines_shown}
-use Rattle.tbr_model.proofs.PreLines.{pre_line}
-use Rattle.tbr_model.proofs.PreWrapLine.{prewrap_line}
-use Rattle.tbr_model.proofs.TabsLine.{tab_line}
-use Rattle.tbr_model.proofs.NarrowWords.{word_from_run}
-use Rattle.tbr_model.proofs.NormalTexts.{text_has}
-use Rattle.tbr_model.proofs.NormalKept.{AllLaid, IsNarrowItem}
-use Rattle.tbr_model.proofs.NormalRule.{NormalStands, normal_stands}
-use Rattle.tbr_model.proofs.Trailing.{normal_waiting}
-use Rattle.tbr_model.proofs.NormalEnd.{NormalBlank, normal_lines, normal_blank}
+use Rattle.tbr_model.proofs.lists.Each.{each_append, each_front, each_back}
+use Rattle.tbr_model.proofs.words.KeptItems.{narrow_markers}
+use Rattle.tbr_model.proofs.words.LinesHaveCharacters.{HasGlyph, best_characters}
+use Rattle.tbr_model.proofs.rule.HardLines.{hard_lines_parted}
+use Rattle.tbr_model.proofs.rule.HardLines.{no_character_after_end}
+use Rattle.tbr_model.proofs.rule.VisibleCharacters.{visible_shown, hard_lines_shown}
+use Rattle.tbr_model.proofs.pre.HardLine.{pre_line}
+use Rattle.tbr_model.proofs.prewrap.HardLine.{prewrap_line}
+use Rattle.tbr_model.proofs.tabs.HardLine.{tab_line}
+use Rattle.tbr_model.proofs.rule.NarrowWords.{word_from_run}
+use Rattle.tbr_model.proofs.normal.LaidWords.{text_has}
+use Rattle.tbr_model.proofs.normal.StaysLaid.{AllLaid, IsNarrowItem}
+use Rattle.tbr_model.proofs.normal.LayoutSoFar.{NormalStands, normal_stands}
+use Rattle.tbr_model.proofs.normal.TrailingMarkers.{normal_waiting}
+use Rattle.tbr_model.proofs.normal.BestLines.{NormalBlank, normal_lines, normal_blank}
 use Rattle.tbr_tagged.specs.Elements.{SameItems}
 use Rattle.tbr_wrap.specs.Wrapped.{IsTextOf, HasBestLines, FitsBlock, EndedWordsFit, WordsFit, ended_lines}
 use Rattle.tbr_wrap.specs.State.{IsNormal, CharactersFit, IsNarrowIfVisible, VisibleFit, IsShownBy}
@@ -67,8 +68,8 @@ module _ {A : Type 0} (columns : ℕ → Option ℕ) (width : ℕ) where
   narrow_joined [] h = tt
   narrow_joined (l ∷ ls) h = each_append (IsNarrowItem columns width) l (joined ls) h.0 (narrow_joined ls h.1)
 
-  narrow_fresh : (l : Laid A) → Each (FitsBlock columns width false) (fresh l).done → AllLaid (IsNarrowItem columns width) (fresh l)
-  narrow_fresh l h = (narrow_lines (fresh l).done h, narrow_markers columns width (fresh l).line (fresh_line l))
+  narrow_fresh : (l : Laid A) → Each (FitsBlock columns width false) (end_if_character l).done → AllLaid (IsNarrowItem columns width) (end_if_character l)
+  narrow_fresh l h = (narrow_lines (end_if_character l).done h, narrow_markers columns width (end_if_character l).line (no_character_after_end l))
 
   -- ---- where a run ends
 
@@ -99,16 +100,16 @@ module _ {A : Type 0} (columns : ℕ → Option ℕ) (width : ℕ) where
   glyphs_narrow (glyph c a ∷ is) h = (h.0, glyphs_narrow is h.1)
   glyphs_narrow (marker m ∷ is) h = glyphs_narrow is h.1
 
-  shown_narrow : (eq : A → A → Bool) (gs : List (ℕ × A)) (es : List (Entry A)) → AllZip (IsShown eq) gs es → Each IsNarrowGlyph gs → Each (IsNarrowEntry columns width) es
+  shown_narrow : (eq : A → A → Bool) (gs : List (ℕ × A)) (es : List (Entry A)) → AllZip (IsShown (λ a b. eq a b ≡ true)) gs es → Each IsNarrowGlyph gs → Each (IsNarrowEntry columns width) es
   shown_narrow eq [] [] h k = tt
   shown_narrow eq [] (e ∷ es) h k = absurd h
   shown_narrow eq (g ∷ gs) [] h k = absurd h
-  shown_narrow eq (g ∷ gs) (fragment name ∷ es) h k = absurd h.0
+  shown_narrow eq (g ∷ gs) (marker_entry name ∷ es) h k = absurd h.0
   shown_narrow eq (g ∷ gs) (character c a b m ∷ es) h k = (subst (λ (d : ℕ). unwrap_or (columns d) 0 ≤ width) h.0.0 k.0, shown_narrow eq gs es h.1 k.1)
 
   narrow_visible : (run : List (Entry A)) → Each (IsNarrowEntry columns width) (visible_entries columns run) → VisibleFit columns width run
   narrow_visible [] h = tt
-  narrow_visible (fragment name ∷ run) h = (tt, narrow_visible run h)
+  narrow_visible (marker_entry name ∷ run) h = (tt, narrow_visible run h)
   narrow_visible (character c a b m ∷ run) h =
       cond_both (is_visible columns c) _ _ (λ (es : List (Entry A)). Each (IsNarrowEntry columns width) es → IsNarrowIfVisible columns width (character c a b m) × VisibleFit columns width run)
       (λ _ k. (λ _. k.0, narrow_visible run k.1)) (λ hidden k. (λ visible. absurd (let t : true ≡ false = sym visible ∙ hidden in cc), narrow_visible run k)) h
@@ -119,7 +120,7 @@ module _ {A : Type 0} (columns : ℕ → Option ℕ) (width : ℕ) where
       let glyphs : Each IsNarrowGlyph (glyphs_of (joined ls)) = glyphs_narrow (joined ls) (narrow_joined ls (narrow_lines ls fits)) in
       let seen : Each IsNarrowGlyph (visible_glyphs columns (joined ls)) = each_filter IsNarrowGlyph (λ g. is_visible columns g.0) (glyphs_of (joined ls)) glyphs in
       subst (VisibleFit columns width) is
-      (narrow_visible (run_of es) (shown_narrow (λ x y. true) (visible_glyphs columns (joined ls)) (visible_entries columns (run_of es)) (visible_shown columns width (λ x y. true) (λ x. refl) es) seen))
+      (narrow_visible (run_of es) (shown_narrow (λ x y. true) (visible_glyphs columns (joined ls)) (visible_entries columns (run_of es)) (visible_shown columns width (λ x y. true ≡ true) (λ x. refl) es) seen))
 
   pub words_fit_normal : (es : List (Event A)) (run : List (Entry A)) → run_of es ≡ run → IsNormal run → Each (FitsBlock columns width false) (lines_of columns width es) → WordsFit columns width run
   words_fit_normal es run is normal fits = subst (WordsFit columns width) is (words_fit es fits (subst IsNormal (sym is) normal))
@@ -129,7 +130,7 @@ module _ {A : Type 0} (columns : ℕ → Option ℕ) (width : ℕ) where
 module _ {A : Type 0} (columns : ℕ → Option ℕ) (eq : A → A → Bool) (laws : IsEquivalence eq) (width : ℕ) (one_space : columns 32 ≡ Some 1) (wide : 0 < width) where
   preserving : (mode : WhiteSpace) → mode ≢ Normal → (e : Entry A) → HasMode mode e → Preserves e
   preserving mode kept (character c a b m) h = λ normal. kept (sym h ∙ normal)
-  preserving mode kept (fragment name) h = tt
+  preserving mode kept (marker_entry name) h = tt
 
   pre_kept : Pre ≢ Normal
   pre_kept e = cc
@@ -137,9 +138,9 @@ module _ {A : Type 0} (columns : ℕ → Option ℕ) (eq : A → A → Bool) (la
   prewrap_kept : PreWrap ≢ Normal
   prewrap_kept e = cc
 
-  pre_parted : (es : List (Event A)) → Each (HasMode Pre) (run_of es) → Parted (ShowsPre columns eq width) (hard_lines (run_of es)) (lines_of columns width es)
+  pre_parted : (es : List (Event A)) → Each (HasMode Pre) (run_of es) → Parted (ShowsPre columns (λ a b. eq a b ≡ true) width) (hard_lines (run_of es)) (lines_of columns width es)
   pre_parted es h =
-      hard_lines_parted columns width (ShowsPre columns eq width) (HasMode Pre) (preserving Pre pre_kept) (λ p es f modes plain. pre_line columns eq width one_space wide laws.refl p es f modes plain) es h
+      hard_lines_parted columns width (ShowsPre columns (λ a b. eq a b ≡ true) width) (HasMode Pre) (preserving Pre pre_kept) (λ p es f modes plain. pre_line columns (λ a b. eq a b ≡ true) width one_space wide laws.refl p es f modes plain) es h
 
   prewrap_parted : (es : List (Event A)) → Each (HasMode PreWrap) (run_of es) → Parted (ShowsPreWrap columns width) (hard_lines (run_of es)) (lines_of columns width es)
   prewrap_parted es h =
@@ -156,9 +157,9 @@ module _ {A : Type 0} (columns : ℕ → Option ℕ) (eq : A → A → Bool) (la
       let hs : List (List (Entry A)) = hard_lines (run_of es) in
       record {
         best = λ never normal. best_texts columns width es (subst (λ (o : Bool). Each (FitsBlock columns width o) ls) never fits) eq texts same normal;
-        visible = visible_same eq laws columns (run_of es) texts ls same (visible_shown columns width eq laws.refl es);
-        hard = λ kept. parted_same eq laws (ShowsHardLine columns eq) (hard_line_same eq laws columns) hs texts ls same (hard_lines_shown columns width eq laws.refl es kept);
-        pre = λ modes. parted_same eq laws (ShowsPre columns eq width) (pre_same eq laws columns width) hs texts ls same (pre_parted es modes);
+        visible = visible_same eq laws columns (run_of es) texts ls same (visible_shown columns width (λ a b. eq a b ≡ true) laws.refl es);
+        hard = λ kept. parted_same eq laws (ShowsHardLine columns (λ a b. eq a b ≡ true)) (hard_line_same eq laws columns) hs texts ls same (hard_lines_shown columns width (λ a b. eq a b ≡ true) laws.refl es kept);
+        pre = λ modes. parted_same eq laws (ShowsPre columns (λ a b. eq a b ≡ true) width) (pre_same eq laws columns width) hs texts ls same (pre_parted es modes);
         prewrap = λ modes. parted_same eq laws (ShowsPreWrap columns width) (prewrap_same eq laws columns width) hs texts ls same (prewrap_parted es modes);
         tabs = λ modes. parted_same eq laws (ShowsTabs columns width) (tabs_same eq laws columns width) hs texts ls same
             (elim modes [ inl m ↦ tabs_parted Pre pre_kept es m | inr m ↦ tabs_parted PreWrap prewrap_kept es m ]);
@@ -258,5 +259,5 @@ module _ {A : Type 0} (columns : ℕ → Option ℕ) (width : ℕ) where
 
     pub two_columns_characters : (run : List (Entry A)) → CharactersFit columns width run
     two_columns_characters [] = tt
-    two_columns_characters (fragment name ∷ run) = (tt, two_columns_characters run)
+    two_columns_characters (marker_entry name ∷ run) = (tt, two_columns_characters run)
     two_columns_characters (character c a b m ∷ run) = (two_narrow width two (columns c) (law c), two_columns_characters run)

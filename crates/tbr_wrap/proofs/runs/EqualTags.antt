@@ -3,10 +3,10 @@ use Rattle.std.proofs.Common.{◌≡◌, ◌≢◌, ℕ, suc, inl, inr, zero, Bo
 use Rattle.std.specs.List.{AllZip}
 use Rattle.std.specs.Cmp.{IsEquivalence}
 use Rattle.std.proofs.lemmas.List.Elements.{length_all_zip}
-use Rattle.tbr_model.specs.Run.{Entry, character, fragment, Item, glyph, marker, is_kept}
+use Rattle.tbr_model.specs.Run.{Entry, character, marker_entry, Item, glyph, marker, is_kept}
 use Rattle.tbr_model.specs.Layout.{joined}
 use Rattle.tbr_model.specs.Hard.{glyphs_of, letters_of, entry_letters, is_visible, IsShown, ShowsVisible, Parted, StandUnder, HasMain, HasContinuation, stretches, IsCutEvery, IsCutOf, ShowsHardLine, ShowsPre, ShowsPreWrap, ShowsTabs}
-use Rattle.tbr_model.specs.Markers.{marker_names}
+use Rattle.tbr_model.specs.Markers.{names_in_items}
 use Rattle.tbr_tagged.specs.Elements.{SameItems}
 use Rattle.tbr_tagged.proofs.SameItems.{same_items_append}
 
@@ -106,14 +106,14 @@ module _ {A : Type 0} (eq : A → A → Bool) (laws : IsEquivalence eq) where
 
   -- ---- what is told of a run
 
-  shown_same : (g h : ℕ × A) (e : Entry A) → SameGlyph eq g h → IsShown eq h e → IsShown eq g e
-  shown_same g h (fragment name) same k = k
+  shown_same : (g h : ℕ × A) (e : Entry A) → SameGlyph eq g h → IsShown (λ a b. eq a b ≡ true) h e → IsShown (λ a b. eq a b ≡ true) g e
+  shown_same g h (marker_entry name) same k = k
   shown_same g h (character c a b m) same k =
       (same.0 ∙ k.0, elim k.1 [ inl e ↦ inl (laws.congr g.1 h.1 a same.1 ∙ e) | inr e ↦ inr (laws.congr g.1 h.1 b same.1 ∙ e) ])
 
-  pub visible_same : (columns : ℕ → Option ℕ) (run : List (Entry A)) (texts ls : List (List (Item A))) → AllZip (SameItems eq) texts ls → ShowsVisible columns eq run ls → ShowsVisible columns eq run texts
+  pub visible_same : (columns : ℕ → Option ℕ) (run : List (Entry A)) (texts ls : List (List (Item A))) → AllZip (SameItems eq) texts ls → ShowsVisible columns (λ a b. eq a b ≡ true) run ls → ShowsVisible columns (λ a b. eq a b ≡ true) run texts
   visible_same columns run texts ls same h =
-      all_zip_trans (SameGlyph eq) (IsShown eq) (IsShown eq) shown_same _ _ _ (same_filter eq (is_visible columns) (glyphs_of (joined texts)) (glyphs_of (joined ls)) (joined_glyphs texts ls same)) h
+      all_zip_trans (SameGlyph eq) (IsShown (λ a b. eq a b ≡ true)) (IsShown (λ a b. eq a b ≡ true)) shown_same _ _ _ (same_filter eq (is_visible columns) (glyphs_of (joined texts)) (glyphs_of (joined ls)) (joined_glyphs texts ls same)) h
 
   -- ---- what is told of hard lines
 
@@ -129,7 +129,7 @@ module _ {A : Type 0} (eq : A → A → Bool) (laws : IsEquivalence eq) where
       let (f, b, d, hf, hb) = all_zip_split (SameItems eq) texts front back (subst (AllZip (SameItems eq) texts) e same) in
       (f, b, d, kept true x f front hf first, parted_same R kept (z ∷ xs) b back hb rest)
 
-  pub hard_line_same : (columns : ℕ → Option ℕ) → IsKept (ShowsHardLine columns eq)
+  pub hard_line_same : (columns : ℕ → Option ℕ) → IsKept (ShowsHardLine columns (λ a b. eq a b ≡ true))
   hard_line_same columns more h texts ls same k = record {
     line = λ m. omega (arith, k.line m, length_all_zip (SameItems eq) texts ls same);
     visible = visible_same columns h texts ls same k.visible;
@@ -139,15 +139,15 @@ module _ {A : Type 0} (eq : A → A → Bool) (laws : IsEquivalence eq) where
   stand_same Has f gs hs es same h =
       all_zip_trans (SameGlyph eq) (λ g e. g.0 ≢ 32 → Has e g.1) (λ g e. g.0 ≢ 32 → Has e g.1) (λ g k e s under space. f e g.1 k.1 s.1 (under (λ is. space (s.0 ∙ is)))) gs hs es same h
 
-  main_same : (e : Entry A) (x y : A) → eq x y ≡ true → HasMain eq e y → HasMain eq e x
+  main_same : (e : Entry A) (x y : A) → eq x y ≡ true → HasMain (λ a b. eq a b ≡ true) e y → HasMain (λ a b. eq a b ≡ true) e x
   main_same (character c a b m) x y same h = laws.congr x y a same ∙ h
-  main_same (fragment name) x y same h = h
+  main_same (marker_entry name) x y same h = h
 
-  continuation_same : (e : Entry A) (x y : A) → eq x y ≡ true → HasContinuation eq e y → HasContinuation eq e x
+  continuation_same : (e : Entry A) (x y : A) → eq x y ≡ true → HasContinuation (λ a b. eq a b ≡ true) e y → HasContinuation (λ a b. eq a b ≡ true) e x
   continuation_same (character c a b m) x y same h = laws.congr x y b same ∙ h
-  continuation_same (fragment name) x y same h = h
+  continuation_same (marker_entry name) x y same h = h
 
-  pub pre_same : (columns : ℕ → Option ℕ) (width : ℕ) → IsKept (ShowsPre columns eq width)
+  pub pre_same : (columns : ℕ → Option ℕ) (width : ℕ) → IsKept (ShowsPre columns (λ a b. eq a b ≡ true) width)
   pre_same columns width more h texts ls same k =
       let lines = same_letter_lines eq texts ls same in
       let glyphs = joined_glyphs texts ls same in
@@ -156,9 +156,9 @@ module _ {A : Type 0} (eq : A → A → Bool) (laws : IsEquivalence eq) where
         fits = λ printable other fits. lines ∙ k.fits printable other fits;
         cut = λ printable begins. subst (IsCutEvery width (entry_letters h)) (sym lines) (k.cut printable begins);
         blank = λ printable spaces m. lines ∙ k.blank printable spaces m;
-        main = λ printable begins. stand_same (HasMain eq) main_same _ _ (take width h)
+        main = λ printable begins. stand_same (HasMain (λ a b. eq a b ≡ true)) main_same _ _ (take width h)
             (all_zip_take (SameGlyph eq) width (glyphs_of (joined texts)) (glyphs_of (joined ls)) glyphs) (k.main printable begins);
-        continuation = λ printable begins. stand_same (HasContinuation eq) continuation_same _ _ (drop width h)
+        continuation = λ printable begins. stand_same (HasContinuation (λ a b. eq a b ≡ true)) continuation_same _ _ (drop width h)
             (all_zip_drop (SameGlyph eq) width (glyphs_of (joined texts)) (glyphs_of (joined ls)) glyphs) (k.continuation printable begins);
       }
 
@@ -175,7 +175,7 @@ module _ {A : Type 0} (eq : A → A → Bool) (laws : IsEquivalence eq) where
 
 -- ---- markers
 
-pub same_marker_names : {A : Type 0} (eq : A → A → Bool) (is js : List (Item A)) → SameItems eq is js → marker_names is ≡ marker_names js
+pub same_marker_names : {A : Type 0} (eq : A → A → Bool) (is js : List (Item A)) → SameItems eq is js → names_in_items is ≡ names_in_items js
 same_marker_names eq [] [] h = refl
 same_marker_names eq [] (j ∷ js) h = absurd h
 same_marker_names eq (i ∷ is) [] h = absurd h

@@ -3,7 +3,7 @@ use Rattle.std.proofs.Common.{ℕ, List, [], ◌∷◌, ◌++◌, refl}
 use Rattle.tbr_model.specs.Run.{Entry}
 use Rattle.tbr_model.specs.declared.white_space.WhiteSpace.TheVariants.{Normal}
 use Rattle.tbr_model.specs.Hard.{HasMode}
-use Rattle.tbr_model.proofs.Ahead.{each_append}
+use Rattle.tbr_model.proofs.lists.Each.{each_append}
 use Rattle.tbr_wrap.specs.State.{text_entries, IsNormal}
 
 -- a text in `Normal` makes a `Normal` run

@@ -5,7 +5,7 @@ use Rattle.std.proofs.lemmas.List.{length-map}
 use Rattle.std.specs.Prelude.{nat_lt, ◌||◌}
 use Rattle.tbr_model.specs.Run.{Item, items_width, kept_items, has_character, Entry}
 use Rattle.tbr_model.specs.Rule.{progress}
-use Rattle.tbr_model.proofs.Entries.{or_false}
+use Rattle.std.proofs.Math.Bool.{or-false}
 use Rattle.tbr_wrap.specs.declared.wrapper.Wrapper.{Wrapper}
 use Rattle.tbr_tagged.specs.Elements.{SameItems}
 use Rattle.tbr_wrap.specs.State.{IsNormal, is_some_list}
@@ -26,7 +26,7 @@ nothing_ended {A} columns eq n b handing handed run k none begun m many =
     let count : length b.lines.items ≡ n = ap length s.holds.lens ∙ length-map (before ++ s.laid.done) length ∙ ap (λ ls. length (before ++ ls)) unlaid ∙ ap length (append-nil before) ∙ k.count in
     let later : nat_lt n m ≡ false = le-ltb n m (omega (arith, many, count)) in
     let first : handing ≡ false = k.after_change ∙ ap is_some_list unhanded in
-    rw (first, later) (or_false begun)
+    rw (first, later) (or-false begun)
 
 module _ {A : Type 0} (columns : ℕ → Option ℕ) (eq : A → A → Bool) (b : Wrapper A) (before given : List (List (Item A))) (run : List (Entry A)) (t : IsAtRun columns eq b before given run) (never : b.may_overflow ≡ false) (normal : IsNormal run) where
   -- line and word take no columns where the run keeps none

@@ -6,9 +6,9 @@ use Rattle.std.proofs.lemmas.List.{take-append-drop, take-append-le, drop-append
 use Rattle.std.proofs.lemmas.Bool.{true≢false, false≢true, true_from_ne_false}
 use Rattle.tbr_model.specs.Run.{Item, glyph, marker, items_width, has_character}
 use Rattle.tbr_model.specs.Entry.{is_glyph}
-use Rattle.tbr_model.proofs.Ahead.{each_front, each_back}
-use Rattle.tbr_model.proofs.Letters.{items_width-append}
-use Rattle.tbr_model.proofs.Lists.{cut_twice}
+use Rattle.tbr_model.proofs.lists.Each.{each_front, each_back}
+use Rattle.tbr_model.proofs.words.Items.{items_width-append}
+use Rattle.tbr_model.proofs.lists.Joined.{cut_twice}
 use Rattle.tbr_tagged.specs.Elements.{SameItems}
 use Rattle.tbr_wrap.specs.Flat.{MarkerPlaces, marked, before_last, covered, before_first, shortened, followed, EndsWithMarkers}
 use Rattle.tbr_wrap.proofs.storage.StretchTags.{take_behind}

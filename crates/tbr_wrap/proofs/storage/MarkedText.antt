@@ -7,7 +7,7 @@ use Rattle.std.proofs.lemmas.Bool.{or_parts}
 use Rattle.std.proofs.lemmas.List.{length-append, length-take, take-append-drop, take-append-le, take_at, take_all, drop_at}
 use Rattle.tbr_model.specs.Entry.{is_glyph}
 use Rattle.tbr_model.specs.Run.{Item, marker, has_character}
-use Rattle.tbr_model.proofs.Letters.{has_character-append}
+use Rattle.tbr_model.proofs.words.Items.{has_character-append}
 use Rattle.tbr_tagged.specs.Elements.{SameItems}
 use Rattle.tbr_wrap.specs.Flat.{Flat, MarkerPlaces, marked, covered, before_first, shortened, followed, EndsWithMarkers}
 use Rattle.tbr_wrap.proofs.storage.StretchTags.{take_behind}

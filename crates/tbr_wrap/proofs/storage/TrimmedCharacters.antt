@@ -8,7 +8,7 @@ use Rattle.std.proofs.lemmas.List.{take-append-drop, length-append, length-take,
 use Rattle.tbr_model.specs.Run.{Item, glyph, items_width}
 use Rattle.tbr_model.specs.Entry.{is_glyph}
 use Rattle.tbr_model.specs.Rule.{without_leading, without_trailing, is_space_item, is_white_item}
-use Rattle.tbr_model.specs.Width.{text_columns}
+use Rattle.tbr_model.specs.Width.{width_of_text}
 use Rattle.tbr_wrap.specs.Flat.{Letters, flat, glyphs}
 use Rattle.tbr_wrap.proofs.storage.TaggedCharacters.{drop_twice, glyphs-drop, length-glyphs}
 use Rattle.tbr_wrap.proofs.storage.StretchTags.{take_behind}
@@ -21,12 +21,12 @@ module _ {A : Type 0} where
   all_glyphs (c ∷ cs) (t ∷ ts) = (refl, all_glyphs cs ts)
 
   -- the columns of characters don't depend on their tags
-  glyphs_width : (columns : ℕ → Option ℕ) (cs : List ℕ) (ts : List A) → length cs ≤ length ts → text_columns columns cs ≡ items_width columns (glyphs cs ts)
+  glyphs_width : (columns : ℕ → Option ℕ) (cs : List ℕ) (ts : List A) → length cs ≤ length ts → width_of_text columns cs ≡ items_width columns (glyphs cs ts)
   glyphs_width columns [] ts h = refl
   glyphs_width columns (c ∷ cs) [] h = absurd (omega arith)
   glyphs_width columns (c ∷ cs) (t ∷ ts) h = omega (arith, glyphs_width columns cs ts (omega arith))
 
-  pub word_columns : (columns : ℕ → Option ℕ) (l : Letters) (ts : List A) → length ts ≡ length l.placed + length l.word → text_columns columns l.word ≡ items_width columns (flat l ts).word
+  pub word_columns : (columns : ℕ → Option ℕ) (l : Letters) (ts : List A) → length ts ≡ length l.placed + length l.word → width_of_text columns l.word ≡ items_width columns (flat l ts).word
   word_columns columns l ts h = glyphs_width columns l.word (drop (length l.placed) ts) (omega (arith, h, length-drop (length l.placed) ts))
 
 -- ---- what is trimmed

@@ -4,7 +4,7 @@ use Rattle.std.proofs.lemmas.Bool.{cases_lt, cases_Bool}
 use Rattle.std.proofs.lemmas.List.{take-append-drop, length-append, length-take, length-drop, take_at, take_all, drop_all, drop_at, append_cancel_right, nil_from_length}
 use Rattle.tbr_model.specs.Run.{Item, marker}
 use Rattle.tbr_model.specs.Rule.{without_leading, without_trailing, is_white_item}
-use Rattle.tbr_model.proofs.Lists.{cut_twice}
+use Rattle.tbr_model.proofs.lists.Joined.{cut_twice}
 use Rattle.tbr_wrap.specs.Flat.{MarkerPlaces, marked, before_last, covered, before_first, shortened}
 use Rattle.tbr_wrap.proofs.storage.TrimmedCharacters.{trailing_none, trailing_some}
 use Rattle.tbr_wrap.proofs.storage.MarkerPlaces.{covered_shortened, first_within}

@@ -7,7 +7,7 @@ use Rattle.tbr_model.specs.declared.white_space.WhiteSpace.{WhiteSpace}
 use Rattle.tbr_model.specs.declared.white_space.WhiteSpace.TheVariants.{Normal}
 use Rattle.tbr_model.specs.Laid.{Laid}
 use Rattle.tbr_model.specs.Run.{Item, has_character, is_blank, is_break, always_takes_space}
-use Rattle.tbr_model.specs.Rule.{Space, Progress, space_of, space_columns, tag_of, collapse, preserve, newline, tab, flush_word, break_word, keep_space, keep_character, enter_normal, join}
+use Rattle.tbr_model.specs.Rule.{Space, Progress, space_of, pending_width, tag_of, collapse, preserve, newline, tab, flush_word, break_word, keep_space, keep_character, enter_normal, join}
 use Rattle.tbr_tagged.specs.Elements.{SameItems}
 use Rattle.tbr_wrap.specs.Wrapper.{SameSpace, HoldsRule, IsAtProgress, KeepsSettings, KeepsLimits}
 use Rattle.tbr_wrap.specs.declared.wrapper.Wrapper.{Wrapper}
@@ -46,18 +46,18 @@ same_some eq (Some s) None h e = absurd h
 
 -- where other space waits
 pub spaced_stands : {A : Type 0} (columns : ℕ → Option ℕ) (eq : A → A → Bool) (laws : IsEquivalence eq) (b c : Wrapper A) (before given : List (List (Item A))) (p : Progress A) (o : Option (Space A)) → IsAtProgress columns eq b before given p → SameSpace eq c.space o → c.flat ≡ b.flat → c.lines ≡ b.lines → c.line_len ≡ b.line_len → c.line_width ≡ b.line_width →
-    c.word_width ≡ b.word_width → c.word_mode ≡ b.word_mode → KeepsLimits b c → c.continued ≡ b.continued → c.again ≡ b.again → IsAtProgress columns eq c before given (record p { space = o })
-spaced_stands columns eq laws b c before given p o s space flat lines len width word_width mode limits continued again = record {
+    c.word_width ≡ b.word_width → c.word_mode ≡ b.word_mode → KeepsLimits b c → c.continuation_flag ≡ b.continuation_flag → c.in_continuation ≡ b.in_continuation → IsAtProgress columns eq c before given (record p { space = o })
+spaced_stands columns eq laws b c before given p o s space flat lines len width word_width mode limits continuation_flag in_continuation = record {
   lays = lays_same columns eq laws b c limits before given p.laid s.lays (holds_same b c before s.lays.laid s.lays.holds (ap (λ f. f.placed) flat) lines len width);
   space = space;
   word = rw flat s.word;
   word_width = word_width ∙ s.word_width;
   mode = mode ∙ s.mode;
-  continued = continued ∙ s.continued;
-  again = again ∙ s.again;
+  continuation_flag = continuation_flag ∙ s.continuation_flag;
+  in_continuation = in_continuation ∙ s.in_continuation;
 }
 
-pub some_space : {A : Type 0} (n : ℕ) (a : A) (mode : WhiteSpace) → 0 < n → space_of n a mode ≡ Some (record { columns = n; tag = a; mode = mode })
+pub some_space : {A : Type 0} (n : ℕ) (a : A) (mode : WhiteSpace) → 0 < n → space_of n a mode ≡ Some (record { width = n; tag = a; mode = mode })
 some_space zero a mode some = absurd (omega (arith, some))
 some_space (suc n) a mode some = refl
 
@@ -69,16 +69,16 @@ none_held eq (suc n) a mode e = absurd (omega (arith, e))
 pub keep_joins : {A : Type 0} (c : ℕ) (a : A) (mode : WhiteSpace) (n : ℕ) (p : Progress A) → has_character p.word ≡ true → keep_space c a mode (Some n) p ≡ join c a mode p
 keep_joins c a mode n p e = rw e refl
 
-pub keep_waits : {A : Type 0} (c : ℕ) (a : A) (mode : WhiteSpace) (n : ℕ) (p : Progress A) → has_character p.word ≡ false → keep_space c a mode (Some n) p ≡ record p { space = space_of (space_columns p.space + n) a mode }
+pub keep_waits : {A : Type 0} (c : ℕ) (a : A) (mode : WhiteSpace) (n : ℕ) (p : Progress A) → has_character p.word ≡ false → keep_space c a mode (Some n) p ≡ record p { space = space_of (pending_width p.space + n) a mode }
 keep_waits c a mode n p e = rw e refl
 
 -- ---- the tag of this call
 
 module _ {A : Type 0} (eq : A → A → Bool) (laws : IsEquivalence eq) (p : Progress A) (a b : A) where
-  pub tag_wrap : p.again ≡ true → eq b (tag_of p a b) ≡ true
+  pub tag_wrap : p.in_continuation ≡ true → eq b (tag_of p a b) ≡ true
   tag_wrap e = rw e (laws.refl b)
 
-  pub tag_main : p.again ≡ false → eq a (tag_of p a b) ≡ true
+  pub tag_main : p.in_continuation ≡ false → eq a (tag_of p a b) ≡ true
   tag_main e = rw e (laws.refl a)
 
 -- ---- spaces of a tab

@@ -5,9 +5,9 @@ use Rattle.std.specs.Cmp.{IsEquivalence}
 use Rattle.tbr_model.specs.declared.white_space.WhiteSpace.TheVariants.{Normal}
 use Rattle.tbr_model.specs.Run.{Item, glyph, marker, items_width, has_character}
 use Rattle.tbr_model.specs.Layout.{joined}
-use Rattle.tbr_model.specs.Laid.{Laid, nothing_laid, ended, fresh}
+use Rattle.tbr_model.specs.Laid.{Laid, nothing_laid, end_line, end_if_character}
 use Rattle.tbr_model.specs.Rule.{Progress, flush_word, waiting}
-use Rattle.tbr_model.proofs.Letters.{no_character_no_width}
+use Rattle.tbr_model.proofs.words.Items.{no_character_no_width}
 use Rattle.tbr_tagged.specs.Elements.{SameItems}
 use Rattle.tbr_wrap.specs.Wrapped.{FitsBlock}
 use Rattle.tbr_wrap.specs.Wrapper.{HoldsRule, IsAtProgress, KeepsLimits, RunIsFinished}
@@ -18,10 +18,10 @@ use Rattle.tbr_tagged.proofs.ElementLoops.{items_width-append}
 use Rattle.tbr_tagged.proofs.SameItems.{same_has, same_items_append}
 
 -- a fresh line has no character
-pub fresh_none : {A : Type 0} (l : Laid A) → has_character (fresh l).line ≡ false
+pub fresh_none : {A : Type 0} (l : Laid A) → has_character (end_if_character l).line ≡ false
 fresh_none {A} l = go (has_character l.line) refl
   where
-    go : (b : Bool) → has_character l.line ≡ b → has_character (if b then ended l else l).line ≡ false
+    go : (b : Bool) → has_character l.line ≡ b → has_character (if b then end_line l else l).line ≡ false
     go true e = refl
     go false e = e
 
@@ -36,15 +36,15 @@ module _ {A : Type 0} (columns : ℕ → Option ℕ) (eq : A → A → Bool) (la
   q = flush_word columns b.width p
 
   -- what stands on no ended line waits as a word
-  pub run_finished : (h : HoldsRule columns eq d before given (fresh q.laid)) → SameItems eq d.flat.word q.word → has_character (waiting columns b.width p) ≡ false → d.width ≡ b.width → d.may_overflow ≡ b.may_overflow →
+  pub run_finished : (h : HoldsRule columns eq d before given (end_if_character q.laid)) → SameItems eq d.flat.word q.word → has_character (waiting columns b.width p) ≡ false → d.width ≡ b.width → d.may_overflow ≡ b.may_overflow →
       c.flat.placed ≡ joined (before ++ h.laid.done) → c.flat.word ≡ h.laid.line ++ d.flat.word → c.lines ≡ d.lines → c.line_len ≡ 0 → c.line_width ≡ 0 → c.word_width ≡ 0 → c.width ≡ b.width → c.may_overflow ≡ b.may_overflow → c.space ≡ None → c.word_mode ≡ Normal →
-      c.continued ≡ false → c.again ≡ false → RunIsFinished columns eq b c before given p
-  run_finished h word none width overflow placed words lines len zero columns_none width_c overflow_c space mode continued again = record {
+      c.continuation_flag ≡ false → c.in_continuation ≡ false → RunIsFinished columns eq b c before given p
+  run_finished h word none width overflow placed words lines len zero columns_none width_c overflow_c space mode continuation_flag in_continuation = record {
     now = h.laid.done;
     rest = h.shows.rest;
     split = h.shows.split;
     same = h.shows.done;
-    fits = subst (λ n. Each (FitsBlock columns n b.may_overflow) (fresh q.laid).done) width (subst (λ o. Each (FitsBlock columns d.width o) (fresh q.laid).done) overflow h.measured.done);
+    fits = subst (λ n. Each (FitsBlock columns n b.may_overflow) (end_if_character q.laid).done) width (subst (λ o. Each (FitsBlock columns d.width o) (end_if_character q.laid).done) overflow h.measured.done);
     stands = record {
       lays = record {
         laid = nothing_laid;
@@ -58,11 +58,11 @@ module _ {A : Type 0} (columns : ℕ → Option ℕ) (eq : A → A → Bool) (la
         measured = record { small = omega arith; line = refl; done = tt };
       };
       space = rw space tt;
-      word = rw words (same_items_append eq laws h.laid.line (fresh q.laid).line d.flat.word q.word h.shows.last word);
+      word = rw words (same_items_append eq laws h.laid.line (end_if_character q.laid).line d.flat.word q.word h.shows.last word);
       word_width = columns_none ∙ sym (no_character_no_width columns (waiting columns b.width p) none);
       mode = mode;
-      continued = continued;
-      again = again;
+      continuation_flag = continuation_flag;
+      in_continuation = in_continuation;
     };
   }
 
@@ -71,26 +71,26 @@ module _ {A : Type 0} (columns : ℕ → Option ℕ) (eq : A → A → Bool) (la
 module _ {A : Type 0} (columns : ℕ → Option ℕ) (eq : A → A → Bool) (laws : IsEquivalence eq) (b c : Wrapper A) (before given : List (List (Item A))) (p : Progress A) where
   -- where the word changes by markers alone
   word_stands : (is : List (Item A)) → IsAtProgress columns eq b before given p → SameItems eq c.flat.word is → items_width columns is ≡ items_width columns p.word → c.flat.placed ≡ b.flat.placed → c.lines ≡ b.lines → c.line_len ≡ b.line_len → c.line_width ≡ b.line_width →
-      c.space ≡ b.space → c.word_width ≡ b.word_width → c.word_mode ≡ b.word_mode → KeepsLimits b c → c.continued ≡ b.continued → c.again ≡ b.again → IsAtProgress columns eq c before given (record p { word = is })
-  word_stands is s word wide placed lines len width space word_width mode limits continued again = record {
+      c.space ≡ b.space → c.word_width ≡ b.word_width → c.word_mode ≡ b.word_mode → KeepsLimits b c → c.continuation_flag ≡ b.continuation_flag → c.in_continuation ≡ b.in_continuation → IsAtProgress columns eq c before given (record p { word = is })
+  word_stands is s word wide placed lines len width space word_width mode limits continuation_flag in_continuation = record {
     lays = lays_same columns eq laws b c limits before given p.laid s.lays (holds_same b c before s.lays.laid s.lays.holds placed lines len width);
     space = rw space s.space;
     word = word;
     word_width = word_width ∙ s.word_width ∙ sym wide;
     mode = mode ∙ s.mode;
-    continued = continued ∙ s.continued;
-    again = again ∙ s.again;
+    continuation_flag = continuation_flag ∙ s.continuation_flag;
+    in_continuation = in_continuation ∙ s.in_continuation;
   }
 
   -- a marker joins it
   pub marked_stands : (name : List ℕ) → IsAtProgress columns eq b before given p → c.flat ≡ record b.flat { word = b.flat.word ++ marker name ∷ [] } → c.lines ≡ b.lines → c.line_len ≡ b.line_len → c.line_width ≡ b.line_width → c.space ≡ b.space → c.word_width ≡ b.word_width → c.word_mode ≡ b.word_mode →
-      KeepsLimits b c → c.continued ≡ b.continued → c.again ≡ b.again → IsAtProgress columns eq c before given (record p { word = p.word ++ marker name ∷ [] })
-  marked_stands name s flat lines len width space word_width mode limits continued again =
+      KeepsLimits b c → c.continuation_flag ≡ b.continuation_flag → c.in_continuation ≡ b.in_continuation → IsAtProgress columns eq c before given (record p { word = p.word ++ marker name ∷ [] })
+  marked_stands name s flat lines len width space word_width mode limits continuation_flag in_continuation =
       word_stands (p.word ++ marker name ∷ []) s (rw flat (same_items_append eq laws b.flat.word p.word (marker name ∷ []) (marker name ∷ []) s.word (refl, tt)))
-      (omega (arith, items_width-append columns p.word (marker name ∷ []))) (ap (λ f. f.placed) flat) lines len width space word_width mode limits continued again
+      (omega (arith, items_width-append columns p.word (marker name ∷ []))) (ap (λ f. f.placed) flat) lines len width space word_width mode limits continuation_flag in_continuation
 
   -- all of them are taken out
   pub unmarked_stands : IsAtProgress columns eq b before given p → has_character b.flat.word ≡ false → c.flat ≡ record b.flat { word = [] } → c.lines ≡ b.lines → c.line_len ≡ b.line_len → c.line_width ≡ b.line_width → c.space ≡ b.space → c.word_width ≡ b.word_width → c.word_mode ≡ b.word_mode →
-      KeepsLimits b c → c.continued ≡ b.continued → c.again ≡ b.again → IsAtProgress columns eq c before given (record p { word = [] })
-  unmarked_stands s none flat lines len width space word_width mode limits continued again =
-      word_stands [] s (rw flat tt) (sym (no_character_no_width columns p.word (sym (same_has eq b.flat.word p.word s.word) ∙ none))) (ap (λ f. f.placed) flat) lines len width space word_width mode limits continued again
+      KeepsLimits b c → c.continuation_flag ≡ b.continuation_flag → c.in_continuation ≡ b.in_continuation → IsAtProgress columns eq c before given (record p { word = [] })
+  unmarked_stands s none flat lines len width space word_width mode limits continuation_flag in_continuation =
+      word_stands [] s (rw flat tt) (sym (no_character_no_width columns p.word (sym (same_has eq b.flat.word p.word s.word) ∙ none))) (ap (λ f. f.placed) flat) lines len width space word_width mode limits continuation_flag in_continuation

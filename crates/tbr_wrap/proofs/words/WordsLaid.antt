@@ -3,9 +3,9 @@ use Rattle.std.proofs.Common.{◌≡◌, nat_le, ℕ, ◌+◌, ◌<◌, ◌≤�
 use borrow.Author.Tests.{le-leb, leb-true, leb-false}
 use Rattle.std.specs.Cmp.{IsEquivalence}
 use Rattle.tbr_model.specs.Run.{Item, items_width, item_width, has_character}
-use Rattle.tbr_model.specs.Laid.{Laid, extended, fresh, put_items}
+use Rattle.tbr_model.specs.Laid.{Laid, extended, end_if_character, put_items}
 use Rattle.tbr_model.specs.Greedy.{IsNarrow}
-use Rattle.tbr_model.specs.Rule.{Space, Progress, space_columns, put_pending, is_pre, lay_fresh}
+use Rattle.tbr_model.specs.Rule.{Space, Progress, pending_width, put_pending, is_pre, lay_fresh}
 use Rattle.tbr_tagged.specs.Elements.{SameItems}
 use Rattle.tbr_wrap.specs.Wrapper.{HoldsRule, IsAtProgress, SameSpace, KeepsSettings, KeepsLimits, held_columns}
 use Rattle.tbr_wrap.specs.declared.wrapper.Wrapper.{Wrapper}
@@ -18,7 +18,7 @@ pub on_ok_both : {T E : Type 0} (r : Result T E) (P Q : Type 0) → OnOk r P →
 on_ok_both (Ok x) P Q p q = (p, q)
 on_ok_both (Err e) P Q p q = tt
 
-pub same_columns : {A : Type 0} (eq : A → A → Bool) (held : Option (HeldSpace A)) (o : Option (Space A)) → SameSpace eq held o → held_columns held ≡ space_columns o
+pub same_columns : {A : Type 0} (eq : A → A → Bool) (held : Option (HeldSpace A)) (o : Option (Space A)) → SameSpace eq held o → held_columns held ≡ pending_width o
 same_columns eq None None h = refl
 same_columns eq (Some s) (Some t) h = h.0
 same_columns eq None (Some t) h = absurd h
@@ -56,12 +56,12 @@ stands_laid columns eq b c before given p r s lays word same = record {
   word = word;
   word_width = same.word_width ∙ s.word_width;
   mode = same.word_mode ∙ s.mode;
-  continued = same.continued ∙ s.continued;
-  again = same.again ∙ s.again;
+  continuation_flag = same.continuation_flag ∙ s.continuation_flag;
+  in_continuation = same.in_continuation ∙ s.in_continuation;
 }
 
 -- what is pending, by what is held
-pub held_some : {A : Type 0} (eq : A → A → Bool) (o : Option (HeldSpace A)) (held : HeldSpace A) (space : Option (Space A)) → o ≡ Some held → SameSpace eq o space → (s : Space A) × (space ≡ Some s) × (held.columns ≡ s.columns) × (eq held.tag s.tag ≡ true) × (held.mode ≡ s.mode)
+pub held_some : {A : Type 0} (eq : A → A → Bool) (o : Option (HeldSpace A)) (held : HeldSpace A) (space : Option (Space A)) → o ≡ Some held → SameSpace eq o space → (s : Space A) × (space ≡ Some s) × (held.columns ≡ s.width) × (eq held.tag s.tag ≡ true) × (held.mode ≡ s.mode)
 held_some eq o held None e h = absurd (subst (λ x. SameSpace eq x None) e h)
 held_some eq o held (Some s) e h = let k = subst (λ x. SameSpace eq x (Some s)) e h in (s, refl, k.0, k.1, k.2)
 
@@ -71,15 +71,15 @@ held_none eq o (Some s) e h = absurd (subst (λ x. SameSpace eq x (Some s)) e h)
 
 -- where the pending space is taken out
 pub taken_stands : {A : Type 0} (columns : ℕ → Option ℕ) (eq : A → A → Bool) (laws : IsEquivalence eq) (b c : Wrapper A) (before given : List (List (Item A))) (p : Progress A) → IsAtProgress columns eq b before given p → c.space ≡ None → c.flat ≡ b.flat → c.lines ≡ b.lines → c.line_len ≡ b.line_len → c.line_width ≡ b.line_width →
-    c.word_width ≡ b.word_width → c.word_mode ≡ b.word_mode → KeepsLimits b c → c.continued ≡ b.continued → c.again ≡ b.again → IsAtProgress columns eq c before given (record p { space = None })
-taken_stands columns eq laws b c before given p s none flat lines len width word_width mode limits continued again = record {
+    c.word_width ≡ b.word_width → c.word_mode ≡ b.word_mode → KeepsLimits b c → c.continuation_flag ≡ b.continuation_flag → c.in_continuation ≡ b.in_continuation → IsAtProgress columns eq c before given (record p { space = None })
+taken_stands columns eq laws b c before given p s none flat lines len width word_width mode limits continuation_flag in_continuation = record {
   lays = lays_same columns eq laws b c limits before given p.laid s.lays (holds_same b c before s.lays.laid s.lays.holds (ap (λ f. f.placed) flat) lines len width);
   space = rw none tt;
   word = rw flat s.word;
   word_width = word_width ∙ s.word_width;
   mode = mode ∙ s.mode;
-  continued = continued ∙ s.continued;
-  again = again ∙ s.again;
+  continuation_flag = continuation_flag ∙ s.continuation_flag;
+  in_continuation = in_continuation ∙ s.in_continuation;
 }
 
 -- a word with as narrow characters
@@ -90,25 +90,25 @@ same_narrow columns eq width (i ∷ is) (j ∷ js) same h = (omega (arith, h.0, 
 
 -- a word that has a character is put behind what is pending
 pub lay_fresh_some : {A : Type 0} (columns : ℕ → Option ℕ) (width : ℕ) (p : Progress A) → has_character p.word ≡ true →
-    lay_fresh columns width p ≡ record p { laid = put_items columns width (put_pending width p.space (fresh p.laid)) p.word; space = None; word = []; continued = is_pre p.mode }
+    lay_fresh columns width p ≡ record p { laid = put_items columns width (put_pending width p.space (end_if_character p.laid)) p.word; space = None; word = []; continuation_flag = is_pre p.mode }
 lay_fresh_some columns width p e = rw e refl
 
 -- and one that has lost its characters stays
 pub lay_fresh_none : {A : Type 0} (columns : ℕ → Option ℕ) (width : ℕ) (p : Progress A) → has_character p.word ≡ false →
-    lay_fresh columns width p ≡ record p { laid = put_pending width p.space (fresh p.laid); space = None; continued = is_pre p.mode }
+    lay_fresh columns width p ≡ record p { laid = put_pending width p.space (end_if_character p.laid); space = None; continuation_flag = is_pre p.mode }
 lay_fresh_none columns width p e = rw e refl
 
 -- where the flag for the next call changes
 pub flagged_stands : {A : Type 0} (columns : ℕ → Option ℕ) (eq : A → A → Bool) (laws : IsEquivalence eq) (b c : Wrapper A) (before given : List (List (Item A))) (p : Progress A) (x : Bool) → IsAtProgress columns eq b before given p → c.flat ≡ b.flat → c.lines ≡ b.lines → c.line_len ≡ b.line_len → c.line_width ≡ b.line_width →
-    c.space ≡ b.space → c.word_width ≡ b.word_width → c.word_mode ≡ b.word_mode → KeepsLimits b c → c.again ≡ b.again → c.continued ≡ x → IsAtProgress columns eq c before given (record p { continued = x })
-flagged_stands columns eq laws b c before given p x s flat lines len width space word_width mode limits again flag = record {
+    c.space ≡ b.space → c.word_width ≡ b.word_width → c.word_mode ≡ b.word_mode → KeepsLimits b c → c.in_continuation ≡ b.in_continuation → c.continuation_flag ≡ x → IsAtProgress columns eq c before given (record p { continuation_flag = x })
+flagged_stands columns eq laws b c before given p x s flat lines len width space word_width mode limits in_continuation flag = record {
   lays = lays_same columns eq laws b c limits before given p.laid s.lays (holds_same b c before s.lays.laid s.lays.holds (ap (λ f. f.placed) flat) lines len width);
   space = rw space s.space;
   word = rw flat s.word;
   word_width = word_width ∙ s.word_width;
   mode = mode ∙ s.mode;
-  continued = flag;
-  again = again ∙ s.again;
+  continuation_flag = flag;
+  in_continuation = in_continuation ∙ s.in_continuation;
 }
 
 pub no_room : (m n : ℕ) → (m ≤ n → ⊥) → n < m

@@ -4,7 +4,7 @@ ghost use lib.Utf8.{encodes};
 ghost use Rattle.std.specs.Char.{is_whitespace};
 ghost use Rattle.std.specs.List.{AllByRecursion as Each};
 ghost use Rattle.std.specs.Str.{IsUtf8};
-ghost use Rattle.tbr_model.specs.Width.{text_columns};
+ghost use Rattle.tbr_model.specs.Width.{width_of_text};
 
 use std::alloc::Global;
 use std::marker::Model;
@@ -161,7 +161,7 @@ impl SplitText {
 
     /// The columns of the word.
     pub fn word_width<W: CharWidth>(&self) -> Result<usize, OutOfMemory>
-        ensures { IfOk result (λ n. n ≡ text_columns W.columns self.now.word) }
+        ensures { IfOk result (λ n. n ≡ width_of_text W.columns self.now.word) }
     {
         text_width::<W>(&self.text.as_str()[self.word_start..])
     }

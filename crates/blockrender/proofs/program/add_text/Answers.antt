@@ -3,7 +3,7 @@ use Rattle.std.specs.Str.{chars}
 use Rattle.std.proofs.lemmas.Result.{on_ok_weaker}
 use Rattle.tbr_lines.specs.State.{State}
 use Rattle.blockrender.specs.Program.{IsLive}
-use Rattle.tbr_lines.proofs.Normal.{normal_with}
+use Rattle.tbr_lines.proofs.NormalTexts.{normal_with}
 use Rattle.blockrender.proofs.Refused.{refused_narrow}
 use Rattle.blockrender.proofs.program.add_text.Goals as goal
 

@@ -2,7 +2,7 @@ use Rattle.std.proofs.Common.{◌≡◌, [], ◌∷◌, ◌++◌, ap, ◌∙◌,
 use Rattle.tbr_model.specs.declared.white_space.WhiteSpace.TheVariants.{Normal}
 use Rattle.tbr_model.specs.Run.{Entry, character}
 use Rattle.tbr_model.specs.Rule.{entry, progress}
-use Rattle.tbr_model.proofs.Ahead.{each_front, each_back}
+use Rattle.tbr_model.proofs.lists.Each.{each_front, each_back}
 use Rattle.tbr_model.specs.Hard.{HasMode}
 use Rattle.tbr_wrap.specs.State.{State, entries_of, texts_of}
 use Rattle.tbr_wrap.specs.Block.{earlier_texts}

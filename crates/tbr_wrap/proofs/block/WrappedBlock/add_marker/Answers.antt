@@ -1,5 +1,5 @@
 use Rattle.std.proofs.Common.{[], ◌∷◌, ◌++◌, ap, ◌∙◌, refl, subst, string_bytes}
-use Rattle.tbr_model.specs.Run.{Entry, fragment}
+use Rattle.tbr_model.specs.Run.{Entry, marker_entry}
 use Rattle.tbr_model.specs.Rule.{entry, enter, progress}
 use Rattle.tbr_wrap.specs.State.{State, entries_of, texts_of}
 use Rattle.tbr_wrap.specs.Wrapper.{IsAtProgress}
@@ -16,9 +16,9 @@ invariant_of-self g c = λ none.
     let run = entries_of c.self.inside.changes.items in
     let handed = texts_of c.self.inside.handed.items in
     let k = c.self.invariant none in
-    let e : Entry g.row.T.Denot = fragment (string_bytes c.args.name) in
+    let e : Entry g.row.T.Denot = marker_entry (string_bytes c.args.name) in
     let p = progress columns b.width k.tracks.events in
-    let stands = subst (λ name. IsAtProgress columns eq c.add_marker.new.self (earlier_texts n b) k.given (enter columns b.width p (fragment name))) (ap string_bytes c.with_marker-changes.ensures.name) (c.in-Ok.ensures.added columns (earlier_texts n b) k.given p k.tracks.stands) in
+    let stands = subst (λ name. IsAtProgress columns eq c.add_marker.new.self (earlier_texts n b) k.given (enter columns b.width p (marker_entry name))) (ap string_bytes c.with_marker-changes.ensures.name) (c.in-Ok.ensures.added columns (earlier_texts n b) k.given p k.tracks.stands) in
     let t = tracks_event columns eq b c.add_marker.new.self (earlier_texts n b) k.given run (entry e) k.tracks c.in-Ok.ensures.limits stands in
     rw c.with_marker-changes.ensures.changes (keeps_at columns eq n b c.add_marker.new.self c.self.inside.handing handed run (run ++ e ∷ []) k t).1
 
@@ -32,8 +32,8 @@ returns-in-Ok-clause-ok g c =
     let handed = texts_of c.self.inside.handed.items in
     let k = c.self.invariant (ap (λ (s : State g.row.T.Denot). s.failure) c.self.view_is ∙ c.requires) in
     let limits = c.in-Ok.ensures.limits in
-    let e : Entry g.row.T.Denot = fragment (string_bytes c.args.name) in
+    let e : Entry g.row.T.Denot = marker_entry (string_bytes c.args.name) in
     let p = progress columns b.width k.tracks.events in
-    let stands = subst (λ name. IsAtProgress columns eq c.add_marker.new.self (earlier_texts n b) k.given (enter columns b.width p (fragment name))) (ap string_bytes c.with_marker-changes.ensures.name) (c.in-Ok.ensures.added columns (earlier_texts n b) k.given p k.tracks.stands) in
+    let stands = subst (λ name. IsAtProgress columns eq c.add_marker.new.self (earlier_texts n b) k.given (enter columns b.width p (marker_entry name))) (ap string_bytes c.with_marker-changes.ensures.name) (c.in-Ok.ensures.added columns (earlier_texts n b) k.given p k.tracks.stands) in
     let t = tracks_event columns eq b c.add_marker.new.self (earlier_texts n b) k.given run (entry e) k.tracks limits stands in
     rw (← c.self.view_is) (state_is limits.width limits.may_overflow refl (keeps_at columns eq n b c.add_marker.new.self c.self.inside.handing handed run (run ++ e ∷ []) k t).0 refl c.with_marker-changes.ensures.changes)

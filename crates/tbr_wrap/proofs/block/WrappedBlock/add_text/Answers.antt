@@ -6,7 +6,7 @@ use Rattle.std.proofs.lemmas.Result.{err_from_is_err_and}
 use Rattle.tbr_model.specs.declared.white_space.WhiteSpace.TheVariants.{Normal}
 use Rattle.tbr_model.specs.Run.{Entry, character}
 use Rattle.tbr_model.specs.Hard.{HasMode, IsNarrowEntry}
-use Rattle.tbr_model.proofs.Ahead.{each_front}
+use Rattle.tbr_model.proofs.lists.Each.{each_front}
 use Rattle.tbr_wrap.specs.State.{State, text_entries, IsNormal, CharactersFit}
 use Rattle.tbr_wrap.specs.Wrapped.{EndedWordsFit}
 use Rattle.tbr_tagged.proofs.TextColumns.{turn_and_rest}

@@ -39,7 +39,7 @@ invariant_of-self-in-Ok-Some g c = λ none.
     let zero : n ≡ 0 = omega (arith, c.if-self-gt0.false) in
     let f = first_of_laid columns eq n b c.self.inside.handing handed run k zero (rw c.in-Ok-Some.field-0-is at c.in-Ok-Some.ensures.some) in
     let t = rw c.in-Ok-Some.field-0-is at (c.in-Ok-Some.ensures.taken before s.laid f.0 f.1 s.holds f.2) in
-    let more : texts_of c.and-self-inside.result.items ≡ handed ++ items_of c.in-Ok-Some.line ∷ [] = ap texts_of c.and-self-inside.ensures ∙ map-append (λ p. items_of p.0) c.self.inside.handed.items ((c.in-Ok-Some.line, tt, tt) ∷ []) in
+    let more : texts_of c.appended-self-inside.result.items ≡ handed ++ items_of c.in-Ok-Some.line ∷ [] = ap texts_of c.appended-self-inside.ensures ∙ map-append (λ p. items_of p.0) c.self.inside.handed.items ((c.in-Ok-Some.line, tt, tt) ∷ []) in
     rw more (hand_current columns eq laws b c.take_line.new.self c.in-Ok-Some.ensures.same n c.self.inside.handing handed run k zero (items_of c.in-Ok-Some.line) f.0 f.1 f.3 t.0 t.2)
 
 pub returns-then-self-gt0-clause-earlier : goal.returns-then-self-gt0-clause-earlier

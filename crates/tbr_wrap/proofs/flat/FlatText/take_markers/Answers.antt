@@ -1,5 +1,5 @@
 use Rattle.std.proofs.Common.{◌++◌, [], map, ap, sym, ◌∙◌, append-nil}
-use Rattle.tbr_model.specs.Markers.{marker_names}
+use Rattle.tbr_model.specs.Markers.{names_in_items}
 use Rattle.tbr_tagged.specs.Elements.{marker_element}
 use Rattle.tbr_wrap.specs.Flat.{MarkerPlaces, marked}
 use Rattle.tbr_tagged.specs.View.{element_of}
@@ -11,7 +11,7 @@ returns-clause-markers g c =
     let now = c.loop-name.self-inside in
     let inv = c.loop-name.invariant in
     let none = nothing_left now.text.word now.word c.holds_characters.ensures.word inv.word_fits inv.no_character c.in_default.ensures.1 in
-    sym (append-nil (map element_of c.loop-name.markers.items)) ∙ ap (λ is. map element_of c.loop-name.markers.items ++ map marker_element (marker_names is)) (sym none) ∙ inv.markers
+    sym (append-nil (map element_of c.loop-name.markers.items)) ∙ ap (λ is. map element_of c.loop-name.markers.items ++ map marker_element (names_in_items is)) (sym none) ∙ inv.markers
 
 pub returns-clause-rest : goal.returns-clause-rest
 returns-clause-rest g c =

@@ -2,7 +2,7 @@ use Rattle.std.proofs.Common.{◌≡◌, ℕ, ◌∙◌, sym, subst, Err}
 use Rattle.std.proofs.lemmas.Result.{err_from_is_err_and}
 use Rattle.tbr_model.specs.Greedy.{IsNarrow}
 use Rattle.tbr_model.specs.Rule.{break_word}
-use Rattle.tbr_model.proofs.NarrowWords.{narrow_break}
+use Rattle.tbr_model.proofs.rule.NarrowWords.{narrow_break}
 use Rattle.tbr_tagged.specs.declared.error.Error.TheVariants as E
 use Rattle.tbr_wrap.proofs.wrapper.Wrapper.add_char.Goals as goal
 

@@ -1,12 +1,12 @@
 use Rattle.std.proofs.Common.{◌≡◌, ◌++◌, refl, ap, ◌∙◌, sym, subst, Err}
 use Rattle.std.proofs.lemmas.Result.{err_from_is_err_and}
-use Rattle.tbr_model.specs.Laid.{fresh}
+use Rattle.tbr_model.specs.Laid.{end_if_character}
 use Rattle.tbr_model.specs.Rule.{flush_word}
-use Rattle.tbr_model.proofs.HardLines.{flush_flushes}
+use Rattle.tbr_model.proofs.rule.HardLines.{flush_flushes}
 use Rattle.tbr_tagged.specs.Elements.{SameItems}
 use Rattle.tbr_tagged.specs.declared.error.Error.TheVariants as E
 use Rattle.tbr_model.specs.Layout.{joined}
-use Rattle.tbr_model.proofs.Letters.{no_character_no_width}
+use Rattle.tbr_model.proofs.words.Items.{no_character_no_width}
 use Rattle.tbr_tagged.proofs.SameItems.{same_has}
 use Rattle.tbr_wrap.proofs.words.RunEnds.{fresh_none, append_none, run_finished}
 use Rattle.tbr_wrap.proofs.wrapper.Wrapper.finish.Goals as goal
@@ -30,8 +30,8 @@ returns-clause-finished g c = λ before given p s.
     let t = k.laid before given p s in
     let l = f.ended columns before given q.laid t.lays in
     let word = subst (λ is. SameItems eq is q.word) (sym (ap (λ x. x.word) f.flat)) t.word in
-    let none = append_none (fresh q.laid).line q.word (fresh_none q.laid) (flush_flushes columns b.width p) in
-    let u = c.in_ok-unplace.ensures (joined (before ++ l.0.laid.done)) l.0.laid.line l.0.holds.placed (sym l.0.holds.len) (same_has eq l.0.laid.line (fresh q.laid).line l.0.shows.last ∙ fresh_none q.laid) in
+    let none = append_none (end_if_character q.laid).line q.word (fresh_none q.laid) (flush_flushes columns b.width p) in
+    let u = c.in_ok-unplace.ensures (joined (before ++ l.0.laid.done)) l.0.laid.line l.0.holds.placed (sym l.0.holds.len) (same_has eq l.0.laid.line (end_if_character q.laid).line l.0.shows.last ∙ fresh_none q.laid) in
     run_finished columns eq g.met.T.Eq.laws b d _ before given p l.0 word none
     (f.same.width ∙ k.limits.width) (f.same.may_overflow ∙ k.limits.may_overflow) (ap (λ x. x.placed) u) (ap (λ x. x.word) u) refl refl l.1
     (f.same.word_width ∙ t.word_width ∙ no_character_no_width columns q.word (flush_flushes columns b.width p)) (f.same.width ∙ k.limits.width) (f.same.may_overflow ∙ k.limits.may_overflow) refl refl refl refl

@@ -19,6 +19,6 @@ returns-clause-joined g c = λ widths before given p a width same s.
       word_width = (let e : c.in-Some.word_width ≡ items_width widths p.word + c.args.columns = omega (arith, c.in-Some.ensures, s.word_width) in
           e ∙ (let w : items_width widths (glyph c.args.c a ∷ []) ≡ c.args.columns = omega (arith, ap (λ o. unwrap_or o 0) width) in omega (arith, w, items_width-append widths p.word (glyph c.args.c a ∷ []))));
       mode = c.mode_with-word_mode.ensures p.word s.word ∙ ap (λ m. if has_character p.word then m else c.args.mode) s.mode;
-      continued = s.continued;
-      again = s.again;
+      continuation_flag = s.continuation_flag;
+      in_continuation = s.in_continuation;
     }

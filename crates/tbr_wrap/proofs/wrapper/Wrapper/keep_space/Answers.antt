@@ -1,6 +1,6 @@
 use Rattle.std.proofs.Common.{◌≡◌, true, false, sym, ◌∙◌, ◌+◌, Some, ap, refl, arith}
 use Rattle.tbr_model.specs.Run.{has_character}
-use Rattle.tbr_model.specs.Rule.{space_columns}
+use Rattle.tbr_model.specs.Rule.{pending_width}
 use Rattle.tbr_tagged.proofs.SameItems.{same_has}
 use Rattle.tbr_wrap.proofs.words.WordsLaid.{same_columns}
 use Rattle.tbr_wrap.proofs.words.ModeCases.{spaced_stands, some_space, none_held, keep_joins, keep_waits}
@@ -18,10 +18,10 @@ returns-in_ok-tag-clause-kept g c = λ widths before given p a wide same s.
     let b = c.args.self.now in
     let none : has_character p.word ≡ false = sym (same_has eq b.flat.word p.word s.word) ∙ sym c.has_word.ensures ∙ c.if-has_word.false in
     let copy : eq c.in_ok-tag.tag c.args.tag.now ≡ true = laws.symm _ _ ∙ c.requires.faithful _ _ c.in_ok-tag.ensures.cases in
-    let pending : c.pending.result ≡ space_columns p.space = c.pending.ensures ∙ same_columns eq b.space p.space s.space in
-    let all : c.in-Some.columns ≡ space_columns p.space + c.args.columns = omega (arith, c.in-Some.ensures, pending) in
-    rw (keep_waits c.args.c a c.args.mode c.args.columns p none ∙ ap (λ o. record p { space = o }) (some_space (space_columns p.space + c.args.columns) a c.args.mode (omega (arith, c.if-columns-gt0.true, all))))
-    (spaced_stands widths eq laws b _ before given p (Some (record { columns = space_columns p.space + c.args.columns; tag = a; mode = c.args.mode })) s (all, laws.congr c.in_ok-tag.tag c.args.tag.now a copy ∙ same, refl)
+    let pending : c.pending.result ≡ pending_width p.space = c.pending.ensures ∙ same_columns eq b.space p.space s.space in
+    let all : c.in-Some.columns ≡ pending_width p.space + c.args.columns = omega (arith, c.in-Some.ensures, pending) in
+    rw (keep_waits c.args.c a c.args.mode c.args.columns p none ∙ ap (λ o. record p { space = o }) (some_space (pending_width p.space + c.args.columns) a c.args.mode (omega (arith, c.if-columns-gt0.true, all))))
+    (spaced_stands widths eq laws b _ before given p (Some (record { width = pending_width p.space + c.args.columns; tag = a; mode = c.args.mode })) s (all, laws.congr c.in_ok-tag.tag c.args.tag.now a copy ∙ same, refl)
     refl refl refl refl refl refl (record { width = refl; may_overflow = refl }) refl refl)
 
 pub returns-else-columns-gt0-clause-kept : goal.returns-else-columns-gt0-clause-kept
@@ -30,6 +30,6 @@ returns-else-columns-gt0-clause-kept g c = λ widths before given p a wide same 
     let laws = g.met.T.Eq.laws in
     let b = c.args.self.now in
     let none : has_character p.word ≡ false = sym (same_has eq b.flat.word p.word s.word) ∙ sym c.has_word.ensures ∙ c.if-has_word.false in
-    let space = none_held eq (space_columns p.space + c.args.columns) a c.args.mode (omega (arith, c.if-columns-gt0.false, c.in-Some.ensures, c.pending.ensures, same_columns eq b.space p.space s.space)) in
+    let space = none_held eq (pending_width p.space + c.args.columns) a c.args.mode (omega (arith, c.if-columns-gt0.false, c.in-Some.ensures, c.pending.ensures, same_columns eq b.space p.space s.space)) in
     rw (keep_waits c.args.c a c.args.mode c.args.columns p none)
     (spaced_stands widths eq laws b _ before given p _ s space refl refl refl refl refl refl (record { width = refl; may_overflow = refl }) refl refl)

@@ -14,6 +14,6 @@ returns-clause-stands g c = λ columns eq. record {
   word = rw c.new.ensures tt;
   word_width = refl;
   mode = refl;
-  continued = refl;
-  again = refl;
+  continuation_flag = refl;
+  in_continuation = refl;
 }

@@ -1,7 +1,7 @@
 use Rattle.std.proofs.Common.{refl, sym, ◌∙◌, subst}
 use Rattle.std.proofs.lemmas.Result.{on_ok_weaker}
 use Rattle.tbr_model.specs.Laid.{extended}
-use Rattle.tbr_model.specs.Rule.{spaces, space_text, space_columns}
+use Rattle.tbr_model.specs.Rule.{spaces, space_text, pending_width}
 use Rattle.tbr_wrap.specs.Wrapper.{HoldsRule}
 use Rattle.tbr_wrap.proofs.lines.LaidByRule.{lays_same}
 use Rattle.tbr_wrap.proofs.lines.HeldLines.{holds_same}
@@ -20,11 +20,11 @@ returns-in-Some-clause-placed g c = λ before given p s.
     let taken = lays_same columns eq laws c.args.self.now _ (record { width = refl; may_overflow = refl }) before given p.laid s.lays (holds_same c.args.self.now _ before s.lays.laid s.lays.holds refl refl refl refl) in
     let both = on_ok_both c.place_spaces.result _ _ (k.placed columns before given p.laid w.0.tag (g.met.W.CharWidth.drawn_in_one 32 refl) taken w.3) k.word in
     on_ok_weaker c.place_spaces.result (λ b. record {
-      lays = subst (λ o. HoldsRule columns eq new before given (extended p.laid (space_text o) (space_columns o))) (sym w.1) (subst (λ n. HoldsRule columns eq new before given (extended p.laid (spaces n w.0.tag) n)) w.2 b.0);
+      lays = subst (λ o. HoldsRule columns eq new before given (extended p.laid (space_text o) (pending_width o))) (sym w.1) (subst (λ n. HoldsRule columns eq new before given (extended p.laid (spaces n w.0.tag) n)) w.2 b.0);
       space = rw (k.same.space ∙ c.take.ensures.after) tt;
       word = same_items_trans eq laws new.flat.word c.args.self.now.flat.word p.word b.1 s.word;
       word_width = k.same.word_width ∙ s.word_width;
       mode = k.same.word_mode ∙ s.mode;
-      continued = k.same.continued ∙ s.continued;
-      again = k.same.again ∙ s.again;
+      continuation_flag = k.same.continuation_flag ∙ s.continuation_flag;
+      in_continuation = k.same.in_continuation ∙ s.in_continuation;
     }) both

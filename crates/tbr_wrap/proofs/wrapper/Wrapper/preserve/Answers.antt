@@ -45,8 +45,8 @@ returns-then-c-eq9-clause-preserved g c = λ before given p s.
     let b = c.args.wrap_tag.now in
     let same : eq c.if-self.tag.now (tag_of p a b) ≡ true =
     elim c.if-self.branch [
-      | then-self w ↦ rw w.tag-is (tag_wrap eq laws p a b (sym s.again ∙ w.if-self.true))
-      | else-self w ↦ rw w.tag-is (tag_main eq laws p a b (sym s.again ∙ w.if-self.false))
+      | then-self w ↦ rw w.tag-is (tag_wrap eq laws p a b (sym s.in_continuation ∙ w.if-self.true))
+      | else-self w ↦ rw w.tag-is (tag_main eq laws p a b (sym s.in_continuation ∙ w.if-self.false))
     ] in
     rw (preserve_tab columns width c.args.c a b c.args.mode p c.if-c-eq9.true)
     (subst (λ (n : ℕ). IsAtProgress columns eq c.tab.new.self before given (tab n (tag_of p a b) (flush_word columns width p))) c.in_ok-flush_word-2.ensures.limits.width
@@ -74,8 +74,8 @@ returns-clause-preserved g c = λ before given p s.
     let is = sym c.width.ensures ∙ c.in-Some.is in
     let same : eq c.if-self.tag.now (tag_of p a b) ≡ true =
     elim c.if-self.branch [
-      | then-self w ↦ rw w.tag-is (tag_wrap eq laws p a b (sym s.again ∙ w.if-self.true))
-      | else-self w ↦ rw w.tag-is (tag_main eq laws p a b (sym s.again ∙ w.if-self.false))
+      | then-self w ↦ rw w.tag-is (tag_wrap eq laws p a b (sym s.in_continuation ∙ w.if-self.true))
+      | else-self w ↦ rw w.tag-is (tag_main eq laws p a b (sym s.in_continuation ∙ w.if-self.false))
     ] in
     rw (preserve_space columns c.args.self.now.width c.args.c a b c.args.mode p c.if-c-eq-ZERO_WIDTH_SPACE.false c.if-c-eq10.false c.if-c-eq9.false c.in-Some.columns (sym c.always_takes_space.ensures ∙ c.if-always_takes_space.false) is)
     (c.in_ok-keep_space.ensures.kept columns before given p (tag_of p a b) is same s)

@@ -1,6 +1,6 @@
 use Rattle.std.proofs.Common.{ap, ◌∙◌, arith}
 use Rattle.std.proofs.lemmas.Result.{on_ok_weaker}
-use Rattle.tbr_model.specs.Laid.{ended}
+use Rattle.tbr_model.specs.Laid.{end_line}
 use Rattle.tbr_wrap.specs.Wrapper.{HoldsRule}
 use Rattle.tbr_wrap.proofs.lines.LaidByRule.{item_here, item_next, item_wide}
 use Rattle.tbr_wrap.proofs.wrapper.Wrapper.put_first.Goals as goal
@@ -22,4 +22,4 @@ returns-clause-put g c = λ widths before given r i j rest h word same is.
     let eq = g.T.PartialEq.eq in
     item_next widths c.args.self.now.width (HoldsRule widths eq c.place_first-2.new.self before given) r j
     (omega (arith, is, h.holds.width, h.shows.width, c.if-columns-self-2.false)) (omega (arith, is, c.if-columns-self.false))
-    (c.in_ok-place_first-2.ensures.placed widths before given (ended r) i j rest (c.in_ok-end_line.ensures.ended widths before given r h) (ap (λ f. f.word) c.in_ok-end_line.ensures.flat ∙ word) same is)
+    (c.in_ok-place_first-2.ensures.placed widths before given (end_line r) i j rest (c.in_ok-end_line.ensures.ended widths before given r h) (ap (λ f. f.word) c.in_ok-end_line.ensures.flat ∙ word) same is)

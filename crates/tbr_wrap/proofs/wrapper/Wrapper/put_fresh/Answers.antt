@@ -26,8 +26,8 @@ returns-then-columns-self-clause-put g c = λ before given p s.
       word = rw k.word tt;
       word_width = k.same.word_width ∙ c.replace-columns.ensures.after;
       mode = k.same.word_mode ∙ s.mode;
-      continued = k.same.continued ∙ s.continued;
-      again = k.same.again ∙ s.again;
+      continuation_flag = k.same.continuation_flag ∙ s.continuation_flag;
+      in_continuation = k.same.in_continuation ∙ s.in_continuation;
     }
 
 pub returns-clause-put : goal.returns-clause-put
@@ -44,8 +44,8 @@ returns-clause-put g c = λ before given p s.
       word = rw x.1 tt;
       word_width = k.same.word_width ∙ c.replace-columns.ensures.after;
       mode = k.same.word_mode ∙ s.mode;
-      continued = k.same.continued ∙ s.continued;
-      again = k.same.again ∙ s.again;
+      continuation_flag = k.same.continuation_flag ∙ s.continuation_flag;
+      in_continuation = k.same.in_continuation ∙ s.in_continuation;
     }) (on_ok_both c.put_word.result _ _ (k.put before given p.laid p.word same s.word) k.word)
 
 pub returns-clause-too_narrow : goal.returns-clause-too_narrow

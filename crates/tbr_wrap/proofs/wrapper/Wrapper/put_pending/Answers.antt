@@ -25,6 +25,6 @@ returns-in-Some-clause-put g c = λ before given p s.
       word = same_items_trans eq laws new.flat.word c.args.self.now.flat.word p.word b.1 s.word;
       word_width = k.same.word_width ∙ s.word_width;
       mode = k.same.word_mode ∙ s.mode;
-      continued = k.same.continued ∙ s.continued;
-      again = k.same.again ∙ s.again;
+      continuation_flag = k.same.continuation_flag ∙ s.continuation_flag;
+      in_continuation = k.same.in_continuation ∙ s.in_continuation;
     }) both

@@ -20,7 +20,7 @@ loop-left-init g c =
       );
       room = c.requires.room;
       word = c.in_ok-push_spaces.ensures.word;
-      same = record { width = refl; may_overflow = refl; space = refl; word_width = refl; word_mode = refl; continued = refl; again = refl };
+      same = record { width = refl; may_overflow = refl; space = refl; word_width = refl; word_mode = refl; continuation_flag = refl; in_continuation = refl };
     }
 
 pub loop-left-preserved : goal.loop-left-preserved

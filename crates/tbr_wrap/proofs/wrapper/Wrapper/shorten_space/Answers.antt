@@ -16,7 +16,7 @@ returns-then-space-room-clause-lessened g c = λ before given p s t same.
     let b = c.args.self.now in
     let new = c.place_spaces.new.self in
     let k = c.place_spaces.ensures in
-    let less : nat_le (b.width - p.laid.width) s.columns ≡ false = lt-leb _ _ (omega (arith, c.if-space-room.true, same.0, t.lays.holds.width, t.lays.shows.width)) in
+    let less : nat_le (b.width - p.laid.width) s.width ≡ false = lt-leb _ _ (omega (arith, c.if-space-room.true, same.0, t.lays.holds.width, t.lays.shows.width)) in
     let both = on_ok_both c.place_spaces.result _ _ (k.placed columns before given p.laid s.tag (g.met.W.CharWidth.drawn_in_one 32 refl) t.lays same.1) k.word in
     rw less (on_ok_weaker c.place_spaces.result (λ x. record {
       lays = subst (λ n. HoldsRule columns eq new before given (extended p.laid (spaces n s.tag) n)) same.0 x.0;
@@ -24,6 +24,6 @@ returns-then-space-room-clause-lessened g c = λ before given p s t same.
       word = same_items_trans eq laws new.flat.word b.flat.word p.word x.1 t.word;
       word_width = k.same.word_width ∙ t.word_width;
       mode = k.same.word_mode ∙ t.mode;
-      continued = k.same.continued ∙ t.continued;
-      again = k.same.again ∙ t.again;
+      continuation_flag = k.same.continuation_flag ∙ t.continuation_flag;
+      in_continuation = k.same.in_continuation ∙ t.in_continuation;
     }) both)

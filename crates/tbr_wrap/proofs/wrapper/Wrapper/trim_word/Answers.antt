@@ -25,6 +25,6 @@ returns-clause-trimmed g c = λ before given p s t.
       word = word;
       word_width = c.in_ok-self.ensures ∙ same_width columns eq m.flat.word (without_leading p.word) word;
       mode = k.same.word_mode ∙ t.mode;
-      continued = k.same.continued ∙ t.continued;
-      again = k.same.again ∙ t.again;
+      continuation_flag = k.same.continuation_flag ∙ t.continuation_flag;
+      in_continuation = k.same.in_continuation ∙ t.in_continuation;
     }
