@@ -1,5 +1,4 @@
-pub mod BlockRuns
+pub mod Courses
 pub mod EndedRuns
-pub mod EqualTags
+pub mod NormalRuns
 pub mod NormalTexts
-pub mod Questions

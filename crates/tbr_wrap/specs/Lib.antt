@@ -3,4 +3,5 @@ pub mod Flat
 pub mod Wrapped
 pub mod Wrapper
 pub mod State
-pub mod Block
+pub mod Course
+pub mod Held

@@ -1,63 +1,124 @@
 -- What a contract sees of a block.
-use Rattle.std.specs.Prelude.{◌≡◌, ℕ, ◌≤◌, Bool, true, false, Option, unwrap_or, IsTrue, List, [], ◌∷◌, ◌++◌, ◌⊎◌, map, fold, take, drop, string_bytes}
+use Rattle.std.specs.Prelude.{◌≡◌, ℕ, suc, ◌≤◌, Bool, true, false, ◌||◌, if◌then◌else◌, Option, None, Some, Result, Err, IfErr, unwrap_or, IsTrue, List, [], ◌∷◌, ◌++◌, ◌⊎◌, map, length, drop}
 use Rattle.std.specs.List.{AllByRecursion as Each}
 use Rattle.tbr_model.specs.declared.white_space.WhiteSpace.{WhiteSpace}
 use Rattle.tbr_model.specs.declared.white_space.WhiteSpace.TheVariants.{Normal, Pre, PreWrap}
 use Rattle.tbr_model.specs.Run.{Entry, character, marker_entry, Item, trailing}
 use Rattle.tbr_model.specs.Layout.{joined}
-use Rattle.tbr_model.specs.Markers.{names_in_items, names_in_run, marker_run, marker_items, last, without_last_markers}
+use Rattle.tbr_model.specs.Markers.{names_in_items, names_in_run, marker_items, marker_run, without_last_markers}
 use Rattle.tbr_model.specs.Hard.{HasMode, Preserves, IsNarrowEntry, is_visible, hard_lines, Parted, ShowsVisible, ShowsHardLine, ShowsPre, ShowsPreWrap, ShowsTabs}
-use Rattle.tbr_tagged.specs.Elements.{Element, items_of}
 use Rattle.tbr_wrap.specs.Wrapped.{HasBestLines, FitsBlock}
 use Rattle.tbr_tagged.specs.declared.error.Error.{Error}
-use Rattle.tbr_wrap.specs.declared.run_change.RunChange.{RunChange}
-use Rattle.tbr_wrap.specs.declared.run_change.RunChange.TheVariants.{Character, Marker, Taken, Ended}
 
--- Its width, whether a line may be wider, the tag of its padding where it pads, whether a line has ended in an earlier run, the
--- texts of the lines of earlier runs that it holds, those of the lines of the current run that it has handed out, the entries of
--- that run, and the kept refusal.
 pub record State (A : Type 0) : Type 0 where
+  -- the columns of a line, whether a line may be wider, and the tag of the padding where lines are padded
   pub width : ℕ
   pub may_overflow : Bool
   pub padding : Option A
+  -- whether a line has ended in an earlier run, and the lines of earlier runs that aren't handed out
   pub begun : Bool
   pub ended : List (List (Item A))
-  pub handed : List (List (Item A))
+  -- the lines that the current run has ended so far, and how many of them were handed out
+  pub lines : List (List (Item A))
+  pub handed : ℕ
+  -- the entries of the current run
   pub run : List (Entry A)
+  -- whether open line and word take no columns, and whether they have no character
+  pub no_columns : Bool
+  pub no_character : Bool
+  -- the markers of the word, if it has no character
+  pub loose : List (List ℕ)
+  -- the kept refusal
   pub failure : Option Error
 
--- what a note makes of a run
-abbrev pub after_change : {A : Type 0} → List (Entry A) → RunChange × A × A → List (Entry A)
-after_change run (Character c mode, a, b) = run ++ character c a b mode ∷ []
-after_change run (Marker name, a, b) = run ++ marker_entry (string_bytes name) ∷ []
-after_change run (Taken n, a, b) = without_last_markers n run
-after_change run (Ended n, a, b) = marker_run (last n (names_in_run run))
-
--- the run that notes tell of
-abbrev pub entries_of : {A : Type 0} → List (RunChange × A × A) → List (Entry A)
-entries_of changes = fold after_change [] changes
+-- a block to which nothing was added
+abbrev pub empty_block : {A : Type 0} → ℕ → Bool → Option A → State A
+empty_block width may_overflow padding = record {
+  width = width;
+  may_overflow = may_overflow;
+  padding = padding;
+  begun = false;
+  ended = [];
+  lines = [];
+  handed = 0;
+  run = [];
+  no_columns = true;
+  no_character = true;
+  loose = [];
+  failure = None;
+}
 
 -- a text's entries
 abbrev pub text_entries : {A : Type 0} → List ℕ → A → A → WhiteSpace → List (Entry A)
 text_entries cs a b mode = map (λ c. character c a b mode) cs
-
--- the texts of lines that were handed out
-abbrev pub texts_of : {A : Type 0} → List (List (Element A) × Unit {0} × Unit {0}) → List (List (Item A))
-texts_of ps = map (λ p. items_of p.0) ps
-
--- items in parts of so many
-abbrev pub parted : {X : Type 0} → List ℕ → List X → List (List X)
-parted [] xs = []
-parted (n ∷ ns) xs = take n xs ∷ parted ns (drop n xs)
 
 -- whether there is something
 abbrev pub is_some_list : {X : Type 0} → List X → Bool
 is_some_list [] = false
 is_some_list (x ∷ xs) = true
 
+-- ---- what a call leaves
+
+-- Entries join the run. They may end some lines, and what the open line and the word hold may be another.
+pub record JoinsRun {A : Type 0} (old : State A) (more : List (Entry A)) (new : State A) : Type 0 where
+  pub lines : List (List (Item A))
+  pub no_columns : Bool
+  pub no_character : Bool
+  pub loose : List (List ℕ)
+  pub is : new ≡ record old {
+    run = old.run ++ more;
+    lines = old.lines ++ lines;
+    no_columns = no_columns;
+    no_character = no_character;
+    loose = loose;
+  }
+
+-- A marker joins the run. It ends no line, and is loose where the word has no character.
+pub record JoinsAsMarker {A : Type 0} (old : State A) (name : List ℕ) (new : State A) : Type 0 where
+  pub loose : List (List ℕ)
+  pub is : new ≡ record old { run = old.run ++ marker_entry name ∷ []; loose = loose }
+  pub either : (loose ≡ old.loose ++ name ∷ []) ⊎ ((old.loose ≡ []) × (loose ≡ []))
+
+-- the loose markers are taken out of the run
+abbrev pub loose_taken : {A : Type 0} → State A → State A
+loose_taken s = record s { run = without_last_markers (length s.loose) s.run; loose = [] }
+
+-- The lines that have ended and aren't handed out, in order.
+abbrev pub lines_left : {A : Type 0} → State A → List (List (Item A))
+lines_left s = s.ended ++ drop s.handed s.lines
+
+-- the first of them is handed out
+abbrev pub line_taken : {A : Type 0} → State A → State A
+line_taken s = if is_some_list s.ended then record s { ended = drop 1 s.ended } else record s { handed = suc s.handed }
+
+-- the run has ended, with these lines behind those that it had ended before, and the markers begin the next run
+abbrev pub run_flushed : {A : Type 0} → State A → List (List (Item A)) → List (List ℕ) → State A
+run_flushed s texts names = record s {
+  begun = s.begun || is_some_list (s.lines ++ texts);
+  ended = lines_left s ++ texts;
+  lines = [];
+  handed = 0;
+  run = marker_run names;
+  no_columns = true;
+  no_character = true;
+  loose = names;
+}
+
+-- A call that refuses leaves the block failed with what it answers. A block that had failed answers its refusal and
+-- stays as it is.
+abbrev pub KeepsRefusal : {A R : Type 0} → State A → Result R Error → State A → Type 0
+KeepsRefusal old result new =
+    IfErr result (λ e. new.failure ≡ Some e) × ((e : Error) → old.failure ≡ Some e → (result ≡ Err e) × (new ≡ old))
+
+-- ---- runs
+
 -- the run is `Normal` throughout
 abbrev pub IsNormal : {A : Type 0} → List (Entry A) → Type 0
 IsNormal run = Each (HasMode Normal) run
+
+-- the block hasn't failed, its run is `Normal`, and no line may be wider than the block
+abbrev pub WrapsNormally : {A : Type 0} → State A → Type 0
+WrapsNormally s = (s.failure ≡ None) × (s.may_overflow ≡ false) × IsNormal s.run
 
 -- no character of the run is wider than a line
 abbrev pub CharactersFit : {A : Type 0} → (ℕ → Option ℕ) → ℕ → List (Entry A) → Type 0
@@ -71,22 +132,24 @@ IsNarrowIfVisible columns width (marker_entry name) = Unit {0}
 abbrev pub VisibleFit : {A : Type 0} → (ℕ → Option ℕ) → ℕ → List (Entry A) → Type 0
 VisibleFit columns width run = Each (IsNarrowIfVisible columns width) run
 
--- The lines of a run, those that were handed out before its end among them: for a `Normal` run where no line may be wider than the
--- block the texts of its best layout; for any run lines that hold its visible characters once and in order; and for a preserving
--- run, hard line by hard line, what its mode promises.
-pub record IsShownBy {A : Type 0} (columns : ℕ → Option ℕ) (eq : A → A → Bool) (width : ℕ) (may_overflow : Bool) (run : List (Entry A)) (texts : List (List (Item A))) : Type 0 where
-  pub best : may_overflow ≡ false → IsNormal run → HasBestLines columns eq width run texts
-  pub visible : ShowsVisible columns (λ a b. eq a b ≡ true) run texts
-  pub hard : Each Preserves run → Parted (ShowsHardLine columns (λ a b. eq a b ≡ true)) (hard_lines run) texts
-  pub pre : Each (HasMode Pre) run → Parted (ShowsPre columns (λ a b. eq a b ≡ true) width) (hard_lines run) texts
+-- The lines of a run: for a `Normal` run where no line may be wider than the block the texts of its best layout; for
+-- any run lines that hold its visible characters once and in order; and for a preserving run, hard line by hard line,
+-- what its mode promises.
+pub record IsShownBy {A : Type 0} (columns : ℕ → Option ℕ) (width : ℕ) (may_overflow : Bool)
+    (run : List (Entry A)) (texts : List (List (Item A))) : Type 0 where
+  pub best : may_overflow ≡ false → IsNormal run → HasBestLines columns width run texts
+  pub visible : ShowsVisible columns (λ a b. a ≡ b) run texts
+  pub hard : Each Preserves run → Parted (ShowsHardLine columns (λ a b. a ≡ b)) (hard_lines run) texts
+  pub pre : Each (HasMode Pre) run → Parted (ShowsPre columns (λ a b. a ≡ b) width) (hard_lines run) texts
   pub prewrap : Each (HasMode PreWrap) run → Parted (ShowsPreWrap columns width) (hard_lines run) texts
   pub tabs : Each (HasMode Pre) run ⊎ Each (HasMode PreWrap) run → Parted (ShowsTabs columns width) (hard_lines run) texts
 
--- The texts that the end of the run adds to the ended lines, behind the lines that were handed out before, and the markers that stand
--- on none of them. Each line is as wide as it may be. The run's markers stand on the lines or wait, once and in order; in a `Normal`
--- run where no line may be wider than the block, those that wait are its trailing ones.
-pub record EndsRun {A : Type 0} (columns : ℕ → Option ℕ) (eq : A → A → Bool) (s : State A) (texts : List (List (Item A))) (names : List (List ℕ)) : Type 0 where
-  pub shown : IsShownBy columns eq s.width s.may_overflow s.run (s.handed ++ texts)
-  pub fits : Each (FitsBlock columns s.width s.may_overflow) (s.handed ++ texts)
-  pub marks : names_in_items (joined (s.handed ++ texts)) ++ names ≡ names_in_run s.run
+-- The lines that the end of the run adds to those that it had ended before, and the markers that stand on none of
+-- them. Each line is as wide as it may be. The run's markers stand on the lines or wait, once and in order; in a
+-- `Normal` run where no line may be wider than the block, those that wait are its trailing ones.
+pub record EndsRun {A : Type 0} (columns : ℕ → Option ℕ) (s : State A)
+    (texts : List (List (Item A))) (names : List (List ℕ)) : Type 0 where
+  pub shown : IsShownBy columns s.width s.may_overflow s.run (s.lines ++ texts)
+  pub fits : Each (FitsBlock columns s.width s.may_overflow) (s.lines ++ texts)
+  pub markers : names_in_items (joined (s.lines ++ texts)) ++ names ≡ names_in_run s.run
   pub waits : s.may_overflow ≡ false → IsNormal s.run → marker_items names ≡ trailing columns s.run

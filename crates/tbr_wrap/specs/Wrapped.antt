@@ -1,15 +1,11 @@
 -- What the lines of a wrapped run are.
-use Rattle.std.specs.Prelude.{◌≡◌, ℕ, ◌+◌, ◌-◌, ◌≤◌, ◌⊎◌, Bool, true, Option, None, Some, List, [], ◌∷◌, ◌++◌, if◌then◌else◌, nat_lt, IsTrue}
-use Rattle.std.specs.List.{AllZip, AllByRecursion as Each}
+use Rattle.std.specs.Prelude.{◌≡◌, ℕ, ◌+◌, ◌-◌, ◌≤◌, ◌⊎◌, Bool, true, Option, None, Some, List, [], ◌∷◌, ◌++◌, if◌then◌else◌, nat_lt, IsTrue, map}
+use Rattle.std.specs.List.{AllByRecursion as Each}
 use Rattle.tbr_model.specs.Run.{Entry, Item, item_width, items_width, has_character, words_of, reading}
 use Rattle.tbr_model.specs.Layout.{Slot, slots_of, line_text, IsBest}
-use Rattle.tbr_model.specs.Greedy.{wrapped, IsNarrow}
+use Rattle.tbr_model.specs.Greedy.{IsNarrow}
 use Rattle.tbr_tagged.specs.Elements.{Element, items_of, text_items, SameItems, IsMerged}
 use Rattle.tbr_tagged.specs.Padding.{spaces}
-
--- items are the text of a layout's line, up to equal tags
-abbrev pub IsTextOf : {A : Type 0} → (A → A → Bool) → List (Item A) → List (Slot A) → Type 0
-IsTextOf eq is line = SameItems eq is (line_text line)
 
 -- how many items take columns
 abbrev pub taking_columns : {A : Type 0} → (ℕ → Option ℕ) → List (Item A) → ℕ
@@ -21,10 +17,10 @@ abbrev pub FitsBlock : {A : Type 0} → (ℕ → Option ℕ) → ℕ → Bool �
 FitsBlock columns width may_overflow is = (items_width columns is ≤ width) ⊎ ((may_overflow ≡ true) × (taking_columns columns is ≡ 1))
 
 -- The lines are the texts of the layout of the run that is ahead of every legal one, and none is without a character.
-pub record HasBestLines {A : Type 0} (columns : ℕ → Option ℕ) (eq : A → A → Bool) (width : ℕ) (run : List (Entry A)) (texts : List (List (Item A))) : Type 0 where
+pub record HasBestLines {A : Type 0} (columns : ℕ → Option ℕ) (width : ℕ) (run : List (Entry A)) (texts : List (List (Item A))) : Type 0 where
   pub lines : List (List (Slot A))
   pub best : IsBest width (slots_of columns width run) lines
-  pub shown : AllZip (IsTextOf eq) texts lines
+  pub shown : texts ≡ map line_text lines
   pub full : Each (λ is. IsTrue (has_character is)) texts
 
 -- no character of a word that a break point of the run has ended is wider than a line
@@ -34,10 +30,6 @@ EndedWordsFit columns width run = Each (λ w. IsNarrow columns width w.items) (r
 -- no character of any word of the run is wider than a line
 abbrev pub WordsFit : {A : Type 0} → (ℕ → Option ℕ) → ℕ → List (Entry A) → Type 0
 WordsFit columns width run = Each (λ w. IsNarrow columns width w.items) (words_of columns run)
-
--- the lines that the words which the run has ended have ended
-abbrev pub ended_lines : {A : Type 0} → (ℕ → Option ℕ) → ℕ → List (Entry A) → List (List (Slot A))
-ended_lines columns width run = (wrapped columns width (reading columns run).words).done
 
 -- the spaces that fill a text up to a block's width, where its lines are padded
 abbrev pub padding_of : {A : Type 0} → (ℕ → Option ℕ) → Option A → ℕ → List (Item A) → List (Item A)

@@ -1,49 +1,38 @@
-//! What is noted of runs, for contracts alone.
-ghost use Rattle.std.specs.Prelude.{◌≡◌, ◌++◌, ◌∷◌, [], string_bytes};
-ghost use Rattle.tbr_model.specs.Run.{marker_entry};
-ghost use Rattle.tbr_wrap.specs.State.{after_change, entries_of};
+//! What happens to the runs of a block, which only contracts read.
+ghost use Rattle.std.specs.Prelude.{◌≡◌, ◌++◌, ◌∷◌, []};
 
 use std::marker::Model;
 use tbr_model::{History, WhiteSpace};
 
-/// What happened to a run.
+/// What happens to a run. A history keeps with each change the tags of the character that it tells of.
 #[derive(Drop)]
 pub enum RunChange {
-    /// A character joined it.
+    /// A call begins.
+    Called,
+    /// A character joins it.
     Character(char, WhiteSpace),
-    /// A marker joined it.
+    /// A marker joins it.
     Marker(String),
-    /// So many of its last markers were taken out of it.
-    Taken(usize),
-    /// It ended, and so many of its last markers begin the next run.
-    Ended(usize),
+    /// The markers of the current word are taken out of it.
+    Taken,
+    /// It ends.
+    Ended,
+    /// The first line that isn't handed out is.
+    HandedOut,
 }
 
-/// The notes with one more, of an entry with these tags.
-pub fn with_change<T>(
-    changes: &History<RunChange, T, T>,
-    change: RunChange,
-    main_tag: &T,
-    wrap_tag: &T,
-) -> History<RunChange, T, T>
-    ensures { entries_of result.items ≡ after_change (entries_of changes.now.items) (change, main_tag.now, wrap_tag.now) }
-{
-    changes.appended(&change, main_tag, wrap_tag)
-}
+/// What happened to the runs of a block.
+pub type RunHistory<T> = History<RunChange, T, T>;
 
-/// The notes with one of a marker, which is given back. The tag stands for none.
-pub fn with_marker<T>(
-    changes: &History<RunChange, T, T>,
-    name: String,
-    tag: &T,
-) -> (History<RunChange, T, T>, String)
-    ensures changes { entries_of result.0.items ≡ entries_of changes.now.items ++ marker_entry (string_bytes name) ∷ [] }
+/// The history with one more marker, whose name is given back. The tag stands for none.
+pub fn with_marker<T>(changes: &RunHistory<T>, name: String, tag: &T) -> (RunHistory<T>, String)
+    ensures changes { result.0.items ≡ changes.now.items ++ (RunChange.Marker name, tag.now, tag.now) ∷ [] }
     ensures name { result.1 ≡ name }
 {
     let change = RunChange::Marker(name);
     let changes = changes.appended(&change, tag, tag);
     match change {
         RunChange::Marker(name) => (changes, name),
-        RunChange::Character(..) | RunChange::Taken(_) | RunChange::Ended(_) => unreachable!(),
+        _ => unreachable!(),
     }
 }

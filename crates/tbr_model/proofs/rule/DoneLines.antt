@@ -1,5 +1,5 @@
 -- Lines that are done have no influence on how a block goes on.
-use Rattle.std.proofs.Common.{◌≡◌, ℕ, zero, suc, ◌+◌, ◌-◌, ◌%◌, ◌==◌, ◌&&◌, nat_le, nat_lt, Bool, true, false, if◌then◌else◌, is_some, is_none, Option, Some, None, List, [], ◌∷◌, ◌++◌, fold, refl, ap, ◌∙◌, append_assoc}
+use Rattle.std.proofs.Common.{◌≡◌, ℕ, zero, suc, ◌+◌, ◌-◌, ◌%◌, ◌==◌, ◌&&◌, nat_le, nat_lt, Bool, true, false, if◌then◌else◌, is_some, is_none, Option, Some, None, List, [], ◌∷◌, ◌++◌, fold, refl, ap, ◌∙◌, append_assoc, append-nil, sym}
 use Rattle.tbr_model.specs.declared.white_space.WhiteSpace.{WhiteSpace}
 use Rattle.tbr_model.specs.declared.white_space.WhiteSpace.TheVariants.{Normal, Pre, PreWrap}
 use Rattle.tbr_model.specs.Run.{character, marker_entry, Item, glyph, item_width, items_width, has_character, is_blank, is_break, Entry}
@@ -149,3 +149,27 @@ fold_behind columns width d p (e ∷ es) =
 pub finished_behind : {A : Type 0} (columns : ℕ → Option ℕ) (width : ℕ) (d : List (List (Item A))) (p : Progress A) → finished columns width (behind d p) ≡ under d (finished columns width p)
 finished_behind {A} columns width d p =
     ap (λ (q : Progress A). end_if_character q.laid) (flush_word_behind columns width d p) ∙ end_if_character_under d (flush_word columns width p).laid
+
+-- ---- lines are only added
+
+module _ {A : Type 0} (columns : ℕ → Option ℕ) (width : ℕ) (p : Progress A) where
+  -- where the rule stands, without its lines
+  abbrev bare : Progress A
+  bare = record p { laid = record p.laid { done = [] } }
+
+  bare_behind : behind p.laid.done bare ≡ p
+  bare_behind = ap (λ ls. record p { laid = record p.laid { done = ls } }) (append-nil p.laid.done)
+
+  -- by an event
+  pub step_adds : (e : Event A) → (more : List (List (Item A))) × ((step columns width p e).laid.done ≡ p.laid.done ++ more)
+  step_adds e = (
+    (step columns width bare e).laid.done,
+    ap (λ (q : Progress A). (step columns width q e).laid.done) (sym bare_behind) ∙ ap (λ (q : Progress A). q.laid.done) (step_behind columns width p.laid.done bare e),
+  )
+
+  -- by the end of the run
+  pub finished_adds : (more : List (List (Item A))) × ((finished columns width p).done ≡ p.laid.done ++ more)
+  finished_adds = (
+    (finished columns width bare).done,
+    ap (λ (q : Progress A). (finished columns width q).done) (sym bare_behind) ∙ ap (λ (l : Laid A). l.done) (finished_behind columns width p.laid.done bare),
+  )

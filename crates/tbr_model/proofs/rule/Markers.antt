@@ -12,7 +12,7 @@ use Rattle.tbr_model.proofs.rule.HardLines.{no_character_after_end, flush_flushe
 
 -- ---- items and entries
 
-names_in_items-append : {A : Type 0} (is js : List (Item A)) → names_in_items (is ++ js) ≡ names_in_items is ++ names_in_items js
+pub names_in_items-append : {A : Type 0} (is js : List (Item A)) → names_in_items (is ++ js) ≡ names_in_items is ++ names_in_items js
 names_in_items-append [] js = refl
 names_in_items-append (glyph c a ∷ is) js = names_in_items-append is js
 names_in_items-append (marker name ∷ is) js = ap (λ ns. name ∷ ns) (names_in_items-append is js)

@@ -2,7 +2,6 @@
 use Rattle.std.proofs.Common.{◌≡◌, ◌≢◌, ℕ, ◌<◌, ◌≤◌, inl, inr, Bool, true, false, Option, Some, None, IfSome, unwrap_or, List, [], ◌∷◌, ◌++◌, map, filter, fold, refl, ap, sym, ◌∙◌, subst, arith, lt-ltb}
 use Rattle.std.specs.Prelude.{nat_lt, ◌&&◌, IsTrue}
 use Rattle.std.specs.List.{AllZip, AllByRecursion as Each}
-use Rattle.std.specs.Cmp.{IsEquivalence}
 use Rattle.std.proofs.lemmas.Bool.{cond_both}
 use Rattle.std.proofs.lemmas.List.Sums.{fold-append}
 use Rattle.tbr_model.specs.declared.white_space.WhiteSpace.{WhiteSpace}
@@ -28,25 +27,14 @@ use Rattle.tbr_model.proofs.normal.StaysLaid.{AllLaid, IsNarrowItem}
 use Rattle.tbr_model.proofs.normal.LayoutSoFar.{NormalStands, normal_stands}
 use Rattle.tbr_model.proofs.normal.TrailingMarkers.{normal_waiting}
 use Rattle.tbr_model.proofs.normal.BestLines.{NormalBlank, normal_lines, normal_blank}
-use Rattle.tbr_tagged.specs.Elements.{SameItems}
-use Rattle.tbr_wrap.specs.Wrapped.{IsTextOf, HasBestLines, FitsBlock, EndedWordsFit, WordsFit, ended_lines}
+use Rattle.tbr_wrap.specs.Wrapped.{HasBestLines, FitsBlock, EndedWordsFit, WordsFit}
 use Rattle.tbr_wrap.specs.State.{IsNormal, CharactersFit, IsNarrowIfVisible, VisibleFit, IsShownBy}
-use Rattle.tbr_tagged.proofs.SameItems.{same_has}
-use Rattle.tbr_wrap.proofs.runs.EqualTags.{visible_same, parted_same, hard_line_same, pre_same, prewrap_same, tabs_same}
 
 -- ---- no line without a character
 
--- texts of a layout's lines, one by one
-pub texts_of_lines : {A : Type 0} (eq : A → A → Bool) (texts : List (List (Item A))) (lines : List (List (Slot A))) → AllZip (SameItems eq) texts (map line_text lines) → AllZip (IsTextOf eq) texts lines
-texts_of_lines eq [] [] h = tt
-texts_of_lines eq [] (l ∷ lines) h = absurd h
-texts_of_lines eq (is ∷ texts) [] h = absurd h
-texts_of_lines eq (is ∷ texts) (l ∷ lines) h = (h.0, texts_of_lines eq texts lines h.1)
-
-texts_full : {A : Type 0} (eq : A → A → Bool) (texts : List (List (Item A))) (lines : List (List (Slot A))) → AllZip (IsTextOf eq) texts lines → Each HasGlyph lines → Each (λ is. IsTrue (has_character is)) texts
-texts_full eq [] lines h k = tt
-texts_full eq (is ∷ texts) [] h k = absurd h
-texts_full eq (is ∷ texts) (l ∷ lines) h k = (same_has eq is (line_text l) h.0 ∙ text_has l k.0, texts_full eq texts lines h.1 k.1)
+lines_full : {A : Type 0} (lines : List (List (Slot A))) → Each HasGlyph lines → Each (λ is. IsTrue (has_character is)) (map line_text lines)
+lines_full [] k = tt
+lines_full (l ∷ lines) k = (text_has l k.0, lines_full lines k.1)
 
 -- ---- narrow items
 
@@ -84,11 +72,15 @@ module _ {A : Type 0} (columns : ℕ → Option ℕ) (width : ℕ) where
     waits_normal run is normal =
         subst (λ (rs : List (Entry A)). IsNormal rs → waiting columns width (progress columns width es) ≡ trailing columns rs) is (λ modes. normal_waiting columns width es modes narrow_end) normal
 
-    best_texts : (eq : A → A → Bool) (texts : List (List (Item A))) → AllZip (SameItems eq) texts (lines_of columns width es) → IsNormal (run_of es) → HasBestLines columns eq width (run_of es) texts
-    best_texts eq texts same normal =
+    best_texts : IsNormal (run_of es) → HasBestLines columns width (run_of es) (lines_of columns width es)
+    best_texts normal =
         let (words, (lines, best, are)) = normal_lines columns width es normal narrow_end in
-        let shown = texts_of_lines eq texts lines (subst (λ (ls : List (List (Item A))). AllZip (SameItems eq) texts ls) are same) in
-        record { lines = lines; best = best; shown = shown; full = texts_full eq texts lines shown (best_characters columns width (run_of es) lines best) }
+        record {
+          lines = lines;
+          best = best;
+          shown = are;
+          full = subst (Each (λ is. IsTrue (has_character is))) (sym are) (lines_full lines (best_characters columns width (run_of es) lines best));
+        }
 
   -- ---- visible characters
 
@@ -127,7 +119,10 @@ module _ {A : Type 0} (columns : ℕ → Option ℕ) (width : ℕ) where
 
 -- ---- a whole run
 
-module _ {A : Type 0} (columns : ℕ → Option ℕ) (eq : A → A → Bool) (laws : IsEquivalence eq) (width : ℕ) (one_space : columns 32 ≡ Some 1) (wide : 0 < width) where
+module _ {A : Type 0} (columns : ℕ → Option ℕ) (width : ℕ) (one_space : columns 32 ≡ Some 1) (wide : 0 < width) where
+  abbrev Same : A → A → Type 0
+  Same a b = a ≡ b
+
   preserving : (mode : WhiteSpace) → mode ≢ Normal → (e : Entry A) → HasMode mode e → Preserves e
   preserving mode kept (character c a b m) h = λ normal. kept (sym h ∙ normal)
   preserving mode kept (marker_entry name) h = tt
@@ -138,9 +133,9 @@ module _ {A : Type 0} (columns : ℕ → Option ℕ) (eq : A → A → Bool) (la
   prewrap_kept : PreWrap ≢ Normal
   prewrap_kept e = cc
 
-  pre_parted : (es : List (Event A)) → Each (HasMode Pre) (run_of es) → Parted (ShowsPre columns (λ a b. eq a b ≡ true) width) (hard_lines (run_of es)) (lines_of columns width es)
+  pre_parted : (es : List (Event A)) → Each (HasMode Pre) (run_of es) → Parted (ShowsPre columns Same width) (hard_lines (run_of es)) (lines_of columns width es)
   pre_parted es h =
-      hard_lines_parted columns width (ShowsPre columns (λ a b. eq a b ≡ true) width) (HasMode Pre) (preserving Pre pre_kept) (λ p es f modes plain. pre_line columns (λ a b. eq a b ≡ true) width one_space wide laws.refl p es f modes plain) es h
+      hard_lines_parted columns width (ShowsPre columns Same width) (HasMode Pre) (preserving Pre pre_kept) (λ p es f modes plain. pre_line columns Same width one_space wide (λ a. refl) p es f modes plain) es h
 
   prewrap_parted : (es : List (Event A)) → Each (HasMode PreWrap) (run_of es) → Parted (ShowsPreWrap columns width) (hard_lines (run_of es)) (lines_of columns width es)
   prewrap_parted es h =
@@ -150,25 +145,16 @@ module _ {A : Type 0} (columns : ℕ → Option ℕ) (eq : A → A → Bool) (la
   tabs_parted mode kept es h =
       hard_lines_parted columns width (ShowsTabs columns width) (HasMode mode) (preserving mode kept) (λ p es f modes plain. tab_line columns width one_space wide mode kept p es f plain modes) es h
 
-  shown_events : (may_overflow : Bool) (es : List (Event A)) (texts : List (List (Item A))) → AllZip (SameItems eq) texts (lines_of columns width es) →
-      Each (FitsBlock columns width may_overflow) (lines_of columns width es) → IsShownBy columns eq width may_overflow (run_of es) texts
-  shown_events may_overflow es texts same fits =
-      let ls : List (List (Item A)) = lines_of columns width es in
-      let hs : List (List (Entry A)) = hard_lines (run_of es) in
-      record {
-        best = λ never normal. best_texts columns width es (subst (λ (o : Bool). Each (FitsBlock columns width o) ls) never fits) eq texts same normal;
-        visible = visible_same eq laws columns (run_of es) texts ls same (visible_shown columns width (λ a b. eq a b ≡ true) laws.refl es);
-        hard = λ kept. parted_same eq laws (ShowsHardLine columns (λ a b. eq a b ≡ true)) (hard_line_same eq laws columns) hs texts ls same (hard_lines_shown columns width (λ a b. eq a b ≡ true) laws.refl es kept);
-        pre = λ modes. parted_same eq laws (ShowsPre columns (λ a b. eq a b ≡ true) width) (pre_same eq laws columns width) hs texts ls same (pre_parted es modes);
-        prewrap = λ modes. parted_same eq laws (ShowsPreWrap columns width) (prewrap_same eq laws columns width) hs texts ls same (prewrap_parted es modes);
-        tabs = λ modes. parted_same eq laws (ShowsTabs columns width) (tabs_same eq laws columns width) hs texts ls same
-            (elim modes [ inl m ↦ tabs_parted Pre pre_kept es m | inr m ↦ tabs_parted PreWrap prewrap_kept es m ]);
-      }
-
   -- what a block's lines show of its run
-  pub shown_run : (may_overflow : Bool) (es : List (Event A)) (run : List (Entry A)) (texts : List (List (Item A))) → run_of es ≡ run → AllZip (SameItems eq) texts (lines_of columns width es) →
-      Each (FitsBlock columns width may_overflow) (lines_of columns width es) → IsShownBy columns eq width may_overflow run texts
-  shown_run may_overflow es run texts is same fits = subst (λ (rs : List (Entry A)). IsShownBy columns eq width may_overflow rs texts) is (shown_events may_overflow es texts same fits)
+  pub shown_run : (may_overflow : Bool) (es : List (Event A)) → Each (FitsBlock columns width may_overflow) (lines_of columns width es) → IsShownBy columns width may_overflow (run_of es) (lines_of columns width es)
+  shown_run may_overflow es fits = record {
+    best = λ never normal. best_texts columns width es (subst (λ (o : Bool). Each (FitsBlock columns width o) (lines_of columns width es)) never fits) normal;
+    visible = visible_shown columns width Same (λ a. refl) es;
+    hard = λ kept. hard_lines_shown columns width Same (λ a. refl) es kept;
+    pre = λ modes. pre_parted es modes;
+    prewrap = λ modes. prewrap_parted es modes;
+    tabs = λ modes. elim modes [ inl m ↦ tabs_parted Pre pre_kept es m | inr m ↦ tabs_parted PreWrap prewrap_kept es m ];
+  }
 
 -- ---- a run of Normal mode under way
 
@@ -219,10 +205,6 @@ module _ {A : Type 0} (columns : ℕ → Option ℕ) (width : ℕ) where
     -- the word under way
     pub word_normal : (progress columns width es).word ≡ (reading columns run).items
     word_normal = stands.1.word
-
-    -- the lines that the run has ended
-    pub ended_lines_normal : (progress columns width es).laid.done ≡ map line_text (ended_lines columns width run)
-    ended_lines_normal = stands.1.done
 
     pub blank_normal : NormalBlank columns (progress columns width es) run
     blank_normal = subst (λ (rs : List (Entry A)). IsNormal rs → NormalBlank columns (progress columns width es) rs) is (λ modes. normal_blank columns width es modes all_narrow) normal

@@ -1,6 +1,0 @@
-use Rattle.std.proofs.Common.{◌≡◌, ◌++◌}
-use Rattle.tbr_wrap.specs.State.{text_entries}
-use Rattle.tbr_wrap.proofs.block.WrappedBlock.add_text.Given as goal
-
-abbrev pub invariant-loop-c : goal.invariant-loop-c
-invariant-loop-c g l = l.self ≡ record l.fn.self { run = l.fn.self.run ++ text_entries l.yielded l.main_tag l.wrap_tag l.ws_mode }
