@@ -1,12 +1,12 @@
 -- In a run of `Pre` each character that is kept stands on the lines, in order.
-use Rattle.std.proofs.Common.{◌≡◌, ℕ, zero, suc, ◌+◌, ◌-◌, ◌%◌, nat_lt, nat_le, ◌==◌, true, false, not, ◌&&◌, is_some, Option, Some, None, List, [], ◌∷◌, ◌++◌, filter, fold, refl, ap, sym, ◌∙◌, append_assoc, append-nil, subst}
+use Rattle.std.proofs.Common.{◌≡◌, ℕ, zero, suc, ◌+◌, ◌-◌, nat_lt, nat_le, ◌==◌, true, false, not, ◌&&◌, is_some, Option, Some, None, List, [], ◌∷◌, ◌++◌, filter, fold, refl, ap, sym, ◌∙◌, append_assoc, append-nil, subst}
 use Rattle.std.specs.List.{AllByRecursion as Each}
 use Rattle.std.proofs.lemmas.Bool.{cond_both, eqb-true}
 use Rattle.std.proofs.lemmas.List.Elements.{filter-append}
 use Rattle.tbr_model.specs.declared.white_space.WhiteSpace.TheVariants.{Pre}
 use Rattle.tbr_model.specs.Run.{Entry, character, marker_entry, Item, glyph, marker, items_width, is_blank, is_break, is_kept, has_character}
 use Rattle.tbr_model.specs.Layout.{joined}
-use Rattle.tbr_model.specs.Laid.{Laid, extended, end_if_character, put_items}
+use Rattle.tbr_model.specs.Laid.{Laid, end_if_character, put_items}
 use Rattle.tbr_model.specs.Rule.{Event, call, entry, run_of, Space, Progress, spaces, pending_width, space_text, space_of, wrap_space, put_pending, lay_here, lay_fresh, lay, flush_word, keep_space, keep_character, passes, tag_of, put_tab, tab, preserve, enter, step, newline, finished}
 use Rattle.tbr_model.specs.Hard.{HasMode, is_newline, entry_letters}
 use Rattle.tbr_model.proofs.words.Items.{break_lost, WaitsIn}

@@ -1,5 +1,5 @@
 -- What is found in a run's items, for any way to look at them that passes over what isn't visible: the rule keeps it, in order.
-use Rattle.std.proofs.Common.{◌≡◌, ℕ, zero, suc, ◌+◌, ◌-◌, ◌%◌, ◌==◌, ◌&&◌, ◌⊎◌, inl, inr, nat_le, nat_lt, Bool, true, false, not, is_some, is_none, Option, Some, None, List, [], ◌∷◌, ◌++◌, fold, refl, ap, sym, ◌∙◌, append_assoc, append-nil}
+use Rattle.std.proofs.Common.{◌≡◌, ℕ, zero, suc, ◌+◌, ◌-◌, ◌==◌, ◌&&◌, ◌⊎◌, inl, inr, nat_le, nat_lt, true, false, not, is_some, is_none, Option, Some, None, List, [], ◌∷◌, ◌++◌, fold, refl, ap, sym, ◌∙◌, append_assoc, append-nil}
 use Rattle.std.specs.Char.{is_whitespace}
 use Rattle.std.specs.List.{AllZip}
 use Rattle.std.proofs.lemmas.Bool.{cond_both, eqb-true, and_parts, and_left, and_right, not_from_true}
@@ -7,7 +7,7 @@ use Rattle.tbr_model.specs.declared.white_space.WhiteSpace.{WhiteSpace}
 use Rattle.tbr_model.specs.declared.white_space.WhiteSpace.TheVariants.{Normal, Pre, PreWrap}
 use Rattle.tbr_model.specs.Run.{Entry, character, marker_entry, Item, glyph, marker, items_width, has_character, is_blank, is_break, is_kept}
 use Rattle.tbr_model.specs.Layout.{joined}
-use Rattle.tbr_model.specs.Laid.{Laid, extended, end_line, end_if_character, put_items}
+use Rattle.tbr_model.specs.Laid.{Laid, extended, end_if_character, put_items}
 use Rattle.tbr_model.specs.Rule.{Event, call, entry, run_of, Space, Progress, spaces, pending_width, space_text, is_space_item, is_white_item, without_leading, without_trailing, trimmed, wrap_space_by, wrap_space, put_pending, lay_here, lay_fresh, lay, flush_word, break_word, join, collapse, newline, put_tab, tab, keep_space, is_pre, passes, tag_of, keep_character, preserve, enter, step, finished}
 use Rattle.tbr_model.specs.Hard.{is_visible}
 use Rattle.tbr_model.proofs.rule.LaidText.{text, text-extended, text-end_line, text-end_if_character, text-put_items, text-put_pending, text-put_tab}

@@ -1,10 +1,10 @@
 -- How a block goes on keeps the markers, in order.
-use Rattle.std.proofs.Common.{◌≡◌, ℕ, true, false, Option, List, [], ◌∷◌, ◌++◌, map, fold, refl, ap, sym, ◌∙◌, append_assoc, append-nil}
+use Rattle.std.proofs.Common.{◌≡◌, ℕ, false, Option, List, [], ◌∷◌, ◌++◌, map, fold, refl, ap, sym, ◌∙◌, append_assoc, append-nil}
 use Rattle.std.specs.List.{AllZip}
 use Rattle.tbr_model.specs.Run.{Entry, character, marker_entry, Item, glyph, marker, has_character}
 use Rattle.tbr_model.specs.Layout.{joined}
 use Rattle.tbr_model.specs.Laid.{end_if_character}
-use Rattle.tbr_model.specs.Rule.{Event, entry, run_of, Progress, at_start, flush_word, enter, step, progress, finished, waiting, lines_of}
+use Rattle.tbr_model.specs.Rule.{Event, entry, run_of, Progress, at_start, flush_word, enter, step, progress, waiting, lines_of}
 use Rattle.tbr_model.specs.Markers.{names_in_items, names_in_run, marker_run, marker_items}
 use Rattle.tbr_model.proofs.words.Items.{has_character-append}
 use Rattle.tbr_model.proofs.rule.Content.{LooksAtVisible, StandsFor, content, fold_content, finished_content}
