@@ -85,7 +85,7 @@ module _ {A : Type 0} (columns : ℕ → Option ℕ) (width : ℕ) (p : Progress
   -- the lines before a newline
   shows_ended : (Same : A → A → Type 0) → 0 < width → ((x : A) → Same x x) → Each (λ e. is_newline e ≡ false) (run_of es) → ShowsPre columns Same width true (run_of es) (end_line laid).done
   shows_ended Same wide reflexive more = record {
-    kept = (pre_kept columns width p es f pre more).0;
+    kept = (pre_kept columns width p es f pre).0;
     fits = λ printable other fits. (line_fits printable other fits).same;
     cut = λ printable begins.
         (let none = (tags printable begins).1 in
@@ -109,7 +109,7 @@ module _ {A : Type 0} (columns : ℕ → Option ℕ) (width : ℕ) (p : Progress
   -- the lines at the end of the run
   shows_freshened : (Same : A → A → Type 0) → 0 < width → ((x : A) → Same x x) → Each (λ e. is_newline e ≡ false) (run_of es) → ShowsPre columns Same width false (run_of es) (end_if_character laid).done
   shows_freshened Same wide reflexive more = record {
-    kept = (pre_kept columns width p es f pre more).1;
+    kept = (pre_kept columns width p es f pre).1;
     fits = λ printable other fits.
         subst (λ (ls : List (List (Item A))). map letters_of ls ≡ entry_letters (run_of es) ∷ []) (ended_alike laid (line_fits printable other fits).last) (shown.fits printable other fits);
     cut = λ printable begins. subst (λ (ls : List (List (Item A))). IsCutEvery width (entry_letters (run_of es)) (map letters_of ls)) (alike printable begins) (shown.cut printable begins);
