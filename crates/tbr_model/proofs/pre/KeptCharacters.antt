@@ -1,5 +1,5 @@
 -- In a run of `Pre` each character that is kept stands on the lines, in order.
-use Rattle.std.proofs.Common.{◌≡◌, ℕ, Bool, true, false, if◌then◌else◌, Option, List, [], ◌∷◌, ◌++◌, filter, fold, refl, ap, sym, ◌∙◌}
+use Rattle.std.proofs.Common.{◌≡◌, ℕ, if◌then◌else◌, Option, List, [], ◌∷◌, ◌++◌, filter, fold, refl, ap, ◌∙◌}
 use Rattle.std.specs.List.{AllZip, AllByRecursion as Each}
 use Rattle.tbr_model.specs.declared.white_space.WhiteSpace.{WhiteSpace}
 use Rattle.tbr_model.specs.declared.white_space.WhiteSpace.TheVariants.{Pre}
@@ -9,7 +9,7 @@ use Rattle.tbr_model.specs.Rule.{Event, run_of, Progress, flush_word, step, newl
 use Rattle.tbr_model.specs.Hard.{HasMode, entry_letters}
 use Rattle.tbr_model.proofs.rule.HardLineStart.{BeginsHardLine}
 use Rattle.tbr_model.proofs.rule.LaidText.{kept_of, kept-append, none_kept, kept_one}
-use Rattle.tbr_model.proofs.rule.Content.{LooksAtKept, StandsFor, EntryIn, nothing_yet, GrowsBy, fold_content, found_finished, found_ended}
+use Rattle.tbr_model.proofs.rule.Content.{LooksAtKept, StandsFor, EntryIn, nothing_yet, fold_content, found_finished, found_ended}
 
 abbrev IsPre : WhiteSpace → Type 0
 IsPre mode = mode ≡ Pre

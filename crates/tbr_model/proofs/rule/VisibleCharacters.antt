@@ -1,12 +1,10 @@
 -- A block shows the visible characters of its run once, in order.
-use Rattle.std.proofs.Common.{◌≡◌, ℕ, ◌<◌, ◌⊎◌, inl, inr, Bool, true, false, not, Option, List, [], ◌∷◌, ◌++◌, filter, fold, length, refl, ap, sym, ◌∙◌, arith, append-nil, length-append}
+use Rattle.std.proofs.Common.{◌≡◌, ℕ, ◌<◌, ◌⊎◌, inl, inr, Bool, true, false, not, Option, List, [], ◌∷◌, ◌++◌, filter, fold, length, refl, ap, ◌∙◌, arith, length-append}
 use Rattle.std.specs.List.{AllZip, AllByRecursion as Each}
 use Rattle.std.specs.Char.{is_whitespace}
 use Rattle.std.proofs.lemmas.Bool.{and_left, and_right, not_from_true}
 use Rattle.std.proofs.lemmas.List.Elements.{filter-append}
 use Rattle.tbr_model.specs.Run.{Entry, character, marker_entry, Item, glyph, marker, has_character, is_kept}
-use Rattle.tbr_model.specs.Layout.{joined}
-use Rattle.tbr_model.specs.Laid.{Laid}
 use Rattle.tbr_model.specs.Rule.{Event, run_of, Progress, at_start, flush_word, newline, step, finished, lines_of}
 use Rattle.tbr_model.specs.Hard.{glyphs_of, is_visible, visible_glyphs, visible_entries, IsShown, ShowsVisible, Preserves, hard_lines, Parted, ShowsHardLine}
 use Rattle.tbr_model.proofs.rule.HardLineStart.{BeginsHardLine}
