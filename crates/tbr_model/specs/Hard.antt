@@ -89,7 +89,8 @@ IsShown Same g (marker_entry name) = ⊥
 -- The visible characters of a run stand in lines once, in order, each under an annotation of its call.
 abbrev pub ShowsVisible : {A : Type 0} →
     (ℕ → Option ℕ) → (A → A → Type 0) → List (Entry A) → List (List (Item A)) → Type 0
-ShowsVisible columns Same run ls = AllZip (IsShown Same) (visible_glyphs columns (joined ls)) (visible_entries columns run)
+ShowsVisible columns Same run ls =
+    AllZip (IsShown Same) (visible_glyphs columns (joined ls)) (visible_entries columns run)
 
 -- ---- printable hard lines
 

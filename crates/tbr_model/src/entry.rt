@@ -79,7 +79,7 @@ impl<T> Entry<T> {
     {
         match self {
             Entry::Character { c, .. } => {
-                !is_break(*c) && W::width(*c).is_some_and(|columns| columns > 0)
+                !is_break(*c) && W::width(*c).is_some_and(|taken| taken > 0)
             }
             Entry::Marker { .. } => false,
         }

@@ -16,19 +16,19 @@ pub fn line_width<T>(line: &[Slot<'_, T>]) -> Option<usize>
     let Some((first, others)) = line.split_first() else {
         return Some(0);
     };
-    let mut columns = first.width;
+    let mut taken = first.width;
     for slot in others {
         let gap = usize::from(slot.gap.is_some());
-        columns = columns.checked_add(gap)?.checked_add(slot.width)?;
+        taken = taken.checked_add(gap)?.checked_add(slot.width)?;
     }
-    Some(columns)
+    Some(taken)
 }
 
 /// Whether a line fits into a width in columns.
 fn fits<T>(width: usize, line: &[Slot<'_, T>]) -> bool
     ensures { IsTrue result ↔ (layout.line_width (slot_values line.now) ≤ width) }
 {
-    line_width(line).is_some_and(|columns| columns <= width)
+    line_width(line).is_some_and(|taken| taken <= width)
 }
 
 /// Whether none of the slots begins a word that is wider than a line.

@@ -46,16 +46,16 @@ fn first_blank<T>(entries: &[Entry<T>]) -> Option<&T>
 fn is_wider<T, W: CharWidth>(entries: &[Entry<T>], width: usize) -> bool
     ensures { result ≡ nat_lt width (items_width W.columns (kept_items W.columns (entry_values entries.now))) }
 {
-    let mut columns: usize = 0;
+    let mut taken: usize = 0;
     for entry in entries {
         if entry.is_item::<W>() {
-            match columns.checked_add(entry.width::<W>()) {
-                Some(sum) => columns = sum,
+            match taken.checked_add(entry.width::<W>()) {
+                Some(sum) => taken = sum,
                 None => return true,
             }
         }
     }
-    columns > width
+    taken > width
 }
 
 /// Whether a kept character is among the entries.

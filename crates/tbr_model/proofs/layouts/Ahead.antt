@@ -2,7 +2,7 @@
 use Rattle.std.proofs.Common.{◌≡◌, ℕ, zero, suc, ◌+◌, ◌<◌, ◌≤◌, List, [], ◌∷◌, ◌++◌, length, take, refl, ap, sym, ◌∙◌, inl, inr, arith, length-append, append_assoc, subst, zero-add}
 use Rattle.std.specs.List.{AllByRecursion as Each}
 use Rattle.tbr_model.specs.Layout.{Slot, joined, placed, line_width, rest_width, MayFollow, FirstMayBegin, OthersMayFollow, IsLegalLine, IsLegal, IsLongest, IsGreedy, HasNoEmptyLine, IsAhead, IsBest}
-use Rattle.tbr_model.proofs.lists.Each.{each_front, each_back, each_append}
+use Rattle.tbr_model.proofs.lists.Each.{each_back}
 use Rattle.tbr_model.proofs.lists.Joined.{cut_twice, placed_le, placed_all}
 
 pub rest_width-append : {A : Type 0} (a b : List (Slot A)) → rest_width (a ++ b) ≡ rest_width a + rest_width b

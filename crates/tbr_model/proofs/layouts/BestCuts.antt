@@ -34,7 +34,7 @@ lines_more {X} xs c n d [] h = ap (λ k. let ls : List (List X) = slice_range xs
 lines_more xs c n d (e ∷ ds) h = ap (λ ls. slice_range xs c e ∷ ls) (lines_more xs e n d ds h.1)
 
 -- The cuts so far, up to a position.
-pub record Walked {A : Type 0} (width : ℕ) (slots : List (Slot A)) (cuts : List ℕ) (from : ℕ) : Type 0 where
+pub record CutsSoFar {A : Type 0} (width : ℕ) (slots : List (Slot A)) (cuts : List ℕ) (from : ℕ) : Type 0 where
   pub later : List ℕ
   pub is : cuts ≡ 0 ∷ later
   pub rises : RisesTo 0 later from
@@ -44,9 +44,9 @@ pub record Walked {A : Type 0} (width : ℕ) (slots : List (Slot A)) (cuts : Lis
   pub greedy : GreedyBefore width (lines_behind slots 0 later) (drop from slots)
   pub left : HasLegalLayout width slots → HasLegalLayout width (drop from slots)
 
-pub walk_on : {A : Type 0} (width : ℕ) (slots : List (Slot A)) (cuts : List ℕ) (from end : ℕ) → Walked width slots cuts from → IsLongestLine width (drop from slots) end →
-    Walked width slots (cuts ++ (from + end) ∷ []) (from + end)
-walk_on {A} width slots cuts from end h line = record {
+pub next_cut : {A : Type 0} (width : ℕ) (slots : List (Slot A)) (cuts : List ℕ) (from end : ℕ) → CutsSoFar width slots cuts from → IsLongestLine width (drop from slots) end →
+    CutsSoFar width slots (cuts ++ (from + end) ∷ []) (from + end)
+next_cut {A} width slots cuts from end h line = record {
   later = h.later ++ to ∷ [];
   is = ap (λ (l : List ℕ). l ++ to ∷ []) h.is;
   rises = rises_more 0 from to h.later h.rises (omega arith);
@@ -74,8 +74,8 @@ walk_on {A} width slots cuts from end h line = record {
     more : lines_behind slots 0 (h.later ++ to ∷ []) ≡ lines_behind slots 0 h.later ++ new ∷ []
     more = lines_more slots 0 from to h.later h.rises
 
-pub walk_ends : {A : Type 0} (width : ℕ) (slots : List (Slot A)) (cuts : List ℕ) (from : ℕ) → Walked width slots cuts from → length slots ≤ from → IsBestLayout width slots cuts
-walk_ends {A} width slots cuts from h all =
+pub last_cut : {A : Type 0} (width : ℕ) (slots : List (Slot A)) (cuts : List ℕ) (from : ℕ) → CutsSoFar width slots cuts from → length slots ≤ from → IsBestLayout width slots cuts
+last_cut {A} width slots cuts from h all =
     let rises : RisesTo 0 h.later (length slots) = subst (RisesTo 0 h.later) (omega (arith, h.within)) h.rises in
     let none : drop from slots ≡ [] = drop_of_length-le slots all in
     let legal : IsLegal width slots (lines_behind slots 0 h.later) = record { whole = joined_behind slots 0 h.later rises; each = h.legal } in

@@ -102,7 +102,7 @@ stays_by_wider width (s ∷ l) t v some wide r (m ∷ more) others e p starts le
 -- ---- placing
 
 -- What is kept while words are placed, of the slots that were placed.
-pub record Holds {A : Type 0} (width : ℕ) (slots : List (Slot A)) (lines : Lines A) : Type 0 where
+pub record HoldsSlots {A : Type 0} (width : ℕ) (slots : List (Slot A)) (lines : Lines A) : Type 0 where
   pub whole : joined lines.done ++ lines.last ≡ slots
   pub each : Each (IsLegalLine width) lines.done
   pub full : HasNoEmptyLine lines.done
@@ -131,9 +131,9 @@ longer width last (t ∷ v) some legal fits follow = record {
   others = others_line last (t ∷ v) some legal.others follow;
 }
 
-pub holds_longer : {A : Type 0} (width : ℕ) (slots : List (Slot A)) (done : List (List (Slot A))) (last v : List (Slot A)) →
-    Holds width slots (record { done = done; last = last }) → IsLegalLine width (last ++ v) → Holds width (slots ++ v) (record { done = done; last = last ++ v })
-holds_longer width slots done last v h legal = record {
+pub longer_holds_slots : {A : Type 0} (width : ℕ) (slots : List (Slot A)) (done : List (List (Slot A))) (last v : List (Slot A)) →
+    HoldsSlots width slots (record { done = done; last = last }) → IsLegalLine width (last ++ v) → HoldsSlots width (slots ++ v) (record { done = done; last = last ++ v })
+longer_holds_slots width slots done last v h legal = record {
   whole = sym (append_assoc (joined done) last v) ∙ ap (λ x. x ++ v) h.whole;
   each = h.each;
   full = h.full;
@@ -141,10 +141,10 @@ holds_longer width slots done last v h legal = record {
   legal = legal;
 }
 
-pub holds_next : {A : Type 0} (width : ℕ) (slots : List (Slot A)) (done : List (List (Slot A))) (last v : List (Slot A)) → 0 < length last →
-    Holds width slots (record { done = done; last = last }) → StaysLongest width last v → IsLegalLine width v →
-    Holds width (slots ++ v) (record { done = done ++ last ∷ []; last = v })
-holds_next width slots done last v some h stays legal = record {
+pub next_holds_slots : {A : Type 0} (width : ℕ) (slots : List (Slot A)) (done : List (List (Slot A))) (last v : List (Slot A)) → 0 < length last →
+    HoldsSlots width slots (record { done = done; last = last }) → StaysLongest width last v → IsLegalLine width v →
+    HoldsSlots width (slots ++ v) (record { done = done ++ last ∷ []; last = v })
+next_holds_slots width slots done last v some h stays legal = record {
   whole = ap (λ x. x ++ v) (joined-append done (last ∷ []) ∙ simp append-nil h.whole);
   each = each_append (IsLegalLine width) done (last ∷ []) h.each (h.legal, tt);
   full = each_append (λ l. 0 < length l) done (last ∷ []) h.full (some, tt);
@@ -158,24 +158,24 @@ in_wider_follows s e = rw e refl
 in_wider_begins : {A : Type 0} (s : Slot A) → s.wider ≡ true → MayBegin s
 in_wider_begins s e = or_right s.begins s.wider e
 
-pub fill_holds : {A : Type 0} (width : ℕ) (slots : List (Slot A)) (done : List (List (Slot A))) (last v : List (Slot A)) → 0 < length last →
-    Holds width slots (record { done = done; last = last }) → Each (InWider width) v → Holds width (slots ++ v) (fill width done last v)
-fill_holds width slots done last [] some h inside = rw append-nil h
-fill_holds {A} width slots done last (s ∷ v) some h inside = go (nat_le (line_width (last ++ s ∷ [])) width) refl (
-    λ fits. fill_holds width (slots ++ s ∷ []) done (last ++ s ∷ []) v (omega (arith, length-append last (s ∷ [])))
-    (holds_longer width slots done last (s ∷ []) h (longer width last (s ∷ []) some h.legal fits (in_wider_follows s inside.0.0, tt))) inside.1
+pub fill_holds_slots : {A : Type 0} (width : ℕ) (slots : List (Slot A)) (done : List (List (Slot A))) (last v : List (Slot A)) → 0 < length last →
+    HoldsSlots width slots (record { done = done; last = last }) → Each (InWider width) v → HoldsSlots width (slots ++ v) (fill width done last v)
+fill_holds_slots width slots done last [] some h inside = rw append-nil h
+fill_holds_slots {A} width slots done last (s ∷ v) some h inside = go (nat_le (line_width (last ++ s ∷ [])) width) refl (
+    λ fits. fill_holds_slots width (slots ++ s ∷ []) done (last ++ s ∷ []) v (omega (arith, length-append last (s ∷ [])))
+    (longer_holds_slots width slots done last (s ∷ []) h (longer width last (s ∷ []) some h.legal fits (in_wider_follows s inside.0.0, tt))) inside.1
     ) (
-    λ not_fits. fill_holds width (slots ++ s ∷ []) (done ++ last ∷ []) (s ∷ []) v (omega arith)
-    (holds_next width slots done last (s ∷ []) some h (stays_by_unit width last s [] not_fits tt)
+    λ not_fits. fill_holds_slots width (slots ++ s ∷ []) (done ++ last ∷ []) (s ∷ []) v (omega arith)
+    (next_holds_slots width slots done last (s ∷ []) some h (stays_by_unit width last s [] not_fits tt)
     (record { fits = omega (arith, inside.0.2); first = in_wider_begins s inside.0.1; others = tt })) inside.1
     )
   where
     Goal : Lines A → Type 0
-    Goal lines = Holds width (slots ++ (s ∷ v)) lines
+    Goal lines = HoldsSlots width (slots ++ (s ∷ v)) lines
 
     go : (b : Bool) → nat_le (line_width (last ++ s ∷ [])) width ≡ b →
-        (line_width (last ++ s ∷ []) ≤ width → Holds width ((slots ++ s ∷ []) ++ v) (fill width done (last ++ s ∷ []) v)) →
-        (width < line_width (last ++ s ∷ []) → Holds width ((slots ++ s ∷ []) ++ v) (fill width (done ++ last ∷ []) (s ∷ []) v)) →
-        Holds width (slots ++ (s ∷ v)) (if b then fill width done (last ++ s ∷ []) v else fill width (done ++ last ∷ []) (s ∷ []) v)
+        (line_width (last ++ s ∷ []) ≤ width → HoldsSlots width ((slots ++ s ∷ []) ++ v) (fill width done (last ++ s ∷ []) v)) →
+        (width < line_width (last ++ s ∷ []) → HoldsSlots width ((slots ++ s ∷ []) ++ v) (fill width (done ++ last ∷ []) (s ∷ []) v)) →
+        HoldsSlots width (slots ++ (s ∷ v)) (if b then fill width done (last ++ s ∷ []) v else fill width (done ++ last ∷ []) (s ∷ []) v)
     go true e short long = rw append_assoc at (short (leb-true _ _ e))
     go false e short long = rw append_assoc at (long (leb-false _ _ e))

@@ -1,11 +1,11 @@
 -- The hard lines of a run under other annotations, and what is shown of them.
-use Rattle.std.proofs.Common.{◌≡◌, ◌≢◌, ℕ, ◌+◌, ◌<◌, ◌≤◌, ◌==◌, ◌⊎◌, inl, inr, Bool, true, false, IsTrue, if◌then◌else◌, Option, List, [], ◌∷◌, ◌++◌, map, flat_map, filter, length, take, drop, refl, ap, sym, ◌∙◌, arith, subst}
-use Rattle.std.specs.List.{AllZip, AllByRecursion as Each}
+use Rattle.std.proofs.Common.{◌≡◌, ℕ, ◌==◌, ◌⊎◌, inl, inr, Bool, true, false, if◌then◌else◌, Option, List, [], ◌∷◌, map, filter, take, drop, refl, ap, ◌∙◌, arith}
+use Rattle.std.specs.List.{AllZip}
 use Rattle.std.proofs.lemmas.List.{map-append, length-map, take-map, drop-map}
 use Rattle.tbr_model.specs.Codes.{newline_character}
-use Rattle.tbr_model.specs.Run.{Entry, character, marker_entry, Item, glyph, marker, is_kept}
+use Rattle.tbr_model.specs.Run.{Entry, character, marker_entry, Item, glyph, marker}
 use Rattle.tbr_model.specs.Layout.{joined}
-use Rattle.tbr_model.specs.Hard.{is_newline, onto_first, hard_lines, Parted, glyphs_of, letters_of, entry_letters, is_visible, visible_glyphs, visible_entries, IsShown, ShowsVisible, IsPrintableEntry, IsPrintableLine, IsTabbedEntry, IsTabbedLine, IsSpaces, BeginsWithNonBlank, IsCutEvery, StandUnder, HasMain, HasContinuation, ShowsHardLine, ShowsPre, ShowsPreWrap, ShowsTabs, stretches, IsCutOf, without_last_spaces, tabs_filled}
+use Rattle.tbr_model.specs.Hard.{onto_first, hard_lines, Parted, glyphs_of, letters_of, entry_letters, is_visible, visible_glyphs, visible_entries, IsShown, ShowsVisible, IsPrintableLine, IsTabbedLine, StandUnder, HasMain, HasContinuation, ShowsHardLine, ShowsPre, ShowsPreWrap, ShowsTabs}
 use Rattle.tbr_model.specs.Mapped.{map_item, map_items, map_entry, map_run, map_lines}
 use Rattle.tbr_model.proofs.maps.Layouts.{joined-map}
 

@@ -1,10 +1,10 @@
 -- The layouts of a run under other annotations.
-use Rattle.std.proofs.Common.{◌≡◌, ℕ, ◌+◌, ◌<◌, ◌≤◌, Bool, true, false, nat_lt, Option, None, Some, List, [], ◌∷◌, ◌++◌, map, flat_map, length, take, drop, refl, ap, sym, ◌∙◌, arith, subst}
+use Rattle.std.proofs.Common.{◌≡◌, ℕ, Bool, false, nat_lt, Option, None, Some, List, [], ◌∷◌, ◌++◌, map, flat_map, length, take, refl, ap, sym, ◌∙◌, arith, subst}
 use Rattle.std.specs.Option.{option_map}
 use Rattle.std.specs.List.{AllByRecursion as Each}
 use Rattle.std.proofs.lemmas.List.{map-append, length-map, take-map}
-use Rattle.tbr_model.specs.Run.{Entry, Item, glyph, items_width, Word, words_of}
-use Rattle.tbr_model.specs.Layout.{Slot, slot_of, slots_within, word_slots, slots_of, gap_width, rest_width, line_width, gap_text, rest_text, line_text, MayBegin, MayFollow, FirstMayBegin, OthersMayFollow, IsLegalLine, joined, IsLegal, placed, IsAhead, HasNoEmptyLine, IsBest}
+use Rattle.tbr_model.specs.Run.{Entry, Item, items_width, Word, words_of}
+use Rattle.tbr_model.specs.Layout.{Slot, slot_of, slots_within, word_slots, slots_of, gap_width, rest_width, line_width, gap_text, rest_text, line_text, MayFollow, FirstMayBegin, OthersMayFollow, IsLegalLine, joined, placed, HasNoEmptyLine, IsBest}
 use Rattle.tbr_model.specs.Mapped.{map_item, map_items, map_run, map_word, map_slot, map_slots, map_layout}
 use Rattle.tbr_model.proofs.maps.Words.{item_width-map, items_width-map, words_of-map}
 

@@ -9,7 +9,7 @@ use Rattle.tbr_model.specs.Rule.{Progress, pending_width, wrap_space, lay_fresh,
 use Rattle.tbr_model.specs.Hard.{letters_of, IsCutEvery}
 use Rattle.tbr_model.proofs.words.Items.{letters_of-append, some_letters, has_letters}
 use Rattle.tbr_model.proofs.rule.LaidText.{text, text-put_items}
-use Rattle.tbr_model.proofs.pre.WaitingWord.{IsUnit, units_width, IsPlain}
+use Rattle.tbr_model.proofs.pre.WaitingWord.{IsUnit, units_width, HasNothingLaid}
 
 -- ---- items of one column for each character, one by one
 
@@ -84,7 +84,7 @@ pub record IsCutOn {A : Type 0} (width : ℕ) (is : List (Item A)) (l : Laid A) 
   pub last : has_character l.line ≡ true
   pub whole : text l ≡ is
 
-pub cut_laid : {A : Type 0} (columns : ℕ → Option ℕ) (width : ℕ) (q : Progress A) → 0 < width → IsPlain columns q → q.space ≡ None → has_character q.word ≡ true → IsCutOn width q.word (flush_word columns width q).laid
+pub cut_laid : {A : Type 0} (columns : ℕ → Option ℕ) (width : ℕ) (q : Progress A) → 0 < width → HasNothingLaid columns q → q.space ≡ None → has_character q.word ≡ true → IsCutOn width q.word (flush_word columns width q).laid
 cut_laid {A} columns width q wide h none some =
     rw some
     (cond_both (nat_le (q.laid.width + (pending_width q.space + items_width columns q.word)) width) _ _ (λ (r : Progress A). IsCutOn width q.word r.laid)

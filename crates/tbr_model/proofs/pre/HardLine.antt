@@ -11,7 +11,7 @@ use Rattle.tbr_model.proofs.words.Items.{back_has}
 use Rattle.tbr_model.proofs.rule.HardLineStart.{BeginsHardLine}
 use Rattle.tbr_model.proofs.rule.LaidText.{joined-end_line}
 use Rattle.tbr_model.proofs.pre.KeptCharacters.{pre_kept}
-use Rattle.tbr_model.proofs.pre.WaitingWord.{IsPlain, waiting, waiting_length, Waits, line_waits, fresh_plain, fresh_waiting}
+use Rattle.tbr_model.proofs.pre.WaitingWord.{HasNothingLaid, waiting, waiting_length, WaitsWith, line_waits, fresh_plain, fresh_waiting}
 use Rattle.tbr_model.proofs.pre.CutWord.{IsCutOn, cut_laid}
 use Rattle.tbr_model.proofs.pre.Tags.{IsTagged, tagged_main, tagged_continuation, pre_tags}
 
@@ -23,13 +23,13 @@ record IsShownBy {A : Type 0} (ls : List (List ℕ)) (l : Laid A) : Type 0 where
   last : has_character l.line ≡ true
 
 -- what waits stands on one line, where it fits
-fitting : {A : Type 0} (columns : ℕ → Option ℕ) (width : ℕ) (q : Progress A) → IsPlain columns q → has_character q.word ≡ true → length (waiting q) ≤ width → IsShownBy (waiting q ∷ []) (flush_word columns width q).laid
+fitting : {A : Type 0} (columns : ℕ → Option ℕ) (width : ℕ) (q : Progress A) → HasNothingLaid columns q → has_character q.word ≡ true → length (waiting q) ≤ width → IsShownBy (waiting q ∷ []) (flush_word columns width q).laid
 fitting columns width q h some fits =
     let test : nat_le (q.laid.width + (pending_width q.space + items_width columns q.word)) width ≡ true = le-leb _ _ (omega (arith, fits, h.width, waiting_length columns q h)) in
     rw (some, test, h.done, h.line) (record { same = refl; last = back_has (space_text q.space) q.word some })
 
 -- nothing stands on one line
-nothing : {A : Type 0} (columns : ℕ → Option ℕ) (width : ℕ) (q : Progress A) → IsPlain columns q → has_character q.word ≡ false → map letters_of (end_line (flush_word columns width q).laid).done ≡ [] ∷ []
+nothing : {A : Type 0} (columns : ℕ → Option ℕ) (width : ℕ) (q : Progress A) → HasNothingLaid columns q → has_character q.word ≡ false → map letters_of (end_line (flush_word columns width q).laid).done ≡ [] ∷ []
 nothing columns width q h none = rw (none, h.done, h.line) refl
 
 printable_length : {A : Type 0} (columns : ℕ → Option ℕ) (h : List (Entry A)) → Each (IsPrintableEntry columns) h → length (entry_letters h) ≡ length h
@@ -50,7 +50,7 @@ module _ {A : Type 0} (columns : ℕ → Option ℕ) (width : ℕ) (p : Progress
   abbrev laid : Laid A
   laid = (flush_word columns width q).laid
 
-  waits : IsPrintableLine columns (run_of es) → Waits columns p q (entry_letters (run_of es))
+  waits : IsPrintableLine columns (run_of es) → WaitsWith columns p q (entry_letters (run_of es))
   waits printable = line_waits columns width es p one_space (fresh_plain columns p f) pre printable
 
   all_waiting : IsPrintableLine columns (run_of es) → waiting q ≡ entry_letters (run_of es)
@@ -85,7 +85,7 @@ module _ {A : Type 0} (columns : ℕ → Option ℕ) (width : ℕ) (p : Progress
   -- the lines before a newline
   shows_ended : (Same : A → A → Type 0) → 0 < width → ((x : A) → Same x x) → Each (λ e. is_newline e ≡ false) (run_of es) → ShowsPre columns Same width true (run_of es) (end_line laid).done
   shows_ended Same wide reflexive more = record {
-    kept = (pre_kept columns width p es f pre more).0;
+    kept = (pre_kept columns width p es f pre).0;
     fits = λ printable other fits. (line_fits printable other fits).same;
     cut = λ printable begins.
         (let none = (tags printable begins).1 in
@@ -109,7 +109,7 @@ module _ {A : Type 0} (columns : ℕ → Option ℕ) (width : ℕ) (p : Progress
   -- the lines at the end of the run
   shows_freshened : (Same : A → A → Type 0) → 0 < width → ((x : A) → Same x x) → Each (λ e. is_newline e ≡ false) (run_of es) → ShowsPre columns Same width false (run_of es) (end_if_character laid).done
   shows_freshened Same wide reflexive more = record {
-    kept = (pre_kept columns width p es f pre more).1;
+    kept = (pre_kept columns width p es f pre).1;
     fits = λ printable other fits.
         subst (λ (ls : List (List (Item A))). map letters_of ls ≡ entry_letters (run_of es) ∷ []) (ended_alike laid (line_fits printable other fits).last) (shown.fits printable other fits);
     cut = λ printable begins. subst (λ (ls : List (List (Item A))). IsCutEvery width (entry_letters (run_of es)) (map letters_of ls)) (alike printable begins) (shown.cut printable begins);

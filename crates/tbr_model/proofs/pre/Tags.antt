@@ -44,14 +44,14 @@ tagged_continuation Same width k (suc m) (g ∷ gs) (e ∷ es) sum h = tagged_co
 -- ---- a hard line that begins with a non-blank
 
 -- nothing pends in front of the word, and these characters come next
-record IsBegun {A : Type 0} (columns : ℕ → Option ℕ) (width : ℕ) (q : Progress A) (cs : List ℕ) : Type 0 where
+record HasBegunWord {A : Type 0} (columns : ℕ → Option ℕ) (width : ℕ) (q : Progress A) (cs : List ℕ) : Type 0 where
   space : q.space ≡ None
   empty : q.laid.width ≡ 0
   begins : has_character q.word ≡ false → BeginsWithNonBlank cs
   first : items_width columns q.word < width → (q.in_continuation ≡ false) × (q.continuation_flag ≡ false)
 
 -- the second's word has these entries more
-record Tags {A : Type 0} (columns : ℕ → Option ℕ) (Same : A → A → Type 0) (width : ℕ) (q r : Progress A) (es : List (Entry A)) : Type 0 where
+record AddsTagged {A : Type 0} (columns : ℕ → Option ℕ) (Same : A → A → Type 0) (width : ℕ) (q r : Progress A) (es : List (Entry A)) : Type 0 where
   more : List (ℕ × A)
   glyphs : glyphs_of r.word ≡ glyphs_of q.word ++ more
   tagged : IsTagged Same width (items_width columns q.word) more es
@@ -66,15 +66,15 @@ module _ {A : Type 0} (columns : ℕ → Option ℕ) (Same : A → A → Type 0)
   -- a character has joined the word, and the rest goes on
   joined_tags : (q : Progress A) (c : ℕ) (a b x : A) (m : WhiteSpace) (continuation_flag in_continuation : Bool) (es : List (Event A)) →
       let s : Progress A = record { laid = q.laid; space = q.space; word = q.word ++ glyph c x ∷ []; mode = m; continuation_flag = continuation_flag; in_continuation = in_continuation } in
-      IsBegun columns width q (c ∷ entry_letters (run_of es)) → columns c ≡ Some 1 →
+      HasBegunWord columns width q (c ∷ entry_letters (run_of es)) → columns c ≡ Some 1 →
       (c ≢ 32 → (items_width columns q.word < width → HasMain Same (character c a b Pre) x) × (width ≤ items_width columns q.word → HasContinuation Same (character c a b Pre) x)) →
       (items_width columns q.word + 1 < width → (in_continuation ≡ false) × (continuation_flag ≡ false)) →
-      (IsBegun columns width s (entry_letters (run_of es)) → Tags columns Same width s (fold (step columns width) s es) (run_of es)) →
-      Tags columns Same width q (fold (step columns width) s es) (character c a b Pre ∷ run_of es)
+      (HasBegunWord columns width s (entry_letters (run_of es)) → AddsTagged columns Same width s (fold (step columns width) s es) (run_of es)) →
+      AddsTagged columns Same width q (fold (step columns width) s es) (character c a b Pre ∷ run_of es)
   joined_tags q c a b x m continuation_flag in_continuation es h one has first rest =
       let s : Progress A = record { laid = q.laid; space = q.space; word = q.word ++ glyph c x ∷ []; mode = m; continuation_flag = continuation_flag; in_continuation = in_continuation } in
       let wider : items_width columns (q.word ++ glyph c x ∷ []) ≡ items_width columns q.word + 1 = joined_width columns q.word c x one in
-      let begun : IsBegun columns width s (entry_letters (run_of es)) = record {
+      let begun : HasBegunWord columns width s (entry_letters (run_of es)) = record {
         space = h.space;
         empty = h.empty;
         begins = λ none. (let some : has_character (q.word ++ glyph c x ∷ []) ≡ true = back_has q.word (glyph c x ∷ []) refl in cc);
@@ -88,13 +88,13 @@ module _ {A : Type 0} (columns : ℕ → Option ℕ) (Same : A → A → Type 0)
         space = t.space;
       }
 
-  character_tags : (c : ℕ) (a b : A) (es : List (Event A)) (q : Progress A) → IsPrintable columns c → IsBegun columns width q (c ∷ entry_letters (run_of es)) →
-      ((s : Progress A) → IsBegun columns width s (entry_letters (run_of es)) → Tags columns Same width s (fold (step columns width) s es) (run_of es)) →
-      Tags columns Same width q (fold (step columns width) (enter columns width q (character c a b Pre)) es) (character c a b Pre ∷ run_of es)
+  character_tags : (c : ℕ) (a b : A) (es : List (Event A)) (q : Progress A) → IsPrintable columns c → HasBegunWord columns width q (c ∷ entry_letters (run_of es)) →
+      ((s : Progress A) → HasBegunWord columns width s (entry_letters (run_of es)) → AddsTagged columns Same width s (fold (step columns width) s es) (run_of es)) →
+      AddsTagged columns Same width q (fold (step columns width) (enter columns width q (character c a b Pre)) es) (character c a b Pre ∷ run_of es)
   character_tags c a b es q printable h rest = go (c == 32) refl
     where
       Holds : Progress A → Type 0
-      Holds s = Tags columns Same width q (fold (step columns width) s es) (character c a b Pre ∷ run_of es)
+      Holds s = AddsTagged columns Same width q (fold (step columns width) s es) (character c a b Pre ∷ run_of es)
 
       spaced : c ≡ 32 → Holds (keep_space c (tag_of q a b) Pre (Some 1) q)
       spaced same =
@@ -124,12 +124,12 @@ module _ {A : Type 0} (columns : ℕ → Option ℕ) (Same : A → A → Type 0)
           subst Holds (subst (λ (d : ℕ). keep_space d (tag_of q a b) Pre (Some 1) q ≡ enter columns width q (character d a b Pre)) (sym same) (sym (preserved_space columns width a b Pre q one_space))) (spaced same)
       go false e = subst Holds (sym (preserved_visible columns width c a b Pre q (visible_of columns c printable (eqb-false c 32 e)))) visible
 
-  line_tags : (es : List (Event A)) (q : Progress A) → IsBegun columns width q (entry_letters (run_of es)) → Each (HasMode Pre) (run_of es) → Each (IsPrintableEntry columns) (run_of es) →
-      Tags columns Same width q (fold (step columns width) q es) (run_of es)
+  line_tags : (es : List (Event A)) (q : Progress A) → HasBegunWord columns width q (entry_letters (run_of es)) → Each (HasMode Pre) (run_of es) → Each (IsPrintableEntry columns) (run_of es) →
+      AddsTagged columns Same width q (fold (step columns width) q es) (run_of es)
   line_tags [] q h pre printable = record { more = []; glyphs = sym (append-nil (glyphs_of q.word)); tagged = tt; space = h.space }
   line_tags (call ∷ es) q h pre printable =
       let s : Progress A = record q { in_continuation = q.continuation_flag } in
-      let begun : IsBegun columns width s (entry_letters (run_of es)) = record { space = h.space; empty = h.empty; begins = h.begins; first = λ less. (let f = h.first less in (f.1, f.1)) } in
+      let begun : HasBegunWord columns width s (entry_letters (run_of es)) = record { space = h.space; empty = h.empty; begins = h.begins; first = λ less. (let f = h.first less in (f.1, f.1)) } in
       let t = line_tags es s begun pre printable in
       record { more = t.more; glyphs = t.glyphs; tagged = t.tagged; space = t.space }
   line_tags (entry (marker_entry name) ∷ es) q h pre printable = absurd printable.0

@@ -33,7 +33,7 @@ units_width columns (marker name ∷ is) h = omega (arith, units_width columns i
 -- ---- what waits
 
 -- nothing is laid yet
-pub record IsPlain {A : Type 0} (columns : ℕ → Option ℕ) (p : Progress A) : Type 0 where
+pub record HasNothingLaid {A : Type 0} (columns : ℕ → Option ℕ) (p : Progress A) : Type 0 where
   pub done : p.laid.done ≡ []
   pub line : p.laid.line ≡ []
   pub width : p.laid.width ≡ 0
@@ -43,7 +43,7 @@ pub record IsPlain {A : Type 0} (columns : ℕ → Option ℕ) (p : Progress A) 
 abbrev pub waiting : {A : Type 0} → Progress A → List ℕ
 waiting p = letters_of (space_text p.space ++ p.word)
 
-pub waiting_length : {A : Type 0} (columns : ℕ → Option ℕ) (p : Progress A) → IsPlain columns p → length (waiting p) ≡ pending_width p.space + items_width columns p.word
+pub waiting_length : {A : Type 0} (columns : ℕ → Option ℕ) (p : Progress A) → HasNothingLaid columns p → length (waiting p) ≡ pending_width p.space + items_width columns p.word
 waiting_length columns p h =
     ap length (letters_of-append (space_text p.space) p.word)
     ∙ length-append (letters_of (space_text p.space)) (letters_of p.word)
@@ -51,14 +51,14 @@ waiting_length columns p h =
     ∙ ap (λ n. pending_width p.space + n) (sym (units_width columns p.word h.units))
 
 -- the second has these characters more, and its word has a character as soon as one is no space
-pub record Waits {A : Type 0} (columns : ℕ → Option ℕ) (p q : Progress A) (cs : List ℕ) : Type 0 where
-  pub plain : IsPlain columns q
+pub record WaitsWith {A : Type 0} (columns : ℕ → Option ℕ) (p q : Progress A) (cs : List ℕ) : Type 0 where
+  pub plain : HasNothingLaid columns q
   pub waiting : waiting q ≡ waiting p ++ cs
   pub spaces : has_character q.word ≡ false → (has_character p.word ≡ false) × IsSpaces cs
   pub blank : has_character p.word ≡ false → IsSpaces cs → has_character q.word ≡ false
 
-join_waits : {A : Type 0} (columns : ℕ → Option ℕ) (p : Progress A) (c : ℕ) (x : A) (m : WhiteSpace) (continuation_flag in_continuation : Bool) → IsPlain columns p → columns c ≡ Some 1 → (has_character p.word ≡ false → c ≡ 32 → ⊥) →
-    Waits columns p (record { laid = p.laid; space = p.space; word = p.word ++ glyph c x ∷ []; mode = m; continuation_flag = continuation_flag; in_continuation = in_continuation }) (c ∷ [])
+join_waits : {A : Type 0} (columns : ℕ → Option ℕ) (p : Progress A) (c : ℕ) (x : A) (m : WhiteSpace) (continuation_flag in_continuation : Bool) → HasNothingLaid columns p → columns c ≡ Some 1 → (has_character p.word ≡ false → c ≡ 32 → ⊥) →
+    WaitsWith columns p (record { laid = p.laid; space = p.space; word = p.word ++ glyph c x ∷ []; mode = m; continuation_flag = continuation_flag; in_continuation = in_continuation }) (c ∷ [])
 join_waits {A} columns p c x m continuation_flag in_continuation h one other = record {
   plain = record { done = h.done; line = h.line; width = h.width; units = each_append (IsUnit columns) p.word (glyph c x ∷ []) h.units (one, tt) };
   waiting = ap letters_of (sym (append_assoc (space_text p.space) p.word (glyph c x ∷ []))) ∙ letters_of-append (space_text p.space ++ p.word) (glyph c x ∷ []);
@@ -66,9 +66,9 @@ join_waits {A} columns p c x m continuation_flag in_continuation h one other = r
   blank = λ none all. absurd (other none all.0);
 }
 
-space_waits : {A : Type 0} (columns : ℕ → Option ℕ) (p : Progress A) (x : A) → IsPlain columns p → columns 32 ≡ Some 1 → Waits columns p (keep_space 32 x Pre (Some 1) p) (32 ∷ [])
+space_waits : {A : Type 0} (columns : ℕ → Option ℕ) (p : Progress A) (x : A) → HasNothingLaid columns p → columns 32 ≡ Some 1 → WaitsWith columns p (keep_space 32 x Pre (Some 1) p) (32 ∷ [])
 space_waits {A} columns p x h one =
-    cond_both (has_character p.word) _ _ (λ (q : Progress A). Waits columns p q (32 ∷ []))
+    cond_both (has_character p.word) _ _ (λ (q : Progress A). WaitsWith columns p q (32 ∷ []))
     (λ some. join_waits columns p 32 x (if has_character p.word then p.mode else Pre) p.continuation_flag p.in_continuation h one (λ none e. cc))
     (λ none. record {
       plain = record { done = h.done; line = h.line; width = h.width; units = h.units };
@@ -87,13 +87,13 @@ space_waits {A} columns p x h one =
         ∙ sym (replicate-append-replicate (pending_width p.space) 1 32)
         ∙ ap (λ cs. cs ++ 32 ∷ []) (sym (letters_of-space_text p.space) ∙ sym (bare (space_text p.space) none))
 
-visible_waits : {A : Type 0} (columns : ℕ → Option ℕ) (width c : ℕ) (a b : A) (p : Progress A) → IsPlain columns p → columns c ≡ Some 1 → (c ≡ 32 → ⊥) → Waits columns p (keep_character columns width c a b Pre (Some 1) p) (c ∷ [])
+visible_waits : {A : Type 0} (columns : ℕ → Option ℕ) (width c : ℕ) (a b : A) (p : Progress A) → HasNothingLaid columns p → columns c ≡ Some 1 → (c ≡ 32 → ⊥) → WaitsWith columns p (keep_character columns width c a b Pre (Some 1) p) (c ∷ [])
 visible_waits {A} columns width c a b p h one other =
-    cond_both (passes columns width 1 p) _ _ (λ (q : Progress A). Waits columns p q (c ∷ []))
+    cond_both (passes columns width 1 p) _ _ (λ (q : Progress A). WaitsWith columns p q (c ∷ []))
     (λ _. join_waits columns p c b (if has_character p.word then p.mode else Pre) true true h one (λ _. other))
     (λ _. join_waits columns p c (tag_of p a b) (if has_character p.word then p.mode else Pre) p.continuation_flag p.in_continuation h one (λ _. other))
 
-character_waits : {A : Type 0} (columns : ℕ → Option ℕ) (width c : ℕ) (a b : A) (p : Progress A) → IsPlain columns p → IsPrintable columns c → columns 32 ≡ Some 1 → Waits columns p (enter columns width p (character c a b Pre)) (c ∷ [])
+character_waits : {A : Type 0} (columns : ℕ → Option ℕ) (width c : ℕ) (a b : A) (p : Progress A) → HasNothingLaid columns p → IsPrintable columns c → columns 32 ≡ Some 1 → WaitsWith columns p (enter columns width p (character c a b Pre)) (c ∷ [])
 character_waits columns width c a b p h one space =
     elim (eqb_tells c 32) [
       | inl w ↦ rw (w.1, preserved_space columns width a b Pre p space) (space_waits columns p (tag_of p a b) h space)
@@ -102,8 +102,8 @@ character_waits columns width c a b p h one space =
 
 -- ---- a whole hard line
 
-pub line_waits : {A : Type 0} (columns : ℕ → Option ℕ) (width : ℕ) (es : List (Event A)) (p : Progress A) → columns 32 ≡ Some 1 → IsPlain columns p → Each (HasMode Pre) (run_of es) → Each (IsPrintableEntry columns) (run_of es) →
-    Waits columns p (fold (step columns width) p es) (entry_letters (run_of es))
+pub line_waits : {A : Type 0} (columns : ℕ → Option ℕ) (width : ℕ) (es : List (Event A)) (p : Progress A) → columns 32 ≡ Some 1 → HasNothingLaid columns p → Each (HasMode Pre) (run_of es) → Each (IsPrintableEntry columns) (run_of es) →
+    WaitsWith columns p (fold (step columns width) p es) (entry_letters (run_of es))
 line_waits columns width [] p space h pre printable = record { plain = h; waiting = sym (append-nil (waiting p)); spaces = λ none. (none, tt); blank = λ none all. none }
 line_waits columns width (call ∷ es) p space h pre printable =
     let w = line_waits columns width es (record p { in_continuation = p.continuation_flag }) space (record { done = h.done; line = h.line; width = h.width; units = h.units }) pre printable in
@@ -120,7 +120,7 @@ line_waits columns width (entry (character c a b m) ∷ es) p space h pre printa
     })
 line_waits columns width (entry (marker_entry name) ∷ es) p space h pre printable = absurd printable.0
 
-pub fresh_plain : {A : Type 0} (columns : ℕ → Option ℕ) (p : Progress A) → BeginsHardLine p → IsPlain columns p
+pub fresh_plain : {A : Type 0} (columns : ℕ → Option ℕ) (p : Progress A) → BeginsHardLine p → HasNothingLaid columns p
 fresh_plain columns p f = record { done = f.done; line = f.line; width = f.width; units = unit_markers columns p.word f.word }
 
 pub fresh_waiting : {A : Type 0} (p : Progress A) → BeginsHardLine p → waiting p ≡ []

@@ -16,14 +16,14 @@ use Rattle.tbr_model.proofs.rule.Printable.{IsVisible, visible_of}
 use Rattle.tbr_model.proofs.tabs.HardLine.{IsLine, fresh_reads}
 use Rattle.tbr_model.proofs.prewrap.Entry.{enter_wrap_space, enter_wrap_visible, break_none, break_some, spaces_if}
 use Rattle.tbr_model.proofs.prewrap.FittingLine.{fits_read}
-use Rattle.tbr_model.proofs.prewrap.Stretches.{IsPlain, stretches_gap, stretches_word, plain_solid, plain_width}
-use Rattle.tbr_model.proofs.prewrap.LaidWord.{ended_pieces, pieces, pieces_ended, end_if_character_pieces, Ready, lay_cut}
+use Rattle.tbr_model.proofs.prewrap.Stretches.{IsVisibleOrMarker, stretches_gap, stretches_word, plain_solid, plain_width}
+use Rattle.tbr_model.proofs.prewrap.LaidWord.{ended_pieces, pieces, pieces_ended, end_if_character_pieces, IsReadyForWord, lay_cut}
 
 -- Behind pieces the lines show what cuts stretches, where another hard line follows and where none does.
-abbrev IsShown : {A : Type 0} → ℕ → List (List ℕ) → List (List ℕ) → Laid A → Type 0
-IsShown width before ss l = (parts : List (List ℕ)) × IsCutOf width ss parts × (ended_pieces (end_line l) ≡ before ++ parts) × (ended_pieces (end_if_character l) ≡ before ++ parts)
+abbrev ShowsCutStretches : {A : Type 0} → ℕ → List (List ℕ) → List (List ℕ) → Laid A → Type 0
+ShowsCutStretches width before ss l = (parts : List (List ℕ)) × IsCutOf width ss parts × (ended_pieces (end_line l) ≡ before ++ parts) × (ended_pieces (end_if_character l) ≡ before ++ parts)
 
-shown_by : {A : Type 0} (width : ℕ) (before ss parts : List (List ℕ)) (l : Laid A) → IsCutOf width ss parts → pieces l ≡ before ++ parts → l.width ≡ length (letters_of l.line) → IsShown width before ss l
+shown_by : {A : Type 0} (width : ℕ) (before ss parts : List (List ℕ)) (l : Laid A) → IsCutOf width ss parts → pieces l ≡ before ++ parts → l.width ≡ length (letters_of l.line) → ShowsCutStretches width before ss l
 shown_by width before ss parts l cuts are measured =
     (parts, cuts, pieces_ended l ∙ are, (end_if_character_pieces l (λ none. measured ∙ ap length (no_letters l.line none))).0 ∙ are)
 
@@ -38,18 +38,18 @@ module _ {A : Type 0} (columns : ℕ → Option ℕ) (width : ℕ) (some : 0 < w
 
   -- ---- one entry
 
-  waits : (p : Progress A) (a : A) → Each (IsPlain columns) p.word → p.laid.width ≡ length (letters_of p.laid.line) →
-      Ready columns (record p { space = space_of (pending_width p.space + 1) a PreWrap })
+  waits : (p : Progress A) (a : A) → Each (IsVisibleOrMarker columns) p.word → p.laid.width ≡ length (letters_of p.laid.line) →
+      IsReadyForWord columns (record p { space = space_of (pending_width p.space + 1) a PreWrap })
   waits p a plain measured = record { plain = plain; measured = measured; apart = inr (omega (arith, pending_width-of (pending_width p.space + 1) a PreWrap)); wraps = wrapped (pending_width p.space + 1) }
     where
       wrapped : (n : ℕ) → WaitsIn PreWrap (space_of n a PreWrap)
       wrapped zero = tt
       wrapped (suc n) = refl
 
-  join_ready : (p : Progress A) (c : ℕ) (a : A) → IsVisible columns c → Ready columns p → Ready columns (join c a PreWrap p)
-  join_ready p c a v h = record { plain = each_append (IsPlain columns) p.word (glyph c a ∷ []) h.plain (v, tt); measured = h.measured; apart = h.apart; wraps = h.wraps }
+  join_ready : (p : Progress A) (c : ℕ) (a : A) → IsVisible columns c → IsReadyForWord columns p → IsReadyForWord columns (join c a PreWrap p)
+  join_ready p c a v h = record { plain = each_append (IsVisibleOrMarker columns) p.word (glyph c a ∷ []) h.plain (v, tt); measured = h.measured; apart = h.apart; wraps = h.wraps }
 
-  again_ready : (p : Progress A) (in_continuation : Bool) → Ready columns p → Ready columns (record p { in_continuation = in_continuation })
+  again_ready : (p : Progress A) (in_continuation : Bool) → IsReadyForWord columns p → IsReadyForWord columns (record p { in_continuation = in_continuation })
   again_ready p in_continuation h = record { plain = h.plain; measured = h.measured; apart = h.apart; wraps = h.wraps }
 
   -- what is laid with the word under way: the word's parts, or none
@@ -60,9 +60,9 @@ module _ {A : Type 0} (columns : ℕ → Option ℕ) (width : ℕ) (some : 0 < w
     pub ends : IsCutOf width (Next p []) parts
     pub measured : q.laid.width ≡ length (letters_of q.laid.line)
     pub word : has_character q.word ≡ false
-    pub plain : Each (IsPlain columns) q.word
+    pub plain : Each (IsVisibleOrMarker columns) q.word
 
-  none_broken : (p : Progress A) → Ready columns p → has_character p.word ≡ false → Broken p p
+  none_broken : (p : Progress A) → IsReadyForWord columns p → has_character p.word ≡ false → Broken p p
   none_broken p h none = record {
     parts = [];
     are = sym (append-nil (pieces p.laid));
@@ -73,7 +73,7 @@ module _ {A : Type 0} (columns : ℕ → Option ℕ) (width : ℕ) (some : 0 < w
     plain = h.plain;
   }
 
-  lay_broken : (p : Progress A) → Ready columns p → has_character p.word ≡ true → Broken p (lay columns width p)
+  lay_broken : (p : Progress A) → IsReadyForWord columns p → has_character p.word ≡ true → Broken p (lay columns width p)
   lay_broken p h has =
       let w = letters_of p.word in
       let long : 0 < length w = some_letters p.word has in
@@ -88,31 +88,31 @@ module _ {A : Type 0} (columns : ℕ → Option ℕ) (width : ℕ) (some : 0 < w
             (subst (λ (ps : List (List ℕ)). IsCutOf width (w ∷ []) ps) (append-nil k.0.parts) (cut_first width w [] k.0.parts [] k.0.whole (λ short. k.0.alone short ∙ only) refl));
         measured = k.0.measured;
         word = ap has_character k.2;
-        plain = subst (Each (IsPlain columns)) (sym k.2) tt;
+        plain = subst (Each (IsVisibleOrMarker columns)) (sym k.2) tt;
       }
 
-  break_broken : (p : Progress A) → Ready columns p → Broken p (break_word columns width p)
+  break_broken : (p : Progress A) → IsReadyForWord columns p → Broken p (break_word columns width p)
   break_broken p h = go (has_character p.word) refl
     where
       go : (b : Bool) → has_character p.word ≡ b → Broken p (break_word columns width p)
       go true e = subst (Broken p) (sym (break_some columns width p (omega (arith, plain_width columns p.word h.plain, some_letters p.word e)))) (lay_broken p h e)
       go false e = subst (Broken p) (sym (break_none columns width p e)) (none_broken p h e)
 
-  flush_broken : (p : Progress A) → Ready columns p → Broken p (flush_word columns width p)
+  flush_broken : (p : Progress A) → IsReadyForWord columns p → Broken p (flush_word columns width p)
   flush_broken p h = cond_both (has_character p.word) _ _ (λ (q : Progress A). Broken p q) (lay_broken p h) (none_broken p h)
 
   -- ---- all entries
 
   abbrev Goal : List (Event A) → Progress A → Type 0
-  Goal es p = IsShown width (pieces p.laid) (Next p (entry_letters (run_of es))) (flush_word columns width (fold (step columns width) p es)).laid
+  Goal es p = ShowsCutStretches width (pieces p.laid) (Next p (entry_letters (run_of es))) (flush_word columns width (fold (step columns width) p es)).laid
 
-  space_shown : (p q : Progress A) (cs : List ℕ) (l : Laid A) → Broken p q → IsShown width (pieces q.laid) (stretches (letters_of q.word ++ cs)) l → IsShown width (pieces p.laid) (Next p (32 ∷ cs)) l
+  space_shown : (p q : Progress A) (cs : List ℕ) (l : Laid A) → Broken p q → ShowsCutStretches width (pieces q.laid) (stretches (letters_of q.word ++ cs)) l → ShowsCutStretches width (pieces p.laid) (Next p (32 ∷ cs)) l
   space_shown p q cs l b s =
       let cuts : IsCutOf width (stretches cs) s.0 = subst (λ (w : List ℕ). IsCutOf width (stretches (w ++ cs)) s.0) (no_letters q.word b.word) s.1 in
       let all : pieces q.laid ++ s.0 ≡ pieces p.laid ++ (b.parts ++ s.0) = ap (λ u. u ++ s.0) b.are ∙ append_assoc (pieces p.laid) b.parts s.0 in
       (b.parts ++ s.0, b.cuts cs s.0 cuts, s.2 ∙ all, s.3 ∙ all)
 
-  whole_read : (es : List (Event A)) (p : Progress A) → Each (HasMode PreWrap) (run_of es) → IsPrintableLine columns (run_of es) → Ready columns p → Goal es p
+  whole_read : (es : List (Event A)) (p : Progress A) → Each (HasMode PreWrap) (run_of es) → IsPrintableLine columns (run_of es) → IsReadyForWord columns p → Goal es p
   whole_read [] p modes printable h = let b = flush_broken p h in shown_by width (pieces p.laid) (Next p []) b.parts (flush_word columns width p).laid b.ends b.are b.measured
   whole_read (call ∷ es) p modes printable h = whole_read es (record p { in_continuation = p.continuation_flag }) modes printable (again_ready p p.continuation_flag h)
   whole_read (entry (marker_entry name) ∷ es) p modes printable h = absurd printable.0
@@ -123,26 +123,26 @@ module _ {A : Type 0} (columns : ℕ → Option ℕ) (width : ℕ) (some : 0 < w
             let k = break_broken p h in
             let n : Progress A = record q { space = space_of (pending_width q.space + 1) (tag_of q a b) PreWrap } in
             let enters : enter columns width p (character 32 a b mode) ≡ n = enter_wrap_space columns width a b mode p modes.0 one ∙ rw (k.word) refl in
-            subst (λ d. IsShown width (pieces p.laid) (Next p (d ∷ entry_letters (run_of es))) (flush_word columns width (fold (step columns width) (enter columns width p (character d a b mode)) es)).laid) (sym w.1)
-            (subst (λ (r : Progress A). IsShown width (pieces p.laid) (Next p (32 ∷ entry_letters (run_of es))) (flush_word columns width (fold (step columns width) r es)).laid) (sym enters)
+            subst (λ d. ShowsCutStretches width (pieces p.laid) (Next p (d ∷ entry_letters (run_of es))) (flush_word columns width (fold (step columns width) (enter columns width p (character d a b mode)) es)).laid) (sym w.1)
+            (subst (λ (r : Progress A). ShowsCutStretches width (pieces p.laid) (Next p (32 ∷ entry_letters (run_of es))) (flush_word columns width (fold (step columns width) r es)).laid) (sym enters)
             (space_shown p q (entry_letters (run_of es)) (flush_word columns width (fold (step columns width) n es)).laid k (whole_read es n modes.1 printable.1 (waits q (tag_of q a b) k.plain k.measured))))
         | inr w ↦
             let v = visible_of columns c printable.0 w.1 in
             let n = join c (tag_of p a b) PreWrap p in
             let text : letters_of n.word ++ entry_letters (run_of es) ≡ letters_of p.word ++ (c ∷ entry_letters (run_of es)) =
             ap (λ cs. cs ++ entry_letters (run_of es)) (letters_of-append p.word (glyph c (tag_of p a b) ∷ [])) ∙ append_assoc (letters_of p.word) (c ∷ []) (entry_letters (run_of es)) in
-            subst (λ (r : Progress A). IsShown width (pieces p.laid) (Next p (c ∷ entry_letters (run_of es))) (flush_word columns width (fold (step columns width) r es)).laid) (sym (enter_wrap_visible columns width a b mode p modes.0 c v))
-            (subst (λ (t : List ℕ). IsShown width (pieces p.laid) (stretches t) (flush_word columns width (fold (step columns width) n es)).laid) text (whole_read es n modes.1 printable.1 (join_ready p c (tag_of p a b) v h)))
+            subst (λ (r : Progress A). ShowsCutStretches width (pieces p.laid) (Next p (c ∷ entry_letters (run_of es))) (flush_word columns width (fold (step columns width) r es)).laid) (sym (enter_wrap_visible columns width a b mode p modes.0 c v))
+            (subst (λ (t : List ℕ). ShowsCutStretches width (pieces p.laid) (stretches t) (flush_word columns width (fold (step columns width) n es)).laid) text (whole_read es n modes.1 printable.1 (join_ready p c (tag_of p a b) v h)))
       ]
 
   -- ---- a hard line
 
-  markers_plain : (is : List (Item A)) → has_character is ≡ false → Each (IsPlain columns) is
+  markers_plain : (is : List (Item A)) → has_character is ≡ false → Each (IsVisibleOrMarker columns) is
   markers_plain [] h = tt
   markers_plain (glyph c a ∷ is) h = cc
   markers_plain (marker name ∷ is) h = (tt, markers_plain is h)
 
-  fresh_ready : (p : Progress A) → BeginsHardLine p → Ready columns p
+  fresh_ready : (p : Progress A) → BeginsHardLine p → IsReadyForWord columns p
   fresh_ready p h = record {
     plain = markers_plain p.word h.word;
     measured = h.width ∙ ap (λ is. length (letters_of is)) (sym h.line);
@@ -151,12 +151,12 @@ module _ {A : Type 0} (columns : ℕ → Option ℕ) (width : ℕ) (some : 0 < w
   }
 
   whole_line : (p : Progress A) (es : List (Event A)) → BeginsHardLine p → Each (HasMode PreWrap) (run_of es) → IsPrintableLine columns (run_of es) →
-      IsShown width [] (stretches (entry_letters (run_of es))) (flush_word columns width (fold (step columns width) p es)).laid
+      ShowsCutStretches width [] (stretches (entry_letters (run_of es))) (flush_word columns width (fold (step columns width) p es)).laid
   whole_line p es h modes printable =
       let none : pieces p.laid ≡ [] = ap (λ ds. flat_map stretches (map letters_of ds) ++ stretches (letters_of p.laid.line)) h.done ∙ ap (λ is. stretches (letters_of is)) h.line in
       let lines : Laid A = (flush_word columns width (fold (step columns width) p es)).laid in
-      subst (λ (ps : List (List ℕ)). IsShown width ps (stretches (entry_letters (run_of es))) lines) none
-      (subst (λ (w : List ℕ). IsShown width (pieces p.laid) (stretches (w ++ entry_letters (run_of es))) lines) (no_letters p.word h.word) (whole_read es p modes printable (fresh_ready p h)))
+      subst (λ (ps : List (List ℕ)). ShowsCutStretches width ps (stretches (entry_letters (run_of es))) lines) none
+      (subst (λ (w : List ℕ). ShowsCutStretches width (pieces p.laid) (stretches (w ++ entry_letters (run_of es))) lines) (no_letters p.word h.word) (whole_read es p modes printable (fresh_ready p h)))
 
   fits_line : (p : Progress A) (es : List (Event A)) → BeginsHardLine p → Each (HasMode PreWrap) (run_of es) → IsPrintableLine columns (run_of es) → ¬ (IsSpaces (entry_letters (run_of es))) →
       length (without_last_spaces (entry_letters (run_of es))) ≤ width → IsLine (without_last_spaces (entry_letters (run_of es))) (flush_word columns width (fold (step columns width) p es)).laid

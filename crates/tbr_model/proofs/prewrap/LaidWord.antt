@@ -14,7 +14,7 @@ use Rattle.tbr_model.proofs.words.Items.{letters_of-append, no_character_no_widt
 use Rattle.tbr_model.proofs.lists.Each.{each_append}
 use Rattle.tbr_model.proofs.lists.Joined.{joined-append}
 use Rattle.tbr_model.proofs.tabs.FittingText.{laid_letters}
-use Rattle.tbr_model.proofs.prewrap.Stretches.{IsSolid, IsPlain, stretches_apart, joined_solid, plain_solid, plain_width, plain_leading, stretches_trailing}
+use Rattle.tbr_model.proofs.prewrap.Stretches.{IsSolid, IsVisibleOrMarker, stretches_apart, joined_solid, plain_solid, plain_width, plain_leading, stretches_trailing}
 
 -- the stretches on the lines, the open one last
 abbrev pub ended_pieces : {A : Type 0} → Laid A → List (List ℕ)
@@ -36,7 +36,7 @@ end_if_character_pieces {A} l empty =
     (λ none. (sym (ap (λ cs. ended_pieces l ++ stretches cs) (no_letters l.line none) ∙ append-nil (ended_pieces l)), no_letters l.line none, empty none))
 
 -- Behind pieces stands a text, whole if it fits a line.
-pub record Cut {A : Type 0} (width : ℕ) (before : List (List ℕ)) (w : List ℕ) (l : Laid A) : Type 0 where
+pub record StandsBehind {A : Type 0} (width : ℕ) (before : List (List ℕ)) (w : List ℕ) (l : Laid A) : Type 0 where
   pub parts : List (List ℕ)
   pub are : pieces l ≡ before ++ parts
   pub whole : joined parts ≡ w
@@ -44,8 +44,8 @@ pub record Cut {A : Type 0} (width : ℕ) (before : List (List ℕ)) (w : List �
   pub measured : l.width ≡ length (letters_of l.line)
 
 -- what is kept between entries
-pub record Ready {A : Type 0} (columns : ℕ → Option ℕ) (p : Progress A) : Type 0 where
-  pub plain : Each (IsPlain columns) p.word
+pub record IsReadyForWord {A : Type 0} (columns : ℕ → Option ℕ) (p : Progress A) : Type 0 where
+  pub plain : Each (IsVisibleOrMarker columns) p.word
   pub measured : p.laid.width ≡ length (letters_of p.laid.line)
   pub apart : (letters_of p.laid.line ≡ []) ⊎ (0 < pending_width p.space)
   pub wraps : WaitsIn PreWrap p.space
@@ -70,7 +70,7 @@ module _ {A : Type 0} (columns : ℕ → Option ℕ) (width : ℕ) (some : 0 < w
       rw (one, e, f) refl
 
   -- pieces behind a full line
-  cut_behind : (l : Laid A) (c : ℕ) (y w : List ℕ) (q : Laid A) → letters_of l.line ≡ y → IsSolid y → width ≤ length y → Cut width (ended_pieces (end_line l)) (c ∷ w) q → Cut width (ended_pieces l) (y ++ c ∷ w) q
+  cut_behind : (l : Laid A) (c : ℕ) (y w : List ℕ) (q : Laid A) → letters_of l.line ≡ y → IsSolid y → width ≤ length y → StandsBehind width (ended_pieces (end_line l)) (c ∷ w) q → StandsBehind width (ended_pieces l) (y ++ c ∷ w) q
   cut_behind l c y w q letters solid full k = record {
     parts = stretches y ++ k.parts;
     are = k.are ∙ ap (λ u. u ++ k.parts) (pieces_ended l ∙ ap (λ cs. ended_pieces l ++ stretches cs) letters) ∙ append_assoc (ended_pieces l) (stretches y) k.parts;
@@ -79,8 +79,8 @@ module _ {A : Type 0} (columns : ℕ → Option ℕ) (width : ℕ) (some : 0 < w
     measured = k.measured;
   }
 
-  put_cut : (is : List (Item A)) (l : Laid A) (y : List ℕ) → Each (IsPlain columns) is → letters_of l.line ≡ y → IsSolid y → l.width ≡ length y → l.width ≤ width →
-      Cut width (ended_pieces l) (y ++ letters_of is) (put_items columns width l is)
+  put_cut : (is : List (Item A)) (l : Laid A) (y : List ℕ) → Each (IsVisibleOrMarker columns) is → letters_of l.line ≡ y → IsSolid y → l.width ≡ length y → l.width ≤ width →
+      StandsBehind width (ended_pieces l) (y ++ letters_of is) (put_items columns width l is)
   put_cut [] l y plain letters solid measured fits = record {
     parts = stretches y;
     are = ap (λ cs. ended_pieces l ++ stretches cs) letters;
@@ -100,9 +100,9 @@ module _ {A : Type 0} (columns : ℕ → Option ℕ) (width : ℕ) (some : 0 < w
       other : IsSolid (c ∷ [])
       other = plain_solid columns (glyph c a ∷ []) (plain.0, tt)
 
-      go : (b : Bool) → nat_le (l.width + 1) width ≡ b → (l.width + 1 ≤ width → Cut width (ended_pieces l) ((y ++ c ∷ []) ++ letters_of is) (put_items columns width (extended l (glyph c a ∷ []) 1) is)) →
-          Cut width (ended_pieces (end_line l)) (c ∷ letters_of is) (put_items columns width (extended (end_line l) (glyph c a ∷ []) 1) is) →
-          Cut width (ended_pieces l) (y ++ (c ∷ letters_of is)) (put_items columns width (put_item columns width l (glyph c a)) is)
+      go : (b : Bool) → nat_le (l.width + 1) width ≡ b → (l.width + 1 ≤ width → StandsBehind width (ended_pieces l) ((y ++ c ∷ []) ++ letters_of is) (put_items columns width (extended l (glyph c a ∷ []) 1) is)) →
+          StandsBehind width (ended_pieces (end_line l)) (c ∷ letters_of is) (put_items columns width (extended (end_line l) (glyph c a ∷ []) 1) is) →
+          StandsBehind width (ended_pieces l) (y ++ (c ∷ letters_of is)) (put_items columns width (put_item columns width l (glyph c a)) is)
       go true e here k = rw (put_here l c a plain.0.one (leb-true _ _ e)) (rw append_assoc at (here (leb-true _ _ e)))
       go false e here k = rw (put_next l c a plain.0.one (leb-false _ _ e)) (cut_behind l c y (letters_of is) _ letters solid (omega (arith, leb-false _ _ e, measured)) k)
 
@@ -110,9 +110,9 @@ module _ {A : Type 0} (columns : ℕ → Option ℕ) (width : ℕ) (some : 0 < w
 
   -- a word is laid behind what stood before, and nothing waits
   abbrev pub IsLaidBehind : Progress A → Progress A → Type 0
-  IsLaidBehind p q = Cut width (pieces p.laid) (letters_of p.word) q.laid × (q.space ≡ None) × (q.word ≡ [])
+  IsLaidBehind p q = StandsBehind width (pieces p.laid) (letters_of p.word) q.laid × (q.space ≡ None) × (q.word ≡ [])
 
-  here_cut : (p : Progress A) → Ready columns p → IsLaidBehind p (lay_here columns p)
+  here_cut : (p : Progress A) → IsReadyForWord columns p → IsLaidBehind p (lay_here columns p)
   here_cut p h =
       let solid = plain_solid columns p.word h.plain in
       let w = letters_of p.word in
@@ -141,7 +141,7 @@ module _ {A : Type 0} (columns : ℕ → Option ℕ) (width : ℕ) (some : 0 < w
   abbrev HasWrappedSpace : Progress A → Progress A → Type 0
   HasWrappedSpace p q = (q.space ≡ None) × (q.word ≡ p.word) × (pieces q.laid ≡ pieces p.laid) × (has_character q.laid.line ≡ false → q.laid.width ≡ 0)
 
-  unfit_keeps : (p : Progress A) → Ready columns p → HasWrappedSpace p (wrap_space columns width p p.space)
+  unfit_keeps : (p : Progress A) → IsReadyForWord columns p → HasWrappedSpace p (wrap_space columns width p p.space)
   unfit_keeps p h = go p.space refl h.wraps
     where
       go : (o : Option (Space A)) → p.space ≡ o → WaitsIn PreWrap o → HasWrappedSpace p (wrap_space columns width p o)
@@ -150,20 +150,20 @@ module _ {A : Type 0} (columns : ℕ → Option ℕ) (width : ℕ) (some : 0 < w
           subst (λ m. HasWrappedSpace p (wrap_space_by columns width p s m)) (sym w)
           (refl, plain_leading columns p.word h.plain, ap (λ u. ended_pieces p.laid ++ u) (stretches_trailing p.laid.line), no_character_no_width columns (trimmed columns p.laid).line)
 
-  fresh_cut : (p q : Progress A) → Ready columns p → has_character p.word ≡ true → HasWrappedSpace p q → IsLaidBehind p (lay_fresh columns width q)
+  fresh_cut : (p q : Progress A) → IsReadyForWord columns p → has_character p.word ≡ true → HasWrappedSpace p q → IsLaidBehind p (lay_fresh columns width q)
   fresh_cut p q h has u =
       let line = end_if_character_pieces q.laid u.3 in
-      let plain : Each (IsPlain columns) q.word = subst (Each (IsPlain columns)) (sym u.1) h.plain in
+      let plain : Each (IsVisibleOrMarker columns) q.word = subst (Each (IsVisibleOrMarker columns)) (sym u.1) h.plain in
       let k = put_cut q.word (end_if_character q.laid) [] plain line.1 tt line.2 (omega (arith, line.2)) in
       let before : ended_pieces (end_if_character q.laid) ≡ pieces p.laid = line.0 ∙ u.2 in
       let same : letters_of q.word ≡ letters_of p.word = ap letters_of u.1 in
-      let cut : Cut width (pieces p.laid) (letters_of p.word) (put_items columns width (end_if_character q.laid) q.word) =
-      subst (λ (w : List ℕ). Cut width (pieces p.laid) w (put_items columns width (end_if_character q.laid) q.word)) same
-      (subst (λ (b : List (List ℕ)). Cut width b (letters_of q.word) (put_items columns width (end_if_character q.laid) q.word)) before k) in
+      let cut : StandsBehind width (pieces p.laid) (letters_of p.word) (put_items columns width (end_if_character q.laid) q.word) =
+      subst (λ (w : List ℕ). StandsBehind width (pieces p.laid) w (put_items columns width (end_if_character q.laid) q.word)) same
+      (subst (λ (b : List (List ℕ)). StandsBehind width b (letters_of q.word) (put_items columns width (end_if_character q.laid) q.word)) before k) in
       let some_left : has_character q.word ≡ true = ap has_character u.1 ∙ has in
       rw (u.0, some_left) (cut, refl, refl)
 
-  pub lay_cut : (p : Progress A) → Ready columns p → has_character p.word ≡ true → IsLaidBehind p (lay columns width p)
+  pub lay_cut : (p : Progress A) → IsReadyForWord columns p → has_character p.word ≡ true → IsLaidBehind p (lay columns width p)
   lay_cut p h has =
       cond_both (nat_le (p.laid.width + (pending_width p.space + items_width columns p.word)) width) _ _ (λ (q : Progress A). IsLaidBehind p q)
       (λ _. here_cut p h) (λ _. fresh_cut p (wrap_space columns width p p.space) h has (unfit_keeps p h))

@@ -80,25 +80,25 @@ joined_solid (c ∷ cs) h = ap joined (stretches_solid c cs h) ∙ append-nil (c
 -- ---- items
 
 -- a visible character, or a marker
-abbrev pub IsPlain : {A : Type 0} → (ℕ → Option ℕ) → Item A → Type 0
-IsPlain columns (glyph c a) = IsVisible columns c
-IsPlain columns (marker name) = Unit {0}
+abbrev pub IsVisibleOrMarker : {A : Type 0} → (ℕ → Option ℕ) → Item A → Type 0
+IsVisibleOrMarker columns (glyph c a) = IsVisible columns c
+IsVisibleOrMarker columns (marker name) = Unit {0}
 
 visible_solid : (columns : ℕ → Option ℕ) (c : ℕ) → IsVisible columns c → c ≢ 32
 visible_solid columns c v e = omega (arith, v.from, e)
 
-pub plain_solid : {A : Type 0} (columns : ℕ → Option ℕ) (is : List (Item A)) → Each (IsPlain columns) is → IsSolid (letters_of is)
+pub plain_solid : {A : Type 0} (columns : ℕ → Option ℕ) (is : List (Item A)) → Each (IsVisibleOrMarker columns) is → IsSolid (letters_of is)
 plain_solid columns [] h = tt
 plain_solid columns (glyph c a ∷ is) h = (visible_solid columns c h.0, plain_solid columns is h.1)
 plain_solid columns (marker name ∷ is) h = plain_solid columns is h.1
 
-pub plain_width : {A : Type 0} (columns : ℕ → Option ℕ) (is : List (Item A)) → Each (IsPlain columns) is → items_width columns is ≡ length (letters_of is)
+pub plain_width : {A : Type 0} (columns : ℕ → Option ℕ) (is : List (Item A)) → Each (IsVisibleOrMarker columns) is → items_width columns is ≡ length (letters_of is)
 plain_width columns [] h = refl
 plain_width columns (glyph c a ∷ is) h = rw (h.0.one) (omega (arith, plain_width columns is h.1))
 plain_width columns (marker name ∷ is) h = omega (arith, plain_width columns is h.1)
 
 -- such a word begins with no white space
-pub plain_leading : {A : Type 0} (columns : ℕ → Option ℕ) (is : List (Item A)) → Each (IsPlain columns) is → without_leading is ≡ is
+pub plain_leading : {A : Type 0} (columns : ℕ → Option ℕ) (is : List (Item A)) → Each (IsVisibleOrMarker columns) is → without_leading is ≡ is
 plain_leading columns [] h = refl
 plain_leading columns (glyph c a ∷ is) h = rw (whitespace_not c h.0.from h.0.to) refl
 plain_leading columns (marker name ∷ is) h = refl

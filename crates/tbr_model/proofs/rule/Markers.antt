@@ -1,13 +1,13 @@
 -- How a block goes on keeps the markers, in order.
-use Rattle.std.proofs.Common.{◌≡◌, ℕ, true, false, Option, List, [], ◌∷◌, ◌++◌, map, fold, refl, ap, sym, ◌∙◌, append_assoc, append-nil}
+use Rattle.std.proofs.Common.{◌≡◌, ℕ, false, Option, List, [], ◌∷◌, ◌++◌, map, fold, refl, ap, sym, ◌∙◌, append_assoc, append-nil}
 use Rattle.std.specs.List.{AllZip}
 use Rattle.tbr_model.specs.Run.{Entry, character, marker_entry, Item, glyph, marker, has_character}
 use Rattle.tbr_model.specs.Layout.{joined}
 use Rattle.tbr_model.specs.Laid.{end_if_character}
-use Rattle.tbr_model.specs.Rule.{Event, entry, run_of, Progress, at_start, flush_word, enter, step, progress, finished, waiting, lines_of}
+use Rattle.tbr_model.specs.Rule.{Event, entry, run_of, Progress, at_start, flush_word, enter, step, progress, waiting, lines_of}
 use Rattle.tbr_model.specs.Markers.{names_in_items, names_in_run, marker_run, marker_items}
 use Rattle.tbr_model.proofs.words.Items.{has_character-append}
-use Rattle.tbr_model.proofs.rule.Content.{LooksAtVisible, StandsFor, content, fold_content, finished_content}
+use Rattle.tbr_model.proofs.rule.Content.{LooksAtKept, StandsFor, PendingIn, AnyMode, any_mode, content, fold_content, finished_content}
 use Rattle.tbr_model.proofs.rule.HardLines.{no_character_after_end, flush_flushes}
 
 -- ---- items and entries
@@ -28,8 +28,8 @@ marker_items_alone [] h = refl
 marker_items_alone (glyph c a ∷ is) h = cc
 marker_items_alone (marker name ∷ is) h = ap (λ js. marker name ∷ js) (marker_items_alone is h)
 
-looks_at_markers : {A : Type 0} (columns : ℕ → Option ℕ) → LooksAtVisible {A = A} columns names_in_items
-looks_at_markers columns = record { append = names_in_items-append; nothing = refl; hidden = λ c a h. refl }
+looks_at_markers : {A : Type 0} (columns : ℕ → Option ℕ) → LooksAtKept {A = A} columns AnyMode names_in_items
+looks_at_markers columns = record { append = names_in_items-append; nothing = refl; lost = λ c a h. refl; white = λ m c a h. refl }
 
 -- items that stand for entries have their markers
 names_alike : {A : Type 0} (is : List (Item A)) (es : List (Entry A)) → AllZip StandsFor is es → names_in_items is ≡ names_in_run es
@@ -44,17 +44,17 @@ names_alike (marker name ∷ is) (marker_entry other ∷ es) h = rw (h.0) (ap (�
 module _ {A : Type 0} (columns : ℕ → Option ℕ) (width : ℕ) where
   -- ---- a run
 
-  named : (es : List (Event A)) → content columns names_in_items (looks_at_markers columns) (progress columns width es) ≡ names_in_run (run_of es)
+  named : (es : List (Event A)) → (content names_in_items (progress columns width es) ≡ names_in_run (run_of es)) × PendingIn AnyMode (progress columns width es).space
   named es =
-      let (is, stand, found) = fold_content columns names_in_items (looks_at_markers columns) width es at_start in
-      found ∙ names_alike is (run_of es) stand
+      let g = fold_content columns AnyMode names_in_items (looks_at_markers columns) width es at_start (any_mode (run_of es)) tt in
+      (g.are ∙ names_alike g.items (run_of es) g.stand, g.pending)
 
   -- The markers of a run stand on its lines and in its word once, in order.
   pub markers_run : (es : List (Event A)) → let p = progress columns width es in names_in_items (joined p.laid.done) ++ (names_in_items p.laid.line ++ names_in_items p.word) ≡ names_in_run (run_of es)
   markers_run es =
       let p : Progress A = progress columns width es in
       sym (append_assoc (names_in_items (joined p.laid.done)) (names_in_items p.laid.line) (names_in_items p.word))
-      ∙ ap (λ ns. ns ++ names_in_items p.word) (sym (names_in_items-append (joined p.laid.done) p.laid.line)) ∙ named es
+      ∙ ap (λ ns. ns ++ names_in_items p.word) (sym (names_in_items-append (joined p.laid.done) p.laid.line)) ∙ (named es).0
 
   -- at its end they stand on its lines, or wait
   pub markers_at_end : (es : List (Event A)) → names_in_items (joined (lines_of columns width es)) ++ names_in_items (waiting columns width (progress columns width es)) ≡ names_in_run (run_of es)
@@ -64,7 +64,7 @@ module _ {A : Type 0} (columns : ℕ → Option ℕ) (width : ℕ) where
       ap (λ ns. names_in_items (joined (end_if_character q.laid).done) ++ ns) (names_in_items-append (end_if_character q.laid).line q.word)
       ∙ sym (append_assoc (names_in_items (joined (end_if_character q.laid).done)) (names_in_items (end_if_character q.laid).line) (names_in_items q.word))
       ∙ ap (λ ns. ns ++ names_in_items q.word) (sym (names_in_items-append (joined (end_if_character q.laid).done) (end_if_character q.laid).line))
-      ∙ finished_content columns names_in_items (looks_at_markers columns) width p ∙ named es
+      ∙ finished_content columns AnyMode names_in_items (looks_at_markers columns) width p (named es).1 ∙ (named es).0
 
   -- no character waits
   pub waiting_none : (p : Progress A) → has_character (waiting columns width p) ≡ false

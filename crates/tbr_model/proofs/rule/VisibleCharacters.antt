@@ -1,16 +1,16 @@
 -- A block shows the visible characters of its run once, in order.
-use Rattle.std.proofs.Common.{◌≡◌, ℕ, ◌<◌, ◌⊎◌, inl, inr, Bool, true, false, Option, List, [], ◌∷◌, ◌++◌, filter, fold, length, refl, ap, sym, ◌∙◌, arith, append-nil, length-append}
+use Rattle.std.proofs.Common.{◌≡◌, ℕ, ◌<◌, ◌⊎◌, inl, inr, Bool, true, false, not, Option, List, [], ◌∷◌, ◌++◌, filter, fold, length, refl, ap, ◌∙◌, arith, length-append}
 use Rattle.std.specs.List.{AllZip, AllByRecursion as Each}
+use Rattle.std.specs.Char.{is_whitespace}
+use Rattle.std.proofs.lemmas.Bool.{and_left, and_right, not_from_true}
 use Rattle.std.proofs.lemmas.List.Elements.{filter-append}
-use Rattle.tbr_model.specs.Run.{Entry, character, marker_entry, Item, glyph, marker, has_character}
-use Rattle.tbr_model.specs.Layout.{joined}
-use Rattle.tbr_model.specs.Laid.{Laid}
+use Rattle.tbr_model.specs.Run.{Entry, character, marker_entry, Item, glyph, marker, has_character, is_kept}
 use Rattle.tbr_model.specs.Rule.{Event, run_of, Progress, at_start, flush_word, newline, step, finished, lines_of}
 use Rattle.tbr_model.specs.Hard.{glyphs_of, is_visible, visible_glyphs, visible_entries, IsShown, ShowsVisible, Preserves, hard_lines, Parted, ShowsHardLine}
 use Rattle.tbr_model.proofs.rule.HardLineStart.{BeginsHardLine}
 use Rattle.tbr_model.proofs.words.Items.{glyphs_of-append}
-use Rattle.tbr_model.proofs.rule.Content.{LooksAtVisible, StandsFor, on_lines, content, fold_content, finished_content, newline_flushed}
-use Rattle.tbr_model.proofs.rule.HardLines.{no_character_after_end, NoNewline, flush_flushes, start_fresh, hard_lines_parted}
+use Rattle.tbr_model.proofs.rule.Content.{LooksAtKept, StandsFor, PendingIn, AnyMode, any_mode, content, nothing_yet, fold_content, found_finished, found_ended}
+use Rattle.tbr_model.proofs.rule.HardLines.{NoNewline, start_fresh, hard_lines_parted}
 
 visible-append : {A : Type 0} (columns : ℕ → Option ℕ) (is js : List (Item A)) → visible_glyphs columns (is ++ js) ≡ visible_glyphs columns is ++ visible_glyphs columns js
 visible-append {A} columns is js = ap (filter (λ g. is_visible columns g.0)) (glyphs_of-append is js) ∙ filter-append (λ (g : ℕ × A). is_visible columns g.0) (glyphs_of is) (glyphs_of js)
@@ -21,13 +21,21 @@ none_visible columns [] h = refl
 none_visible columns (glyph c a ∷ is) h = cc
 none_visible columns (marker m ∷ is) h = none_visible columns is h
 
-looks_at_characters : {A : Type 0} (columns : ℕ → Option ℕ) → LooksAtVisible {A = A} columns (visible_glyphs columns)
-looks_at_characters columns = record { append = visible-append columns; nothing = refl; hidden = λ c a h. rw h refl }
+white_not_visible : (columns : ℕ → Option ℕ) (c : ℕ) → is_whitespace c ≡ true → is_visible columns c ≡ false
+white_not_visible columns c h = and_right (is_kept columns c) (not (is_whitespace c)) (not_from_true (is_whitespace c) h)
+
+hidden : {A : Type 0} (columns : ℕ → Option ℕ) (c : ℕ) (a : A) → is_visible columns c ≡ false → visible_glyphs columns (glyph c a ∷ []) ≡ []
+hidden columns c a h = rw h refl
+
+looks_at_characters : {A : Type 0} (columns : ℕ → Option ℕ) → LooksAtKept {A = A} columns AnyMode (visible_glyphs columns)
+looks_at_characters columns = record {
+  append = visible-append columns;
+  nothing = refl;
+  lost = λ c a h. hidden columns c a (and_left (is_kept columns c) (not (is_whitespace c)) h);
+  white = λ m c a h. hidden columns c a (white_not_visible columns c h);
+}
 
 module _ {A : Type 0} (columns : ℕ → Option ℕ) (width : ℕ) (Same : A → A → Type 0) (same : (x : A) → Same x x) where
-  abbrev shown : Progress A → List (ℕ × A)
-  shown p = content columns (visible_glyphs columns) (looks_at_characters columns) p
-
   under : (x a b : A) → (x ≡ a) ⊎ (x ≡ b) → Same x a ⊎ Same x b
   under x a b (inl e) = inl (rw (← e) (same x))
   under x a b (inr e) = inr (rw (← e) (same x))
@@ -47,39 +55,26 @@ module _ {A : Type 0} (columns : ℕ → Option ℕ) (width : ℕ) (Same : A →
   all_shown (marker name ∷ is) (character d a b m ∷ es) h = elim h.0 [ ]
   all_shown (marker name ∷ is) (marker_entry other ∷ es) h = all_shown is es h.1
 
-  fresh_has_none : (p : Progress A) → BeginsHardLine p → shown p ≡ []
-  fresh_has_none p f = rw (f.done, f.line) (none_visible columns p.word f.word)
+  -- what is visible behind a run from where a hard line begins, and no space waits there but in a mode
+  abbrev ShowsSoFar : Progress A → List (Entry A) → Type 0
+  ShowsSoFar q run = AllZip (IsShown Same) (content (visible_glyphs columns) q) (visible_entries columns run) × PendingIn AnyMode q.space
 
-  from_fresh : (p : Progress A) (es : List (Event A)) → BeginsHardLine p → AllZip (IsShown Same) (shown (fold (step columns width) p es)) (visible_entries columns (run_of es))
-  from_fresh p es f =
-      let (is, stand, found) = fold_content columns (visible_glyphs columns) (looks_at_characters columns) width es p in
-      rw (found, fresh_has_none p f) (all_shown is (run_of es) stand)
-
-  -- ---- the end
-
-  -- the ended lines show all, where neither the open line nor the word has a character
-  lines_alone : (l : Laid A) (word : List (Item A)) → has_character l.line ≡ false → has_character word ≡ false →
-      visible_glyphs columns (joined l.done) ≡ on_lines columns (visible_glyphs columns) (looks_at_characters columns) l ++ visible_glyphs columns word
-  lines_alone l word line none =
-      sym (ap (λ gs. visible_glyphs columns (joined l.done ++ l.line) ++ gs) (none_visible columns word none) ∙ append-nil (visible_glyphs columns (joined l.done ++ l.line))
-      ∙ visible-append columns (joined l.done) l.line ∙ ap (λ gs. visible_glyphs columns (joined l.done) ++ gs) (none_visible columns l.line line) ∙ append-nil (visible_glyphs columns (joined l.done)))
-
-  finished_shown : (p : Progress A) → visible_glyphs columns (joined (finished columns width p).done) ≡ shown p
-  finished_shown p =
-      lines_alone (finished columns width p) (flush_word columns width p).word (no_character_after_end (flush_word columns width p).laid) (flush_flushes columns width p)
-      ∙ finished_content columns (visible_glyphs columns) (looks_at_characters columns) width p
-
-  ended_line_shown : (p : Progress A) → visible_glyphs columns (joined (newline (flush_word columns width p)).laid.done) ≡ shown p
-  ended_line_shown p =
-      lines_alone (newline (flush_word columns width p)).laid (flush_word columns width p).word refl (flush_flushes columns width p)
-      ∙ newline_flushed columns (visible_glyphs columns) (looks_at_characters columns) width p
+  from_start : (p : Progress A) (es : List (Event A)) → BeginsHardLine p → ShowsSoFar (fold (step columns width) p es) (run_of es)
+  from_start p es f =
+      let (none, pending) = nothing_yet columns AnyMode (visible_glyphs columns) (looks_at_characters columns) (none_visible columns) p f in
+      let g = fold_content columns AnyMode (visible_glyphs columns) (looks_at_characters columns) width es p (any_mode (run_of es)) pending in
+      (rw (g.are, none) (all_shown g.items (run_of es) g.stand), g.pending)
 
   -- the visible characters of a run from where a hard line begins
   pub visible_from : (p : Progress A) (es : List (Event A)) → BeginsHardLine p → ShowsVisible columns Same (run_of es) (finished columns width (fold (step columns width) p es)).done
-  visible_from p es f = rw (finished_shown (fold (step columns width) p es)) (from_fresh p es f)
+  visible_from p es f =
+      let (shown, pending) = from_start p es f in
+      rw (found_finished columns AnyMode (visible_glyphs columns) (looks_at_characters columns) (none_visible columns) width (fold (step columns width) p es) pending) shown
 
   pub visible_ended : (p : Progress A) (es : List (Event A)) → BeginsHardLine p → ShowsVisible columns Same (run_of es) (newline (flush_word columns width (fold (step columns width) p es))).laid.done
-  visible_ended p es f = rw (ended_line_shown (fold (step columns width) p es)) (from_fresh p es f)
+  visible_ended p es f =
+      let (shown, pending) = from_start p es f in
+      rw (found_ended columns AnyMode (visible_glyphs columns) (looks_at_characters columns) (none_visible columns) width (fold (step columns width) p es) pending) shown
 
   -- A block shows the visible characters of its run once, in order, each under an annotation of its call.
   pub visible_shown : (es : List (Event A)) → ShowsVisible columns Same (run_of es) (lines_of columns width es)

@@ -12,14 +12,14 @@ use Rattle.tbr_model.proofs.words.Items.{back_has, letters_of-append, items_widt
 use Rattle.tbr_model.proofs.rule.Printable.{prepared}
 
 -- a text stands on the open line, in the pending space and in the word, and no line is ended
-pub record Reads {A : Type 0} (columns : ℕ → Option ℕ) (x : List ℕ) (p : Progress A) : Type 0 where
+pub record HoldsText {A : Type 0} (columns : ℕ → Option ℕ) (x : List ℕ) (p : Progress A) : Type 0 where
   pub done : p.laid.done ≡ []
   pub width : p.laid.width ≡ length (letters_of p.laid.line)
   pub word : items_width columns p.word ≡ length (letters_of p.word)
   pub text : letters_of p.laid.line ++ (replicate (pending_width p.space) 32 ++ letters_of p.word) ≡ x
 
 -- how long the text is
-pub reads_length : {A : Type 0} (columns : ℕ → Option ℕ) (x : List ℕ) (p : Progress A) → Reads columns x p →
+pub reads_length : {A : Type 0} (columns : ℕ → Option ℕ) (x : List ℕ) (p : Progress A) → HoldsText columns x p →
     p.laid.width + (pending_width p.space + items_width columns p.word) ≡ length x
 reads_length columns x p h =
     omega (
@@ -32,7 +32,7 @@ reads_length columns x p h =
       length-replicate {A = ℕ} (pending_width p.space) 32,
     )
 
-pub lay_fits : {A : Type 0} (columns : ℕ → Option ℕ) (width : ℕ) (x : List ℕ) (p : Progress A) → Reads columns x p → length x ≤ width → lay columns width p ≡ lay_here columns p
+pub lay_fits : {A : Type 0} (columns : ℕ → Option ℕ) (width : ℕ) (x : List ℕ) (p : Progress A) → HoldsText columns x p → length x ≤ width → lay columns width p ≡ lay_here columns p
 lay_fits columns width x p h fits =
     let e : nat_le (p.laid.width + (pending_width p.space + items_width columns p.word)) width ≡ true = le-leb _ _ (omega (arith, fits, reads_length columns x p h)) in
     rw e refl
@@ -43,7 +43,7 @@ pub laid_letters : {A : Type 0} (columns : ℕ → Option ℕ) (p : Progress A) 
 laid_letters columns p =
     letters_of-append p.laid.line (space_text p.space ++ p.word) ∙ ap (λ cs. letters_of p.laid.line ++ cs) (letters_of-append (space_text p.space) p.word ∙ ap (λ cs. cs ++ letters_of p.word) (letters_of-space_text p.space))
 
-pub lay_here_reads : {A : Type 0} (columns : ℕ → Option ℕ) (x : List ℕ) (p : Progress A) → Reads columns x p → Reads columns x (lay_here columns p)
+pub lay_here_reads : {A : Type 0} (columns : ℕ → Option ℕ) (x : List ℕ) (p : Progress A) → HoldsText columns x p → HoldsText columns x (lay_here columns p)
 lay_here_reads columns x p h = record {
   done = h.done;
   width = omega (arith, reads_length columns x p h, ap length (laid_letters columns p ∙ h.text));
@@ -52,25 +52,25 @@ lay_here_reads columns x p h = record {
 }
 
 -- the word is laid, if it takes columns
-pub break_reads : {A : Type 0} (columns : ℕ → Option ℕ) (width : ℕ) (x : List ℕ) (p : Progress A) → Reads columns x p → length x ≤ width → Reads columns x (break_word columns width p)
+pub break_reads : {A : Type 0} (columns : ℕ → Option ℕ) (width : ℕ) (x : List ℕ) (p : Progress A) → HoldsText columns x p → length x ≤ width → HoldsText columns x (break_word columns width p)
 break_reads {A} columns width x p h fits =
-    cond_both (nat_lt 0 (items_width columns p.word)) _ _ (λ (q : Progress A). Reads columns x q) (λ _. rw (lay_fits columns width x p h fits) (lay_here_reads columns x p h)) (λ _. h)
+    cond_both (nat_lt 0 (items_width columns p.word)) _ _ (λ (q : Progress A). HoldsText columns x q) (λ _. rw (lay_fits columns width x p h fits) (lay_here_reads columns x p h)) (λ _. h)
 
 -- the word is laid, if it has a character
-pub flush_reads : {A : Type 0} (columns : ℕ → Option ℕ) (width : ℕ) (x : List ℕ) (p : Progress A) → Reads columns x p → length x ≤ width →
-    Reads columns x (flush_word columns width p) × has_character (flush_word columns width p).word ≡ false
+pub flush_reads : {A : Type 0} (columns : ℕ → Option ℕ) (width : ℕ) (x : List ℕ) (p : Progress A) → HoldsText columns x p → length x ≤ width →
+    HoldsText columns x (flush_word columns width p) × has_character (flush_word columns width p).word ≡ false
 flush_reads {A} columns width x p h fits =
-    cond_both (has_character p.word) _ _ (λ (q : Progress A). Reads columns x q × has_character q.word ≡ false)
+    cond_both (has_character p.word) _ _ (λ (q : Progress A). HoldsText columns x q × has_character q.word ≡ false)
     (λ _. rw (lay_fits columns width x p h fits) (lay_here_reads columns x p h, refl)) (λ none. (h, none))
 
-pub prepared_reads : {A : Type 0} (columns : ℕ → Option ℕ) (width c : ℕ) (mode : WhiteSpace) (x : List ℕ) (p : Progress A) → Reads columns x p → length x ≤ width → Reads columns x (prepared columns width c mode p)
+pub prepared_reads : {A : Type 0} (columns : ℕ → Option ℕ) (width c : ℕ) (mode : WhiteSpace) (x : List ℕ) (p : Progress A) → HoldsText columns x p → length x ≤ width → HoldsText columns x (prepared columns width c mode p)
 prepared_reads columns width c Normal x p h fits = h
 prepared_reads columns width c Pre x p h fits = h
 prepared_reads {A} columns width c PreWrap x p h fits =
-    cond_both (is_break c) _ _ (λ (q : Progress A). Reads columns x q) (λ _. break_reads columns width x p h fits) (λ _. h)
+    cond_both (is_break c) _ _ (λ (q : Progress A). HoldsText columns x q) (λ _. break_reads columns width x p h fits) (λ _. h)
 
 -- a character joins the word
-pub join_reads : {A : Type 0} (columns : ℕ → Option ℕ) (c : ℕ) (a : A) (mode : WhiteSpace) (x : List ℕ) (p : Progress A) → columns c ≡ Some 1 → Reads columns x p → Reads columns (x ++ c ∷ []) (join c a mode p)
+pub join_reads : {A : Type 0} (columns : ℕ → Option ℕ) (c : ℕ) (a : A) (mode : WhiteSpace) (x : List ℕ) (p : Progress A) → columns c ≡ Some 1 → HoldsText columns x p → HoldsText columns (x ++ c ∷ []) (join c a mode p)
 join_reads {A} columns c a mode x p one h = record {
   done = h.done;
   width = h.width;
@@ -85,9 +85,9 @@ join_reads {A} columns c a mode x p one h = record {
     wide = rw one refl
 
 -- a space joins the word, or waits behind other space
-pub space_reads : {A : Type 0} (columns : ℕ → Option ℕ) (a : A) (mode : WhiteSpace) (x : List ℕ) (p : Progress A) → columns 32 ≡ Some 1 → Reads columns x p → Reads columns (x ++ 32 ∷ []) (keep_space 32 a mode (Some 1) p)
+pub space_reads : {A : Type 0} (columns : ℕ → Option ℕ) (a : A) (mode : WhiteSpace) (x : List ℕ) (p : Progress A) → columns 32 ≡ Some 1 → HoldsText columns x p → HoldsText columns (x ++ 32 ∷ []) (keep_space 32 a mode (Some 1) p)
 space_reads {A} columns a mode x p one h =
-    cond_both (has_character p.word) _ _ (λ (q : Progress A). Reads columns (x ++ 32 ∷ []) q) (λ _. join_reads columns 32 a mode x p one h) (λ none. record {
+    cond_both (has_character p.word) _ _ (λ (q : Progress A). HoldsText columns (x ++ 32 ∷ []) q) (λ _. join_reads columns 32 a mode x p one h) (λ none. record {
       done = h.done;
       width = h.width;
       word = h.word;
@@ -102,14 +102,14 @@ space_reads {A} columns a mode x p one h =
         rw (pending_width-of (n + 1) a mode) (ap (λ cs. l ++ (replicate (n + 1) 32 ++ cs)) e ∙ ap (λ cs. l ++ cs) (append-nil (replicate (n + 1) 32) ∙ more)
         ∙ sym (append_assoc l (replicate n 32) (32 ∷ [])) ∙ ap (λ cs. cs ++ 32 ∷ []) without)
 
-pub continuation_reads : {A : Type 0} (columns : ℕ → Option ℕ) (x : List ℕ) (p : Progress A) (continuation_flag in_continuation : Bool) → Reads columns x p → Reads columns x (record p { continuation_flag = continuation_flag; in_continuation = in_continuation })
+pub continuation_reads : {A : Type 0} (columns : ℕ → Option ℕ) (x : List ℕ) (p : Progress A) (continuation_flag in_continuation : Bool) → HoldsText columns x p → HoldsText columns x (record p { continuation_flag = continuation_flag; in_continuation = in_continuation })
 continuation_reads columns x p continuation_flag in_continuation h = record { done = h.done; width = h.width; word = h.word; text = h.text }
 
 -- any other character joins the word
-pub character_reads : {A : Type 0} (columns : ℕ → Option ℕ) (width c : ℕ) (a b : A) (mode : WhiteSpace) (x : List ℕ) (p : Progress A) → columns c ≡ Some 1 → Reads columns x p →
-    Reads columns (x ++ c ∷ []) (keep_character columns width c a b mode (Some 1) p)
+pub character_reads : {A : Type 0} (columns : ℕ → Option ℕ) (width c : ℕ) (a b : A) (mode : WhiteSpace) (x : List ℕ) (p : Progress A) → columns c ≡ Some 1 → HoldsText columns x p →
+    HoldsText columns (x ++ c ∷ []) (keep_character columns width c a b mode (Some 1) p)
 character_reads {A} columns width c a b mode x p one h =
-    cond_both (is_pre mode && passes columns width 1 p) _ _ (λ (q : Progress A). Reads columns (x ++ c ∷ []) q)
+    cond_both (is_pre mode && passes columns width 1 p) _ _ (λ (q : Progress A). HoldsText columns (x ++ c ∷ []) q)
     (λ _. join_reads columns c b mode x (record p { continuation_flag = true; in_continuation = true }) one (continuation_reads columns x p true true h)) (λ _. join_reads columns c (tag_of p a b) mode x p one h)
 
 pub character_joins : {A : Type 0} (columns : ℕ → Option ℕ) (width c : ℕ) (a b : A) (mode : WhiteSpace) (p : Progress A) →
@@ -119,9 +119,9 @@ character_joins {A} columns width c a b mode p =
     (λ _. back_has p.word (glyph c (tag_of p a b) ∷ []) refl)
 
 -- spaces up to the next multiple of eight stand behind the text
-pub tab_reads : {A : Type 0} (columns : ℕ → Option ℕ) (width : ℕ) (a : A) (x : List ℕ) (p : Progress A) → Reads columns x p → has_character p.word ≡ false →
-    length x + (8 - length x % 8) ≤ width → Reads columns (x ++ replicate (8 - length x % 8) 32) (tab width a p)
-tab_reads {A} columns width a x p h none fits = subst (λ (l : Laid A). Reads columns (x ++ replicate (8 - length x % 8) 32) (record p { laid = l })) (sym put) (record {
+pub tab_reads : {A : Type 0} (columns : ℕ → Option ℕ) (width : ℕ) (a : A) (x : List ℕ) (p : Progress A) → HoldsText columns x p → has_character p.word ≡ false →
+    length x + (8 - length x % 8) ≤ width → HoldsText columns (x ++ replicate (8 - length x % 8) 32) (tab width a p)
+tab_reads {A} columns width a x p h none fits = subst (λ (l : Laid A). HoldsText columns (x ++ replicate (8 - length x % 8) 32) (record p { laid = l })) (sym put) (record {
   done = h.done;
   width = omega (arith, h.width, ap length letters, length-append (letters_of p.laid.line) (replicate n 32), length-replicate {A = ℕ} n 32);
   word = h.word;

@@ -13,7 +13,7 @@ use Rattle.tbr_model.specs.Hard.{HasMode, Preserves, is_newline, letters_of, ent
 use Rattle.tbr_model.proofs.words.Items.{back_has, no_character_no_width, no_letters}
 use Rattle.tbr_model.proofs.rule.HardLineStart.{BeginsHardLine}
 use Rattle.tbr_model.proofs.rule.Printable.{IsVisible, prepared, entered, preserved_tab, preserved_space, preserved_visible, visible_of}
-use Rattle.tbr_model.proofs.tabs.FittingText.{Reads, lay_fits, laid_letters, flush_reads, prepared_reads, space_reads, continuation_reads, character_reads, character_joins, tab_reads}
+use Rattle.tbr_model.proofs.tabs.FittingText.{HoldsText, lay_fits, laid_letters, flush_reads, prepared_reads, space_reads, continuation_reads, character_reads, character_joins, tab_reads}
 
 -- ---- one entry
 
@@ -30,31 +30,31 @@ filled_first n c cs = go (c == 9)
     go true = ap (λ k. replicate (8 - n % 8) 32 ++ tabs_filled (n + k) cs) (sym (length-replicate {A = ℕ} (8 - n % 8) 32))
     go false = ap (λ k. c ∷ tabs_filled k cs) (let e : suc n ≡ n + 1 = omega arith in e)
 
-module _ {A : Type 0} (columns : ℕ → Option ℕ) (width : ℕ) (a b : A) (mode : WhiteSpace) (kept : mode ≢ Normal) (x : List ℕ) (p : Progress A) (h : Reads columns x p) where
-  tab_entered : length x + (8 - length x % 8) ≤ width → Reads columns (x ++ replicate (8 - length x % 8) 32) (enter columns width p (character 9 a b mode))
+module _ {A : Type 0} (columns : ℕ → Option ℕ) (width : ℕ) (a b : A) (mode : WhiteSpace) (kept : mode ≢ Normal) (x : List ℕ) (p : Progress A) (h : HoldsText columns x p) where
+  tab_entered : length x + (8 - length x % 8) ≤ width → HoldsText columns (x ++ replicate (8 - length x % 8) 32) (enter columns width p (character 9 a b mode))
   tab_entered fits =
       let ready = prepared_reads columns width 9 mode x p h (omega (arith, fits)) in
       let flushed = flush_reads columns width x (prepared columns width 9 mode p) ready (omega (arith, fits)) in
-      subst (Reads columns (x ++ replicate (8 - length x % 8) 32)) (sym (entered columns width 9 a b mode p kept ∙ preserved_tab columns width a b mode (prepared columns width 9 mode p)))
+      subst (HoldsText columns (x ++ replicate (8 - length x % 8) 32)) (sym (entered columns width 9 a b mode p kept ∙ preserved_tab columns width a b mode (prepared columns width 9 mode p)))
       (tab_reads columns width (tag_of (prepared columns width 9 mode p) a b) x (flush_word columns width (prepared columns width 9 mode p)) flushed.0 flushed.1 fits)
 
-  pub space_entered : columns 32 ≡ Some 1 → length x ≤ width → Reads columns (x ++ 32 ∷ []) (enter columns width p (character 32 a b mode))
+  pub space_entered : columns 32 ≡ Some 1 → length x ≤ width → HoldsText columns (x ++ 32 ∷ []) (enter columns width p (character 32 a b mode))
   space_entered one fits =
       let ready = prepared_reads columns width 32 mode x p h fits in
-      subst (Reads columns (x ++ 32 ∷ [])) (sym (entered columns width 32 a b mode p kept ∙ preserved_space columns width a b mode (prepared columns width 32 mode p) one))
+      subst (HoldsText columns (x ++ 32 ∷ [])) (sym (entered columns width 32 a b mode p kept ∙ preserved_space columns width a b mode (prepared columns width 32 mode p) one))
       (space_reads columns (tag_of (prepared columns width 32 mode p) a b) mode x (prepared columns width 32 mode p) one ready)
 
   pub visible_entered : (c : ℕ) → IsVisible columns c → length x ≤ width →
-      Reads columns (x ++ c ∷ []) (enter columns width p (character c a b mode)) × has_character (enter columns width p (character c a b mode)).word ≡ true
+      HoldsText columns (x ++ c ∷ []) (enter columns width p (character c a b mode)) × has_character (enter columns width p (character c a b mode)).word ≡ true
   visible_entered c v fits =
       let ready = prepared_reads columns width c mode x p h fits in
-      subst (λ (q : Progress A). Reads columns (x ++ c ∷ []) q × has_character q.word ≡ true) (sym (entered columns width c a b mode p kept ∙ preserved_visible columns width c a b mode (prepared columns width c mode p) v))
+      subst (λ (q : Progress A). HoldsText columns (x ++ c ∷ []) q × has_character q.word ≡ true) (sym (entered columns width c a b mode p kept ∙ preserved_visible columns width c a b mode (prepared columns width c mode p) v))
       (character_reads columns width c a b mode x (prepared columns width c mode p) v.one ready, character_joins columns width c a b mode (prepared columns width c mode p))
 
   abbrev Goal : ℕ → Type 0
   Goal c =
       let q = enter columns width p (character c a b mode) in
-      Reads columns (x ++ filled (length x) c) q × ((c ≢ 32) × (c ≢ 9) → has_character q.word ≡ true)
+      HoldsText columns (x ++ filled (length x) c) q × ((c ≢ 32) × (c ≢ 9) → has_character q.word ≡ true)
 
   entry_reads : (c : ℕ) → columns 32 ≡ Some 1 → (c ≡ 9) ⊎ IsPrintable columns c → length x + length (filled (length x) c) ≤ width → Goal c
   entry_reads c one (inl is) fits =
@@ -79,9 +79,9 @@ ends_on has c [] h f = f h
 ends_on has c (d ∷ cs) h f = h
 
 tabs_read : {A : Type 0} (columns : ℕ → Option ℕ) (width : ℕ) (es : List (Event A)) (x all : List ℕ) (p : Progress A) → columns 32 ≡ Some 1 → Each Preserves (run_of es) → IsTabbedLine columns (run_of es) →
-    Ends (has_character p.word) (entry_letters (run_of es)) → x ++ tabs_filled (length x) (entry_letters (run_of es)) ≡ all → length all ≤ width → Reads columns x p →
-    Reads columns all (fold (step columns width) p es) × has_character (fold (step columns width) p es).word ≡ true
-tabs_read columns width [] x all p one kept tabbed ends whole fits h = (subst (λ (t : List ℕ). Reads columns t p) (sym (append-nil x) ∙ whole) h, ends)
+    Ends (has_character p.word) (entry_letters (run_of es)) → x ++ tabs_filled (length x) (entry_letters (run_of es)) ≡ all → length all ≤ width → HoldsText columns x p →
+    HoldsText columns all (fold (step columns width) p es) × has_character (fold (step columns width) p es).word ≡ true
+tabs_read columns width [] x all p one kept tabbed ends whole fits h = (subst (λ (t : List ℕ). HoldsText columns t p) (sym (append-nil x) ∙ whole) h, ends)
 tabs_read columns width (call ∷ es) x all p one kept tabbed ends whole fits h =
     tabs_read columns width es x all (record p { in_continuation = p.continuation_flag }) one kept tabbed ends whole fits (continuation_reads columns x p p.continuation_flag p.continuation_flag h)
 tabs_read columns width (entry (marker_entry name) ∷ es) x all p one kept tabbed ends whole fits h = absurd tabbed.0
@@ -99,7 +99,7 @@ tabs_read columns width (entry (character c a b mode) ∷ es) x all p one kept t
 -- ---- the end
 
 -- nothing is read
-pub fresh_reads : {A : Type 0} (columns : ℕ → Option ℕ) (p : Progress A) → BeginsHardLine p → Reads columns [] p
+pub fresh_reads : {A : Type 0} (columns : ℕ → Option ℕ) (p : Progress A) → BeginsHardLine p → HoldsText columns [] p
 fresh_reads columns p h = record {
   done = h.done;
   width = h.width ∙ ap (λ is. length (letters_of is)) (sym h.line);
@@ -119,7 +119,7 @@ line_is {A} x l done letters has =
 pub laid_has : {A : Type 0} (columns : ℕ → Option ℕ) (p : Progress A) → has_character p.word ≡ true → has_character (lay_here columns p).laid.line ≡ true
 laid_has columns p has = back_has p.laid.line (space_text p.space ++ p.word) (back_has (space_text p.space) p.word has)
 
-pub end_reads : {A : Type 0} (columns : ℕ → Option ℕ) (width : ℕ) (x : List ℕ) (p : Progress A) → Reads columns x p → length x ≤ width → has_character p.word ≡ true → IsLine x (flush_word columns width p).laid
+pub end_reads : {A : Type 0} (columns : ℕ → Option ℕ) (width : ℕ) (x : List ℕ) (p : Progress A) → HoldsText columns x p → length x ≤ width → has_character p.word ≡ true → IsLine x (flush_word columns width p).laid
 end_reads columns width x p h fits has =
     rw has (rw (lay_fits columns width x p h fits) (line_is x (lay_here columns p).laid h.done (laid_letters columns p ∙ h.text) (laid_has columns p has)))
 

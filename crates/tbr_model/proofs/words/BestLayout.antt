@@ -8,7 +8,7 @@ use Rattle.tbr_model.proofs.lists.Joined.{joined-append}
 use Rattle.tbr_model.proofs.lists.Each.{each_append}
 use Rattle.tbr_model.proofs.layouts.Ahead.{line_width_back, greedy_best}
 use Rattle.tbr_model.specs.Greedy.{close, Lines, fill, place, place_word, no_lines, wrapped, IsNarrow}
-use Rattle.tbr_model.proofs.layouts.Greedy.{stays_by_unit, stays_by_wider, MayNotBegin, Holds, InWider, longer, holds_longer, holds_next, fill_holds, greedy_close}
+use Rattle.tbr_model.proofs.layouts.Greedy.{stays_by_unit, stays_by_wider, MayNotBegin, HoldsSlots, InWider, longer, longer_holds_slots, next_holds_slots, fill_holds_slots, greedy_close}
 
 -- ---- a word's slots
 
@@ -34,22 +34,22 @@ follows_within : {A : Type 0} (width : ℕ) (wider : Bool) (s : Slot A) → InWo
 follows_within width wider s h = rw (h.0) refl
 
 closed_first : {A : Type 0} (width : ℕ) (slots : List (Slot A)) (done : List (List (Slot A))) (last : List (Slot A)) (t : Slot A) →
-    Holds width slots (record { done = done; last = last }) → t.begins ≡ true → t.wider ≡ true → t.width ≤ width →
-    Holds width (slots ++ t ∷ []) (record { done = close done last; last = t ∷ [] })
+    HoldsSlots width slots (record { done = done; last = last }) → t.begins ≡ true → t.wider ≡ true → t.width ≤ width →
+    HoldsSlots width (slots ++ t ∷ []) (record { done = close done last; last = t ∷ [] })
 closed_first {A} width slots done [] t h begins wider narrow =
-    holds_longer width slots done [] (t ∷ []) h (record { fits = omega (arith, narrow); first = rw begins refl; others = tt })
+    longer_holds_slots width slots done [] (t ∷ []) h (record { fits = omega (arith, narrow); first = rw begins refl; others = tt })
 closed_first {A} width slots done (s ∷ last) t h begins wider narrow =
-    holds_next width slots done (s ∷ last) (t ∷ []) (omega arith) h
+    next_holds_slots width slots done (s ∷ last) (t ∷ []) (omega arith) h
     (stays_by_wider width (s ∷ last) t [] (omega arith) (rw (begins, wider) refl))
     (record { fits = omega (arith, narrow); first = rw begins refl; others = tt })
 
 -- the word's slots, as `place` sees them: the first, and those inside
 pub place_holds : {A : Type 0} (width : ℕ) (slots : List (Slot A)) (lines : Lines A) (wider : Bool) (t : Slot A) (v : List (Slot A)) →
-    Holds width slots lines → t.begins ≡ true → t.wider ≡ wider → t.width ≤ width → Each (InWord width wider) v →
-    nat_lt width (line_width (t ∷ v)) ≡ wider → Holds width (slots ++ (t ∷ v)) (place width lines wider (t ∷ v))
+    HoldsSlots width slots lines → t.begins ≡ true → t.wider ≡ wider → t.width ≤ width → Each (InWord width wider) v →
+    nat_lt width (line_width (t ∷ v)) ≡ wider → HoldsSlots width (slots ++ (t ∷ v)) (place width lines wider (t ∷ v))
 place_holds {A} width slots lines wider t v h begins is_wider narrow inside test =
-    cond_both (nat_le (line_width (lines.last ++ (t ∷ v))) width) _ _ (Holds width (slots ++ (t ∷ v)))
-    (λ e. fitting (leb-true _ _ e)) (λ e. cond_both wider _ _ (Holds width (slots ++ (t ∷ v))) (too_wide (leb-false _ _ e)) (next (leb-false _ _ e)))
+    cond_both (nat_le (line_width (lines.last ++ (t ∷ v))) width) _ _ (HoldsSlots width (slots ++ (t ∷ v)))
+    (λ e. fitting (leb-true _ _ e)) (λ e. cond_both wider _ _ (HoldsSlots width (slots ++ (t ∷ v))) (too_wide (leb-false _ _ e)) (next (leb-false _ _ e)))
   where
     follow : Each MayFollow v
     follow = each_weaker (InWord width wider) MayFollow (follows_within width wider) v inside
@@ -63,22 +63,22 @@ place_holds {A} width slots lines wider t v h begins is_wider narrow inside test
     legal_word : line_width (t ∷ v) ≤ width → IsLegalLine width (t ∷ v)
     legal_word n = record { fits = n; first = starts; others = follow }
 
-    on : (last : List (Slot A)) → Holds width slots (record { done = lines.done; last = last }) → line_width (last ++ (t ∷ v)) ≤ width → IsLegalLine width (last ++ (t ∷ v))
+    on : (last : List (Slot A)) → HoldsSlots width slots (record { done = lines.done; last = last }) → line_width (last ++ (t ∷ v)) ≤ width → IsLegalLine width (last ++ (t ∷ v))
     on [] k n = legal_word n
     on (s ∷ last) k n =
         longer width (s ∷ last) (t ∷ v) (omega arith) k.legal n
         ((let w : t.wider ≡ false = is_wider ∙ narrow_word (omega (arith, n, line_width_back (s ∷ last) (t ∷ v))) in rw (begins, w) refl), follow)
 
-    fitting : line_width (lines.last ++ (t ∷ v)) ≤ width → Holds width (slots ++ (t ∷ v)) (record { done = lines.done; last = lines.last ++ (t ∷ v) })
-    fitting n = holds_longer width slots lines.done lines.last (t ∷ v) h (on lines.last h n)
+    fitting : line_width (lines.last ++ (t ∷ v)) ≤ width → HoldsSlots width (slots ++ (t ∷ v)) (record { done = lines.done; last = lines.last ++ (t ∷ v) })
+    fitting n = longer_holds_slots width slots lines.done lines.last (t ∷ v) h (on lines.last h n)
 
     to_wider : wider ≡ true → (s : Slot A) → InWord width wider s → InWider width s
     to_wider e s i = (i.0, i.1 ∙ e, i.2)
 
-    too_wide : width < line_width (lines.last ++ (t ∷ v)) → wider ≡ true → Holds width (slots ++ (t ∷ v)) (fill width (close lines.done lines.last) [] (t ∷ v))
+    too_wide : width < line_width (lines.last ++ (t ∷ v)) → wider ≡ true → HoldsSlots width (slots ++ (t ∷ v)) (fill width (close lines.done lines.last) [] (t ∷ v))
     too_wide n e =
         let first : nat_le (line_width ([] ++ (t ∷ []))) width ≡ true = le-leb _ _ (omega (arith, narrow)) in
-        rw first (rw append_assoc at (fill_holds width (slots ++ t ∷ []) (close lines.done lines.last) (t ∷ []) v (omega arith)
+        rw first (rw append_assoc at (fill_holds_slots width (slots ++ t ∷ []) (close lines.done lines.last) (t ∷ []) v (omega arith)
         (closed_first width slots lines.done lines.last t h begins (is_wider ∙ e) narrow)
         (each_weaker (InWord width wider) (InWider width) (to_wider e) v inside)))
 
@@ -89,20 +89,20 @@ place_holds {A} width slots lines wider t v h begins is_wider narrow inside test
     some [] n m = absurd (omega arith)
     some (s ∷ last) n m = omega arith
 
-    next : width < line_width (lines.last ++ (t ∷ v)) → wider ≡ false → Holds width (slots ++ (t ∷ v)) (record { done = lines.done ++ lines.last ∷ []; last = t ∷ v })
+    next : width < line_width (lines.last ++ (t ∷ v)) → wider ≡ false → HoldsSlots width (slots ++ (t ∷ v)) (record { done = lines.done ++ lines.last ∷ []; last = t ∷ v })
     next n e =
         let m : line_width (t ∷ v) ≤ width = ltb-false _ _ (test ∙ e) in
-        holds_next width slots lines.done lines.last (t ∷ v) (some lines.last n m) h
+        next_holds_slots width slots lines.done lines.last (t ∷ v) (some lines.last n m) h
         (stays_by_unit width lines.last t v n (each_weaker (InWord width wider) MayNotBegin (cannot_begin e) v inside)) (legal_word m)
 
 -- ---- all words
 
 pub place_word_holds : {A : Type 0} (columns : ℕ → Option ℕ) (width : ℕ) (slots : List (Slot A)) (lines : Lines A) (gap : Option A) (is : List (Item A)) →
-    Holds width slots lines → IsNarrow columns width is →
-    Holds width (slots ++ word_slots columns width (record { gap = gap; items = is })) (place_word columns width lines (record { gap = gap; items = is }))
+    HoldsSlots width slots lines → IsNarrow columns width is →
+    HoldsSlots width (slots ++ word_slots columns width (record { gap = gap; items = is })) (place_word columns width lines (record { gap = gap; items = is }))
 place_word_holds columns width slots lines gap [] h narrow =
     let e : nat_le (line_width (lines.last ++ [])) width ≡ true = le-leb _ _ (omega (arith, h.legal.fits, ap line_width (append-nil lines.last))) in
-    rw e (holds_longer width slots lines.done lines.last [] h (rw append-nil h.legal))
+    rw e (longer_holds_slots width slots lines.done lines.last [] h (rw append-nil h.legal))
 place_word_holds columns width slots lines gap (i ∷ is) h narrow =
     let wider = nat_lt width (items_width columns (i ∷ is)) in
     place_holds width slots lines wider (slot_of columns wider gap true i) (map (slot_of columns wider None false) is)
@@ -110,15 +110,15 @@ place_word_holds columns width slots lines gap (i ∷ is) h narrow =
     (ap (nat_lt width) (ap (λ n. item_width columns i + n) (rest_width_within columns wider is)))
 
 fold_holds : {A : Type 0} (columns : ℕ → Option ℕ) (width : ℕ) (words : List (Word A)) (slots : List (Slot A)) (lines : Lines A) →
-    Holds width slots lines → Each (λ w. IsNarrow columns width w.items) words →
-    Holds width (slots ++ flat_map (word_slots columns width) words) (fold (place_word columns width) lines words)
+    HoldsSlots width slots lines → Each (λ w. IsNarrow columns width w.items) words →
+    HoldsSlots width (slots ++ flat_map (word_slots columns width) words) (fold (place_word columns width) lines words)
 fold_holds columns width [] slots lines h narrow = rw append-nil h
 fold_holds columns width (w ∷ words) slots lines h narrow =
     rw append_assoc at (fold_holds columns width words (slots ++ word_slots columns width w) (place_word columns width lines w)
     (place_word_holds columns width slots lines w.gap w.items h narrow.0) narrow.1)
 
 pub wrapped_holds : {A : Type 0} (columns : ℕ → Option ℕ) (width : ℕ) (words : List (Word A)) → Each (λ w. IsNarrow columns width w.items) words →
-    Holds width (flat_map (word_slots columns width) words) (wrapped columns width words)
+    HoldsSlots width (flat_map (word_slots columns width) words) (wrapped columns width words)
 wrapped_holds columns width words narrow =
     fold_holds columns width words [] no_lines (record { whole = refl; each = tt; full = tt; closed = tt; legal = record { fits = omega arith; first = tt; others = tt } }) narrow
 
@@ -135,7 +135,7 @@ full_close ls [] h = h
 full_close ls (x ∷ l) h = each_append (λ l. 0 < length l) ls ((x ∷ l) ∷ []) h ((let p : 0 < length (x ∷ l) = omega arith in p), tt)
 
 -- the lines, the open one closed, are the best
-pub holds_best : {A : Type 0} (width : ℕ) (slots : List (Slot A)) (lines : Lines A) → Holds width slots lines → IsBest width slots (close lines.done lines.last)
+pub holds_best : {A : Type 0} (width : ℕ) (slots : List (Slot A)) (lines : Lines A) → HoldsSlots width slots lines → IsBest width slots (close lines.done lines.last)
 holds_best width slots lines h =
     greedy_best width slots (close lines.done lines.last)
     (record { whole = joined_close lines.done lines.last ∙ h.whole; each = each_close (IsLegalLine width) lines.done lines.last h.each h.legal })

@@ -1,5 +1,5 @@
 -- Entries in memory, one after another.
-use Rattle.std.proofs.Common.{◌≡◌, ℕ, ◌+◌, ◌-◌, ◌<◌, ◌||◌, Bool, true, false, Some, option_map, List, [], ◌∷◌, ◌++◌, length, take, drop, get_or, slice_get, slice_range, refl, ap, sym, ◌∙◌}
+use Rattle.std.proofs.Common.{◌≡◌, ℕ, ◌+◌, ◌-◌, ◌<◌, ◌||◌, Bool, Some, option_map, List, [], ◌∷◌, ◌++◌, length, take, drop, get_or, slice_get, slice_range, refl, ap, sym, ◌∙◌}
 use Rattle.std.specs.List.{list_any}
 use Rattle.std.proofs.lemmas.List.{take-map, drop-map, take_rest, map-append}
 use Rattle.std.proofs.Math.Bool.{or-false}

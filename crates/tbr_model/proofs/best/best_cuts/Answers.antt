@@ -4,7 +4,7 @@ use Rattle.tbr_model.specs.Longest.{TellsRests, IsLongestLine}
 use Rattle.tbr_model.specs.Slot.{slot_value, slot_values}
 use Rattle.tbr_model.proofs.layouts.LongestLines.{tells_later}
 use Rattle.tbr_model.proofs.layouts.StoredSlots.{slot_values_rest}
-use Rattle.tbr_model.proofs.layouts.BestCuts.{walk_on, walk_ends}
+use Rattle.tbr_model.proofs.layouts.BestCuts.{next_cut, last_cut}
 use Rattle.tbr_model.proofs.best.best_cuts.Goals as goal
 
 pub longest_line-requires : goal.longest_line-requires
@@ -32,9 +32,9 @@ loop-from-preserved g c =
     let from = c.loop-from.from in
     let line : IsLongestLine c.args.width (drop from slots) c.in-Some.end = rw (slot_values_rest xs from) at c.in-Some.ensures in
     let cuts : c.push-in-loop-from.new.self.items ≡ c.loop-from.cuts.items ++ (from + c.in-Some.end) ∷ [] = c.in_ok-push-2.ensures.items in
-    rw cuts (walk_on c.args.width slots c.loop-from.cuts.items from c.in-Some.end c.loop-from.invariant line)
+    rw cuts (next_cut c.args.width slots c.loop-from.cuts.items from c.in-Some.end c.loop-from.invariant line)
 
 pub returns : goal.returns
 returns g c =
     let xs = c.args.slots.now in
-    walk_ends c.args.width (slot_values xs) c.loop-from.cuts.items c.loop-from.from c.loop-from.invariant (omega (arith, length-map xs slot_value, c.loop-from-test.false))
+    last_cut c.args.width (slot_values xs) c.loop-from.cuts.items c.loop-from.from c.loop-from.invariant (omega (arith, length-map xs slot_value, c.loop-from-test.false))

@@ -6,4 +6,4 @@ use Rattle.tbr_model.proofs.word.is_wider.Given as goal
 abbrev pub invariant-loop-entry : goal.invariant-loop-entry
 invariant-loop-entry g l =
     let columns = g.W.CharWidth.columns in
-    l.columns + items_width columns (kept_items columns (entry_values (drop l.entry-index l.entries))) ≡ items_width columns (kept_items columns (entry_values l.entries))
+    l.taken + items_width columns (kept_items columns (entry_values (drop l.entry-index l.entries))) ≡ items_width columns (kept_items columns (entry_values l.entries))
