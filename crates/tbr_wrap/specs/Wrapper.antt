@@ -1,5 +1,5 @@
 -- What the fields of a wrapper say of the pending space and of the word under way.
-use Rattle.std.specs.Prelude.{◌≡◌, ℕ, Bool, true, Option, None, Some, List, [], ◌++◌}
+use Rattle.std.specs.Prelude.{◌≡◌, ℕ, Bool, true, Option, None, Some, List, [], ◌++◌, Result, OnOk}
 use Rattle.std.specs.List.{AllZip, AllByRecursion as Each}
 use Rattle.tbr_model.specs.Run.{Item, items_width, Entry}
 use Rattle.tbr_model.specs.Rule.{Event, run_of, Space, Progress, at_start, progress, finished, waiting}
@@ -12,16 +12,17 @@ use Rattle.tbr_wrap.specs.declared.wrapper.Space.{Space as HeldSpace}
 -- spaces of as many columns and one mode, under equal tags
 abbrev pub SameSpace : {A : Type 0} → (A → A → Bool) → Option (HeldSpace A) → Option (Space A) → Type 0
 SameSpace eq None None = Unit {0}
-SameSpace eq (Some s) (Some t) = (s.columns ≡ t.width) × (eq s.tag t.tag ≡ true) × (s.mode ≡ t.mode)
+SameSpace eq (Some s) (Some t) = (s.width ≡ t.width) × (eq s.tag t.tag ≡ true) × (s.mode ≡ t.mode)
 SameSpace eq None (Some t) = ⊥
 SameSpace eq (Some s) None = ⊥
 
-abbrev pub held_columns : {A : Type 0} → Option (HeldSpace A) → ℕ
-held_columns None = 0
-held_columns (Some s) = s.columns
+abbrev pub held_width : {A : Type 0} → Option (HeldSpace A) → ℕ
+held_width None = 0
+held_width (Some s) = s.width
 
 -- The wrapper stands where the rule stands.
-pub record IsAtProgress {A : Type 0} (columns : ℕ → Option ℕ) (eq : A → A → Bool) (b : Wrapper A) (before given : List (List (Item A))) (p : Progress A) : Type 0 where
+pub record IsAtProgress {A : Type 0} (columns : ℕ → Option ℕ) (eq : A → A → Bool) (b : Wrapper A)
+    (before given : List (List (Item A))) (p : Progress A) : Type 0 where
   pub lays : HoldsRule columns eq b.lines before given p.laid
   pub space : SameSpace eq b.space p.space
   pub word : SameItems eq b.lines.flat.word p.word
@@ -30,9 +31,26 @@ pub record IsAtProgress {A : Type 0} (columns : ℕ → Option ℕ) (eq : A → 
   pub continuation_flag : b.continuation_flag ≡ p.continuation_flag
   pub in_continuation : b.in_continuation ≡ p.in_continuation
 
--- The run has ended: the lines of it that weren't handed out stand behind those of earlier runs, and a run can begin with the
--- markers that wait.
-pub record RunIsFinished {A : Type 0} (columns : ℕ → Option ℕ) (eq : A → A → Bool) (b c : Wrapper A) (before given : List (List (Item A))) (p : Progress A) : Type 0 where
+-- The rule stands somewhere.
+abbrev pub IsUnderWay : {A : Type 0} → (ℕ → Option ℕ) → (A → A → Bool) → Wrapper A → Type 0
+IsUnderWay {A} columns eq b = (before : List (List (Item A))) × (given : List (List (Item A))) × (p : Progress A)
+    × IsAtProgress columns eq b before given p
+
+-- wherever the rule stands
+abbrev pub Wherever : {A : Type 0} → (ℕ → Option ℕ) → (A → A → Bool) → Wrapper A → (Progress A → Type 0) → Type 0
+Wherever {A} columns eq b Q = (before given : List (List (Item A))) (p : Progress A) →
+    IsAtProgress columns eq b before given p → Q p
+
+-- Wherever the rule stands, a call that succeeds leads to where `f` leads.
+abbrev pub WrapperFollows : {A X E : Type 0} → (ℕ → Option ℕ) → (A → A → Bool) → Wrapper A → Wrapper A → Result X E →
+    (Progress A → Progress A) → Type 0
+WrapperFollows {A} columns eq b c result f = (before given : List (List (Item A))) (p : Progress A) →
+    IsAtProgress columns eq b before given p → OnOk result (IsAtProgress columns eq c before given (f p))
+
+-- The run has ended: the lines of it that weren't handed out stand behind those of earlier runs, and a run can begin
+-- with the markers that wait.
+pub record RunIsFinished {A : Type 0} (columns : ℕ → Option ℕ) (eq : A → A → Bool) (b c : Wrapper A)
+    (before given : List (List (Item A))) (p : Progress A) : Type 0 where
   pub now : List (List (Item A))
   pub rest : List (List (Item A))
   pub split : (finished columns b.lines.width p).done ≡ given ++ rest

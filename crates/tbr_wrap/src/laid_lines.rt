@@ -11,10 +11,11 @@ use std::collections::VecDeque;
 use tbr_model::CharWidth;
 use tbr_tagged::{Error, OutOfMemory, TaggedLine};
 
-/// Tab stops stand every so many columns.
+/// How many columns tab stops are apart.
 const TAB_STOP: usize = 8;
 
-/// The items of a block that aren't handed out: those of its ended lines, those of the open line, and behind them the word's.
+/// The items of a block that aren't handed out: those of its ended lines, those of the open line, and behind them the
+/// word's.
 #[derive(Drop)]
 pub struct LaidLines<T> {
     /// The columns of a line.
@@ -60,15 +61,15 @@ impl<T: Eq + Clone> LaidLines<T> {
     ghost use Rattle.tbr_model.specs.Laid.{Laid, extended, end_line, end_if_character, end_if_columns, put_item, put_items};
     ghost use Rattle.tbr_model.specs.Rule.{spaces, trimmed, without_leading, put_spaces, put_tab};
     ghost use Rattle.tbr_model.specs.Greedy.{IsNarrow};
-    ghost use Rattle.tbr_wrap.specs.LaidLines.{HoldsLaid, HoldsRule, HoldsRuleBefore, KeepsLimits, LeavesAfterLine};
+    ghost use Rattle.tbr_wrap.specs.LaidLines.{HoldsLaid, HoldsRule, HoldsRuleBefore, LinesFollow, FirstIsGone, KeepsLimits, LeavesAfterLine};
     ghost use Rattle.tbr_tagged.specs.Elements.{Element, items_of, IsMerged, SameItem};
     ghost use Rattle.tbr_tagged.specs.declared.error.Error.TheVariants as E;
 
     /// Ends the open line.
     pub fn end_line(&mut self) -> Result<(), OutOfMemory>
-        ensures held { (before : List (List (Item T))) (l : Laid T) → HoldsLaid self.old before l → OnOk result (HoldsLaid self.new before (end_line l)) }
-        ensures ended { (columns : ℕ → Option ℕ) (before given : List (List (Item T))) (r : Laid T) → HoldsRule columns T.eq self.old before given r →
-            OnOk result (HoldsRule columns T.eq self.new before given (end_line r)) }
+        ensures held { (before : List (List (Item T))) (l : Laid T) → HoldsLaid self.old before l →
+            OnOk result (HoldsLaid self.new before (end_line l)) }
+        ensures ended { (columns : ℕ → Option ℕ) → LinesFollow columns T.eq self.old self.new result end_line }
         ensures flat { self.new.flat ≡ self.old.flat }
         ensures limits { KeepsLimits self.old self.new }
         ensures line_width { OnOk result (self.new.line_width ≡ 0) }
@@ -81,14 +82,16 @@ impl<T: Eq + Clone> LaidLines<T> {
 
     /// Whether the open line has a character.
     pub fn has_line(&self) -> bool
-        ensures { (before : List (List (Item T))) (l : Laid T) → HoldsLaid self.now before l → result ≡ has_character l.line }
+        ensures { (before : List (List (Item T))) (l : Laid T) → HoldsLaid self.now before l →
+            result ≡ has_character l.line }
     {
         self.flat.has_character(self.line_len)
     }
 
     /// Ends the open line, if it has a character.
     pub fn end_if_character(&mut self) -> Result<(), OutOfMemory>
-        ensures ended { (columns : ℕ → Option ℕ) (before given : List (List (Item T))) (r : Laid T) → HoldsRule columns T.eq self.old before given r →
+        ensures ended { (columns : ℕ → Option ℕ) (before given : List (List (Item T))) (r : Laid T) →
+            HoldsRule columns T.eq self.old before given r →
             OnOk result (HoldsRule columns T.eq self.new before given (end_if_character r) × (self.new.line_width ≡ 0)) }
         ensures flat { self.new.flat ≡ self.old.flat }
         ensures limits { KeepsLimits self.old self.new }
@@ -102,8 +105,7 @@ impl<T: Eq + Clone> LaidLines<T> {
 
     /// Ends the open line, if it has columns.
     fn end_if_columns(&mut self) -> Result<(), OutOfMemory>
-        ensures ended { (columns : ℕ → Option ℕ) (before given : List (List (Item T))) (r : Laid T) → HoldsRule columns T.eq self.old before given r →
-            OnOk result (HoldsRule columns T.eq self.new before given (end_if_columns r)) }
+        ensures ended { (columns : ℕ → Option ℕ) → LinesFollow columns T.eq self.old self.new result end_if_columns }
         ensures flat { self.new.flat ≡ self.old.flat }
         ensures limits { KeepsLimits self.old self.new }
         ensures line_width { OnOk result (self.new.line_width ≡ 0) }
@@ -114,14 +116,14 @@ impl<T: Eq + Clone> LaidLines<T> {
         self.end_line()
     }
 
-    /// Puts the word's first item on the open line, where it takes so many columns.
-    fn place_first(&mut self, columns: usize) -> Result<(), OutOfMemory>
+    /// Puts the word's first item, of `width` columns, on the open line.
+    fn place_first(&mut self, width: usize) -> Result<(), OutOfMemory>
         requires some { 0 < length self.old.flat.word }
-        requires room { self.old.line_width + columns ≤ self.old.width }
-        ensures word { OnOk result ((i : Item T) × (rest : List (Item T)) × (self.old.flat.word ≡ i ∷ rest) × (self.new.flat.word ≡ rest)) }
-        ensures placed { (widths : ℕ → Option ℕ) (before given : List (List (Item T))) (r : Laid T) (i j : Item T) (rest : List (Item T)) → HoldsRule widths T.eq self.old before given r →
-            self.old.flat.word ≡ i ∷ rest → SameItem T.eq i j → item_width widths j ≡ columns →
-            OnOk result (HoldsRule widths T.eq self.new before given (extended r (j ∷ []) (item_width widths j))) }
+        requires room { self.old.line_width + width ≤ self.old.width }
+        ensures word { OnOk result (FirstIsGone self.old.flat.word self.new.flat.word) }
+        ensures placed { (columns : ℕ → Option ℕ) (i j : Item T) (rest : List (Item T)) →
+            self.old.flat.word ≡ i ∷ rest → SameItem T.eq i j → item_width columns j ≡ width →
+            LinesFollow columns T.eq self.old self.new result (λ r. extended r (j ∷ []) (item_width columns j)) }
         ensures limits { KeepsLimits self.old self.new }
     {
         let Some(line_len) = self.line_len.checked_add(1) else {
@@ -129,7 +131,7 @@ impl<T: Eq + Clone> LaidLines<T> {
         };
         self.flat.place_first()?;
         self.line_len = line_len;
-        self.line_width += columns;
+        self.line_width += width;
         Ok(())
     }
 
@@ -138,10 +140,11 @@ impl<T: Eq + Clone> LaidLines<T> {
         requires some { 0 < length self.old.flat.word }
         requires blank { self.old.line_width ≡ 0 }
         requires may { self.old.may_overflow ≡ true }
-        ensures word { OnOk result ((i : Item T) × (rest : List (Item T)) × (self.old.flat.word ≡ i ∷ rest) × (self.new.flat.word ≡ rest)) }
-        ensures placed { (widths : ℕ → Option ℕ) (before given : List (List (Item T))) (r : Laid T) (i j : Item T) (rest : List (Item T)) → HoldsRule widths T.eq self.old before given r →
-            self.old.flat.word ≡ i ∷ rest → SameItem T.eq i j → self.old.width < item_width widths j →
-            OnOk result (HoldsRule widths T.eq self.new before given (end_line (extended r (j ∷ []) (item_width widths j)))) }
+        ensures word { OnOk result (FirstIsGone self.old.flat.word self.new.flat.word) }
+        ensures placed { (columns : ℕ → Option ℕ) (i j : Item T) (rest : List (Item T)) →
+            self.old.flat.word ≡ i ∷ rest → SameItem T.eq i j → self.old.width < item_width columns j →
+            LinesFollow columns T.eq self.old self.new result (λ r.
+            end_line (extended r (j ∷ []) (item_width columns j))) }
         ensures limits { KeepsLimits self.old self.new }
     {
         let Some(line_len) = self.line_len.checked_add(1) else {
@@ -153,13 +156,15 @@ impl<T: Eq + Clone> LaidLines<T> {
         Ok(())
     }
 
-    /// Puts the word's first item, which is wider than a line: behind items of no width, on a line that is ended at once.
+    /// Puts the word's first item, which is wider than a line: behind items of no width, on a line that is ended at
+    /// once.
     fn put_wide(&mut self) -> Result<(), Error>
         requires some { 0 < length self.old.flat.word }
-        ensures put { (widths : ℕ → Option ℕ) (before given : List (List (Item T))) (r : Laid T) (i j : Item T) (rest : List (Item T)) → HoldsRule widths T.eq self.old before given r →
-            self.old.flat.word ≡ i ∷ rest → SameItem T.eq i j → self.old.width < item_width widths j →
-            OnOk result (HoldsRule widths T.eq self.new before given (end_line (extended (end_if_columns r) (j ∷ []) (item_width widths j)))) }
-        ensures word { OnOk result ((i : Item T) × (rest : List (Item T)) × (self.old.flat.word ≡ i ∷ rest) × (self.new.flat.word ≡ rest)) }
+        ensures put { (columns : ℕ → Option ℕ) (i j : Item T) (rest : List (Item T)) →
+            self.old.flat.word ≡ i ∷ rest → SameItem T.eq i j → self.old.width < item_width columns j →
+            LinesFollow columns T.eq self.old self.new result (λ r.
+            end_line (extended (end_if_columns r) (j ∷ []) (item_width columns j))) }
+        ensures word { OnOk result (FirstIsGone self.old.flat.word self.new.flat.word) }
         ensures too_narrow { result ≡ Err E.TooNarrow → self.old.may_overflow ≡ false }
         ensures limits { KeepsLimits self.old self.new }
     {
@@ -171,46 +176,49 @@ impl<T: Eq + Clone> LaidLines<T> {
         Ok(())
     }
 
-    /// Puts the first item of a word, which takes so many columns: on the open line, or on a fresh one where it doesn't fit.
-    fn put_first(&mut self, columns: usize) -> Result<(), Error>
+    /// Puts the word's first item, of `width` columns: on the open line, or on a fresh one where it doesn't fit.
+    fn put_first(&mut self, width: usize) -> Result<(), Error>
         requires some { 0 < length self.old.flat.word }
-        ensures put { (widths : ℕ → Option ℕ) (before given : List (List (Item T))) (r : Laid T) (i j : Item T) (rest : List (Item T)) → HoldsRule widths T.eq self.old before given r →
-            self.old.flat.word ≡ i ∷ rest → SameItem T.eq i j → item_width widths j ≡ columns → OnOk result (HoldsRule widths T.eq self.new before given (put_item widths self.old.width r j)) }
-        ensures word { OnOk result ((i : Item T) × (rest : List (Item T)) × (self.old.flat.word ≡ i ∷ rest) × (self.new.flat.word ≡ rest)) }
-        ensures too_narrow { result ≡ Err E.TooNarrow → (self.old.may_overflow ≡ false) × (self.old.width < columns) }
+        ensures put { (columns : ℕ → Option ℕ) (i j : Item T) (rest : List (Item T)) →
+            self.old.flat.word ≡ i ∷ rest → SameItem T.eq i j → item_width columns j ≡ width →
+            LinesFollow columns T.eq self.old self.new result (λ r. put_item columns self.old.width r j) }
+        ensures word { OnOk result (FirstIsGone self.old.flat.word self.new.flat.word) }
+        ensures too_narrow { result ≡ Err E.TooNarrow → (self.old.may_overflow ≡ false) × (self.old.width < width) }
         ensures limits { KeepsLimits self.old self.new }
     {
-        if columns > self.width {
+        if width > self.width {
             return self.put_wide();
         }
-        if columns <= self.width - self.line_width {
-            self.place_first(columns)?;
+        if width <= self.width - self.line_width {
+            self.place_first(width)?;
             return Ok(());
         }
         self.end_line()?;
-        self.place_first(columns)?;
+        self.place_first(width)?;
         Ok(())
     }
 
     /// Puts the items of a word, one by one.
     pub fn put_word<W: CharWidth>(&mut self) -> Result<(), Error>
-        ensures put { (before given : List (List (Item T))) (r : Laid T) (js : List (Item T)) → HoldsRule W.columns T.eq self.old before given r → SameItems T.eq self.old.flat.word js →
-            OnOk result (HoldsRule W.columns T.eq self.new before given (put_items W.columns self.old.width r js)) }
+        ensures put { (js : List (Item T)) → SameItems T.eq self.old.flat.word js →
+            LinesFollow W.columns T.eq self.old self.new result (λ r. put_items W.columns self.old.width r js) }
         ensures word { OnOk result (self.new.flat.word ≡ []) }
-        ensures too_narrow { result ≡ Err E.TooNarrow → (self.old.may_overflow ≡ false) × ¬ (IsNarrow W.columns self.old.width self.old.flat.word) }
+        ensures too_narrow { result ≡ Err E.TooNarrow →
+            (self.old.may_overflow ≡ false) × ¬ (IsNarrow W.columns self.old.width self.old.flat.word) }
         ensures limits { KeepsLimits self.old self.new }
     {
-        while let Some(columns) = self.flat.first_width::<W>() {
-            self.put_first(columns)?;
+        while let Some(width) = self.flat.first_width::<W>() {
+            self.put_first(width)?;
         }
         Ok(())
     }
 
-    /// Puts the word, which takes so many columns, on the open line.
-    pub fn place_word(&mut self, columns: usize) -> Result<(), OutOfMemory>
-        requires room { self.old.line_width + columns ≤ self.old.width }
-        ensures placed { (widths : ℕ → Option ℕ) (before given : List (List (Item T))) (r : Laid T) (js : List (Item T)) → HoldsRule widths T.eq self.old before given r → SameItems T.eq self.old.flat.word js →
-            items_width widths js ≡ columns → OnOk result (HoldsRule widths T.eq self.new before given (extended r js (items_width widths js))) }
+    /// Puts the word, of `width` columns, on the open line.
+    pub fn place_word(&mut self, width: usize) -> Result<(), OutOfMemory>
+        requires room { self.old.line_width + width ≤ self.old.width }
+        ensures placed { (columns : ℕ → Option ℕ) (js : List (Item T)) →
+            SameItems T.eq self.old.flat.word js → items_width columns js ≡ width →
+            LinesFollow columns T.eq self.old self.new result (λ r. extended r js (items_width columns js)) }
         ensures word { OnOk result (self.new.flat.word ≡ []) }
         ensures limits { KeepsLimits self.old self.new }
     {
@@ -220,19 +228,19 @@ impl<T: Eq + Clone> LaidLines<T> {
         };
         self.flat.place_word()?;
         self.line_len = line_len;
-        self.line_width += columns;
+        self.line_width += width;
         Ok(())
     }
 
-    /// Puts spaces on the open line.
+    /// Puts `count` spaces on the open line.
     pub fn place_spaces(&mut self, count: usize, tag: T) -> Result<(), OutOfMemory>
     where
         T: Drop,
         requires faithful { CopiesAreEqual T.is_clone T.eq }
         requires some { 0 < count }
         requires room { self.old.line_width + count ≤ self.old.width }
-        ensures placed { (widths : ℕ → Option ℕ) (before given : List (List (Item T))) (r : Laid T) (a : T) → widths 32 ≡ Some 1 → HoldsRule widths T.eq self.old before given r → T.eq tag a ≡ true →
-            OnOk result (HoldsRule widths T.eq self.new before given (extended r (spaces count a) count)) }
+        ensures placed { (columns : ℕ → Option ℕ) (a : T) → columns 32 ≡ Some 1 → T.eq tag a ≡ true →
+            LinesFollow columns T.eq self.old self.new result (λ r. extended r (spaces count a) count) }
         ensures word { OnOk result (SameItems T.eq self.new.flat.word self.old.flat.word) }
         ensures line_width { OnOk result (self.new.line_width ≡ self.old.line_width + count) }
         ensures limits { KeepsLimits self.old self.new }
@@ -246,12 +254,15 @@ impl<T: Eq + Clone> LaidLines<T> {
         Ok(())
     }
 
-    /// Takes so many spaces, which are placed behind the open line, onto it, and ends it if they fill it.
+    /// Takes `count` spaces, which are placed behind the open line, onto it, and ends it if they fill it.
     fn take_spaces(&mut self, count: usize) -> Result<(), OutOfMemory>
         requires some { 0 < count }
         requires room { self.old.line_width + count ≤ self.old.width }
-        ensures taken { (widths : ℕ → Option ℕ) (before given : List (List (Item T))) (r : Laid T) (a b : T) (behind : List (Item T)) → widths 32 ≡ Some 1 → T.eq b a ≡ true →
-            HoldsRuleBefore widths T.eq self.old before given r (spaces count b ++ behind) → OnOk result (HoldsRuleBefore widths T.eq self.new before given (put_spaces self.old.width a count r) behind) }
+        ensures taken { (columns : ℕ → Option ℕ) (a b : T) → columns 32 ≡ Some 1 → T.eq b a ≡ true →
+            (before given : List (List (Item T))) (r : Laid T) (behind : List (Item T)) →
+            HoldsRuleBefore columns T.eq self.old before given r (spaces count b ++ behind) →
+            OnOk result (HoldsRuleBefore columns T.eq self.new before given
+            (put_spaces self.old.width a count r) behind) }
         ensures flat { self.new.flat ≡ self.old.flat }
         ensures room { OnOk result (self.new.line_width < self.new.width) }
         ensures limits { KeepsLimits self.old self.new }
@@ -270,15 +281,16 @@ impl<T: Eq + Clone> LaidLines<T> {
         Ok(())
     }
 
-    /// Puts spaces on the open line, which has room, and on the next ones. A line that they fill is ended. The word is moved once.
+    /// Puts `count` spaces on the open line, which has room, and on the next ones. A line that they fill is ended. The
+    /// word is moved once.
     pub fn put_spaces(&mut self, count: usize, tag: T) -> Result<(), OutOfMemory>
     where
         T: Drop,
         requires faithful { CopiesAreEqual T.is_clone T.eq }
         requires some { 0 < count }
         requires room { self.old.line_width < self.old.width }
-        ensures put { (widths : ℕ → Option ℕ) (before given : List (List (Item T))) (r : Laid T) (a : T) → widths 32 ≡ Some 1 → HoldsRule widths T.eq self.old before given r → T.eq tag a ≡ true →
-            OnOk result (HoldsRule widths T.eq self.new before given (put_spaces self.old.width a count r)) }
+        ensures put { (columns : ℕ → Option ℕ) (a : T) → columns 32 ≡ Some 1 → T.eq tag a ≡ true →
+            LinesFollow columns T.eq self.old self.new result (put_spaces self.old.width a count) }
         ensures word { OnOk result (SameItems T.eq self.new.flat.word self.old.flat.word) }
         ensures limits { KeepsLimits self.old self.new }
     {
@@ -292,15 +304,15 @@ impl<T: Eq + Clone> LaidLines<T> {
         Ok(())
     }
 
-    /// Puts spaces from a column up to the next tab stop, or up to the end of the line, which is then ended.
+    /// Puts spaces from `column` up to the next tab stop, or up to the end of the line, which is then ended.
     pub fn put_tab(&mut self, column: usize, tag: &T) -> Result<(), OutOfMemory>
     where
         T: Drop,
         requires faithful { CopiesAreEqual T.is_clone T.eq }
         requires within { column < self.old.width }
         requires behind { self.old.line_width ≤ column }
-        ensures put { (columns : ℕ → Option ℕ) (before given : List (List (Item T))) (r : Laid T) (a : T) → columns 32 ≡ Some 1 → T.eq tag.now a ≡ true → HoldsRule columns T.eq self.old before given r →
-            OnOk result (HoldsRule columns T.eq self.new before given (put_tab self.old.width column a r)) }
+        ensures put { (columns : ℕ → Option ℕ) (a : T) → columns 32 ≡ Some 1 → T.eq tag.now a ≡ true →
+            LinesFollow columns T.eq self.old self.new result (put_tab self.old.width column a) }
         ensures word { OnOk result (SameItems T.eq self.new.flat.word self.old.flat.word) }
         ensures limits { KeepsLimits self.old self.new }
     {
@@ -316,10 +328,12 @@ impl<T: Eq + Clone> LaidLines<T> {
 
     /// Takes away the spaces at the open line's end, and the white space at the word's beginning.
     pub fn trim(&mut self) -> Result<(), OutOfMemory>
-        requires lays { (widths : ℕ → Option ℕ) × (before : List (List (Item T))) × (given : List (List (Item T))) × (r : Laid T) × (widths 32 ≡ Some 1) × HoldsRule widths T.eq self.old before given r }
-        ensures trimmed { (widths : ℕ → Option ℕ) (before given : List (List (Item T))) (r : Laid T) → widths 32 ≡ Some 1 → HoldsRule widths T.eq self.old before given r →
-            OnOk result (HoldsRule widths T.eq self.new before given (trimmed widths r)) }
-        ensures word { (js : List (Item T)) → SameItems T.eq self.old.flat.word js → OnOk result (SameItems T.eq self.new.flat.word (without_leading js)) }
+        requires lays { (columns : ℕ → Option ℕ) × (before : List (List (Item T))) × (given : List (List (Item T)))
+            × (r : Laid T) × (columns 32 ≡ Some 1) × HoldsRule columns T.eq self.old before given r }
+        ensures trimmed { (columns : ℕ → Option ℕ) → columns 32 ≡ Some 1 →
+            LinesFollow columns T.eq self.old self.new result (trimmed columns) }
+        ensures word { (js : List (Item T)) → SameItems T.eq self.old.flat.word js →
+            OnOk result (SameItems T.eq self.new.flat.word (without_leading js)) }
         ensures limits { KeepsLimits self.old self.new }
     {
         let removed = self.flat.trim(self.line_len)?;
@@ -334,8 +348,10 @@ impl<T: Eq + Clone> LaidLines<T> {
         requires holds { (before : List (List (Item T))) × (l : Laid T) × HoldsLaid self.old before l }
         ensures none { self.old.ended.items ≡ [] → (result ≡ Ok None) × (self.new ≡ self.old) }
         ensures some { IfOk result (λ o. IfSome o (λ _. 0 < length self.old.ended.items)) }
-        ensures taken { (before : List (List (Item T))) (l : Laid T) (is : List (Item T)) (rest : List (List (Item T))) → HoldsLaid self.old before l → before ++ l.done ≡ is ∷ rest →
-            IfOk result (λ o. MatchOption o ⊥ (λ line. SameItems T.eq (items_of line) is × IsMerged T.eq line × LeavesAfterLine self.old self.new rest l)) }
+        ensures taken { (before : List (List (Item T))) (l : Laid T) (is : List (Item T))
+            (rest : List (List (Item T))) → HoldsLaid self.old before l → before ++ l.done ≡ is ∷ rest →
+            IfOk result (λ o. MatchOption o ⊥ (λ line.
+            SameItems T.eq (items_of line) is × IsMerged T.eq line × LeavesAfterLine self.old self.new rest l)) }
         ensures limits { KeepsLimits self.old self.new }
     {
         let Some(len) = self.ended.front().copied() else {

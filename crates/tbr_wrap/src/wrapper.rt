@@ -1,11 +1,11 @@
 //! Lays the characters of a run on lines, one after another.
 //!
 //! Its stages, in the words of its functions:
-//! - A character *joins* the word (`join`). White space that doesn't is pending before the word (`collapse`, `keep_space`).
-//! - The word is *laid* where it ends: here, behind what is pending, if both fit the open line (`lay_here`), and else afresh, behind
-//!   what is left of that (`unfit`, `lay_fresh`).
-//! - What fits the open line is *placed* on it (`place_pending`, `place_word`). What may not fit is *put* on it and the next ones
-//!   (`put_pending`, `put_fresh`, `put_tab`).
+//! - A character *joins* the word (`join`). White space that doesn't is pending before it (`collapse`, `keep_space`).
+//! - The word is *laid* where it ends: here, behind what is pending, if both fit the open line (`lay_here`), and else
+//!   afresh, behind what is left of that (`wrap_space`, `lay_fresh`).
+//! - What fits the open line is *placed* on it (`place_pending`, `place_word`). What may not fit is *put* on it and the
+//!   next ones (`put_pending`, `put_fresh`, `put_tab`).
 //! - Ended lines are *taken*, the first one first ([`LaidLines::take_line`]).
 ghost use Rattle.std.specs.Prelude.{◌≡◌, ◌≤◌, ◌<◌, ◌+◌, ◌&&◌, ◌↔◌, [], ℕ, List, map, string_bytes, Bool, if◌then◌else◌, IsTrue, Option, None, Some, true, false, OnOk, IfOk, Err};
 ghost use Rattle.tbr_tagged.specs.Copies.{CopiesAreEqual};
@@ -34,10 +34,10 @@ const ZERO_WIDTH_SPACE: char = '\u{200b}';
 #[derive(Drop)]
 pub struct Space<T> {
     /// Its columns, at least one.
-    pub columns: usize,
+    pub width: usize,
     pub tag: T,
     pub mode: WhiteSpace,
-    ghost positive: { 0 < columns },
+    ghost positive: { 0 < width },
 }
 
 /// Lines that are laid, the word under way, and what is pending before it.
@@ -59,7 +59,7 @@ pub struct Wrapper<T> {
 
 impl<T> Wrapper<T> {
     ghost use Rattle.tbr_model.specs.Rule.{at_start};
-    ghost use Rattle.tbr_wrap.specs.Wrapper.{IsAtProgress, held_columns};
+    ghost use Rattle.tbr_wrap.specs.Wrapper.{IsAtProgress, held_width};
 
     pub fn new(alloc: Global, width: usize, may_overflow: bool) -> Wrapper<T>
         requires { 0 < width }
@@ -78,40 +78,42 @@ impl<T> Wrapper<T> {
     }
 
     /// The columns of the pending space.
-    pub fn pending(&self) -> usize
-        ensures { result ≡ held_columns self.now.space }
+    pub fn pending_width(&self) -> usize
+        ensures { result ≡ held_width self.now.space }
     {
         match &self.space {
-            Some(space) => space.columns,
+            Some(space) => space.width,
             None => 0,
         }
     }
 
     /// Whether the word fits the open line behind the pending space.
     fn has_room(&self) -> bool
-        ensures { IsTrue result ↔ (self.now.lines.line_width + (held_columns self.now.space + self.now.word_width) ≤ self.now.lines.width) }
+        ensures { IsTrue result ↔
+            (self.now.lines.line_width + (held_width self.now.space + self.now.word_width) ≤ self.now.lines.width) }
     {
         let room = self.lines.width - self.lines.line_width;
-        self.word_width <= room && self.pending() <= room - self.word_width
+        self.word_width <= room && self.pending_width() <= room - self.word_width
     }
 }
 
 impl<T: Eq + Clone + Drop> Wrapper<T> {
     ghost use Rattle.tbr_wrap.specs.LaidLines.{KeepsLimits};
-    ghost use Rattle.tbr_wrap.specs.Wrapper.{IsAtProgress, RunIsFinished, SameSpace, held_columns};
+    ghost use Rattle.tbr_wrap.specs.Wrapper.{IsAtProgress, IsUnderWay, Wherever, WrapperFollows, RunIsFinished, SameSpace, held_width};
 
     /// Puts the pending space on the open line, where it fits.
     fn place_pending<W: CharWidth>(&mut self) -> Result<(), OutOfMemory>
         requires faithful { CopiesAreEqual T.is_clone T.eq }
-        requires room { self.old.lines.line_width + held_columns self.old.space ≤ self.old.lines.width }
-        ensures placed { (before given : List (List (Item T))) (p : Progress T) → IsAtProgress W.columns T.eq self.old before given p →
-            OnOk result (IsAtProgress W.columns T.eq self.new before given (record p { laid = extended p.laid (space_text p.space) (pending_width p.space); space = None })) }
-        ensures line_width { OnOk result (self.new.lines.line_width ≡ self.old.lines.line_width + held_columns self.old.space) }
+        requires room { self.old.lines.line_width + held_width self.old.space ≤ self.old.lines.width }
+        ensures placed { WrapperFollows W.columns T.eq self.old self.new result (λ p.
+            record p { laid = extended p.laid (space_text p.space) (pending_width p.space); space = None }) }
+        ensures line_width { OnOk result
+            (self.new.lines.line_width ≡ self.old.lines.line_width + held_width self.old.space) }
         ensures word_width { self.new.word_width ≡ self.old.word_width }
         ensures limits { KeepsLimits self.old.lines self.new.lines }
     {
         match self.space.take() {
-            Some(space) => self.lines.place_spaces(space.columns, space.tag),
+            Some(space) => self.lines.place_spaces(space.width, space.tag),
             None => Ok(()),
         }
     }
@@ -120,12 +122,12 @@ impl<T: Eq + Clone + Drop> Wrapper<T> {
     fn put_pending<W: CharWidth>(&mut self) -> Result<(), OutOfMemory>
         requires faithful { CopiesAreEqual T.is_clone T.eq }
         requires room { self.old.lines.line_width < self.old.lines.width }
-        ensures put { (before given : List (List (Item T))) (p : Progress T) → IsAtProgress W.columns T.eq self.old before given p →
-            OnOk result (IsAtProgress W.columns T.eq self.new before given (record p { laid = put_pending self.old.lines.width p.space p.laid; space = None })) }
+        ensures put { WrapperFollows W.columns T.eq self.old self.new result (λ p.
+            record p { laid = put_pending self.old.lines.width p.space p.laid; space = None }) }
         ensures limits { KeepsLimits self.old.lines self.new.lines }
     {
         match self.space.take() {
-            Some(space) => self.lines.put_spaces(space.columns, space.tag),
+            Some(space) => self.lines.put_spaces(space.width, space.tag),
             None => Ok(()),
         }
     }
@@ -133,14 +135,14 @@ impl<T: Eq + Clone + Drop> Wrapper<T> {
     /// Puts the word behind the pending space on the open line, where both fit.
     fn lay_here<W: CharWidth>(&mut self) -> Result<(), OutOfMemory>
         requires faithful { CopiesAreEqual T.is_clone T.eq }
-        requires room { self.old.lines.line_width + (held_columns self.old.space + self.old.word_width) ≤ self.old.lines.width }
-        ensures laid { (before given : List (List (Item T))) (p : Progress T) → IsAtProgress W.columns T.eq self.old before given p →
-            OnOk result (IsAtProgress W.columns T.eq self.new before given (lay_here W.columns p)) }
+        requires room { self.old.lines.line_width + (held_width self.old.space + self.old.word_width) ≤
+            self.old.lines.width }
+        ensures laid { WrapperFollows W.columns T.eq self.old self.new result (lay_here W.columns) }
         ensures limits { KeepsLimits self.old.lines self.new.lines }
     {
         self.place_pending::<W>()?;
-        let columns = mem::replace(&mut self.word_width, 0);
-        self.lines.place_word(columns)?;
+        let width = mem::replace(&mut self.word_width, 0);
+        self.lines.place_word(width)?;
         self.continuation_flag = false;
         Ok(())
     }
@@ -148,9 +150,9 @@ impl<T: Eq + Clone + Drop> Wrapper<T> {
     /// Does with the pending space what its mode asks for where the word behind it doesn't fit.
     fn wrap_space<W: CharWidth>(&mut self) -> Result<(), OutOfMemory>
         requires faithful { CopiesAreEqual T.is_clone T.eq }
-        requires stands { (before : List (List (Item T))) × (given : List (List (Item T))) × (p : Progress T) × IsAtProgress W.columns T.eq self.old before given p }
-        ensures wrap_space { (before given : List (List (Item T))) (p : Progress T) → IsAtProgress W.columns T.eq self.old before given p →
-            OnOk result (IsAtProgress W.columns T.eq self.new before given (wrap_space W.columns self.old.lines.width p p.space)) }
+        requires stands { IsUnderWay W.columns T.eq self.old }
+        ensures wrapped { WrapperFollows W.columns T.eq self.old self.new result (λ p.
+            wrap_space W.columns self.old.lines.width p p.space) }
         ensures limits { KeepsLimits self.old.lines self.new.lines }
     {
         let Some(space) = self.space.take() else {
@@ -168,20 +170,23 @@ impl<T: Eq + Clone + Drop> Wrapper<T> {
         requires faithful { CopiesAreEqual T.is_clone T.eq }
         requires taken { self.old.space ≡ None }
         requires mode { space.mode ≡ Pre }
-        ensures lessened { (before given : List (List (Item T))) (p : Progress T) (s : model.Space T) → IsAtProgress W.columns T.eq self.old before given (record p { space = None }) → SameSpace T.eq (Some space) (Some s) →
-            OnOk result (IsAtProgress W.columns T.eq self.new before given (wrap_space_by W.columns self.old.lines.width p s Pre)) }
+        ensures shortened { (before given : List (List (Item T))) (p : Progress T) (s : model.Space T) →
+            IsAtProgress W.columns T.eq self.old before given (record p { space = None }) →
+            SameSpace T.eq (Some space) (Some s) →
+            OnOk result (IsAtProgress W.columns T.eq self.new before given
+            (wrap_space_by W.columns self.old.lines.width p s Pre)) }
         ensures limits { KeepsLimits self.old.lines self.new.lines }
     {
         let room = self.lines.width - self.lines.line_width;
-        if space.columns < room {
-            return self.lines.place_spaces(space.columns, space.tag);
+        if space.width < room {
+            return self.lines.place_spaces(space.width, space.tag);
         }
-        let columns = space.columns - room;
-        if columns == 0 {
+        let width = space.width - room;
+        if width == 0 {
             return Ok(());
         }
         self.space = Some(Space {
-            columns,
+            width,
             tag: space.tag,
             mode: WhiteSpace::Pre,
         });
@@ -191,9 +196,11 @@ impl<T: Eq + Clone + Drop> Wrapper<T> {
     /// Takes away the spaces at the open line's end, and the white space at the word's beginning.
     fn trim_word<W: CharWidth>(&mut self) -> Result<(), OutOfMemory>
         requires taken { self.old.space ≡ None }
-        requires stands { (before : List (List (Item T))) × (given : List (List (Item T))) × (p : Progress T) × IsAtProgress W.columns T.eq self.old before given p }
-        ensures trimmed { (before given : List (List (Item T))) (p : Progress T) (s : model.Space T) → IsAtProgress W.columns T.eq self.old before given (record p { space = None }) →
-            OnOk result (IsAtProgress W.columns T.eq self.new before given (wrap_space_by W.columns self.old.lines.width p s PreWrap)) }
+        requires stands { IsUnderWay W.columns T.eq self.old }
+        ensures trimmed { (before given : List (List (Item T))) (p : Progress T) (s : model.Space T) →
+            IsAtProgress W.columns T.eq self.old before given (record p { space = None }) →
+            OnOk result (IsAtProgress W.columns T.eq self.new before given
+            (wrap_space_by W.columns self.old.lines.width p s PreWrap)) }
         ensures limits { KeepsLimits self.old.lines self.new.lines }
     {
         self.lines.trim()?;
@@ -203,15 +210,15 @@ impl<T: Eq + Clone + Drop> Wrapper<T> {
 
     /// Puts the word, before which nothing is pending, on the open line and the next ones.
     fn put_fresh<W: CharWidth>(&mut self) -> Result<(), Error>
-        ensures put { (before given : List (List (Item T))) (p : Progress T) → IsAtProgress W.columns T.eq self.old before given p →
-            OnOk result (IsAtProgress W.columns T.eq self.new before given (record p { laid = put_items W.columns self.old.lines.width p.laid p.word; word = [] })) }
-        ensures too_narrow { result ≡ Err E.TooNarrow → (before given : List (List (Item T))) (p : Progress T) → IsAtProgress W.columns T.eq self.old before given p →
-            (self.old.lines.may_overflow ≡ false) × ¬ (IsNarrow W.columns self.old.lines.width p.word) }
+        ensures put { WrapperFollows W.columns T.eq self.old self.new result (λ p.
+            record p { laid = put_items W.columns self.old.lines.width p.laid p.word; word = [] }) }
+        ensures too_narrow { result ≡ Err E.TooNarrow → Wherever W.columns T.eq self.old (λ p.
+            (self.old.lines.may_overflow ≡ false) × ¬ (IsNarrow W.columns self.old.lines.width p.word)) }
         ensures limits { KeepsLimits self.old.lines self.new.lines }
     {
-        let columns = mem::replace(&mut self.word_width, 0);
-        if columns <= self.lines.width - self.lines.line_width {
-            self.lines.place_word(columns)?;
+        let width = mem::replace(&mut self.word_width, 0);
+        if width <= self.lines.width - self.lines.line_width {
+            self.lines.place_word(width)?;
             return Ok(());
         }
         self.lines.put_word::<W>()
@@ -220,11 +227,11 @@ impl<T: Eq + Clone + Drop> Wrapper<T> {
     /// Puts the word on a fresh line, behind what is still pending. A word that has lost its characters stays.
     fn lay_fresh<W: CharWidth>(&mut self) -> Result<(), Error>
         requires faithful { CopiesAreEqual T.is_clone T.eq }
-        requires stands { (before : List (List (Item T))) × (given : List (List (Item T))) × (p : Progress T) × IsAtProgress W.columns T.eq self.old before given p }
-        ensures laid { (before given : List (List (Item T))) (p : Progress T) → IsAtProgress W.columns T.eq self.old before given p →
-            OnOk result (IsAtProgress W.columns T.eq self.new before given (lay_fresh W.columns self.old.lines.width p)) }
-        ensures too_narrow { result ≡ Err E.TooNarrow → (before given : List (List (Item T))) (p : Progress T) → IsAtProgress W.columns T.eq self.old before given p →
-            (self.old.lines.may_overflow ≡ false) × ¬ (IsNarrow W.columns self.old.lines.width p.word) }
+        requires stands { IsUnderWay W.columns T.eq self.old }
+        ensures laid { WrapperFollows W.columns T.eq self.old self.new result
+            (lay_fresh W.columns self.old.lines.width) }
+        ensures too_narrow { result ≡ Err E.TooNarrow → Wherever W.columns T.eq self.old (λ p.
+            (self.old.lines.may_overflow ≡ false) × ¬ (IsNarrow W.columns self.old.lines.width p.word)) }
         ensures limits { KeepsLimits self.old.lines self.new.lines }
     {
         self.lines.end_if_character()?;
@@ -239,11 +246,10 @@ impl<T: Eq + Clone + Drop> Wrapper<T> {
     /// Lays the word: behind the pending space if both fit the open line, and else on a fresh one.
     fn lay<W: CharWidth>(&mut self) -> Result<(), Error>
         requires faithful { CopiesAreEqual T.is_clone T.eq }
-        requires stands { (before : List (List (Item T))) × (given : List (List (Item T))) × (p : Progress T) × IsAtProgress W.columns T.eq self.old before given p }
-        ensures laid { (before given : List (List (Item T))) (p : Progress T) → IsAtProgress W.columns T.eq self.old before given p →
-            OnOk result (IsAtProgress W.columns T.eq self.new before given (lay W.columns self.old.lines.width p)) }
-        ensures too_narrow { result ≡ Err E.TooNarrow → (before given : List (List (Item T))) (p : Progress T) → IsAtProgress W.columns T.eq self.old before given p →
-            (self.old.lines.may_overflow ≡ false) × ¬ (IsNarrow W.columns self.old.lines.width p.word) }
+        requires stands { IsUnderWay W.columns T.eq self.old }
+        ensures laid { WrapperFollows W.columns T.eq self.old self.new result (lay W.columns self.old.lines.width) }
+        ensures too_narrow { result ≡ Err E.TooNarrow → Wherever W.columns T.eq self.old (λ p.
+            (self.old.lines.may_overflow ≡ false) × ¬ (IsNarrow W.columns self.old.lines.width p.word)) }
         ensures limits { KeepsLimits self.old.lines self.new.lines }
     {
         if self.has_room() {
@@ -257,11 +263,12 @@ impl<T: Eq + Clone + Drop> Wrapper<T> {
     /// Lays the word, if it has a character.
     pub fn flush_word<W: CharWidth>(&mut self) -> Result<(), Error>
         requires faithful { CopiesAreEqual T.is_clone T.eq }
-        requires stands { (before : List (List (Item T))) × (given : List (List (Item T))) × (p : Progress T) × IsAtProgress W.columns T.eq self.old before given p }
-        ensures laid { (before given : List (List (Item T))) (p : Progress T) → IsAtProgress W.columns T.eq self.old before given p →
-            OnOk result (IsAtProgress W.columns T.eq self.new before given (flush_word W.columns self.old.lines.width p)) }
-        ensures too_narrow { result ≡ Err E.TooNarrow → (before given : List (List (Item T))) (p : Progress T) → IsAtProgress W.columns T.eq self.old before given p →
-            (self.old.lines.may_overflow ≡ false) × (has_character p.word ≡ true) × ¬ (IsNarrow W.columns self.old.lines.width p.word) }
+        requires stands { IsUnderWay W.columns T.eq self.old }
+        ensures laid { WrapperFollows W.columns T.eq self.old self.new result
+            (flush_word W.columns self.old.lines.width) }
+        ensures too_narrow { result ≡ Err E.TooNarrow → Wherever W.columns T.eq self.old (λ p.
+            (self.old.lines.may_overflow ≡ false) × (has_character p.word ≡ true)
+            × ¬ (IsNarrow W.columns self.old.lines.width p.word)) }
         ensures limits { KeepsLimits self.old.lines self.new.lines }
     {
         if !self.lines.flat.has_word() {
@@ -273,11 +280,12 @@ impl<T: Eq + Clone + Drop> Wrapper<T> {
     /// Lays the word, if it has columns.
     pub fn break_word<W: CharWidth>(&mut self) -> Result<(), Error>
         requires faithful { CopiesAreEqual T.is_clone T.eq }
-        requires stands { (before : List (List (Item T))) × (given : List (List (Item T))) × (p : Progress T) × IsAtProgress W.columns T.eq self.old before given p }
-        ensures laid { (before given : List (List (Item T))) (p : Progress T) → IsAtProgress W.columns T.eq self.old before given p →
-            OnOk result (IsAtProgress W.columns T.eq self.new before given (break_word W.columns self.old.lines.width p)) }
-        ensures too_narrow { result ≡ Err E.TooNarrow → (before given : List (List (Item T))) (p : Progress T) → IsAtProgress W.columns T.eq self.old before given p →
-            (self.old.lines.may_overflow ≡ false) × (0 < items_width W.columns p.word) × ¬ (IsNarrow W.columns self.old.lines.width p.word) }
+        requires stands { IsUnderWay W.columns T.eq self.old }
+        ensures laid { WrapperFollows W.columns T.eq self.old self.new result
+            (break_word W.columns self.old.lines.width) }
+        ensures too_narrow { result ≡ Err E.TooNarrow → Wherever W.columns T.eq self.old (λ p.
+            (self.old.lines.may_overflow ≡ false) × (0 < items_width W.columns p.word)
+            × ¬ (IsNarrow W.columns self.old.lines.width p.word)) }
         ensures limits { KeepsLimits self.old.lines self.new.lines }
     {
         if self.word_width == 0 {
@@ -288,7 +296,8 @@ impl<T: Eq + Clone + Drop> Wrapper<T> {
 
     /// The mode of the word's first character, once a character of the given mode has joined it.
     fn mode_with(&self, mode: WhiteSpace) -> WhiteSpace
-        ensures { (js : List (Item T)) → SameItems T.eq self.now.lines.flat.word js → result ≡ (if has_character js then self.now.word_mode else mode) }
+        ensures { (js : List (Item T)) → SameItems T.eq self.now.lines.flat.word js →
+            result ≡ (if has_character js then self.now.word_mode else mode) }
     {
         if self.lines.flat.has_word() {
             self.word_mode
@@ -297,20 +306,20 @@ impl<T: Eq + Clone + Drop> Wrapper<T> {
         }
     }
 
-    /// Adds a character of so many columns to the word.
+    /// Adds a character of `width` columns to the word.
     pub fn join(
         &mut self,
         c: char,
-        columns: usize,
+        width: usize,
         tag: &T,
         mode: WhiteSpace,
     ) -> Result<(), OutOfMemory>
         requires faithful { CopiesAreEqual T.is_clone T.eq }
-        ensures joined { (widths : ℕ → Option ℕ) (before given : List (List (Item T))) (p : Progress T) (a : T) → widths c ≡ Some columns → T.eq tag.now a ≡ true → IsAtProgress widths T.eq self.old before given p →
-            OnOk result (IsAtProgress widths T.eq self.new before given (join c a mode p)) }
+        ensures joined { (columns : ℕ → Option ℕ) (a : T) → columns c ≡ Some width → T.eq tag.now a ≡ true →
+            WrapperFollows columns T.eq self.old self.new result (join c a mode) }
         ensures limits { KeepsLimits self.old.lines self.new.lines }
     {
-        let Some(word_width) = self.word_width.checked_add(columns) else {
+        let Some(word_width) = self.word_width.checked_add(width) else {
             return Err(OutOfMemory);
         };
         let word_mode = self.mode_with(mode);
@@ -322,7 +331,8 @@ impl<T: Eq + Clone + Drop> Wrapper<T> {
 
     /// Begins a call. It has the continuation tag where the flag is on.
     pub fn begin_call(&mut self)
-        ensures begun { (columns : ℕ → Option ℕ) (before given : List (List (Item T))) (p : Progress T) → IsAtProgress columns T.eq self.old before given p →
+        ensures begun { (columns : ℕ → Option ℕ) (before given : List (List (Item T))) (p : Progress T) →
+            IsAtProgress columns T.eq self.old before given p →
             IsAtProgress columns T.eq self.new before given (step columns self.old.lines.width p call) }
         ensures limits { KeepsLimits self.old.lines self.new.lines }
     {
@@ -333,15 +343,15 @@ impl<T: Eq + Clone + Drop> Wrapper<T> {
     fn collapse(&mut self, c: char, tag: &T) -> Result<(), OutOfMemory>
         requires faithful { CopiesAreEqual T.is_clone T.eq }
         requires is_break { is_break c ≡ true }
-        ensures after_change { (columns : ℕ → Option ℕ) (before given : List (List (Item T))) (p : Progress T) (a : T) → T.eq tag.now a ≡ true → IsAtProgress columns T.eq self.old before given p →
-            OnOk result (IsAtProgress columns T.eq self.new before given (collapse c a p)) }
+        ensures after_change { (columns : ℕ → Option ℕ) (a : T) → T.eq tag.now a ≡ true →
+            WrapperFollows columns T.eq self.old self.new result (collapse c a) }
         ensures limits { KeepsLimits self.old.lines self.new.lines }
     {
         if c == ZERO_WIDTH_SPACE || self.space.is_some() || self.lines.line_width == 0 {
             return Ok(());
         }
         self.space = Some(Space {
-            columns: 1,
+            width: 1,
             tag: tag.clone()?,
             mode: WhiteSpace::Normal,
         });
@@ -350,8 +360,7 @@ impl<T: Eq + Clone + Drop> Wrapper<T> {
 
     /// Ends the open line at a newline.
     fn newline(&mut self) -> Result<(), OutOfMemory>
-        ensures ended { (columns : ℕ → Option ℕ) (before given : List (List (Item T))) (p : Progress T) → IsAtProgress columns T.eq self.old before given p →
-            OnOk result (IsAtProgress columns T.eq self.new before given (newline p)) }
+        ensures ended { (columns : ℕ → Option ℕ) → WrapperFollows columns T.eq self.old self.new result newline }
         ensures limits { KeepsLimits self.old.lines self.new.lines }
     {
         self.lines.end_line()?;
@@ -364,12 +373,12 @@ impl<T: Eq + Clone + Drop> Wrapper<T> {
     /// Puts the spaces of a tab.
     fn tab(&mut self, tag: &T) -> Result<(), OutOfMemory>
         requires faithful { CopiesAreEqual T.is_clone T.eq }
-        requires stands { (columns : ℕ → Option ℕ) × (before : List (List (Item T))) × (given : List (List (Item T))) × (p : Progress T) × IsAtProgress columns T.eq self.old before given p }
-        ensures put { (columns : ℕ → Option ℕ) (before given : List (List (Item T))) (p : Progress T) (a : T) → columns 32 ≡ Some 1 → T.eq tag.now a ≡ true → IsAtProgress columns T.eq self.old before given p →
-            OnOk result (IsAtProgress columns T.eq self.new before given (tab self.old.lines.width a p)) }
+        requires stands { (columns : ℕ → Option ℕ) × IsUnderWay columns T.eq self.old }
+        ensures put { (columns : ℕ → Option ℕ) (a : T) → columns 32 ≡ Some 1 → T.eq tag.now a ≡ true →
+            WrapperFollows columns T.eq self.old self.new result (tab self.old.lines.width a) }
         ensures limits { KeepsLimits self.old.lines self.new.lines }
     {
-        let pending = self.pending();
+        let pending = self.pending_width();
         if pending < self.lines.width - self.lines.line_width {
             let column = self.lines.line_width + pending;
             return self.lines.put_tab(column, tag);
@@ -382,46 +391,46 @@ impl<T: Eq + Clone + Drop> Wrapper<T> {
     fn keep_space(
         &mut self,
         c: char,
-        columns: usize,
+        width: usize,
         tag: &T,
         mode: WhiteSpace,
     ) -> Result<(), OutOfMemory>
         requires faithful { CopiesAreEqual T.is_clone T.eq }
-        ensures kept { (widths : ℕ → Option ℕ) (before given : List (List (Item T))) (p : Progress T) (a : T) → widths c ≡ Some columns → T.eq tag.now a ≡ true → IsAtProgress widths T.eq self.old before given p →
-            OnOk result (IsAtProgress widths T.eq self.new before given (keep_space c a mode (Some columns) p)) }
+        ensures kept { (columns : ℕ → Option ℕ) (a : T) → columns c ≡ Some width → T.eq tag.now a ≡ true →
+            WrapperFollows columns T.eq self.old self.new result (keep_space c a mode (Some width)) }
         ensures limits { KeepsLimits self.old.lines self.new.lines }
     {
         if self.lines.flat.has_word() {
-            return self.join(c, columns, tag, mode);
+            return self.join(c, width, tag, mode);
         }
-        let Some(columns) = self.pending().checked_add(columns) else {
+        let Some(width) = self.pending_width().checked_add(width) else {
             return Err(OutOfMemory);
         };
         self.space = None;
-        if columns > 0 {
+        if width > 0 {
             let tag = tag.clone()?;
-            self.space = Some(Space { columns, tag, mode });
+            self.space = Some(Space { width, tag, mode });
         }
         Ok(())
     }
 
-    /// Whether line, pending space and word pass the width with so many columns more.
-    fn passes(&self, columns: usize) -> bool
-        ensures { (widths : ℕ → Option ℕ) (before given : List (List (Item T))) (p : Progress T) → IsAtProgress widths T.eq self.now before given p → result ≡ passes widths self.now.lines.width columns p }
+    /// Whether the open line, the pending space, the word and `width` columns more pass a line's width.
+    fn passes(&self, width: usize) -> bool
+        ensures { (columns : ℕ → Option ℕ) → Wherever columns T.eq self.now (λ p.
+            result ≡ passes columns self.now.lines.width width p) }
     {
         let room = self.lines.width - self.lines.line_width;
-        let pending = self.pending();
-        columns > room
-            || self.word_width > room - columns
-            || pending > room - columns - self.word_width
+        let pending = self.pending_width();
+        width > room || self.word_width > room - width || pending > room - width - self.word_width
     }
 
-    /// Whether a character of so many columns passes the line in `Pre`.
-    fn begins_continuation(&self, columns: usize, mode: WhiteSpace) -> bool
-        ensures { (widths : ℕ → Option ℕ) (before given : List (List (Item T))) (p : Progress T) → IsAtProgress widths T.eq self.now before given p → result ≡ (model.is_pre mode && passes widths self.now.lines.width columns p) }
+    /// Whether a character of `width` columns passes the line in `Pre`.
+    fn begins_continuation(&self, width: usize, mode: WhiteSpace) -> bool
+        ensures { (columns : ℕ → Option ℕ) → Wherever columns T.eq self.now (λ p.
+            result ≡ (model.is_pre mode && passes columns self.now.lines.width width p)) }
     {
         match mode {
-            WhiteSpace::Pre => self.passes(columns),
+            WhiteSpace::Pre => self.passes(width),
             WhiteSpace::Normal | WhiteSpace::PreWrap => false,
         }
     }
@@ -430,25 +439,26 @@ impl<T: Eq + Clone + Drop> Wrapper<T> {
     fn keep_character(
         &mut self,
         c: char,
-        columns: usize,
+        width: usize,
         main_tag: &T,
         wrap_tag: &T,
         mode: WhiteSpace,
     ) -> Result<(), OutOfMemory>
         requires faithful { CopiesAreEqual T.is_clone T.eq }
-        ensures kept { (widths : ℕ → Option ℕ) (before given : List (List (Item T))) (p : Progress T) → widths c ≡ Some columns → IsAtProgress widths T.eq self.old before given p →
-            OnOk result (IsAtProgress widths T.eq self.new before given (keep_character widths self.old.lines.width c main_tag.now wrap_tag.now mode (Some columns) p)) }
+        ensures kept { (columns : ℕ → Option ℕ) → columns c ≡ Some width →
+            WrapperFollows columns T.eq self.old self.new result
+            (keep_character columns self.old.lines.width c main_tag.now wrap_tag.now mode (Some width)) }
         ensures limits { KeepsLimits self.old.lines self.new.lines }
     {
-        if self.begins_continuation(columns, mode) {
+        if self.begins_continuation(width, mode) {
             self.continuation_flag = true;
             self.in_continuation = true;
-            return self.join(c, columns, wrap_tag, mode);
+            return self.join(c, width, wrap_tag, mode);
         }
         if self.in_continuation {
-            return self.join(c, columns, wrap_tag, mode);
+            return self.join(c, width, wrap_tag, mode);
         }
-        self.join(c, columns, main_tag, mode)
+        self.join(c, width, main_tag, mode)
     }
 
     /// Adds a character in a preserving mode, before which no word ends.
@@ -460,11 +470,11 @@ impl<T: Eq + Clone + Drop> Wrapper<T> {
         mode: WhiteSpace,
     ) -> Result<(), Error>
         requires faithful { CopiesAreEqual T.is_clone T.eq }
-        requires stands { (before : List (List (Item T))) × (given : List (List (Item T))) × (p : Progress T) × IsAtProgress W.columns T.eq self.old before given p }
-        ensures preserved { (before given : List (List (Item T))) (p : Progress T) → IsAtProgress W.columns T.eq self.old before given p →
-            OnOk result (IsAtProgress W.columns T.eq self.new before given (preserve W.columns self.old.lines.width c main_tag.now wrap_tag.now mode p)) }
-        ensures too_narrow { result ≡ Err E.TooNarrow → (before given : List (List (Item T))) (p : Progress T) → IsAtProgress W.columns T.eq self.old before given p →
-            (self.old.lines.may_overflow ≡ false) × ¬ (IsNarrow W.columns self.old.lines.width p.word) }
+        requires stands { IsUnderWay W.columns T.eq self.old }
+        ensures preserved { WrapperFollows W.columns T.eq self.old self.new result
+            (preserve W.columns self.old.lines.width c main_tag.now wrap_tag.now mode) }
+        ensures too_narrow { result ≡ Err E.TooNarrow → Wherever W.columns T.eq self.old (λ p.
+            (self.old.lines.may_overflow ≡ false) × ¬ (IsNarrow W.columns self.old.lines.width p.word)) }
         ensures limits { KeepsLimits self.old.lines self.new.lines }
     {
         if c == ZERO_WIDTH_SPACE {
@@ -485,25 +495,26 @@ impl<T: Eq + Clone + Drop> Wrapper<T> {
             self.tab(tag)?;
             return Ok(());
         }
-        let Some(columns) = W::width(c) else {
+        let Some(width) = W::width(c) else {
             return Ok(());
         };
         if always_takes_space(c) {
-            self.keep_character(c, columns, main_tag, wrap_tag, mode)?;
+            self.keep_character(c, width, main_tag, wrap_tag, mode)?;
             return Ok(());
         }
-        self.keep_space(c, columns, tag, mode)?;
+        self.keep_space(c, width, tag, mode)?;
         Ok(())
     }
 
     /// Adds a character where white space collapses.
     fn enter_normal<W: CharWidth>(&mut self, c: char, tag: &T) -> Result<(), Error>
         requires faithful { CopiesAreEqual T.is_clone T.eq }
-        requires stands { (before : List (List (Item T))) × (given : List (List (Item T))) × (p : Progress T) × IsAtProgress W.columns T.eq self.old before given p }
-        ensures entered { (before given : List (List (Item T))) (p : Progress T) (a : T) → T.eq tag.now a ≡ true → IsAtProgress W.columns T.eq self.old before given p →
-            OnOk result (IsAtProgress W.columns T.eq self.new before given (enter_normal W.columns self.old.lines.width c a p)) }
-        ensures too_narrow { result ≡ Err E.TooNarrow → (before given : List (List (Item T))) (p : Progress T) → IsAtProgress W.columns T.eq self.old before given p →
-            (self.old.lines.may_overflow ≡ false) × (is_break c ≡ true) × (0 < items_width W.columns p.word) × ¬ (IsNarrow W.columns self.old.lines.width p.word) }
+        requires stands { IsUnderWay W.columns T.eq self.old }
+        ensures entered { (a : T) → T.eq tag.now a ≡ true →
+            WrapperFollows W.columns T.eq self.old self.new result (enter_normal W.columns self.old.lines.width c a) }
+        ensures too_narrow { result ≡ Err E.TooNarrow → Wherever W.columns T.eq self.old (λ p.
+            (self.old.lines.may_overflow ≡ false) × (is_break c ≡ true)
+            × (0 < items_width W.columns p.word) × ¬ (IsNarrow W.columns self.old.lines.width p.word)) }
         ensures limits { KeepsLimits self.old.lines self.new.lines }
     {
         if is_wordbreak_point(c) {
@@ -511,8 +522,8 @@ impl<T: Eq + Clone + Drop> Wrapper<T> {
             self.collapse(c, tag)?;
             return Ok(());
         }
-        if let Some(columns) = W::width(c) {
-            self.join(c, columns, tag, WhiteSpace::Normal)?;
+        if let Some(width) = W::width(c) {
+            self.join(c, width, tag, WhiteSpace::Normal)?;
         }
         Ok(())
     }
@@ -526,11 +537,12 @@ impl<T: Eq + Clone + Drop> Wrapper<T> {
         mode: WhiteSpace,
     ) -> Result<(), Error>
         requires faithful { CopiesAreEqual T.is_clone T.eq }
-        requires stands { (before : List (List (Item T))) × (given : List (List (Item T))) × (p : Progress T) × IsAtProgress W.columns T.eq self.old before given p }
-        ensures entered { (before given : List (List (Item T))) (p : Progress T) → IsAtProgress W.columns T.eq self.old before given p →
-            OnOk result (IsAtProgress W.columns T.eq self.new before given (enter W.columns self.old.lines.width p (character c main_tag.now wrap_tag.now mode))) }
-        ensures too_narrow { result ≡ Err E.TooNarrow → (before given : List (List (Item T))) (p : Progress T) → IsAtProgress W.columns T.eq self.old before given p →
-            (self.old.lines.may_overflow ≡ false) × ¬ (IsNarrow W.columns self.old.lines.width p.word) × (mode ≡ Normal → (is_break c ≡ true) × (0 < items_width W.columns p.word)) }
+        requires stands { IsUnderWay W.columns T.eq self.old }
+        ensures entered { WrapperFollows W.columns T.eq self.old self.new result (λ p.
+            enter W.columns self.old.lines.width p (character c main_tag.now wrap_tag.now mode)) }
+        ensures too_narrow { result ≡ Err E.TooNarrow → Wherever W.columns T.eq self.old (λ p.
+            (self.old.lines.may_overflow ≡ false) × ¬ (IsNarrow W.columns self.old.lines.width p.word)
+            × (mode ≡ Normal → (is_break c ≡ true) × (0 < items_width W.columns p.word))) }
         ensures limits { KeepsLimits self.old.lines self.new.lines }
     {
         match mode {
@@ -553,8 +565,8 @@ impl<T: Eq + Clone + Drop> Wrapper<T> {
 
     /// Adds a marker to the word.
     pub fn add_marker(&mut self, name: String) -> Result<(), OutOfMemory>
-        ensures added { (columns : ℕ → Option ℕ) (before given : List (List (Item T))) (p : Progress T) → IsAtProgress columns T.eq self.old before given p →
-            OnOk result (IsAtProgress columns T.eq self.new before given (enter columns self.old.lines.width p (marker_entry (string_bytes name)))) }
+        ensures added { (columns : ℕ → Option ℕ) → WrapperFollows columns T.eq self.old self.new result (λ p.
+            enter columns self.old.lines.width p (marker_entry (string_bytes name))) }
         ensures limits { KeepsLimits self.old.lines self.new.lines }
     {
         self.lines.flat.push_marker(name)
@@ -563,23 +575,26 @@ impl<T: Eq + Clone + Drop> Wrapper<T> {
     /// Takes the markers out of a word that has no character.
     pub fn take_markers(&mut self) -> Result<Vec<TaggedLineElement<T>>, OutOfMemory>
         requires none { has_character self.old.lines.flat.word ≡ false }
-        ensures markers { IfOk result (λ es. map element_of es.items ≡ map marker_element (names_in_items self.old.lines.flat.word)) }
-        ensures taken { (columns : ℕ → Option ℕ) (before given : List (List (Item T))) (p : Progress T) → IsAtProgress columns T.eq self.old before given p →
-            OnOk result (IsAtProgress columns T.eq self.new before given (record p { word = [] })) }
+        ensures markers { IfOk result (λ es.
+            map element_of es.items ≡ map marker_element (names_in_items self.old.lines.flat.word)) }
+        ensures taken { (columns : ℕ → Option ℕ) →
+            WrapperFollows columns T.eq self.old self.new result (λ p. record p { word = [] }) }
         ensures limits { KeepsLimits self.old.lines self.new.lines }
     {
         self.lines.flat.take_markers()
     }
 
-    /// Ends the run: lays the last word, ends the line, and drops the pending space. Markers that stand on no ended line become the
-    /// next run's word.
+    /// Ends the run: lays the last word, ends the line, and drops the pending space. Markers that stand on no ended
+    /// line become the next run's word.
     pub fn finish<W: CharWidth>(&mut self) -> Result<(), Error>
         requires faithful { CopiesAreEqual T.is_clone T.eq }
-        requires stands { (before : List (List (Item T))) × (given : List (List (Item T))) × (p : Progress T) × IsAtProgress W.columns T.eq self.old before given p }
-        ensures finished { (before given : List (List (Item T))) (p : Progress T) → IsAtProgress W.columns T.eq self.old before given p →
+        requires stands { IsUnderWay W.columns T.eq self.old }
+        ensures finished { (before given : List (List (Item T))) (p : Progress T) →
+            IsAtProgress W.columns T.eq self.old before given p →
             OnOk result (RunIsFinished W.columns T.eq self.old self.new before given p) }
-        ensures too_narrow { result ≡ Err E.TooNarrow → (before given : List (List (Item T))) (p : Progress T) → IsAtProgress W.columns T.eq self.old before given p →
-            (self.old.lines.may_overflow ≡ false) × (has_character p.word ≡ true) × ¬ (IsNarrow W.columns self.old.lines.width p.word) }
+        ensures too_narrow { result ≡ Err E.TooNarrow → Wherever W.columns T.eq self.old (λ p.
+            (self.old.lines.may_overflow ≡ false) × (has_character p.word ≡ true)
+            × ¬ (IsNarrow W.columns self.old.lines.width p.word)) }
         ensures limits { KeepsLimits self.old.lines self.new.lines }
     {
         self.flush_word::<W>()?;

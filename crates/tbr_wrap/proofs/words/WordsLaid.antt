@@ -7,7 +7,7 @@ use Rattle.tbr_model.specs.Greedy.{IsNarrow}
 use Rattle.tbr_model.specs.Rule.{Space, Progress, pending_width, put_pending, is_pre, lay_fresh}
 use Rattle.tbr_tagged.specs.Elements.{SameItems}
 use Rattle.tbr_wrap.specs.LaidLines.{HoldsRule}
-use Rattle.tbr_wrap.specs.Wrapper.{IsAtProgress, SameSpace, held_columns}
+use Rattle.tbr_wrap.specs.Wrapper.{IsAtProgress, SameSpace, held_width}
 use Rattle.tbr_wrap.specs.declared.laid_lines.LaidLines.{LaidLines}
 use Rattle.tbr_wrap.specs.declared.wrapper.Wrapper.{Wrapper}
 use Rattle.tbr_wrap.specs.declared.wrapper.Space.{Space as HeldSpace}
@@ -17,11 +17,11 @@ pub on_ok_both : {T E : Type 0} (r : Result T E) (P Q : Type 0) → OnOk r P →
 on_ok_both (Ok x) P Q p q = (p, q)
 on_ok_both (Err e) P Q p q = tt
 
-pub same_columns : {A : Type 0} (eq : A → A → Bool) (held : Option (HeldSpace A)) (o : Option (Space A)) → SameSpace eq held o → held_columns held ≡ pending_width o
-same_columns eq None None h = refl
-same_columns eq (Some s) (Some t) h = h.0
-same_columns eq None (Some t) h = absurd h
-same_columns eq (Some s) None h = absurd h
+pub same_held_width : {A : Type 0} (eq : A → A → Bool) (held : Option (HeldSpace A)) (o : Option (Space A)) → SameSpace eq held o → held_width held ≡ pending_width o
+same_held_width eq None None h = refl
+same_held_width eq (Some s) (Some t) h = h.0
+same_held_width eq None (Some t) h = absurd h
+same_held_width eq (Some s) None h = absurd h
 
 pub laid_is : {A : Type 0} (l m : Laid A) → l.done ≡ m.done → l.line ≡ m.line → l.width ≡ m.width → l ≡ m
 laid_is l m d e w = rw (d, e, w) refl
@@ -60,7 +60,7 @@ stands_laid columns eq b lines before given p r s lays word = record {
 }
 
 -- what is pending, by what is held
-pub held_some : {A : Type 0} (eq : A → A → Bool) (o : Option (HeldSpace A)) (held : HeldSpace A) (space : Option (Space A)) → o ≡ Some held → SameSpace eq o space → (s : Space A) × (space ≡ Some s) × (held.columns ≡ s.width) × (eq held.tag s.tag ≡ true) × (held.mode ≡ s.mode)
+pub held_some : {A : Type 0} (eq : A → A → Bool) (o : Option (HeldSpace A)) (held : HeldSpace A) (space : Option (Space A)) → o ≡ Some held → SameSpace eq o space → (s : Space A) × (space ≡ Some s) × (held.width ≡ s.width) × (eq held.tag s.tag ≡ true) × (held.mode ≡ s.mode)
 held_some eq o held None e h = absurd (subst (λ x. SameSpace eq x None) e h)
 held_some eq o held (Some s) e h = let k = subst (λ x. SameSpace eq x (Some s)) e h in (s, refl, k.0, k.1, k.2)
 

@@ -11,11 +11,11 @@ pub loop-left-init : goal.loop-left-init
 loop-left-init g c =
     let p = c.in_ok-push_spaces.ensures.placed in
     record {
-      put = λ widths before given r a one h same. (
+      put = λ columns before given r a one h same. (
         r,
         p.0,
         g.met.T.Eq.laws.congr p.0 c.args.tag a p.1 ∙ same,
-        reserved widths g.T.PartialEq.eq g.met.T.Eq.laws c.args.self.now _ (record { width = refl; may_overflow = refl }) before given r (spaces c.args.count p.0) h p.2 refl refl refl,
+        reserved columns g.T.PartialEq.eq g.met.T.Eq.laws c.args.self.now _ (record { width = refl; may_overflow = refl }) before given r (spaces c.args.count p.0) h p.2 refl refl refl,
         refl,
       );
       room = c.requires.room;
@@ -32,13 +32,13 @@ loop-left-preserved g c =
     let rest = c.loop-left.left - taken in
     let parts : c.loop-left.left ≡ taken + rest = omega (arith, c.min-taken.ensures) in
     record {
-      put = λ widths before given r a one h same.
-          let n = inv.put widths before given r a one h same in
-          let split = subst (λ is. HoldsRuleBefore widths eq c.loop-left.self before given n.0 is) (ap (λ m. spaces m n.1) parts ∙ spaces_more taken rest n.1) n.3 in (
+      put = λ columns before given r a one h same.
+          let n = inv.put columns before given r a one h same in
+          let split = subst (λ is. HoldsRuleBefore columns eq c.loop-left.self before given n.0 is) (ap (λ m. spaces m n.1) parts ∙ spaces_more taken rest n.1) n.3 in (
             put_spaces c.args.self.now.width a taken n.0,
             n.1,
             n.2,
-            subst (λ w. HoldsRuleBefore widths eq c.take_spaces.new.self before given (put_spaces w a taken n.0) (spaces rest n.1)) inv.limits.width (k.taken widths before given n.0 a n.1 (spaces rest n.1) one n.2 split),
+            subst (λ w. HoldsRuleBefore columns eq c.take_spaces.new.self before given (put_spaces w a taken n.0) (spaces rest n.1)) inv.limits.width (k.taken columns a n.1 one n.2 before given n.0 (spaces rest n.1) split),
             n.4 ∙ ap (λ m. put_spaces c.args.self.now.width a m n.0) parts ∙ put_more c.args.self.now.width a taken rest n.0,
           );
       room = k.room;
@@ -47,10 +47,10 @@ loop-left-preserved g c =
     }
 
 pub returns-clause-put : goal.returns-clause-put
-returns-clause-put g c = λ widths before given r a one h same.
+returns-clause-put g c = λ columns a one same before given r h.
     let eq = g.T.PartialEq.eq in
     let b = c.loop-left.self in
-    let n = c.loop-left.invariant.put widths before given r a one h same in
+    let n = c.loop-left.invariant.put columns before given r a one h same in
     let none : c.loop-left.left ≡ 0 = omega (arith, c.loop-left-test.false) in
-    let all = all_taken widths eq b before given n.0 (subst (λ m. HoldsRuleBefore widths eq b before given n.0 (spaces m n.1)) none n.3) in
-    subst (λ q. HoldsRule widths eq b before given q) (sym (n.4 ∙ ap (λ m. put_spaces c.args.self.now.width a m n.0) none)) all
+    let all = all_taken columns eq b before given n.0 (subst (λ m. HoldsRuleBefore columns eq b before given n.0 (spaces m n.1)) none n.3) in
+    subst (λ q. HoldsRule columns eq b before given q) (sym (n.4 ∙ ap (λ m. put_spaces c.args.self.now.width a m n.0) none)) all

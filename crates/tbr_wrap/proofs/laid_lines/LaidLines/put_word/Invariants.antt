@@ -6,8 +6,8 @@ use Rattle.tbr_tagged.specs.Elements.{SameItems}
 use Rattle.tbr_wrap.specs.LaidLines.{HoldsRule, KeepsLimits}
 use Rattle.tbr_wrap.proofs.laid_lines.LaidLines.put_word.Given as goal
 
-abbrev pub invariant-loop-columns : goal.invariant-loop-columns
-invariant-loop-columns g l = record {
+abbrev pub invariant-loop-width : goal.invariant-loop-width
+invariant-loop-width g l = record {
   put : (before given : List (List (Item g.row.T.Denot))) (r : Laid g.row.T.Denot) (js : List (Item g.row.T.Denot)) → HoldsRule g.W.CharWidth.columns g.T.PartialEq.eq l.fn.self before given r → SameItems g.T.PartialEq.eq l.fn.self.flat.word js →
       (q : Laid g.row.T.Denot) × (ks : List (Item g.row.T.Denot)) × HoldsRule g.W.CharWidth.columns g.T.PartialEq.eq l.self before given q × SameItems g.T.PartialEq.eq l.self.flat.word ks
       × (put_items g.W.CharWidth.columns l.fn.self.width r js ≡ put_items g.W.CharWidth.columns l.fn.self.width q ks);
@@ -15,5 +15,5 @@ invariant-loop-columns g l = record {
   limits : KeepsLimits l.fn.self l.self;
 }
 
-abbrev pub decreases-loop-columns : goal.decreases-loop-columns
-decreases-loop-columns g l = length l.self.flat.word
+abbrev pub decreases-loop-width : goal.decreases-loop-width
+decreases-loop-width g l = length l.self.flat.word

@@ -21,9 +21,9 @@ overflow_sub-self-2 g c =
     removed_width w.0 w.4 g.T.PartialEq.eq c.args.self.now w.1 w.2 w.3 h c.in_ok-removed.removed (c.in_ok-removed.ensures.placed (joined (w.1 ++ h.laid.done)) h.laid.line h.holds.placed (sym h.holds.len)).1
 
 pub returns-clause-trimmed : goal.returns-clause-trimmed
-returns-clause-trimmed g c = λ widths before given r one h.
+returns-clause-trimmed g c = λ columns one before given r h.
     let p = c.in_ok-removed.ensures.placed (joined (before ++ h.laid.done)) h.laid.line h.holds.placed (sym h.holds.len) in
-    lays_trimmed widths one g.T.PartialEq.eq c.args.self.now before given r h c.in_ok-removed.removed p.1 _ (record { width = refl; may_overflow = refl }) p.0 refl refl refl
+    lays_trimmed columns one g.T.PartialEq.eq c.args.self.now before given r h c.in_ok-removed.removed p.1 _ (record { width = refl; may_overflow = refl }) p.0 refl refl refl
 
 pub returns-clause-word : goal.returns-clause-word
 returns-clause-word g c = λ js same. rw c.in_ok-removed.ensures.word (same_leading g.T.PartialEq.eq c.args.self.now.flat.word js same)

@@ -13,12 +13,12 @@ returns-clause-laid g c = λ before given p s.
     let t = c.in_ok-place_pending.ensures.placed before given p s in
     let r = extended p.laid (space_text p.space) (pending_width p.space) in
     let k = c.in_ok-place_word.ensures in
-    let laid = k.placed columns before given r p.word t.lays t.word (sym t.word_width ∙ sym c.replace-columns.ensures.value) in
+    let laid = k.placed columns p.word t.word (sym t.word_width ∙ sym c.replace-width.ensures.value) before given r t.lays in
     record {
       lays = subst (λ q. HoldsRule columns eq c.place_word.new.self before given q) (extended_twice p.laid (space_text p.space) p.word (pending_width p.space) (items_width columns p.word)) laid;
       space = t.space;
       word = rw k.word tt;
-      word_width = c.replace-columns.ensures.after;
+      word_width = c.replace-width.ensures.after;
       mode = t.mode;
       continuation_flag = refl;
       in_continuation = t.in_continuation;

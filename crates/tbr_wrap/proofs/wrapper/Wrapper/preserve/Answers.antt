@@ -33,7 +33,7 @@ returns-then-c-eq10-clause-preserved g c = λ before given p s.
 pub tab-requires-clause-stands : goal.tab-requires-clause-stands
 tab-requires-clause-stands g c =
     let w = c.requires.stands in
-    (g.W.CharWidth.columns, w.0, w.1, flush_word g.W.CharWidth.columns c.args.self.now.lines.width w.2, c.in_ok-flush_word-2.ensures.laid w.0 w.1 w.2 w.3)
+    (g.W.CharWidth.columns, (w.0, w.1, flush_word g.W.CharWidth.columns c.args.self.now.lines.width w.2, c.in_ok-flush_word-2.ensures.laid w.0 w.1 w.2 w.3))
 
 pub returns-then-c-eq9-clause-preserved : goal.returns-then-c-eq9-clause-preserved
 returns-then-c-eq9-clause-preserved g c = λ before given p s.
@@ -50,7 +50,7 @@ returns-then-c-eq9-clause-preserved g c = λ before given p s.
     ] in
     rw (preserve_tab columns width c.args.c a b c.args.mode p c.if-c-eq9.true)
     (subst (λ (n : ℕ). IsAtProgress columns eq c.tab.new.self before given (tab n (tag_of p a b) (flush_word columns width p))) c.in_ok-flush_word-2.ensures.limits.width
-    (c.in_ok-tab.ensures.put columns before given (flush_word columns width p) (tag_of p a b) (g.met.W.CharWidth.drawn_in_one 32 refl) same (c.in_ok-flush_word-2.ensures.laid before given p s)))
+    (c.in_ok-tab.ensures.put columns (tag_of p a b) (g.met.W.CharWidth.drawn_in_one 32 refl) same before given (flush_word columns width p) (c.in_ok-flush_word-2.ensures.laid before given p s)))
 
 pub returns-in_default-clause-preserved : goal.returns-in_default-clause-preserved
 returns-in_default-clause-preserved g c = λ before given p s.
@@ -61,8 +61,8 @@ pub returns-then-always_takes_space-clause-preserved : goal.returns-then-always_
 returns-then-always_takes_space-clause-preserved g c = λ before given p s.
     let columns = g.W.CharWidth.columns in
     let is = sym c.width.ensures ∙ c.in-Some.is in
-    rw (preserve_kept columns c.args.self.now.lines.width c.args.c c.args.main_tag.now c.args.wrap_tag.now c.args.mode p c.if-c-eq-ZERO_WIDTH_SPACE.false c.if-c-eq10.false c.if-c-eq9.false c.in-Some.columns (sym c.always_takes_space.ensures ∙ c.if-always_takes_space.true) is)
-    (c.in_ok-keep_character.ensures.kept columns before given p is s)
+    rw (preserve_kept columns c.args.self.now.lines.width c.args.c c.args.main_tag.now c.args.wrap_tag.now c.args.mode p c.if-c-eq-ZERO_WIDTH_SPACE.false c.if-c-eq10.false c.if-c-eq9.false c.in-Some.width (sym c.always_takes_space.ensures ∙ c.if-always_takes_space.true) is)
+    (c.in_ok-keep_character.ensures.kept columns is before given p s)
 
 pub returns-clause-preserved : goal.returns-clause-preserved
 returns-clause-preserved g c = λ before given p s.
@@ -77,5 +77,5 @@ returns-clause-preserved g c = λ before given p s.
       | then-self w ↦ rw w.tag-is (tag_wrap eq laws p a b (sym s.in_continuation ∙ w.if-self.true))
       | else-self w ↦ rw w.tag-is (tag_main eq laws p a b (sym s.in_continuation ∙ w.if-self.false))
     ] in
-    rw (preserve_space columns c.args.self.now.lines.width c.args.c a b c.args.mode p c.if-c-eq-ZERO_WIDTH_SPACE.false c.if-c-eq10.false c.if-c-eq9.false c.in-Some.columns (sym c.always_takes_space.ensures ∙ c.if-always_takes_space.false) is)
-    (c.in_ok-keep_space.ensures.kept columns before given p (tag_of p a b) is same s)
+    rw (preserve_space columns c.args.self.now.lines.width c.args.c a b c.args.mode p c.if-c-eq-ZERO_WIDTH_SPACE.false c.if-c-eq10.false c.if-c-eq9.false c.in-Some.width (sym c.always_takes_space.ensures ∙ c.if-always_takes_space.false) is)
+    (c.in_ok-keep_space.ensures.kept columns (tag_of p a b) is same before given p s)

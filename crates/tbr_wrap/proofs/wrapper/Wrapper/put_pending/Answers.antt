@@ -14,7 +14,7 @@ returns-in-Some-clause-put g c = λ before given p s.
     let new = c.put_spaces.new.self in
     let k = c.put_spaces.ensures in
     let w = held_some eq c.args.self.now.space c.in-Some.space p.space (sym c.take.ensures.value ∙ c.in-Some.is) s.space in
-    let both = on_ok_both c.put_spaces.result _ _ (k.put columns before given p.laid w.0.tag (g.met.W.CharWidth.drawn_in_one 32 refl) s.lays w.3) k.word in
+    let both = on_ok_both c.put_spaces.result _ _ (k.put columns w.0.tag (g.met.W.CharWidth.drawn_in_one 32 refl) w.3 before given p.laid s.lays) k.word in
     on_ok_weaker c.put_spaces.result (λ b. record {
       lays = subst (λ o. HoldsRule columns eq new before given (put_pending width o p.laid)) (sym w.1) (subst (λ n. HoldsRule columns eq new before given (put_spaces width w.0.tag n p.laid)) w.2 b.0);
       space = rw c.take.ensures.after tt;

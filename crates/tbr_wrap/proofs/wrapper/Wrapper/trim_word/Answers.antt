@@ -15,7 +15,7 @@ returns-clause-trimmed g c = λ before given p s t.
     let k = c.in_ok-trim.ensures in
     let word = k.word p.word t.word in
     record {
-      lays = k.trimmed columns before given p.laid (g.met.W.CharWidth.drawn_in_one 32 refl) t.lays;
+      lays = k.trimmed columns (g.met.W.CharWidth.drawn_in_one 32 refl) before given p.laid t.lays;
       space = t.space;
       word = word;
       word_width = c.in_ok-self.ensures ∙ same_width columns eq c.trim.new.self.flat.word (without_leading p.word) word;

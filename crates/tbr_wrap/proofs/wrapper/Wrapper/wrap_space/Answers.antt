@@ -7,8 +7,8 @@ trim_word-requires-clause-stands g c =
     let w = c.requires.stands in
     (w.0, w.1, record w.2 { space = None }, spaced_stands g.W.CharWidth.columns g.T.PartialEq.eq c.args.self.now _ w.0 w.1 w.2 None w.3 (rw c.take.ensures.after tt))
 
-pub returns-in-PreWrap-clause-wrap_space : goal.returns-in-PreWrap-clause-wrap_space
-returns-in-PreWrap-clause-wrap_space g c = λ before given p s.
+pub returns-in-PreWrap-clause-wrapped : goal.returns-in-PreWrap-clause-wrapped
+returns-in-PreWrap-clause-wrapped g c = λ before given p s.
     let columns = g.W.CharWidth.columns in
     let eq = g.T.PartialEq.eq in
     let w = held_some eq c.args.self.now.space c.in-Some.space p.space (sym c.take.ensures.value ∙ c.in-Some.is) s.space in
