@@ -10,3 +10,4 @@ pub mod NarrowWords
 pub mod LaidText
 pub mod Printable
 pub mod PreservingModes
+pub mod AlwaysLaid
