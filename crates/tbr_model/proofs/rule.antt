@@ -6,6 +6,7 @@ pub mod TakenOutMarkers
 pub mod DoneLines
 pub mod HardLineStart
 pub mod HardLines
+pub mod BlankLines
 pub mod NarrowWords
 pub mod LaidText
 pub mod Printable
