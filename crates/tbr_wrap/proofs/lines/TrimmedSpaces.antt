@@ -9,7 +9,7 @@ use Rattle.tbr_model.specs.Layout.{joined}
 use Rattle.tbr_tagged.specs.Elements.{SameItem, SameItems}
 use Rattle.tbr_wrap.specs.LaidLines.{HoldsRule, KeepsLimits}
 use Rattle.tbr_wrap.specs.declared.laid_lines.LaidLines.{LaidLines}
-use Rattle.tbr_tagged.proofs.SameItems.{same_length}
+use Rattle.std.proofs.lemmas.List.Elements.{length_all_zip}
 
 same_space : {A : Type 0} (eq : A → A → Bool) (i j : Item A) → SameItem eq i j → is_space_item i ≡ is_space_item j
 same_space eq (glyph c a) (glyph d b) h = ap (λ x. x == 32) h.0
@@ -72,7 +72,7 @@ module _ {A : Type 0} (columns : ℕ → Option ℕ) (one : columns 32 ≡ Some 
   left_width : n + items_width columns (without_trailing r.line) ≡ items_width columns r.line
   left_width =
       let k = same_trailing eq h.laid.line r.line h.shows.last in
-      omega (arith, removed, trailing_width columns one r.line, same_length eq h.laid.line r.line h.shows.last, same_length eq (without_trailing h.laid.line) (without_trailing r.line) k)
+      omega (arith, removed, trailing_width columns one r.line, length_all_zip (SameItem eq) h.laid.line r.line h.shows.last, length_all_zip (SameItem eq) (without_trailing h.laid.line) (without_trailing r.line) k)
 
   pub removed_width : n ≤ b.line_width
   removed_width = omega (arith, left_width, h.measured.line, h.shows.width, h.holds.width)

@@ -16,7 +16,7 @@ use Rattle.tbr_wrap.specs.declared.laid_lines.LaidLines.{LaidLines}
 use Rattle.tbr_wrap.specs.declared.wrapper.Wrapper.{Wrapper}
 use Rattle.tbr_wrap.proofs.lines.HeldLines.{holds_same}
 use Rattle.tbr_wrap.proofs.lines.LaidByRule.{lays_same}
-use Rattle.tbr_tagged.proofs.ElementLoops.{items_width-append}
+use Rattle.tbr_model.proofs.words.Items.{items_width-append}
 use Rattle.tbr_tagged.proofs.SameItems.{same_has, same_items_append}
 
 -- a fresh line has no character

@@ -3,7 +3,7 @@ use Rattle.tbr_model.specs.Run.{glyph, items_width, has_character}
 use Rattle.tbr_wrap.proofs.lines.HeldLines.{holds_same}
 use Rattle.tbr_wrap.proofs.lines.LaidByRule.{lays_same}
 use Rattle.tbr_tagged.proofs.SameItems.{same_items_append}
-use Rattle.tbr_tagged.proofs.ElementLoops.{items_width-append}
+use Rattle.tbr_model.proofs.words.Items.{items_width-append}
 use Rattle.tbr_wrap.proofs.wrapper.Wrapper.join.Goals as goal
 
 pub returns-clause-joined : goal.returns-clause-joined

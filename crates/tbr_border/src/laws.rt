@@ -3,18 +3,20 @@ ghost use Rattle.std.specs.Prelude.{◌≡◌, ℕ, ◌≤◌, List, length, tak
 ghost use Rattle.tbr_border.specs.Cell.{Cell, Side, cell_of, HasTwoArms, joined, chopped_left, chopped_right};
 ghost use Rattle.tbr_border.specs.Border.{joined_at, stretched};
 
-use super::BorderSegHoriz;
+use crate::border::BorderSegHoriz;
 
 /// Joining twice is joining once, in a cell and at a place of a border.
 pub fn joins_are_idempotent()
     ensures cell { (side : Side) (c : Cell) → joined side (joined side c) ≡ joined side c }
-    ensures border { (side : Side) (x : ℕ) (cells : List Cell) → joined_at side x (joined_at side x cells) ≡ joined_at side x cells }
+    ensures border { (side : Side) (x : ℕ) (cells : List Cell) →
+        joined_at side x (joined_at side x cells) ≡ joined_at side x cells }
 {}
 
 /// Joins commute, in a cell and at two places of a border.
 pub fn joins_commute()
     ensures cell { (side other : Side) (c : Cell) → joined side (joined other c) ≡ joined other (joined side c) }
-    ensures border { (side other : Side) (x y : ℕ) (cells : List Cell) → joined_at side x (joined_at other y cells) ≡ joined_at other y (joined_at side x cells) }
+    ensures border { (side other : Side) (x y : ℕ) (cells : List Cell) →
+        joined_at side x (joined_at other y cells) ≡ joined_at other y (joined_at side x cells) }
 {}
 
 /// Chopping one side twice is chopping it once.

@@ -5,8 +5,8 @@ use Rattle.std.proofs.lemmas.Result.{err_from_is_err_and}
 use Rattle.tbr_model.specs.Width.{width_of_text}
 use Rattle.tbr_tagged.specs.View.{element_of}
 use Rattle.tbr_tagged.proofs.ElementLoops.{one_more, one_and_rest, items_width-piece, items_width-marker}
-use Rattle.tbr_tagged.proofs.elements.columns_of.Goals as goal
-use Rattle.tbr_tagged.proofs.elements.columns_of.Goals.{in-Str+in_ok-more+in-Some, in_default}
+use Rattle.tbr_tagged.proofs.elements.width_of.Goals as goal
+use Rattle.tbr_tagged.proofs.elements.width_of.Goals.{in-Str+in_ok-more+in-Some, in_default}
 
 pub returns-in_err-more : goal.returns-in_err-more
 returns-in_err-more g c =
