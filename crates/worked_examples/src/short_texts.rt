@@ -2,7 +2,8 @@
 //! and the markers that are on none of them trail.
 ghost use Rattle.std.specs.Prelude.{◌<◌};
 
-use crate::texts::{Voice, append_marked_line, append_marker, join};
+use crate::steps::{add, mark_with, plain};
+use crate::texts::{Voice, append_marked_line, append_marker};
 use std::alloc::{AllocError, Global};
 use std::test::Fail;
 use tbr_lines::{Error, OutOfMemory, UnicodeColumns, WhiteSpace, WrappedBlock};
@@ -109,13 +110,7 @@ fn plainly(alloc: Global, width: usize, text: &str) -> Result<Option<String>, Ou
 fn wrapped(alloc: Global, width: usize, text: &str) -> Result<String, Error>
     requires { 0 < width }
 {
-    let mut block: WrappedBlock<Voice> = WrappedBlock::new(
-        alloc,
-        width,
-        false,
-        false,
-        Voice::First,
-    );
+    let mut block = plain::<UnicodeColumns>(alloc, width);
     for c in text.chars() {
         join_one(&mut block, alloc, c)?;
     }
@@ -134,11 +129,11 @@ fn wrapped(alloc: Global, width: usize, text: &str) -> Result<String, Error>
 /// One character joins the block's run, or a marker.
 fn join_one(block: &mut WrappedBlock<Voice>, alloc: Global, c: char) -> Result<(), Error> {
     if c == MARK {
-        return join(block, alloc, WhiteSpace::Normal, "#m");
+        return mark_with(block, alloc, "m");
     }
     let mut text = String::new(alloc);
     text.push(c)?;
-    join(block, alloc, WhiteSpace::Normal, text.as_str())
+    add(block, WhiteSpace::Normal, text.as_str())
 }
 
 /// Whether the block wraps the text as the plain program does.
