@@ -13,12 +13,12 @@ pub enum Voice {
 
 /// The lines of two texts, each with a newline.
 pub fn under_two_tags(alloc: Global) -> Result<String, Error> {
-    let mut all = String::new(alloc);
     let (first, second) = (Voice::First, Voice::Second);
     let mut block: WrappedBlock<Voice> = WrappedBlock::new(alloc, 20, false, false, first);
     block.add_text("Words under a ", WhiteSpace::Normal, &first, &first)?;
     block.add_text("second tag.", WhiteSpace::Normal, &second, &second)?;
     let lines = block.into_lines()?;
+    let mut all = String::new(alloc);
     for line in &lines {
         all.push_str(line.to_text()?.as_str())?;
         all.push('\n')?;

@@ -1,10 +1,10 @@
 //! Worked examples of blocks that pad, overflow, and hand out their lines one at a time.
 use crate::steps::Step::{Ask, Flush, Next, Normal, Pre};
-use crate::steps::{expect, expect_of, expect_pieces, overflowing};
+use crate::steps::{expect, expect_of, expect_pieces, overflowing, plain, told};
 use crate::texts::Voice;
 use std::alloc::{AllocError, Global};
 use std::test::Fail;
-use tbr_lines::{Error, WhiteSpace, WrappedBlock};
+use tbr_lines::{UnicodeColumns, WrappedBlock};
 
 #[test]
 fn lines_are_padded_under_the_default_tag(rt: HostRuntime) {
@@ -53,7 +53,7 @@ fn ended_lines_come_one_at_a_time(rt: HostRuntime) {
     );
 }
 
-/// So many letters.
+/// A word of that many letters.
 fn letters(alloc: Global, count: usize) -> Result<String, AllocError> {
     let mut word = String::with_capacity(alloc, count)?;
     for _ in 0..count {
@@ -62,25 +62,18 @@ fn letters(alloc: Global, count: usize) -> Result<String, AllocError> {
     Ok(word)
 }
 
-/// How many lines a word has at seven columns, and the last of them.
-fn counted_lines(alloc: Global, word: &str) -> Result<(usize, String), Error> {
-    let mut block: WrappedBlock<Voice> = WrappedBlock::new(alloc, 7, false, false, Voice::First);
-    block.add_text(word, WhiteSpace::Normal, &Voice::First, &Voice::First)?;
-    let lines = block.into_lines()?;
-    let text = match lines.last() {
-        Some(line) => line.to_text()?,
-        None => String::new(alloc),
-    };
-    Ok((lines.len(), text))
-}
-
 #[test]
 fn a_word_of_many_letters_is_cut_into_full_lines(rt: HostRuntime) -> Result<(), Fail> {
     let alloc = rt.alloc();
     let word = letters(alloc, 100_000)?;
-    let (count, last) = counted_lines(alloc, word.as_str())?;
-    assert_eq!(rt; count, 14_286);
-    assert_eq!(rt; last.as_str(), "xxxxx");
+    let block = plain::<UnicodeColumns>(alloc, 7);
+    let lines = told(alloc, block, &[Normal(word.as_str())])?;
+    assert_eq!(rt;
+        lines.len(),
+        100_000 + 14_286,
+        "each line ends in a newline"
+    );
+    assert!(rt; lines.as_str().ends_with("\nxxxxx\n"));
     Ok(())
 }
 
