@@ -15,6 +15,9 @@ const MARK: char = '|';
 /// A letter, a space, two characters that look like none, a stroke, a wide character, and a marker.
 const ALPHABET: [char; 7] = ['a', ' ', '\u{200b}', '\u{a0}', '\u{336}', '漢', MARK];
 
+/// What stands for a refusal. No text of the alphabet gives it.
+const REFUSED: &str = "refused";
+
 const LONGEST: u32 = 5;
 
 const WIDEST: usize = 4;
@@ -85,11 +88,12 @@ fn append_trailing(
     Ok(())
 }
 
-/// The lines of the best layout by the plain program, each with a newline, and the markers that trail, or `None` where the text has no legal layout.
-fn plainly(alloc: Global, width: usize, text: &str) -> Result<Option<String>, OutOfMemory> {
+/// The lines of the best layout by the plain program, each with a newline, and the markers that trail, or that the text has no legal
+/// layout.
+fn plainly(alloc: Global, width: usize, text: &str) -> Result<String, OutOfMemory> {
     let run = entries(alloc, text)?;
     let Some(cuts) = best_layout::<u8, UnicodeColumns>(alloc, &run, width)? else {
-        return Ok(None);
+        return Ok(String::from_str(alloc, REFUSED)?);
     };
     let items = slots::<u8, UnicodeColumns>(alloc, &run, width)?;
     let mut all = String::new(alloc);
@@ -103,7 +107,7 @@ fn plainly(alloc: Global, width: usize, text: &str) -> Result<Option<String>, Ou
         from = *to;
     }
     append_trailing(&mut all, text, items.as_slice())?;
-    Ok(Some(all))
+    Ok(all)
 }
 
 /// The lines of a block with the text, each with a newline, and the markers that trail.
@@ -136,21 +140,23 @@ fn join_one(block: &mut WrappedBlock<Voice>, alloc: Global, c: char) -> Result<(
     add(block, WhiteSpace::Normal, text.as_str())
 }
 
-/// Whether the block wraps the text as the plain program does.
-fn agrees(alloc: Global, width: usize, text: &str) -> Result<bool, Fail>
+/// The same, or that the block refused the text.
+fn wrapped_or_refused(alloc: Global, width: usize, text: &str) -> Result<String, Error>
     requires { 0 < width }
 {
-    let wrapped = match wrapped(alloc, width, text) {
-        Ok(lines) => Some(lines),
-        Err(Error::TooNarrow) => None,
-        Err(e) => return Err(Fail::from(e)),
-    };
+    match wrapped(alloc, width, text) {
+        Err(Error::TooNarrow) => Ok(String::from_str(alloc, REFUSED)?),
+        lines => lines,
+    }
+}
+
+/// Whether the block wraps the text as the plain program does.
+fn agrees(alloc: Global, width: usize, text: &str) -> Result<bool, Error>
+    requires { 0 < width }
+{
+    let wrapped = wrapped_or_refused(alloc, width, text)?;
     let plain = plainly(alloc, width, text)?;
-    Ok(match (&wrapped, &plain) {
-        (Some(lines), Some(expected)) => lines.as_str() == expected.as_str(),
-        (None, None) => true,
-        _ => false,
-    })
+    Ok(wrapped.as_str() == plain.as_str())
 }
 
 fn agrees_on_texts_of(
