@@ -1,5 +1,5 @@
 //! Tagged lines that are edited step by step.
-use crate::texts::{Voice, append_elements, elements, marker, piece};
+use crate::texts::{Voice, append_elements, marker, piece};
 use std::alloc::Global;
 use tbr_lines::{CellAlign, CharWidth, OutOfMemory, TaggedLine};
 
@@ -43,11 +43,14 @@ pub fn edited<W: CharWidth>(alloc: Global, edits: &[Edit<'_>]) -> Result<String,
     Ok(all)
 }
 
-/// What the line has behind all of them.
-pub fn edited_line<W: CharWidth>(alloc: Global, edits: &[Edit<'_>]) -> Result<String, OutOfMemory> {
+/// A line behind these edits.
+pub fn line_after<W: CharWidth>(
+    alloc: Global,
+    edits: &[Edit<'_>],
+) -> Result<TaggedLine<Voice>, OutOfMemory> {
     let mut line = TaggedLine::new(alloc);
     for edit in edits {
         apply::<W>(&mut line, alloc, *edit)?;
     }
-    elements(alloc, &line)
+    Ok(line)
 }

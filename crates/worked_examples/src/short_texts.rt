@@ -135,9 +135,8 @@ fn join_one(block: &mut WrappedBlock<Voice>, alloc: Global, c: char) -> Result<(
     if c == MARK {
         return mark_with(block, alloc, "m");
     }
-    let mut text = String::new(alloc);
-    text.push(c)?;
-    add(block, WhiteSpace::Normal, text.as_str())
+    let mut bytes = [0u8; 4];
+    add(block, WhiteSpace::Normal, c.encode_utf8(&mut bytes))
 }
 
 /// The same, or that the block refused the text.

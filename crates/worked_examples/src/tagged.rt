@@ -3,7 +3,7 @@ ghost use Rattle.std.specs.Iterator.{IsFinite};
 
 use crate::columns::EveryOne;
 use crate::edits::Edit::{Align, Character, Front, Marker, Pad, Text};
-use crate::edits::{Edit, edited, edited_line};
+use crate::edits::{Edit, edited, line_after};
 use crate::texts::{Voice, elements, marker, piece, shows};
 use std::alloc::Global;
 use std::process::Abort;
@@ -17,12 +17,14 @@ fn expect<W: CharWidth>(rt: &impl Abort, alloc: Global, edits: &[Edit<'_>], expe
     shows(rt, edited::<W>(alloc, edits), expected)
 }
 
+/// Two pieces with a marker between them.
 fn marked_line(alloc: Global) -> Result<TaggedLine<Voice>, OutOfMemory> {
-    let mut line = TaggedLine::new(alloc);
-    line.push(text_element(alloc, "a", Voice::First)?)?;
-    line.push(marker(alloc, "m")?)?;
-    line.push(text_element(alloc, "b", Voice::First)?)?;
-    Ok(line)
+    let edits = [
+        Text("a", Voice::First),
+        Marker("m"),
+        Text("b", Voice::First),
+    ];
+    line_after::<EveryOne>(alloc, &edits)
 }
 
 #[test]
@@ -88,32 +90,41 @@ fn a_line_of_the_empty_text_has_a_piece(rt: HostRuntime) -> Result<(), Fail> {
     Ok(())
 }
 
-/// A marker and `漢`, aligned to a width.
+/// The elements of a marker and `漢` behind it, aligned to a width.
 fn aligned<W: CharWidth>(
+    alloc: Global,
+    width: usize,
+    align: CellAlign,
+) -> Result<String, OutOfMemory> {
+    let edits = [
+        Marker("m"),
+        Text("漢", Voice::First),
+        Align(width, align, Voice::First),
+    ];
+    elements(alloc, &line_after::<W>(alloc, &edits)?)
+}
+
+/// Aligned so, they are those that are expected.
+fn expect_aligned<W: CharWidth>(
     rt: &impl Abort,
     alloc: Global,
     width: usize,
     align: CellAlign,
     expected: &str,
 ) {
-    let edits = [
-        Marker("m"),
-        Text("漢", Voice::First),
-        Align(width, align, Voice::First),
-    ];
-    shows(rt, edited_line::<W>(alloc, &edits), expected)
+    shows(rt, aligned::<W>(alloc, width, align), expected)
 }
 
 #[test]
 fn the_odd_column_of_the_middle_is_on_the_right(rt: HostRuntime) {
     let alloc = rt.alloc();
     // Spaces in front stand before markers.
-    aligned::<UnicodeColumns>(&rt, alloc, 5, CellAlign::Centre, "1 |#m|1漢  ");
-    aligned::<UnicodeColumns>(&rt, alloc, 5, CellAlign::default(), "#m|1漢   ");
-    aligned::<UnicodeColumns>(&rt, alloc, 5, CellAlign::Right, "1   |#m|1漢");
-    aligned::<UnicodeColumns>(&rt, alloc, 2, CellAlign::Right, "#m|1漢");
+    expect_aligned::<UnicodeColumns>(&rt, alloc, 5, CellAlign::Centre, "1 |#m|1漢  ");
+    expect_aligned::<UnicodeColumns>(&rt, alloc, 5, CellAlign::default(), "#m|1漢   ");
+    expect_aligned::<UnicodeColumns>(&rt, alloc, 5, CellAlign::Right, "1   |#m|1漢");
+    expect_aligned::<UnicodeColumns>(&rt, alloc, 2, CellAlign::Right, "#m|1漢");
     // By the second width instance.
-    aligned::<EveryOne>(&rt, alloc, 5, CellAlign::Centre, "1  |#m|1漢  ");
+    expect_aligned::<EveryOne>(&rt, alloc, 5, CellAlign::Centre, "1  |#m|1漢  ");
 }
 
 #[test]
