@@ -3,7 +3,7 @@ use Rattle.std.specs.Prelude.{◌≡◌, ℕ, ◌≤◌, ◌==◌, Bool, true, f
 use Rattle.std.proofs.Common.{arith}
 use Rattle.std.proofs.lemmas.Bool.{eqb-true}
 use Rattle.tbr_model.specs.Width.{takes_one_column}
-use Rattle.worked_rows.specs.EveryOne.{every_one, every_one_at_most_two, every_one_drawn}
+use Rattle.worked_examples.specs.EveryOne.{every_one, every_one_at_most_two, every_one_drawn}
 
 -- U+2003
 abbrev pub em_space : ℕ

@@ -2,7 +2,8 @@
 //! and the markers that are on none of them trail.
 ghost use Rattle.std.specs.Prelude.{◌<◌};
 
-use crate::texts::{Voice, append_marked_line, append_marker, join};
+use crate::steps::{add, mark_with, plain};
+use crate::texts::{Voice, append_marked_line, append_marker};
 use std::alloc::{AllocError, Global};
 use std::test::Fail;
 use tbr_lines::{Error, OutOfMemory, UnicodeColumns, WhiteSpace, WrappedBlock};
@@ -13,6 +14,9 @@ const MARK: char = '|';
 
 /// A letter, a space, two characters that look like none, a stroke, a wide character, and a marker.
 const ALPHABET: [char; 7] = ['a', ' ', '\u{200b}', '\u{a0}', '\u{336}', '漢', MARK];
+
+/// What stands for a refusal. No text of the alphabet gives it.
+const REFUSED: &str = "refused";
 
 const LONGEST: u32 = 5;
 
@@ -84,11 +88,12 @@ fn append_trailing(
     Ok(())
 }
 
-/// The lines of the best layout by the plain program, each with a newline, and the markers that trail, or `None` where the text has no legal layout.
-fn plainly(alloc: Global, width: usize, text: &str) -> Result<Option<String>, OutOfMemory> {
+/// The lines of the best layout by the plain program, each with a newline, and the markers that trail, or that the text has no legal
+/// layout.
+fn plainly(alloc: Global, width: usize, text: &str) -> Result<String, OutOfMemory> {
     let run = entries(alloc, text)?;
     let Some(cuts) = best_layout::<u8, UnicodeColumns>(alloc, &run, width)? else {
-        return Ok(None);
+        return Ok(String::from_str(alloc, REFUSED)?);
     };
     let items = slots::<u8, UnicodeColumns>(alloc, &run, width)?;
     let mut all = String::new(alloc);
@@ -102,20 +107,14 @@ fn plainly(alloc: Global, width: usize, text: &str) -> Result<Option<String>, Ou
         from = *to;
     }
     append_trailing(&mut all, text, items.as_slice())?;
-    Ok(Some(all))
+    Ok(all)
 }
 
 /// The lines of a block with the text, each with a newline, and the markers that trail.
 fn wrapped(alloc: Global, width: usize, text: &str) -> Result<String, Error>
     requires { 0 < width }
 {
-    let mut block: WrappedBlock<Voice> = WrappedBlock::new(
-        alloc,
-        width,
-        false,
-        false,
-        Voice::First,
-    );
+    let mut block = plain::<UnicodeColumns>(alloc, width);
     for c in text.chars() {
         join_one(&mut block, alloc, c)?;
     }
@@ -134,28 +133,29 @@ fn wrapped(alloc: Global, width: usize, text: &str) -> Result<String, Error>
 /// One character joins the block's run, or a marker.
 fn join_one(block: &mut WrappedBlock<Voice>, alloc: Global, c: char) -> Result<(), Error> {
     if c == MARK {
-        return join(block, alloc, WhiteSpace::Normal, "#m");
+        return mark_with(block, alloc, "m");
     }
-    let mut text = String::new(alloc);
-    text.push(c)?;
-    join(block, alloc, WhiteSpace::Normal, text.as_str())
+    let mut bytes = [0u8; 4];
+    add(block, WhiteSpace::Normal, c.encode_utf8(&mut bytes))
+}
+
+/// The same, or that the block refused the text.
+fn wrapped_or_refused(alloc: Global, width: usize, text: &str) -> Result<String, Error>
+    requires { 0 < width }
+{
+    match wrapped(alloc, width, text) {
+        Err(Error::TooNarrow) => Ok(String::from_str(alloc, REFUSED)?),
+        lines => lines,
+    }
 }
 
 /// Whether the block wraps the text as the plain program does.
-fn agrees(alloc: Global, width: usize, text: &str) -> Result<bool, Fail>
+fn agrees(alloc: Global, width: usize, text: &str) -> Result<bool, Error>
     requires { 0 < width }
 {
-    let wrapped = match wrapped(alloc, width, text) {
-        Ok(lines) => Some(lines),
-        Err(Error::TooNarrow) => None,
-        Err(e) => return Err(Fail::from(e)),
-    };
+    let wrapped = wrapped_or_refused(alloc, width, text)?;
     let plain = plainly(alloc, width, text)?;
-    Ok(match (&wrapped, &plain) {
-        (Some(lines), Some(expected)) => lines.as_str() == expected.as_str(),
-        (None, None) => true,
-        _ => false,
-    })
+    Ok(wrapped.as_str() == plain.as_str())
 }
 
 fn agrees_on_texts_of(

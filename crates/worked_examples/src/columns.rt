@@ -1,6 +1,6 @@
 //! Width instances of the tests' own, whose widths need no table.
 ghost use Rattle.std.specs.Prelude.{◌≡◌};
-ghost use Rattle.worked_rows.specs.EveryOne.{every_one, every_one_at_most_two, every_one_drawn};
+ghost use Rattle.worked_examples.specs.EveryOne.{every_one, every_one_at_most_two, every_one_drawn};
 
 use tbr_lines::CharWidth;
 
@@ -29,7 +29,7 @@ impl CharWidth for EveryOne {
 pub struct NoEmSpace;
 
 impl CharWidth for NoEmSpace {
-    ghost use Rattle.worked_rows.specs.NoEmSpace.{no_em_space, no_em_space_at_most_two, no_em_space_drawn};
+    ghost use Rattle.worked_examples.specs.NoEmSpace.{no_em_space, no_em_space_at_most_two, no_em_space_drawn};
 
     ghost columns = { no_em_space };
 

@@ -9,11 +9,17 @@ mod borders;
 #[cfg(test)]
 mod columns;
 #[cfg(test)]
+mod edits;
+#[cfg(test)]
+mod joins;
+#[cfg(test)]
 mod markers;
 #[cfg(test)]
 mod preserved;
 #[cfg(test)]
 mod short_texts;
+#[cfg(test)]
+mod steps;
 #[cfg(test)]
 mod tagged;
 #[cfg(test)]
