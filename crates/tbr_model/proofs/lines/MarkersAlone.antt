@@ -3,10 +3,11 @@ use Rattle.std.proofs.Common.{◌≡◌, ℕ, false, Option, List, [], ◌∷◌
 use Rattle.tbr_model.specs.Run.{character, marker_entry, Item, marker, has_character}
 use Rattle.tbr_model.specs.Layout.{joined}
 use Rattle.tbr_model.specs.Laid.{Laid, nothing_laid, end_if_character}
-use Rattle.tbr_model.specs.Rule.{Event, call, entry, run_of, Progress, at_start, flush_word, enter, step, progress, waiting, lines_of}
+use Rattle.tbr_model.specs.Rule.{Event, call, entry, run_of, Progress, at_start, enter, step, progress, waiting, lines_of}
 use Rattle.tbr_model.specs.Markers.{names_in_items, names_in_run}
 use Rattle.tbr_model.specs.Hard.{entry_letters}
 use Rattle.tbr_model.proofs.words.Items.{has_character-append}
+use Rattle.tbr_model.proofs.rule.HardLines.{not_flushed}
 use Rattle.tbr_model.proofs.rule.Markers.{markers_at_end}
 
 -- Nothing is laid, and no character is in the word.
@@ -26,9 +27,6 @@ module _ {A : Type 0} (columns : ℕ → Option ℕ) (width : ℕ) where
   pub markers_alone : (es : List (Event A)) → entry_letters (run_of es) ≡ [] → HoldsMarkers (progress columns width es)
   markers_alone es h = fold_markers_alone es at_start h (record { laid = refl; word = refl })
 
-  not_flushed : (p : Progress A) → has_character p.word ≡ false → flush_word columns width p ≡ p
-  not_flushed p h = rw h refl
-
   -- no line has ended
   pub no_line_done : (es : List (Event A)) → entry_letters (run_of es) ≡ [] → (progress columns width es).laid.done ≡ []
   no_line_done es h = ap (λ (l : Laid A). l.done) (markers_alone es h).laid
@@ -36,7 +34,7 @@ module _ {A : Type 0} (columns : ℕ → Option ℕ) (width : ℕ) where
   pub no_line_ends : (es : List (Event A)) → entry_letters (run_of es) ≡ [] → lines_of columns width es ≡ []
   no_line_ends es h =
       let k = markers_alone es h in
-      ap (λ (p : Progress A). (end_if_character p.laid).done) (not_flushed (progress columns width es) k.word) ∙ ap (λ (l : Laid A). (end_if_character l).done) k.laid
+      ap (λ (p : Progress A). (end_if_character p.laid).done) (not_flushed columns width (progress columns width es) k.word) ∙ ap (λ (l : Laid A). (end_if_character l).done) k.laid
 
   -- all markers wait
   pub all_wait : (es : List (Event A)) → entry_letters (run_of es) ≡ [] → names_in_items (waiting columns width (progress columns width es)) ≡ names_in_run (run_of es)

@@ -1,24 +1,21 @@
 -- A run of `Normal` keeps its kept characters and its markers, each character under its own annotation.
-use Rattle.std.proofs.Common.{◌≡◌, ℕ, ◌+◌, ◌-◌, inl, inr, ◌==◌, ◌&&◌, nat_le, nat_lt, Bool, true, false, not, if◌then◌else◌, is_some, is_none, Option, Some, None, List, [], ◌∷◌, ◌++◌, fold, refl, ap, sym, ◌∙◌, subst, append_assoc, append-nil}
+use Rattle.std.proofs.Common.{◌≡◌, ℕ, ◌+◌, ◌-◌, inl, inr, ◌==◌, ◌&&◌, nat_le, nat_lt, Bool, true, false, not, if◌then◌else◌, is_some, is_none, Option, Some, None, List, [], ◌∷◌, ◌++◌, fold, refl, ap, sym, ◌∙◌, append_assoc, append-nil}
 use Rattle.std.specs.List.{AllByRecursion as Each}
 use Rattle.std.proofs.lemmas.Bool.{cond_both, eqb-true, not_from_false}
 use Rattle.tbr_model.specs.declared.white_space.WhiteSpace.{WhiteSpace}
 use Rattle.tbr_model.specs.declared.white_space.WhiteSpace.TheVariants.{Normal, Pre, PreWrap}
-use Rattle.tbr_model.specs.Run.{Entry, character, marker_entry, Item, glyph, marker, item_width, items_width, has_character, is_blank, is_break, is_kept, items_of, kept_items}
+use Rattle.tbr_model.specs.Run.{Entry, character, marker_entry, Item, glyph, marker, items_width, has_character, is_blank, is_break, is_kept, items_of, kept_items}
 use Rattle.tbr_model.specs.Layout.{joined}
-use Rattle.tbr_model.specs.Laid.{Laid, extended}
-use Rattle.tbr_model.specs.Rule.{Event, call, entry, run_of, Space, Progress, at_start, pending_width, is_space_item, without_trailing, trimmed, wrap_space_by, wrap_space, is_pre, lay_fresh, lay, break_word, join, collapse, tag_of, enter, step, progress, waiting, finished, lines_of}
+use Rattle.tbr_model.specs.Rule.{Event, call, entry, run_of, Space, Progress, at_start, pending_width, is_space_item, wrap_space_by, wrap_space, is_pre, lay_fresh, lay, break_word, join, collapse, tag_of, enter, step, progress, waiting, lines_of}
 use Rattle.tbr_model.specs.Hard.{HasMode}
 use Rattle.tbr_model.specs.Shown.{without_spaces}
 use Rattle.tbr_model.proofs.words.Items.{break_lost}
-use Rattle.tbr_model.proofs.lists.Each.{each_append, each_front, each_back}
 use Rattle.tbr_model.proofs.rule.Content.{PendingIn, content, unknown_lost, collapse_keeps, word_content}
-use Rattle.tbr_model.proofs.rule.LaidText.{text, text-extended, text-end_line}
-use Rattle.tbr_model.proofs.rule.AlwaysLaid.{KeptByLaying, MayJoin, Brings, run_stands, end_stands}
+use Rattle.tbr_model.proofs.rule.AlwaysLaid.{MayJoin, Brings}
 use Rattle.tbr_model.proofs.rule.Markers.{waiting_none}
 use Rattle.tbr_model.proofs.lines.Passing.{item_passes, passing, passing-append, markers_pass, passing_at_end}
 use Rattle.tbr_model.proofs.lines.WaitingMarkers.{IsNormalMode, looks_at_kept}
-use Rattle.tbr_model.proofs.lines.NothingInvented.{each_trailing}
+use Rattle.tbr_model.proofs.lines.EachItem.{each_on_lines}
 
 -- ---- where a run of `Normal` stands
 
@@ -152,28 +149,8 @@ module _ {A : Type 0} (columns : ℕ → Option ℕ) (width : ℕ) where
   abbrev SpaceOrKept : Item A → Type 0
   SpaceOrKept i = not (is_space_item i) ≡ item_passes (is_kept columns) i
 
-  abbrev LaidSo : Laid A → Type 0
-  LaidSo l = Each SpaceOrKept (text l)
-
-  item_so : (l : Laid A) (i : Item A) (n : ℕ) → SpaceOrKept i → LaidSo l → LaidSo (extended l (i ∷ []) n)
-  item_so l i n h r = subst (Each SpaceOrKept) (sym (text-extended l (i ∷ []) n)) (each_append SpaceOrKept (text l) (i ∷ []) r (h, tt))
-
-  trimmed_so : (l : Laid A) → LaidSo l → LaidSo (trimmed columns l)
-  trimmed_so l r =
-      each_append SpaceOrKept (joined l.done) (without_trailing l.line) (each_front SpaceOrKept (joined l.done) l.line r)
-      (each_trailing SpaceOrKept l.line (each_back SpaceOrKept (joined l.done) l.line r))
-
   space_so : (a : A) → SpaceOrKept (glyph 32 a)
   space_so a = sym (break_lost columns 32 refl)
-
-  so_laid : KeptByLaying columns SpaceOrKept (λ a. Unit {0}) LaidSo
-  so_laid = record {
-    nothing = tt;
-    item = λ l i h r. item_so l i (item_width columns i) h r;
-    space = λ l a h r. item_so l (glyph 32 a) 1 (space_so a) r;
-    ended = λ l r. subst (Each SpaceOrKept) (sym (text-end_line l)) r;
-    trims = trimmed_so;
-  }
 
   joins_so : (c : ℕ) (x : A) → MayJoin columns Normal c → SpaceOrKept (glyph c x)
   joins_so c x (inr blank) = absurd (blank.1 refl)
@@ -199,7 +176,5 @@ module _ {A : Type 0} (columns : ℕ → Option ℕ) (width : ℕ) where
   pub normal_keeps : (es : List (Event A)) → Each (HasMode Normal) (run_of es) →
       without_spaces (joined (lines_of columns width es)) ++ waiting columns width (progress columns width es) ≡ kept_items columns (run_of es)
   normal_keeps es modes =
-      let stands = run_stands columns SpaceOrKept (λ a. Unit {0}) LaidSo so_laid width es (all_so (run_of es) modes) in
-      let lines : List (Item A) = joined (lines_of columns width es) in
-      let so = each_front SpaceOrKept lines (finished columns width (progress columns width es)).line (end_stands columns SpaceOrKept (λ a. Unit {0}) LaidSo so_laid width (progress columns width es) stands) in
-      ap (λ (is : List (Item A)). is ++ waiting columns width (progress columns width es)) (without_spaces_kept lines so) ∙ kept_at_end es modes
+      let so = each_on_lines columns SpaceOrKept (λ a. Unit {0}) (λ a _. space_so a) width es (all_so (run_of es) modes) in
+      ap (λ (is : List (Item A)). is ++ waiting columns width (progress columns width es)) (without_spaces_kept (joined (lines_of columns width es)) so) ∙ kept_at_end es modes

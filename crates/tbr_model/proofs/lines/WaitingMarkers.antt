@@ -2,7 +2,7 @@
 use Rattle.std.proofs.Common.{◌≡◌, ℕ, Bool, true, false, not, if◌then◌else◌, Option, List, [], ◌∷◌, ◌++◌, fold, refl, ap, sym, ◌∙◌, append_assoc, append-nil}
 use Rattle.std.specs.List.{AllZip, AllByRecursion as Each}
 use Rattle.std.specs.Char.{is_whitespace}
-use Rattle.std.proofs.lemmas.Bool.{and_left, and_right, not_from_true}
+use Rattle.std.proofs.lemmas.Bool.{and_left}
 use Rattle.std.proofs.lemmas.List.Sums.{fold-append}
 use Rattle.tbr_model.specs.declared.white_space.WhiteSpace.{WhiteSpace}
 use Rattle.tbr_model.specs.declared.white_space.WhiteSpace.TheVariants.{Normal}
@@ -12,13 +12,11 @@ use Rattle.tbr_model.specs.Rule.{Event, run_of, Progress, at_start, progress, wa
 use Rattle.tbr_model.specs.Markers.{names_in_items, marked_behind, names_behind}
 use Rattle.tbr_model.specs.Hard.{HasMode, is_visible}
 use Rattle.tbr_model.proofs.rule.Content.{LooksAtKept, StandsFor, EntryIn, AnyMode, any_mode, fold_content}
+use Rattle.tbr_model.proofs.rule.VisibleCharacters.{white_not_visible}
 use Rattle.tbr_model.proofs.rule.Markers.{waiting_none}
 use Rattle.tbr_model.proofs.lines.Passing.{passing, looks_at_passing, passing_at_end}
 
 -- ---- tests
-
-white_not_visible : (columns : ℕ → Option ℕ) (c : ℕ) → is_whitespace c ≡ true → is_visible columns c ≡ false
-white_not_visible columns c h = and_right (is_kept columns c) (not (is_whitespace c)) (not_from_true (is_whitespace c) h)
 
 pub looks_at_visible : {A : Type 0} (columns : ℕ → Option ℕ) → LooksAtKept {A = A} columns AnyMode (passing (is_visible columns))
 looks_at_visible columns =

@@ -9,6 +9,7 @@ use Rattle.tbr_model.specs.Rule.{Event, call, entry, run_of, Progress, flush_wor
 use Rattle.tbr_model.specs.Hard.{HasMode, Preserves, entry_letters, IsSpaces, blank_lines}
 use Rattle.tbr_model.proofs.words.Items.{has_character-append, no_character_no_width}
 use Rattle.tbr_model.proofs.rule.HardLineStart.{BeginsHardLine}
+use Rattle.tbr_model.proofs.rule.HardLines.{not_flushed}
 
 -- an entry of a mode that isn't `Normal` preserves
 pub mode_preserves : {A : Type 0} (mode : WhiteSpace) → mode ≢ Normal → (e : Entry A) → HasMode mode e → Preserves e
@@ -26,9 +27,6 @@ record IsBlankSoFar {A : Type 0} (p : Progress A) : Type 0 where
   word : has_character p.word ≡ false
 
 module _ {A : Type 0} (columns : ℕ → Option ℕ) (width : ℕ) where
-  not_flushed : (p : Progress A) → has_character p.word ≡ false → flush_word columns width p ≡ p
-  not_flushed p h = rw h refl
-
   not_broken : (p : Progress A) → has_character p.word ≡ false → break_word columns width p ≡ p
   not_broken p h = let none : items_width columns p.word ≡ 0 = no_character_no_width columns p.word h in rw none refl
 
@@ -53,12 +51,12 @@ module _ {A : Type 0} (columns : ℕ → Option ℕ) (width : ℕ) where
       (subst (λ (d : ℕ). IsBlankSoFar (enter columns width p (character d a b mode))) (sym spaces.0) (space_blank a b mode p modes.0 k))
 
   ended_blank : (p : Progress A) → IsBlankSoFar p → (newline (flush_word columns width p)).laid.done ≡ blank_lines true
-  ended_blank p k = ap (λ (q : Progress A). (newline q).laid.done) (not_flushed p k.word) ∙ rw (k.done, k.line) refl
+  ended_blank p k = ap (λ (q : Progress A). (newline q).laid.done) (not_flushed columns width p k.word) ∙ rw (k.done, k.line) refl
 
   finished_blank : (p : Progress A) → IsBlankSoFar p → (finished columns width p).done ≡ blank_lines false
   finished_blank p k =
       let none : has_character p.laid.line ≡ false = ap has_character k.line in
-      ap (λ (q : Progress A). (end_if_character q.laid).done) (not_flushed p k.word) ∙ rw none (k.done)
+      ap (λ (q : Progress A). (end_if_character q.laid).done) (not_flushed columns width p k.word) ∙ rw none (k.done)
 
   -- the lines of a hard line of spaces alone, before a newline and at the end of the run
   pub blank_line : (p : Progress A) (es : List (Event A)) → BeginsHardLine p → Each Preserves (run_of es) → IsSpaces (entry_letters (run_of es)) →

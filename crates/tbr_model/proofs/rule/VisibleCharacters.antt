@@ -22,7 +22,7 @@ none_visible columns [] h = refl
 none_visible columns (glyph c a ∷ is) h = cc
 none_visible columns (marker m ∷ is) h = none_visible columns is h
 
-white_not_visible : (columns : ℕ → Option ℕ) (c : ℕ) → is_whitespace c ≡ true → is_visible columns c ≡ false
+pub white_not_visible : (columns : ℕ → Option ℕ) (c : ℕ) → is_whitespace c ≡ true → is_visible columns c ≡ false
 white_not_visible columns c h = and_right (is_kept columns c) (not (is_whitespace c)) (not_from_true (is_whitespace c) h)
 
 hidden : {A : Type 0} (columns : ℕ → Option ℕ) (c : ℕ) (a : A) → is_visible columns c ≡ false → visible_glyphs columns (glyph c a ∷ []) ≡ []
