@@ -3,10 +3,11 @@ use Rattle.std.specs.Prelude.{◌≡◌, ℕ, suc, ◌≤◌, Bool, true, false,
 use Rattle.std.specs.List.{AllByRecursion as Each}
 use Rattle.tbr_model.specs.declared.white_space.WhiteSpace.{WhiteSpace}
 use Rattle.tbr_model.specs.declared.white_space.WhiteSpace.TheVariants.{Normal, Pre, PreWrap}
-use Rattle.tbr_model.specs.Run.{Entry, character, marker_entry, Item, items_width, kept_items, has_character, trailing}
+use Rattle.tbr_model.specs.Run.{Entry, character, marker_entry, Item, is_kept, items_width, kept_items, has_character, trailing}
 use Rattle.tbr_model.specs.Layout.{joined}
-use Rattle.tbr_model.specs.Markers.{names_in_items, names_in_run, marker_items, marker_run, without_last_markers}
-use Rattle.tbr_model.specs.Hard.{HasMode, Preserves, IsNarrowEntry, is_visible, hard_lines, Parted, ShowsVisible, ShowsHardLine, ShowsPre, ShowsPreWrap, ShowsTabs}
+use Rattle.tbr_model.specs.Markers.{names_in_items, names_in_run, marker_items, marker_run, names_behind, without_last_markers}
+use Rattle.tbr_model.specs.Hard.{HasMode, Preserves, IsNarrowEntry, entry_letters, is_visible, hard_lines, Parted, ShowsVisible, ShowsHardLine, ShowsPre, ShowsPreWrap, ShowsTabs}
+use Rattle.tbr_model.specs.Shown.{without_spaces, InventsNothing}
 use Rattle.tbr_wrap.specs.Wrapped.{HasBestLines, FitsBlock}
 use Rattle.tbr_tagged.specs.declared.error.Error.{Error}
 
@@ -151,12 +152,25 @@ pub record IsShownBy {A : Type 0} (columns : ℕ → Option ℕ) (width : ℕ) (
   pub prewrap : Each (HasMode PreWrap) run → Parted (ShowsPreWrap columns width) (hard_lines run) texts
   pub tabs : Each (HasMode Pre) run ⊎ Each (HasMode PreWrap) run → Parted (ShowsTabs columns width) (hard_lines run) texts
 
+-- these are the last ones of all
+abbrev pub AreLastOf : {X : Type 0} → List X → List X → Type 0
+AreLastOf {X} xs all = (front : List X) × (front ++ xs ≡ all)
+
 -- The lines that the end of the run adds to those that it had ended before, and the markers that stand on none of
--- them. Each line is as wide as it may be. The run's markers stand on the lines or wait, once and in order; in a
--- `Normal` run where no line may be wider than the block, those that wait are its trailing ones.
+-- them. Each line is as wide as it may be. Nothing stands on the lines but what came, and white space under its tags.
 pub record EndsRun {A : Type 0} (columns : ℕ → Option ℕ) (s : State A)
     (texts : List (List (Item A))) (names : List (List ℕ)) : Type 0 where
   pub shown : IsShownBy columns s.width s.may_overflow s.run (s.lines ++ texts)
   pub fits : Each (FitsBlock columns s.width s.may_overflow) (s.lines ++ texts)
+  pub invents : InventsNothing columns (λ a b. a ≡ b) s.run (s.lines ++ texts)
+  -- a `Normal` run's items stand on its lines or wait, whatever the width
+  pub kept : IsNormal s.run →
+      without_spaces (joined (s.lines ++ texts)) ++ marker_items names ≡ kept_items columns s.run
+  -- markers stand on the lines or wait, once and in order
   pub markers : names_in_items (joined (s.lines ++ texts)) ++ names ≡ names_in_run s.run
+  -- those that wait come behind the last visible character, in a `Normal` run behind the last kept one
+  pub behind : AreLastOf names (names_behind (is_visible columns) s.run)
+  pub behind_kept : IsNormal s.run → AreLastOf names (names_behind (is_kept columns) s.run)
   pub waits : s.may_overflow ≡ false → IsNormal s.run → marker_items names ≡ trailing columns s.run
+  -- a run without a character ends no line
+  pub alone : entry_letters s.run ≡ [] → s.lines ++ texts ≡ []

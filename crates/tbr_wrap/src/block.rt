@@ -1,7 +1,9 @@
 //! A block of wrapped text.
-ghost use Rattle.std.specs.Prelude.{◌≡◌, ◌≢◌, ℕ, ◌≤◌, ◌<◌, ◌++◌, ◌∷◌, [], not, ◌&&◌, ◌||◌, nat_lt, is_none, is_some, if◌then◌else◌, None, Some, List, OnOk, IfOk, IfErr, IsErr, IsSomeAnd, MatchResult, Err, Ok, true, false, chars, string_bytes, length, map, IsTrue, ◌↔◌};
+ghost use Rattle.std.specs.Prelude.{◌≡◌, ◌≢◌, ℕ, ◌≤◌, ◌<◌, ◌++◌, ◌∷◌, [], not, ◌&&◌, ◌||◌, ◌⊎◌, nat_lt, is_none, is_some, if◌then◌else◌, None, Some, List, OnOk, IfOk, IfErr, IsErr, IsSomeAnd, MatchResult, Err, Ok, true, false, chars, string_bytes, length, map, IsTrue, ◌↔◌};
 ghost use Rattle.std.specs.List.{AllZip};
 ghost use Rattle.tbr_model.specs.Run.{Item, items_width, kept_items, has_character};
+ghost use Rattle.tbr_model.specs.Hard.{is_visible};
+ghost use Rattle.tbr_model.specs.Shown.{run_shows_columns};
 ghost use Rattle.tbr_tagged.specs.Copies.{CopiesAreEqual};
 ghost use Rattle.tbr_tagged.specs.Elements.{Element, items_of, SameItems, IsMerged};
 ghost use Rattle.tbr_wrap.specs.Wrapped.{WordsFit, EndedWordsFit, ShowsText, padding_of};
@@ -56,10 +58,10 @@ impl<T: Eq + Clone, W: CharWidth> Model for WrappedBlock<T, W> {
 
 impl<T: Eq + Clone, W: CharWidth> WrappedBlock<T, W> {
     ghost use Rattle.tbr_model.specs.Run.{character, trailing};
-    ghost use Rattle.tbr_model.specs.Markers.{names_in_items, names_in_run, last};
+    ghost use Rattle.tbr_model.specs.Markers.{names_in_items, names_in_run, names_behind, last};
     ghost use Rattle.tbr_tagged.specs.Elements.{marker_element};
     ghost use Rattle.tbr_tagged.specs.View.{element_of};
-    ghost use Rattle.tbr_wrap.specs.State.{empty_block, text_entries, JoinsRun, JoinsAsMarker, EndsRun, KeepsRefusal, WrapsNormally, RunDecides, loose_taken, lines_left, line_taken, run_flushed};
+    ghost use Rattle.tbr_wrap.specs.State.{empty_block, text_entries, JoinsRun, JoinsAsMarker, EndsRun, KeepsRefusal, WrapsNormally, RunDecides, AreLastOf, loose_taken, lines_left, line_taken, run_flushed};
 
     /// A block without text, whose lines take `width` columns at most. It takes no memory.
     ///
@@ -112,6 +114,8 @@ impl<T: Eq + Clone, W: CharWidth> WrappedBlock<T, W> {
     pub fn is_empty(&self) -> bool
         ensures asks { result ≡ is_none self.now.failure && (not (self.now.begun || is_some_list self.now.lines) && self.now.no_columns) }
         ensures normal { WrapsNormally self.now → RunDecides W.columns self.now }
+        ensures shows { self.now.failure ≡ None → run_shows_columns W.columns self.now.run ≡ true →
+            (is_some_list self.now.lines ≡ true) ⊎ (self.now.no_columns ≡ false) }
     {
         self.known();
         self.failure.is_none() && !self.has_begun() && self.has_no_columns()
@@ -207,6 +211,8 @@ impl<T: Eq + Clone, W: CharWidth> WrappedBlock<T, W> {
     fn known(&self)
         ensures fit { WrapsNormally self.now → EndedWordsFit W.columns self.now.width self.now.run }
         ensures decides { WrapsNormally self.now → RunDecides W.columns self.now }
+        ensures shows { self.now.failure ≡ None → run_shows_columns W.columns self.now.run ≡ true →
+            (is_some_list self.now.lines ≡ true) ⊎ (self.now.no_columns ≡ false) }
     {
         let _ = &self.failure;
     }
@@ -290,6 +296,7 @@ impl<T: Eq + Clone, W: CharWidth> WrappedBlock<T, W> {
         T: Drop,
         ensures taken { OnOk result (self.new ≡ loose_taken self.old) }
         ensures markers { IfOk result (λ es. map element_of es.items ≡ map marker_element self.old.loose) }
+        ensures behind { OnOk result (AreLastOf self.old.loose (names_behind (is_visible W.columns) self.old.run)) }
         ensures last { OnOk result (self.old.loose ≡ last (length self.old.loose) (names_in_run self.old.run)) }
         ensures trailing { WrapsNormally self.old → OnOk result (self.old.loose ≡ names_in_items (trailing W.columns self.old.run)) }
         ensures memory { self.old.failure ≡ None → IfErr result (λ e. e ≡ E.OutOfMemory) }

@@ -4,26 +4,34 @@ use Rattle.std.proofs.Math.Bool.{or_assoc, or-false, or-true}
 use Rattle.std.proofs.lemmas.List.{take_at, drop_at, drop-append-le, length-take-le, take-append-drop, length-map, map-append}
 use Rattle.std.proofs.lemmas.List.Elements.{length_all_zip}
 use Rattle.std.proofs.lemmas.List.Sums.{fold-append}
-use Rattle.std.proofs.lemmas.Bool.{le-ltb}
+use Rattle.std.proofs.lemmas.Bool.{le-ltb, and_left, and_right, ne_eqb}
 use Rattle.std.specs.List.{AllZip, AllByRecursion as Each}
 use Rattle.std.specs.Prelude.{nat_lt}
 use Rattle.std.specs.Cmp.{IsEquivalence}
-use Rattle.tbr_model.specs.Run.{Item, glyph, marker, items_width, Entry, marker_entry, has_character}
-use Rattle.tbr_model.specs.Markers.{names_in_items, names_in_run, marker_run, marker_items, last, without_last_markers}
-use Rattle.tbr_model.specs.Laid.{Laid}
+use Rattle.tbr_model.specs.Run.{Item, glyph, marker, is_kept, items_width, kept_items, Entry, marker_entry, has_character}
+use Rattle.tbr_model.specs.Markers.{names_in_items, names_in_run, marker_run, marker_items, names_behind, last, without_last_markers}
+use Rattle.tbr_model.specs.Laid.{Laid, end_if_character}
 use Rattle.tbr_model.specs.Layout.{joined}
 use Rattle.tbr_model.specs.Rule.{Event, call, entry, run_of, Progress, at_start, step, progress, finished, waiting, lines_of}
 use Rattle.tbr_model.proofs.rule.DoneLines.{if_same, step_adds, finished_adds}
 use Rattle.tbr_model.proofs.rule.HardLines.{run_of-append}
 use Rattle.tbr_model.proofs.rule.Markers.{markers_run, markers_at_end, waiting_none, marker_items_alone, names_in_items-append, markers_lead, run_of_markers}
 use Rattle.tbr_model.proofs.rule.TakenOutMarkers.{taken_out, without_none}
+use Rattle.tbr_model.specs.declared.white_space.WhiteSpace.TheVariants.{Normal}
+use Rattle.tbr_model.specs.Hard.{HasMode, entry_letters, is_visible}
+use Rattle.tbr_model.specs.Shown.{without_spaces, InventsNothing, run_shows_columns, HasColumns}
+use Rattle.tbr_model.proofs.lines.Columns.{columns_show}
+use Rattle.tbr_model.proofs.lines.MarkersAlone.{no_line_ends}
+use Rattle.tbr_model.proofs.lines.NormalItems.{normal_keeps}
+use Rattle.tbr_model.proofs.lines.NothingInvented.{nothing_invented}
+use Rattle.tbr_model.proofs.lines.WaitingMarkers.{waits_behind_visible, waits_behind_kept}
 use Rattle.tbr_model.proofs.words.Items.{no_character_no_width}
 use Rattle.tbr_tagged.specs.Elements.{SameItems}
 use Rattle.tbr_tagged.specs.declared.error.Error.{Error}
 use Rattle.tbr_model.proofs.words.Items.{items_width-append}
 use Rattle.tbr_tagged.proofs.SameItems.{all_zip_append, same_has}
 use Rattle.tbr_wrap.specs.Wrapped.{FitsBlock}
-use Rattle.tbr_wrap.specs.State.{State, JoinsRun, JoinsAsMarker, EndsRun, IsShownBy, IsNormal, is_some_list, loose_taken, lines_left, line_taken, run_flushed}
+use Rattle.tbr_wrap.specs.State.{State, JoinsRun, JoinsAsMarker, EndsRun, AreLastOf, IsShownBy, IsNormal, is_some_list, loose_taken, lines_left, line_taken, run_flushed}
 use Rattle.tbr_wrap.specs.Course.{Course, at_first, stepped, word_taken, run_ended, line_handed, after, course, loose_names, state_of, viewed}
 use Rattle.tbr_wrap.specs.Held.{HoldsCourse}
 use Rattle.tbr_wrap.specs.LaidLines.{HoldsLaid, LaidLikeRule, LeavesAfterLine, KeepsLimits}
@@ -263,6 +271,27 @@ module _ {A : Type 0} (columns : ℕ → Option ℕ) where
               let parts : names_in_run c.run ≡ front ++ loose_names word = all ∙ ap (λ ns. front ++ ns) (sym names) in
               sym (ap (last (length (loose_names word))) parts ∙ last_of_two front (loose_names word))
 
+      -- they come behind the last visible character
+      pub loose_behind : AreLastOf (loose_names c.progress.word) (names_behind (is_visible columns) c.run)
+      loose_behind = both (has_character c.progress.word) refl
+        where
+          all : List (List ℕ)
+          all = names_behind (is_visible columns) c.run
+
+          waiting_is : AreLastOf (names_in_items (waiting columns b.lines.width c.progress)) all
+          waiting_is = subst (λ (es : List (Entry A)). AreLastOf (names_in_items (waiting columns b.lines.width c.progress)) (names_behind (is_visible columns) es)) h.run_is
+              (subst (λ (p : Progress A). AreLastOf (names_in_items (waiting columns b.lines.width p)) (names_behind (is_visible columns) (run_of h.events))) h.progress_is (waits_behind_visible columns b.lines.width h.events))
+
+          both : (t : Bool) → has_character c.progress.word ≡ t → AreLastOf (loose_names c.progress.word) all
+          both true some = (all, ap (λ ns. all ++ ns) (no_loose c.progress.word some) ∙ append-nil all)
+          both false none =
+              let names : loose_names c.progress.word ≡ names_in_items c.progress.word = rw none refl in
+              let line : List (Item A) = (end_if_character c.progress.laid).line in
+              let parts : waiting columns b.lines.width c.progress ≡ line ++ c.progress.word = rw none refl in
+              let split : names_in_items (waiting columns b.lines.width c.progress) ≡ names_in_items line ++ loose_names c.progress.word =
+              ap names_in_items parts ∙ names_in_items-append line c.progress.word ∙ ap (λ ns. names_in_items line ++ ns) (sym names) in
+              (waiting_is.0 ++ names_in_items line, append_assoc waiting_is.0 (names_in_items line) (loose_names c.progress.word) ∙ ap (λ ns. waiting_is.0 ++ ns) (sym split) ∙ waiting_is.1)
+
       -- the word that is held has the same markers
       pub word_names_held : has_character c.progress.word ≡ false → names_in_items b.lines.flat.word ≡ loose_names c.progress.word
       word_names_held none = let names : loose_names c.progress.word ≡ names_in_items c.progress.word = rw none refl in same_marker_names b.lines.flat.word c.progress.word h.stands.word ∙ sym names
@@ -358,6 +387,19 @@ module _ {A : Type 0} (columns : ℕ → Option ℕ) where
               fits = subst (Each (FitsBlock columns b.lines.width may)) all_is fits;
               markers = ap (λ ls. names_in_items (joined ls) ++ left_names) (sym lines) ∙ ap (λ is. names_in_items (joined (lines_of columns b.lines.width h.events)) ++ names_in_items is) (sym waits)
                   ∙ markers_at_end columns b.lines.width h.events ∙ ap names_in_run h.run_is;
+              invents = subst (λ (ls : List (List (Item A))). InventsNothing columns (λ a b. a ≡ b) c.run ls) lines
+                  (subst (λ (es : List (Entry A)). InventsNothing columns (λ a b. a ≡ b) es (lines_of columns b.lines.width h.events)) h.run_is
+                  (nothing_invented columns b.lines.width (λ a b. a ≡ b) (λ a. refl) h.events));
+              kept = λ normal.
+                  ap (λ ls. without_spaces (joined ls) ++ marker_items left_names) (sym lines) ∙ ap (λ is. without_spaces (joined (lines_of columns b.lines.width h.events)) ++ is) (sym left_is ∙ sym waits)
+                  ∙ normal_keeps columns b.lines.width h.events (subst (λ (es : List (Entry A)). Each (HasMode Normal) es) (sym h.run_is) normal) ∙ ap (kept_items columns) h.run_is;
+              behind = subst (λ (es : List (Entry A)). AreLastOf left_names (names_behind (is_visible columns) es)) h.run_is
+                  (subst (λ (is : List (Item A)). AreLastOf (names_in_items is) (names_behind (is_visible columns) (run_of h.events))) waits (waits_behind_visible columns b.lines.width h.events));
+              behind_kept = λ normal.
+                  subst (λ (es : List (Entry A)). AreLastOf left_names (names_behind (is_kept columns) es)) h.run_is
+                  (subst (λ (is : List (Item A)). AreLastOf (names_in_items is) (names_behind (is_kept columns) (run_of h.events))) waits
+                  (waits_behind_kept columns b.lines.width h.events (subst (λ (es : List (Entry A)). Each (HasMode Normal) es) (sym h.run_is) normal)));
+              alone = λ none. sym lines ∙ no_line_ends columns b.lines.width h.events (ap entry_letters h.run_is ∙ none);
               waits = λ never normal.
                   sym left_is ∙ sym waits
                   ∙ waits_normal columns b.lines.width h.events (subst (λ o. Each (FitsBlock columns b.lines.width o) (lines_of columns b.lines.width h.events)) never fit) c.run h.run_is normal;
@@ -483,3 +525,18 @@ module _ {A : Type 0} (columns : ℕ → Option ℕ) where
 
       pub word_held : has_character b.lines.flat.word ≡ has_character c.progress.word
       word_held = same_has eq b.lines.flat.word c.progress.word h.stands.word
+
+      -- where a visible character that takes columns came, a line has ended or something that is open takes columns
+      pub shows_columns : run_shows_columns columns c.run ≡ true →
+          (is_some_list c.progress.laid.done ≡ true) ⊎ ((c.progress.laid.width == 0) && (items_width columns c.progress.word == 0) ≡ false)
+      shows_columns shows =
+          elim (subst (HasColumns columns) h.progress_is (columns_show columns b.lines.width h.events (ap (run_shows_columns columns) h.run_is ∙ shows))) [
+            | inl lines ↦ inl (some_count c.progress.laid.done ∙ lt-ltb 0 (length c.progress.laid.done) lines)
+            | inr open_or_word ↦ inr (elim open_or_word [
+              | inl line ↦ and_left _ _ (no_eq _ line)
+              | inr word ↦ and_right _ _ (no_eq _ word)
+            ])
+          ]
+        where
+          no_eq : (n : ℕ) → 0 < n → (n == 0) ≡ false
+          no_eq n some = ne_eqb n 0 (λ e. omega (arith, some, e))

@@ -1,6 +1,7 @@
 use Rattle.std.proofs.Common.{ap, ◌∙◌}
 use Rattle.tbr_wrap.specs.State.{State}
 use Rattle.tbr_wrap.specs.Course.{course}
+use Rattle.tbr_wrap.proofs.runs.Courses.{shows_columns}
 use Rattle.tbr_wrap.proofs.runs.NormalRuns.{narrow_so_far, run_decides}
 use Rattle.tbr_wrap.proofs.block.WrappedBlock.known.Goals as goal
 
@@ -15,3 +16,9 @@ returns-clause-decides g c =
     rw (← c.self.view_is) (λ h.
     let b = c.self.inside.wrapper in
     run_decides g.W.CharWidth.columns g.T.PartialEq.eq b c.self.inside.begun (course g.W.CharWidth.columns b.lines.width c.self.inside.changes.items) (c.self.invariant h.0) h.1 h.2 _ _ _)
+
+pub returns-clause-shows : goal.returns-clause-shows
+returns-clause-shows g c = λ live.
+    let b = c.self.inside.wrapper in
+    let k = c.self.invariant (ap (λ (s : State g.row.T.Denot). s.failure) c.self.view_is ∙ live) in
+    rw (← c.self.view_is) (shows_columns g.W.CharWidth.columns g.T.PartialEq.eq b c.self.inside.begun (course g.W.CharWidth.columns b.lines.width c.self.inside.changes.items) k)

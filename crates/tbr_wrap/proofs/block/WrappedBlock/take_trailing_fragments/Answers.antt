@@ -6,7 +6,7 @@ use Rattle.tbr_tagged.specs.View.{element_of}
 use Rattle.tbr_wrap.specs.State.{State}
 use Rattle.tbr_wrap.specs.Course.{course, loose_names}
 use Rattle.tbr_wrap.specs.Held.{HoldsCourse}
-use Rattle.tbr_wrap.proofs.runs.Courses.{course_after, viewed_after, holds_taken, taken_seen, kept_seen, loose_last, no_loose, word_held, word_names_held, given}
+use Rattle.tbr_wrap.proofs.runs.Courses.{course_after, viewed_after, holds_taken, taken_seen, kept_seen, loose_last, loose_behind, no_loose, word_held, word_names_held, given}
 use Rattle.tbr_wrap.proofs.runs.NormalRuns.{trailing_so_far}
 use Rattle.tbr_wrap.proofs.block.WrappedBlock.take_trailing_fragments.Goals as goal
 
@@ -102,3 +102,19 @@ returns-clause-trailing g c =
     let b = c.self.inside.wrapper in
     let now = course columns b.lines.width c.self.inside.changes.items in
     rw (← c.self.view_is) (λ h. trailing_so_far columns g.T.PartialEq.eq b c.self.inside.begun now (c.self.invariant h.0) h.1 h.2)
+
+pub returns-then-has_word-clause-behind : goal.returns-then-has_word-clause-behind
+returns-then-has_word-clause-behind g c =
+    let columns = g.W.CharWidth.columns in
+    let b = c.self.inside.wrapper in
+    let now = course columns b.lines.width c.self.inside.changes.items in
+    let k = c.self.invariant (ap (λ (s : State g.row.T.Denot). s.failure) c.self.view_is ∙ c.in_ok-refusal.ensures) in
+    rw (← c.self.view_is) (loose_behind columns g.T.PartialEq.eq b c.self.inside.begun now k)
+
+pub returns-clause-behind : goal.returns-clause-behind
+returns-clause-behind g c =
+    let columns = g.W.CharWidth.columns in
+    let b = c.self.inside.wrapper in
+    let now = course columns b.lines.width c.self.inside.changes.items in
+    let k = c.self.invariant (ap (λ (s : State g.row.T.Denot). s.failure) c.self.view_is ∙ c.in_ok-refusal.ensures) in
+    rw (← c.self.view_is) (loose_behind columns g.T.PartialEq.eq b c.self.inside.begun now k)
