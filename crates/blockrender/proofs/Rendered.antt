@@ -1,5 +1,5 @@
 -- The text of lines.
-use Rattle.std.proofs.Common.{◌≡◌, ℕ, ◌+◌, ◌<◌, Bool, List, [], ◌∷◌, ◌++◌, length, get_or, take, map, flat_map, refl, sym, ap, ◌∙◌, subst, append-nil, Option, None, Some}
+use Rattle.std.proofs.Common.{◌≡◌, ℕ, ◌+◌, ◌<◌, Bool, List, [], ◌∷◌, ◌++◌, length, get_or, take, drop, map, flat_map, refl, sym, ap, ◌∙◌, subst, append-nil, Option, None, Some}
 use Rattle.std.specs.Prelude.{encode_utf8_all}
 use Rattle.std.specs.List.{AllZip}
 use Rattle.std.proofs.lemmas.List.{take_more}
@@ -7,8 +7,8 @@ use Rattle.std.proofs.lemmas.List.Concat.{flat_map-append}
 use Rattle.tbr_model.specs.Run.{Item, glyph, marker}
 use Rattle.tbr_model.specs.Layout.{Slot, line_text}
 use Rattle.tbr_lines.specs.Elements.{Element, piece, marker_element, element_items, items_of, element_characters, characters, SameItem, SameItems}
-use Rattle.tbr_lines.specs.State.{State, EndsRun}
-use Rattle.tbr_lines.specs.Wrapped.{IsTextOf, ShowsText, HasBestLines, padding_of}
+use Rattle.tbr_lines.specs.State.{State, EndsRun, lines_left}
+use Rattle.tbr_lines.specs.Wrapped.{ShowsText, padding_of}
 use Rattle.blockrender.specs.Meaning.{item_characters, line_bytes, IsRendered}
 use Rattle.blockrender.specs.Program.{IsLive}
 
@@ -48,27 +48,25 @@ items_same eq (i ∷ is) (j ∷ js) h = ap (λ cs. cs ++ flat_map item_character
 pub shown : {A : Type 0} → List (Element A) → List ℕ
 shown es = encode_utf8_all (characters es) ++ 10 ∷ []
 
-line_same : {A : Type 0} (columns : ℕ → Option ℕ) (eq : A → A → Bool) (padding : Option A) (width : ℕ) (es : List (Element A)) (is : List (Item A)) (line : List (Slot A)) → padding ≡ None → ShowsText columns eq padding width es is → IsTextOf eq is line → shown es ≡ line_bytes line
+line_same : {A : Type 0} (columns : ℕ → Option ℕ) (eq : A → A → Bool) (padding : Option A) (width : ℕ) (es : List (Element A)) (line : List (Slot A)) → padding ≡ None → ShowsText columns eq padding width es (line_text line) → shown es ≡ line_bytes line
 unfolding shown
-line_same columns eq padding width es is line none h k =
-    let items : SameItems eq (items_of es) is = subst (λ js. SameItems eq (items_of es) js) (ap (λ o. is ++ padding_of columns o width is) none ∙ append-nil is) h.items in
-    ap (λ cs. encode_utf8_all cs ++ 10 ∷ []) (sym (characters_same es) ∙ items_same eq (items_of es) is items ∙ items_same eq is (line_text line) k)
+line_same columns eq padding width es line none h =
+    let items : SameItems eq (items_of es) (line_text line) = subst (λ js. SameItems eq (items_of es) js) (ap (λ o. line_text line ++ padding_of columns o width (line_text line)) none ∙ append-nil (line_text line)) h.items in
+    ap (λ cs. encode_utf8_all cs ++ 10 ∷ []) (sym (characters_same es) ∙ items_same eq (items_of es) (line_text line) items)
 
-lines_same : {A : Type 0} (columns : ℕ → Option ℕ) (eq : A → A → Bool) (padding : Option A) (width : ℕ) (ess : List (List (Element A))) (texts : List (List (Item A))) (lines : List (List (Slot A))) → padding ≡ None →
-    AllZip (ShowsText columns eq padding width) ess texts → AllZip (IsTextOf eq) texts lines → flat_map shown ess ≡ flat_map line_bytes lines
-lines_same columns eq padding width [] [] [] none h k = refl
-lines_same columns eq padding width [] [] (l ∷ ls) none h k = absurd k
-lines_same columns eq padding width [] (t ∷ ts) ls none h k = absurd h
-lines_same columns eq padding width (e ∷ es) [] ls none h k = absurd h
-lines_same columns eq padding width (e ∷ es) (t ∷ ts) [] none h k = absurd k
-lines_same columns eq padding width (e ∷ es) (t ∷ ts) (l ∷ ls) none h k =
-    ap (λ cs. cs ++ flat_map shown es) (line_same columns eq padding width e t l none h.0 k.0) ∙ ap (λ cs. line_bytes l ++ cs) (lines_same columns eq padding width es ts ls none h.1 k.1)
+lines_same : {A : Type 0} (columns : ℕ → Option ℕ) (eq : A → A → Bool) (padding : Option A) (width : ℕ) (ess : List (List (Element A))) (lines : List (List (Slot A))) → padding ≡ None →
+    AllZip (ShowsText columns eq padding width) ess (map line_text lines) → flat_map shown ess ≡ flat_map line_bytes lines
+lines_same columns eq padding width [] [] none h = refl
+lines_same columns eq padding width [] (l ∷ ls) none h = absurd h
+lines_same columns eq padding width (e ∷ es) [] none h = absurd h
+lines_same columns eq padding width (e ∷ es) (l ∷ ls) none h =
+    ap (λ cs. cs ++ flat_map shown es) (line_same columns eq padding width e l none h.0) ∙ ap (λ cs. line_bytes l ++ cs) (lines_same columns eq padding width es ls none h.1)
 
 -- the lines of a block that has ended no other run and handed out no line
-pub rendered : (columns : ℕ → Option ℕ) (eq : Unit {0} → Unit {0} → Bool) (s : State (Unit {0})) (texts : List (List (Item (Unit {0})))) (lines : List (List (Element (Unit {0})))) (bytes : List ℕ) (names : List (List ℕ)) → IsLive (Some s) → EndsRun columns eq s texts names →
-    AllZip (ShowsText columns eq s.padding s.width) lines (s.ended ++ texts) → bytes ≡ flat_map (λ line. encode_utf8_all (characters line) ++ 10 ∷ []) lines → IsRendered columns s.width s.run bytes
+pub rendered : (columns : ℕ → Option ℕ) (eq : Unit {0} → Unit {0} → Bool) (s : State (Unit {0})) (texts : List (List (Item (Unit {0})))) (lines : List (List (Element (Unit {0})))) (bytes : List ℕ) (names : List (List ℕ)) → IsLive (Some s) → EndsRun columns s texts names →
+    AllZip (ShowsText columns eq s.padding s.width) lines (lines_left s ++ texts) → bytes ≡ flat_map (λ line. encode_utf8_all (characters line) ++ 10 ∷ []) lines → IsRendered columns s.width s.run bytes
 unfolding shown
 rendered columns eq s texts lines bytes names live ends all e =
-    let only = subst (λ ls. AllZip (ShowsText columns eq s.padding s.width) lines (ls ++ texts)) live.3 all in
-    let best = subst (λ ls. HasBestLines columns eq s.width s.run (ls ++ texts)) live.4 (ends.shown.best live.0 live.5) in
-    (best.lines, best.best, e ∙ lines_same columns eq s.padding s.width lines texts best.lines live.1 only best.shown)
+    let best = ends.shown.best live.0 live.5 in
+    let only : lines_left s ++ texts ≡ map line_text best.lines = (λ i. (live.3 i ++ drop (live.4 i) s.lines) ++ texts) ∙ best.shown in
+    (best.lines, best.best, e ∙ lines_same columns eq s.padding s.width lines best.lines live.1 (subst (λ ls. AllZip (ShowsText columns eq s.padding s.width) lines ls) only all))

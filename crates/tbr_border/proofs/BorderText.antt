@@ -4,7 +4,7 @@ use Rattle.std.specs.List.{slice_range}
 use Rattle.std.specs.Prelude.{replicate}
 use Rattle.std.specs.Char.{IsScalar}
 use Rattle.std.specs.Cmp.{IsEquivalence}
-use Rattle.std.proofs.lemmas.List.{map-append, take_all}
+use Rattle.std.proofs.lemmas.List.{map-append, take_all, take-map, drop-map}
 use Rattle.std.proofs.lemmas.List.Concat.{flat_map-append}
 use Rattle.tbr_model.specs.Run.{Item}
 use Rattle.tbr_tagged.specs.Elements.{element_items, element_characters, SameItems}
@@ -44,18 +44,8 @@ line_above_scalar c = go (is_among (character c) (0x2534 ∷ 0x253C ∷ 0x2514 �
 
 -- ---- parts of lists
 
-map-take : {X Y : Type 0} (f : X → Y) (n : ℕ) (xs : List X) → map f (take n xs) ≡ take n (map f xs)
-map-take f zero xs = refl
-map-take f (suc n) [] = refl
-map-take f (suc n) (x ∷ xs) = ap (λ ys. f x ∷ ys) (map-take f n xs)
-
-pub map-drop : {X Y : Type 0} (f : X → Y) (n : ℕ) (xs : List X) → map f (drop n xs) ≡ drop n (map f xs)
-map-drop f zero xs = refl
-map-drop f (suc n) [] = refl
-map-drop f (suc n) (x ∷ xs) = map-drop f n xs
-
 pub map-slice : {X Y : Type 0} (f : X → Y) (xs : List X) (i j : ℕ) → map f (slice_range xs i j) ≡ slice_range (map f xs) i j
-map-slice f xs i j = map-take f (j - i) (drop i xs) ∙ ap (take (j - i)) (map-drop f i xs)
+map-slice f xs i j = sym (ap (take (j - i)) (drop-map f i xs) ∙ take-map f (j - i) (drop i xs))
 
 pub map-copies : {X Y : Type 0} (f : X → Y) (n : ℕ) (x : X) → map f (replicate n x) ≡ replicate n (f x)
 map-copies f zero x = refl
@@ -119,4 +109,4 @@ hole_at f xs i x at len below is fit =
 
 -- the cells from a place on
 pub cells_from : {X : Type 0} (cell : X → Cell) (xs : List X) (at : ℕ) → map cell (take (length xs - at) (drop at xs)) ≡ drop at (map cell xs)
-cells_from cell xs at = ap (map cell) (take_all (length xs - at) (drop at xs) (omega (arith, length-drop at xs))) ∙ map-drop cell at xs
+cells_from cell xs at = ap (map cell) (take_all (length xs - at) (drop at xs) (omega (arith, length-drop at xs))) ∙ sym (drop-map cell at xs)

@@ -33,13 +33,6 @@ span_end-last f (x ∷ y ∷ xs) d h =
     let e : length (x ∷ y ∷ xs) - 1 ≡ suc (length (y ∷ xs) - 1) = omega arith in
     rw e (span_end-last f (y ∷ xs) d (omega arith))
 
--- one more hole, the same on both sides
-pub same_holes_push : {A : Type 0} (eq : A → A → Bool) (hs ks : List (Hole A)) (h k : Hole A) → AllZip (SameHole eq) hs ks → SameHole eq h k → AllZip (SameHole eq) (hs ++ h ∷ []) (ks ++ k ∷ [])
-same_holes_push eq [] [] h k p q = (q, tt)
-same_holes_push eq [] (l ∷ ks) h k p q = absurd p
-same_holes_push eq (g ∷ hs) [] h k p q = absurd p
-same_holes_push eq (g ∷ hs) (l ∷ ks) h k p q = (p.0, same_holes_push eq hs ks h k p.1 q)
-
 -- holes of the same places are in the same order
 pub same_order : {A : Type 0} (eq : A → A → Bool) (from : ℕ) (hs ks : List (Hole A)) (end : ℕ) → AllZip (SameHole eq) hs ks → AreInOrder from ks end → AreInOrder from hs end
 same_order eq from [] [] end p h = h

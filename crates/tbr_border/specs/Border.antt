@@ -1,8 +1,8 @@
 -- Borders: cells, and text that stands in front of them.
-use Rattle.std.specs.Prelude.{◌≡◌, ℕ, zero, suc, ◌+◌, ◌-◌, ◌≤◌, ◌||◌, Bool, true, false, if◌then◌else◌, List, [], ◌∷◌, ◌++◌, map, length, replicate, drop, slice_range}
+use Rattle.std.specs.Prelude.{◌≡◌, ℕ, zero, suc, ◌+◌, ◌-◌, ◌≤◌, ◌||◌, Bool, true, false, if◌then◌else◌, Option, List, [], ◌∷◌, ◌++◌, map, length, replicate, drop, slice_range}
 use Rattle.std.specs.List.{AllZip}
 use Rattle.tbr_model.specs.Run.{Item}
-use Rattle.tbr_tagged.specs.Elements.{Element, element_items, text_items, SameElement}
+use Rattle.tbr_tagged.specs.Elements.{Element, element_items, element_width, text_items, SameElement}
 use Rattle.tbr_border.specs.Cell.{Cell, horizontal, Side, joined, chopped_left, chopped_right, character, merges, line_above}
 
 -- an element that hides as many cells as its width, from a place on
@@ -31,6 +31,9 @@ abbrev pub AreInOrder : {A : Type 0} → ℕ → List (Hole A) → ℕ → Type 
 AreInOrder from [] end = from ≤ end
 AreInOrder from (h ∷ hs) end = (from ≤ h.place) × AreInOrder (h.place + h.width) hs end
 
+abbrev pub without_holes : {A : Type 0} → List Cell → A → Border A
+without_holes cells tag = record { cells = cells; tag = tag; holes = [] }
+
 -- ---- changes of cells
 
 -- with ─ behind, up to a width
@@ -52,6 +55,20 @@ abbrev pub opened : ℕ → ℕ → List Cell → List Cell
 opened zero end cells = changed_at chopped_left end cells
 opened (suc place) end cells = changed_at chopped_left end (changed_at chopped_right place cells)
 
+-- a border with other cells
+abbrev pub with_cells : {A : Type 0} → List Cell → Border A → Border A
+with_cells cells b = record b { cells = cells }
+
+-- A border with an element in front of the cells from a place on, for as many columns as it takes. It is stretched to
+-- the end of these, and opened there.
+abbrev pub with_span : {A : Type 0} → (ℕ → Option ℕ) → ℕ → Element A → Border A → Border A
+with_span columns place element b =
+    let width = element_width columns element in
+    record b {
+      cells = opened place (place + width) (stretched (place + width) b.cells);
+      holes = b.holes ++ record { place = place; width = width; element = element } ∷ [];
+    }
+
 -- ---- merging
 
 -- whether a cell joins
@@ -69,21 +86,28 @@ abbrev pub joined_under : Side → List Cell → ℕ → List Cell → List Cell
 joined_under side [] place others = []
 joined_under side (c ∷ cells) (suc place) others = c ∷ joined_under side cells place others
 joined_under side (c ∷ cells) zero [] = c ∷ cells
-joined_under side (c ∷ cells) zero (o ∷ others) = (if merges side o then joined side c else c) ∷ joined_under side cells zero others
+joined_under side (c ∷ cells) zero (o ∷ others) =
+    (if merges side o then joined side c else c) ∷ joined_under side cells zero others
 
 -- stretched as far as joins come, and joined there
 abbrev pub merged : Side → List Cell → ℕ → List Cell → List Cell
-merged side cells place others = joined_under side (if any_joins side others then stretched (place + joins_end side others) cells else cells) place others
+merged side cells place others =
+    joined_under side
+    (if any_joins side others then stretched (place + joins_end side others) cells else cells)
+    place others
 
 -- ---- what a border shows
 
 abbrev pub drawn : {A : Type 0} → List Cell → A → List (Item A)
 drawn cells tag = text_items (map character cells) tag
 
--- From a place on: where a hole stands, its element, for as many columns as its width, and in all other columns the cells' characters.
+-- From a place on: where a hole stands, its element, for as many columns as its width, and in all other columns the
+-- cells' characters.
 abbrev pub shown_from : {A : Type 0} → A → List Cell → ℕ → List (Hole A) → List (Item A)
 shown_from tag cells at [] = drawn (drop at cells) tag
-shown_from tag cells at (h ∷ hs) = drawn (slice_range cells at h.place) tag ++ (element_items h.element ++ shown_from tag cells (h.place + h.width) hs)
+shown_from tag cells at (h ∷ hs) =
+    drawn (slice_range cells at h.place) tag
+    ++ (element_items h.element ++ shown_from tag cells (h.place + h.width) hs)
 
 -- a border's items, its cells under a tag
 abbrev pub shown : {A : Type 0} → A → Border A → List (Item A)

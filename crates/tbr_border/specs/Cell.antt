@@ -1,5 +1,5 @@
 -- The cells of a border, as sets of arms.
-use Rattle.std.specs.Prelude.{ℕ, ◌+◌, ◌≤◌, ◌==◌, ◌||◌, Bool, true, false, if◌then◌else◌, ⊤, List, [], ◌∷◌}
+use Rattle.std.specs.Prelude.{ℕ, ◌+◌, ◌≤◌, ◌==◌, ◌||◌, Bool, true, false, if◌then◌else◌, ⊤, List, [], ◌∷◌, map}
 use Rattle.tbr_border.specs.declared.border.cell.BorderSegHoriz.{BorderSegHoriz}
 use Rattle.tbr_border.specs.declared.border.cell.Side.{Side as StoredSide}
 use Rattle.tbr_border.specs.declared.border.cell.Side.TheVariants.{Above, Below}
@@ -23,6 +23,10 @@ cell_of CornerTL = arms false true false true
 cell_of CornerTR = arms true false false true
 cell_of CornerBL = arms false true true false
 cell_of CornerBR = arms true false true false
+
+-- what is stored of cells, as sets of arms
+abbrev pub cells_of : List BorderSegHoriz → List Cell
+cells_of stored = map cell_of stored
 
 -- ─, without a join
 abbrev pub horizontal : Cell
@@ -55,7 +59,9 @@ joined below (arms l r u d) = arms l r u true
 
 -- an arm that stands alone is completed by its opposite
 abbrev pub completed : Bool → Bool → Bool → Bool → Cell
-completed l r u d = if one_if l + one_if r + one_if u + one_if d == 1 then arms (l || r) (l || r) (u || d) (u || d) else arms l r u d
+completed l r u d =
+    if one_if l + one_if r + one_if u + one_if d == 1 then arms (l || r) (l || r) (u || d) (u || d)
+    else arms l r u d
 
 -- the arm to the left is taken away
 abbrev pub chopped_left : Cell → Cell
@@ -89,7 +95,8 @@ abbrev pub is_among : ℕ → List ℕ → Bool
 is_among c [] = false
 is_among c (d ∷ ds) = (c == d) || is_among c ds
 
--- the cells that join a border above or below them when their border is merged into it: ┴ ┬ ┼ ┌ ┐ from above, ┴ ┬ ┼ └ ┘ from below
+-- the cells that join a border above or below them when their border is merged into it: ┴ ┬ ┼ ┌ ┐ from above, ┴ ┬ ┼ └ ┘
+-- from below
 abbrev pub merges : Side → Cell → Bool
 merges above c = is_among (character c) (0x2534 ∷ 0x252C ∷ 0x253C ∷ 0x250C ∷ 0x2510 ∷ [])
 merges below c = is_among (character c) (0x2534 ∷ 0x252C ∷ 0x253C ∷ 0x2514 ∷ 0x2518 ∷ [])

@@ -1,32 +1,26 @@
 //! Horizontal borders, with text in front of them.
-ghost use Rattle.std.specs.Prelude.{◌≡◌, ◌+◌, ◌≤◌, ◌++◌, ◌∷◌, [], true, map, length, replicate, chars, string_bytes, IfOk, OnOk, OnErr};
-ghost use Rattle.tbr_model.specs.Run.{items_width};
-ghost use Rattle.tbr_tagged.specs.Elements.{element_items, items_of, characters, SameItems, IsMerged};
-ghost use Rattle.tbr_tagged.specs.View.{element_of};
+ghost use Rattle.std.specs.Prelude.{◌≡◌, ◌==◌, ◌+◌, ◌≤◌, ◌++◌, map, length, replicate, IfOk, OnOk, OnErr};
+ghost use Rattle.tbr_tagged.specs.Elements.{items_of, SameItems, IsMerged};
+ghost use Rattle.tbr_tagged.specs.View.{chars_of, element_of};
 ghost use Rattle.tbr_tagged.specs.Walks.{item_characters};
-ghost use Rattle.tbr_border.specs.Cell.{cell_of, above, below, side_of, chopped_left, chopped_right, character};
+ghost use Rattle.tbr_border.specs.Cell.{cell_of, cells_of, above, below, side_of, chopped_left, chopped_right, character};
 ghost use Rattle.tbr_border.specs.Border as model;
 ghost use Rattle.std.specs.List.{AllZip};
 ghost use Rattle.tbr_tagged.specs.Copies.{CopiesAreEqual};
 ghost use Rattle.tbr_border.specs.Border.{drawn, shown, shown_from, AreInOrder, SameBorder, SameHole};
-ghost use Rattle.tbr_border.specs.BorderView.{hole_of};
+ghost use Rattle.tbr_border.specs.BorderView.{holes_of};
 
 pub use cell::BorderSegHoriz;
 use cell::Side;
-pub use laws::{
-    cell_has_two_arms, cells_keep_two_arms, chops_are_idempotent, joins_are_idempotent,
-    joins_commute, stretching_appends,
-};
 use std::alloc::Global;
 use std::marker::Model;
 use tbr_model::CharWidth;
 use tbr_tagged::{OutOfMemory, TaggedLine, TaggedLineElement, TaggedString};
 
 mod cell;
-mod laws;
 
-/// A horizontal border: cells under a tag, and elements that stand in front of some of them. A contract sees its cells as sets of
-/// arms, its tag, and the elements as holes, each with its place and its width in columns.
+/// A horizontal border: cells under a tag, and elements that stand in front of some of them. A contract sees its cells
+/// as sets of arms, its tag, and the elements as holes, each with its place and its width in columns.
 #[derive(Debug, Drop)]
 pub struct BorderHoriz<T> {
     segments: Vec<BorderSegHoriz>,
@@ -57,7 +51,7 @@ impl<T> Model for BorderHoriz<T> {
 impl<T: Drop> BorderHoriz<T> {
     /// A border of `width` cells `─`, without holes.
     pub fn new(alloc: Global, width: usize, tag: T) -> Result<BorderHoriz<T>, OutOfMemory>
-        ensures { IfOk result (λ b. b ≡ record { cells = replicate width (cell_of BorderSegHoriz.Horiz); tag = tag; holes = [] }) }
+        ensures { IfOk result (λ b. b ≡ model.without_holes (replicate width (cell_of BorderSegHoriz.Horiz)) tag) }
     {
         BorderHoriz::new_type(alloc, width, BorderSegHoriz::Horiz, tag)
     }
@@ -69,7 +63,7 @@ impl<T: Drop> BorderHoriz<T> {
         linetype: BorderSegHoriz,
         tag: T,
     ) -> Result<BorderHoriz<T>, OutOfMemory>
-        ensures { IfOk result (λ b. b ≡ record { cells = replicate width (cell_of linetype); tag = tag; holes = [] }) }
+        ensures { IfOk result (λ b. b ≡ model.without_holes (replicate width (cell_of linetype)) tag) }
     {
         let mut segments = Vec::new(alloc);
         segments.resize(width, linetype)?;
@@ -86,7 +80,7 @@ impl<T> BorderHoriz<T> {
     ///
     /// Where memory is refused the border stays as it was.
     pub fn stretch_to(&mut self, width: usize) -> Result<(), OutOfMemory>
-        ensures ok { OnOk result (self.new ≡ record self.old { cells = model.stretched width self.old.cells }) }
+        ensures ok { OnOk result (self.new ≡ model.with_cells (model.stretched width self.old.cells) self.old) }
         ensures err { OnErr result (self.new ≡ self.old) }
     {
         stretch(&mut self.segments, width)
@@ -96,7 +90,7 @@ impl<T> BorderHoriz<T> {
     ///
     /// Where memory is refused, or `x + 1` passes `usize`, the border stays as it was.
     pub fn join_above(&mut self, x: usize) -> Result<(), OutOfMemory>
-        ensures ok { OnOk result (self.new ≡ record self.old { cells = model.joined_at above x self.old.cells }) }
+        ensures ok { OnOk result (self.new ≡ model.with_cells (model.joined_at above x self.old.cells) self.old) }
         ensures err { OnErr result (self.new ≡ self.old) }
     {
         join_at(&mut self.segments, Side::Above, x)
@@ -106,14 +100,14 @@ impl<T> BorderHoriz<T> {
     ///
     /// Where memory is refused, or `x + 1` passes `usize`, the border stays as it was.
     pub fn join_below(&mut self, x: usize) -> Result<(), OutOfMemory>
-        ensures ok { OnOk result (self.new ≡ record self.old { cells = model.joined_at below x self.old.cells }) }
+        ensures ok { OnOk result (self.new ≡ model.with_cells (model.joined_at below x self.old.cells) self.old) }
         ensures err { OnErr result (self.new ≡ self.old) }
     {
         join_at(&mut self.segments, Side::Below, x)
     }
 
-    /// Adds an arm down at `pos + i` for each place `i` where the other border, which is seen from above, has one of `┴ ┬ ┼ └ ┘`, also
-    /// under its holes. The border is stretched as far as joins come.
+    /// Adds an arm down at `pos + i` for each place `i` where the other border, which is seen from above, has one of `┴
+    /// ┬ ┼ └ ┘`, also under its holes. The border is stretched as far as joins come.
     ///
     /// Where memory is refused, or a place passes `usize`, the border stays as it was.
     pub fn merge_from_below(
@@ -121,14 +115,15 @@ impl<T> BorderHoriz<T> {
         other: &BorderHoriz<T>,
         pos: usize,
     ) -> Result<(), OutOfMemory>
-        ensures ok { OnOk result (self.new ≡ record self.old { cells = model.merged below self.old.cells pos other.now.cells }) }
+        ensures ok { OnOk result
+            (self.new ≡ model.with_cells (model.merged below self.old.cells pos other.now.cells) self.old) }
         ensures err { OnErr result (self.new ≡ self.old) }
     {
         merge(&mut self.segments, Side::Below, &other.segments, pos)
     }
 
-    /// Adds an arm up at `pos + i` for each place `i` where the other border, which is seen from below, has one of `┴ ┬ ┼ ┌ ┐`, also
-    /// under its holes. The border is stretched as far as joins come.
+    /// Adds an arm up at `pos + i` for each place `i` where the other border, which is seen from below, has one of `┴ ┬
+    /// ┼ ┌ ┐`, also under its holes. The border is stretched as far as joins come.
     ///
     /// Where memory is refused, or a place passes `usize`, the border stays as it was.
     pub fn merge_from_above(
@@ -136,17 +131,18 @@ impl<T> BorderHoriz<T> {
         other: &BorderHoriz<T>,
         pos: usize,
     ) -> Result<(), OutOfMemory>
-        ensures ok { OnOk result (self.new ≡ record self.old { cells = model.merged above self.old.cells pos other.now.cells }) }
+        ensures ok { OnOk result
+            (self.new ≡ model.with_cells (model.merged above self.old.cells pos other.now.cells) self.old) }
         ensures err { OnErr result (self.new ≡ self.old) }
     {
         merge(&mut self.segments, Side::Above, &other.segments, pos)
     }
 
-    /// Puts an element in front of the cells from `pos` on, for as many columns as it takes. The border is stretched to its end, and the
-    /// cells beside it are chopped on the side to it. A marker takes no column.
+    /// Puts an element in front of the cells from `pos` on, for as many columns as it takes. The border is stretched to
+    /// its end, and the cells beside it are chopped on the side to it. A marker takes no column.
     ///
-    /// Where memory is refused, or the element's columns or its end pass `usize`, the border stays as it was and the element is
-    /// dropped.
+    /// Where memory is refused, or the element's columns or its end pass `usize`, the border stays as it was and the
+    /// element is dropped.
     pub fn add_text_span<W: CharWidth>(
         &mut self,
         pos: usize,
@@ -155,7 +151,7 @@ impl<T> BorderHoriz<T> {
     where
         T: Drop,
         requires { model.span_end self.old.holes ≤ pos }
-        ensures ok { OnOk result (let width = items_width W.columns (element_items (element_of element)) in self.new ≡ record self.old { cells = model.opened pos (pos + width) (model.stretched (pos + width) self.old.cells); holes = self.old.holes ++ record { place = pos; width = width; element = element_of element } ∷ [] }) }
+        ensures ok { OnOk result (self.new ≡ model.with_span W.columns pos (element_of element) self.old) }
         ensures err { OnErr result (self.new ≡ self.old) }
     {
         let width = element.width::<W>()?;
@@ -199,9 +195,16 @@ impl<T> BorderHoriz<T> {
         self.segments.len()
     }
 
+    /// Whether the border has no cell.
+    pub fn is_empty(&self) -> bool
+        ensures { result ≡ (length self.now.cells == 0) }
+    {
+        self.segments.is_empty()
+    }
+
     /// The text of the line above: `│` above each `┴`, `┼`, `└` and `┘`, also under holes, and spaces else.
     pub fn to_vertical_lines_above(&self) -> Result<String, OutOfMemory>
-        ensures { IfOk result (λ text. chars (string_bytes text) ≡ model.lines_above self.now) }
+        ensures { IfOk result (λ text. chars_of text ≡ model.lines_above self.now) }
     {
         let mut text = String::new(*self.segments.allocator());
         for cell in &self.segments {
@@ -212,7 +215,7 @@ impl<T> BorderHoriz<T> {
 }
 
 fn stretch(segments: &mut Vec<BorderSegHoriz>, width: usize) -> Result<(), OutOfMemory>
-    ensures ok { OnOk result (map cell_of segments.new.items ≡ model.stretched width (map cell_of segments.old.items)) }
+    ensures ok { OnOk result (cells_of segments.new.items ≡ model.stretched width (cells_of segments.old.items)) }
     ensures len { OnOk result (width ≤ length segments.new.items) }
     ensures longer { length segments.old.items ≤ length segments.new.items }
     ensures err { OnErr result (segments.new.items ≡ segments.old.items) }
@@ -224,7 +227,8 @@ fn stretch(segments: &mut Vec<BorderSegHoriz>, width: usize) -> Result<(), OutOf
 }
 
 fn join_at(segments: &mut Vec<BorderSegHoriz>, side: Side, x: usize) -> Result<(), OutOfMemory>
-    ensures ok { OnOk result (map cell_of segments.new.items ≡ model.joined_at (side_of side) x (map cell_of segments.old.items)) }
+    ensures ok { OnOk result
+        (cells_of segments.new.items ≡ model.joined_at (side_of side) x (cells_of segments.old.items)) }
     ensures longer { length segments.old.items ≤ length segments.new.items }
     ensures err { OnErr result (segments.new.items ≡ segments.old.items) }
 {
@@ -242,7 +246,8 @@ fn merge(
     other: &[BorderSegHoriz],
     pos: usize,
 ) -> Result<(), OutOfMemory>
-    ensures ok { OnOk result (map cell_of segments.new.items ≡ model.merged (side_of side) (map cell_of segments.old.items) pos (map cell_of other.now)) }
+    ensures ok { OnOk result (cells_of segments.new.items
+        ≡ model.merged (side_of side) (cells_of segments.old.items) pos (cells_of other.now)) }
     ensures longer { length segments.old.items ≤ length segments.new.items }
     ensures err { OnErr result (segments.new.items ≡ segments.old.items) }
 {
@@ -260,7 +265,7 @@ fn merge(
 
 /// One past the last cell that joins.
 fn joins_end(side: Side, other: &[BorderSegHoriz]) -> usize
-    ensures { result ≡ model.joins_end (side_of side) (map cell_of other.now) }
+    ensures { result ≡ model.joins_end (side_of side) (cells_of other.now) }
 {
     let mut end = 0;
     for (i, cell) in other.iter().enumerate() {
@@ -273,8 +278,9 @@ fn joins_end(side: Side, other: &[BorderSegHoriz]) -> usize
 
 /// Joins each cell under another that joins.
 fn join_under(segments: &mut Vec<BorderSegHoriz>, side: Side, other: &[BorderSegHoriz], pos: usize)
-    requires { pos + model.joins_end (side_of side) (map cell_of other.now) ≤ length segments.old.items }
-    ensures cells { map cell_of segments.new.items ≡ model.joined_under (side_of side) (map cell_of segments.old.items) pos (map cell_of other.now) }
+    requires { pos + model.joins_end (side_of side) (cells_of other.now) ≤ length segments.old.items }
+    ensures cells { cells_of segments.new.items
+        ≡ model.joined_under (side_of side) (cells_of segments.old.items) pos (cells_of other.now) }
     ensures len { length segments.new.items ≡ length segments.old.items }
 {
     for (i, cell) in other.iter().enumerate() {
@@ -286,7 +292,7 @@ fn join_under(segments: &mut Vec<BorderSegHoriz>, side: Side, other: &[BorderSeg
 
 /// Chops the cells beside the columns from `pos` to `end`.
 fn open(segments: &mut Vec<BorderSegHoriz>, pos: usize, end: usize)
-    ensures cells { map cell_of segments.new.items ≡ model.opened pos end (map cell_of segments.old.items) }
+    ensures cells { cells_of segments.new.items ≡ model.opened pos end (cells_of segments.old.items) }
     ensures len { length segments.new.items ≡ length segments.old.items }
 {
     if pos > 0 {
@@ -296,7 +302,7 @@ fn open(segments: &mut Vec<BorderSegHoriz>, pos: usize, end: usize)
 }
 
 fn chop_right_at(segments: &mut Vec<BorderSegHoriz>, place: usize)
-    ensures cells { map cell_of segments.new.items ≡ model.changed_at chopped_right place (map cell_of segments.old.items) }
+    ensures cells { cells_of segments.new.items ≡ model.changed_at chopped_right place (cells_of segments.old.items) }
     ensures len { length segments.new.items ≡ length segments.old.items }
 {
     if let Some(cell) = segments.get_mut(place) {
@@ -305,7 +311,7 @@ fn chop_right_at(segments: &mut Vec<BorderSegHoriz>, place: usize)
 }
 
 fn chop_left_at(segments: &mut Vec<BorderSegHoriz>, place: usize)
-    ensures cells { map cell_of segments.new.items ≡ model.changed_at chopped_left place (map cell_of segments.old.items) }
+    ensures cells { cells_of segments.new.items ≡ model.changed_at chopped_left place (cells_of segments.old.items) }
     ensures len { length segments.new.items ≡ length segments.old.items }
 {
     if let Some(cell) = segments.get_mut(place) {
@@ -316,7 +322,7 @@ fn chop_left_at(segments: &mut Vec<BorderSegHoriz>, place: usize)
 impl<T> BorderHoriz<T> {
     /// The border's text: for each column what stands in front of it, or the cell's character.
     pub fn to_text(&self) -> Result<String, OutOfMemory>
-        ensures { IfOk result (λ text. chars (string_bytes text) ≡ item_characters (shown self.now.tag self.now)) }
+        ensures { IfOk result (λ text. chars_of text ≡ item_characters (shown self.now.tag self.now)) }
     {
         let cells = self.segments.as_slice();
         let mut text = String::new(*self.segments.allocator());
@@ -332,8 +338,8 @@ impl<T> BorderHoriz<T> {
 }
 
 impl<T: Eq + Clone + Drop> BorderHoriz<T> {
-    /// The border as a line of pieces: cells stand under copies of its tag, and what stands in front of them keeps tags and markers.
-    /// Pieces are the longest stretches under equal tags.
+    /// The border as a line of pieces: cells stand under copies of its tag, and what stands in front of them keeps tags
+    /// and markers. Pieces are the longest stretches under equal tags.
     pub fn into_tagged_line(self) -> Result<TaggedLine<T>, OutOfMemory>
         requires { CopiesAreEqual T.is_clone T.eq }
         ensures items { IfOk result (λ line. SameItems T.eq (items_of line) (shown self.tag self)) }
@@ -345,8 +351,8 @@ impl<T: Eq + Clone + Drop> BorderHoriz<T> {
         flattened(&segments, holes, &tag)
     }
 
-    /// The border as a line of pieces: cells stand under copies of the given tag, and what stands in front of them keeps tags and
-    /// markers. Pieces are the longest stretches under equal tags.
+    /// The border as a line of pieces: cells stand under copies of the given tag, and what stands in front of them
+    /// keeps tags and markers. Pieces are the longest stretches under equal tags.
     pub fn into_tagged_line_with(self, tag: &T) -> Result<TaggedLine<T>, OutOfMemory>
         requires { CopiesAreEqual T.is_clone T.eq }
         ensures items { IfOk result (λ line. SameItems T.eq (items_of line) (shown tag.now self)) }
@@ -378,7 +384,7 @@ fn copied<T: Eq + Clone + Drop>(
     holes: &[Span<T>],
 ) -> Result<Vec<Span<T>>, OutOfMemory>
     requires { CopiesAreEqual T.is_clone T.eq }
-    ensures { IfOk result (λ copies. AllZip (SameHole T.eq) (map hole_of copies.items) (map hole_of holes.now)) }
+    ensures { IfOk result (λ copies. AllZip (SameHole T.eq) (holes_of copies.items) (holes_of holes.now)) }
 {
     let mut copies = Vec::with_capacity(alloc, holes.len())?;
     for span in holes {
@@ -397,8 +403,9 @@ fn flattened<T: Eq + Clone + Drop>(
     tag: &T,
 ) -> Result<TaggedLine<T>, OutOfMemory>
     requires copies { CopiesAreEqual T.is_clone T.eq }
-    requires fit { AreInOrder 0 (map hole_of holes.items) (length segments.now.items) }
-    ensures items { IfOk result (λ line. SameItems T.eq (items_of line) (shown_from tag.now (map cell_of segments.now.items) 0 (map hole_of holes.items))) }
+    requires fit { AreInOrder 0 (holes_of holes.items) (length segments.now.items) }
+    ensures items { IfOk result (λ line.
+        SameItems T.eq (items_of line) (shown_from tag.now (cells_of segments.now.items) 0 (holes_of holes.items))) }
     ensures merged { IfOk result (λ line. IsMerged T.eq line) }
 {
     let alloc = *segments.allocator();
@@ -422,7 +429,8 @@ fn push_cells<T: Eq + Clone + Drop>(
     tag: &T,
 ) -> Result<(), OutOfMemory>
     requires { CopiesAreEqual T.is_clone T.eq }
-    ensures items { OnOk result (SameItems T.eq (items_of line.new) (items_of line.old ++ drawn (map cell_of cells.now) tag.now)) }
+    ensures items { OnOk result
+        (SameItems T.eq (items_of line.new) (items_of line.old ++ drawn (cells_of cells.now) tag.now)) }
     ensures merged { IsMerged T.eq line.old → OnOk result (IsMerged T.eq line.new) }
 {
     if cells.is_empty() {
@@ -436,7 +444,7 @@ fn push_cells<T: Eq + Clone + Drop>(
 
 /// Appends the characters of cells.
 fn draw(text: &mut String, cells: &[BorderSegHoriz]) -> Result<(), OutOfMemory>
-    ensures { OnOk result (chars (string_bytes text.new) ≡ chars (string_bytes text.old) ++ map character (map cell_of cells.now)) }
+    ensures { OnOk result (chars_of text.new ≡ chars_of text.old ++ map character (cells_of cells.now)) }
 {
     for cell in cells {
         text.push(cell.character())?;

@@ -1,8 +1,9 @@
 //! Lines as a renderer keeps them.
-ghost use Rattle.std.specs.Prelude.{◌≡◌, true, chars, string_bytes, IfOk};
+ghost use Rattle.std.specs.Prelude.{◌≡◌, IfOk};
 ghost use Rattle.tbr_tagged.specs.Copies.{CopiesAreEqual};
 ghost use Rattle.tbr_tagged.specs.Elements.{items_of, SameItems, IsMerged};
 ghost use Rattle.tbr_tagged.specs.Walks.{item_characters};
+ghost use Rattle.tbr_tagged.specs.View.{chars_of};
 ghost use Rattle.tbr_border.specs.RenderLine as model;
 
 use crate::border::BorderHoriz;
@@ -20,7 +21,7 @@ pub enum RenderLine<T> {
 impl<T> RenderLine<T> {
     /// The line's text: that of a line of text, or of a border, column by column.
     pub fn to_text(&self) -> Result<String, OutOfMemory>
-        ensures { IfOk result (λ text. chars (string_bytes text) ≡ item_characters (model.line_items self.now)) }
+        ensures { IfOk result (λ text. chars_of text ≡ item_characters (model.line_items self.now)) }
     {
         match self {
             RenderLine::Text(line) => line.to_text(),

@@ -22,7 +22,8 @@ same_characters s t h = ap chars (same_text (string_bytes s) (string_bytes t) (s
 equal_text : {Z : Type 0} (s t : String Z) → chars (string_bytes s) ≡ chars (string_bytes t) → IsTrue (string_eq s t)
 equal_text s t e =
     let bytes : string_bytes s ≡ string_bytes t =
-    sym (encodes-chars (string_bytes s) (IsUtf8-string_bytes s)) ∙ ap encode_utf8_all e ∙ encodes-chars (string_bytes t) (IsUtf8-string_bytes t) in
+    sym (encodes-chars (string_bytes s) (IsUtf8-string_bytes s)) ∙ ap encode_utf8_all e
+    ∙ encodes-chars (string_bytes t) (IsUtf8-string_bytes t) in
     subst (λ (bs : List ℕ). pointwise nat_eq (string_bytes s) bs ≡ true) bytes (string_eq_equiv.refl s)
 
 same_flag : (x y : Bool) → IsTrue (beq x y) → x ≡ y
@@ -63,11 +64,18 @@ equal_by_style rich.Emphasis rich.Emphasis = (λ _. refl, λ _. refl)
 equal_by_style rich.Strong rich.Strong = (λ _. refl, λ _. refl)
 equal_by_style rich.Strikeout rich.Strikeout = (λ _. refl, λ _. refl)
 equal_by_style rich.Code rich.Code = (λ _. refl, λ _. refl)
-equal_by_style (rich.Preformat x) (rich.Preformat y) = (λ h. ap style.preformatted (same_flag x y h), λ h. let e : x ≡ y = cc in subst (λ (b : Bool). IsTrue (beq x b)) e (equal_flag x))
-equal_by_style (rich.Colour x) (rich.Colour y) =
-    (λ h. ap style.colour (same_colour x y h), λ h. let e : x ≡ y = cc in subst (λ (c : Colour). IsTrue (colour.ghosts.eq x c)) e (equal_colour x))
-equal_by_style (rich.BgColour x) (rich.BgColour y) =
-    (λ h. ap style.background (same_colour x y h), λ h. let e : x ≡ y = cc in subst (λ (c : Colour). IsTrue (colour.ghosts.eq x c)) e (equal_colour x))
+equal_by_style (rich.Preformat x) (rich.Preformat y) = (
+  λ h. ap style.preformatted (same_flag x y h),
+  λ h. let e : x ≡ y = cc in subst (λ (b : Bool). IsTrue (beq x b)) e (equal_flag x),
+)
+equal_by_style (rich.Colour x) (rich.Colour y) = (
+  λ h. ap style.colour (same_colour x y h),
+  λ h. let e : x ≡ y = cc in subst (λ (c : Colour). IsTrue (colour.ghosts.eq x c)) e (equal_colour x),
+)
+equal_by_style (rich.BgColour x) (rich.BgColour y) = (
+  λ h. ap style.background (same_colour x y h),
+  λ h. let e : x ≡ y = cc in subst (λ (c : Colour). IsTrue (colour.ghosts.eq x c)) e (equal_colour x),
+)
 equal_by_style a b = (λ h. cc, λ h. cc)
 
 pub copies_equal : (a b : RichAnnotation) → copy.ghosts.is_clone a b → annotation.ghosts.eq a b ≡ true
@@ -78,7 +86,10 @@ copies_equal rich.Emphasis rich.Emphasis h = refl
 copies_equal rich.Strong rich.Strong h = refl
 copies_equal rich.Strikeout rich.Strikeout h = refl
 copies_equal rich.Code rich.Code h = refl
-copies_equal (rich.Preformat x) (rich.Preformat y) h = subst (λ (b : Bool). IsTrue (beq b y)) h (equal_flag y)
-copies_equal (rich.Colour x) (rich.Colour y) h = subst (λ (c : Colour). IsTrue (colour.ghosts.eq c y)) h (equal_colour y)
-copies_equal (rich.BgColour x) (rich.BgColour y) h = subst (λ (c : Colour). IsTrue (colour.ghosts.eq c y)) h (equal_colour y)
+copies_equal (rich.Preformat x) (rich.Preformat y) h =
+    subst (λ (b : Bool). IsTrue (beq b y)) h (equal_flag y)
+copies_equal (rich.Colour x) (rich.Colour y) h =
+    subst (λ (c : Colour). IsTrue (colour.ghosts.eq c y)) h (equal_colour y)
+copies_equal (rich.BgColour x) (rich.BgColour y) h =
+    subst (λ (c : Colour). IsTrue (colour.ghosts.eq c y)) h (equal_colour y)
 copies_equal a b h = absurd h

@@ -4,7 +4,8 @@ use Rattle.tbr_decor.specs.declared.colour.Colour.{Colour}
 use Rattle.tbr_decor.specs.declared.annotation.RichAnnotation.{RichAnnotation}
 use Rattle.tbr_decor.specs.declared.annotation.RichAnnotation.TheVariants as rich
 
--- A link by its target and an image by its source, as characters; preformatted text by whether its line continues another.
+-- A link by its target and an image by its source, as characters; preformatted text by whether its line continues
+-- another.
 pub data Style : Type 0 where
   plain : Style
   link : List ℕ → Style

@@ -22,14 +22,16 @@ abbrev pub footnotes : {A : Type 0} → A → List (List ℕ) → List (List (El
 footnotes a targets = footnotes_from a 1 targets
 
 -- such a line under some annotation of a kind
-pub record IsFootnote {A : Type 0} (IsKind : A → Type 0) (k : ℕ) (target : List ℕ) (line : List (Element A)) : Type 0 where
+pub record IsFootnote {A : Type 0} (IsKind : A → Type 0) (k : ℕ) (target : List ℕ) (line : List (Element A)) :
+    Type 0 where
   pub annotation : A
   pub kind : IsKind annotation
   pub shown : line ≡ footnote annotation k target
 
 abbrev pub AreFootnotesFrom : {A : Type 0} → (A → Type 0) → ℕ → List (List ℕ) → List (List (Element A)) → Type 0
 AreFootnotesFrom IsKind k [] [] = Unit {0}
-AreFootnotesFrom IsKind k (target ∷ targets) (line ∷ lines) = IsFootnote IsKind k target line × AreFootnotesFrom IsKind (k + 1) targets lines
+AreFootnotesFrom IsKind k (target ∷ targets) (line ∷ lines) =
+    IsFootnote IsKind k target line × AreFootnotesFrom IsKind (k + 1) targets lines
 AreFootnotesFrom IsKind k [] (line ∷ lines) = ⊥
 AreFootnotesFrom IsKind k (target ∷ targets) [] = ⊥
 

@@ -1,6 +1,7 @@
 //! What a decorator is.
-ghost use Rattle.std.specs.Prelude.{◌≡◌, ℕ, Bool, true, false, List, Option, map, chars, string_bytes, IsTrue, ◌↔◌, IfOk, OnOk, OnErr};
+ghost use Rattle.std.specs.Prelude.{◌≡◌, ℕ, Bool, true, false, List, Option, map, chars, IsTrue, ◌↔◌, IfOk, OnOk, OnErr};
 ghost use Rattle.std.specs.Option.{option_map};
+ghost use Rattle.tbr_lines.specs.View.{chars_of};
 ghost use Rattle.tbr_lines.specs.Elements.{Element};
 ghost use Rattle.tbr_decor.specs.declared.colour.Colour.{Colour};
 ghost use Rattle.tbr_decor.specs.Start as start;
@@ -15,22 +16,25 @@ use std::alloc::Global;
 use std::fmt::Debug;
 use tbr_lines::{OutOfMemory, TaggedLine};
 
-/// Puts texts round parts of a document, such as `*` round emphasised text, and gives annotations of what stands between, such as
-/// its colour.
+/// Puts texts round parts of a document, such as `*` round emphasised text, and gives annotations of what stands
+/// between, such as its colour.
 ///
-/// The texts are wrapped with the document's own; the annotations stand beside it, for whoever shows the lines. A call answers
-/// [`OutOfMemory`] where memory is refused or the size of a text passes `usize`, and then leaves the decorator as it was.
+/// The texts are wrapped with the document's own; the annotations stand beside it, for whoever shows the lines. A call
+/// answers [`OutOfMemory`] where memory is refused or the size of a text passes `usize`, and then leaves the decorator
+/// as it was.
 ///
-/// What a decorator means stands in its ghost members, and code over any decorator is proved from these alone: texts as their
-/// characters, annotations by what they mean. Two annotations are equal exactly where they mean the same, and a copy of an
-/// annotation equals it. A call that may change the decorator leaves what `after` says; a decorator that holds a collection has an
+/// What a decorator means stands in its ghost members, and code over any decorator is proved from these alone: texts as
+/// their characters, annotations by what they mean. Two annotations are equal exactly where they mean the same, and a
+/// copy of an annotation equals it. A call that may change the decorator leaves what `after` says; a decorator that
+/// holds a collection has an
 /// `impl Model`, so that this is a value.
 ///
-/// No call has a body of its own here, since a body that stands in a trait is proved for every decorator, whatever its members
-/// say. A decorator that has no superscripts, colours and footnotes of its own answers those calls by [`usual`](crate::usual).
+/// No call has a body of its own here, since a body that stands in a trait is proved for every decorator, whatever its
+/// members say. A decorator that has no superscripts, colours and footnotes of its own answers those calls by
+/// [`usual`](crate::usual).
 pub trait TextDecorator: Drop {
     /// What a stretch of text can be annotated with.
-    type Annotation: Eq + Debug + Clone + Default;
+    type Annotation: Eq + Debug + Clone + Default + Drop;
 
     // What an annotation means.
     ghost Meaning: { Type 0 };
@@ -68,70 +72,70 @@ pub trait TextDecorator: Drop {
         alloc: Global,
         url: &str,
     ) -> Result<(String, Self::Annotation), OutOfMemory>
-        ensures text { IfOk result (λ r. chars (string_bytes r.0) ≡ start_text self.old (start.link (chars url.now))) }
+        ensures text { IfOk result (λ r. chars_of r.0 ≡ start_text self.old (start.link (chars url.now))) }
         ensures annotation { IfOk result (λ r. meaning r.1 ≡ annotation self.old (start.link (chars url.now))) }
         ensures after { OnOk result (self.new ≡ after self.old (change.link_start (chars url.now))) }
         ensures err { OnErr result (self.new ≡ self.old) };
 
     /// The text behind a link.
     fn decorate_link_end(&mut self, alloc: Global) -> Result<String, OutOfMemory>
-        ensures text { IfOk result (λ text. chars (string_bytes text) ≡ end_text self.old end.link) }
+        ensures text { IfOk result (λ text. chars_of text ≡ end_text self.old end.link) }
         ensures after { OnOk result (self.new ≡ after self.old change.link_end) }
         ensures err { OnErr result (self.new ≡ self.old) };
 
     /// The text before emphasised text, and its annotation.
     fn decorate_em_start(&self, alloc: Global) -> Result<(String, Self::Annotation), OutOfMemory>
-        ensures text { IfOk result (λ r. chars (string_bytes r.0) ≡ start_text self.now start.emphasis) }
+        ensures text { IfOk result (λ r. chars_of r.0 ≡ start_text self.now start.emphasis) }
         ensures annotation { IfOk result (λ r. meaning r.1 ≡ annotation self.now start.emphasis) };
 
     /// The text behind emphasised text.
     fn decorate_em_end(&self, alloc: Global) -> Result<String, OutOfMemory>
-        ensures { IfOk result (λ text. chars (string_bytes text) ≡ end_text self.now end.emphasis) };
+        ensures { IfOk result (λ text. chars_of text ≡ end_text self.now end.emphasis) };
 
     /// The text before strong text, and its annotation.
     fn decorate_strong_start(
         &self,
         alloc: Global,
     ) -> Result<(String, Self::Annotation), OutOfMemory>
-        ensures text { IfOk result (λ r. chars (string_bytes r.0) ≡ start_text self.now start.strong) }
+        ensures text { IfOk result (λ r. chars_of r.0 ≡ start_text self.now start.strong) }
         ensures annotation { IfOk result (λ r. meaning r.1 ≡ annotation self.now start.strong) };
 
     /// The text behind strong text.
     fn decorate_strong_end(&self, alloc: Global) -> Result<String, OutOfMemory>
-        ensures { IfOk result (λ text. chars (string_bytes text) ≡ end_text self.now end.strong) };
+        ensures { IfOk result (λ text. chars_of text ≡ end_text self.now end.strong) };
 
     /// The text before struck out text, and its annotation.
     fn decorate_strikeout_start(
         &self,
         alloc: Global,
     ) -> Result<(String, Self::Annotation), OutOfMemory>
-        ensures text { IfOk result (λ r. chars (string_bytes r.0) ≡ start_text self.now start.strikeout) }
+        ensures text { IfOk result (λ r. chars_of r.0 ≡ start_text self.now start.strikeout) }
         ensures annotation { IfOk result (λ r. meaning r.1 ≡ annotation self.now start.strikeout) };
 
     /// The text behind struck out text.
     fn decorate_strikeout_end(&self, alloc: Global) -> Result<String, OutOfMemory>
-        ensures { IfOk result (λ text. chars (string_bytes text) ≡ end_text self.now end.strikeout) };
+        ensures { IfOk result (λ text. chars_of text ≡ end_text self.now end.strikeout) };
 
     /// The text before code, and its annotation.
     fn decorate_code_start(&self, alloc: Global) -> Result<(String, Self::Annotation), OutOfMemory>
-        ensures text { IfOk result (λ r. chars (string_bytes r.0) ≡ start_text self.now start.code) }
+        ensures text { IfOk result (λ r. chars_of r.0 ≡ start_text self.now start.code) }
         ensures annotation { IfOk result (λ r. meaning r.1 ≡ annotation self.now start.code) };
 
     /// The text behind code.
     fn decorate_code_end(&self, alloc: Global) -> Result<String, OutOfMemory>
-        ensures { IfOk result (λ text. chars (string_bytes text) ≡ end_text self.now end.code) };
+        ensures { IfOk result (λ text. chars_of text ≡ end_text self.now end.code) };
 
     /// The text before a superscript, and its annotation.
     fn decorate_superscript_start(
         &self,
         alloc: Global,
     ) -> Result<(String, Self::Annotation), OutOfMemory>
-        ensures text { IfOk result (λ r. chars (string_bytes r.0) ≡ start_text self.now start.superscript) }
+        ensures text { IfOk result (λ r. chars_of r.0 ≡ start_text self.now start.superscript) }
         ensures annotation { IfOk result (λ r. meaning r.1 ≡ annotation self.now start.superscript) };
 
     /// The text behind a superscript.
     fn decorate_superscript_end(&self, alloc: Global) -> Result<String, OutOfMemory>
-        ensures { IfOk result (λ text. chars (string_bytes text) ≡ end_text self.now end.superscript) };
+        ensures { IfOk result (λ text. chars_of text ≡ end_text self.now end.superscript) };
 
     /// The annotation of a preformatted line.
     fn decorate_preformat_first(&self, alloc: Global) -> Result<Self::Annotation, OutOfMemory>
@@ -148,26 +152,28 @@ pub trait TextDecorator: Drop {
         src: &str,
         title: &str,
     ) -> Result<(String, Self::Annotation), OutOfMemory>
-        ensures text { IfOk result (λ r. chars (string_bytes r.0) ≡ start_text self.old (start.image (chars src.now) (chars title.now))) }
-        ensures annotation { IfOk result (λ r. meaning r.1 ≡ annotation self.old (start.image (chars src.now) (chars title.now))) }
+        ensures text { IfOk result (λ r.
+            chars_of r.0 ≡ start_text self.old (start.image (chars src.now) (chars title.now))) }
+        ensures annotation { IfOk result (λ r.
+            meaning r.1 ≡ annotation self.old (start.image (chars src.now) (chars title.now))) }
         ensures after { OnOk result (self.new ≡ after self.old (change.image (chars src.now) (chars title.now))) }
         ensures err { OnErr result (self.new ≡ self.old) };
 
     /// The text before each line of a header of a level.
     fn header_prefix(&self, alloc: Global, level: usize) -> Result<String, OutOfMemory>
-        ensures { IfOk result (λ text. chars (string_bytes text) ≡ prefix_text self.now (prefix.header level)) };
+        ensures { IfOk result (λ text. chars_of text ≡ prefix_text self.now (prefix.header level)) };
 
     /// The text before each line of a quoted block.
     fn quote_prefix(&self, alloc: Global) -> Result<String, OutOfMemory>
-        ensures { IfOk result (λ text. chars (string_bytes text) ≡ prefix_text self.now prefix.quote) };
+        ensures { IfOk result (λ text. chars_of text ≡ prefix_text self.now prefix.quote) };
 
     /// The text before an item of a list.
     fn unordered_item_prefix(&self, alloc: Global) -> Result<String, OutOfMemory>
-        ensures { IfOk result (λ text. chars (string_bytes text) ≡ prefix_text self.now prefix.unordered_item) };
+        ensures { IfOk result (λ text. chars_of text ≡ prefix_text self.now prefix.unordered_item) };
 
     /// The text before the item of a list that has the number `i`.
     fn ordered_item_prefix(&self, alloc: Global, i: i64) -> Result<String, OutOfMemory>
-        ensures { IfOk result (λ text. chars (string_bytes text) ≡ prefix_text self.now (prefix.ordered_item i)) };
+        ensures { IfOk result (λ text. chars_of text ≡ prefix_text self.now (prefix.ordered_item i)) };
 
     /// A decorator for a block inside the document.
     fn make_subblock_decorator(&self, alloc: Global) -> Result<Self, OutOfMemory>
@@ -194,7 +200,8 @@ pub trait TextDecorator: Drop {
         alloc: Global,
         colour: Colour,
     ) -> Result<Option<Self::Annotation>, OutOfMemory>
-        ensures annotation { IfOk result (λ a. option_map meaning a ≡ colour_annotation self.old ground.background colour) }
+        ensures annotation { IfOk result (λ a.
+            option_map meaning a ≡ colour_annotation self.old ground.background colour) }
         ensures after { OnOk result (self.new ≡ after self.old (change.push_colour ground.background colour)) }
         ensures err { OnErr result (self.new ≡ self.old) };
 
@@ -209,8 +216,9 @@ pub trait TextDecorator: Drop {
         alloc: Global,
         urls: Vec<String>,
     ) -> Result<Vec<TaggedLine<Self::Annotation>>, OutOfMemory>
-        ensures lines { IfOk result (λ lines. lines_meant meaning lines.items ≡ footnotes self.old (map (λ url. chars (string_bytes url)) urls.items)) }
-        ensures after { OnOk result (self.new ≡ after self.old (change.finalise (map (λ url. chars (string_bytes url)) urls.items))) }
+        ensures lines { IfOk result (λ lines.
+            lines_meant meaning lines.items ≡ footnotes self.old (map chars_of urls.items)) }
+        ensures after { OnOk result (self.new ≡ after self.old (change.finalise (map chars_of urls.items))) }
         ensures err { OnErr result (self.new ≡ self.old) };
 
     ghost equal_by_meaning: { (a b : Self.Annotation) → IsTrue (Self.Annotation.eq a b) ↔ (meaning a ≡ meaning b) };

@@ -15,6 +15,6 @@ mod plain;
 mod rich;
 #[cfg(test)]
 mod tests;
-mod text;
+pub mod text;
 mod trivial;
 pub mod usual;

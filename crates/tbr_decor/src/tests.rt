@@ -1,4 +1,5 @@
 //! What the shipped decorators answer, and one that has only the usual answers.
+mod every_call;
 mod marked;
 
 use crate::{

@@ -1,38 +1,39 @@
-//! Texts that decorators share.
-ghost use Rattle.std.specs.Prelude.{◌≡◌, ◌++◌, [], chars, codes, string_bytes, IsTrue, IfOk};
+//! Texts for decorators to answer.
+ghost use Rattle.std.specs.Prelude.{◌≡◌, ◌++◌, [], chars, codes, IsTrue, IfOk};
 ghost use Rattle.std.specs.List.{list_all};
 ghost use Rattle.std.specs.Char.{is_ascii};
 ghost use Rattle.std.specs.Fmt.{signed_decimal};
+ghost use Rattle.tbr_lines.specs.View.{chars_of};
 ghost use Rattle.tbr_decor.specs.Plain as plain;
 
 use std::alloc::Global;
 use tbr_lines::OutOfMemory;
 
 /// The empty text. It takes no memory.
-pub(crate) fn empty(alloc: Global) -> String
-    ensures { chars (string_bytes result) ≡ [] }
+pub fn empty(alloc: Global) -> String
+    ensures { chars_of result ≡ [] }
 {
     String::new(alloc)
 }
 
 /// A copy of an ASCII text.
-pub(crate) fn ascii(alloc: Global, text: &str) -> Result<String, OutOfMemory>
+pub fn ascii(alloc: Global, text: &str) -> Result<String, OutOfMemory>
     requires { IsTrue (list_all is_ascii text.now) }
-    ensures { IfOk result (λ t. chars (string_bytes t) ≡ text.now) }
+    ensures { IfOk result (λ t. chars_of t ≡ text.now) }
 {
     Ok(String::from_str(alloc, text)?)
 }
 
 /// A copy of a text.
-pub(crate) fn copy(alloc: Global, text: &str) -> Result<String, OutOfMemory>
-    ensures { IfOk result (λ t. chars (string_bytes t) ≡ chars text.now) }
+pub fn copy(alloc: Global, text: &str) -> Result<String, OutOfMemory>
+    ensures { IfOk result (λ t. chars_of t ≡ chars text.now) }
 {
     Ok(String::from_str(alloc, text)?)
 }
 
 /// `level` times `#`, and a space. A size that no text has is refused before anything is written.
-pub(crate) fn header(alloc: Global, level: usize) -> Result<String, OutOfMemory>
-    ensures { IfOk result (λ t. chars (string_bytes t) ≡ plain.header_text level) }
+pub fn header(alloc: Global, level: usize) -> Result<String, OutOfMemory>
+    ensures { IfOk result (λ t. chars_of t ≡ plain.header_text level) }
 {
     let mut text = "#".repeat(alloc, level)?;
     text.push(' ')?;
@@ -40,15 +41,15 @@ pub(crate) fn header(alloc: Global, level: usize) -> Result<String, OutOfMemory>
 }
 
 /// A number and `. `.
-pub(crate) fn ordered_item(alloc: Global, i: i64) -> Result<String, OutOfMemory>
-    ensures { IfOk result (λ t. chars (string_bytes t) ≡ signed_decimal i ++ codes ". ") }
+pub fn ordered_item(alloc: Global, i: i64) -> Result<String, OutOfMemory>
+    ensures { IfOk result (λ t. chars_of t ≡ signed_decimal i ++ codes ". ") }
 {
     Ok(format!(in alloc; "{i}. ")?)
 }
 
 /// A text in square brackets.
-pub(crate) fn bracketed(alloc: Global, text: &str) -> Result<String, OutOfMemory>
-    ensures { IfOk result (λ t. chars (string_bytes t) ≡ codes "[" ++ chars text.now ++ codes "]") }
+pub fn bracketed(alloc: Global, text: &str) -> Result<String, OutOfMemory>
+    ensures { IfOk result (λ t. chars_of t ≡ codes "[" ++ chars text.now ++ codes "]") }
 {
     Ok(format!(in alloc; "[{text}]")?)
 }

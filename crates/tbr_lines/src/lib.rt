@@ -1,10 +1,7 @@
 //! Lines of text under tags: their widths, borders, and wrapping. It re-exports the crates that hold these.
 #![tactic(auto)]
 
-pub use tbr_border::{
-    BorderHoriz, BorderSegHoriz, RenderLine, cell_has_two_arms, cells_keep_two_arms,
-    chops_are_idempotent, joins_are_idempotent, joins_commute, stretching_appends,
-};
+pub use tbr_border::{BorderHoriz, BorderSegHoriz, RenderLine};
 pub use tbr_model::{CharWidth, WhiteSpace};
 pub use tbr_tagged::{
     CellAlign, Chars, Error, Iter, OutOfMemory, TaggedLine, TaggedLineElement, TaggedString,
@@ -12,3 +9,5 @@ pub use tbr_tagged::{
     text_width,
 };
 pub use tbr_wrap::WrappedBlock;
+
+pub mod laws;

@@ -7,4 +7,5 @@ pub mod pre
 pub mod prewrap
 pub mod tabs
 pub mod maps
+pub mod lines
 pub mod HistorySteps

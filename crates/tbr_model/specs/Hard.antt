@@ -174,12 +174,17 @@ tabs_filled n (c ∷ cs) =
 
 -- ---- what is shown of a hard line
 
+-- what spaces alone leave: an empty line before a newline, and no line at the end of a run
+abbrev pub blank_lines : {A : Type 0} → Bool → List (List (Item A))
+blank_lines more = if more then [] ∷ [] else []
+
 -- In any preserving run a newline ends a line, even an empty one, and a hard line's visible characters stand on lines
 -- of its own.
 pub record ShowsHardLine {A : Type 0} (columns : ℕ → Option ℕ) (Same : A → A → Type 0) (more : Bool)
     (h : List (Entry A)) (ls : List (List (Item A))) : Type 0 where
   pub line : IsTrue more → 0 < length ls
   pub visible : ShowsVisible columns Same h ls
+  pub blank : IsSpaces (entry_letters h) → ls ≡ blank_lines more
 
 -- characters that are no spaces stand under annotations that their entries have
 abbrev pub StandUnder : {A : Type 0} → (Entry A → A → Type 0) → List (ℕ × A) → List (Entry A) → Type 0
@@ -204,8 +209,8 @@ pub record ShowsPre {A : Type 0} (columns : ℕ → Option ℕ) (Same : A → A 
   -- if it begins with a non-blank, it is cut after every `width` characters
   pub cut : IsPrintableLine columns h → BeginsWithNonBlank (entry_letters h) →
       IsCutEvery width (entry_letters h) (map letters_of ls)
-  -- a newline behind spaces alone leaves an empty line
-  pub blank : IsPrintableLine columns h → IsSpaces (entry_letters h) → IsTrue more → map letters_of ls ≡ [] ∷ []
+  -- spaces alone leave an empty line before a newline, and no line at the end of the run
+  pub blank : IsSpaces (entry_letters h) → ls ≡ blank_lines more
   -- its first line's characters stand under their annotations, and those behind under the continuation annotations
   pub main : IsPrintableLine columns h → BeginsWithNonBlank (entry_letters h) →
       StandUnder (HasMain Same) (take width (glyphs_of (joined ls))) (take width h)
@@ -222,6 +227,8 @@ pub record ShowsPreWrap {A : Type 0} (columns : ℕ → Option ℕ) (width : ℕ
   -- its stretches stand on its lines, and only those that are wider than a line are cut
   pub whole : IsPrintableLine columns h →
       IsCutOf width (stretches (entry_letters h)) (flat_map stretches (map letters_of ls))
+  -- spaces alone leave an empty line before a newline, and no line at the end of the run
+  pub blank : IsSpaces (entry_letters h) → ls ≡ blank_lines more
 
 -- In a run of one preserving mode.
 pub record ShowsTabs {A : Type 0} (columns : ℕ → Option ℕ) (width : ℕ) (more : Bool)

@@ -15,3 +15,4 @@ pub mod Rule
 pub mod Markers
 pub mod Hard
 pub mod Mapped
+pub mod Shown

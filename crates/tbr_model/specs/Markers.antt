@@ -1,5 +1,5 @@
 -- The markers of a run and of lines, by name.
-use Rattle.std.specs.Prelude.{ℕ, ◌-◌, nat_lt, if◌then◌else◌, List, [], ◌∷◌, map, length, drop}
+use Rattle.std.specs.Prelude.{ℕ, ◌-◌, nat_lt, Bool, if◌then◌else◌, List, [], ◌∷◌, ◌++◌, fold, map, length, drop}
 use Rattle.tbr_model.specs.Run.{Entry, character, marker_entry, Item, glyph, marker}
 
 -- those among items
@@ -34,3 +34,12 @@ without_last_markers n (marker_entry name ∷ es) =
     if nat_lt (length (names_in_run es)) n
     then without_last_markers n es
     else marker_entry name ∷ without_last_markers n es
+
+-- behind markers: a character that passes the test leaves none, and a marker is one more
+abbrev pub marked_behind : {A : Type 0} → (ℕ → Bool) → List (List ℕ) → Entry A → List (List ℕ)
+marked_behind test names (character c a b mode) = if test c then [] else names
+marked_behind test names (marker_entry name) = names ++ name ∷ []
+
+-- the markers of a run behind its last character that passes the test
+abbrev pub names_behind : {A : Type 0} → (ℕ → Bool) → List (Entry A) → List (List ℕ)
+names_behind test run = fold (marked_behind test) [] run

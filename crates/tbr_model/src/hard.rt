@@ -9,7 +9,8 @@ ghost use Rattle.tbr_model.specs.Rule.{Event, run_of, lines_of};
 ghost use Rattle.tbr_model.specs.Hard.{AllHaveMode, Preserves, hard_lines, Parted, ShowsHardLine, ShowsPre, ShowsPreWrap, ShowsTabs};
 
 /// In a run of preserving modes each hard line has lines of its own. Its visible characters stand there once, in order,
-/// each under an annotation of its call. A newline ends a line, even an empty one.
+/// each under an annotation of its call. A newline ends a line, even an empty one. Spaces alone leave an empty line
+/// before a newline, and no line at the end of the run.
 pub fn hard_lines_are_shown<T>()
     ensures { (columns : ℕ → Option ℕ) (width : ℕ) (eq : T → T → Bool) → ((x : T) → eq x x ≡ true) →
         (es : List (Event T)) → Each Preserves (run_of es) →
@@ -18,8 +19,8 @@ pub fn hard_lines_are_shown<T>()
 
 /// In a run of `Pre` alone each hard line keeps its characters, in order. A hard line of printable characters, not of
 /// spaces alone, is one line where it fits. If it begins with a non-blank, it is cut after every `width` characters,
-/// and those behind the first cut have the continuation annotation. A newline behind spaces alone leaves an empty
-/// line.
+/// and those behind the first cut have the continuation annotation. Spaces alone leave an empty line before a newline,
+/// and no line at the end of the run.
 pub fn pre_lines_are_shown<T>()
     ensures { (columns : ℕ → Option ℕ) (eq : T → T → Bool) (width : ℕ) →
         columns space_character ≡ Some 1 → 0 < width → ((x : T) → eq x x ≡ true) →
@@ -29,7 +30,8 @@ pub fn pre_lines_are_shown<T>()
 
 /// In a run of `PreWrap` alone a hard line of printable characters, not of spaces alone, is one line where it fits
 /// without the spaces at its end, which are dropped. In any case its stretches of non-blanks stand in order, and a
-/// stretch is cut only if it is wider than a line.
+/// stretch is cut only if it is wider than a line. Spaces alone leave an empty line before a newline, and no line at
+/// the end of the run.
 pub fn prewrap_lines_are_shown<T>()
     ensures { (columns : ℕ → Option ℕ) (width : ℕ) → columns space_character ≡ Some 1 → 0 < width →
         (es : List (Event T)) → AllHaveMode PreWrap (run_of es) →

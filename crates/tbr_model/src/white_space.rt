@@ -1,17 +1,26 @@
 //! How white space is treated.
 ghost use Rattle.std.specs.Prelude.{◌≡◌};
 ghost use Rattle.tbr_model.specs.WhiteSpace.{preserves};
+ghost use Rattle.tbr_model.specs.declared.white_space.WhiteSpace.TheVariants.{Normal};
 
 /// How white space is treated.
-#[derive(Clone, Copy, PartialEq, Eq, Debug, Default)]
+#[derive(Clone, Copy, PartialEq, Eq, Debug)]
 pub enum WhiteSpace {
     /// Stretches of white space count as one space, and lines are broken between words.
-    #[default]
     Normal,
     /// White space and newlines stay, and lines are broken at newlines and where they are full.
     Pre,
     /// White space and newlines stay, and lines are broken between words too.
     PreWrap,
+}
+
+impl Default for WhiteSpace {
+    ghost is_default = { λ mode. mode ≡ Normal };
+
+    /// White space that counts as one space.
+    fn default() -> WhiteSpace {
+        WhiteSpace::Normal
+    }
 }
 
 impl WhiteSpace {

@@ -4,6 +4,7 @@ use Rattle.std.proofs.lemmas.List.{take_more, map_push, map-append, take-append-
 use Rattle.std.proofs.lemmas.List.Concat.{flat_map-append}
 use Rattle.tbr_model.specs.Run.{Item, glyph, marker, items_width}
 use Rattle.tbr_model.specs.Width.{width_of_text}
+use Rattle.tbr_model.proofs.words.Items.{items_width-append}
 use Rattle.tbr_tagged.specs.Elements.{Element, piece, marker_element, element_items, items_of, has_piece}
 use Rattle.tbr_tagged.proofs.TextColumns.{items_width-text}
 
@@ -19,10 +20,6 @@ module _ {X : Type 0} {A : Type 0} (f : X → A) (xs : List X) (i : ℕ) (x : X)
 -- the same where the element is read with a default
 pub one_more_at : {X : Type 0} {A : Type 0} (f : X → A) (xs : List X) (i : ℕ) (d : X) → i < length xs → map f (take (i + 1) xs) ≡ map f (take i xs) ++ f (get_or xs i d) ∷ []
 one_more_at f xs i d below = ap (map f) (take_more xs i d below) ∙ map_push f (take i xs) (get_or xs i d)
-
-pub items_width-append : {A : Type 0} (columns : ℕ → Option ℕ) (a b : List (Item A)) → items_width columns (a ++ b) ≡ items_width columns a + items_width columns b
-items_width-append columns [] b = omega arith
-items_width-append columns (i ∷ a) b = omega (arith, items_width-append columns a b)
 
 pub items_width-piece : {A : Type 0} (columns : ℕ → Option ℕ) (es fs : List (Element A)) (cs : List ℕ) (a : A) →
     items_width columns (items_of (es ++ (piece cs a ∷ fs))) ≡ items_width columns (items_of es) + (width_of_text columns cs + items_width columns (items_of fs))

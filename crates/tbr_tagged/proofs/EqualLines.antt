@@ -2,6 +2,7 @@
 use Rattle.std.proofs.Common.{◌≡◌, ℕ, ◌&&◌, Bool, true, false, List, [], ◌∷◌, map, refl, ap, sym, ◌∙◌, nat_eq}
 use Rattle.std.specs.Cmp.{both_ways, first_so, second_so}
 use Rattle.std.specs.Cmp.Lexicographic.{pointwise, nat_list_eq_equiv}
+use Rattle.std.specs.Cmp.Lexicographic as lists
 use Rattle.std.specs.Str.{IsUtf8, chars}
 use Rattle.std.proofs.lemmas.Bool.{eqb-true}
 use Rattle.std.proofs.lemmas.Str.{chars-encodes}
@@ -13,18 +14,10 @@ use Rattle.std.proofs.lemmas.Str.{IsUtf8-string_bytes}
 use Rattle.tbr_tagged.specs.declared.element.TaggedString.{TaggedString}
 use Rattle.tbr_tagged.specs.declared.element.TaggedLineElement.{TaggedLineElement}
 use Rattle.tbr_tagged.specs.declared.element.TaggedLineElement.TheVariants.{Str, FragmentStart}
+use Rattle.tbr_tagged.specs.Elements.{Element, piece, marker_element, SameElement, SameElements}
+use Rattle.tbr_tagged.proofs.Copies.{list_copies_equal}
 use Rattle.tbr_tagged.specs.Equal.{same_text, equal_elements, equal_lines}
 use Rattle.tbr_tagged.specs.View.{element_of}
-
--- equal texts are the same
-same_path : (cs ds : List ℕ) → same_text cs ds ≡ true → cs ≡ ds
-same_path [] [] h = refl
-same_path [] (d ∷ ds) h = cc
-same_path (c ∷ cs) [] h = cc
-same_path (c ∷ cs) (d ∷ ds) h =
-    let head = eqb-true c d (first_so (nat_eq c d) (same_text cs ds) h) in
-    let tail = same_path cs ds (second_so (nat_eq c d) (same_text cs ds) h) in
-    λ i. head i ∷ tail i
 
 path_same : (cs ds : List ℕ) → cs ≡ ds → same_text cs ds ≡ true
 path_same cs ds e = ap (same_text cs) (sym e) ∙ nat_list_eq_equiv.refl cs
@@ -38,8 +31,19 @@ same_characters bs ds u v e =
 pub same_bytes : (bs ds : List ℕ) → IsUtf8 bs → IsUtf8 ds → same_text bs ds ≡ same_text (chars bs) (chars ds)
 same_bytes bs ds u v =
     both_ways (same_text bs ds) (same_text (chars bs) (chars ds))
-    (λ h. path_same (chars bs) (chars ds) (ap chars (same_path bs ds h)))
-    (λ h. path_same bs ds (same_characters bs ds u v (same_path (chars bs) (chars ds) h)))
+    (λ h. path_same (chars bs) (chars ds) (ap chars (lists.same_text bs ds (sym h))))
+    (λ h. path_same bs ds (same_characters bs ds u v (lists.same_text (chars bs) (chars ds) (sym h))))
+
+-- ---- lines that are the same are equal
+
+same_element_equal : {A : Type 0} (eq : A → A → Bool) (e f : Element A) → SameElement eq e f → equal_elements eq e f ≡ true
+same_element_equal eq (piece cs a) (piece ds b) h = rw (path_same cs ds h.0, h.1) refl
+same_element_equal eq (marker_element m) (marker_element n) h = path_same m n h
+same_element_equal eq (piece cs a) (marker_element n) h = absurd h
+same_element_equal eq (marker_element m) (piece ds b) h = absurd h
+
+pub same_lines_equal : {A : Type 0} (eq : A → A → Bool) (es fs : List (Element A)) → SameElements eq es fs → equal_lines eq es fs ≡ true
+same_lines_equal eq = list_copies_equal (SameElement eq) (equal_elements eq) (same_element_equal eq)
 
 module _ {A : Type 0} (eq : A → A → Bool) (E : TaggedLineElement A → TaggedLineElement A → Bool)
     (pieces : (s t : TaggedString A) → E (Str s) (Str t) ≡ (same_text (string_bytes s.s) (string_bytes t.s) && eq s.tag t.tag))

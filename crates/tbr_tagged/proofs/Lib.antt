@@ -1,3 +1,4 @@
+pub mod Copies
 pub mod ElementLoops
 pub mod EqualLines
 pub mod LineWalks

@@ -1,5 +1,5 @@
 -- What walks over a line give.
-use Rattle.std.proofs.Common.{◌≡◌, ℕ, List, [], ◌∷◌, ◌++◌, map, refl, ap, ◌∙◌, append-nil, encode_utf8}
+use Rattle.std.proofs.Common.{◌≡◌, ℕ, ◌≤◌, arith, length, List, [], ◌∷◌, ◌++◌, map, refl, ap, ◌∙◌, append-nil, encode_utf8}
 use Rattle.std.specs.Str.{IsUtf8, chars}
 use Rattle.std.specs.Char.{IsScalar}
 use Rattle.std.proofs.lemmas.Str.{chars-append}
@@ -16,6 +16,11 @@ pub strings_are_pieces : {A : Type 0} (es : List (TaggedLineElement A)) → map 
 strings_are_pieces [] = refl
 strings_are_pieces (Str ts ∷ es) = ap (λ fs. piece_of ts ∷ fs) (strings_are_pieces es)
 strings_are_pieces (FragmentStart name ∷ es) = strings_are_pieces es
+
+pub pieces_among : {A : Type 0} (es : List (Element A)) → length (pieces_of es) ≤ length es
+pieces_among [] = omega arith
+pieces_among (piece cs a ∷ es) = omega (arith, pieces_among es)
+pieces_among (marker_element name ∷ es) = omega (arith, pieces_among es)
 
 pub text_characters : {A : Type 0} (cs : List ℕ) (a : A) → item_characters (map (λ c. glyph c a) cs) ≡ cs
 text_characters [] a = refl

@@ -5,7 +5,7 @@ use Rattle.tbr_model.specs.Width.{width_of_text}
 use Rattle.tbr_tagged.specs.Elements.{Element, piece, marker_element, element_items, element_characters, items_of, characters}
 use Rattle.tbr_tagged.specs.Mapped.{MapsElement, MapsElements}
 use Rattle.tbr_tagged.proofs.TextColumns.{items_width-text}
-use Rattle.tbr_tagged.proofs.ElementLoops.{items_width-append}
+use Rattle.tbr_model.proofs.words.Items.{items_width-append}
 
 module _ {A B : Type 0} (gives : A → B → Type 0) where
   mapped_text : (e : Element A) (f : Element B) → MapsElement gives e f → element_characters f ≡ element_characters e
@@ -38,10 +38,3 @@ module _ {A B : Type 0} (gives : A → B → Type 0) where
         mapped_columns columns e f h.0,
         mapped_width columns es fs h.1,
       )
-
-  -- one more element
-  pub maps_push : (es : List (Element A)) (fs : List (Element B)) (e : Element A) (f : Element B) → MapsElements gives es fs → MapsElement gives e f → MapsElements gives (es ++ e ∷ []) (fs ++ f ∷ [])
-  maps_push [] [] e f h k = (k, tt)
-  maps_push [] (d ∷ fs) e f h k = absurd h
-  maps_push (d ∷ es) [] e f h k = absurd h
-  maps_push (d ∷ es) (c ∷ fs) e f h k = (h.0, maps_push es fs e f h.1 k)

@@ -6,10 +6,10 @@ use Rattle.tbr_tagged.specs.Elements.{Element, piece, marker_element, text_items
 use Rattle.tbr_tagged.specs.declared.padding.CellAlign.{CellAlign}
 use Rattle.tbr_tagged.specs.declared.padding.CellAlign.TheVariants.{Left, Right, Centre}
 use Rattle.tbr_tagged.specs.Padding.{spaces, columns_in_front, spaces_before, padded}
-use Rattle.tbr_tagged.proofs.SameItems.{same_items, same_items_append, same_items_trans, items_push}
+use Rattle.tbr_tagged.proofs.SameItems.{all_zip_append, same_items, same_items_append, same_items_trans, items_push, same_width}
 use Rattle.tbr_tagged.proofs.TextBehind.{same_element, same_elements, same_merged, merged_push}
 use Rattle.tbr_tagged.proofs.TextInFront.{items_inserted, merged_inserted}
-use Rattle.tbr_tagged.proofs.ElementLoops.{items_width-append}
+use Rattle.tbr_model.proofs.words.Items.{items_width-append}
 
 -- spaces in front, where there are any
 pub spaces_before_some : {A : Type 0} (eq : A → A → Bool) (es : List (Element A)) (n : ℕ) (a : A) → 0 < n → spaces_before eq es n a ≡ insert_text eq es (spaces n) a
@@ -69,12 +69,6 @@ module _ {A : Type 0} (eq : A → A → Bool) (laws : IsEquivalence eq) where
   same_extended (e ∷ d ∷ es) (f ∷ []) cs h = absurd h.1
   same_extended (e ∷ d ∷ es) (f ∷ g ∷ fs) cs h = (h.0, same_extended (d ∷ es) (g ∷ fs) cs h.1)
 
-  same_appended : (es fs ds : List (Element A)) → SameElements eq es fs → SameElements eq (es ++ ds) (fs ++ ds)
-  same_appended [] [] ds h = same_elements eq laws ds
-  same_appended [] (f ∷ fs) ds h = absurd h
-  same_appended (e ∷ es) [] ds h = absurd h
-  same_appended (e ∷ es) (f ∷ fs) ds h = (h.0, same_appended es fs ds h.1)
-
   -- text behind lines that are the same
   pub same_push : (es fs : List (Element A)) (cs : List ℕ) (a : A) → SameElements eq es fs → SameElements eq (push_text eq es cs a) (push_text eq fs cs a)
   same_push es fs [] a h = h
@@ -83,7 +77,7 @@ module _ {A : Type 0} (eq : A → A → Bool) (laws : IsEquivalence eq) where
     where
       go : (t : Bool) → SameElements eq (cond t (extend_last es (c ∷ cs)) (es ++ piece (c ∷ cs) a ∷ [])) (cond t (extend_last fs (c ∷ cs)) (fs ++ piece (c ∷ cs) a ∷ []))
       go true = same_extended es fs (c ∷ cs) h
-      go false = same_appended es fs (piece (c ∷ cs) a ∷ []) h
+      go false = all_zip_append (SameElement eq) es (piece (c ∷ cs) a ∷ []) fs (piece (c ∷ cs) a ∷ []) h (same_elements eq laws (piece (c ∷ cs) a ∷ []))
 
   same_before : (cs : List ℕ) (e : Element A) → SameElement eq (text_before cs e) (text_before cs e)
   same_before cs e = same_element eq laws (text_before cs e)
@@ -121,15 +115,6 @@ module _ {A : Type 0} (eq : A → A → Bool) (laws : IsEquivalence eq) where
   padded_merged es fs front behind a same h =
       same_merged eq laws fs (padded eq es front behind a) same (merged_push eq (spaces_before eq es front a) (spaces behind) a (before_merged es front a h))
 
-  same_columns : (columns : ℕ → Option ℕ) (is js : List (Item A)) → SameItems eq is js → items_width columns is ≡ items_width columns js
-  same_columns columns [] [] h = refl
-  same_columns columns [] (j ∷ js) h = absurd h
-  same_columns columns (i ∷ is) [] h = absurd h
-  same_columns columns (glyph c a ∷ is) (glyph d b ∷ js) h = omega (arith, ap (λ x. unwrap_or (columns x) 0) h.0.0, same_columns columns is js h.1)
-  same_columns columns (marker m ∷ is) (marker n ∷ js) h = omega (arith, same_columns columns is js h.1)
-  same_columns columns (glyph c a ∷ is) (marker n ∷ js) h = absurd h.0
-  same_columns columns (marker m ∷ is) (glyph d b ∷ js) h = absurd h.0
-
   spaces_columns : (columns : ℕ → Option ℕ) (n : ℕ) (a : A) → columns 32 ≡ Some 1 → items_width columns (text_items (spaces n) a) ≡ n
   spaces_columns columns zero a h = refl
   spaces_columns columns (suc n) a h = omega (arith, ap (λ o. unwrap_or o 0) h, spaces_columns columns n a h)
@@ -140,7 +125,7 @@ module _ {A : Type 0} (eq : A → A → Bool) (laws : IsEquivalence eq) where
   padded_columns columns is js front behind a h same =
       omega (
         arith,
-        same_columns columns is (text_items (spaces front) a ++ js ++ text_items (spaces behind) a) same,
+        same_width columns eq is (text_items (spaces front) a ++ js ++ text_items (spaces behind) a) same,
         items_width-append columns (text_items (spaces front) a ++ js) (text_items (spaces behind) a),
         items_width-append columns (text_items (spaces front) a) js,
         spaces_columns columns front a h,

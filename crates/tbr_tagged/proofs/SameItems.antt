@@ -7,6 +7,12 @@ use Rattle.std.proofs.lemmas.List.Concat.{flat_map-append}
 use Rattle.tbr_model.specs.Run.{Item, glyph, marker, item_width, items_width, has_character}
 use Rattle.tbr_tagged.specs.Elements.{Element, piece, marker_element, element_items, items_of, SameItem, SameItems, SameElement, SameElements, extend_last, last_of, is_piece_under, push_text, push_element}
 
+pub all_zip_append : {A B : Type 0} (R : A → B → Type 0) (xs zs : List A) (ys ws : List B) → AllZip R xs ys → AllZip R zs ws → AllZip R (xs ++ zs) (ys ++ ws)
+all_zip_append R [] zs [] ws h k = k
+all_zip_append R [] zs (y ∷ ys) ws h k = absurd h
+all_zip_append R (x ∷ xs) zs [] ws h k = absurd h
+all_zip_append R (x ∷ xs) zs (y ∷ ys) ws h k = (h.0, all_zip_append R xs zs ys ws h.1 k)
+
 module _ {A : Type 0} (eq : A → A → Bool) (laws : IsEquivalence eq) where
   pub same_item : (i : Item A) → SameItem eq i i
   same_item (glyph c a) = (refl, laws.refl a)
@@ -35,12 +41,9 @@ module _ {A : Type 0} (eq : A → A → Bool) (laws : IsEquivalence eq) where
   same_items_trans (i ∷ is) (j ∷ js) (l ∷ ks) h k = (same_item_trans i j l h.0 k.0, same_items_trans is js ks h.1 k.1)
 
   pub same_items_append : (is js ks ls : List (Item A)) → SameItems eq is js → SameItems eq ks ls → SameItems eq (is ++ ks) (js ++ ls)
-  same_items_append [] [] ks ls h k = k
-  same_items_append [] (j ∷ js) ks ls h k = absurd h
-  same_items_append (i ∷ is) [] ks ls h k = absurd h
-  same_items_append (i ∷ is) (j ∷ js) ks ls h k = (h.0, same_items_append is js ks ls h.1 k)
+  same_items_append is js ks ls = all_zip_append (SameItem eq) is ks js ls
 
-  same_texts : (cs : List ℕ) (a b : A) → eq a b ≡ true → SameItems eq (map (λ c. glyph c a) cs) (map (λ c. glyph c b) cs)
+  pub same_texts : (cs : List ℕ) (a b : A) → eq a b ≡ true → SameItems eq (map (λ c. glyph c a) cs) (map (λ c. glyph c b) cs)
   same_texts [] a b h = tt
   same_texts (c ∷ cs) a b h = ((refl, h), same_texts cs a b h)
 
@@ -86,12 +89,6 @@ module _ {A : Type 0} (eq : A → A → Bool) (laws : IsEquivalence eq) where
 
 -- ---- what items that are the same have in common
 
-pub same_length : {A : Type 0} (eq : A → A → Bool) (is js : List (Item A)) → SameItems eq is js → length is ≡ length js
-same_length eq [] [] h = refl
-same_length eq [] (j ∷ js) h = absurd h
-same_length eq (i ∷ is) [] h = absurd h
-same_length eq (i ∷ is) (j ∷ js) h = ap suc (same_length eq is js h.1)
-
 pub same_width_one : {A : Type 0} (columns : ℕ → Option ℕ) (eq : A → A → Bool) (i j : Item A) → SameItem eq i j → item_width columns i ≡ item_width columns j
 same_width_one columns eq (glyph c a) (glyph d b) h = ap (λ x. item_width columns (glyph x a)) h.0
 same_width_one columns eq (marker m) (marker n) h = refl
@@ -103,12 +100,6 @@ same_width columns eq [] [] h = refl
 same_width columns eq [] (j ∷ js) h = absurd h
 same_width columns eq (i ∷ is) [] h = absurd h
 same_width columns eq (i ∷ is) (j ∷ js) h = omega (arith, same_width_one columns eq i j h.0, same_width columns eq is js h.1)
-
-pub all_zip_append : {A B : Type 0} (R : A → B → Type 0) (xs zs : List A) (ys ws : List B) → AllZip R xs ys → AllZip R zs ws → AllZip R (xs ++ zs) (ys ++ ws)
-all_zip_append R [] zs [] ws h k = k
-all_zip_append R [] zs (y ∷ ys) ws h k = absurd h
-all_zip_append R (x ∷ xs) zs [] ws h k = absurd h
-all_zip_append R (x ∷ xs) zs (y ∷ ys) ws h k = (h.0, all_zip_append R xs zs ys ws h.1 k)
 
 pub same_has : {A : Type 0} (eq : A → A → Bool) (is js : List (Item A)) → SameItems eq is js → has_character is ≡ has_character js
 same_has eq [] [] h = refl

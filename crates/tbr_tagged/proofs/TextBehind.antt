@@ -38,18 +38,6 @@ module _ {A : Type 0} (eq : A → A → Bool) (laws : IsEquivalence eq) where
   same_elements [] = tt
   same_elements (e ∷ es) = (same_element e, same_elements es)
 
-  -- one more element
-  pub same_elements_push : (es : List (Element A)) (e f : Element A) → SameElement eq e f → SameElements eq (es ++ e ∷ []) (es ++ f ∷ [])
-  same_elements_push [] e f h = (h, tt)
-  same_elements_push (d ∷ es) e f h = (same_element d, same_elements_push es e f h)
-
--- one more element on both sides
-pub same_elements_both : {A : Type 0} (eq : A → A → Bool) (es fs : List (Element A)) (e f : Element A) → SameElements eq es fs → SameElement eq e f → SameElements eq (es ++ e ∷ []) (fs ++ f ∷ [])
-same_elements_both eq [] [] e f h k = (k, tt)
-same_elements_both eq [] (d ∷ fs) e f h k = absurd h
-same_elements_both eq (d ∷ es) [] e f h k = absurd h
-same_elements_both eq (d ∷ es) (c ∷ fs) e f h k = (h.0, same_elements_both eq es fs e f h.1 k)
-
 -- the last element of a list, as `last` gives it
 pub last_of-map : {X : Type 0} {A : Type 0} (f : X → A) (xs : List X) → last_of (map f xs) ≡ option_map f (slice_get xs (length xs - 1))
 last_of-map f [] = refl
@@ -94,14 +82,9 @@ push_else eq f xs (c ∷ cs) a text test =
     let under : is_piece_under eq (last_of (map f xs)) a ≡ false = ap (λ o. is_piece_under eq o a) (last_of-map f xs) ∙ test in
     rw under refl
 
-pub map-set_same : {X Y : Type 0} (f : X → Y) (xs : List X) (i : ℕ) (d y : X) → f y ≡ f (get_or xs i d) → map f (set xs i y) ≡ map f xs
-map-set_same f [] i d y h = refl
-map-set_same f (x ∷ xs) zero d y h = ap (λ e. e ∷ map f xs) h
-map-set_same f (x ∷ xs) (suc i) d y h = ap (λ es. f x ∷ es) (map-set_same f xs i d y h)
-
 -- ---- pushing keeps pieces the longest stretches
 
-more_text : {A : Type 0} (cs ds : List ℕ) (a : A) → HasText (piece cs a) → HasText (piece (cs ++ ds) a)
+pub more_text : {A : Type 0} (cs ds : List ℕ) (a : A) → HasText (piece cs a) → HasText (piece (cs ++ ds) a)
 more_text [] ds a h = absurd h
 more_text (c ∷ cs) ds a h = tt
 

@@ -4,12 +4,9 @@ use Rattle.std.specs.Cmp.{IsEquivalence}
 use Rattle.std.proofs.lemmas.Bool.{cond_both}
 use Rattle.tbr_tagged.specs.Elements.{Element, piece, marker_element, element_items, text_items, items_of, SameItems, is_piece_under, text_before, insert_text, HasText, AreParted, IsPartedFrom, IsMerged}
 use Rattle.tbr_tagged.proofs.SameItems.{same_items, same_items_append, same_from_path, same_items_trans}
+use Rattle.tbr_tagged.proofs.TextBehind.{more_text}
 
 module _ {A : Type 0} (eq : A → A → Bool) (laws : IsEquivalence eq) where
-  pub same_texts : (cs : List ℕ) (a b : A) → eq a b ≡ true → SameItems eq (text_items cs a) (text_items cs b)
-  same_texts [] a b h = tt
-  same_texts (c ∷ cs) a b h = ((refl, h), same_texts cs a b h)
-
   text_in_front : (cs ds : List ℕ) (a b : A) → eq b a ≡ true → SameItems eq (text_items (cs ++ ds) b) (text_items cs a ++ text_items ds b)
   text_in_front [] ds a b h = same_items eq laws (text_items ds b)
   text_in_front (c ∷ cs) ds a b h = ((refl, h), text_in_front cs ds a b h)
@@ -27,16 +24,12 @@ module _ {A : Type 0} (eq : A → A → Bool) (laws : IsEquivalence eq) where
       (same_from_path eq laws ((text_items cs a ++ element_items e) ++ items_of es) (text_items cs a ++ items_of (e ∷ es)) (append_assoc (text_items cs a) (element_items e) (items_of es))))
       (λ _. same_items eq laws (text_items cs a ++ items_of (e ∷ es)))
 
-more_text : {A : Type 0} (cs ds : List ℕ) (a b : A) → 0 < length cs → HasText (piece (cs ++ ds) b)
-more_text [] ds a b h = absurd (omega arith)
-more_text (c ∷ cs) ds a b h = tt
-
 has_text : {A : Type 0} (cs : List ℕ) (a : A) → 0 < length cs → HasText (piece cs a)
 has_text [] a h = absurd (omega arith)
 has_text (c ∷ cs) a h = tt
 
 before_has_text : {A : Type 0} (cs : List ℕ) (e : Element A) (a : A) → 0 < length cs → HasText e → HasText (text_before cs e)
-before_has_text cs (piece ds b) a h k = more_text cs ds a b h
+before_has_text cs (piece ds b) a h k = more_text cs ds b (has_text cs b h)
 before_has_text cs (marker_element m) a h k = k
 
 before_parted : {A : Type 0} (eq : A → A → Bool) (cs : List ℕ) (e f : Element A) → AreParted eq e f → AreParted eq (text_before cs e) f

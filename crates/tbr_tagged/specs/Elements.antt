@@ -1,7 +1,7 @@
 -- The elements of a tagged line, the items that they mean, and equality up to the tags' own.
 use Rattle.std.specs.Prelude.{◌≡◌, ℕ, Bool, true, false, if◌then◌else◌, ⊤, Option, Some, None, List, [], ◌∷◌, ◌++◌, map, flat_map}
 use Rattle.std.specs.List.{AllZip}
-use Rattle.tbr_model.specs.Run.{Item, glyph, marker}
+use Rattle.tbr_model.specs.Run.{Item, glyph, marker, items_width}
 
 -- Text under one tag, as its characters, or a marker by its name.
 pub data Element (A : Type 0) : Type 0 where
@@ -17,9 +17,17 @@ abbrev pub element_items : {A : Type 0} → Element A → List (Item A)
 element_items (piece cs a) = map (λ c. glyph c a) cs
 element_items (marker_element name) = marker name ∷ []
 
+-- the columns that an element takes
+abbrev pub element_width : {A : Type 0} → (ℕ → Option ℕ) → Element A → ℕ
+element_width columns e = items_width columns (element_items e)
+
 -- a line's items
 abbrev pub items_of : {A : Type 0} → List (Element A) → List (Item A)
 items_of es = flat_map element_items es
+
+-- the columns that a line takes
+abbrev pub line_width : {A : Type 0} → (ℕ → Option ℕ) → List (Element A) → ℕ
+line_width columns es = items_width columns (items_of es)
 
 -- an element's characters; a marker has none
 abbrev pub element_characters : {A : Type 0} → Element A → List ℕ
@@ -80,11 +88,13 @@ last_of [] = None
 last_of (x ∷ []) = Some x
 last_of (x ∷ y ∷ xs) = last_of (y ∷ xs)
 
--- Text behind a line: it extends the last piece if that stands under an equal tag, and else is a piece of its own. The empty
--- text does nothing.
+-- Text behind a line: it extends the last piece if that stands under an equal tag, and else is a piece of its own.
+-- The empty text does nothing.
 abbrev pub push_text : {A : Type 0} → (A → A → Bool) → List (Element A) → List ℕ → A → List (Element A)
 push_text eq es [] a = es
-push_text eq es (c ∷ cs) a = if is_piece_under eq (last_of es) a then extend_last es (c ∷ cs) else es ++ piece (c ∷ cs) a ∷ []
+push_text eq es (c ∷ cs) a =
+    if is_piece_under eq (last_of es) a then extend_last es (c ∷ cs)
+    else es ++ piece (c ∷ cs) a ∷ []
 
 -- an element behind a line
 abbrev pub push_element : {A : Type 0} → (A → A → Bool) → List (Element A) → Element A → List (Element A)
@@ -98,11 +108,13 @@ abbrev pub text_before : {A : Type 0} → List ℕ → Element A → Element A
 text_before cs (piece ds b) = piece (cs ++ ds) b
 text_before cs (marker_element name) = marker_element name
 
--- Text in front of a line: it extends the first piece if that stands under an equal tag, and else is a piece of its own, also the
--- empty text.
+-- Text in front of a line: it extends the first piece if that stands under an equal tag, and else is a piece of its
+-- own, also the empty text.
 abbrev pub insert_text : {A : Type 0} → (A → A → Bool) → List (Element A) → List ℕ → A → List (Element A)
 insert_text eq [] cs a = piece cs a ∷ []
-insert_text eq (e ∷ es) cs a = if is_piece_under eq (Some e) a then text_before cs e ∷ es else piece cs a ∷ e ∷ es
+insert_text eq (e ∷ es) cs a =
+    if is_piece_under eq (Some e) a then text_before cs e ∷ es
+    else piece cs a ∷ e ∷ es
 
 -- ---- lines as they are given out
 
@@ -120,8 +132,8 @@ abbrev pub IsPartedFrom : {A : Type 0} → (A → A → Bool) → Element A → 
 IsPartedFrom eq e [] = ⊤
 IsPartedFrom eq e (f ∷ es) = AreParted eq e f
 
--- Pieces are the longest stretches of characters under equal tags: each has a character, and no two neighbouring ones stand
--- under equal tags.
+-- Pieces are the longest stretches of characters under equal tags: each has a character, and no two neighbouring ones
+-- stand under equal tags.
 abbrev pub IsMerged : {A : Type 0} → (A → A → Bool) → List (Element A) → Type 0
 IsMerged eq [] = ⊤
 IsMerged eq (e ∷ es) = HasText e × IsPartedFrom eq e es × IsMerged eq es

@@ -28,10 +28,13 @@ module _ {A : Type 0} {eq : A → A → Bool} (laws : IsPartialEquivalence eq) w
   texts_trans : (cs ds es : List ℕ) → same_text cs ds ≡ true → same_text ds es ≡ true → same_text cs es ≡ true
   texts_trans = (partial_equiv_from_equiv nat_list_eq_equiv).trans
 
-  trans : (e f g : Element A) → equal_elements eq e f ≡ true → equal_elements eq f g ≡ true → equal_elements eq e g ≡ true
+  trans : (e f g : Element A) →
+      equal_elements eq e f ≡ true → equal_elements eq f g ≡ true → equal_elements eq e g ≡ true
   trans (piece cs a) (piece ds b) (piece es x) h k =
-      let texts = texts_trans cs ds es (first_so (same_text cs ds) (eq a b) h) (first_so (same_text ds es) (eq b x) k) in
-      let tags = laws.trans a b x (second_so (same_text cs ds) (eq a b) h) (second_so (same_text ds es) (eq b x) k) in
+      let texts =
+      texts_trans cs ds es (first_so (same_text cs ds) (eq a b) h) (first_so (same_text ds es) (eq b x) k) in
+      let tags =
+      laws.trans a b x (second_so (same_text cs ds) (eq a b) h) (second_so (same_text ds es) (eq b x) k) in
       λ i. texts i && tags i
   trans (marker_element m) (marker_element n) (marker_element o) h k = texts_trans m n o h k
   trans (piece cs a) (marker_element n) g h k = absurd (let no : false ≡ true = h in cc)

@@ -6,4 +6,5 @@ pub mod Walks
 pub mod Restored
 pub mod Equal
 pub mod Padding
+pub mod Sums
 pub mod UnicodeColumns

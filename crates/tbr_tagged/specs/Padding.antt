@@ -1,11 +1,16 @@
 -- Lines with spaces behind and in front.
-use Rattle.std.specs.Prelude.{ℕ, suc, zero, ◌-◌, ◌/◌, Bool, List, replicate}
+use Rattle.std.specs.Prelude.{ℕ, suc, zero, ◌-◌, ◌/◌, ◌++◌, Bool, Option, List, replicate}
+use Rattle.tbr_model.specs.Run.{Item}
 use Rattle.tbr_tagged.specs.declared.padding.CellAlign.{CellAlign}
 use Rattle.tbr_tagged.specs.declared.padding.CellAlign.TheVariants.{Left, Right, Centre}
-use Rattle.tbr_tagged.specs.Elements.{Element, push_text, insert_text}
+use Rattle.tbr_tagged.specs.Elements.{Element, text_items, line_width, push_text, insert_text}
 
 abbrev pub spaces : ℕ → List ℕ
 spaces n = replicate n 32
+
+-- the columns that a line lacks to a width
+abbrev pub columns_missing : {A : Type 0} → (ℕ → Option ℕ) → ℕ → List (Element A) → ℕ
+columns_missing columns width es = width - line_width columns es
 
 -- how many of the missing columns stand in front
 abbrev pub columns_in_front : CellAlign → ℕ → ℕ
@@ -24,4 +29,11 @@ padded eq es front behind a = push_text eq (spaces_before eq es front a) (spaces
 
 -- with the missing columns as spaces, by the alignment
 abbrev pub aligned : {A : Type 0} → (A → A → Bool) → CellAlign → List (Element A) → ℕ → A → List (Element A)
-aligned eq align es missing a = padded eq es (columns_in_front align missing) (missing - columns_in_front align missing) a
+aligned eq align es missing a =
+    padded eq es (columns_in_front align missing) (missing - columns_in_front align missing) a
+
+-- the items of such a line
+abbrev pub aligned_items : {A : Type 0} → CellAlign → List (Item A) → ℕ → A → List (Item A)
+aligned_items align is missing a =
+    text_items (spaces (columns_in_front align missing)) a ++ is
+    ++ text_items (spaces (missing - columns_in_front align missing)) a

@@ -15,7 +15,8 @@ unicode_columns c =
 pub unicode_columns_at_most_two : (c : ℕ) → IfSome (unicode_columns c) (λ n. n ≤ 2)
 unicode_columns_at_most_two c = go (takes_one_column c) (c == stroke) (char_width false c)
   where
-    go : (p q : Bool) (o : Option ℕ) → IfSome (if p then Some 1 else if q then Some 0 else option_map (λ n. min n 2) o) (λ n. n ≤ 2)
+    go : (p q : Bool) (o : Option ℕ) →
+        IfSome (if p then Some 1 else if q then Some 0 else option_map (λ n. min n 2) o) (λ n. n ≤ 2)
     go true q o = omega arith
     go false true o = omega arith
     go false false None = tt

@@ -1,5 +1,5 @@
 -- What a walk over a line has still to give.
-use Rattle.std.specs.Prelude.{ℕ, List, [], ◌∷◌, ◌++◌, map, flat_map, chars, string_bytes}
+use Rattle.std.specs.Prelude.{ℕ, List, [], ◌∷◌, ◌++◌, flat_map, chars}
 use Rattle.std.specs.Str.Iter.{chars_rest}
 use Rattle.tbr_model.specs.Run.{Item, glyph, marker}
 use Rattle.tbr_tagged.specs.declared.element.TaggedString.{TaggedString}
@@ -9,7 +9,7 @@ use Rattle.tbr_tagged.specs.declared.iterators.Iter.{Iter}
 use Rattle.tbr_tagged.specs.declared.iterators.TaggedStrings.{TaggedStrings}
 use Rattle.tbr_tagged.specs.declared.iterators.Chars.{Chars}
 use Rattle.tbr_tagged.specs.Elements.{Element, piece, marker_element, characters}
-use Rattle.tbr_tagged.specs.View.{element_of}
+use Rattle.tbr_tagged.specs.View.{chars_of, elements_of}
 
 -- the elements of a line that are pieces
 abbrev pub pieces_of : {A : Type 0} → List (Element A) → List (Element A)
@@ -29,7 +29,7 @@ abbrev pub elements_left : {A : Type 0} → Iter A → List (TaggedLineElement A
 elements_left walk = walk.rest.now
 
 abbrev pub piece_of : {A : Type 0} → TaggedString A → Element A
-piece_of ts = piece (chars (string_bytes ts.s)) ts.tag
+piece_of ts = piece (chars_of ts.s) ts.tag
 
 -- the pieces among elements
 abbrev pub strings_of : {A : Type 0} → List (TaggedLineElement A) → List (TaggedString A)
@@ -41,4 +41,4 @@ abbrev pub strings_left : {A : Type 0} → TaggedStrings A → List (TaggedStrin
 strings_left walk = strings_of walk.rest.now
 
 abbrev pub characters_left : {A : Type 0} → Chars A → List ℕ
-characters_left walk = chars (chars_rest walk.text) ++ characters (map element_of walk.rest.now)
+characters_left walk = chars (chars_rest walk.text) ++ characters (elements_of walk.rest.now)

@@ -1,13 +1,13 @@
 //! Pieces of text and markers, one by one.
-ghost use Rattle.std.specs.Prelude.{◌≡◌, ℕ, ◌<◌, ◌∷◌, [], true, Option, chars, string_bytes, IfOk, OnOk, OnErr, MatchResult};
+ghost use Rattle.std.specs.Prelude.{◌≡◌, ℕ, ◌∷◌, [], true, Option, chars, string_bytes, IfOk, OnOk, OnErr};
 ghost use Rattle.std.specs.Option.{option_copied, option_map};
 ghost use Rattle.tbr_tagged.specs.Copies.{CopiesAreEqual};
-ghost use Rattle.tbr_model.specs.Run.{items_width};
 ghost use Rattle.tbr_model.specs.Width.{width_of_text};
-ghost use Rattle.tbr_tagged.specs.Elements.{piece, element_items, element_characters, is_piece_under, with_text, text_before, SameElement};
+ghost use Rattle.tbr_tagged.specs.Elements.{piece, element_width, element_characters, is_piece_under, with_text, text_before, SameElement};
 ghost use Rattle.tbr_tagged.specs.Mapped.{MapsElement};
 ghost use Rattle.tbr_tagged.specs.Restored.{with_characters};
-ghost use Rattle.tbr_tagged.specs.View.{element_of};
+ghost use Rattle.tbr_tagged.specs.Sums.{GivesSum};
+ghost use Rattle.tbr_tagged.specs.View.{chars_of, element_of};
 
 use crate::error::OutOfMemory;
 use crate::width::text_width;
@@ -38,7 +38,7 @@ impl<T> TaggedString<T> {
     ///
     /// It takes no memory, and refuses exactly where the sum passes `usize`.
     pub fn width<W: CharWidth>(&self) -> Result<usize, OutOfMemory>
-        ensures { MatchResult result (λ n. n ≡ width_of_text W.columns (chars (string_bytes self.now.s))) (λ _. usize.MAX < width_of_text W.columns (chars (string_bytes self.now.s))) }
+        ensures { GivesSum result (width_of_text W.columns (chars_of self.now.s)) }
     {
         text_width::<W>(self.s.as_str())
     }
@@ -74,7 +74,7 @@ impl<T> TaggedLineElement<T> {
     ///
     /// It takes no memory, and refuses exactly where the sum passes `usize`.
     pub fn width<W: CharWidth>(&self) -> Result<usize, OutOfMemory>
-        ensures { MatchResult result (λ n. n ≡ items_width W.columns (element_items (element_of self.now))) (λ _. usize.MAX < items_width W.columns (element_items (element_of self.now))) }
+        ensures { GivesSum result (element_width W.columns (element_of self.now)) }
     {
         match self {
             TaggedLineElement::Str(piece) => piece.width::<W>(),
@@ -96,7 +96,8 @@ impl<T> TaggedLineElement<T> {
     pub fn map_tag<U, F: Fn(T) -> U>(self, f: &F) -> TaggedLineElement<U>
         requires { F.IsAlwaysCallable f.now }
         ensures mapped { MapsElement (F.post f.now) (element_of self) (element_of result) }
-        ensures width { (columns : ℕ → Option ℕ) → items_width columns (element_items (element_of result)) ≡ items_width columns (element_items (element_of self)) }
+        ensures width { (columns : ℕ → Option ℕ) →
+            element_width columns (element_of result) ≡ element_width columns (element_of self) }
     {
         match self {
             TaggedLineElement::Str(piece) => TaggedLineElement::Str(piece.map_tag(f)),
@@ -168,8 +169,9 @@ pub fn extend_front<T>(
     element: &mut TaggedLineElement<T>,
     mut text: String,
 ) -> Result<String, OutOfMemory>
-    ensures ok { OnOk result (element_of element.new ≡ text_before (chars (string_bytes text)) (element_of element.old)) }
-    ensures back { IfOk result (λ had. with_characters (element_of element.new) (chars (string_bytes had)) ≡ element_of element.old) }
+    ensures ok { OnOk result (element_of element.new ≡ text_before (chars_of text) (element_of element.old)) }
+    ensures restores { IfOk result (λ had.
+        with_characters (element_of element.new) (chars_of had) ≡ element_of element.old) }
     ensures err { OnErr result (element_of element.new ≡ element_of element.old) }
 {
     if let TaggedLineElement::Str(first) = element {
@@ -180,7 +182,7 @@ pub fn extend_front<T>(
 }
 
 pub fn set_text<T>(element: &mut TaggedLineElement<T>, text: String)
-    ensures { element_of element.new ≡ with_characters (element_of element.old) (chars (string_bytes text)) }
+    ensures { element_of element.new ≡ with_characters (element_of element.old) (chars_of text) }
 {
     if let TaggedLineElement::Str(piece) = element {
         piece.s = text;

@@ -1,12 +1,12 @@
 //! Lists of pieces and markers.
-ghost use Rattle.std.specs.Prelude.{◌≡◌, ◌<◌, ◌∷◌, [], true, map, length, chars, string_bytes, string_len, IfOk, OnOk, OnErr, MatchResult};
+ghost use Rattle.std.specs.Prelude.{◌≡◌, ◌<◌, ◌∷◌, [], length, string_len, IfOk, OnOk, OnErr};
 ghost use Rattle.std.specs.Option.{option_map};
 ghost use Rattle.tbr_tagged.specs.Copies.{CopiesAreEqual};
-ghost use Rattle.tbr_model.specs.Run.{items_width};
-ghost use Rattle.tbr_tagged.specs.Elements.{items_of, characters, push_text, insert_text, SameElements};
+ghost use Rattle.tbr_tagged.specs.Elements.{line_width, characters, push_text, insert_text, SameElements};
 ghost use Rattle.tbr_tagged.specs.Elements as model;
 ghost use Rattle.tbr_tagged.specs.Restored.{restored};
-ghost use Rattle.tbr_tagged.specs.View.{element_of};
+ghost use Rattle.tbr_tagged.specs.Sums.{GivesSum};
+ghost use Rattle.tbr_tagged.specs.View.{chars_of, elements_of};
 
 use crate::element::{
     TaggedLineElement, TaggedString, extend, extend_by_char, extend_front, is_under, new_piece,
@@ -18,7 +18,7 @@ use std::alloc::Global;
 use tbr_model::CharWidth;
 
 pub fn has_piece<T>(elements: &[TaggedLineElement<T>]) -> bool
-    ensures { result ≡ model.has_piece (map element_of elements.now) }
+    ensures { result ≡ model.has_piece (elements_of elements.now) }
 {
     for element in elements {
         if let TaggedLineElement::Str(_) = element {
@@ -28,8 +28,8 @@ pub fn has_piece<T>(elements: &[TaggedLineElement<T>]) -> bool
     false
 }
 
-pub fn columns_of<T, W: CharWidth>(elements: &[TaggedLineElement<T>]) -> Result<usize, OutOfMemory>
-    ensures { MatchResult result (λ n. n ≡ items_width W.columns (items_of (map element_of elements.now))) (λ _. usize.MAX < items_width W.columns (items_of (map element_of elements.now))) }
+pub fn width_of<T, W: CharWidth>(elements: &[TaggedLineElement<T>]) -> Result<usize, OutOfMemory>
+    ensures { GivesSum result (line_width W.columns (elements_of elements.now)) }
 {
     let mut width = 0usize;
     for element in elements {
@@ -45,7 +45,7 @@ pub fn columns_of<T, W: CharWidth>(elements: &[TaggedLineElement<T>]) -> Result<
 }
 
 pub fn text_of<T>(alloc: Global, elements: &[TaggedLineElement<T>]) -> Result<String, OutOfMemory>
-    ensures { IfOk result (λ text. chars (string_bytes text) ≡ characters (map element_of elements.now)) }
+    ensures { IfOk result (λ text. chars_of text ≡ characters (elements_of elements.now)) }
 {
     let mut text = String::new(alloc);
     for element in elements {
@@ -62,8 +62,9 @@ pub fn push_piece<T: Eq + Drop>(
     ts: TaggedString<T>,
 ) -> Result<(), OutOfMemory>
     requires { 0 < string_len ts.s }
-    ensures ok { OnOk result (map element_of elements.new.items ≡ push_text T.eq (map element_of elements.old.items) (chars (string_bytes ts.s)) ts.tag) }
-    ensures err { OnErr result (map element_of elements.new.items ≡ map element_of elements.old.items) }
+    ensures ok { OnOk result
+        (elements_of elements.new.items ≡ push_text T.eq (elements_of elements.old.items) (chars_of ts.s) ts.tag) }
+    ensures err { OnErr result (elements_of elements.new.items ≡ elements_of elements.old.items) }
 {
     if is_under(elements.last(), &ts.tag) {
         let end = elements.len() - 1;
@@ -79,8 +80,9 @@ pub fn push_glyph<T: Eq + Clone>(
     tag: &T,
 ) -> Result<(), OutOfMemory>
     requires { CopiesAreEqual T.is_clone T.eq }
-    ensures ok { OnOk result (SameElements T.eq (map element_of elements.new.items) (push_text T.eq (map element_of elements.old.items) (c ∷ []) tag.now)) }
-    ensures err { OnErr result (map element_of elements.new.items ≡ map element_of elements.old.items) }
+    ensures ok { OnOk result (SameElements T.eq (elements_of elements.new.items)
+        (push_text T.eq (elements_of elements.old.items) (c ∷ []) tag.now)) }
+    ensures err { OnErr result (elements_of elements.new.items ≡ elements_of elements.old.items) }
 {
     if is_under(elements.last(), tag) {
         let end = elements.len() - 1;
@@ -96,9 +98,11 @@ pub fn put_in_front<T: Eq + Drop>(
     elements: &mut Vec<TaggedLineElement<T>>,
     ts: TaggedString<T>,
 ) -> Result<Option<String>, OutOfMemory>
-    ensures ok { OnOk result (map element_of elements.new.items ≡ insert_text T.eq (map element_of elements.old.items) (chars (string_bytes ts.s)) ts.tag) }
-    ensures back { IfOk result (λ text. restored (map element_of elements.new.items) (option_map (λ s. chars (string_bytes s)) text) ≡ map element_of elements.old.items) }
-    ensures err { OnErr result (map element_of elements.new.items ≡ map element_of elements.old.items) }
+    ensures ok { OnOk result
+        (elements_of elements.new.items ≡ insert_text T.eq (elements_of elements.old.items) (chars_of ts.s) ts.tag) }
+    ensures restores { IfOk result (λ text.
+        restored (elements_of elements.new.items) (option_map chars_of text) ≡ elements_of elements.old.items) }
+    ensures err { OnErr result (elements_of elements.new.items ≡ elements_of elements.old.items) }
 {
     if is_under(elements.first(), &ts.tag) {
         let text = extend_front(&mut elements[0], ts.s)?;
@@ -111,7 +115,7 @@ pub fn put_in_front<T: Eq + Drop>(
 /// Undoes [`put_in_front`], which answered this text.
 pub fn take_from_front<T: Drop>(elements: &mut Vec<TaggedLineElement<T>>, text: Option<String>)
     requires { 0 < length elements.old.items }
-    ensures { map element_of elements.new.items ≡ restored (map element_of elements.old.items) (option_map (λ s. chars (string_bytes s)) text) }
+    ensures { elements_of elements.new.items ≡ restored (elements_of elements.old.items) (option_map chars_of text) }
 {
     match text {
         Some(text) => set_text(&mut elements[0], text),

@@ -13,6 +13,7 @@ mod element;
 mod elements;
 mod error;
 mod iterators;
+pub mod laws;
 mod padding;
 mod space;
 mod tagged_line;

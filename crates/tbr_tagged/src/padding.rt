@@ -1,9 +1,10 @@
 //! Spaces behind and in front of a line.
-ghost use Rattle.std.specs.Prelude.{◌≡◌, ◌+◌, ◌≤◌, true, map, chars, string_bytes, IfOk, OnOk, OnErr};
+ghost use Rattle.std.specs.Prelude.{◌≡◌, ◌+◌, ◌≤◌, true, IfOk, OnOk, OnErr};
 ghost use Rattle.tbr_tagged.specs.Copies.{CopiesAreEqual};
 ghost use Rattle.tbr_tagged.specs.Elements.{push_text, SameElements};
+ghost use Rattle.tbr_tagged.specs.declared.padding.CellAlign.TheVariants as A;
 ghost use Rattle.tbr_tagged.specs.Padding as model;
-ghost use Rattle.tbr_tagged.specs.View.{element_of};
+ghost use Rattle.tbr_tagged.specs.View.{chars_of, elements_of};
 
 use crate::element::{TaggedLineElement, TaggedString, extend, is_under};
 use crate::elements::{put_in_front, take_from_front};
@@ -12,15 +13,23 @@ use crate::space::spaces;
 use std::alloc::Global;
 
 /// Where a line stands in more columns than it takes. In the middle, the odd column is on the right.
-#[derive(Clone, Copy, PartialEq, Eq, Debug, Default)]
+#[derive(Clone, Copy, PartialEq, Eq, Debug)]
 pub enum CellAlign {
     /// At the left, with the spaces behind it.
-    #[default]
     Left,
     /// At the right, with the spaces in front of it.
     Right,
     /// In the middle, with half of the spaces in front of it, rounded down.
     Centre,
+}
+
+/// At the left.
+impl Default for CellAlign {
+    ghost is_default = { λ align. align ≡ A.Left };
+
+    fn default() -> CellAlign {
+        CellAlign::Left
+    }
 }
 
 pub fn columns_in_front(align: CellAlign, missing: usize) -> usize
@@ -41,9 +50,10 @@ pub fn pad<T: Eq + Clone + Drop>(
     tag: &T,
 ) -> Result<(), OutOfMemory>
     requires { CopiesAreEqual T.is_clone T.eq }
-    ensures ok { OnOk result (SameElements T.eq (map element_of elements.new.items) (model.padded T.eq (map element_of elements.old.items) front behind tag.now)) }
-    ensures none { front + behind ≡ 0 → map element_of elements.new.items ≡ map element_of elements.old.items }
-    ensures err { OnErr result (map element_of elements.new.items ≡ map element_of elements.old.items) }
+    ensures ok { OnOk result (SameElements T.eq (elements_of elements.new.items)
+        (model.padded T.eq (elements_of elements.old.items) front behind tag.now)) }
+    ensures unchanged_by_none { front + behind ≡ 0 → elements_of elements.new.items ≡ elements_of elements.old.items }
+    ensures err { OnErr result (elements_of elements.new.items ≡ elements_of elements.old.items) }
 {
     if front == 0 {
         return push_spaces(elements, behind, tag);
@@ -64,9 +74,10 @@ fn push_spaces<T: Eq + Clone + Drop>(
     tag: &T,
 ) -> Result<(), OutOfMemory>
     requires { CopiesAreEqual T.is_clone T.eq }
-    ensures ok { OnOk result (SameElements T.eq (map element_of elements.new.items) (push_text T.eq (map element_of elements.old.items) (model.spaces count) tag.now)) }
-    ensures none { count ≡ 0 → map element_of elements.new.items ≡ map element_of elements.old.items }
-    ensures err { OnErr result (map element_of elements.new.items ≡ map element_of elements.old.items) }
+    ensures ok { OnOk result (SameElements T.eq (elements_of elements.new.items)
+        (push_text T.eq (elements_of elements.old.items) (model.spaces count) tag.now)) }
+    ensures unchanged_by_none { count ≡ 0 → elements_of elements.new.items ≡ elements_of elements.old.items }
+    ensures err { OnErr result (elements_of elements.new.items ≡ elements_of elements.old.items) }
 {
     if count == 0 {
         return Ok(());
@@ -87,7 +98,7 @@ fn spaces_under<T: Eq + Clone>(
     tag: &T,
 ) -> Result<TaggedString<T>, OutOfMemory>
     requires { CopiesAreEqual T.is_clone T.eq }
-    ensures text { IfOk result (λ ts. chars (string_bytes ts.s) ≡ model.spaces count) }
+    ensures text { IfOk result (λ ts. chars_of ts.s ≡ model.spaces count) }
     ensures tag { IfOk result (λ ts. T.eq ts.tag tag.now ≡ true) }
 {
     let s = spaces(alloc, count)?;

@@ -1,6 +1,8 @@
 //! White space.
-ghost use Rattle.std.specs.Prelude.{◌≡◌, chars, string_bytes, replicate, IfOk};
+ghost use Rattle.std.specs.Prelude.{◌≡◌, IfOk};
 ghost use Rattle.tbr_model.specs.Run as model;
+ghost use Rattle.tbr_tagged.specs.Padding as padding;
+ghost use Rattle.tbr_tagged.specs.View.{chars_of};
 
 use crate::error::OutOfMemory;
 use std::alloc::Global;
@@ -19,9 +21,9 @@ pub fn is_wordbreak_point(c: char) -> bool
     c == '\u{200b}' || (c.is_whitespace() && c != '\u{a0}')
 }
 
-/// A text of so many spaces.
+/// A text of `count` spaces.
 pub fn spaces(alloc: Global, count: usize) -> Result<String, OutOfMemory>
-    ensures { IfOk result (λ s. chars (string_bytes s) ≡ replicate count 32) }
+    ensures { IfOk result (λ s. chars_of s ≡ padding.spaces count) }
 {
     let mut s = String::with_capacity(alloc, count)?;
     for _ in 0..count {

@@ -1,16 +1,18 @@
 //! Lines of text under tags.
-ghost use Rattle.std.specs.Prelude.{◌≡◌, ℕ, ◌-◌, ◌≤◌, ◌<◌, ◌++◌, ◌∷◌, [], true, max, not, Option, None, Some, List, map, chars, string_bytes, string_len, IfOk, OnOk, OnErr, MatchResult};
+ghost use Rattle.std.specs.Prelude.{◌≡◌, ℕ, ◌^◌, ◌≤◌, ◌<◌, ◌++◌, ◌∷◌, [], true, max, not, Option, map, length, string_len, IfOk, OnOk, OnErr};
 ghost use Rattle.tbr_tagged.specs.Copies.{CopiesAreEqual};
-ghost use Rattle.tbr_model.specs.Run.{glyph, items_width};
-ghost use Rattle.tbr_tagged.specs.Elements.{items_of, element_items, characters, piece, push_text, push_element, insert_text, text_items, SameItems, SameElements, IsMerged};
+ghost use Rattle.tbr_model.specs.Run.{glyph};
+ghost use Rattle.tbr_tagged.specs.Elements.{items_of, line_width, element_items, characters, piece, push_text, push_element, insert_text, text_items, SameItems, SameElements, IsMerged};
 ghost use Rattle.tbr_tagged.specs.Elements as model;
+ghost use Rattle.tbr_tagged.specs.Equal.{equal_lines};
 ghost use Rattle.tbr_tagged.specs.Mapped.{MapsElements};
-ghost use Rattle.tbr_tagged.specs.Padding.{spaces, aligned, columns_in_front};
-ghost use Rattle.tbr_tagged.specs.View.{element_of};
+ghost use Rattle.tbr_tagged.specs.Padding.{spaces, columns_missing, aligned, aligned_items};
+ghost use Rattle.tbr_tagged.specs.Sums.{GivesSum};
+ghost use Rattle.tbr_tagged.specs.View.{chars_of, element_of, elements_of};
 ghost use Rattle.tbr_tagged.specs.Walks.{elements_left, strings_left, characters_left, pieces_of, piece_of, item_characters};
 
 use crate::element::{TaggedLineElement, TaggedString};
-use crate::elements::{columns_of, has_piece, push_glyph, push_piece, put_in_front, text_of};
+use crate::elements::{has_piece, push_glyph, push_piece, put_in_front, text_of, width_of};
 use crate::error::OutOfMemory;
 use crate::iterators::{Chars, Iter, TaggedStrings};
 use crate::padding::{CellAlign, columns_in_front, pad};
@@ -26,14 +28,14 @@ pub struct TaggedLine<T> {
 }
 
 impl<T> Model for TaggedLine<T> {
-    ghost use Rattle.std.specs.Prelude.{List, map};
+    ghost use Rattle.std.specs.Prelude.{List};
     ghost use Rattle.tbr_tagged.specs.Elements.{Element};
 
     ghost Value = { List (Element T) };
 
-    ghost use Rattle.tbr_tagged.specs.View.{element_of};
+    ghost use Rattle.tbr_tagged.specs.View.{elements_of};
 
-    ghost view = { λ a. map element_of a.elements.items };
+    ghost view = { λ a. elements_of a.elements.items };
 }
 
 impl<T> TaggedLine<T> {
@@ -57,14 +59,14 @@ impl<T> TaggedLine<T> {
     ///
     /// It takes no memory, and refuses exactly where the sum passes `usize`.
     pub fn width<W: CharWidth>(&self) -> Result<usize, OutOfMemory>
-        ensures { MatchResult result (λ n. n ≡ items_width W.columns (items_of self.now)) (λ _. usize.MAX < items_width W.columns (items_of self.now)) }
+        ensures { GivesSum result (line_width W.columns self.now) }
     {
-        columns_of::<T, W>(&self.elements)
+        width_of::<T, W>(&self.elements)
     }
 
     /// The line's characters, without tags and markers.
     pub fn to_text(&self) -> Result<String, OutOfMemory>
-        ensures { IfOk result (λ text. chars (string_bytes text) ≡ characters self.now) }
+        ensures { IfOk result (λ text. chars_of text ≡ characters self.now) }
     {
         text_of(*self.elements.allocator(), &self.elements)
     }
@@ -76,7 +78,7 @@ impl<T> TaggedLine<T> {
     where
         T: Eq + Clone + Drop,
         requires { CopiesAreEqual T.is_clone T.eq }
-        ensures { IfOk result (λ line. SameElements T.eq line (piece (chars (string_bytes s)) tag.now ∷ [])) }
+        ensures { IfOk result (λ line. SameElements T.eq line (piece (chars_of s) tag.now ∷ [])) }
     {
         let tag = tag.clone()?;
         let mut elements = Vec::new(alloc);
@@ -91,7 +93,8 @@ impl<T> TaggedLine<T> {
         requires { F.IsAlwaysCallable f.now }
         ensures mapped { IfOk result (λ line. MapsElements (F.post f.now) self line) }
         ensures text { IfOk result (λ line. characters line ≡ characters self) }
-        ensures width { IfOk result (λ line. (columns : ℕ → Option ℕ) → items_width columns (items_of line) ≡ items_width columns (items_of self)) }
+        ensures width { IfOk result (λ line.
+            (columns : ℕ → Option ℕ) → line_width columns line ≡ line_width columns self) }
     {
         let mut elements = Vec::with_capacity(*self.elements.allocator(), self.elements.len())?;
         for element in self.elements {
@@ -105,7 +108,8 @@ impl<T> TaggedLine<T> {
     where
         T: Eq + Clone + Drop,
         requires { CopiesAreEqual T.is_clone T.eq }
-        ensures { IfOk result (λ line. SameElements T.eq line self.now) }
+        ensures elements { IfOk result (λ line. SameElements T.eq line self.now) }
+        ensures equal { IfOk result (λ line. equal_lines T.eq line self.now ≡ true) }
     {
         let mut elements = Vec::with_capacity(*self.elements.allocator(), self.elements.len())?;
         for element in &self.elements {
@@ -116,15 +120,16 @@ impl<T> TaggedLine<T> {
 }
 
 impl<T: Eq> TaggedLine<T> {
-    /// Appends text. It extends the last piece if that stands under an equal tag, and else is a piece of its own. The empty text
-    /// does nothing.
+    /// Appends text. It extends the last piece if that stands under an equal tag, and else is a piece of its own. The
+    /// empty text does nothing.
     ///
     /// Where memory is refused the line stays as it was, and the text is dropped.
     pub fn push_str(&mut self, ts: TaggedString<T>) -> Result<(), OutOfMemory>
     where
         T: Drop,
-        ensures ok { OnOk result (self.new ≡ push_text T.eq self.old (chars (string_bytes ts.s)) ts.tag) }
-        ensures items { OnOk result (SameItems T.eq (items_of self.new) (items_of self.old ++ text_items (chars (string_bytes ts.s)) ts.tag)) }
+        ensures ok { OnOk result (self.new ≡ push_text T.eq self.old (chars_of ts.s) ts.tag) }
+        ensures items { OnOk result
+            (SameItems T.eq (items_of self.new) (items_of self.old ++ text_items (chars_of ts.s) ts.tag)) }
         ensures merged { IsMerged T.eq self.old → OnOk result (IsMerged T.eq self.new) }
         ensures err { OnErr result (self.new ≡ self.old) }
     {
@@ -134,8 +139,8 @@ impl<T: Eq> TaggedLine<T> {
         push_piece(&mut self.elements, ts)
     }
 
-    /// Appends a character. It extends the last piece if that stands under an equal tag, and else begins a piece under a copy of the
-    /// tag.
+    /// Appends a character. It extends the last piece if that stands under an equal tag, and else begins a piece under
+    /// a copy of the tag.
     ///
     /// Where memory is refused the line stays as it was.
     pub fn push_char(&mut self, c: char, tag: &T) -> Result<(), OutOfMemory>
@@ -152,12 +157,14 @@ impl<T: Eq> TaggedLine<T> {
 }
 
 impl<T: Eq + Drop> TaggedLine<T> {
-    /// Appends an element. Text is appended as by [`TaggedLine::push_str`], and a marker stands behind what the line has.
+    /// Appends an element. Text is appended as by [`TaggedLine::push_str`], and a marker stands behind what the line
+    /// has.
     ///
     /// Where memory is refused the line stays as it was, and the element is dropped.
     pub fn push(&mut self, element: TaggedLineElement<T>) -> Result<(), OutOfMemory>
         ensures ok { OnOk result (self.new ≡ push_element T.eq self.old (element_of element)) }
-        ensures items { OnOk result (SameItems T.eq (items_of self.new) (items_of self.old ++ element_items (element_of element))) }
+        ensures items { OnOk result
+            (SameItems T.eq (items_of self.new) (items_of self.old ++ element_items (element_of element))) }
         ensures merged { IsMerged T.eq self.old → OnOk result (IsMerged T.eq self.new) }
         ensures err { OnErr result (self.new ≡ self.old) }
     {
@@ -170,13 +177,16 @@ impl<T: Eq + Drop> TaggedLine<T> {
         }
     }
 
-    /// Puts text in front. It extends the first piece if that stands under an equal tag, and else is a piece of its own, also
-    /// where the text is empty.
+    /// Puts text in front. It extends the first piece if that stands under an equal tag, and else is a piece of its
+    /// own, also where the text is empty.
+    ///
+    /// A call goes over what the line has, so that a line which is built by such calls alone takes quadratic time.
     ///
     /// Where memory is refused the line stays as it was, and the text is dropped.
     pub fn insert_front(&mut self, ts: TaggedString<T>) -> Result<(), OutOfMemory>
-        ensures ok { OnOk result (self.new ≡ insert_text T.eq self.old (chars (string_bytes ts.s)) ts.tag) }
-        ensures items { OnOk result (SameItems T.eq (items_of self.new) (text_items (chars (string_bytes ts.s)) ts.tag ++ items_of self.old)) }
+        ensures ok { OnOk result (self.new ≡ insert_text T.eq self.old (chars_of ts.s) ts.tag) }
+        ensures items { OnOk result
+            (SameItems T.eq (items_of self.new) (text_items (chars_of ts.s) ts.tag ++ items_of self.old)) }
         ensures merged { 0 < string_len ts.s → IsMerged T.eq self.old → OnOk result (IsMerged T.eq self.new) }
         ensures err { OnErr result (self.new ≡ self.old) }
     {
@@ -186,25 +196,27 @@ impl<T: Eq + Drop> TaggedLine<T> {
 }
 
 impl<T: Eq + Clone + Drop> TaggedLine<T> {
-    /// Fills the line up to `width` columns with spaces behind it, under a copy of the tag. A line that is as wide already stays as
-    /// it is.
+    /// Fills the line up to `width` columns with spaces behind it, under a copy of the tag. A line that is as wide
+    /// already stays as it is.
     ///
     /// It refuses where memory is refused, or where the line's columns pass `usize`. The line then stays as it was.
     pub fn pad_to<W: CharWidth>(&mut self, width: usize, tag: &T) -> Result<(), OutOfMemory>
         requires { CopiesAreEqual T.is_clone T.eq }
-        ensures ok { OnOk result (SameElements T.eq self.new (push_text T.eq self.old (spaces (width - items_width W.columns (items_of self.old))) tag.now)) }
-        ensures items { OnOk result (SameItems T.eq (items_of self.new) (items_of self.old ++ text_items (spaces (width - items_width W.columns (items_of self.old))) tag.now)) }
-        ensures width { OnOk result (items_width W.columns (items_of self.new) ≡ max width (items_width W.columns (items_of self.old))) }
+        ensures ok { OnOk result (SameElements T.eq self.new
+            (push_text T.eq self.old (spaces (columns_missing W.columns width self.old)) tag.now)) }
+        ensures items { OnOk result (SameItems T.eq (items_of self.new)
+            (items_of self.old ++ text_items (spaces (columns_missing W.columns width self.old)) tag.now)) }
+        ensures width { OnOk result (line_width W.columns self.new ≡ max width (line_width W.columns self.old)) }
         ensures merged { IsMerged T.eq self.old → OnOk result (IsMerged T.eq self.new) }
-        ensures wide { width ≤ items_width W.columns (items_of self.old) → self.new ≡ self.old }
+        ensures unchanged_if_as_wide { width ≤ line_width W.columns self.old → self.new ≡ self.old }
         ensures err { OnErr result (self.new ≡ self.old) }
     {
         self.pad_aligned::<W>(width, CellAlign::Left, tag)
     }
 
-    /// Fills the line up to `width` columns with spaces under copies of the tag: behind it, in front of it, or on both sides, as the
-    /// alignment says. Spaces in front stand before the first element, markers included. A line that is as wide already stays as it
-    /// is.
+    /// Fills the line up to `width` columns with spaces under copies of the tag: behind it, in front of it, or on both
+    /// sides, as the alignment says. Spaces in front stand before the first element, markers included. A line that is
+    /// as wide already stays as it is.
     ///
     /// It refuses where memory is refused, or where the line's columns pass `usize`. The line then stays as it was.
     pub fn pad_aligned<W: CharWidth>(
@@ -214,11 +226,13 @@ impl<T: Eq + Clone + Drop> TaggedLine<T> {
         tag: &T,
     ) -> Result<(), OutOfMemory>
         requires { CopiesAreEqual T.is_clone T.eq }
-        ensures ok { OnOk result (SameElements T.eq self.new (aligned T.eq align self.old (width - items_width W.columns (items_of self.old)) tag.now)) }
-        ensures items { OnOk result (let missing = width - items_width W.columns (items_of self.old) in let front = columns_in_front align missing in SameItems T.eq (items_of self.new) (text_items (spaces front) tag.now ++ items_of self.old ++ text_items (spaces (missing - front)) tag.now)) }
-        ensures width { OnOk result (items_width W.columns (items_of self.new) ≡ max width (items_width W.columns (items_of self.old))) }
+        ensures ok { OnOk result (SameElements T.eq self.new
+            (aligned T.eq align self.old (columns_missing W.columns width self.old) tag.now)) }
+        ensures items { OnOk result (SameItems T.eq (items_of self.new)
+            (aligned_items align (items_of self.old) (columns_missing W.columns width self.old) tag.now)) }
+        ensures width { OnOk result (line_width W.columns self.new ≡ max width (line_width W.columns self.old)) }
         ensures merged { IsMerged T.eq self.old → OnOk result (IsMerged T.eq self.new) }
-        ensures wide { width ≤ items_width W.columns (items_of self.old) → self.new ≡ self.old }
+        ensures unchanged_if_as_wide { width ≤ line_width W.columns self.old → self.new ≡ self.old }
         ensures err { OnErr result (self.new ≡ self.old) }
     {
         let missing = width.saturating_sub(self.width::<W>()?);
@@ -230,7 +244,8 @@ impl<T: Eq + Clone + Drop> TaggedLine<T> {
 impl<T> TaggedLine<T> {
     /// The elements of the line, in order.
     pub fn iter(&self) -> Iter<'_, T>
-        ensures { map element_of (elements_left result) ≡ self.now }
+        ensures elements { elements_of (elements_left result) ≡ self.now }
+        ensures len { length (elements_left result) ≡ length self.now }
     {
         Iter {
             rest: self.elements.as_slice(),
@@ -239,7 +254,9 @@ impl<T> TaggedLine<T> {
 
     /// The pieces of the line without its markers, in order.
     pub fn tagged_strings(&self) -> TaggedStrings<'_, T>
-        ensures { map piece_of (strings_left result) ≡ pieces_of self.now }
+        ensures pieces { map piece_of (strings_left result) ≡ pieces_of self.now }
+        ensures len { length (strings_left result) ≡ length (pieces_of self.now) }
+        ensures fits { length (pieces_of self.now) < 2 ^ 64 }
     {
         TaggedStrings {
             rest: self.elements.as_slice(),
@@ -276,11 +293,12 @@ impl<T: Drop> IntoIterator for TaggedLine<T> {
 
     type IntoIter = vec::IntoIter<TaggedLineElement<T>>;
 
-    ghost use Rattle.std.specs.Prelude.{◌≡◌, map, length};
+    ghost use Rattle.std.specs.Prelude.{◌≡◌, length};
     ghost use Rattle.std.specs.Vec.Iter.{into_iter_items, into_iter_len};
-    ghost use Rattle.tbr_tagged.specs.View.{element_of};
+    ghost use Rattle.tbr_tagged.specs.View.{elements_of};
 
-    ghost into_iter_gives = { λ line walk. (map element_of (into_iter_items walk) ≡ line) × (into_iter_len walk ≡ length line) };
+    ghost into_iter_gives = { λ line walk.
+        (elements_of (into_iter_items walk) ≡ line) × (into_iter_len walk ≡ length line) };
 
     fn into_iter(self) -> vec::IntoIter<TaggedLineElement<T>> {
         self.elements.into_iter()

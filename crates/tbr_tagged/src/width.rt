@@ -1,6 +1,7 @@
 //! How many columns characters take in a terminal.
-ghost use Rattle.std.specs.Prelude.{◌≡◌, ◌<◌, chars, unwrap_or, MatchResult};
+ghost use Rattle.std.specs.Prelude.{◌≡◌, chars};
 ghost use Rattle.tbr_model.specs.Width as fixed;
+ghost use Rattle.tbr_tagged.specs.Sums.{GivesSum};
 ghost use Rattle.tbr_tagged.specs.UnicodeColumns.{unicode_columns, unicode_columns_at_most_two, unicode_columns_drawn};
 
 use crate::error::OutOfMemory;
@@ -12,8 +13,8 @@ const STROKE: char = '\u{336}';
 
 /// The columns that terminals give characters, by the crate `unicode_width`.
 ///
-/// The characters whose columns [`CharWidth`] fixes have those, and a character to which `unicode_width` gives more than two
-/// columns has two.
+/// The characters whose columns [`CharWidth`] fixes have those, and a character to which `unicode_width` gives more
+/// than two columns has two.
 #[derive(Clone, Copy, Debug)]
 pub struct UnicodeColumns;
 
@@ -35,8 +36,8 @@ impl CharWidth for UnicodeColumns {
         if c == STROKE {
             return Some(0);
         }
-        let columns = c.width()?;
-        Some(columns.min(2))
+        let width = c.width()?;
+        Some(width.min(2))
     }
 }
 
@@ -67,12 +68,12 @@ fn draws_border(c: char) -> bool
 ///
 /// It takes no memory, and refuses exactly where the sum passes `usize`.
 pub fn text_width<W: CharWidth>(s: &str) -> Result<usize, OutOfMemory>
-    ensures { MatchResult result (λ n. n ≡ fixed.width_of_text W.columns (chars s.now)) (λ _. usize.MAX < fixed.width_of_text W.columns (chars s.now)) }
+    ensures { GivesSum result (fixed.width_of_text W.columns (chars s.now)) }
 {
     let mut width = 0usize;
     for c in s.chars() {
-        let columns = W::width(c).unwrap_or(0);
-        let Some(sum) = width.checked_add(columns) else {
+        let more = W::width(c).unwrap_or(0);
+        let Some(sum) = width.checked_add(more) else {
             return Err(OutOfMemory);
         };
         width = sum;

@@ -28,7 +28,7 @@ flat l ts = record { placed = glyphs l.placed ts; word = glyphs l.word (drop (le
 abbrev pub letters : List ℕ → ℕ → ℕ → Letters
 letters bytes start word_start = record { placed = chars (slice_range bytes start word_start); word = chars (drop word_start bytes) }
 
--- Two places in bytes part them into texts, the last of which has so many characters.
+-- Two places in bytes part them into texts, the last of which has `word` characters.
 pub record AreParts (bytes : List ℕ) (start word_start word : ℕ) : Type 0 where
   pub start_in : start ≤ word_start
   pub word_in : word_start ≤ length bytes
@@ -66,7 +66,7 @@ before_first m = first m.markers m.behind
     first [] k = k
     first ((n, name) ∷ ms) k = n
 
--- so many characters fewer before the first marker
+-- `k` characters fewer before the first marker
 abbrev pub shortened : ℕ → MarkerPlaces → MarkerPlaces
 shortened k m = go m.markers
   where
@@ -87,6 +87,6 @@ abbrev pub AreNeighbours : List (ℕ × List ℕ) → Type 0
 AreNeighbours [] = Unit {0}
 AreNeighbours (m ∷ ms) = Each (λ n. n.0 ≡ 0) ms
 
--- the last so many of the characters and markers are markers alone
+-- the last `n` of the characters and markers are markers alone
 abbrev pub EndsWithMarkers : ℕ → MarkerPlaces → Type 0
 EndsWithMarkers n m = (n ≡ 0) ⊎ ((m.behind ≡ 0) × ((front back : List (ℕ × List ℕ)) × (m.markers ≡ front ++ back) × (length back ≡ n) × AreNeighbours back))

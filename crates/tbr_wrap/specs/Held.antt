@@ -18,5 +18,5 @@ pub record HoldsCourse {A : Type 0} (columns : ℕ → Option ℕ) (eq : A → A
   pub stands : IsAtProgress columns eq b before (take c.handed c.progress.laid.done) c.progress
   pub events : List (Event A)
   pub run_is : run_of events ≡ c.run
-  pub progress_is : progress columns b.width events ≡ c.progress
-  pub has_begun : begun || is_some_list b.lines.items ≡ c.begun || is_some_list c.progress.laid.done
+  pub progress_is : progress columns b.lines.width events ≡ c.progress
+  pub has_begun : begun || is_some_list b.lines.ended.items ≡ c.begun || is_some_list c.progress.laid.done

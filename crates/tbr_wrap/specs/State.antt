@@ -1,9 +1,9 @@
 -- What a contract sees of a block.
-use Rattle.std.specs.Prelude.{◌≡◌, ℕ, suc, ◌≤◌, Bool, true, false, ◌||◌, if◌then◌else◌, Option, None, Some, Result, Err, IfErr, unwrap_or, IsTrue, List, [], ◌∷◌, ◌++◌, ◌⊎◌, map, length, drop}
+use Rattle.std.specs.Prelude.{◌≡◌, ℕ, suc, ◌≤◌, Bool, true, false, ◌||◌, if◌then◌else◌, Option, None, Some, Result, Err, IfErr, unwrap_or, IsTrue, List, [], ◌∷◌, ◌++◌, ◌⊎◌, ◌↔◌, map, length, drop}
 use Rattle.std.specs.List.{AllByRecursion as Each}
 use Rattle.tbr_model.specs.declared.white_space.WhiteSpace.{WhiteSpace}
 use Rattle.tbr_model.specs.declared.white_space.WhiteSpace.TheVariants.{Normal, Pre, PreWrap}
-use Rattle.tbr_model.specs.Run.{Entry, character, marker_entry, Item, trailing}
+use Rattle.tbr_model.specs.Run.{Entry, character, marker_entry, Item, items_width, kept_items, has_character, trailing}
 use Rattle.tbr_model.specs.Layout.{joined}
 use Rattle.tbr_model.specs.Markers.{names_in_items, names_in_run, marker_items, marker_run, without_last_markers}
 use Rattle.tbr_model.specs.Hard.{HasMode, Preserves, IsNarrowEntry, is_visible, hard_lines, Parted, ShowsVisible, ShowsHardLine, ShowsPre, ShowsPreWrap, ShowsTabs}
@@ -119,6 +119,13 @@ IsNormal run = Each (HasMode Normal) run
 -- the block hasn't failed, its run is `Normal`, and no line may be wider than the block
 abbrev pub WrapsNormally : {A : Type 0} → State A → Type 0
 WrapsNormally s = (s.failure ≡ None) × (s.may_overflow ≡ false) × IsNormal s.run
+
+-- The kept characters of the run decide whether open line and word take columns or have a character, and whether a line
+-- has ended.
+pub record RunDecides {A : Type 0} (columns : ℕ → Option ℕ) (s : State A) : Type 0 where
+  pub no_columns : IsTrue s.no_columns ↔ (items_width columns (kept_items columns s.run) ≡ 0)
+  pub no_character : IsTrue s.no_character ↔ (has_character (kept_items columns s.run) ≡ false)
+  pub no_line : items_width columns (kept_items columns s.run) ≡ 0 → s.lines ≡ []
 
 -- no character of the run is wider than a line
 abbrev pub CharactersFit : {A : Type 0} → (ℕ → Option ℕ) → ℕ → List (Entry A) → Type 0

@@ -1,5 +1,5 @@
 //! A block of wrapped text.
-ghost use Rattle.std.specs.Prelude.{◌≡◌, ◌≢◌, ℕ, ◌≤◌, ◌<◌, ◌++◌, ◌∷◌, [], not, ◌&&◌, ◌||◌, nat_lt, is_none, is_some, if◌then◌else◌, None, Some, List, OnOk, IfOk, IfErr, IsSomeAnd, MatchResult, Err, Ok, true, false, chars, string_bytes, length, map, IsTrue, ◌↔◌};
+ghost use Rattle.std.specs.Prelude.{◌≡◌, ◌≢◌, ℕ, ◌≤◌, ◌<◌, ◌++◌, ◌∷◌, [], not, ◌&&◌, ◌||◌, nat_lt, is_none, is_some, if◌then◌else◌, None, Some, List, OnOk, IfOk, IfErr, IsErr, IsSomeAnd, MatchResult, Err, Ok, true, false, chars, string_bytes, length, map, IsTrue, ◌↔◌};
 ghost use Rattle.std.specs.List.{AllZip};
 ghost use Rattle.tbr_model.specs.Run.{Item, items_width, kept_items, has_character};
 ghost use Rattle.tbr_tagged.specs.Copies.{CopiesAreEqual};
@@ -49,9 +49,9 @@ impl<T: Eq + Clone, W: CharWidth> Model for WrappedBlock<T, W> {
     ghost use Rattle.tbr_wrap.specs.Course.{course, viewed};
     ghost use Rattle.tbr_wrap.specs.Held.{HoldsCourse};
 
-    ghost view = { λ b. viewed W.columns b.wrapper.width b.wrapper.may_overflow (if b.pads then Some b.default_tag else None) b.failure b.changes.items };
+    ghost view = { λ b. viewed W.columns b.wrapper.lines.width b.wrapper.lines.may_overflow (if b.pads then Some b.default_tag else None) b.failure b.changes.items };
 
-    ghost invariant = { λ b. b.failure ≡ None → HoldsCourse W.columns T.eq b.wrapper b.begun (course W.columns b.wrapper.width b.changes.items) };
+    ghost invariant = { λ b. b.failure ≡ None → HoldsCourse W.columns T.eq b.wrapper b.begun (course W.columns b.wrapper.lines.width b.changes.items) };
 }
 
 impl<T: Eq + Clone, W: CharWidth> WrappedBlock<T, W> {
@@ -59,7 +59,7 @@ impl<T: Eq + Clone, W: CharWidth> WrappedBlock<T, W> {
     ghost use Rattle.tbr_model.specs.Markers.{names_in_items, names_in_run, last};
     ghost use Rattle.tbr_tagged.specs.Elements.{marker_element};
     ghost use Rattle.tbr_tagged.specs.View.{element_of};
-    ghost use Rattle.tbr_wrap.specs.State.{empty_block, text_entries, JoinsRun, JoinsAsMarker, EndsRun, KeepsRefusal, WrapsNormally, loose_taken, lines_left, line_taken, run_flushed};
+    ghost use Rattle.tbr_wrap.specs.State.{empty_block, text_entries, JoinsRun, JoinsAsMarker, EndsRun, KeepsRefusal, WrapsNormally, RunDecides, loose_taken, lines_left, line_taken, run_flushed};
 
     /// A block without text, whose lines take `width` columns at most. It takes no memory.
     ///
@@ -102,18 +102,18 @@ impl<T: Eq + Clone, W: CharWidth> WrappedBlock<T, W> {
     /// run takes any. It is false on a block that has failed.
     pub fn at_line_start(&self) -> bool
         ensures asks { result ≡ is_none self.now.failure && self.now.no_columns }
-        ensures normal { WrapsNormally self.now →
-            (IsTrue result ↔ (items_width W.columns (kept_items W.columns self.now.run) ≡ 0)) }
+        ensures normal { WrapsNormally self.now → RunDecides W.columns self.now }
     {
+        self.known();
         self.failure.is_none() && self.has_no_columns()
     }
 
     /// Whether no line has ended yet, and open line and word take no columns. It is false on a block that has failed.
     pub fn is_empty(&self) -> bool
         ensures asks { result ≡ is_none self.now.failure && (not (self.now.begun || is_some_list self.now.lines) && self.now.no_columns) }
-        ensures normal { WrapsNormally self.now →
-            (IsTrue result ↔ (self.now.begun ≡ false) × (items_width W.columns (kept_items W.columns self.now.run) ≡ 0)) }
+        ensures normal { WrapsNormally self.now → RunDecides W.columns self.now }
     {
+        self.known();
         self.failure.is_none() && !self.has_begun() && self.has_no_columns()
     }
 
@@ -121,38 +121,34 @@ impl<T: Eq + Clone, W: CharWidth> WrappedBlock<T, W> {
     /// where the run has no kept character. It is false on a block that has failed.
     pub fn is_blank(&self) -> bool
         ensures asks { result ≡ is_none self.now.failure && (not (self.now.begun || is_some_list self.now.lines) && self.now.no_character) }
-        ensures normal { WrapsNormally self.now →
-            (IsTrue result ↔ (self.now.begun ≡ false) × (has_character (kept_items W.columns self.now.run) ≡ false)) }
+        ensures normal { WrapsNormally self.now → RunDecides W.columns self.now }
     {
+        self.known();
         self.failure.is_none() && !self.has_begun() && self.has_no_character()
     }
 
     /// Whether open line and word take no columns.
     fn has_no_columns(&self) -> bool
         requires { self.now.failure ≡ None }
-        ensures asks { result ≡ self.now.no_columns }
-        ensures normal { WrapsNormally self.now → (IsTrue result ↔ (items_width W.columns (kept_items W.columns self.now.run) ≡ 0)) }
+        ensures { result ≡ self.now.no_columns }
     {
-        self.wrapper.line_width == 0 && self.wrapper.word_width == 0
+        self.wrapper.lines.line_width == 0 && self.wrapper.word_width == 0
     }
 
     /// Whether open line and word hold no character.
     fn has_no_character(&self) -> bool
         requires { self.now.failure ≡ None }
-        ensures asks { result ≡ self.now.no_character }
-        ensures normal { WrapsNormally self.now → (IsTrue result ↔ (has_character (kept_items W.columns self.now.run) ≡ false)) }
+        ensures { result ≡ self.now.no_character }
     {
-        !self.wrapper.has_line() && !self.wrapper.flat.has_word()
+        !self.wrapper.lines.has_line() && !self.wrapper.lines.flat.has_word()
     }
 
     /// Whether a line has ended.
     fn has_begun(&self) -> bool
         requires { self.now.failure ≡ None }
-        ensures asks { result ≡ self.now.begun || is_some_list self.now.lines }
-        ensures empty { WrapsNormally self.now → items_width W.columns (kept_items W.columns self.now.run) ≡ 0 → result ≡ self.now.begun }
-        ensures blank { WrapsNormally self.now → has_character (kept_items W.columns self.now.run) ≡ false → result ≡ self.now.begun }
+        ensures { result ≡ self.now.begun || is_some_list self.now.lines }
     {
-        self.begun || !self.wrapper.lines.is_empty()
+        self.begun || !self.wrapper.lines.ended.is_empty()
     }
 
     /// Answers the kept refusal, if there is one.
@@ -207,9 +203,10 @@ impl<T: Eq + Clone, W: CharWidth> WrappedBlock<T, W> {
         Ok(())
     }
 
-    /// Changes nothing: no word of a `Normal` run that was placed has a character wider than a line.
-    fn ended_words_fit(&self)
-        ensures { self.now.failure ≡ None → WrapsNormally self.now → EndedWordsFit W.columns self.now.width self.now.run }
+    /// Does nothing. It tells what the fields of a `Normal` run say of it.
+    fn known(&self)
+        ensures fit { WrapsNormally self.now → EndedWordsFit W.columns self.now.width self.now.run }
+        ensures decides { WrapsNormally self.now → RunDecides W.columns self.now }
     {
         let _ = &self.failure;
     }
@@ -247,7 +244,7 @@ impl<T: Eq + Clone, W: CharWidth> WrappedBlock<T, W> {
         for c in text.chars() {
             self.add_char(c, main_tag, wrap_tag, ws_mode)?;
         }
-        self.ended_words_fit();
+        self.known();
         Ok(())
     }
 
@@ -279,7 +276,7 @@ impl<T: Eq + Clone, W: CharWidth> WrappedBlock<T, W> {
     {
         let (changes, name) = with_marker(&self.changes, name, &self.default_tag);
         let added = self.wrapper.add_marker(name);
-        keep(&mut self.failure, added.map_err(Error::from))?;
+        keep_want(&mut self.failure, added)?;
         self.changes = changes;
         Ok(())
     }
@@ -299,11 +296,11 @@ impl<T: Eq + Clone, W: CharWidth> WrappedBlock<T, W> {
         ensures kept { KeepsRefusal self.old result self.new }
     {
         self.refusal()?;
-        if self.wrapper.flat.has_word() {
+        if self.wrapper.lines.flat.has_word() {
             return Ok(Vec::new(self.alloc));
         }
         let taken = self.wrapper.take_markers();
-        let markers = keep(&mut self.failure, taken.map_err(Error::from))?;
+        let markers = keep_want(&mut self.failure, taken)?;
         self.changes = self
             .changes
             .appended(&RunChange::Taken, &self.default_tag, &self.default_tag);
@@ -358,7 +355,7 @@ impl<T: Eq + Clone, W: CharWidth> WrappedBlock<T, W> {
             return Ok(None);
         };
         let padded = self.pad(&mut line);
-        keep(&mut self.failure, padded.map_err(Error::from))?;
+        keep_want(&mut self.failure, padded)?;
         Ok(Some(line))
     }
 
@@ -374,8 +371,8 @@ impl<T: Eq + Clone, W: CharWidth> WrappedBlock<T, W> {
         ensures failed { IfErr result (λ e. (e ≡ E.OutOfMemory) × (self.new.failure ≡ Some e)) }
         ensures settings { (self.new.padding ≡ self.old.padding) × (self.new.width ≡ self.old.width) }
     {
-        let taken = self.wrapper.take_line();
-        let Some(line) = keep(&mut self.failure, taken.map_err(Error::from))? else {
+        let taken = self.wrapper.lines.take_line();
+        let Some(line) = keep_want(&mut self.failure, taken)? else {
             return Ok(None);
         };
         self.begun = true;
@@ -399,7 +396,7 @@ impl<T: Eq + Clone, W: CharWidth> WrappedBlock<T, W> {
         if !self.pads {
             return Ok(());
         }
-        line.pad_to::<W>(self.wrapper.width, &self.default_tag)
+        line.pad_to::<W>(self.wrapper.lines.width, &self.default_tag)
     }
 
     /// Ends the run, and hands out all lines that aren't handed out yet.
@@ -431,12 +428,25 @@ impl<T: Eq + Clone, W: CharWidth> WrappedBlock<T, W> {
 
 /// Keeps a refusal.
 fn keep<R>(failure: &mut Option<Error>, done: Result<R, Error>) -> Result<R, Error>
-    ensures same { result ≡ done }
-    ensures ok { OnOk result (failure.new ≡ failure.old) }
-    ensures failed { IfErr result (λ e. failure.new ≡ Some e) }
+    ensures ok { IfOk result (λ r. (done ≡ Ok r) × (failure.new ≡ failure.old)) }
+    ensures failed { IfErr result (λ e. (done ≡ Err e) × (failure.new ≡ Some e)) }
 {
     if let Err(e) = &done {
         *failure = Some(*e);
     }
     done
+}
+
+/// Keeps want of memory.
+fn keep_want<R>(failure: &mut Option<Error>, done: Result<R, OutOfMemory>) -> Result<R, Error>
+    ensures ok { IfOk result (λ r. (done ≡ Ok r) × (failure.new ≡ failure.old)) }
+    ensures failed { IfErr result (λ e. IsErr done × (e ≡ E.OutOfMemory) × (failure.new ≡ Some e)) }
+{
+    match done {
+        Ok(r) => Ok(r),
+        Err(OutOfMemory) => {
+            *failure = Some(Error::OutOfMemory);
+            Err(Error::OutOfMemory)
+        }
+    }
 }

@@ -103,7 +103,7 @@ impl<T> FlatText<T> {
         Some(W::width(c).unwrap_or(0))
     }
 
-    /// Whether there is a character among the last so many placed items.
+    /// Whether there is a character among the last `last` placed items.
     pub fn has_character(&self, last: usize) -> bool
         ensures { (before line : List (Item T)) → self.now.placed ≡ before ++ line → length line ≡ last → result ≡ has_character line }
     {
@@ -148,7 +148,7 @@ impl<T> FlatText<T> {
         Ok(())
     }
 
-    /// Puts the last so many placed items in front of the word, if they are markers.
+    /// Puts the last `last` placed items in front of the word, if they are markers.
     ///
     /// Where memory is refused a marker may be lost.
     pub fn unplace(&mut self, last: usize) -> Result<(), OutOfMemory>
@@ -181,8 +181,9 @@ impl<T: Drop> FlatText<T> {
         Ok(markers)
     }
 
-    /// Takes away the spaces at the end of the last so many placed items, back to a marker, and the white space at the word's beginning,
-    /// up to a marker. It answers how many spaces that were. It takes the time of moving the word, and of going over its stretches.
+    /// Takes away the spaces at the end of the last `most` placed items, back to a marker, and the white space at the word's
+    /// beginning, up to a marker. It answers how many spaces that were. It takes the time of moving the word, and of going over its
+    /// stretches.
     ///
     /// Where memory is refused the items stay as they were.
     pub fn trim(&mut self, most: usize) -> Result<usize, OutOfMemory>
@@ -215,7 +216,7 @@ impl<T: Eq + Clone> FlatText<T> {
         Ok(())
     }
 
-    /// Places so many spaces before the word. It takes the time of moving the word, and of going over its stretches.
+    /// Places `count` spaces before the word. It takes the time of moving the word, and of going over its stretches.
     ///
     /// Where the spaces part a stretch, the tag is copied, and the word's first characters stand under the copy. Where memory is
     /// refused the items may be lost.
@@ -233,7 +234,7 @@ impl<T: Eq + Clone> FlatText<T> {
         Ok(())
     }
 
-    /// Hands out the first so many placed items as a line. It takes the time of the line's length.
+    /// Hands out the first `items` placed items as a line. It takes the time of the line's length.
     pub fn take_line(&mut self, items: usize) -> Result<TaggedLine<T>, OutOfMemory>
         requires faithful { CopiesAreEqual T.is_clone T.eq }
         requires placed { items ≤ length self.old.placed }
@@ -249,7 +250,7 @@ impl<T: Eq + Clone> FlatText<T> {
         Ok(line)
     }
 
-    /// Hands the first placed items to a line, a marker, or at most so many characters, all under one tag. It answers how many they
+    /// Hands the first placed items to a line, a marker, or at most `most` characters, all under one tag. It answers how many they
     /// are.
     fn move_element(&mut self, line: &mut TaggedLine<T>, most: usize) -> Result<usize, OutOfMemory>
         requires faithful { CopiesAreEqual T.is_clone T.eq }

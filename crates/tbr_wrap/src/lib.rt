@@ -5,7 +5,6 @@ pub use block::WrappedBlock;
 
 mod block;
 mod flat;
-mod modes;
+mod laid_lines;
 mod run_change;
-mod word;
 mod wrapper;

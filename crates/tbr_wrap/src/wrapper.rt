@@ -1,40 +1,50 @@
-//! What a block has laid on lines, and the word under way.
-ghost use Rattle.std.specs.Prelude.{◌≡◌, ◌≤◌, ◌<◌, ◌+◌, ◌++◌, ◌∷◌, ◌⊎◌, [], ℕ, List, Option, None, Some, true, false, OnOk, IfOk, IfSome, MatchOption, Err, unwrap_or, length, Bool};
-ghost use Rattle.std.specs.VecDeque.{deque_len};
+//! Lays the characters of a run on lines, one after another.
+//!
+//! Its stages, in the words of its functions:
+//! - A character *joins* the word (`join`). White space that doesn't is pending before it (`collapse`, `keep_space`).
+//! - The word is *laid* where it ends: here, behind what is pending, if both fit the open line (`lay_here`), and else
+//!   afresh, behind what is left of that (`wrap_space`, `lay_fresh`).
+//! - What fits the open line is *placed* on it (`place_pending`, `place_word`). What may not fit is *put* on it and the
+//!   next ones (`put_pending`, `put_fresh`, `put_tab`).
+//! - Ended lines are *taken*, the first one first ([`LaidLines::take_line`]).
+ghost use Rattle.std.specs.Prelude.{◌≡◌, ◌≤◌, ◌<◌, ◌+◌, ◌&&◌, ◌↔◌, [], ℕ, List, map, string_bytes, Bool, if◌then◌else◌, IsTrue, Option, None, Some, true, false, OnOk, IfOk, Err};
 ghost use Rattle.tbr_tagged.specs.Copies.{CopiesAreEqual};
-ghost use Rattle.tbr_model.specs.Run.{Item};
-ghost use Rattle.tbr_tagged.specs.Elements.{SameItems};
+ghost use Rattle.tbr_model.specs.Run.{Item, character, marker_entry, items_width, has_character, is_break};
+ghost use Rattle.tbr_model.specs.Laid.{Laid, extended, put_items};
+ghost use Rattle.tbr_model.specs.Rule as model;
+ghost use Rattle.tbr_model.specs.Rule.{Progress, space_text, pending_width, put_pending, lay_here, lay_fresh, wrap_space_by, wrap_space, lay, flush_word, break_word, join};
+ghost use Rattle.tbr_model.specs.Rule.{call, step, enter, enter_normal, collapse, newline, tab, put_tab, keep_space, keep_character, passes, preserve};
+ghost use Rattle.tbr_model.specs.declared.white_space.WhiteSpace.TheVariants.{Normal, Pre, PreWrap};
+ghost use Rattle.tbr_model.specs.Greedy.{IsNarrow};
+ghost use Rattle.tbr_model.specs.Markers.{names_in_items};
+ghost use Rattle.tbr_tagged.specs.Elements.{SameItems, marker_element};
+ghost use Rattle.tbr_tagged.specs.View.{element_of};
+ghost use Rattle.tbr_tagged.specs.declared.error.Error.TheVariants as E;
 
-use crate::flat::FlatText;
+use crate::laid_lines::LaidLines;
 use std::alloc::Global;
-use std::collections::VecDeque;
+use std::mem;
 use tbr_model::{CharWidth, WhiteSpace};
-use tbr_tagged::{Error, OutOfMemory, TaggedLine};
+use tbr_tagged::{Error, OutOfMemory, TaggedLineElement, always_takes_space, is_wordbreak_point};
+
+/// U+200B, at which a word may end without a space.
+const ZERO_WIDTH_SPACE: char = '\u{200b}';
 
 /// White space that waits for a word.
 #[derive(Drop)]
 pub struct Space<T> {
     /// Its columns, at least one.
-    pub columns: usize,
+    pub width: usize,
     pub tag: T,
     pub mode: WhiteSpace,
-    ghost positive: { 0 < columns },
+    ghost positive: { 0 < width },
 }
 
-/// The items of a block that aren't handed out, where its lines end among them, and the word under way.
+/// Lines that are laid, the word under way, and what is pending before it.
 #[derive(Drop)]
 pub struct Wrapper<T> {
-    /// The columns of a line.
-    pub width: usize,
-    /// Whether a character that is wider than a line goes on one of its own.
-    pub may_overflow: bool,
-    pub flat: FlatText<T>,
-    /// The ended lines, each by its number of items.
-    pub lines: VecDeque<usize>,
-    /// The items of the open line.
-    pub line_len: usize,
-    /// The columns of the open line.
-    pub line_width: usize,
+    /// They hold the word's items.
+    pub lines: LaidLines<T>,
     /// The columns of the word.
     pub word_width: usize,
     /// The mode of the word's first character.
@@ -45,28 +55,20 @@ pub struct Wrapper<T> {
     pub continuation_flag: bool,
     /// Whether this call has the continuation tag.
     pub in_continuation: bool,
-    ghost fits: { line_width ≤ width },
-    ghost positive: { 0 < width },
-    ghost counted: { deque_len lines ≡ length lines.items },
 }
 
 impl<T> Wrapper<T> {
     ghost use Rattle.tbr_model.specs.Rule.{at_start};
-    ghost use Rattle.tbr_wrap.specs.Wrapper.{IsAtProgress};
+    ghost use Rattle.tbr_wrap.specs.Wrapper.{IsAtProgress, held_width};
 
     pub fn new(alloc: Global, width: usize, may_overflow: bool) -> Wrapper<T>
         requires { 0 < width }
         ensures stands { (columns : ℕ → Option ℕ) (eq : T → T → Bool) → IsAtProgress columns eq result [] [] at_start }
-        ensures width { result.width ≡ width }
-        ensures may_overflow { result.may_overflow ≡ may_overflow }
+        ensures width { result.lines.width ≡ width }
+        ensures may_overflow { result.lines.may_overflow ≡ may_overflow }
     {
         Wrapper {
-            width,
-            may_overflow,
-            flat: FlatText::new(alloc),
-            lines: VecDeque::new(alloc),
-            line_len: 0,
-            line_width: 0,
+            lines: LaidLines::new(alloc, width, may_overflow),
             word_width: 0,
             word_mode: WhiteSpace::Normal,
             space: None,
@@ -74,274 +76,545 @@ impl<T> Wrapper<T> {
             in_continuation: false,
         }
     }
+
+    /// The columns of the pending space.
+    pub fn pending_width(&self) -> usize
+        ensures { result ≡ held_width self.now.space }
+    {
+        match &self.space {
+            Some(space) => space.width,
+            None => 0,
+        }
+    }
+
+    /// Whether the word fits the open line behind the pending space.
+    fn has_room(&self) -> bool
+        ensures { IsTrue result ↔
+            (self.now.lines.line_width + (held_width self.now.space + self.now.word_width) ≤ self.now.lines.width) }
+    {
+        let room = self.lines.width - self.lines.line_width;
+        self.word_width <= room && self.pending_width() <= room - self.word_width
+    }
 }
 
-impl<T: Eq + Clone> Wrapper<T> {
-    ghost use Rattle.tbr_model.specs.Run.{item_width, items_width, has_character};
-    ghost use Rattle.tbr_model.specs.Laid.{Laid, extended, end_line, end_if_character, end_if_columns, put_item, put_items};
-    ghost use Rattle.tbr_model.specs.Rule.{spaces, trimmed, without_leading, put_spaces};
-    ghost use Rattle.tbr_model.specs.Greedy.{IsNarrow};
-    ghost use Rattle.tbr_wrap.specs.Wrapper.{HoldsLaid, HoldsRule, HoldsRuleBefore, KeepsSettings, LeavesAfterLine};
-    ghost use Rattle.tbr_tagged.specs.Elements.{Element, items_of, IsMerged, SameItem};
-    ghost use Rattle.tbr_tagged.specs.declared.error.Error.TheVariants as E;
+impl<T: Eq + Clone + Drop> Wrapper<T> {
+    ghost use Rattle.tbr_wrap.specs.LaidLines.{KeepsLimits};
+    ghost use Rattle.tbr_wrap.specs.Wrapper.{IsAtProgress, IsUnderWay, Wherever, WrapperFollows, RunIsFinished, SameSpace, held_width};
 
-    /// Ends the open line.
-    pub fn end_line(&mut self) -> Result<(), OutOfMemory>
-        ensures held { (before : List (List (Item T))) (l : Laid T) → HoldsLaid self.old before l → OnOk result (HoldsLaid self.new before (end_line l)) }
-        ensures ended { (columns : ℕ → Option ℕ) (before given : List (List (Item T))) (r : Laid T) → HoldsRule columns T.eq self.old before given r →
-            OnOk result (HoldsRule columns T.eq self.new before given (end_line r)) }
-        ensures flat { self.new.flat ≡ self.old.flat }
-        ensures same { KeepsSettings self.old self.new }
-        ensures line_width { OnOk result (self.new.line_width ≡ 0) }
-    {
-        self.lines.push_back(self.line_len)?;
-        self.line_len = 0;
-        self.line_width = 0;
-        Ok(())
-    }
-
-    /// Whether the open line has a character.
-    pub fn has_line(&self) -> bool
-        ensures { (before : List (List (Item T))) (l : Laid T) → HoldsLaid self.now before l → result ≡ has_character l.line }
-    {
-        self.flat.has_character(self.line_len)
-    }
-
-    /// Ends the open line, if it has a character.
-    pub fn end_if_character(&mut self) -> Result<(), OutOfMemory>
-        ensures ended { (columns : ℕ → Option ℕ) (before given : List (List (Item T))) (r : Laid T) → HoldsRule columns T.eq self.old before given r →
-            OnOk result (HoldsRule columns T.eq self.new before given (end_if_character r) × (self.new.line_width ≡ 0)) }
-        ensures flat { self.new.flat ≡ self.old.flat }
-        ensures same { KeepsSettings self.old self.new }
-    {
-        if !self.has_line() {
-            return Ok(());
-        }
-        self.end_line()?;
-        Ok(())
-    }
-
-    /// Ends the open line, if it has columns.
-    fn end_if_columns(&mut self) -> Result<(), OutOfMemory>
-        ensures ended { (columns : ℕ → Option ℕ) (before given : List (List (Item T))) (r : Laid T) → HoldsRule columns T.eq self.old before given r →
-            OnOk result (HoldsRule columns T.eq self.new before given (end_if_columns r)) }
-        ensures flat { self.new.flat ≡ self.old.flat }
-        ensures same { KeepsSettings self.old self.new }
-        ensures line_width { OnOk result (self.new.line_width ≡ 0) }
-    {
-        if self.line_width == 0 {
-            return Ok(());
-        }
-        self.end_line()
-    }
-
-    /// Puts the word's first item on the open line, where it takes so many columns.
-    fn place_first(&mut self, columns: usize) -> Result<(), OutOfMemory>
-        requires some { 0 < length self.old.flat.word }
-        requires room { self.old.line_width + columns ≤ self.old.width }
-        ensures word { OnOk result ((i : Item T) × (rest : List (Item T)) × (self.old.flat.word ≡ i ∷ rest) × (self.new.flat.word ≡ rest)) }
-        ensures placed { (widths : ℕ → Option ℕ) (before given : List (List (Item T))) (r : Laid T) (i j : Item T) (rest : List (Item T)) → HoldsRule widths T.eq self.old before given r →
-            self.old.flat.word ≡ i ∷ rest → SameItem T.eq i j → item_width widths j ≡ columns →
-            OnOk result (HoldsRule widths T.eq self.new before given (extended r (j ∷ []) (item_width widths j))) }
-        ensures same { KeepsSettings self.old self.new }
-    {
-        let Some(line_len) = self.line_len.checked_add(1) else {
-            return Err(OutOfMemory);
-        };
-        self.flat.place_first()?;
-        self.line_len = line_len;
-        self.line_width += columns;
-        Ok(())
-    }
-
-    /// Puts the word's first item behind those of no width, and ends the line.
-    fn place_wide(&mut self) -> Result<(), OutOfMemory>
-        requires some { 0 < length self.old.flat.word }
-        requires blank { self.old.line_width ≡ 0 }
-        requires may { self.old.may_overflow ≡ true }
-        ensures word { OnOk result ((i : Item T) × (rest : List (Item T)) × (self.old.flat.word ≡ i ∷ rest) × (self.new.flat.word ≡ rest)) }
-        ensures placed { (widths : ℕ → Option ℕ) (before given : List (List (Item T))) (r : Laid T) (i j : Item T) (rest : List (Item T)) → HoldsRule widths T.eq self.old before given r →
-            self.old.flat.word ≡ i ∷ rest → SameItem T.eq i j → self.old.width < item_width widths j →
-            OnOk result (HoldsRule widths T.eq self.new before given (end_line (extended r (j ∷ []) (item_width widths j)))) }
-        ensures same { KeepsSettings self.old self.new }
-    {
-        let Some(line_len) = self.line_len.checked_add(1) else {
-            return Err(OutOfMemory);
-        };
-        self.flat.place_first()?;
-        self.lines.push_back(line_len)?;
-        self.line_len = 0;
-        Ok(())
-    }
-
-    /// Puts the word's first item, which is wider than a line: behind items of no width, on a line that is ended at once.
-    fn put_wide(&mut self) -> Result<(), Error>
-        requires some { 0 < length self.old.flat.word }
-        ensures put { (widths : ℕ → Option ℕ) (before given : List (List (Item T))) (r : Laid T) (i j : Item T) (rest : List (Item T)) → HoldsRule widths T.eq self.old before given r →
-            self.old.flat.word ≡ i ∷ rest → SameItem T.eq i j → self.old.width < item_width widths j →
-            OnOk result (HoldsRule widths T.eq self.new before given (end_line (extended (end_if_columns r) (j ∷ []) (item_width widths j)))) }
-        ensures word { OnOk result ((i : Item T) × (rest : List (Item T)) × (self.old.flat.word ≡ i ∷ rest) × (self.new.flat.word ≡ rest)) }
-        ensures too_narrow { result ≡ Err E.TooNarrow → self.old.may_overflow ≡ false }
-        ensures same { KeepsSettings self.old self.new }
-    {
-        if !self.may_overflow {
-            return Err(Error::TooNarrow);
-        }
-        self.end_if_columns()?;
-        self.place_wide()?;
-        Ok(())
-    }
-
-    /// Puts the first item of a word, which takes so many columns: on the open line, or on a fresh one where it doesn't fit.
-    fn put_first(&mut self, columns: usize) -> Result<(), Error>
-        requires some { 0 < length self.old.flat.word }
-        ensures put { (widths : ℕ → Option ℕ) (before given : List (List (Item T))) (r : Laid T) (i j : Item T) (rest : List (Item T)) → HoldsRule widths T.eq self.old before given r →
-            self.old.flat.word ≡ i ∷ rest → SameItem T.eq i j → item_width widths j ≡ columns → OnOk result (HoldsRule widths T.eq self.new before given (put_item widths self.old.width r j)) }
-        ensures word { OnOk result ((i : Item T) × (rest : List (Item T)) × (self.old.flat.word ≡ i ∷ rest) × (self.new.flat.word ≡ rest)) }
-        ensures too_narrow { result ≡ Err E.TooNarrow → (self.old.may_overflow ≡ false) × (self.old.width < columns) }
-        ensures same { KeepsSettings self.old self.new }
-    {
-        if columns > self.width {
-            return self.put_wide();
-        }
-        if columns <= self.width - self.line_width {
-            self.place_first(columns)?;
-            return Ok(());
-        }
-        self.end_line()?;
-        self.place_first(columns)?;
-        Ok(())
-    }
-
-    /// Puts the items of a word, one by one.
-    pub fn put_word<W: CharWidth>(&mut self) -> Result<(), Error>
-        ensures put { (before given : List (List (Item T))) (r : Laid T) (js : List (Item T)) → HoldsRule W.columns T.eq self.old before given r → SameItems T.eq self.old.flat.word js →
-            OnOk result (HoldsRule W.columns T.eq self.new before given (put_items W.columns self.old.width r js)) }
-        ensures word { OnOk result (self.new.flat.word ≡ []) }
-        ensures too_narrow { result ≡ Err E.TooNarrow → (self.old.may_overflow ≡ false) × ¬ (IsNarrow W.columns self.old.width self.old.flat.word) }
-        ensures same { KeepsSettings self.old self.new }
-    {
-        while let Some(columns) = self.flat.first_width::<W>() {
-            self.put_first(columns)?;
-        }
-        Ok(())
-    }
-
-    /// Puts the word, which takes so many columns, on the open line.
-    pub fn place_word(&mut self, columns: usize) -> Result<(), OutOfMemory>
-        requires room { self.old.line_width + columns ≤ self.old.width }
-        ensures placed { (widths : ℕ → Option ℕ) (before given : List (List (Item T))) (r : Laid T) (js : List (Item T)) → HoldsRule widths T.eq self.old before given r → SameItems T.eq self.old.flat.word js →
-            items_width widths js ≡ columns → OnOk result (HoldsRule widths T.eq self.new before given (extended r js (items_width widths js))) }
-        ensures word { OnOk result (self.new.flat.word ≡ []) }
-        ensures same { KeepsSettings self.old self.new }
-    {
-        let items = self.flat.word_len()?;
-        let Some(line_len) = self.line_len.checked_add(items) else {
-            return Err(OutOfMemory);
-        };
-        self.flat.place_word()?;
-        self.line_len = line_len;
-        self.line_width += columns;
-        Ok(())
-    }
-
-    /// Puts spaces on the open line.
-    pub fn place_spaces(&mut self, count: usize, tag: T) -> Result<(), OutOfMemory>
-    where
-        T: Drop,
+    /// Puts the pending space on the open line, where it fits.
+    fn place_pending<W: CharWidth>(&mut self) -> Result<(), OutOfMemory>
         requires faithful { CopiesAreEqual T.is_clone T.eq }
-        requires some { 0 < count }
-        requires room { self.old.line_width + count ≤ self.old.width }
-        ensures placed { (widths : ℕ → Option ℕ) (before given : List (List (Item T))) (r : Laid T) (a : T) → widths 32 ≡ Some 1 → HoldsRule widths T.eq self.old before given r → T.eq tag a ≡ true →
-            OnOk result (HoldsRule widths T.eq self.new before given (extended r (spaces count a) count)) }
-        ensures word { OnOk result (SameItems T.eq self.new.flat.word self.old.flat.word) }
-        ensures line_width { OnOk result (self.new.line_width ≡ self.old.line_width + count) }
-        ensures same { KeepsSettings self.old self.new }
+        requires room { self.old.lines.line_width + held_width self.old.space ≤ self.old.lines.width }
+        ensures placed { WrapperFollows W.columns T.eq self.old self.new result (λ p.
+            record p { laid = extended p.laid (space_text p.space) (pending_width p.space); space = None }) }
+        ensures line_width { OnOk result
+            (self.new.lines.line_width ≡ self.old.lines.line_width + held_width self.old.space) }
+        ensures word_width { self.new.word_width ≡ self.old.word_width }
+        ensures limits { KeepsLimits self.old.lines self.new.lines }
     {
-        let Some(line_len) = self.line_len.checked_add(count) else {
-            return Err(OutOfMemory);
-        };
-        self.flat.push_spaces(count, tag)?;
-        self.line_len = line_len;
-        self.line_width += count;
+        match self.space.take() {
+            Some(space) => self.lines.place_spaces(space.width, space.tag),
+            None => Ok(()),
+        }
+    }
+
+    /// Puts the pending space on the open line, which has room, and on the next ones.
+    fn put_pending<W: CharWidth>(&mut self) -> Result<(), OutOfMemory>
+        requires faithful { CopiesAreEqual T.is_clone T.eq }
+        requires room { self.old.lines.line_width < self.old.lines.width }
+        ensures put { WrapperFollows W.columns T.eq self.old self.new result (λ p.
+            record p { laid = put_pending self.old.lines.width p.space p.laid; space = None }) }
+        ensures limits { KeepsLimits self.old.lines self.new.lines }
+    {
+        match self.space.take() {
+            Some(space) => self.lines.put_spaces(space.width, space.tag),
+            None => Ok(()),
+        }
+    }
+
+    /// Puts the word behind the pending space on the open line, where both fit.
+    fn lay_here<W: CharWidth>(&mut self) -> Result<(), OutOfMemory>
+        requires faithful { CopiesAreEqual T.is_clone T.eq }
+        requires room { self.old.lines.line_width + (held_width self.old.space + self.old.word_width) ≤
+            self.old.lines.width }
+        ensures laid { WrapperFollows W.columns T.eq self.old self.new result (lay_here W.columns) }
+        ensures limits { KeepsLimits self.old.lines self.new.lines }
+    {
+        self.place_pending::<W>()?;
+        let width = mem::replace(&mut self.word_width, 0);
+        self.lines.place_word(width)?;
+        self.continuation_flag = false;
         Ok(())
     }
 
-    /// Takes so many spaces, which are placed behind the open line, onto it, and ends it if they fill it.
-    fn take_spaces(&mut self, count: usize) -> Result<(), OutOfMemory>
-        requires some { 0 < count }
-        requires room { self.old.line_width + count ≤ self.old.width }
-        ensures taken { (widths : ℕ → Option ℕ) (before given : List (List (Item T))) (r : Laid T) (a b : T) (behind : List (Item T)) → widths 32 ≡ Some 1 → T.eq b a ≡ true →
-            HoldsRuleBefore widths T.eq self.old before given r (spaces count b ++ behind) → OnOk result (HoldsRuleBefore widths T.eq self.new before given (put_spaces self.old.width a count r) behind) }
-        ensures flat { self.new.flat ≡ self.old.flat }
-        ensures room { OnOk result (self.new.line_width < self.new.width) }
-        ensures same { KeepsSettings self.old self.new }
+    /// Does with the pending space what its mode asks for where the word behind it doesn't fit.
+    fn wrap_space<W: CharWidth>(&mut self) -> Result<(), OutOfMemory>
+        requires faithful { CopiesAreEqual T.is_clone T.eq }
+        requires stands { IsUnderWay W.columns T.eq self.old }
+        ensures wrapped { WrapperFollows W.columns T.eq self.old self.new result (λ p.
+            wrap_space W.columns self.old.lines.width p p.space) }
+        ensures limits { KeepsLimits self.old.lines self.new.lines }
     {
-        let Some(line_len) = self.line_len.checked_add(count) else {
-            return Err(OutOfMemory);
+        let Some(space) = self.space.take() else {
+            return Ok(());
         };
-        self.line_len = line_len;
-        self.line_width += count;
-        if self.line_width < self.width {
+        match space.mode {
+            WhiteSpace::Normal => Ok(()),
+            WhiteSpace::Pre => self.shorten_space::<W>(space),
+            WhiteSpace::PreWrap => self.trim_word::<W>(),
+        }
+    }
+
+    /// Takes the room of the open line from the pending space, or writes it where it is less.
+    fn shorten_space<W: CharWidth>(&mut self, space: Space<T>) -> Result<(), OutOfMemory>
+        requires faithful { CopiesAreEqual T.is_clone T.eq }
+        requires taken { self.old.space ≡ None }
+        requires mode { space.mode ≡ Pre }
+        ensures shortened { (before given : List (List (Item T))) (p : Progress T) (s : model.Space T) →
+            IsAtProgress W.columns T.eq self.old before given (record p { space = None }) →
+            SameSpace T.eq (Some space) (Some s) →
+            OnOk result (IsAtProgress W.columns T.eq self.new before given
+            (wrap_space_by W.columns self.old.lines.width p s Pre)) }
+        ensures limits { KeepsLimits self.old.lines self.new.lines }
+    {
+        let room = self.lines.width - self.lines.line_width;
+        if space.width < room {
+            return self.lines.place_spaces(space.width, space.tag);
+        }
+        let width = space.width - room;
+        if width == 0 {
             return Ok(());
         }
-        self.lines.push_back(self.line_len)?;
-        self.line_len = 0;
-        self.line_width = 0;
-        Ok(())
-    }
-
-    /// Puts spaces on the open line, which has room, and on the next ones. A line that they fill is ended. The word is moved once.
-    pub fn put_spaces(&mut self, count: usize, tag: T) -> Result<(), OutOfMemory>
-    where
-        T: Drop,
-        requires faithful { CopiesAreEqual T.is_clone T.eq }
-        requires some { 0 < count }
-        requires room { self.old.line_width < self.old.width }
-        ensures put { (widths : ℕ → Option ℕ) (before given : List (List (Item T))) (r : Laid T) (a : T) → widths 32 ≡ Some 1 → HoldsRule widths T.eq self.old before given r → T.eq tag a ≡ true →
-            OnOk result (HoldsRule widths T.eq self.new before given (put_spaces self.old.width a count r)) }
-        ensures word { OnOk result (SameItems T.eq self.new.flat.word self.old.flat.word) }
-        ensures same { KeepsSettings self.old self.new }
-    {
-        self.flat.push_spaces(count, tag)?;
-        let mut left = count;
-        while left > 0 {
-            let taken = left.min(self.width - self.line_width);
-            self.take_spaces(taken)?;
-            left -= taken;
-        }
+        self.space = Some(Space {
+            width,
+            tag: space.tag,
+            mode: WhiteSpace::Pre,
+        });
         Ok(())
     }
 
     /// Takes away the spaces at the open line's end, and the white space at the word's beginning.
-    pub fn trim(&mut self) -> Result<(), OutOfMemory>
-        requires lays { (widths : ℕ → Option ℕ) × (before : List (List (Item T))) × (given : List (List (Item T))) × (r : Laid T) × (widths 32 ≡ Some 1) × HoldsRule widths T.eq self.old before given r }
-        ensures trimmed { (widths : ℕ → Option ℕ) (before given : List (List (Item T))) (r : Laid T) → widths 32 ≡ Some 1 → HoldsRule widths T.eq self.old before given r →
-            OnOk result (HoldsRule widths T.eq self.new before given (trimmed widths r)) }
-        ensures word { (js : List (Item T)) → SameItems T.eq self.old.flat.word js → OnOk result (SameItems T.eq self.new.flat.word (without_leading js)) }
-        ensures same { KeepsSettings self.old self.new }
+    fn trim_word<W: CharWidth>(&mut self) -> Result<(), OutOfMemory>
+        requires taken { self.old.space ≡ None }
+        requires stands { IsUnderWay W.columns T.eq self.old }
+        ensures trimmed { (before given : List (List (Item T))) (p : Progress T) (s : model.Space T) →
+            IsAtProgress W.columns T.eq self.old before given (record p { space = None }) →
+            OnOk result (IsAtProgress W.columns T.eq self.new before given
+            (wrap_space_by W.columns self.old.lines.width p s PreWrap)) }
+        ensures limits { KeepsLimits self.old.lines self.new.lines }
     {
-        let removed = self.flat.trim(self.line_len)?;
-        self.line_len -= removed;
-        self.line_width -= removed;
+        self.lines.trim()?;
+        self.word_width = self.lines.flat.word_width::<W>()?;
         Ok(())
     }
 
-    /// Hands out the first ended line, if there is one.
-    pub fn take_line(&mut self) -> Result<Option<TaggedLine<T>>, OutOfMemory>
-        requires faithful { CopiesAreEqual T.is_clone T.eq }
-        requires holds { (before : List (List (Item T))) × (l : Laid T) × HoldsLaid self.old before l }
-        ensures none { IfOk result (λ o. o ≡ None → (self.new ≡ self.old) × (self.old.lines.items ≡ [])) }
-        ensures some { IfOk result (λ o. IfSome o (λ _. 0 < length self.old.lines.items)) }
-        ensures taken { (before : List (List (Item T))) (l : Laid T) (is : List (Item T)) (rest : List (List (Item T))) → HoldsLaid self.old before l → before ++ l.done ≡ is ∷ rest →
-            IfOk result (λ o. MatchOption o ⊥ (λ line. SameItems T.eq (items_of line) is × IsMerged T.eq line × LeavesAfterLine self.old self.new rest l)) }
-        ensures same { KeepsSettings self.old self.new }
+    /// Puts the word, before which nothing is pending, on the open line and the next ones.
+    fn put_fresh<W: CharWidth>(&mut self) -> Result<(), Error>
+        ensures put { WrapperFollows W.columns T.eq self.old self.new result (λ p.
+            record p { laid = put_items W.columns self.old.lines.width p.laid p.word; word = [] }) }
+        ensures too_narrow { result ≡ Err E.TooNarrow → Wherever W.columns T.eq self.old (λ p.
+            (self.old.lines.may_overflow ≡ false) × ¬ (IsNarrow W.columns self.old.lines.width p.word)) }
+        ensures limits { KeepsLimits self.old.lines self.new.lines }
     {
-        let Some(len) = self.lines.front().copied() else {
-            return Ok(None);
+        let width = mem::replace(&mut self.word_width, 0);
+        if width <= self.lines.width - self.lines.line_width {
+            self.lines.place_word(width)?;
+            return Ok(());
+        }
+        self.lines.put_word::<W>()
+    }
+
+    /// Puts the word on a fresh line, behind what is still pending. A word that has lost its characters stays.
+    fn lay_fresh<W: CharWidth>(&mut self) -> Result<(), Error>
+        requires faithful { CopiesAreEqual T.is_clone T.eq }
+        requires stands { IsUnderWay W.columns T.eq self.old }
+        ensures laid { WrapperFollows W.columns T.eq self.old self.new result
+            (lay_fresh W.columns self.old.lines.width) }
+        ensures too_narrow { result ≡ Err E.TooNarrow → Wherever W.columns T.eq self.old (λ p.
+            (self.old.lines.may_overflow ≡ false) × ¬ (IsNarrow W.columns self.old.lines.width p.word)) }
+        ensures limits { KeepsLimits self.old.lines self.new.lines }
+    {
+        self.lines.end_if_character()?;
+        self.put_pending::<W>()?;
+        self.continuation_flag = is_pre(self.word_mode);
+        if self.lines.flat.has_word() {
+            return self.put_fresh::<W>();
+        }
+        Ok(())
+    }
+
+    /// Lays the word: behind the pending space if both fit the open line, and else on a fresh one.
+    fn lay<W: CharWidth>(&mut self) -> Result<(), Error>
+        requires faithful { CopiesAreEqual T.is_clone T.eq }
+        requires stands { IsUnderWay W.columns T.eq self.old }
+        ensures laid { WrapperFollows W.columns T.eq self.old self.new result (lay W.columns self.old.lines.width) }
+        ensures too_narrow { result ≡ Err E.TooNarrow → Wherever W.columns T.eq self.old (λ p.
+            (self.old.lines.may_overflow ≡ false) × ¬ (IsNarrow W.columns self.old.lines.width p.word)) }
+        ensures limits { KeepsLimits self.old.lines self.new.lines }
+    {
+        if self.has_room() {
+            self.lay_here::<W>()?;
+            return Ok(());
+        }
+        self.wrap_space::<W>()?;
+        self.lay_fresh::<W>()
+    }
+
+    /// Lays the word, if it has a character.
+    pub fn flush_word<W: CharWidth>(&mut self) -> Result<(), Error>
+        requires faithful { CopiesAreEqual T.is_clone T.eq }
+        requires stands { IsUnderWay W.columns T.eq self.old }
+        ensures laid { WrapperFollows W.columns T.eq self.old self.new result
+            (flush_word W.columns self.old.lines.width) }
+        ensures too_narrow { result ≡ Err E.TooNarrow → Wherever W.columns T.eq self.old (λ p.
+            (self.old.lines.may_overflow ≡ false) × (has_character p.word ≡ true)
+            × ¬ (IsNarrow W.columns self.old.lines.width p.word)) }
+        ensures limits { KeepsLimits self.old.lines self.new.lines }
+    {
+        if !self.lines.flat.has_word() {
+            return Ok(());
+        }
+        self.lay::<W>()
+    }
+
+    /// Lays the word, if it has columns.
+    pub fn break_word<W: CharWidth>(&mut self) -> Result<(), Error>
+        requires faithful { CopiesAreEqual T.is_clone T.eq }
+        requires stands { IsUnderWay W.columns T.eq self.old }
+        ensures laid { WrapperFollows W.columns T.eq self.old self.new result
+            (break_word W.columns self.old.lines.width) }
+        ensures too_narrow { result ≡ Err E.TooNarrow → Wherever W.columns T.eq self.old (λ p.
+            (self.old.lines.may_overflow ≡ false) × (0 < items_width W.columns p.word)
+            × ¬ (IsNarrow W.columns self.old.lines.width p.word)) }
+        ensures limits { KeepsLimits self.old.lines self.new.lines }
+    {
+        if self.word_width == 0 {
+            return Ok(());
+        }
+        self.lay::<W>()
+    }
+
+    /// The mode of the word's first character, once a character of the given mode has joined it.
+    fn mode_with(&self, mode: WhiteSpace) -> WhiteSpace
+        ensures { (js : List (Item T)) → SameItems T.eq self.now.lines.flat.word js →
+            result ≡ (if has_character js then self.now.word_mode else mode) }
+    {
+        if self.lines.flat.has_word() {
+            self.word_mode
+        } else {
+            mode
+        }
+    }
+
+    /// Adds a character of `width` columns to the word.
+    pub fn join(
+        &mut self,
+        c: char,
+        width: usize,
+        tag: &T,
+        mode: WhiteSpace,
+    ) -> Result<(), OutOfMemory>
+        requires faithful { CopiesAreEqual T.is_clone T.eq }
+        ensures joined { (columns : ℕ → Option ℕ) (a : T) → columns c ≡ Some width → T.eq tag.now a ≡ true →
+            WrapperFollows columns T.eq self.old self.new result (join c a mode) }
+        ensures limits { KeepsLimits self.old.lines self.new.lines }
+    {
+        let Some(word_width) = self.word_width.checked_add(width) else {
+            return Err(OutOfMemory);
         };
-        let line = self.flat.take_line(len)?;
-        let _ = self.lines.pop_front();
-        Ok(Some(line))
+        let word_mode = self.mode_with(mode);
+        self.lines.flat.push(c, tag)?;
+        self.word_width = word_width;
+        self.word_mode = word_mode;
+        Ok(())
+    }
+
+    /// Begins a call. It has the continuation tag where the flag is on.
+    pub fn begin_call(&mut self)
+        ensures begun { (columns : ℕ → Option ℕ) (before given : List (List (Item T))) (p : Progress T) →
+            IsAtProgress columns T.eq self.old before given p →
+            IsAtProgress columns T.eq self.new before given (step columns self.old.lines.width p call) }
+        ensures limits { KeepsLimits self.old.lines self.new.lines }
+    {
+        self.in_continuation = self.continuation_flag;
+    }
+
+    /// Notes white space that collapses, behind what the line has.
+    fn collapse(&mut self, c: char, tag: &T) -> Result<(), OutOfMemory>
+        requires faithful { CopiesAreEqual T.is_clone T.eq }
+        requires is_break { is_break c ≡ true }
+        ensures after_change { (columns : ℕ → Option ℕ) (a : T) → T.eq tag.now a ≡ true →
+            WrapperFollows columns T.eq self.old self.new result (collapse c a) }
+        ensures limits { KeepsLimits self.old.lines self.new.lines }
+    {
+        if c == ZERO_WIDTH_SPACE || self.space.is_some() || self.lines.line_width == 0 {
+            return Ok(());
+        }
+        self.space = Some(Space {
+            width: 1,
+            tag: tag.clone()?,
+            mode: WhiteSpace::Normal,
+        });
+        Ok(())
+    }
+
+    /// Ends the open line at a newline.
+    fn newline(&mut self) -> Result<(), OutOfMemory>
+        ensures ended { (columns : ℕ → Option ℕ) → WrapperFollows columns T.eq self.old self.new result newline }
+        ensures limits { KeepsLimits self.old.lines self.new.lines }
+    {
+        self.lines.end_line()?;
+        self.space = None;
+        self.continuation_flag = false;
+        self.in_continuation = false;
+        Ok(())
+    }
+
+    /// Puts the spaces of a tab.
+    fn tab(&mut self, tag: &T) -> Result<(), OutOfMemory>
+        requires faithful { CopiesAreEqual T.is_clone T.eq }
+        requires stands { (columns : ℕ → Option ℕ) × IsUnderWay columns T.eq self.old }
+        ensures put { (columns : ℕ → Option ℕ) (a : T) → columns 32 ≡ Some 1 → T.eq tag.now a ≡ true →
+            WrapperFollows columns T.eq self.old self.new result (tab self.old.lines.width a) }
+        ensures limits { KeepsLimits self.old.lines self.new.lines }
+    {
+        let pending = self.pending_width();
+        if pending < self.lines.width - self.lines.line_width {
+            let column = self.lines.line_width + pending;
+            return self.lines.put_tab(column, tag);
+        }
+        self.lines.end_if_character()?;
+        self.lines.put_tab(0, tag)
+    }
+
+    /// Keeps white space: it waits for a word, or joins the word's characters.
+    fn keep_space(
+        &mut self,
+        c: char,
+        width: usize,
+        tag: &T,
+        mode: WhiteSpace,
+    ) -> Result<(), OutOfMemory>
+        requires faithful { CopiesAreEqual T.is_clone T.eq }
+        ensures kept { (columns : ℕ → Option ℕ) (a : T) → columns c ≡ Some width → T.eq tag.now a ≡ true →
+            WrapperFollows columns T.eq self.old self.new result (keep_space c a mode (Some width)) }
+        ensures limits { KeepsLimits self.old.lines self.new.lines }
+    {
+        if self.lines.flat.has_word() {
+            return self.join(c, width, tag, mode);
+        }
+        let Some(width) = self.pending_width().checked_add(width) else {
+            return Err(OutOfMemory);
+        };
+        self.space = None;
+        if width > 0 {
+            let tag = tag.clone()?;
+            self.space = Some(Space { width, tag, mode });
+        }
+        Ok(())
+    }
+
+    /// Whether the open line, the pending space, the word and `width` columns more pass a line's width.
+    fn passes(&self, width: usize) -> bool
+        ensures { (columns : ℕ → Option ℕ) → Wherever columns T.eq self.now (λ p.
+            result ≡ passes columns self.now.lines.width width p) }
+    {
+        let room = self.lines.width - self.lines.line_width;
+        let pending = self.pending_width();
+        width > room || self.word_width > room - width || pending > room - width - self.word_width
+    }
+
+    /// Whether a character of `width` columns passes the line in `Pre`.
+    fn begins_continuation(&self, width: usize, mode: WhiteSpace) -> bool
+        ensures { (columns : ℕ → Option ℕ) → Wherever columns T.eq self.now (λ p.
+            result ≡ (model.is_pre mode && passes columns self.now.lines.width width p)) }
+    {
+        match mode {
+            WhiteSpace::Pre => self.passes(width),
+            WhiteSpace::Normal | WhiteSpace::PreWrap => false,
+        }
+    }
+
+    /// Keeps a character that takes space. In `Pre` the continuation tag begins where a line is passed.
+    fn keep_character(
+        &mut self,
+        c: char,
+        width: usize,
+        main_tag: &T,
+        wrap_tag: &T,
+        mode: WhiteSpace,
+    ) -> Result<(), OutOfMemory>
+        requires faithful { CopiesAreEqual T.is_clone T.eq }
+        ensures kept { (columns : ℕ → Option ℕ) → columns c ≡ Some width →
+            WrapperFollows columns T.eq self.old self.new result
+            (keep_character columns self.old.lines.width c main_tag.now wrap_tag.now mode (Some width)) }
+        ensures limits { KeepsLimits self.old.lines self.new.lines }
+    {
+        if self.begins_continuation(width, mode) {
+            self.continuation_flag = true;
+            self.in_continuation = true;
+            return self.join(c, width, wrap_tag, mode);
+        }
+        if self.in_continuation {
+            return self.join(c, width, wrap_tag, mode);
+        }
+        self.join(c, width, main_tag, mode)
+    }
+
+    /// Adds a character in a preserving mode, before which no word ends.
+    fn preserve<W: CharWidth>(
+        &mut self,
+        c: char,
+        main_tag: &T,
+        wrap_tag: &T,
+        mode: WhiteSpace,
+    ) -> Result<(), Error>
+        requires faithful { CopiesAreEqual T.is_clone T.eq }
+        requires stands { IsUnderWay W.columns T.eq self.old }
+        ensures preserved { WrapperFollows W.columns T.eq self.old self.new result
+            (preserve W.columns self.old.lines.width c main_tag.now wrap_tag.now mode) }
+        ensures too_narrow { result ≡ Err E.TooNarrow → Wherever W.columns T.eq self.old (λ p.
+            (self.old.lines.may_overflow ≡ false) × ¬ (IsNarrow W.columns self.old.lines.width p.word)) }
+        ensures limits { KeepsLimits self.old.lines self.new.lines }
+    {
+        if c == ZERO_WIDTH_SPACE {
+            return Ok(());
+        }
+        if c == '\n' {
+            self.flush_word::<W>()?;
+            self.newline()?;
+            return Ok(());
+        }
+        let tag = if self.in_continuation {
+            wrap_tag
+        } else {
+            main_tag
+        };
+        if c == '\t' {
+            self.flush_word::<W>()?;
+            self.tab(tag)?;
+            return Ok(());
+        }
+        let Some(width) = W::width(c) else {
+            return Ok(());
+        };
+        if always_takes_space(c) {
+            self.keep_character(c, width, main_tag, wrap_tag, mode)?;
+            return Ok(());
+        }
+        self.keep_space(c, width, tag, mode)?;
+        Ok(())
+    }
+
+    /// Adds a character where white space collapses.
+    fn enter_normal<W: CharWidth>(&mut self, c: char, tag: &T) -> Result<(), Error>
+        requires faithful { CopiesAreEqual T.is_clone T.eq }
+        requires stands { IsUnderWay W.columns T.eq self.old }
+        ensures entered { (a : T) → T.eq tag.now a ≡ true →
+            WrapperFollows W.columns T.eq self.old self.new result (enter_normal W.columns self.old.lines.width c a) }
+        ensures too_narrow { result ≡ Err E.TooNarrow → Wherever W.columns T.eq self.old (λ p.
+            (self.old.lines.may_overflow ≡ false) × (is_break c ≡ true)
+            × (0 < items_width W.columns p.word) × ¬ (IsNarrow W.columns self.old.lines.width p.word)) }
+        ensures limits { KeepsLimits self.old.lines self.new.lines }
+    {
+        if is_wordbreak_point(c) {
+            self.break_word::<W>()?;
+            self.collapse(c, tag)?;
+            return Ok(());
+        }
+        if let Some(width) = W::width(c) {
+            self.join(c, width, tag, WhiteSpace::Normal)?;
+        }
+        Ok(())
+    }
+
+    /// Adds a character of a run.
+    pub fn add_char<W: CharWidth>(
+        &mut self,
+        c: char,
+        main_tag: &T,
+        wrap_tag: &T,
+        mode: WhiteSpace,
+    ) -> Result<(), Error>
+        requires faithful { CopiesAreEqual T.is_clone T.eq }
+        requires stands { IsUnderWay W.columns T.eq self.old }
+        ensures entered { WrapperFollows W.columns T.eq self.old self.new result (λ p.
+            enter W.columns self.old.lines.width p (character c main_tag.now wrap_tag.now mode)) }
+        ensures too_narrow { result ≡ Err E.TooNarrow → Wherever W.columns T.eq self.old (λ p.
+            (self.old.lines.may_overflow ≡ false) × ¬ (IsNarrow W.columns self.old.lines.width p.word)
+            × (mode ≡ Normal → (is_break c ≡ true) × (0 < items_width W.columns p.word))) }
+        ensures limits { KeepsLimits self.old.lines self.new.lines }
+    {
+        match mode {
+            WhiteSpace::Normal => {
+                if self.in_continuation {
+                    return self.enter_normal::<W>(c, wrap_tag);
+                }
+                self.enter_normal::<W>(c, main_tag)
+            }
+            WhiteSpace::Pre => self.preserve::<W>(c, main_tag, wrap_tag, mode),
+            WhiteSpace::PreWrap => {
+                if is_wordbreak_point(c) {
+                    self.break_word::<W>()?;
+                    return self.preserve::<W>(c, main_tag, wrap_tag, mode);
+                }
+                self.preserve::<W>(c, main_tag, wrap_tag, mode)
+            }
+        }
+    }
+
+    /// Adds a marker to the word.
+    pub fn add_marker(&mut self, name: String) -> Result<(), OutOfMemory>
+        ensures added { (columns : ℕ → Option ℕ) → WrapperFollows columns T.eq self.old self.new result (λ p.
+            enter columns self.old.lines.width p (marker_entry (string_bytes name))) }
+        ensures limits { KeepsLimits self.old.lines self.new.lines }
+    {
+        self.lines.flat.push_marker(name)
+    }
+
+    /// Takes the markers out of a word that has no character.
+    pub fn take_markers(&mut self) -> Result<Vec<TaggedLineElement<T>>, OutOfMemory>
+        requires none { has_character self.old.lines.flat.word ≡ false }
+        ensures markers { IfOk result (λ es.
+            map element_of es.items ≡ map marker_element (names_in_items self.old.lines.flat.word)) }
+        ensures taken { (columns : ℕ → Option ℕ) →
+            WrapperFollows columns T.eq self.old self.new result (λ p. record p { word = [] }) }
+        ensures limits { KeepsLimits self.old.lines self.new.lines }
+    {
+        self.lines.flat.take_markers()
+    }
+
+    /// Ends the run: lays the last word, ends the line, and drops the pending space. Markers that stand on no ended
+    /// line become the next run's word.
+    pub fn finish<W: CharWidth>(&mut self) -> Result<(), Error>
+        requires faithful { CopiesAreEqual T.is_clone T.eq }
+        requires stands { IsUnderWay W.columns T.eq self.old }
+        ensures finished { (before given : List (List (Item T))) (p : Progress T) →
+            IsAtProgress W.columns T.eq self.old before given p →
+            OnOk result (RunIsFinished W.columns T.eq self.old self.new before given p) }
+        ensures too_narrow { result ≡ Err E.TooNarrow → Wherever W.columns T.eq self.old (λ p.
+            (self.old.lines.may_overflow ≡ false) × (has_character p.word ≡ true)
+            × ¬ (IsNarrow W.columns self.old.lines.width p.word)) }
+        ensures limits { KeepsLimits self.old.lines self.new.lines }
+    {
+        self.flush_word::<W>()?;
+        self.lines.end_if_character()?;
+        self.lines.flat.unplace(self.lines.line_len)?;
+        self.lines.line_len = 0;
+        self.space = None;
+        self.word_mode = WhiteSpace::Normal;
+        self.continuation_flag = false;
+        self.in_continuation = false;
+        Ok(())
+    }
+}
+
+/// Whether the mode is `Pre`.
+pub fn is_pre(mode: WhiteSpace) -> bool
+    ensures { result ≡ model.is_pre mode }
+{
+    match mode {
+        WhiteSpace::Pre => true,
+        WhiteSpace::Normal | WhiteSpace::PreWrap => false,
     }
 }

@@ -143,28 +143,24 @@ impl TextDecorator for MarkedDecorator {
         Ok(self.clone()?)
     }
 
-    fn push_colour(
-        &mut self,
-        _alloc: Global,
-        _colour: Colour,
-    ) -> Result<Option<Mark>, OutOfMemory> {
-        Ok(None)
+    fn push_colour(&mut self, alloc: Global, colour: Colour) -> Result<Option<Mark>, OutOfMemory> {
+        usual::push_colour(alloc, colour)
     }
 
     fn pop_colour(&mut self) -> bool {
-        false
+        usual::pop_colour()
     }
 
     fn push_bgcolour(
         &mut self,
-        _alloc: Global,
-        _colour: Colour,
+        alloc: Global,
+        colour: Colour,
     ) -> Result<Option<Mark>, OutOfMemory> {
-        Ok(None)
+        usual::push_bgcolour(alloc, colour)
     }
 
     fn pop_bgcolour(&mut self) -> bool {
-        false
+        usual::pop_bgcolour()
     }
 
     fn finalise(

@@ -1,11 +1,11 @@
 -- The hard lines of a run under other annotations, and what is shown of them.
-use Rattle.std.proofs.Common.{◌≡◌, ℕ, ◌==◌, ◌⊎◌, inl, inr, Bool, true, false, if◌then◌else◌, Option, List, [], ◌∷◌, map, filter, take, drop, refl, ap, ◌∙◌, arith}
+use Rattle.std.proofs.Common.{◌≡◌, ℕ, ◌==◌, ◌⊎◌, inl, inr, Bool, true, false, if◌then◌else◌, Option, List, [], ◌∷◌, map, filter, take, drop, refl, ap, subst, ◌∙◌, arith}
 use Rattle.std.specs.List.{AllZip}
 use Rattle.std.proofs.lemmas.List.{map-append, length-map, take-map, drop-map}
 use Rattle.tbr_model.specs.Codes.{newline_character}
 use Rattle.tbr_model.specs.Run.{Entry, character, marker_entry, Item, glyph, marker}
 use Rattle.tbr_model.specs.Layout.{joined}
-use Rattle.tbr_model.specs.Hard.{onto_first, hard_lines, Parted, glyphs_of, letters_of, entry_letters, is_visible, visible_glyphs, visible_entries, IsShown, ShowsVisible, IsPrintableLine, IsTabbedLine, StandUnder, HasMain, HasContinuation, ShowsHardLine, ShowsPre, ShowsPreWrap, ShowsTabs}
+use Rattle.tbr_model.specs.Hard.{onto_first, hard_lines, Parted, glyphs_of, letters_of, entry_letters, is_visible, visible_glyphs, visible_entries, IsShown, ShowsVisible, IsPrintableLine, IsTabbedLine, IsSpaces, blank_lines, StandUnder, HasMain, HasContinuation, ShowsHardLine, ShowsPre, ShowsPreWrap, ShowsTabs}
 use Rattle.tbr_model.specs.Mapped.{map_item, map_items, map_entry, map_run, map_lines}
 use Rattle.tbr_model.proofs.maps.Layouts.{joined-map}
 
@@ -101,6 +101,14 @@ module _ {A B : Type 0} (f : A → B) where
 
   -- ---- what is shown
 
+  blank_lines-map : (more : Bool) → map_lines f (blank_lines more) ≡ blank_lines more
+  blank_lines-map true = refl
+  blank_lines-map false = refl
+
+  blank-map : (more : Bool) (h : List (Entry A)) (ls : List (List (Item A))) → (IsSpaces (entry_letters h) → ls ≡ blank_lines more) →
+      IsSpaces (entry_letters (map_run f h)) → map_lines f ls ≡ blank_lines more
+  blank-map more h ls blank spaces = ap (map_lines f) (blank (subst IsSpaces (entry_letters-map h) spaces)) ∙ blank_lines-map more
+
   module _ (Same : A → A → Type 0) (Other : B → B → Type 0) (keeps : (x y : A) → Same x y → Other (f x) (f y)) (columns : ℕ → Option ℕ) where
     either : (x a b : A) → Same x a ⊎ Same x b → Other (f x) (f a) ⊎ Other (f x) (f b)
     either x a b (inl h) = inl (keeps x a h)
@@ -134,14 +142,14 @@ module _ {A B : Type 0} (f : A → B) where
     continuation-map (marker_entry name) x h = absurd h
 
     pub hard_line-map : (more : Bool) (h : List (Entry A)) (ls : List (List (Item A))) → ShowsHardLine columns Same more h ls → ShowsHardLine columns Other more (map_run f h) (map_lines f ls)
-    hard_line-map more h ls s = record { line = λ some. omega (arith, s.line some, length-map ls (map_items f)); visible = visible-map h ls s.visible }
+    hard_line-map more h ls s = record { line = λ some. omega (arith, s.line some, length-map ls (map_items f)); visible = visible-map h ls s.visible; blank = blank-map more h ls s.blank }
 
     pub pre-map : (width : ℕ) (more : Bool) (h : List (Entry A)) (ls : List (List (Item A))) → ShowsPre columns Same width more h ls → ShowsPre columns Other width more (map_run f h) (map_lines f ls)
     pre-map width more h ls s = record {
       kept = rw (joined_letters-map ls, entry_letters-map h) s.kept;
       fits = rw (line_letters-map ls, entry_letters-map h, length-map h (map_entry f)) (λ printable some fits. s.fits (printable_unmap columns h printable) some fits);
       cut = rw (line_letters-map ls, entry_letters-map h) (λ printable begins. s.cut (printable_unmap columns h printable) begins);
-      blank = rw (line_letters-map ls, entry_letters-map h) (λ printable spaces next. s.blank (printable_unmap columns h printable) spaces next);
+      blank = blank-map more h ls s.blank;
       main = rw (entry_letters-map h, joined_glyphs-map ls, take-map (map_glyph f), take-map (map_entry f))
           (λ printable begins. stand-map (HasMain Same) (HasMain Other) main-map (take width (glyphs_of (joined ls))) (take width h) (s.main (printable_unmap columns h printable) begins));
       continuation = rw (entry_letters-map h, joined_glyphs-map ls, drop-map (map_glyph f), drop-map (map_entry f))
@@ -153,6 +161,7 @@ module _ {A B : Type 0} (f : A → B) where
   prewrap-map columns width more h ls s = record {
     fits = rw (line_letters-map ls, entry_letters-map h) (λ printable some fits. s.fits (printable_unmap columns h printable) some fits);
     whole = rw (line_letters-map ls, entry_letters-map h) (λ printable. s.whole (printable_unmap columns h printable));
+    blank = blank-map more h ls s.blank;
   }
 
   pub tabs-map : (columns : ℕ → Option ℕ) (width : ℕ) (more : Bool) (h : List (Entry A)) (ls : List (List (Item A))) →

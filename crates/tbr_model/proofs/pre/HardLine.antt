@@ -10,6 +10,7 @@ use Rattle.tbr_model.specs.Hard.{HasMode, is_newline, glyphs_of, letters_of, ent
 use Rattle.tbr_model.proofs.words.Items.{back_has}
 use Rattle.tbr_model.proofs.rule.HardLineStart.{BeginsHardLine}
 use Rattle.tbr_model.proofs.rule.LaidText.{joined-end_line}
+use Rattle.tbr_model.proofs.rule.BlankLines.{blank_line_of}
 use Rattle.tbr_model.proofs.pre.KeptCharacters.{pre_kept}
 use Rattle.tbr_model.proofs.pre.WaitingWord.{HasNothingLaid, waiting, waiting_length, WaitsWith, line_waits, fresh_plain, fresh_waiting}
 use Rattle.tbr_model.proofs.pre.CutWord.{IsCutOn, cut_laid}
@@ -27,10 +28,6 @@ fitting : {A : Type 0} (columns : ℕ → Option ℕ) (width : ℕ) (q : Progres
 fitting columns width q h some fits =
     let test : nat_le (q.laid.width + (pending_width q.space + items_width columns q.word)) width ≡ true = le-leb _ _ (omega (arith, fits, h.width, waiting_length columns q h)) in
     rw (some, test, h.done, h.line) (record { same = refl; last = back_has (space_text q.space) q.word some })
-
--- nothing stands on one line
-nothing : {A : Type 0} (columns : ℕ → Option ℕ) (width : ℕ) (q : Progress A) → HasNothingLaid columns q → has_character q.word ≡ false → map letters_of (end_line (flush_word columns width q).laid).done ≡ [] ∷ []
-nothing columns width q h none = rw (none, h.done, h.line) refl
 
 printable_length : {A : Type 0} (columns : ℕ → Option ℕ) (h : List (Entry A)) → Each (IsPrintableEntry columns) h → length (entry_letters h) ≡ length h
 printable_length columns [] printable = refl
@@ -69,11 +66,6 @@ module _ {A : Type 0} (columns : ℕ → Option ℕ) (width : ℕ) (p : Progress
       subst (λ (cs : List ℕ). IsShownBy (cs ∷ []) (flush_word columns width q).laid) all
       (fitting columns width q (waits printable).plain (some_waits printable other) (omega (arith, fits, ap length all, printable_length columns (run_of es) printable)))
 
-  line_blank : IsPrintableLine columns (run_of es) → IsSpaces (entry_letters (run_of es)) → map letters_of (end_line laid).done ≡ [] ∷ []
-  line_blank printable all =
-      let w = waits printable in
-      nothing columns width q w.plain (w.blank f.word all)
-
   begins_other : (cs : List ℕ) → BeginsWithNonBlank cs → ¬ (IsSpaces cs)
   begins_other [] h all = h
   begins_other (c ∷ cs) h all = h all.0
@@ -91,7 +83,7 @@ module _ {A : Type 0} (columns : ℕ → Option ℕ) (width : ℕ) (p : Progress
         (let none = (tags printable begins).1 in
         let word : letters_of q.word ≡ entry_letters (run_of es) = ap (λ (o : Option (Space A)). letters_of (space_text o ++ q.word)) (sym none) ∙ all_waiting printable in
         subst (λ (cs : List ℕ). IsCutEvery width cs (map letters_of (end_line laid).done)) word (line_cut wide printable begins none).cut);
-    blank = λ printable all _. line_blank printable all;
+    blank = λ spaces. (blank_line_of columns width Pre (λ e. cc) p es f pre spaces).0;
     main = λ printable begins.
         (let t = tags printable begins in
         rw (glyphs printable begins) (tagged_main Same width 0 width (glyphs_of q.word) (run_of es) (omega arith) t.0));
@@ -113,7 +105,7 @@ module _ {A : Type 0} (columns : ℕ → Option ℕ) (width : ℕ) (p : Progress
     fits = λ printable other fits.
         subst (λ (ls : List (List (Item A))). map letters_of ls ≡ entry_letters (run_of es) ∷ []) (ended_alike laid (line_fits printable other fits).last) (shown.fits printable other fits);
     cut = λ printable begins. subst (λ (ls : List (List (Item A))). IsCutEvery width (entry_letters (run_of es)) (map letters_of ls)) (alike printable begins) (shown.cut printable begins);
-    blank = λ printable all follows. cc;
+    blank = λ spaces. (blank_line_of columns width Pre (λ e. cc) p es f pre spaces).1;
     main = λ printable begins.
         subst (λ (ls : List (List (Item A))). StandUnder (HasMain Same) (take width (glyphs_of (joined ls))) (take width (run_of es))) (alike printable begins) (shown.main printable begins);
     continuation = λ printable begins.

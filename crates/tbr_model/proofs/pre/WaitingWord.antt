@@ -55,26 +55,23 @@ pub record WaitsWith {A : Type 0} (columns : ℕ → Option ℕ) (p q : Progress
   pub plain : HasNothingLaid columns q
   pub waiting : waiting q ≡ waiting p ++ cs
   pub spaces : has_character q.word ≡ false → (has_character p.word ≡ false) × IsSpaces cs
-  pub blank : has_character p.word ≡ false → IsSpaces cs → has_character q.word ≡ false
 
-join_waits : {A : Type 0} (columns : ℕ → Option ℕ) (p : Progress A) (c : ℕ) (x : A) (m : WhiteSpace) (continuation_flag in_continuation : Bool) → HasNothingLaid columns p → columns c ≡ Some 1 → (has_character p.word ≡ false → c ≡ 32 → ⊥) →
+join_waits : {A : Type 0} (columns : ℕ → Option ℕ) (p : Progress A) (c : ℕ) (x : A) (m : WhiteSpace) (continuation_flag in_continuation : Bool) → HasNothingLaid columns p → columns c ≡ Some 1 →
     WaitsWith columns p (record { laid = p.laid; space = p.space; word = p.word ++ glyph c x ∷ []; mode = m; continuation_flag = continuation_flag; in_continuation = in_continuation }) (c ∷ [])
-join_waits {A} columns p c x m continuation_flag in_continuation h one other = record {
+join_waits {A} columns p c x m continuation_flag in_continuation h one = record {
   plain = record { done = h.done; line = h.line; width = h.width; units = each_append (IsUnit columns) p.word (glyph c x ∷ []) h.units (one, tt) };
   waiting = ap letters_of (sym (append_assoc (space_text p.space) p.word (glyph c x ∷ []))) ∙ letters_of-append (space_text p.space ++ p.word) (glyph c x ∷ []);
   spaces = λ none. (let some : has_character (p.word ++ glyph c x ∷ []) ≡ true = back_has p.word (glyph c x ∷ []) refl in cc);
-  blank = λ none all. absurd (other none all.0);
 }
 
 space_waits : {A : Type 0} (columns : ℕ → Option ℕ) (p : Progress A) (x : A) → HasNothingLaid columns p → columns 32 ≡ Some 1 → WaitsWith columns p (keep_space 32 x Pre (Some 1) p) (32 ∷ [])
 space_waits {A} columns p x h one =
     cond_both (has_character p.word) _ _ (λ (q : Progress A). WaitsWith columns p q (32 ∷ []))
-    (λ some. join_waits columns p 32 x (if has_character p.word then p.mode else Pre) p.continuation_flag p.in_continuation h one (λ none e. cc))
+    (λ some. join_waits columns p 32 x (if has_character p.word then p.mode else Pre) p.continuation_flag p.in_continuation h one)
     (λ none. record {
       plain = record { done = h.done; line = h.line; width = h.width; units = h.units };
       waiting = grown none;
       spaces = λ n. (n, (refl, tt));
-      blank = λ n all. n;
     })
   where
     bare : (is : List (Item A)) → has_character p.word ≡ false → letters_of (is ++ p.word) ≡ letters_of is
@@ -87,27 +84,27 @@ space_waits {A} columns p x h one =
         ∙ sym (replicate-append-replicate (pending_width p.space) 1 32)
         ∙ ap (λ cs. cs ++ 32 ∷ []) (sym (letters_of-space_text p.space) ∙ sym (bare (space_text p.space) none))
 
-visible_waits : {A : Type 0} (columns : ℕ → Option ℕ) (width c : ℕ) (a b : A) (p : Progress A) → HasNothingLaid columns p → columns c ≡ Some 1 → (c ≡ 32 → ⊥) → WaitsWith columns p (keep_character columns width c a b Pre (Some 1) p) (c ∷ [])
-visible_waits {A} columns width c a b p h one other =
+visible_waits : {A : Type 0} (columns : ℕ → Option ℕ) (width c : ℕ) (a b : A) (p : Progress A) → HasNothingLaid columns p → columns c ≡ Some 1 → WaitsWith columns p (keep_character columns width c a b Pre (Some 1) p) (c ∷ [])
+visible_waits {A} columns width c a b p h one =
     cond_both (passes columns width 1 p) _ _ (λ (q : Progress A). WaitsWith columns p q (c ∷ []))
-    (λ _. join_waits columns p c b (if has_character p.word then p.mode else Pre) true true h one (λ _. other))
-    (λ _. join_waits columns p c (tag_of p a b) (if has_character p.word then p.mode else Pre) p.continuation_flag p.in_continuation h one (λ _. other))
+    (λ _. join_waits columns p c b (if has_character p.word then p.mode else Pre) true true h one)
+    (λ _. join_waits columns p c (tag_of p a b) (if has_character p.word then p.mode else Pre) p.continuation_flag p.in_continuation h one)
 
 character_waits : {A : Type 0} (columns : ℕ → Option ℕ) (width c : ℕ) (a b : A) (p : Progress A) → HasNothingLaid columns p → IsPrintable columns c → columns 32 ≡ Some 1 → WaitsWith columns p (enter columns width p (character c a b Pre)) (c ∷ [])
 character_waits columns width c a b p h one space =
     elim (eqb_tells c 32) [
       | inl w ↦ rw (w.1, preserved_space columns width a b Pre p space) (space_waits columns p (tag_of p a b) h space)
-      | inr w ↦ rw (preserved_visible columns width c a b Pre p (visible_of columns c one w.1)) (visible_waits columns width c a b p h one.2 w.1)
+      | inr w ↦ rw (preserved_visible columns width c a b Pre p (visible_of columns c one w.1)) (visible_waits columns width c a b p h one.2)
     ]
 
 -- ---- a whole hard line
 
 pub line_waits : {A : Type 0} (columns : ℕ → Option ℕ) (width : ℕ) (es : List (Event A)) (p : Progress A) → columns 32 ≡ Some 1 → HasNothingLaid columns p → Each (HasMode Pre) (run_of es) → Each (IsPrintableEntry columns) (run_of es) →
     WaitsWith columns p (fold (step columns width) p es) (entry_letters (run_of es))
-line_waits columns width [] p space h pre printable = record { plain = h; waiting = sym (append-nil (waiting p)); spaces = λ none. (none, tt); blank = λ none all. none }
+line_waits columns width [] p space h pre printable = record { plain = h; waiting = sym (append-nil (waiting p)); spaces = λ none. (none, tt) }
 line_waits columns width (call ∷ es) p space h pre printable =
     let w = line_waits columns width es (record p { in_continuation = p.continuation_flag }) space (record { done = h.done; line = h.line; width = h.width; units = h.units }) pre printable in
-    record { plain = w.plain; waiting = w.waiting; spaces = w.spaces; blank = w.blank }
+    record { plain = w.plain; waiting = w.waiting; spaces = w.spaces }
 line_waits columns width (entry (character c a b m) ∷ es) p space h pre printable =
     rw (pre.0)
     (let first = character_waits columns width c a b p h printable.0 space in
@@ -116,7 +113,6 @@ line_waits columns width (entry (character c a b m) ∷ es) p space h pre printa
       plain = rest.plain;
       waiting = rest.waiting ∙ ap (λ cs. cs ++ entry_letters (run_of es)) first.waiting ∙ append_assoc (waiting p) (c ∷ []) (entry_letters (run_of es));
       spaces = λ none. (let r = rest.spaces none in let f = first.spaces r.0 in (f.0, (f.1.0, r.1)));
-      blank = λ none all. rest.blank (first.blank none (all.0, tt)) all.1;
     })
 line_waits columns width (entry (marker_entry name) ∷ es) p space h pre printable = absurd printable.0
 

@@ -12,6 +12,7 @@ use Rattle.tbr_model.specs.Hard.{HasMode, is_newline, letters_of, entry_letters,
 use Rattle.tbr_model.proofs.words.Items.{letters_of-append, no_letters, some_letters, WaitsIn, pending_width-of}
 use Rattle.tbr_model.proofs.lists.Each.{each_append}
 use Rattle.tbr_model.proofs.rule.HardLineStart.{BeginsHardLine}
+use Rattle.tbr_model.proofs.rule.BlankLines.{blank_line_of}
 use Rattle.tbr_model.proofs.rule.Printable.{IsVisible, visible_of}
 use Rattle.tbr_model.proofs.tabs.HardLine.{IsLine, fresh_reads}
 use Rattle.tbr_model.proofs.prewrap.Entry.{enter_wrap_space, enter_wrap_visible, break_none, break_some, spaces_if}
@@ -172,9 +173,11 @@ prewrap_line columns width one some p es h no_newline modes = (
   record {
     fits = λ printable other fits. (fits_line columns width some one p es h modes printable other fits).0;
     whole = λ printable. let s = whole_line columns width some one p es h modes printable in subst (IsCutOf width (stretches (entry_letters (run_of es)))) (sym s.2) s.1;
+    blank = λ spaces. (blank_line_of columns width PreWrap (λ e. cc) p es h modes spaces).0;
   },
   record {
     fits = λ printable other fits. (fits_line columns width some one p es h modes printable other fits).1;
     whole = λ printable. let s = whole_line columns width some one p es h modes printable in subst (IsCutOf width (stretches (entry_letters (run_of es)))) (sym s.3) s.1;
+    blank = λ spaces. (blank_line_of columns width PreWrap (λ e. cc) p es h modes spaces).1;
   },
 )

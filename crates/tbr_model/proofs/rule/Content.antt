@@ -59,7 +59,7 @@ on_lines found l = found (text l)
 abbrev pub content : {A X : Type 0} → (List (Item A) → List X) → Progress A → List X
 content found p = on_lines found p.laid ++ found p.word
 
-unknown_lost : (columns : ℕ → Option ℕ) (c : ℕ) → is_some (columns c) ≡ false → is_kept columns c ≡ false
+pub unknown_lost : (columns : ℕ → Option ℕ) (c : ℕ) → is_some (columns c) ≡ false → is_kept columns c ≡ false
 unknown_lost columns c h = and_left (is_some (columns c)) (not (is_break c)) h
 
 blank_breaks : (c : ℕ) → is_blank c ≡ true → is_break c ≡ true
@@ -176,7 +176,7 @@ module _ {A X : Type 0} (columns : ℕ → Option ℕ) (Modes : WhiteSpace → T
   flush_word_keeps : (width : ℕ) (p : Progress A) → PendingIn Modes p.space → Keeps p (flush_word columns width p)
   flush_word_keeps width p m = cond_both (has_character p.word) _ _ (Keeps p) (λ _. lay_keeps width p m) (λ _. (refl, m))
 
-  break_word_keeps : (width : ℕ) (p : Progress A) → PendingIn Modes p.space → Keeps p (break_word columns width p)
+  pub break_word_keeps : (width : ℕ) (p : Progress A) → PendingIn Modes p.space → Keeps p (break_word columns width p)
   break_word_keeps width p m = cond_both (nat_lt 0 (items_width columns p.word)) _ _ (Keeps p) (λ _. lay_keeps width p m) (λ _. (refl, m))
 
   newline_keeps : (width : ℕ) (p : Progress A) → PendingIn Modes p.space → Keeps p (newline (flush_word columns width p))
@@ -197,13 +197,13 @@ module _ {A X : Type 0} (columns : ℕ → Option ℕ) (Modes : WhiteSpace → T
   pending_of zero a mode m = tt
   pending_of (suc n) a mode m = m
 
-  collapse_keeps : (width c : ℕ) (a : A) (p : Progress A) → Modes Normal → PendingIn Modes p.space → Keeps p (collapse c a (break_word columns width p))
+  pub collapse_keeps : (width c : ℕ) (a : A) (p : Progress A) → Modes Normal → PendingIn Modes p.space → Keeps p (collapse c a (break_word columns width p))
   collapse_keeps width c a p normal m =
       let q : Progress A = break_word columns width p in
       let (same, pending) = break_word_keeps width p m in
       cond_both (is_blank c && (nat_lt 0 q.laid.width && is_none q.space)) _ _ (Keeps p) (λ _. (same, normal)) (λ _. (same, pending))
 
-  word_content : (p : Progress A) (i : Item A) → on_lines found p.laid ++ found (p.word ++ i ∷ []) ≡ content found p ++ found (i ∷ [])
+  pub word_content : (p : Progress A) (i : Item A) → on_lines found p.laid ++ found (p.word ++ i ∷ []) ≡ content found p ++ found (i ∷ [])
   word_content p i = ap (λ xs. on_lines found p.laid ++ xs) (looks.append p.word (i ∷ [])) ∙ sym (append_assoc (on_lines found p.laid) (found p.word) (found (i ∷ [])))
 
   keep_space_keeps : (c : ℕ) (a : A) (mode : WhiteSpace) (o : Option ℕ) (p : Progress A) → is_kept columns c ≡ false → Modes mode → PendingIn Modes p.space → Keeps p (keep_space c a mode o p)

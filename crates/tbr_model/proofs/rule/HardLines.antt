@@ -32,6 +32,10 @@ pub flush_flushes : {A : Type 0} (columns : ℕ → Option ℕ) (width : ℕ) (p
 flush_flushes {A} columns width p =
     cond_both (has_character p.word) _ _ (λ (q : Progress A). has_character q.word ≡ false) (λ _. lay_flushes columns width p) (λ e. e)
 
+-- a word without one stays
+pub not_flushed : {A : Type 0} (columns : ℕ → Option ℕ) (width : ℕ) (p : Progress A) → has_character p.word ≡ false → flush_word columns width p ≡ p
+not_flushed columns width p h = rw h refl
+
 -- a break before it changes nothing
 pub flush_after_break : {A : Type 0} (columns : ℕ → Option ℕ) (width : ℕ) (p : Progress A) → flush_word columns width (break_word columns width p) ≡ flush_word columns width p
 flush_after_break {A} columns width p =

@@ -1,20 +1,15 @@
 -- What a block shows of each hard line, in a run of one preserving mode.
-use Rattle.std.proofs.Common.{◌≡◌, ◌≢◌, ℕ, ◌<◌, Option, Some, List, sym, ◌∙◌}
+use Rattle.std.proofs.Common.{◌≡◌, ◌≢◌, ℕ, ◌<◌, Option, Some, List}
 use Rattle.std.specs.List.{AllByRecursion as Each}
 use Rattle.tbr_model.specs.declared.white_space.WhiteSpace.{WhiteSpace}
 use Rattle.tbr_model.specs.declared.white_space.WhiteSpace.TheVariants.{Normal, Pre, PreWrap}
-use Rattle.tbr_model.specs.Run.{Entry, character, marker_entry}
 use Rattle.tbr_model.specs.Rule.{Event, run_of, lines_of}
-use Rattle.tbr_model.specs.Hard.{HasMode, Preserves, hard_lines, Parted, ShowsPre, ShowsPreWrap, ShowsTabs}
+use Rattle.tbr_model.specs.Hard.{HasMode, hard_lines, Parted, ShowsPre, ShowsPreWrap, ShowsTabs}
+use Rattle.tbr_model.proofs.rule.BlankLines.{mode_preserves}
 use Rattle.tbr_model.proofs.rule.HardLines.{hard_lines_parted}
 use Rattle.tbr_model.proofs.pre.HardLine.{pre_line}
 use Rattle.tbr_model.proofs.prewrap.HardLine.{prewrap_line}
 use Rattle.tbr_model.proofs.tabs.HardLine.{tab_line}
-
--- an entry of a mode that isn't `Normal` preserves
-pub mode_preserves : {A : Type 0} (mode : WhiteSpace) → mode ≢ Normal → (e : Entry A) → HasMode mode e → Preserves e
-mode_preserves mode kept (character c a b m) h = λ e. kept (sym h ∙ e)
-mode_preserves mode kept (marker_entry name) h = tt
 
 -- each hard line of a run of `Pre` alone
 pub pre_shown : {A : Type 0} (columns : ℕ → Option ℕ) (Same : A → A → Type 0) (width : ℕ) → columns 32 ≡ Some 1 → 0 < width → ((x : A) → Same x x) → (es : List (Event A)) →

@@ -10,6 +10,7 @@ use Rattle.tbr_model.specs.Hard.{glyphs_of, is_visible, visible_glyphs, visible_
 use Rattle.tbr_model.proofs.rule.HardLineStart.{BeginsHardLine}
 use Rattle.tbr_model.proofs.words.Items.{glyphs_of-append}
 use Rattle.tbr_model.proofs.rule.Content.{LooksAtKept, StandsFor, PendingIn, AnyMode, any_mode, content, nothing_yet, fold_content, found_finished, found_ended}
+use Rattle.tbr_model.proofs.rule.BlankLines.{blank_line}
 use Rattle.tbr_model.proofs.rule.HardLines.{NoNewline, start_fresh, hard_lines_parted}
 
 visible-append : {A : Type 0} (columns : ℕ → Option ℕ) (is js : List (Item A)) → visible_glyphs columns (is ++ js) ≡ visible_glyphs columns is ++ visible_glyphs columns js
@@ -21,7 +22,7 @@ none_visible columns [] h = refl
 none_visible columns (glyph c a ∷ is) h = cc
 none_visible columns (marker m ∷ is) h = none_visible columns is h
 
-white_not_visible : (columns : ℕ → Option ℕ) (c : ℕ) → is_whitespace c ≡ true → is_visible columns c ≡ false
+pub white_not_visible : (columns : ℕ → Option ℕ) (c : ℕ) → is_whitespace c ≡ true → is_visible columns c ≡ false
 white_not_visible columns c h = and_right (is_kept columns c) (not (is_whitespace c)) (not_from_true (is_whitespace c) h)
 
 hidden : {A : Type 0} (columns : ℕ → Option ℕ) (c : ℕ) (a : A) → is_visible columns c ≡ false → visible_glyphs columns (glyph c a ∷ []) ≡ []
@@ -89,8 +90,8 @@ module _ {A : Type 0} (columns : ℕ → Option ℕ) (width : ℕ) (Same : A →
       ShowsHardLine columns Same true (run_of es) (newline (flush_word columns width (fold (step columns width) p es))).laid.done
       × ShowsHardLine columns Same false (run_of es) (finished columns width (fold (step columns width) p es)).done
   one_hard_line p es f m n = (
-    record { line = λ _. ends_a_line (flush_word columns width (fold (step columns width) p es)); visible = visible_ended p es f },
-    record { line = λ h. cc; visible = visible_from p es f },
+    record { line = λ _. ends_a_line (flush_word columns width (fold (step columns width) p es)); visible = visible_ended p es f; blank = λ spaces. (blank_line columns width p es f m spaces).0 },
+    record { line = λ h. cc; visible = visible_from p es f; blank = λ spaces. (blank_line columns width p es f m spaces).1 },
   )
 
   -- In a preserving run each hard line's visible characters stand on lines of its own, and a newline ends a line.

@@ -6,11 +6,11 @@ use Rattle.tbr_model.specs.Run.{Item}
 use Rattle.tbr_model.specs.Layout.{joined}
 use Rattle.tbr_model.specs.Laid.{Laid, extended, end_line}
 use Rattle.tbr_model.proofs.lists.Joined.{joined-append}
-use Rattle.tbr_wrap.specs.declared.wrapper.Wrapper.{Wrapper}
-use Rattle.tbr_wrap.specs.Wrapper.{HoldsLaid, KeepsSettings, LeavesAfterLine}
+use Rattle.tbr_wrap.specs.declared.laid_lines.LaidLines.{LaidLines}
+use Rattle.tbr_wrap.specs.LaidLines.{HoldsLaid, KeepsLimits, LeavesAfterLine}
 
 -- the open line is ended, as it was or with more items
-pub holds_end : {A : Type 0} (b c : Wrapper A) (before : List (List (Item A))) (l : Laid A) (n : ℕ) → HoldsLaid b before l → n ≡ length l.line → c.flat.placed ≡ b.flat.placed → c.lines.items ≡ b.lines.items ++ n ∷ [] → c.line_len ≡ 0 → c.line_width ≡ 0 →
+pub holds_end : {A : Type 0} (b c : LaidLines A) (before : List (List (Item A))) (l : Laid A) (n : ℕ) → HoldsLaid b before l → n ≡ length l.line → c.flat.placed ≡ b.flat.placed → c.ended.items ≡ b.ended.items ++ n ∷ [] → c.line_len ≡ 0 → c.line_width ≡ 0 →
     HoldsLaid c before (end_line l)
 holds_end {A} b c before l n h same flat lines len width = record {
   placed = flat ∙ h.placed ∙ sym (append-nil (joined (before ++ (l.done ++ l.line ∷ []))) ∙ ap joined (sym (append_assoc before l.done (l.line ∷ []))) ∙ joined-append (before ++ l.done) (l.line ∷ []) ∙ ap (λ is. joined (before ++ l.done) ++ is) (append-nil l.line));
@@ -20,7 +20,7 @@ holds_end {A} b c before l n h same flat lines len width = record {
 }
 
 -- more items on the open line
-pub holds_more : {A : Type 0} (b c : Wrapper A) (before : List (List (Item A))) (l : Laid A) (is : List (Item A)) (columns : ℕ) → HoldsLaid b before l → c.flat.placed ≡ b.flat.placed ++ is → c.lines ≡ b.lines → c.line_len ≡ b.line_len + length is → c.line_width ≡ b.line_width + columns →
+pub holds_more : {A : Type 0} (b c : LaidLines A) (before : List (List (Item A))) (l : Laid A) (is : List (Item A)) (columns : ℕ) → HoldsLaid b before l → c.flat.placed ≡ b.flat.placed ++ is → c.ended ≡ b.ended → c.line_len ≡ b.line_len + length is → c.line_width ≡ b.line_width + columns →
     HoldsLaid c before (extended l is columns)
 holds_more b c before l is columns h placed lines len width = record {
   placed = placed ∙ ap (λ js. js ++ is) h.placed ∙ append_assoc (joined (before ++ l.done)) l.line is;
@@ -29,19 +29,14 @@ holds_more b c before l is columns h placed lines len width = record {
   width = omega (arith, width, h.width);
 }
 
-pub keeps_trans : {A : Type 0} (a b c : Wrapper A) → KeepsSettings a b → KeepsSettings b c → KeepsSettings a c
+pub keeps_trans : {A : Type 0} (a b c : LaidLines A) → KeepsLimits a b → KeepsLimits b c → KeepsLimits a c
 keeps_trans a b c h k = record {
   width = k.width ∙ h.width;
   may_overflow = k.may_overflow ∙ h.may_overflow;
-  space = k.space ∙ h.space;
-  word_width = k.word_width ∙ h.word_width;
-  word_mode = k.word_mode ∙ h.word_mode;
-  continuation_flag = k.continuation_flag ∙ h.continuation_flag;
-  in_continuation = k.in_continuation ∙ h.in_continuation;
 }
 
 -- where no other field changed
-pub holds_same : {A : Type 0} (b c : Wrapper A) (before : List (List (Item A))) (l : Laid A) → HoldsLaid b before l → c.flat.placed ≡ b.flat.placed → c.lines ≡ b.lines → c.line_len ≡ b.line_len → c.line_width ≡ b.line_width → HoldsLaid c before l
+pub holds_same : {A : Type 0} (b c : LaidLines A) (before : List (List (Item A))) (l : Laid A) → HoldsLaid b before l → c.flat.placed ≡ b.flat.placed → c.ended ≡ b.ended → c.line_len ≡ b.line_len → c.line_width ≡ b.line_width → HoldsLaid c before l
 holds_same b c before l h flat lines len width = record { placed = flat ∙ h.placed; lens = ap (λ q. q.items) lines ∙ h.lens; len = len ∙ h.len; width = width ∙ h.width }
 
 -- ---- the first ended line
@@ -55,13 +50,13 @@ pub first_line : {X : Type 0} (xs : List (List X)) (n : ℕ) (rest : List ℕ) �
 first_line [] n rest e = cc
 first_line (is ∷ xs) n rest e = (is, xs, refl, cc, cc)
 
-pub front_fits : {A : Type 0} (b : Wrapper A) (before : List (List (Item A))) (l : Laid A) (n : ℕ) (rest : List ℕ) → HoldsLaid b before l → b.lines.items ≡ n ∷ rest → n ≤ length b.flat.placed
+pub front_fits : {A : Type 0} (b : LaidLines A) (before : List (List (Item A))) (l : Laid A) (n : ℕ) (rest : List ℕ) → HoldsLaid b before l → b.ended.items ≡ n ∷ rest → n ≤ length b.flat.placed
 front_fits b before l n rest h e =
     let w = first_line (before ++ l.done) n rest (sym e ∙ h.lens) in
     omega (arith, ap length h.placed, length-append (joined (before ++ l.done)) l.line, ap (λ ls. length (joined ls)) w.2, length-append w.0 (joined w.1), w.3)
 
-pub taken : {A : Type 0} (eq : A → A → Bool) (b c : Wrapper A) (before : List (List (Item A))) (l : Laid A) (is : List (Item A)) (rest : List (List (Item A))) (n : ℕ) (ns : List ℕ) (line : List (Item A)) → HoldsLaid b before l → before ++ l.done ≡ is ∷ rest → b.lines.items ≡ n ∷ ns →
-    SameItems eq line (take n b.flat.placed) → c.flat ≡ record b.flat { placed = drop n b.flat.placed } → c.lines.items ≡ ns → c.line_len ≡ b.line_len → c.line_width ≡ b.line_width → SameItems eq line is × LeavesAfterLine b c rest l
+pub taken : {A : Type 0} (eq : A → A → Bool) (b c : LaidLines A) (before : List (List (Item A))) (l : Laid A) (is : List (Item A)) (rest : List (List (Item A))) (n : ℕ) (ns : List ℕ) (line : List (Item A)) → HoldsLaid b before l → before ++ l.done ≡ is ∷ rest → b.ended.items ≡ n ∷ ns →
+    SameItems eq line (take n b.flat.placed) → c.flat ≡ record b.flat { placed = drop n b.flat.placed } → c.ended.items ≡ ns → c.line_len ≡ b.line_len → c.line_width ≡ b.line_width → SameItems eq line is × LeavesAfterLine b c rest l
 taken {A} eq b c before l is rest n ns line h first e same flat lens len width =
     let parts : b.flat.placed ≡ is ++ (joined rest ++ l.line) = h.placed ∙ ap (λ ls. joined ls ++ l.line) first ∙ append_assoc is (joined rest) l.line in
     let both : n ∷ ns ≡ map length (is ∷ rest) = sym e ∙ h.lens ∙ ap (map length) first in
@@ -77,7 +72,7 @@ taken {A} eq b c before l is rest n ns line h first e same flat lens len width =
     )
 
 -- one more item, with which the open line is ended
-pub holds_wide : {A : Type 0} (b c : Wrapper A) (before : List (List (Item A))) (l : Laid A) (i : Item A) (columns n : ℕ) → HoldsLaid b before l → c.flat.placed ≡ b.flat.placed ++ i ∷ [] → n ≡ b.line_len + 1 → c.lines.items ≡ b.lines.items ++ n ∷ [] → c.line_len ≡ 0 → c.line_width ≡ 0 →
+pub holds_wide : {A : Type 0} (b c : LaidLines A) (before : List (List (Item A))) (l : Laid A) (i : Item A) (columns n : ℕ) → HoldsLaid b before l → c.flat.placed ≡ b.flat.placed ++ i ∷ [] → n ≡ b.line_len + 1 → c.ended.items ≡ b.ended.items ++ n ∷ [] → c.line_len ≡ 0 → c.line_width ≡ 0 →
     HoldsLaid c before (end_line (extended l (i ∷ []) columns))
 holds_wide {A} b c before l i columns n h placed count lines len width = record {
   placed = placed ∙ ap (λ js. js ++ i ∷ []) h.placed ∙ append_assoc (joined (before ++ l.done)) l.line (i ∷ [])

@@ -9,8 +9,8 @@ use Rattle.tbr_model.specs.Rule.{spaces}
 use Rattle.tbr_model.specs.Laid.{Laid, extended, end_line, end_if_character, end_if_columns, put_item}
 use Rattle.tbr_model.proofs.words.Items.{no_character_no_width}
 use Rattle.tbr_tagged.specs.Elements.{SameItem, SameItems}
-use Rattle.tbr_wrap.specs.Wrapper.{HoldsLaid, LaidLikeRule, HoldsRule, KeepsLimits}
-use Rattle.tbr_wrap.specs.declared.wrapper.Wrapper.{Wrapper}
+use Rattle.tbr_wrap.specs.LaidLines.{HoldsLaid, LaidLikeRule, HoldsRule, KeepsLimits}
+use Rattle.tbr_wrap.specs.declared.laid_lines.LaidLines.{LaidLines}
 use Rattle.tbr_tagged.proofs.SameItems.{same_items_append, all_zip_append, same_has}
 use Rattle.tbr_wrap.proofs.lines.LineWidths.{measured_ended, measured_extended, measured_wide}
 
@@ -33,7 +33,7 @@ module _ {A : Type 0} (eq : A → A → Bool) (laws : IsEquivalence eq) (given :
     width = omega (arith, h.width, e);
   }
 
-module _ {A : Type 0} (columns : ℕ → Option ℕ) (eq : A → A → Bool) (laws : IsEquivalence eq) (b c : Wrapper A) (same : KeepsLimits b c) (before given : List (List (Item A))) (r : Laid A) (h : HoldsRule columns eq b before given r) where
+module _ {A : Type 0} (columns : ℕ → Option ℕ) (eq : A → A → Bool) (laws : IsEquivalence eq) (b c : LaidLines A) (same : KeepsLimits b c) (before given : List (List (Item A))) (r : Laid A) (h : HoldsRule columns eq b before given r) where
   pub lays_ended : HoldsLaid c before (end_line h.laid) → HoldsRule columns eq c before given (end_line r)
   lays_ended k = record {
     laid = end_line h.laid;

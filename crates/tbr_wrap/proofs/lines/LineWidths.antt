@@ -5,8 +5,8 @@ use Rattle.tbr_model.specs.Run.{Item, item_width, items_width}
 use Rattle.tbr_model.specs.Laid.{Laid, extended, end_line}
 use Rattle.tbr_model.proofs.lists.Each.{each_append}
 use Rattle.tbr_wrap.specs.Wrapped.{taking_columns, FitsBlock}
-use Rattle.tbr_wrap.specs.Wrapper.{RuleFitsWidth}
-use Rattle.tbr_tagged.proofs.ElementLoops.{items_width-append}
+use Rattle.tbr_wrap.specs.LaidLines.{RuleFitsWidth}
+use Rattle.tbr_model.proofs.words.Items.{items_width-append}
 
 module _ {A : Type 0} (columns : ℕ → Option ℕ) (width : ℕ) (overflow : Bool) where
   pub measured_ended : (r : Laid A) → RuleFitsWidth columns width overflow r → RuleFitsWidth columns width overflow (end_line r)

@@ -7,8 +7,8 @@ use Rattle.tbr_model.specs.Layout.{joined}
 use Rattle.tbr_model.specs.Laid.{Laid, extended, end_line}
 use Rattle.tbr_model.specs.Rule.{spaces}
 use Rattle.tbr_model.proofs.lists.Joined.{joined-append}
-use Rattle.tbr_wrap.specs.declared.wrapper.Wrapper.{Wrapper}
-use Rattle.tbr_wrap.specs.Wrapper.{HoldsRule, HoldsRuleBefore, KeepsLimits}
+use Rattle.tbr_wrap.specs.declared.laid_lines.LaidLines.{LaidLines}
+use Rattle.tbr_wrap.specs.LaidLines.{HoldsRule, HoldsRuleBefore, KeepsLimits}
 use Rattle.tbr_wrap.proofs.lines.LaidByRule.{shows_extended, shows_ended, same_spaces, spaces_width, spaces_length}
 use Rattle.tbr_wrap.proofs.lines.LineWidths.{measured_extended, measured_ended}
 
@@ -16,9 +16,9 @@ pub spaces_more : {A : Type 0} (m n : ℕ) (a : A) → spaces (m + n) a ≡ spac
 spaces_more zero n a = ap (λ k. spaces k a) (let e : zero + n ≡ n = omega arith in e)
 spaces_more (suc m) n a = ap (λ k. spaces k a) (let e : suc m + n ≡ suc (m + n) = omega arith in e) ∙ ap (λ is. spaces 1 a ++ is) (spaces_more m n a)
 
-module _ {A : Type 0} (columns : ℕ → Option ℕ) (eq : A → A → Bool) (laws : IsEquivalence eq) (b c : Wrapper A) (limits : KeepsLimits b c) (before given : List (List (Item A))) (r : Laid A) where
+module _ {A : Type 0} (columns : ℕ → Option ℕ) (eq : A → A → Bool) (laws : IsEquivalence eq) (b c : LaidLines A) (limits : KeepsLimits b c) (before given : List (List (Item A))) (r : Laid A) where
   -- where items are placed behind what is laid
-  pub reserved : (behind : List (Item A)) → HoldsRule columns eq b before given r → c.flat.placed ≡ b.flat.placed ++ behind → c.lines ≡ b.lines → c.line_len ≡ b.line_len → c.line_width ≡ b.line_width → HoldsRuleBefore columns eq c before given r behind
+  pub reserved : (behind : List (Item A)) → HoldsRule columns eq b before given r → c.flat.placed ≡ b.flat.placed ++ behind → c.ended ≡ b.ended → c.line_len ≡ b.line_len → c.line_width ≡ b.line_width → HoldsRuleBefore columns eq c before given r behind
   reserved behind h placed lines len width = record {
     laid = h.laid;
     holds = record { placed = placed ∙ ap (λ is. is ++ behind) h.holds.placed; lens = ap (λ q. q.items) lines ∙ h.holds.lens; len = len ∙ h.holds.len; width = width ∙ h.holds.width };
@@ -31,7 +31,7 @@ module _ {A : Type 0} (columns : ℕ → Option ℕ) (eq : A → A → Bool) (la
     small = omega (arith, room, h.holds.width, h.shows.width)
 
     -- they are taken onto the open line
-    pub taken_here : c.flat ≡ b.flat → c.lines ≡ b.lines → c.line_len ≡ b.line_len + n → c.line_width ≡ b.line_width + n → HoldsRuleBefore columns eq c before given (extended r (spaces n a) n) behind
+    pub taken_here : c.flat ≡ b.flat → c.ended ≡ b.ended → c.line_len ≡ b.line_len + n → c.line_width ≡ b.line_width + n → HoldsRuleBefore columns eq c before given (extended r (spaces n a) n) behind
     taken_here flat lines len width = record {
       laid = extended h.laid (spaces n x) n;
       holds = record {
@@ -45,7 +45,7 @@ module _ {A : Type 0} (columns : ℕ → Option ℕ) (eq : A → A → Bool) (la
     }
 
     -- they fill the open line, which is ended
-    pub taken_full : c.flat ≡ b.flat → c.lines.items ≡ b.lines.items ++ (b.line_len + n) ∷ [] → c.line_len ≡ 0 → c.line_width ≡ 0 → HoldsRuleBefore columns eq c before given (end_line (extended r (spaces n a) n)) behind
+    pub taken_full : c.flat ≡ b.flat → c.ended.items ≡ b.ended.items ++ (b.line_len + n) ∷ [] → c.line_len ≡ 0 → c.line_width ≡ 0 → HoldsRuleBefore columns eq c before given (end_line (extended r (spaces n a) n)) behind
     taken_full flat lines len width =
         let line = h.laid.line ++ spaces n x in
         let many : b.line_len + n ≡ length line = omega (arith, h.holds.len, length-append h.laid.line (spaces n x), spaces_length n x) in
@@ -65,7 +65,7 @@ module _ {A : Type 0} (columns : ℕ → Option ℕ) (eq : A → A → Bool) (la
         }
 
 -- nothing is left behind what is laid
-pub all_taken : {A : Type 0} (columns : ℕ → Option ℕ) (eq : A → A → Bool) (b : Wrapper A) (before given : List (List (Item A))) (r : Laid A) → HoldsRuleBefore columns eq b before given r [] → HoldsRule columns eq b before given r
+pub all_taken : {A : Type 0} (columns : ℕ → Option ℕ) (eq : A → A → Bool) (b : LaidLines A) (before given : List (List (Item A))) (r : Laid A) → HoldsRuleBefore columns eq b before given r [] → HoldsRule columns eq b before given r
 all_taken columns eq b before given r h = record {
   laid = h.laid;
   holds = record { placed = h.holds.placed ∙ append-nil (joined (before ++ h.laid.done) ++ h.laid.line); lens = h.holds.lens; len = h.holds.len; width = h.holds.width };

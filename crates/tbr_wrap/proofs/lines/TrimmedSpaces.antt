@@ -7,9 +7,9 @@ use Rattle.tbr_model.specs.Rule.{is_space_item, is_white_item, without_leading, 
 use Rattle.tbr_model.specs.Laid.{Laid}
 use Rattle.tbr_model.specs.Layout.{joined}
 use Rattle.tbr_tagged.specs.Elements.{SameItem, SameItems}
-use Rattle.tbr_wrap.specs.Wrapper.{HoldsRule, KeepsLimits}
-use Rattle.tbr_wrap.specs.declared.wrapper.Wrapper.{Wrapper}
-use Rattle.tbr_tagged.proofs.SameItems.{same_length}
+use Rattle.tbr_wrap.specs.LaidLines.{HoldsRule, KeepsLimits}
+use Rattle.tbr_wrap.specs.declared.laid_lines.LaidLines.{LaidLines}
+use Rattle.std.proofs.lemmas.List.Elements.{length_all_zip}
 
 same_space : {A : Type 0} (eq : A → A → Bool) (i j : Item A) → SameItem eq i j → is_space_item i ≡ is_space_item j
 same_space eq (glyph c a) (glyph d b) h = ap (λ x. x == 32) h.0
@@ -64,7 +64,7 @@ trailing_width {A} columns one (i ∷ is) = go (without_trailing is) refl (trail
         (λ t. omega (arith, less, space_width columns one i t)) (λ _. omega (arith, less)))
     go (x ∷ ks) e k = let less = rw e at k in rw e (omega (arith, less))
 
-module _ {A : Type 0} (columns : ℕ → Option ℕ) (one : columns 32 ≡ Some 1) (eq : A → A → Bool) (b : Wrapper A) (before given : List (List (Item A))) (r : Laid A) (h : HoldsRule columns eq b before given r) (n : ℕ)
+module _ {A : Type 0} (columns : ℕ → Option ℕ) (one : columns 32 ≡ Some 1) (eq : A → A → Bool) (b : LaidLines A) (before given : List (List (Item A))) (r : Laid A) (h : HoldsRule columns eq b before given r) (n : ℕ)
     (removed : n + length (without_trailing h.laid.line) ≡ length h.laid.line) where
   pub removed_len : n ≤ b.line_len
   removed_len = omega (arith, removed, h.holds.len)
@@ -72,12 +72,12 @@ module _ {A : Type 0} (columns : ℕ → Option ℕ) (one : columns 32 ≡ Some 
   left_width : n + items_width columns (without_trailing r.line) ≡ items_width columns r.line
   left_width =
       let k = same_trailing eq h.laid.line r.line h.shows.last in
-      omega (arith, removed, trailing_width columns one r.line, same_length eq h.laid.line r.line h.shows.last, same_length eq (without_trailing h.laid.line) (without_trailing r.line) k)
+      omega (arith, removed, trailing_width columns one r.line, length_all_zip (SameItem eq) h.laid.line r.line h.shows.last, length_all_zip (SameItem eq) (without_trailing h.laid.line) (without_trailing r.line) k)
 
   pub removed_width : n ≤ b.line_width
   removed_width = omega (arith, left_width, h.measured.line, h.shows.width, h.holds.width)
 
-  pub lays_trimmed : (c : Wrapper A) → KeepsLimits b c → c.flat.placed ≡ joined (before ++ h.laid.done) ++ without_trailing h.laid.line → c.lines ≡ b.lines → c.line_len ≡ b.line_len - n → c.line_width ≡ b.line_width - n → HoldsRule columns eq c before given (trimmed columns r)
+  pub lays_trimmed : (c : LaidLines A) → KeepsLimits b c → c.flat.placed ≡ joined (before ++ h.laid.done) ++ without_trailing h.laid.line → c.ended ≡ b.ended → c.line_len ≡ b.line_len - n → c.line_width ≡ b.line_width - n → HoldsRule columns eq c before given (trimmed columns r)
   lays_trimmed c same placed lines len width =
       let left : b.line_width - n ≡ items_width columns (without_trailing r.line) = omega (arith, left_width, h.measured.line, h.shows.width, h.holds.width) in
       record {

@@ -20,13 +20,15 @@ use Rattle.tbr_model.proofs.rule.TakenOutMarkers.{taken_out, without_none}
 use Rattle.tbr_model.proofs.words.Items.{no_character_no_width}
 use Rattle.tbr_tagged.specs.Elements.{SameItems}
 use Rattle.tbr_tagged.specs.declared.error.Error.{Error}
-use Rattle.tbr_tagged.proofs.ElementLoops.{items_width-append}
+use Rattle.tbr_model.proofs.words.Items.{items_width-append}
 use Rattle.tbr_tagged.proofs.SameItems.{all_zip_append, same_has}
 use Rattle.tbr_wrap.specs.Wrapped.{FitsBlock}
 use Rattle.tbr_wrap.specs.State.{State, JoinsRun, JoinsAsMarker, EndsRun, IsShownBy, IsNormal, is_some_list, loose_taken, lines_left, line_taken, run_flushed}
 use Rattle.tbr_wrap.specs.Course.{Course, at_first, stepped, word_taken, run_ended, line_handed, after, course, loose_names, state_of, viewed}
 use Rattle.tbr_wrap.specs.Held.{HoldsCourse}
-use Rattle.tbr_wrap.specs.Wrapper.{HoldsLaid, LaidLikeRule, IsAtProgress, RunIsFinished, LeavesAfterLine, KeepsSettings, KeepsLimits}
+use Rattle.tbr_wrap.specs.LaidLines.{HoldsLaid, LaidLikeRule, LeavesAfterLine, KeepsLimits}
+use Rattle.tbr_wrap.specs.Wrapper.{IsAtProgress, RunIsFinished}
+use Rattle.tbr_wrap.specs.declared.laid_lines.LaidLines.{LaidLines}
 use Rattle.tbr_wrap.specs.declared.run_change.RunChange.{RunChange}
 use Rattle.tbr_wrap.specs.declared.wrapper.Wrapper.{Wrapper}
 use Rattle.tbr_wrap.proofs.runs.EndedRuns.{shown_run, waits_normal}
@@ -54,6 +56,10 @@ first_shown : {X Y : Type 0} (R : X → Y → Type 0) (xs : List X) (ys : List Y
 first_shown R [] ys y rest e h = absurd (subst (λ zs. AllZip R [] zs) e h)
 first_shown R (x ∷ xs) ys y rest e h = let k = subst (λ zs. AllZip R (x ∷ xs) zs) e h in (x, xs, refl, k.0, k.1)
 
+pub no_lines : {X : Type 0} (xs : List X) → (0 < length xs → ⊥) → xs ≡ []
+no_lines [] h = refl
+no_lines (x ∷ xs) h = absurd (h (omega arith))
+
 first_showing : {X Y : Type 0} (R : X → Y → Type 0) (xs : List X) (ys : List Y) (x : X) (others : List X) → xs ≡ x ∷ others → AllZip R xs ys → (y : Y) × (rest : List Y) × (ys ≡ y ∷ rest) × AllZip R others rest
 first_showing R xs [] x others e h = absurd (subst (λ zs. AllZip R zs []) e h)
 first_showing R xs (y ∷ ys) x others e h = let k = subst (λ zs. AllZip R zs (y ∷ ys)) e h in (y, ys, refl, k.1)
@@ -74,13 +80,13 @@ joins_nothing s = record {
 }
 
 pub joins_more : {A : Type 0} (r s t : State A) (xs ys : List (Entry A)) → JoinsRun r xs s → JoinsRun s ys t → JoinsRun r (xs ++ ys) t
-joins_more r s t xs ys a b = record {
+joins_more {A} r s t xs ys a b = record {
   lines = a.lines ++ b.lines;
   no_columns = b.no_columns;
   no_character = b.no_character;
   loose = b.loose;
   is = b.is
-      ∙ ap (λ q. record q { run = q.run ++ ys; lines = q.lines ++ b.lines; no_columns = b.no_columns; no_character = b.no_character; loose = b.loose }) a.is
+      ∙ ap (λ (q : State A). record q { run = q.run ++ ys; lines = q.lines ++ b.lines; no_columns = b.no_columns; no_character = b.no_character; loose = b.loose }) a.is
       ∙ (λ i. record r { run = append_assoc r.run xs ys i; lines = append_assoc r.lines a.lines b.lines i; no_columns = b.no_columns; no_character = b.no_character; loose = b.loose });
 }
 
@@ -100,6 +106,12 @@ loose_either word name false e = let both = with_marker word name ∙ e in inl (
 last_of_two : {X : Type 0} (xs ys : List X) → last (length ys) (xs ++ ys) ≡ ys
 last_of_two xs ys = drop_at xs ys (length (xs ++ ys) - length ys) (omega (arith, length-append xs ys))
 
+last_of_none : {X : Type 0} (xs : List X) → last 0 xs ≡ []
+last_of_none xs = ap (last 0) (sym (append-nil xs)) ∙ last_of_two xs []
+
+pub no_loose : {A : Type 0} (word : List (Item A)) → has_character word ≡ true → loose_names word ≡ []
+no_loose word some = rw some refl
+
 -- ---- one more change
 
 module _ {A : Type 0} (columns : ℕ → Option ℕ) where
@@ -107,9 +119,9 @@ module _ {A : Type 0} (columns : ℕ → Option ℕ) where
     pub course_after : course columns width' changes' ≡ after columns width (course columns width changes) change
     course_after = (λ i. course columns (same i) (more i)) ∙ fold-append (after columns width) at_first changes (change ∷ [])
 
-    pub viewed_after : (may may' : Bool) (padding : Option A) (failure : Option Error) → may' ≡ may →
-        viewed columns width' may' padding failure changes' ≡ state_of columns width may padding failure (after columns width (course columns width changes) change)
-    viewed_after may may' padding failure never = (λ i. state_of columns (same i) (never i) padding failure (course_after i))
+    pub viewed_after : (may may' : Bool) (padding : Option A) (failure failure' : Option Error) → may' ≡ may → failure' ≡ failure →
+        viewed columns width' may' padding failure' changes' ≡ state_of columns width may padding failure (after columns width (course columns width changes) change)
+    viewed_after may may' padding failure failure' never kept = (λ i. state_of columns (same i) (never i) padding (kept i) (course_after i))
 
   -- ---- what a contract sees
 
@@ -164,10 +176,10 @@ module _ {A : Type 0} (columns : ℕ → Option ℕ) where
   -- ---- what the fields hold
 
   module _ (eq : A → A → Bool) where
-    lines_count : (b : Wrapper A) (before given : List (List (Item A))) (p : Progress A) → IsAtProgress columns eq b before given p → length b.lines.items + length given ≡ length before + length p.laid.done
+    lines_count : (b : Wrapper A) (before given : List (List (Item A))) (p : Progress A) → IsAtProgress columns eq b before given p → length b.lines.ended.items + length given ≡ length before + length p.laid.done
     lines_count b before given p s =
         let l : Laid A = s.lays.laid in
-        let held : length b.lines.items ≡ length before + length l.done = ap length s.lays.holds.lens ∙ length-map (before ++ l.done) length ∙ length-append before l.done in
+        let held : length b.lines.ended.items ≡ length before + length l.done = ap length s.lays.holds.lens ∙ length-map (before ++ l.done) length ∙ length-append before l.done in
         omega (arith, held, length_all_zip (SameItems eq) l.done s.lays.shows.rest s.lays.shows.done, ap length s.lays.shows.split, length-append given s.lays.shows.rest)
 
     pub holds_first : (b : Wrapper A) → IsAtProgress columns eq b [] [] at_start → HoldsCourse columns eq b false at_first
@@ -179,24 +191,24 @@ module _ {A : Type 0} (columns : ℕ → Option ℕ) where
       events = [];
       run_is = refl;
       progress_is = refl;
-      has_begun = some_count b.lines.items ∙ ap (nat_lt 0) (omega (arith, lines_count b [] [] at_start s));
+      has_begun = some_count b.lines.ended.items ∙ (let zero : length b.lines.ended.items ≡ 0 = omega (arith, lines_count b [] [] at_start s) in ap (nat_lt 0) zero);
     }
 
     module _ (b : Wrapper A) (begun : Bool) (c : Course A) (h : HoldsCourse columns eq b begun c) where
-      abbrev given : List (List (Item A))
+      abbrev pub given : List (List (Item A))
       given = take c.handed c.progress.laid.done
 
       given_count : length given ≡ c.handed
       given_count = length-take-le c.handed c.progress.laid.done h.within
 
-      pub old_count : length b.lines.items + c.handed ≡ length h.before + length c.progress.laid.done
+      pub old_count : length b.lines.ended.items + c.handed ≡ length h.before + length c.progress.laid.done
       old_count = omega (arith, lines_count b h.before given c.progress h.stands, given_count)
 
       -- an event comes
-      pub holds_stepped : (d : Wrapper A) (e : Event A) → KeepsLimits b d → IsAtProgress columns eq d h.before given (step columns b.width c.progress e) → HoldsCourse columns eq d begun (stepped columns b.width c e)
+      pub holds_stepped : (d : Wrapper A) (e : Event A) → KeepsLimits b.lines d.lines → IsAtProgress columns eq d h.before given (step columns b.lines.width c.progress e) → HoldsCourse columns eq d begun (stepped columns b.lines.width c e)
       holds_stepped d e limits s =
-          let p : Progress A = step columns b.width c.progress e in
-          let more = step_adds columns b.width c.progress e in
+          let p : Progress A = step columns b.lines.width c.progress e in
+          let more = step_adds columns b.lines.width c.progress e in
           let same : take c.handed p.laid.done ≡ given = ap (take c.handed) s.lays.shows.split ∙ take_at given s.lays.shows.rest c.handed given_count in
           let longer : length p.laid.done ≡ length c.progress.laid.done + length more.0 = ap length more.1 ∙ length-append c.progress.laid.done more.0 in
           record {
@@ -206,15 +218,15 @@ module _ {A : Type 0} (columns : ℕ → Option ℕ) where
             stands = subst (λ (ls : List (List (Item A))). IsAtProgress columns eq d h.before ls p) (sym same) s;
             events = h.events ++ e ∷ [];
             run_is = run_of-append h.events (e ∷ []) ∙ ap (λ es. es ++ run_of (e ∷ [])) h.run_is;
-            progress_is = ap (λ w. progress columns w (h.events ++ e ∷ [])) limits.width ∙ fold-append (step columns b.width) at_start h.events (e ∷ []) ∙ ap (λ q. step columns b.width q e) h.progress_is;
-            has_begun = begun_lists begun c.begun b.lines.items d.lines.items c.progress.laid.done p.laid.done (length more.0)
+            progress_is = ap (λ w. progress columns w (h.events ++ e ∷ [])) limits.width ∙ fold-append (step columns b.lines.width) at_start h.events (e ∷ []) ∙ ap (λ q. step columns b.lines.width q e) h.progress_is;
+            has_begun = begun_lists begun c.begun b.lines.ended.items d.lines.ended.items c.progress.laid.done p.laid.done (length more.0)
                 (omega (arith, old_count, lines_count d h.before given p s, given_count, longer)) longer h.has_begun;
           }
 
       -- the word's markers are taken out
-      pub holds_taken : (d : Wrapper A) → KeepsLimits b d → has_character c.progress.word ≡ false → IsAtProgress columns eq d h.before given (record c.progress { word = [] }) → HoldsCourse columns eq d begun (word_taken c)
+      pub holds_taken : (d : Wrapper A) → KeepsLimits b.lines d.lines → has_character c.progress.word ≡ false → IsAtProgress columns eq d h.before given (record c.progress { word = [] }) → HoldsCourse columns eq d begun (word_taken c)
       holds_taken d limits none s =
-          let taken = taken_out columns b.width h.events [] c.progress.word (ap (λ (p : Progress A). p.word) h.progress_is) none in
+          let taken = taken_out columns b.lines.width h.events [] c.progress.word (ap (λ (p : Progress A). p.word) h.progress_is) none in
           record {
             before = h.before;
             earlier = h.earlier;
@@ -223,53 +235,78 @@ module _ {A : Type 0} (columns : ℕ → Option ℕ) where
             events = taken.0;
             run_is = taken.1 ∙ ap (without_last_markers (length c.progress.word)) h.run_is;
             progress_is = ap (λ w. progress columns w taken.0) limits.width ∙ taken.2 ∙ ap (λ (p : Progress A). record p { word = [] }) h.progress_is;
-            has_begun = begun_lists begun c.begun b.lines.items d.lines.items c.progress.laid.done c.progress.laid.done 0
+            has_begun = begun_lists begun c.begun b.lines.ended.items d.lines.ended.items c.progress.laid.done c.progress.laid.done 0
                 (omega (arith, old_count, lines_count d h.before given (record c.progress { word = [] }) s, given_count)) (omega arith) h.has_begun;
           }
 
       -- the names of the loose markers are the last ones of the run
-      pub loose_last : has_character c.progress.word ≡ false → loose_names c.progress.word ≡ last (length (loose_names c.progress.word)) (names_in_run c.run)
-      loose_last none =
-          let word : List (Item A) = c.progress.word in
-          let front : List (List ℕ) = names_in_items (joined c.progress.laid.done) ++ names_in_items c.progress.laid.line in
-          let names : loose_names word ≡ names_in_items word = rw none refl in
-          let all : names_in_run c.run ≡ front ++ loose_names word =
-          sym (ap names_in_run h.run_is) ∙ sym (markers_run columns b.width h.events)
-          ∙ ap (λ (p : Progress A). names_in_items (joined p.laid.done) ++ (names_in_items p.laid.line ++ names_in_items p.word)) h.progress_is
-          ∙ sym (append_assoc (names_in_items (joined c.progress.laid.done)) (names_in_items c.progress.laid.line) (names_in_items word)) ∙ ap (λ ns. front ++ ns) (sym names) in
-          sym (ap (last (length (loose_names word))) all ∙ last_of_two front (loose_names word))
+      pub loose_last : loose_names c.progress.word ≡ last (length (loose_names c.progress.word)) (names_in_run c.run)
+      loose_last = both (has_character c.progress.word) refl
+        where
+          word : List (Item A)
+          word = c.progress.word
+
+          front : List (List ℕ)
+          front = names_in_items (joined c.progress.laid.done) ++ names_in_items c.progress.laid.line
+
+          all : names_in_run c.run ≡ front ++ names_in_items word
+          all = sym (ap names_in_run h.run_is) ∙ sym (markers_run columns b.lines.width h.events)
+              ∙ ap (λ (p : Progress A). names_in_items (joined p.laid.done) ++ (names_in_items p.laid.line ++ names_in_items p.word)) h.progress_is
+              ∙ sym (append_assoc (names_in_items (joined c.progress.laid.done)) (names_in_items c.progress.laid.line) (names_in_items word))
+
+          both : (t : Bool) → has_character word ≡ t → loose_names word ≡ last (length (loose_names word)) (names_in_run c.run)
+          both true some =
+              let none = no_loose word some in
+              none ∙ sym (ap (λ names. last (length names) (names_in_run c.run)) none ∙ last_of_none (names_in_run c.run))
+          both false none =
+              let names : loose_names word ≡ names_in_items word = rw none refl in
+              let parts : names_in_run c.run ≡ front ++ loose_names word = all ∙ ap (λ ns. front ++ ns) (sym names) in
+              sym (ap (last (length (loose_names word))) parts ∙ last_of_two front (loose_names word))
+
+      -- the word that is held has the same markers
+      pub word_names_held : has_character c.progress.word ≡ false → names_in_items b.lines.flat.word ≡ loose_names c.progress.word
+      word_names_held none = let names : loose_names c.progress.word ≡ names_in_items c.progress.word = rw none refl in same_marker_names b.lines.flat.word c.progress.word h.stands.word ∙ sym names
+        where
+          same_marker_names : (is js : List (Item A)) → SameItems eq is js → names_in_items is ≡ names_in_items js
+          same_marker_names [] [] z = refl
+          same_marker_names [] (j ∷ js) z = absurd z
+          same_marker_names (i ∷ is) [] z = absurd z
+          same_marker_names (glyph d a ∷ is) (glyph e x ∷ js) z = same_marker_names is js z.1
+          same_marker_names (marker m ∷ is) (marker n ∷ js) z = (λ i. z.0 i ∷ same_marker_names is js z.1 i)
+          same_marker_names (glyph d a ∷ is) (marker n ∷ js) z = absurd z.0
+          same_marker_names (marker m ∷ is) (glyph e x ∷ js) z = absurd z.0
 
       -- ---- the run ends
 
       abbrev left : List (Item A)
-      left = waiting columns b.width c.progress
+      left = waiting columns b.lines.width c.progress
 
       abbrev pub left_names : List (List ℕ)
       left_names = names_in_items left
 
       left_none : has_character left ≡ false
-      left_none = waiting_none columns b.width c.progress
+      left_none = waiting_none columns b.lines.width c.progress
 
       left_is : left ≡ marker_items left_names
       left_is = marker_items_alone left left_none
 
       abbrev pub all_lines : List (List (Item A))
-      all_lines = (finished columns b.width c.progress).done
+      all_lines = (finished columns b.lines.width c.progress).done
 
       -- the lines that the end of the run adds
       abbrev pub added : List (List (Item A))
-      added = (finished_adds columns b.width c.progress).0
+      added = (finished_adds columns b.lines.width c.progress).0
 
       all_is : all_lines ≡ c.progress.laid.done ++ added
-      all_is = (finished_adds columns b.width c.progress).1
+      all_is = (finished_adds columns b.lines.width c.progress).1
 
       all_count : length all_lines ≡ length c.progress.laid.done + length added
       all_count = ap length all_is ∙ length-append c.progress.laid.done added
 
-      lines_of_run : lines_of columns b.width h.events ≡ all_lines
-      lines_of_run = ap (λ p. (finished columns b.width p).done) h.progress_is
+      pub lines_of_run : lines_of columns b.lines.width h.events ≡ all_lines
+      lines_of_run = ap (λ p. (finished columns b.lines.width p).done) h.progress_is
 
-      pub holds_ended : (d : Wrapper A) → KeepsLimits b d → RunIsFinished columns eq b d h.before given c.progress → HoldsCourse columns eq d begun (run_ended columns b.width c)
+      pub holds_ended : (d : Wrapper A) → KeepsLimits b.lines d.lines → RunIsFinished columns eq b d h.before given c.progress → HoldsCourse columns eq d begun (run_ended columns b.lines.width c)
       holds_ended d limits e =
           let rest : drop c.handed all_lines ≡ e.rest = ap (drop c.handed) e.split ∙ drop_at given e.rest c.handed given_count in
           let many : length e.now ≡ length e.rest = length_all_zip (SameItems eq) e.now e.rest e.same in
@@ -281,17 +318,17 @@ module _ {A : Type 0} (columns : ℕ → Option ℕ) where
             stands = e.stands;
             events = map (λ n. entry (marker_entry n)) left_names;
             run_is = run_of_markers left_names;
-            progress_is = markers_lead columns d.width left_names ∙ ap (λ is. record at_start { word = is }) (sym left_is);
-            has_begun = begun_lists begun c.begun b.lines.items d.lines.items c.progress.laid.done all_lines (length added)
+            progress_is = markers_lead columns d.lines.width left_names ∙ ap (λ is. record at_start { word = is }) (sym left_is);
+            has_begun = begun_lists begun c.begun b.lines.ended.items d.lines.ended.items c.progress.laid.done all_lines (length added)
                 (omega (arith, old_count, all_count, many, parts, length-append h.before e.now, lines_count d (h.before ++ e.now) [] (record at_start { word = left }) e.stands)) all_count h.has_begun
                 ∙ sym (or-false (c.begun || is_some_list all_lines));
           }
 
       module _ (may : Bool) (padding : Option A) (failure : Option Error) where
         abbrev before_end : State A
-        before_end = state_of columns b.width may padding failure c
+        before_end = state_of columns b.lines.width may padding failure c
 
-        pub ended_seen : state_of columns b.width may padding failure (run_ended columns b.width c) ≡ run_flushed before_end added left_names
+        pub ended_seen : state_of columns b.lines.width may padding failure (run_ended columns b.lines.width c) ≡ run_flushed before_end added left_names
         ended_seen =
             let columns_none : items_width columns left ≡ 0 = no_character_no_width columns left left_none in
             let no_columns : ((0 == 0) && (items_width columns left == 0)) ≡ true = rw columns_none refl in
@@ -310,27 +347,25 @@ module _ {A : Type 0} (columns : ℕ → Option ℕ) where
               loose = names i;
             }
 
-        pub ends_run : columns 32 ≡ Some 1 → 0 < b.width → Each (FitsBlock columns b.width may) all_lines → EndsRun columns before_end added left_names
+        pub ends_run : columns 32 ≡ Some 1 → 0 < b.lines.width → Each (FitsBlock columns b.lines.width may) all_lines → EndsRun columns before_end added left_names
         ends_run one_space wide fits =
-            let lines : lines_of columns b.width h.events ≡ c.progress.laid.done ++ added = lines_of_run ∙ all_is in
-            let fit : Each (FitsBlock columns b.width may) (lines_of columns b.width h.events) = subst (Each (FitsBlock columns b.width may)) (sym lines_of_run) fits in
-            let waits : waiting columns b.width (progress columns b.width h.events) ≡ left = ap (waiting columns b.width) h.progress_is in
+            let lines : lines_of columns b.lines.width h.events ≡ c.progress.laid.done ++ added = lines_of_run ∙ all_is in
+            let fit : Each (FitsBlock columns b.lines.width may) (lines_of columns b.lines.width h.events) = subst (Each (FitsBlock columns b.lines.width may)) (sym lines_of_run) fits in
+            let waits : waiting columns b.lines.width (progress columns b.lines.width h.events) ≡ left = ap (waiting columns b.lines.width) h.progress_is in
             record {
-              shown = along lines h.run_is (shown_run columns b.width one_space wide may h.events fit);
-              fits = subst (Each (FitsBlock columns b.width may)) all_is fits;
-              markers = ap (λ ls. names_in_items (joined ls) ++ left_names) (sym lines) ∙ ap (λ is. names_in_items (joined (lines_of columns b.width h.events)) ++ names_in_items is) (sym waits)
-                  ∙ markers_at_end columns b.width h.events ∙ ap names_in_run h.run_is;
+              shown = subst (λ (ls : List (List (Item A))). IsShownBy columns b.lines.width may c.run ls) lines
+                  (subst (λ (es : List (Entry A)). IsShownBy columns b.lines.width may es (lines_of columns b.lines.width h.events)) h.run_is (shown_run columns b.lines.width one_space wide may h.events fit));
+              fits = subst (Each (FitsBlock columns b.lines.width may)) all_is fits;
+              markers = ap (λ ls. names_in_items (joined ls) ++ left_names) (sym lines) ∙ ap (λ is. names_in_items (joined (lines_of columns b.lines.width h.events)) ++ names_in_items is) (sym waits)
+                  ∙ markers_at_end columns b.lines.width h.events ∙ ap names_in_run h.run_is;
               waits = λ never normal.
                   sym left_is ∙ sym waits
-                  ∙ waits_normal columns b.width h.events (subst (λ o. Each (FitsBlock columns b.width o) (lines_of columns b.width h.events)) never fit) c.run h.run_is normal;
+                  ∙ waits_normal columns b.lines.width h.events (subst (λ o. Each (FitsBlock columns b.lines.width o) (lines_of columns b.lines.width h.events)) never fit) c.run h.run_is normal;
             }
-          where
-            along : {ls ms : List (List (Item A))} {es fs : List (Entry A)} → ls ≡ ms → es ≡ fs → IsShownBy columns b.width may es ls → IsShownBy columns b.width may fs ms
-            along p q s = subst (λ es. IsShownBy columns b.width may es _) q (subst (λ ls. IsShownBy columns b.width may _ ls) p s)
 
       -- ---- a line is handed out
 
-      abbrev laid : Laid A
+      abbrev pub laid : Laid A
       laid = h.stands.lays.laid
 
       abbrev rest : List (List (Item A))
@@ -348,37 +383,44 @@ module _ {A : Type 0} (columns : ℕ → Option ℕ) where
       first_left text others e = let f = first_shown (SameItems eq) (h.before ++ laid.done) (c.ended ++ drop c.handed c.progress.laid.done) text others e left_shown in (f.0, f.1, f.2, f.3)
 
       -- as many as the fields count
-      held_count : length b.lines.items ≡ length (c.ended ++ drop c.handed c.progress.laid.done)
+      held_count : length b.lines.ended.items ≡ length (c.ended ++ drop c.handed c.progress.laid.done)
       held_count = ap length h.stands.lays.holds.lens ∙ length-map (h.before ++ laid.done) length ∙ length_all_zip (SameItems eq) (h.before ++ laid.done) _ left_shown
 
-      pub none_held : c.ended ++ drop c.handed c.progress.laid.done ≡ [] → 0 < length b.lines.items → ⊥
+      pub none_held : c.ended ++ drop c.handed c.progress.laid.done ≡ [] → 0 < length b.lines.ended.items → ⊥
       none_held e some = omega (arith, some, held_count, ap length e)
 
-      pub some_held : b.lines.items ≡ [] → (text : List (Item A)) (others : List (List (Item A))) → c.ended ++ drop c.handed c.progress.laid.done ≡ text ∷ others → ⊥
+      pub none_left : c.ended ++ drop c.handed c.progress.laid.done ≡ [] → b.lines.ended.items ≡ []
+      none_left e = no_lines b.lines.ended.items (none_held e)
+
+      pub some_held : b.lines.ended.items ≡ [] → (text : List (Item A)) (others : List (List (Item A))) → c.ended ++ drop c.handed c.progress.laid.done ≡ text ∷ others → ⊥
       some_held none text others e = omega (arith, held_count, ap length none, ap length e)
 
-      pub some_left : 0 < length b.lines.items → (is : List (Item A)) × (more : List (List (Item A))) × (h.before ++ laid.done ≡ is ∷ more)
+      pub some_left : 0 < length b.lines.ended.items → (is : List (Item A)) × (more : List (List (Item A))) × (h.before ++ laid.done ≡ is ∷ more)
       some_left some = cons_of (h.before ++ laid.done) (omega (arith, some, held_count, length_all_zip (SameItems eq) (h.before ++ laid.done) _ left_shown))
 
       -- a line has ended where one is left
-      ended_one : 0 < length b.lines.items → c.begun || is_some_list c.progress.laid.done ≡ true
-      ended_one some = sym h.has_begun ∙ ap (λ e. begun || e) (some_count b.lines.items ∙ lt-ltb 0 (length b.lines.items) some) ∙ or-true begun
+      ended_one : 0 < length b.lines.ended.items → c.begun || is_some_list c.progress.laid.done ≡ true
+      ended_one some = sym h.has_begun ∙ ap (λ e. begun || e) (some_count b.lines.ended.items ∙ lt-ltb 0 (length b.lines.ended.items) some) ∙ or-true begun
 
-      module _ (d : Wrapper A) (same : KeepsSettings b d) where
-        stands_left : (before' given' : List (List (Item A))) (l : Laid A) → HoldsLaid d before' l → d.flat.word ≡ b.flat.word → LaidLikeRule eq given' l c.progress.laid → IsAtProgress columns eq d before' given' c.progress
+      -- of the lines alone
+      module _ (ls : LaidLines A) (same : KeepsLimits b.lines ls) where
+        abbrev d : Wrapper A
+        d = record b { lines = ls }
+
+        stands_left : (before' given' : List (List (Item A))) (l : Laid A) → HoldsLaid ls before' l → ls.flat.word ≡ b.lines.flat.word → LaidLikeRule eq given' l c.progress.laid → IsAtProgress columns eq d before' given' c.progress
         stands_left before' given' l holds word shows =
             let s = h.stands in
             record {
               lays = record { laid = l; holds = holds; shows = shows; measured = rw same.width (rw same.may_overflow s.lays.measured) };
-              space = rw same.space s.space;
+              space = s.space;
               word = rw word s.word;
-              word_width = same.word_width ∙ s.word_width;
-              mode = same.word_mode ∙ s.mode;
-              continuation_flag = same.continuation_flag ∙ s.continuation_flag;
-              in_continuation = same.in_continuation ∙ s.in_continuation;
+              word_width = s.word_width;
+              mode = s.mode;
+              continuation_flag = s.continuation_flag;
+              in_continuation = s.in_continuation;
             }
 
-        pub holds_handed : (is : List (Item A)) (more : List (List (Item A))) → h.before ++ laid.done ≡ is ∷ more → LeavesAfterLine b d more laid → 0 < length b.lines.items → HoldsCourse columns eq d true (line_handed c)
+        pub holds_handed : (is : List (Item A)) (more : List (List (Item A))) → h.before ++ laid.done ≡ is ∷ more → LeavesAfterLine b.lines ls more laid → 0 < length b.lines.ended.items → HoldsCourse columns eq d true (line_handed c)
         holds_handed is more first v some = go h.before c.ended refl refl h.earlier
           where
             go : (bs es : List (List (Item A))) → h.before ≡ bs → c.ended ≡ es → AllZip (SameItems eq) bs es → HoldsCourse columns eq d true (line_handed c)
@@ -393,7 +435,7 @@ module _ {A : Type 0} (columns : ℕ → Option ℕ) where
                 let count : length next ≡ suc c.handed = length-append given (f.0 ∷ []) ∙ omega (arith, given_count) in
                 let taken : take (suc c.handed) c.progress.laid.done ≡ next = ap (take (suc c.handed)) split ∙ take_at next f.1 (suc c.handed) count in
                 let l : Laid A = record { done = more; line = laid.line; width = laid.width } in
-                let holds : HoldsLaid d [] l = record { placed = v.placed; lens = v.lens; len = v.len ∙ h.stands.lays.holds.len; width = v.width ∙ h.stands.lays.holds.width } in
+                let holds : HoldsLaid ls [] l = record { placed = v.placed; lens = v.lens; len = v.len ∙ h.stands.lays.holds.len; width = v.width ∙ h.stands.lays.holds.width } in
                 let shows : LaidLikeRule eq next l c.progress.laid = record { rest = f.1; split = split; done = f.3; last = h.stands.lays.shows.last; width = h.stands.lays.shows.width } in
                 subst (HoldsCourse columns eq d true) none
                 (record {
@@ -409,7 +451,7 @@ module _ {A : Type 0} (columns : ℕ → Option ℕ) where
             go (x ∷ bs) (e ∷ es) p q z =
                 let earlier : ◌≡◌ {A = Course A} (record c { ended = es }) (line_handed c) = rw q refl in
                 let rests : more ≡ bs ++ laid.done = sym (ap (drop 1) (ap (λ ls. ls ++ laid.done) (sym p) ∙ first)) in
-                let holds : HoldsLaid d bs laid = record {
+                let holds : HoldsLaid ls bs laid = record {
                   placed = v.placed ∙ ap (λ ls. joined ls ++ laid.line) rests;
                   lens = v.lens ∙ ap (map length) rests;
                   len = v.len ∙ h.stands.lays.holds.len;
@@ -428,16 +470,16 @@ module _ {A : Type 0} (columns : ℕ → Option ℕ) where
                 })
 
       module _ (may : Bool) (padding : Option A) (failure : Option Error) where
-        pub handed_seen : state_of columns b.width may padding failure (line_handed c) ≡ line_taken (state_of columns b.width may padding failure c)
-        handed_seen = sym (if_same (state_of columns b.width may padding failure) (is_some_list c.ended) _ _ _ _ refl refl)
+        pub handed_seen : state_of columns b.lines.width may padding failure (line_handed c) ≡ line_taken (state_of columns b.lines.width may padding failure c)
+        handed_seen = sym (if_same (state_of columns b.lines.width may padding failure) (is_some_list c.ended) _ _ _ _ refl refl)
 
       -- ---- what is open
 
-      pub no_columns_held : (b.line_width == 0) && (b.word_width == 0) ≡ (c.progress.laid.width == 0) && (items_width columns c.progress.word == 0)
+      pub no_columns_held : (b.lines.line_width == 0) && (b.word_width == 0) ≡ (c.progress.laid.width == 0) && (items_width columns c.progress.word == 0)
       no_columns_held = λ i. ((h.stands.lays.holds.width ∙ h.stands.lays.shows.width) i == 0) && (h.stands.word_width i == 0)
 
       pub line_held : has_character laid.line ≡ has_character c.progress.laid.line
       line_held = same_has eq laid.line c.progress.laid.line h.stands.lays.shows.last
 
-      pub word_held : has_character b.flat.word ≡ has_character c.progress.word
-      word_held = same_has eq b.flat.word c.progress.word h.stands.word
+      pub word_held : has_character b.lines.flat.word ≡ has_character c.progress.word
+      word_held = same_has eq b.lines.flat.word c.progress.word h.stands.word

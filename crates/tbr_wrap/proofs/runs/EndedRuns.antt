@@ -119,6 +119,12 @@ module _ {A : Type 0} (columns : ℕ → Option ℕ) (width : ℕ) where
 
 -- ---- a whole run
 
+pre_kept : Pre ≢ Normal
+pre_kept e = cc
+
+prewrap_kept : PreWrap ≢ Normal
+prewrap_kept e = cc
+
 module _ {A : Type 0} (columns : ℕ → Option ℕ) (width : ℕ) (one_space : columns 32 ≡ Some 1) (wide : 0 < width) where
   abbrev Same : A → A → Type 0
   Same a b = a ≡ b
@@ -126,12 +132,6 @@ module _ {A : Type 0} (columns : ℕ → Option ℕ) (width : ℕ) (one_space : 
   preserving : (mode : WhiteSpace) → mode ≢ Normal → (e : Entry A) → HasMode mode e → Preserves e
   preserving mode kept (character c a b m) h = λ normal. kept (sym h ∙ normal)
   preserving mode kept (marker_entry name) h = tt
-
-  pre_kept : Pre ≢ Normal
-  pre_kept e = cc
-
-  prewrap_kept : PreWrap ≢ Normal
-  prewrap_kept e = cc
 
   pre_parted : (es : List (Event A)) → Each (HasMode Pre) (run_of es) → Parted (ShowsPre columns Same width) (hard_lines (run_of es)) (lines_of columns width es)
   pre_parted es h =

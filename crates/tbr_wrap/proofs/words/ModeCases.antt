@@ -9,10 +9,10 @@ use Rattle.tbr_model.specs.Laid.{Laid}
 use Rattle.tbr_model.specs.Run.{Item, has_character, is_blank, is_break, always_takes_space}
 use Rattle.tbr_model.specs.Rule.{Space, Progress, space_of, pending_width, tag_of, collapse, preserve, newline, tab, flush_word, break_word, keep_space, keep_character, enter_normal, join}
 use Rattle.tbr_tagged.specs.Elements.{SameItems}
-use Rattle.tbr_wrap.specs.Wrapper.{SameSpace, HoldsRule, IsAtProgress, KeepsSettings, KeepsLimits}
+use Rattle.tbr_wrap.specs.LaidLines.{HoldsRule}
+use Rattle.tbr_wrap.specs.Wrapper.{SameSpace, IsAtProgress}
+use Rattle.tbr_wrap.specs.declared.laid_lines.LaidLines.{LaidLines}
 use Rattle.tbr_wrap.specs.declared.wrapper.Wrapper.{Wrapper}
-use Rattle.tbr_wrap.proofs.lines.HeldLines.{holds_same}
-use Rattle.tbr_wrap.proofs.lines.LaidByRule.{lays_same}
 use Rattle.tbr_wrap.proofs.words.WordsLaid.{stands_laid}
 use Rattle.tbr_wrap.specs.declared.wrapper.Space.{Space as HeldSpace}
 
@@ -44,19 +44,6 @@ same_some eq (Some s) None h e = absurd h
 
 -- ---- space that waits
 
--- where other space waits
-pub spaced_stands : {A : Type 0} (columns : ℕ → Option ℕ) (eq : A → A → Bool) (laws : IsEquivalence eq) (b c : Wrapper A) (before given : List (List (Item A))) (p : Progress A) (o : Option (Space A)) → IsAtProgress columns eq b before given p → SameSpace eq c.space o → c.flat ≡ b.flat → c.lines ≡ b.lines → c.line_len ≡ b.line_len → c.line_width ≡ b.line_width →
-    c.word_width ≡ b.word_width → c.word_mode ≡ b.word_mode → KeepsLimits b c → c.continuation_flag ≡ b.continuation_flag → c.in_continuation ≡ b.in_continuation → IsAtProgress columns eq c before given (record p { space = o })
-spaced_stands columns eq laws b c before given p o s space flat lines len width word_width mode limits continuation_flag in_continuation = record {
-  lays = lays_same columns eq laws b c limits before given p.laid s.lays (holds_same b c before s.lays.laid s.lays.holds (ap (λ f. f.placed) flat) lines len width);
-  space = space;
-  word = rw flat s.word;
-  word_width = word_width ∙ s.word_width;
-  mode = mode ∙ s.mode;
-  continuation_flag = continuation_flag ∙ s.continuation_flag;
-  in_continuation = in_continuation ∙ s.in_continuation;
-}
-
 pub some_space : {A : Type 0} (n : ℕ) (a : A) (mode : WhiteSpace) → 0 < n → space_of n a mode ≡ Some (record { width = n; tag = a; mode = mode })
 some_space zero a mode some = absurd (omega (arith, some))
 some_space (suc n) a mode some = refl
@@ -84,10 +71,10 @@ module _ {A : Type 0} (eq : A → A → Bool) (laws : IsEquivalence eq) (p : Pro
 -- ---- spaces of a tab
 
 -- where they were put on the lines
-pub stands_put : {A E : Type 0} (columns : ℕ → Option ℕ) (eq : A → A → Bool) (b c : Wrapper A) (before given : List (List (Item A))) (p : Progress A) (l : Laid A) (result : Result (Unit {0}) E) → IsAtProgress columns eq b before given p → OnOk result (HoldsRule columns eq c before given l) → OnOk result (SameItems eq c.flat.word p.word) → KeepsSettings b c →
-    OnOk result (IsAtProgress columns eq c before given (record p { laid = l }))
-stands_put columns eq b c before given p l (Ok x) s lays word same = stands_laid columns eq b c before given p l s lays word same
-stands_put columns eq b c before given p l (Err e) s lays word same = tt
+pub stands_put : {A E : Type 0} (columns : ℕ → Option ℕ) (eq : A → A → Bool) (b : Wrapper A) (lines : LaidLines A) (before given : List (List (Item A))) (p : Progress A) (l : Laid A) (result : Result (Unit {0}) E) → IsAtProgress columns eq b before given p → OnOk result (HoldsRule columns eq lines before given l) →
+    OnOk result (SameItems eq lines.flat.word p.word) → OnOk result (IsAtProgress columns eq (record b { lines = lines }) before given (record p { laid = l }))
+stands_put columns eq b lines before given p l (Ok x) s lays word = stands_laid columns eq b lines before given p l s lays word
+stands_put columns eq b lines before given p l (Err e) s lays word = tt
 
 -- ---- the preserving modes, by character
 

@@ -10,11 +10,13 @@ use Rattle.tbr_model.specs.Rule.{Progress, flush_word, waiting}
 use Rattle.tbr_model.proofs.words.Items.{no_character_no_width}
 use Rattle.tbr_tagged.specs.Elements.{SameItems}
 use Rattle.tbr_wrap.specs.Wrapped.{FitsBlock}
-use Rattle.tbr_wrap.specs.Wrapper.{HoldsRule, IsAtProgress, KeepsLimits, RunIsFinished}
+use Rattle.tbr_wrap.specs.LaidLines.{HoldsRule, KeepsLimits}
+use Rattle.tbr_wrap.specs.Wrapper.{IsAtProgress, RunIsFinished}
+use Rattle.tbr_wrap.specs.declared.laid_lines.LaidLines.{LaidLines}
 use Rattle.tbr_wrap.specs.declared.wrapper.Wrapper.{Wrapper}
 use Rattle.tbr_wrap.proofs.lines.HeldLines.{holds_same}
 use Rattle.tbr_wrap.proofs.lines.LaidByRule.{lays_same}
-use Rattle.tbr_tagged.proofs.ElementLoops.{items_width-append}
+use Rattle.tbr_model.proofs.words.Items.{items_width-append}
 use Rattle.tbr_tagged.proofs.SameItems.{same_has, same_items_append}
 
 -- a fresh line has no character
@@ -31,20 +33,20 @@ append_none [] js h k = k
 append_none (glyph c a ∷ is) js h k = cc
 append_none (marker name ∷ is) js h k = append_none is js h k
 
-module _ {A : Type 0} (columns : ℕ → Option ℕ) (eq : A → A → Bool) (laws : IsEquivalence eq) (b d c : Wrapper A) (before given : List (List (Item A))) (p : Progress A) where
+module _ {A : Type 0} (columns : ℕ → Option ℕ) (eq : A → A → Bool) (laws : IsEquivalence eq) (b c : Wrapper A) (d : LaidLines A) (before given : List (List (Item A))) (p : Progress A) where
   abbrev q : Progress A
-  q = flush_word columns b.width p
+  q = flush_word columns b.lines.width p
 
   -- what stands on no ended line waits as a word
-  pub run_finished : (h : HoldsRule columns eq d before given (end_if_character q.laid)) → SameItems eq d.flat.word q.word → has_character (waiting columns b.width p) ≡ false → d.width ≡ b.width → d.may_overflow ≡ b.may_overflow →
-      c.flat.placed ≡ joined (before ++ h.laid.done) → c.flat.word ≡ h.laid.line ++ d.flat.word → c.lines ≡ d.lines → c.line_len ≡ 0 → c.line_width ≡ 0 → c.word_width ≡ 0 → c.width ≡ b.width → c.may_overflow ≡ b.may_overflow → c.space ≡ None → c.word_mode ≡ Normal →
+  pub run_finished : (h : HoldsRule columns eq d before given (end_if_character q.laid)) → SameItems eq d.flat.word q.word → has_character (waiting columns b.lines.width p) ≡ false → KeepsLimits b.lines d →
+      c.lines.flat.placed ≡ joined (before ++ h.laid.done) → c.lines.flat.word ≡ h.laid.line ++ d.flat.word → c.lines.ended ≡ d.ended → c.lines.line_len ≡ 0 → c.lines.line_width ≡ 0 → c.word_width ≡ 0 → c.space ≡ None → c.word_mode ≡ Normal →
       c.continuation_flag ≡ false → c.in_continuation ≡ false → RunIsFinished columns eq b c before given p
-  run_finished h word none width overflow placed words lines len zero columns_none width_c overflow_c space mode continuation_flag in_continuation = record {
+  run_finished h word none limits placed words lines len zero no_width space mode continuation_flag in_continuation = record {
     now = h.laid.done;
     rest = h.shows.rest;
     split = h.shows.split;
     same = h.shows.done;
-    fits = subst (λ n. Each (FitsBlock columns n b.may_overflow) (end_if_character q.laid).done) width (subst (λ o. Each (FitsBlock columns d.width o) (end_if_character q.laid).done) overflow h.measured.done);
+    fits = subst (λ n. Each (FitsBlock columns n b.lines.may_overflow) (end_if_character q.laid).done) limits.width (subst (λ o. Each (FitsBlock columns d.width o) (end_if_character q.laid).done) limits.may_overflow h.measured.done);
     stands = record {
       lays = record {
         laid = nothing_laid;
@@ -59,7 +61,7 @@ module _ {A : Type 0} (columns : ℕ → Option ℕ) (eq : A → A → Bool) (la
       };
       space = rw space tt;
       word = rw words (same_items_append eq laws h.laid.line (end_if_character q.laid).line d.flat.word q.word h.shows.last word);
-      word_width = columns_none ∙ sym (no_character_no_width columns (waiting columns b.width p) none);
+      word_width = no_width ∙ sym (no_character_no_width columns (waiting columns b.lines.width p) none);
       mode = mode;
       continuation_flag = continuation_flag;
       in_continuation = in_continuation;
@@ -68,29 +70,29 @@ module _ {A : Type 0} (columns : ℕ → Option ℕ) (eq : A → A → Bool) (la
 
 -- ---- markers of the word
 
-module _ {A : Type 0} (columns : ℕ → Option ℕ) (eq : A → A → Bool) (laws : IsEquivalence eq) (b c : Wrapper A) (before given : List (List (Item A))) (p : Progress A) where
+module _ {A : Type 0} (columns : ℕ → Option ℕ) (eq : A → A → Bool) (laws : IsEquivalence eq) (b : Wrapper A) (lines : LaidLines A) (before given : List (List (Item A))) (p : Progress A) where
   -- where the word changes by markers alone
-  word_stands : (is : List (Item A)) → IsAtProgress columns eq b before given p → SameItems eq c.flat.word is → items_width columns is ≡ items_width columns p.word → c.flat.placed ≡ b.flat.placed → c.lines ≡ b.lines → c.line_len ≡ b.line_len → c.line_width ≡ b.line_width →
-      c.space ≡ b.space → c.word_width ≡ b.word_width → c.word_mode ≡ b.word_mode → KeepsLimits b c → c.continuation_flag ≡ b.continuation_flag → c.in_continuation ≡ b.in_continuation → IsAtProgress columns eq c before given (record p { word = is })
-  word_stands is s word wide placed lines len width space word_width mode limits continuation_flag in_continuation = record {
-    lays = lays_same columns eq laws b c limits before given p.laid s.lays (holds_same b c before s.lays.laid s.lays.holds placed lines len width);
-    space = rw space s.space;
+  word_stands : (is : List (Item A)) → IsAtProgress columns eq b before given p → SameItems eq lines.flat.word is → items_width columns is ≡ items_width columns p.word → lines.flat.placed ≡ b.lines.flat.placed → lines.ended ≡ b.lines.ended → lines.line_len ≡ b.lines.line_len →
+      lines.line_width ≡ b.lines.line_width → KeepsLimits b.lines lines → IsAtProgress columns eq (record b { lines = lines }) before given (record p { word = is })
+  word_stands is s word wide placed ended len width limits = record {
+    lays = lays_same columns eq laws b.lines lines limits before given p.laid s.lays (holds_same b.lines lines before s.lays.laid s.lays.holds placed ended len width);
+    space = s.space;
     word = word;
-    word_width = word_width ∙ s.word_width ∙ sym wide;
-    mode = mode ∙ s.mode;
-    continuation_flag = continuation_flag ∙ s.continuation_flag;
-    in_continuation = in_continuation ∙ s.in_continuation;
+    word_width = s.word_width ∙ sym wide;
+    mode = s.mode;
+    continuation_flag = s.continuation_flag;
+    in_continuation = s.in_continuation;
   }
 
   -- a marker joins it
-  pub marked_stands : (name : List ℕ) → IsAtProgress columns eq b before given p → c.flat ≡ record b.flat { word = b.flat.word ++ marker name ∷ [] } → c.lines ≡ b.lines → c.line_len ≡ b.line_len → c.line_width ≡ b.line_width → c.space ≡ b.space → c.word_width ≡ b.word_width → c.word_mode ≡ b.word_mode →
-      KeepsLimits b c → c.continuation_flag ≡ b.continuation_flag → c.in_continuation ≡ b.in_continuation → IsAtProgress columns eq c before given (record p { word = p.word ++ marker name ∷ [] })
-  marked_stands name s flat lines len width space word_width mode limits continuation_flag in_continuation =
-      word_stands (p.word ++ marker name ∷ []) s (rw flat (same_items_append eq laws b.flat.word p.word (marker name ∷ []) (marker name ∷ []) s.word (refl, tt)))
-      (omega (arith, items_width-append columns p.word (marker name ∷ []))) (ap (λ f. f.placed) flat) lines len width space word_width mode limits continuation_flag in_continuation
+  pub marked_stands : (name : List ℕ) → IsAtProgress columns eq b before given p → lines.flat ≡ record b.lines.flat { word = b.lines.flat.word ++ marker name ∷ [] } → lines.ended ≡ b.lines.ended → lines.line_len ≡ b.lines.line_len → lines.line_width ≡ b.lines.line_width → KeepsLimits b.lines lines →
+      IsAtProgress columns eq (record b { lines = lines }) before given (record p { word = p.word ++ marker name ∷ [] })
+  marked_stands name s flat ended len width limits =
+      word_stands (p.word ++ marker name ∷ []) s (rw flat (same_items_append eq laws b.lines.flat.word p.word (marker name ∷ []) (marker name ∷ []) s.word (refl, tt)))
+      (omega (arith, items_width-append columns p.word (marker name ∷ []))) (ap (λ f. f.placed) flat) ended len width limits
 
   -- all of them are taken out
-  pub unmarked_stands : IsAtProgress columns eq b before given p → has_character b.flat.word ≡ false → c.flat ≡ record b.flat { word = [] } → c.lines ≡ b.lines → c.line_len ≡ b.line_len → c.line_width ≡ b.line_width → c.space ≡ b.space → c.word_width ≡ b.word_width → c.word_mode ≡ b.word_mode →
-      KeepsLimits b c → c.continuation_flag ≡ b.continuation_flag → c.in_continuation ≡ b.in_continuation → IsAtProgress columns eq c before given (record p { word = [] })
-  unmarked_stands s none flat lines len width space word_width mode limits continuation_flag in_continuation =
-      word_stands [] s (rw flat tt) (sym (no_character_no_width columns p.word (sym (same_has eq b.flat.word p.word s.word) ∙ none))) (ap (λ f. f.placed) flat) lines len width space word_width mode limits continuation_flag in_continuation
+  pub unmarked_stands : IsAtProgress columns eq b before given p → has_character b.lines.flat.word ≡ false → lines.flat ≡ record b.lines.flat { word = [] } → lines.ended ≡ b.lines.ended → lines.line_len ≡ b.lines.line_len → lines.line_width ≡ b.lines.line_width → KeepsLimits b.lines lines →
+      IsAtProgress columns eq (record b { lines = lines }) before given (record p { word = [] })
+  unmarked_stands s none flat ended len width limits =
+      word_stands [] s (rw flat tt) (sym (no_character_no_width columns p.word (sym (same_has eq b.lines.flat.word p.word s.word) ∙ none))) (ap (λ f. f.placed) flat) ended len width limits

@@ -1,28 +1,27 @@
 -- The block stands where the rule stands.
-use Rattle.std.proofs.Common.{◌≡◌, nat_le, ℕ, ◌+◌, ◌<◌, ◌≤◌, Bool, true, false, if◌then◌else◌, Option, None, Some, List, [], ◌∷◌, ◌++◌, refl, ap, sym, ◌∙◌, subst, arith, append_assoc, append-nil, Result, Ok, Err, OnOk}
+use Rattle.std.proofs.Common.{◌≡◌, nat_le, ℕ, ◌+◌, ◌<◌, ◌≤◌, Bool, true, false, if◌then◌else◌, Option, None, Some, List, [], ◌∷◌, ◌++◌, refl, sym, ◌∙◌, subst, arith, append_assoc, append-nil, Result, Ok, Err, OnOk}
 use borrow.Author.Tests.{le-leb, leb-true, leb-false}
-use Rattle.std.specs.Cmp.{IsEquivalence}
 use Rattle.tbr_model.specs.Run.{Item, items_width, item_width, has_character}
 use Rattle.tbr_model.specs.Laid.{Laid, extended, end_if_character, put_items}
 use Rattle.tbr_model.specs.Greedy.{IsNarrow}
 use Rattle.tbr_model.specs.Rule.{Space, Progress, pending_width, put_pending, is_pre, lay_fresh}
 use Rattle.tbr_tagged.specs.Elements.{SameItems}
-use Rattle.tbr_wrap.specs.Wrapper.{HoldsRule, IsAtProgress, SameSpace, KeepsSettings, KeepsLimits, held_columns}
+use Rattle.tbr_wrap.specs.LaidLines.{HoldsRule}
+use Rattle.tbr_wrap.specs.Wrapper.{IsAtProgress, SameSpace, held_width}
+use Rattle.tbr_wrap.specs.declared.laid_lines.LaidLines.{LaidLines}
 use Rattle.tbr_wrap.specs.declared.wrapper.Wrapper.{Wrapper}
 use Rattle.tbr_wrap.specs.declared.wrapper.Space.{Space as HeldSpace}
 use Rattle.tbr_tagged.proofs.SameItems.{same_width_one}
-use Rattle.tbr_wrap.proofs.lines.HeldLines.{holds_same}
-use Rattle.tbr_wrap.proofs.lines.LaidByRule.{lays_same}
 
 pub on_ok_both : {T E : Type 0} (r : Result T E) (P Q : Type 0) → OnOk r P → OnOk r Q → OnOk r (P × Q)
 on_ok_both (Ok x) P Q p q = (p, q)
 on_ok_both (Err e) P Q p q = tt
 
-pub same_columns : {A : Type 0} (eq : A → A → Bool) (held : Option (HeldSpace A)) (o : Option (Space A)) → SameSpace eq held o → held_columns held ≡ pending_width o
-same_columns eq None None h = refl
-same_columns eq (Some s) (Some t) h = h.0
-same_columns eq None (Some t) h = absurd h
-same_columns eq (Some s) None h = absurd h
+pub same_held_width : {A : Type 0} (eq : A → A → Bool) (held : Option (HeldSpace A)) (o : Option (Space A)) → SameSpace eq held o → held_width held ≡ pending_width o
+same_held_width eq None None h = refl
+same_held_width eq (Some s) (Some t) h = h.0
+same_held_width eq None (Some t) h = absurd h
+same_held_width eq (Some s) None h = absurd h
 
 pub laid_is : {A : Type 0} (l m : Laid A) → l.done ≡ m.done → l.line ≡ m.line → l.width ≡ m.width → l ≡ m
 laid_is l m d e w = rw (d, e, w) refl
@@ -48,20 +47,20 @@ pub mode_given : {X : Type 0} (b : Bool) (x y : X) → b ≡ false → y ≡ (if
 mode_given b x y e = rw e refl
 
 -- more on the lines, and the word as it was
-pub stands_laid : {A : Type 0} (columns : ℕ → Option ℕ) (eq : A → A → Bool) (b c : Wrapper A) (before given : List (List (Item A))) (p : Progress A) (r : Laid A) → IsAtProgress columns eq b before given p → HoldsRule columns eq c before given r → SameItems eq c.flat.word p.word → KeepsSettings b c →
-    IsAtProgress columns eq c before given (record p { laid = r })
-stands_laid columns eq b c before given p r s lays word same = record {
+pub stands_laid : {A : Type 0} (columns : ℕ → Option ℕ) (eq : A → A → Bool) (b : Wrapper A) (lines : LaidLines A) (before given : List (List (Item A))) (p : Progress A) (r : Laid A) → IsAtProgress columns eq b before given p → HoldsRule columns eq lines before given r →
+    SameItems eq lines.flat.word p.word → IsAtProgress columns eq (record b { lines = lines }) before given (record p { laid = r })
+stands_laid columns eq b lines before given p r s lays word = record {
   lays = lays;
-  space = rw same.space s.space;
+  space = s.space;
   word = word;
-  word_width = same.word_width ∙ s.word_width;
-  mode = same.word_mode ∙ s.mode;
-  continuation_flag = same.continuation_flag ∙ s.continuation_flag;
-  in_continuation = same.in_continuation ∙ s.in_continuation;
+  word_width = s.word_width;
+  mode = s.mode;
+  continuation_flag = s.continuation_flag;
+  in_continuation = s.in_continuation;
 }
 
 -- what is pending, by what is held
-pub held_some : {A : Type 0} (eq : A → A → Bool) (o : Option (HeldSpace A)) (held : HeldSpace A) (space : Option (Space A)) → o ≡ Some held → SameSpace eq o space → (s : Space A) × (space ≡ Some s) × (held.columns ≡ s.width) × (eq held.tag s.tag ≡ true) × (held.mode ≡ s.mode)
+pub held_some : {A : Type 0} (eq : A → A → Bool) (o : Option (HeldSpace A)) (held : HeldSpace A) (space : Option (Space A)) → o ≡ Some held → SameSpace eq o space → (s : Space A) × (space ≡ Some s) × (held.width ≡ s.width) × (eq held.tag s.tag ≡ true) × (held.mode ≡ s.mode)
 held_some eq o held None e h = absurd (subst (λ x. SameSpace eq x None) e h)
 held_some eq o held (Some s) e h = let k = subst (λ x. SameSpace eq x (Some s)) e h in (s, refl, k.0, k.1, k.2)
 
@@ -69,17 +68,17 @@ pub held_none : {A : Type 0} (eq : A → A → Bool) (o : Option (HeldSpace A)) 
 held_none eq o None e h = refl
 held_none eq o (Some s) e h = absurd (subst (λ x. SameSpace eq x (Some s)) e h)
 
--- where the pending space is taken out
-pub taken_stands : {A : Type 0} (columns : ℕ → Option ℕ) (eq : A → A → Bool) (laws : IsEquivalence eq) (b c : Wrapper A) (before given : List (List (Item A))) (p : Progress A) → IsAtProgress columns eq b before given p → c.space ≡ None → c.flat ≡ b.flat → c.lines ≡ b.lines → c.line_len ≡ b.line_len → c.line_width ≡ b.line_width →
-    c.word_width ≡ b.word_width → c.word_mode ≡ b.word_mode → KeepsLimits b c → c.continuation_flag ≡ b.continuation_flag → c.in_continuation ≡ b.in_continuation → IsAtProgress columns eq c before given (record p { space = None })
-taken_stands columns eq laws b c before given p s none flat lines len width word_width mode limits continuation_flag in_continuation = record {
-  lays = lays_same columns eq laws b c limits before given p.laid s.lays (holds_same b c before s.lays.laid s.lays.holds (ap (λ f. f.placed) flat) lines len width);
-  space = rw none tt;
-  word = rw flat s.word;
-  word_width = word_width ∙ s.word_width;
-  mode = mode ∙ s.mode;
-  continuation_flag = continuation_flag ∙ s.continuation_flag;
-  in_continuation = in_continuation ∙ s.in_continuation;
+-- where other space is pending
+pub spaced_stands : {A : Type 0} (columns : ℕ → Option ℕ) (eq : A → A → Bool) (b : Wrapper A) (held : Option (HeldSpace A)) (before given : List (List (Item A))) (p : Progress A) (o : Option (Space A)) → IsAtProgress columns eq b before given p → SameSpace eq held o →
+    IsAtProgress columns eq (record b { space = held }) before given (record p { space = o })
+spaced_stands columns eq b held before given p o s space = record {
+  lays = s.lays;
+  space = space;
+  word = s.word;
+  word_width = s.word_width;
+  mode = s.mode;
+  continuation_flag = s.continuation_flag;
+  in_continuation = s.in_continuation;
 }
 
 -- a word with as narrow characters
@@ -99,16 +98,16 @@ pub lay_fresh_none : {A : Type 0} (columns : ℕ → Option ℕ) (width : ℕ) (
 lay_fresh_none columns width p e = rw e refl
 
 -- where the flag for the next call changes
-pub flagged_stands : {A : Type 0} (columns : ℕ → Option ℕ) (eq : A → A → Bool) (laws : IsEquivalence eq) (b c : Wrapper A) (before given : List (List (Item A))) (p : Progress A) (x : Bool) → IsAtProgress columns eq b before given p → c.flat ≡ b.flat → c.lines ≡ b.lines → c.line_len ≡ b.line_len → c.line_width ≡ b.line_width →
-    c.space ≡ b.space → c.word_width ≡ b.word_width → c.word_mode ≡ b.word_mode → KeepsLimits b c → c.in_continuation ≡ b.in_continuation → c.continuation_flag ≡ x → IsAtProgress columns eq c before given (record p { continuation_flag = x })
-flagged_stands columns eq laws b c before given p x s flat lines len width space word_width mode limits in_continuation flag = record {
-  lays = lays_same columns eq laws b c limits before given p.laid s.lays (holds_same b c before s.lays.laid s.lays.holds (ap (λ f. f.placed) flat) lines len width);
-  space = rw space s.space;
-  word = rw flat s.word;
-  word_width = word_width ∙ s.word_width;
-  mode = mode ∙ s.mode;
-  continuation_flag = flag;
-  in_continuation = in_continuation ∙ s.in_continuation;
+pub flagged_stands : {A : Type 0} (columns : ℕ → Option ℕ) (eq : A → A → Bool) (b : Wrapper A) (flag : Bool) (before given : List (List (Item A))) (p : Progress A) (x : Bool) → IsAtProgress columns eq b before given p → flag ≡ x →
+    IsAtProgress columns eq (record b { continuation_flag = flag }) before given (record p { continuation_flag = x })
+flagged_stands columns eq b flag before given p x s is = record {
+  lays = s.lays;
+  space = s.space;
+  word = s.word;
+  word_width = s.word_width;
+  mode = s.mode;
+  continuation_flag = is;
+  in_continuation = s.in_continuation;
 }
 
 pub no_room : (m n : ℕ) → (m ≤ n → ⊥) → n < m

@@ -103,8 +103,8 @@ impl<T> Characters<T> {
 }
 
 impl<T: Drop> Characters<T> {
-    /// Takes away the spaces at the end of the last so many placed characters, and the white space at the beginning of the word's
-    /// first so many ones. It answers how many these were. It takes the time of moving the word, and of going over its stretches.
+    /// Takes away the spaces at the end of the last `last` placed characters, and the white space at the beginning of the word's
+    /// first `first` ones. It answers how many these were. It takes the time of moving the word, and of going over its stretches.
     ///
     /// Where memory is refused the characters stay as they were.
     pub fn trim(&mut self, last: usize, first: usize) -> Result<(usize, usize), OutOfMemory>
@@ -141,7 +141,7 @@ impl<T: Eq + Clone> Characters<T> {
         Ok(())
     }
 
-    /// Places so many spaces before the word. It takes the time of moving the word, and of going over its stretches.
+    /// Places `count` spaces before the word. It takes the time of moving the word, and of going over its stretches.
     ///
     /// Where the spaces part a stretch, the tag is copied, and the word's first characters stand under the copy. Where memory is
     /// refused the characters may be lost.
@@ -163,7 +163,7 @@ impl<T: Eq + Clone> Characters<T> {
         Ok(())
     }
 
-    /// Hands out the first placed characters, at most so many and all under one tag, and answers how many they are.
+    /// Hands out the first placed characters, at most `most` and all under one tag, and answers how many they are.
     ///
     /// Where memory is refused the characters stay as they were.
     pub fn take_piece(&mut self, most: usize) -> Result<(usize, TaggedString<T>), OutOfMemory>

@@ -81,7 +81,7 @@ impl Markers {
         }
     }
 
-    /// Whether the last so many characters and markers are markers alone.
+    /// Whether the last `last` characters and markers are markers alone.
     pub fn ends_with_markers(&self, last: usize) -> bool
         ensures { IsTrue result ↔ EndsWithMarkers last self.now }
     {
@@ -101,7 +101,7 @@ impl Markers {
         true
     }
 
-    /// Notes so many characters behind the last marker. Where they pass `usize` it changes nothing.
+    /// Notes `count` characters behind the last marker. Where they pass `usize` it changes nothing.
     pub fn add_characters(&mut self, count: usize) -> Result<(), OutOfMemory>
         ensures ok { OnOk result (self.new ≡ record self.old { behind = self.old.behind + count }) }
         ensures err { OnErr result (self.new ≡ self.old) }
@@ -158,7 +158,7 @@ impl Markers {
         Some(marker.name)
     }
 
-    /// Takes so many of the last characters away, which stand behind the last marker.
+    /// Takes the last `count` characters away, which stand behind the last marker.
     pub fn remove_last(&mut self, count: usize)
         requires { count ≤ self.old.behind }
         ensures { self.new ≡ record self.old { behind = self.old.behind - count } }
@@ -166,7 +166,7 @@ impl Markers {
         self.behind -= count;
     }
 
-    /// Takes so many of the first characters away, which stand before the first marker.
+    /// Takes the first `count` characters away, which stand before the first marker.
     pub fn remove_first(&mut self, count: usize)
         requires { count ≤ before_first self.old }
         ensures { self.new ≡ shortened count self.old }

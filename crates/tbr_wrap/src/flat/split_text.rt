@@ -93,7 +93,7 @@ impl SplitText {
         }
     }
 
-    /// Places so many spaces before the word. It takes the time of moving the word.
+    /// Places `count` spaces before the word. It takes the time of moving the word.
     ///
     /// Where memory is refused the text stays as it was.
     pub fn push_spaces(&mut self, count: usize) -> Result<(), OutOfMemory>
@@ -119,7 +119,7 @@ impl SplitText {
         Ok(())
     }
 
-    /// How many of the last so many placed characters are spaces at the end. It takes the time of going over these.
+    /// How many of the last `most` placed characters are spaces at the end. It takes the time of going over these.
     pub fn trailing_spaces(&self, most: usize) -> usize
         ensures most { result ≤ most }
         ensures spaces { (front : List ℕ) × (self.now.placed ≡ front ++ replicate result 32) }
@@ -138,7 +138,7 @@ impl SplitText {
         blanks_in_front(&self.text.as_str()[self.word_start..])
     }
 
-    /// Takes away so many spaces at the end of what is placed, and so many of the word's first characters. It takes the time of
+    /// Takes away `spaces` spaces at the end of what is placed, and the word's first `blanks` characters. It takes the time of
     /// moving the word.
     ///
     /// Where memory is refused the text stays as it was.
@@ -166,7 +166,7 @@ impl SplitText {
         text_width::<W>(&self.text.as_str()[self.word_start..])
     }
 
-    /// Hands out the first so many placed characters. It takes the time of going over them.
+    /// Hands out the first `count` placed characters. It takes the time of going over them.
     ///
     /// Where memory is refused the text stays as it was.
     pub fn take(&mut self, count: usize) -> Result<String, OutOfMemory>
@@ -193,7 +193,7 @@ impl SplitText {
     }
 }
 
-/// How many bytes the first so many characters take.
+/// How many bytes the first `count` characters take.
 fn bytes_of(text: &str, count: usize) -> usize
     requires { count ≤ length (chars text.now) }
     ensures { result ≡ length (encodes (take count (chars text.now))) }
@@ -205,7 +205,7 @@ fn bytes_of(text: &str, count: usize) -> usize
     text.len() - rest.as_str().len()
 }
 
-/// How many of the last so many characters are spaces at the end. A space is one byte, and no other character has that byte.
+/// How many of the last `most` characters are spaces at the end. A space is one byte, and no other character has that byte.
 fn spaces_at_end(text: &str, most: usize) -> usize
     ensures most { result ≤ most }
     ensures spaces { (front : List ℕ) × (chars text.now ≡ front ++ replicate result 32) }

@@ -8,7 +8,7 @@ use std::alloc::Global;
 use std::marker::Model;
 use tbr_tagged::OutOfMemory;
 
-/// A character, and so many more behind it, under one tag.
+/// A character and `more` behind it, under one tag.
 #[derive(Drop)]
 pub struct Stretch<T> {
     pub more: usize,
@@ -48,7 +48,7 @@ impl<T> Stretches<T> {
         }
     }
 
-    /// Skips the first so many tags. It takes the time of going over their stretches.
+    /// Skips the first `count` tags. It takes the time of going over their stretches.
     pub fn skip(&mut self, count: usize)
         requires { count ≤ length self.old }
         ensures { self.new ≡ drop count self.old }
@@ -74,7 +74,7 @@ impl<T> Stretches<T> {
 }
 
 impl<T: Drop> Stretches<T> {
-    /// Takes so many tags out in front of the last so many ones. It takes the time of going over the stretches of all these.
+    /// Takes `count` tags out in front of the last `last` ones. It takes the time of going over the stretches of all these.
     pub fn remove_before(&mut self, last: usize, count: usize)
         requires within { last + count ≤ length self.old }
         requires fits { last + count ≤ usize.MAX }
@@ -116,7 +116,7 @@ impl<T: Eq + Clone> Stretches<T> {
         Ok(())
     }
 
-    /// A copy of the first tag, and how many tags, at most so many, are one stretch with it.
+    /// A copy of the first tag, and how many tags, at most `most`, are one stretch with it.
     pub fn first(&self, most: usize) -> Result<(usize, T), OutOfMemory>
         requires faithful { CopiesAreEqual T.is_clone T.eq }
         requires some { 0 < most }
@@ -130,7 +130,7 @@ impl<T: Eq + Clone> Stretches<T> {
         Ok((count, tag))
     }
 
-    /// Adds a tag so many times before the last so many ones. It takes the time of going over the stretches of these.
+    /// Adds `tag` `count` times before the last `last` ones. It takes the time of going over the stretches of these.
     ///
     /// Where it parts a stretch, the part behind it stands under a copy of its tag.
     pub fn insert_before(&mut self, last: usize, count: usize, tag: T) -> Result<(), OutOfMemory>
@@ -172,14 +172,14 @@ fn lengthen<T>(stretch: &mut Stretch<T>, count: usize) -> Result<(), OutOfMemory
     Ok(())
 }
 
-/// A place among stretches: behind so many tags of one, or before it.
+/// A place among stretches: behind the first `offset` tags of one, or before it.
 #[derive(Clone, Copy)]
 struct Place {
     stretch: usize,
     offset: usize,
 }
 
-/// Where the last so many tags begin.
+/// Where the last `last` tags begin.
 fn place_before<T>(stretches: &[Stretch<T>], last: usize) -> Place
     requires { last ≤ length (tags_of stretches.now) }
     ensures stretch { result.stretch ≤ length stretches.now }
@@ -229,7 +229,7 @@ fn begin_at<T>(stretches: &mut Vec<Stretch<T>>, place: Place)
     }
 }
 
-/// Ends a stretch behind so many of its tags, and answers what came behind them, under a copy of the tag.
+/// Ends a stretch behind its first `offset` tags, and answers what came behind them, under a copy of the tag.
 ///
 /// Where memory is refused the stretch stays as it was.
 fn split_off<T: Eq + Clone>(

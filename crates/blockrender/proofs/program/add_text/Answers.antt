@@ -1,4 +1,4 @@
-use Rattle.std.proofs.Common.{Some, sym, subst}
+use Rattle.std.proofs.Common.{Some, ap, sym, subst}
 use Rattle.std.specs.Str.{chars}
 use Rattle.std.proofs.lemmas.Result.{on_ok_weaker}
 use Rattle.tbr_lines.specs.State.{State}
@@ -11,7 +11,13 @@ pub returns-clause-live : goal.returns-clause-live
 returns-clause-live g c =
     let live = c.requires.live in
     let normal = normal_with c.args.block.now.run (chars c.args.text.now) tt tt live.5 in
-    on_ok_weaker c.add_text.result (λ e. subst (λ (s : State (Unit {0})). IsLive (Some s)) (sym e) (live.0, live.1, live.2, live.3, live.4, normal)) c.add_text.ensures.ok
+    on_ok_weaker c.add_text.result (λ joins. subst (λ (s : State (Unit {0})). IsLive (Some s)) (sym joins.is) (live.0, live.1, live.2, live.3, live.4, normal)) c.add_text.ensures.ok
+
+pub returns-clause-width : goal.returns-clause-width
+returns-clause-width g c = on_ok_weaker c.add_text.result (λ joins. ap (λ (s : State (Unit {0})). s.width) joins.is) c.add_text.ensures.ok
+
+pub returns-clause-run : goal.returns-clause-run
+returns-clause-run g c = on_ok_weaker c.add_text.result (λ joins. ap (λ (s : State (Unit {0})). s.run) joins.is) c.add_text.ensures.ok
 
 pub returns-clause-fit : goal.returns-clause-fit
 returns-clause-fit g c =

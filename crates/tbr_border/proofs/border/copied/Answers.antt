@@ -2,7 +2,8 @@ use Rattle.std.proofs.Common.{map, take, refl}
 use Rattle.std.proofs.lemmas.List.{map_push}
 use Rattle.tbr_border.specs.BorderView.{hole_of}
 use Rattle.tbr_tagged.proofs.ElementLoops.{one_more}
-use Rattle.tbr_border.proofs.HolesInOrder.{same_holes_push}
+use Rattle.std.proofs.lemmas.List.Elements.{AllZip-push}
+use Rattle.tbr_border.specs.Border.{SameHole}
 use Rattle.tbr_border.proofs.border.copied.Goals as goal
 
 pub loop-span-preserved : goal.loop-span-preserved
@@ -12,5 +13,5 @@ loop-span-preserved g c =
       map_push,
       one_more hole_of c.args.holes.now c.loop-span.span-index c.span-item.result c.loop-span-test.true c.span-item.is,
     )
-    (same_holes_push g.T.PartialEq.eq (map hole_of c.loop-span.copies.items) (map hole_of (take c.loop-span.span-index c.args.holes.now)) _ (hole_of c.span-item.result)
+    (AllZip-push (SameHole g.T.PartialEq.eq) (map hole_of c.loop-span.copies.items) (map hole_of (take c.loop-span.span-index c.args.holes.now)) _ (hole_of c.span-item.result)
     c.loop-span.invariant (refl, refl, c.in_ok-clone.ensures))

@@ -7,8 +7,7 @@ use Rattle.std.proofs.lemmas.Result.{on_ok_weaker}
 use Rattle.tbr_tagged.specs.Elements.{items_of, text_items, SameItems}
 use Rattle.tbr_border.specs.Cell.{cell_of, character}
 use Rattle.tbr_border.specs.Border.{drawn}
-use Rattle.tbr_tagged.proofs.SameItems.{same_items, same_items_append, same_items_trans, same_from_path}
-use Rattle.tbr_tagged.proofs.TextInFront.{same_texts}
+use Rattle.tbr_tagged.proofs.SameItems.{same_items, same_items_append, same_items_trans, same_from_path, same_texts}
 use Rattle.tbr_border.proofs.border.push_cells.Goals as goal
 
 pub returns-then-is_empty-clause-items : goal.returns-then-is_empty-clause-items

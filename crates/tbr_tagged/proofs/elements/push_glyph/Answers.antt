@@ -1,9 +1,11 @@
 use Rattle.std.proofs.Common.{◌≡◌, sym, ◌∙◌, ap, [], ◌∷◌, length, ◌-◌, true, arith, option_map, slice_get, map}
 use Rattle.std.proofs.lemmas.List.{map_push}
 use Rattle.std.proofs.lemmas.Result.{on_ok_weaker, on_err_weaker}
-use Rattle.tbr_tagged.specs.Elements.{is_piece_under, with_text, push_text, piece}
+use Rattle.tbr_tagged.specs.Elements.{SameElement, is_piece_under, with_text, push_text, piece}
 use Rattle.tbr_tagged.specs.View.{element_of}
-use Rattle.tbr_tagged.proofs.TextBehind.{push_under, push_else, map-set_same, same_elements, same_elements_push}
+use Rattle.std.proofs.lemmas.List.Elements.{AllZip-push}
+use Rattle.std.proofs.Math.Seq.{map-set_same}
+use Rattle.tbr_tagged.proofs.TextBehind.{push_under, push_else, same_elements}
 use Rattle.tbr_tagged.proofs.elements.push_glyph.Goals as goal
 
 pub returns-then-is_under-clause-ok : goal.returns-then-is_under-clause-ok
@@ -18,7 +20,7 @@ returns-then-is_under-clause-ok g c =
 
 pub returns-then-is_under-clause-err : goal.returns-then-is_under-clause-err
 returns-then-is_under-clause-err g c =
-    on_err_weaker c.extend_by_char.result (λ h. map-set_same element_of c.args.elements.now.items (c.len-end.result - 1) c.index_mut.result.now c.extend_by_char.new.element (h ∙ ap element_of c.index_mut.ensures.value)) c.extend_by_char.ensures.err
+    on_err_weaker c.extend_by_char.result (λ h. map-set_same element_of c.args.elements.now.items (c.len-end.result - 1) c.extend_by_char.new.element c.index_mut.result.now (h ∙ ap element_of c.index_mut.ensures.value)) c.extend_by_char.ensures.err
 
 pub returns-clause-ok : goal.returns-clause-ok
 returns-clause-ok g c =
@@ -29,4 +31,4 @@ returns-clause-ok g c =
       c.in_ok-push.ensures.items,
       map_push,
     )
-    (same_elements_push eq g.met.T.Eq.laws (map element_of c.args.elements.now.items) (element_of c.in_ok-piece.piece) (piece (c.args.c ∷ []) c.args.tag.now) c.in_ok-piece.ensures)
+    (AllZip-push (SameElement eq) (map element_of c.args.elements.now.items) (map element_of c.args.elements.now.items) (element_of c.in_ok-piece.piece) (piece (c.args.c ∷ []) c.args.tag.now) (same_elements eq g.met.T.Eq.laws (map element_of c.args.elements.now.items)) c.in_ok-piece.ensures)

@@ -5,7 +5,8 @@ use Rattle.std.specs.String.{string_bytes}
 use Rattle.std.proofs.lemmas.Str.{IsUtf8-string_bytes}
 use Rattle.tbr_tagged.specs.Elements.{is_piece_under, with_text}
 use Rattle.tbr_tagged.specs.View.{element_of}
-use Rattle.tbr_tagged.proofs.TextBehind.{push_under, push_else, map-set_same, chars_some}
+use Rattle.std.proofs.Math.Seq.{map-set_same}
+use Rattle.tbr_tagged.proofs.TextBehind.{push_under, push_else, chars_some}
 use Rattle.tbr_tagged.proofs.elements.push_piece.Goals as goal
 
 pub returns-then-is_under-clause-ok : goal.returns-then-is_under-clause-ok
@@ -19,7 +20,7 @@ returns-then-is_under-clause-ok g c =
 
 pub returns-then-is_under-clause-err : goal.returns-then-is_under-clause-err
 returns-then-is_under-clause-err g c =
-    on_err_weaker c.extend.result (λ h. map-set_same element_of c.args.elements.now.items (c.len-end.result - 1) c.index_mut.result.now c.extend.new.element (h ∙ ap element_of c.index_mut.ensures.value)) c.extend.ensures.err
+    on_err_weaker c.extend.result (λ h. map-set_same element_of c.args.elements.now.items (c.len-end.result - 1) c.extend.new.element c.index_mut.result.now (h ∙ ap element_of c.index_mut.ensures.value)) c.extend.ensures.err
 
 pub returns-clause-ok : goal.returns-clause-ok
 returns-clause-ok g c =

@@ -2,10 +2,12 @@ use Rattle.std.proofs.Common.{◌≡◌, ◌-◌, ◌<◌, sym, ◌∙◌, ap, l
 use Rattle.std.specs.String.{string_bytes}
 use Rattle.std.proofs.lemmas.List.{map_push, length-replicate}
 use Rattle.std.proofs.lemmas.Result.{on_ok_weaker, on_err_weaker}
-use Rattle.tbr_tagged.specs.Elements.{is_piece_under, with_text, push_text, piece}
+use Rattle.tbr_tagged.specs.Elements.{SameElement, is_piece_under, with_text, push_text, piece}
 use Rattle.tbr_tagged.specs.Padding.{spaces}
 use Rattle.tbr_tagged.specs.View.{element_of}
-use Rattle.tbr_tagged.proofs.TextBehind.{push_under, push_else, map-set_same, same_elements, same_elements_push}
+use Rattle.std.proofs.lemmas.List.Elements.{AllZip-push}
+use Rattle.std.proofs.Math.Seq.{map-set_same}
+use Rattle.tbr_tagged.proofs.TextBehind.{push_under, push_else, same_elements}
 use Rattle.tbr_tagged.proofs.padding.push_spaces.Goals as goal
 
 pub returns-then-count-eq0-clause-ok : goal.returns-then-count-eq0-clause-ok
@@ -25,7 +27,7 @@ returns-then-is_under-clause-ok g c =
 
 pub returns-then-is_under-clause-err : goal.returns-then-is_under-clause-err
 returns-then-is_under-clause-err g c =
-    on_err_weaker c.extend.result (λ h. map-set_same element_of c.args.elements.now.items (c.len-end.result - 1) c.index_mut.result.now c.extend.new.element (h ∙ ap element_of c.index_mut.ensures.value)) c.extend.ensures.err
+    on_err_weaker c.extend.result (λ h. map-set_same element_of c.args.elements.now.items (c.len-end.result - 1) c.extend.new.element c.index_mut.result.now (h ∙ ap element_of c.index_mut.ensures.value)) c.extend.ensures.err
 
 pub returns-clause-ok : goal.returns-clause-ok
 returns-clause-ok g c =
@@ -36,4 +38,4 @@ returns-clause-ok g c =
       c.in_ok-push.ensures.items,
       map_push,
     )
-    (same_elements_push eq g.met.T.Eq.laws (map element_of c.args.elements.now.items) (piece (chars (string_bytes c.in_ok-piece.piece.s)) c.in_ok-piece.piece.tag) (piece (spaces c.args.count) c.args.tag.now) (c.in_ok-piece.ensures.text, c.in_ok-piece.ensures.tag))
+    (AllZip-push (SameElement eq) (map element_of c.args.elements.now.items) (map element_of c.args.elements.now.items) (piece (chars (string_bytes c.in_ok-piece.piece.s)) c.in_ok-piece.piece.tag) (piece (spaces c.args.count) c.args.tag.now) (same_elements eq g.met.T.Eq.laws (map element_of c.args.elements.now.items)) (c.in_ok-piece.ensures.text, c.in_ok-piece.ensures.tag))

@@ -10,13 +10,13 @@ pub returns-in_default : goal.returns-in_default
 returns-in_default g c =
     let columns = g.W.CharWidth.columns in
     let w = turn_and_rest (YieldsList-from_chars c.args.s.now c.utf8.s cc) c.loop-c.yielded _ c.loop-c.yielded_by _ _ c.in-Some.c c.in-Some.is c.next.ensures.steps in
-    let one : c.unwrap_or-columns.result ≡ unwrap_or (columns c.in-Some.c) 0 = c.unwrap_or-columns.ensures ∙ ap (λ o. unwrap_or o 0) c.width.ensures in
+    let one : c.unwrap_or-more.result ≡ unwrap_or (columns c.in-Some.c) 0 = c.unwrap_or-more.ensures ∙ ap (λ o. unwrap_or o 0) c.width.ensures in
     omega (arith, c.in_default.ensures, c.loop-c.invariant, one, ap (width_of_text columns) w.1, width_of_text-append columns c.loop-c.yielded (c.in-Some.c ∷ w.0))
 
 pub loop-c-preserved : goal.loop-c-preserved
 loop-c-preserved g c =
     let columns = g.W.CharWidth.columns in
-    let one : c.unwrap_or-columns.result ≡ unwrap_or (columns c.in-Some.c) 0 = c.unwrap_or-columns.ensures ∙ ap (λ o. unwrap_or o 0) c.width.ensures in
+    let one : c.unwrap_or-more.result ≡ unwrap_or (columns c.in-Some.c) 0 = c.unwrap_or-more.ensures ∙ ap (λ o. unwrap_or o 0) c.width.ensures in
     omega (arith, c.in-Some-checked_add.ensures, c.loop-c.invariant, one, width_of_text-append columns c.loop-c.yielded (c.in-Some.c ∷ []))
 
 pub returns : goal.returns

@@ -2,14 +2,15 @@ use Rattle.std.proofs.Common.{◌≡◌, map, map-id, sym, ◌∙◌}
 use Rattle.std.proofs.lemmas.Iterator.Adapters.{YieldsList-from_vec}
 use Rattle.std.proofs.lemmas.Iterator.Consumers.{YieldsList-end}
 use Rattle.std.proofs.lemmas.List.{map_push}
+use Rattle.std.proofs.lemmas.Slice.Zip.{all_zipped_more}
 use Rattle.tbr_tagged.specs.View.{element_of}
-use Rattle.tbr_tagged.proofs.MappedTags.{maps_push, mapped_characters, mapped_width}
+use Rattle.tbr_tagged.proofs.MappedTags.{mapped_characters, mapped_width}
 use Rattle.tbr_tagged.proofs.tagged_line.TaggedLine.map_tag.Goals as goal
 
 pub loop-element-preserved : goal.loop-element-preserved
 loop-element-preserved g c =
     rw (c.in_ok-push.ensures.items, map_push, map_push)
-    (maps_push _ (map element_of c.loop-element.yielded) (map element_of c.loop-element.elements.items) (element_of c.in-Some.element) (element_of c.map_tag.result)
+    (all_zipped_more _ (map element_of c.loop-element.yielded) (map element_of c.loop-element.elements.items) (element_of c.in-Some.element) (element_of c.map_tag.result)
     c.loop-element.invariant c.map_tag.ensures.mapped)
 
 pub returns-clause-mapped : goal.returns-clause-mapped

@@ -34,12 +34,12 @@ returns-in_err-break_word-in-PreWrap-clause-too_narrow g c = λ e before given p
 pub preserve-requires-then-is_wordbreak_point-clause-stands : goal.preserve-requires-then-is_wordbreak_point-clause-stands
 preserve-requires-then-is_wordbreak_point-clause-stands g c =
     let w = c.requires.stands in
-    (w.0, w.1, break_word g.W.CharWidth.columns c.args.self.now.width w.2, c.in_ok-break_word-in-PreWrap.ensures.laid w.0 w.1 w.2 w.3)
+    (w.0, w.1, break_word g.W.CharWidth.columns c.args.self.now.lines.width w.2, c.in_ok-break_word-in-PreWrap.ensures.laid w.0 w.1 w.2 w.3)
 
 pub returns-then-is_wordbreak_point-clause-too_narrow : goal.returns-then-is_wordbreak_point-clause-too_narrow
 returns-then-is_wordbreak_point-clause-too_narrow g c = λ e before given p s.
     let columns = g.W.CharWidth.columns in
-    let width = c.args.self.now.width in
+    let width = c.args.self.now.lines.width in
     let b = c.in_ok-break_word-in-PreWrap.ensures in
     let k = c.preserve-then-is_wordbreak_point.ensures.too_narrow e before given (break_word columns width p) (b.laid before given p s) in
     let mode = c.in-PreWrap.is in

@@ -14,14 +14,14 @@ returns-in_err-break_word-clause-too_narrow g c = λ e before given p s.
     (k.0, sym c.is_wordbreak_point.ensures ∙ c.if-is_wordbreak_point.true, k.1, k.2)
 
 pub returns-then-is_wordbreak_point-clause-entered : goal.returns-then-is_wordbreak_point-clause-entered
-returns-then-is_wordbreak_point-clause-entered g c = λ before given p a same s.
+returns-then-is_wordbreak_point-clause-entered g c = λ a same before given p s.
     let columns = g.W.CharWidth.columns in
-    rw (normal_break columns c.args.self.now.width c.args.c a p (sym c.is_wordbreak_point.ensures ∙ c.if-is_wordbreak_point.true))
-    (c.in_ok-collapse.ensures.after_change columns before given (break_word columns c.args.self.now.width p) a same (c.in_ok-break_word.ensures.laid before given p s))
+    rw (normal_break columns c.args.self.now.lines.width c.args.c a p (sym c.is_wordbreak_point.ensures ∙ c.if-is_wordbreak_point.true))
+    (c.in_ok-collapse.ensures.after_change columns a same before given (break_word columns c.args.self.now.lines.width p) (c.in_ok-break_word.ensures.laid before given p s))
 
 pub returns-in_ok-join-clause-entered : goal.returns-in_ok-join-clause-entered
-returns-in_ok-join-clause-entered g c = λ before given p a same s.
+returns-in_ok-join-clause-entered g c = λ a same before given p s.
     let columns = g.W.CharWidth.columns in
     let is = sym c.width.ensures ∙ c.in-Some.is in
-    rw (normal_kept columns c.args.self.now.width c.args.c a p c.in-Some.columns (sym c.is_wordbreak_point.ensures ∙ c.if-is_wordbreak_point.false) is)
-    (c.in_ok-join.ensures.joined columns before given p a is same s)
+    rw (normal_kept columns c.args.self.now.lines.width c.args.c a p c.in-Some.width (sym c.is_wordbreak_point.ensures ∙ c.if-is_wordbreak_point.false) is)
+    (c.in_ok-join.ensures.joined columns a is same before given p s)

@@ -8,6 +8,7 @@ use Rattle.tbr_tagged.specs.declared.error.Error.TheVariants as E
 use Rattle.tbr_model.specs.Layout.{joined}
 use Rattle.tbr_model.proofs.words.Items.{no_character_no_width}
 use Rattle.tbr_tagged.proofs.SameItems.{same_has}
+use Rattle.tbr_wrap.proofs.lines.HeldLines.{keeps_trans}
 use Rattle.tbr_wrap.proofs.words.RunEnds.{fresh_none, append_none, run_finished}
 use Rattle.tbr_wrap.proofs.wrapper.Wrapper.finish.Goals as goal
 
@@ -24,14 +25,13 @@ returns-clause-finished g c = λ before given p s.
     let eq = g.T.PartialEq.eq in
     let b = c.args.self.now in
     let d = c.end_if_character.new.self in
-    let q = flush_word columns b.width p in
+    let q = flush_word columns b.lines.width p in
     let k = c.in_ok-flush_word.ensures in
     let f = c.in_ok-end_if_character.ensures in
     let t = k.laid before given p s in
     let l = f.ended columns before given q.laid t.lays in
     let word = subst (λ is. SameItems eq is q.word) (sym (ap (λ x. x.word) f.flat)) t.word in
-    let none = append_none (end_if_character q.laid).line q.word (fresh_none q.laid) (flush_flushes columns b.width p) in
+    let none = append_none (end_if_character q.laid).line q.word (fresh_none q.laid) (flush_flushes columns b.lines.width p) in
     let u = c.in_ok-unplace.ensures (joined (before ++ l.0.laid.done)) l.0.laid.line l.0.holds.placed (sym l.0.holds.len) (same_has eq l.0.laid.line (end_if_character q.laid).line l.0.shows.last ∙ fresh_none q.laid) in
-    run_finished columns eq g.met.T.Eq.laws b d _ before given p l.0 word none
-    (f.same.width ∙ k.limits.width) (f.same.may_overflow ∙ k.limits.may_overflow) (ap (λ x. x.placed) u) (ap (λ x. x.word) u) refl refl l.1
-    (f.same.word_width ∙ t.word_width ∙ no_character_no_width columns q.word (flush_flushes columns b.width p)) (f.same.width ∙ k.limits.width) (f.same.may_overflow ∙ k.limits.may_overflow) refl refl refl refl
+    run_finished columns eq g.met.T.Eq.laws b _ d before given p l.0 word none (keeps_trans b.lines c.flush_word.new.self.lines d k.limits f.limits)
+    (ap (λ x. x.placed) u) (ap (λ x. x.word) u) refl refl l.1 (t.word_width ∙ no_character_no_width columns q.word (flush_flushes columns b.lines.width p)) refl refl refl refl

@@ -5,16 +5,16 @@ use Rattle.tbr_wrap.proofs.wrapper.Wrapper.flush_word.Goals as goal
 
 pub returns-then-not-has_word-clause-laid : goal.returns-then-not-has_word-clause-laid
 returns-then-not-has_word-clause-laid g c = λ before given p s.
-    let none : has_character p.word ≡ false = sym (same_has g.T.PartialEq.eq c.args.self.now.flat.word p.word s.word) ∙ sym c.has_word.ensures ∙ c.if-not-has_word.true in
+    let none : has_character p.word ≡ false = sym (same_has g.T.PartialEq.eq c.args.self.now.lines.flat.word p.word s.word) ∙ sym c.has_word.ensures ∙ c.if-not-has_word.true in
     rw none s
 
 pub returns-clause-laid : goal.returns-clause-laid
 returns-clause-laid g c = λ before given p s.
-    let has : has_character p.word ≡ true = sym (same_has g.T.PartialEq.eq c.args.self.now.flat.word p.word s.word) ∙ sym c.has_word.ensures ∙ c.if-not-has_word.false in
+    let has : has_character p.word ≡ true = sym (same_has g.T.PartialEq.eq c.args.self.now.lines.flat.word p.word s.word) ∙ sym c.has_word.ensures ∙ c.if-not-has_word.false in
     rw has (c.lay.ensures.laid before given p s)
 
 pub returns-clause-too_narrow : goal.returns-clause-too_narrow
 returns-clause-too_narrow g c = λ refused before given p s.
-    let has : has_character p.word ≡ true = sym (same_has g.T.PartialEq.eq c.args.self.now.flat.word p.word s.word) ∙ sym c.has_word.ensures ∙ c.if-not-has_word.false in
+    let has : has_character p.word ≡ true = sym (same_has g.T.PartialEq.eq c.args.self.now.lines.flat.word p.word s.word) ∙ sym c.has_word.ensures ∙ c.if-not-has_word.false in
     let n = c.lay.ensures.too_narrow refused before given p s in
     (n.0, has, n.1)

@@ -4,11 +4,11 @@ use Rattle.tbr_wrap.proofs.words.ModeCases.{tag_wrap, tag_main}
 use Rattle.tbr_wrap.proofs.wrapper.Wrapper.keep_character.Goals as goal
 
 pub returns-then-begins_continuation-clause-kept : goal.returns-then-begins_continuation-clause-kept
-returns-then-begins_continuation-clause-kept g c = λ widths before given p width s.
-    let test : (is_pre c.args.mode && passes widths c.args.self.now.width c.args.columns p) ≡ true = sym (c.begins_continuation.ensures widths before given p s) ∙ c.if-begins_continuation.true in
-    rw test (c.join.ensures.joined widths before given (record p { continuation_flag = true; in_continuation = true }) c.args.wrap_tag.now width (g.met.T.Eq.laws.refl c.args.wrap_tag.now)
+returns-then-begins_continuation-clause-kept g c = λ columns wide before given p s.
+    let test : (is_pre c.args.mode && passes columns c.args.self.now.lines.width c.args.width p) ≡ true = sym (c.begins_continuation.ensures columns before given p s) ∙ c.if-begins_continuation.true in
+    rw test (c.join.ensures.joined columns c.args.wrap_tag.now wide (g.met.T.Eq.laws.refl c.args.wrap_tag.now) before given (record p { continuation_flag = true; in_continuation = true })
     (record {
-      lays = record { laid = s.lays.laid; holds = record { placed = s.lays.holds.placed; lens = s.lays.holds.lens; len = s.lays.holds.len; width = s.lays.holds.width }; shows = s.lays.shows; measured = s.lays.measured };
+      lays = s.lays;
       space = s.space;
       word = s.word;
       word_width = s.word_width;
@@ -18,13 +18,13 @@ returns-then-begins_continuation-clause-kept g c = λ widths before given p widt
     }))
 
 pub returns-then-self-clause-kept : goal.returns-then-self-clause-kept
-returns-then-self-clause-kept g c = λ widths before given p width s.
-    let test : (is_pre c.args.mode && passes widths c.args.self.now.width c.args.columns p) ≡ false = sym (c.begins_continuation.ensures widths before given p s) ∙ c.if-begins_continuation.false in
-    rw test (c.join-then-self.ensures.joined widths before given p (tag_of p c.args.main_tag.now c.args.wrap_tag.now) width
-    (tag_wrap g.T.PartialEq.eq g.met.T.Eq.laws p c.args.main_tag.now c.args.wrap_tag.now (sym s.in_continuation ∙ c.if-self.true)) s)
+returns-then-self-clause-kept g c = λ columns wide before given p s.
+    let test : (is_pre c.args.mode && passes columns c.args.self.now.lines.width c.args.width p) ≡ false = sym (c.begins_continuation.ensures columns before given p s) ∙ c.if-begins_continuation.false in
+    rw test (c.join-then-self.ensures.joined columns (tag_of p c.args.main_tag.now c.args.wrap_tag.now) wide
+    (tag_wrap g.T.PartialEq.eq g.met.T.Eq.laws p c.args.main_tag.now c.args.wrap_tag.now (sym s.in_continuation ∙ c.if-self.true)) before given p s)
 
 pub returns-clause-kept : goal.returns-clause-kept
-returns-clause-kept g c = λ widths before given p width s.
-    let test : (is_pre c.args.mode && passes widths c.args.self.now.width c.args.columns p) ≡ false = sym (c.begins_continuation.ensures widths before given p s) ∙ c.if-begins_continuation.false in
-    rw test (c.join-2.ensures.joined widths before given p (tag_of p c.args.main_tag.now c.args.wrap_tag.now) width
-    (tag_main g.T.PartialEq.eq g.met.T.Eq.laws p c.args.main_tag.now c.args.wrap_tag.now (sym s.in_continuation ∙ c.if-self.false)) s)
+returns-clause-kept g c = λ columns wide before given p s.
+    let test : (is_pre c.args.mode && passes columns c.args.self.now.lines.width c.args.width p) ≡ false = sym (c.begins_continuation.ensures columns before given p s) ∙ c.if-begins_continuation.false in
+    rw test (c.join-2.ensures.joined columns (tag_of p c.args.main_tag.now c.args.wrap_tag.now) wide
+    (tag_main g.T.PartialEq.eq g.met.T.Eq.laws p c.args.main_tag.now c.args.wrap_tag.now (sym s.in_continuation ∙ c.if-self.false)) before given p s)

@@ -1,4 +1,4 @@
-use Rattle.std.proofs.Common.{◌≡◌, true, false, [], None, refl, sym, ap, ◌∙◌, arith, subst}
+use Rattle.std.proofs.Common.{◌≡◌, true, false, [], None, sym, ap, ◌∙◌, arith, subst}
 use Rattle.std.proofs.lemmas.Result.{on_ok_weaker}
 use Rattle.tbr_model.specs.Run.{has_character}
 use Rattle.tbr_model.specs.Greedy.{IsNarrow}
@@ -20,12 +20,12 @@ returns-clause-laid g c = λ before given p s.
     let eq = g.T.PartialEq.eq in
     let b = c.args.self.now in
     let k = c.in_ok-end_if_character.ensures in
-    let t = stands_laid columns eq b c.end_if_character.new.self before given p (end_if_character p.laid) s (k.ended columns before given p.laid s.lays).0 (rw k.flat s.word) k.same in
+    let t = stands_laid columns eq b c.end_if_character.new.self before given p (end_if_character p.laid) s (k.ended columns before given p.laid s.lays).0 (rw k.flat s.word) in
     let u = c.in_ok-put_pending.ensures.put before given (record p { laid = end_if_character p.laid }) t in
-    let none : has_character p.word ≡ false = sym (same_has eq c.put_pending.new.self.flat.word p.word u.word) ∙ sym c.has_word.ensures ∙ c.if-has_word.false in
-    let v = subst (λ n. IsAtProgress columns eq c.put_pending.new.self before given (record p { laid = put_pending n p.space (end_if_character p.laid); space = None })) k.same.width u in
-    rw (lay_fresh_none columns b.width p none)
-    (flagged_stands columns eq g.met.T.Eq.laws c.put_pending.new.self _ before given _ (is_pre p.mode) v refl refl refl refl refl refl refl (record { width = refl; may_overflow = refl }) refl (c.is_pre-self.ensures ∙ ap is_pre u.mode))
+    let none : has_character p.word ≡ false = sym (same_has eq c.put_pending.new.self.lines.flat.word p.word u.word) ∙ sym c.has_word.ensures ∙ c.if-has_word.false in
+    let v = subst (λ n. IsAtProgress columns eq c.put_pending.new.self before given (record p { laid = put_pending n p.space (end_if_character p.laid); space = None })) k.limits.width u in
+    rw (lay_fresh_none columns b.lines.width p none)
+    (flagged_stands columns eq c.put_pending.new.self _ before given _ (is_pre p.mode) v (c.is_pre-self.ensures ∙ ap is_pre u.mode))
 
 pub returns-then-has_word-clause-laid : goal.returns-then-has_word-clause-laid
 returns-then-has_word-clause-laid g c = λ before given p s.
@@ -33,15 +33,15 @@ returns-then-has_word-clause-laid g c = λ before given p s.
     let eq = g.T.PartialEq.eq in
     let b = c.args.self.now in
     let k = c.in_ok-end_if_character.ensures in
-    let t = stands_laid columns eq b c.end_if_character.new.self before given p (end_if_character p.laid) s (k.ended columns before given p.laid s.lays).0 (rw k.flat s.word) k.same in
+    let t = stands_laid columns eq b c.end_if_character.new.self before given p (end_if_character p.laid) s (k.ended columns before given p.laid s.lays).0 (rw k.flat s.word) in
     let u = c.in_ok-put_pending.ensures.put before given (record p { laid = end_if_character p.laid }) t in
-    let f = flagged_stands columns eq g.met.T.Eq.laws c.put_pending.new.self _ before given _ (is_pre p.mode) u refl refl refl refl refl refl refl (record { width = refl; may_overflow = refl }) refl (c.is_pre-self.ensures ∙ ap is_pre u.mode) in
+    let f = flagged_stands columns eq c.put_pending.new.self _ before given _ (is_pre p.mode) u (c.is_pre-self.ensures ∙ ap is_pre u.mode) in
     let v = c.put_fresh.ensures.put before given _ f in
-    let w : c.put_pending.new.self.width ≡ b.width = c.in_ok-put_pending.ensures.limits.width ∙ k.same.width in
-    let some : has_character p.word ≡ true = sym (same_has eq c.put_pending.new.self.flat.word p.word u.word) ∙ sym c.has_word.ensures ∙ c.if-has_word.true in
-    rw (lay_fresh_some columns b.width p some)
-    (on_ok_weaker c.put_fresh.result (λ x. subst (λ n. IsAtProgress columns eq c.put_fresh.new.self before given (record p { laid = put_items columns n (put_pending b.width p.space (end_if_character p.laid)) p.word; space = None; word = []; continuation_flag = is_pre p.mode })) w
-    (subst (λ n. IsAtProgress columns eq c.put_fresh.new.self before given (record p { laid = put_items columns c.put_pending.new.self.width (put_pending n p.space (end_if_character p.laid)) p.word; space = None; word = []; continuation_flag = is_pre p.mode })) k.same.width x)) v)
+    let w : c.put_pending.new.self.lines.width ≡ b.lines.width = c.in_ok-put_pending.ensures.limits.width ∙ k.limits.width in
+    let some : has_character p.word ≡ true = sym (same_has eq c.put_pending.new.self.lines.flat.word p.word u.word) ∙ sym c.has_word.ensures ∙ c.if-has_word.true in
+    rw (lay_fresh_some columns b.lines.width p some)
+    (on_ok_weaker c.put_fresh.result (λ x. subst (λ n. IsAtProgress columns eq c.put_fresh.new.self before given (record p { laid = put_items columns n (put_pending b.lines.width p.space (end_if_character p.laid)) p.word; space = None; word = []; continuation_flag = is_pre p.mode })) w
+    (subst (λ n. IsAtProgress columns eq c.put_fresh.new.self before given (record p { laid = put_items columns c.put_pending.new.self.lines.width (put_pending n p.space (end_if_character p.laid)) p.word; space = None; word = []; continuation_flag = is_pre p.mode })) k.limits.width x)) v)
 
 pub returns-then-has_word-clause-too_narrow : goal.returns-then-has_word-clause-too_narrow
 returns-then-has_word-clause-too_narrow g c = λ refused before given p s.
@@ -49,9 +49,9 @@ returns-then-has_word-clause-too_narrow g c = λ refused before given p s.
     let eq = g.T.PartialEq.eq in
     let b = c.args.self.now in
     let k = c.in_ok-end_if_character.ensures in
-    let t = stands_laid columns eq b c.end_if_character.new.self before given p (end_if_character p.laid) s (k.ended columns before given p.laid s.lays).0 (rw k.flat s.word) k.same in
+    let t = stands_laid columns eq b c.end_if_character.new.self before given p (end_if_character p.laid) s (k.ended columns before given p.laid s.lays).0 (rw k.flat s.word) in
     let u = c.in_ok-put_pending.ensures.put before given (record p { laid = end_if_character p.laid }) t in
-    let f = flagged_stands columns eq g.met.T.Eq.laws c.put_pending.new.self _ before given _ (is_pre p.mode) u refl refl refl refl refl refl refl (record { width = refl; may_overflow = refl }) refl (c.is_pre-self.ensures ∙ ap is_pre u.mode) in
-    let w : c.put_pending.new.self.width ≡ b.width = c.in_ok-put_pending.ensures.limits.width ∙ k.same.width in
+    let f = flagged_stands columns eq c.put_pending.new.self _ before given _ (is_pre p.mode) u (c.is_pre-self.ensures ∙ ap is_pre u.mode) in
+    let w : c.put_pending.new.self.lines.width ≡ b.lines.width = c.in_ok-put_pending.ensures.limits.width ∙ k.limits.width in
     let n = c.put_fresh.ensures.too_narrow refused before given _ f in
-    (sym (c.in_ok-put_pending.ensures.limits.may_overflow ∙ k.same.may_overflow) ∙ n.0, λ h. n.1 (subst (λ x. IsNarrow columns x p.word) (sym w) h))
+    (sym (c.in_ok-put_pending.ensures.limits.may_overflow ∙ k.limits.may_overflow) ∙ n.0, λ h. n.1 (subst (λ x. IsNarrow columns x p.word) (sym w) h))

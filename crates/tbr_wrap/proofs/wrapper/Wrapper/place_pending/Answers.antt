@@ -2,9 +2,7 @@ use Rattle.std.proofs.Common.{refl, sym, ◌∙◌, subst}
 use Rattle.std.proofs.lemmas.Result.{on_ok_weaker}
 use Rattle.tbr_model.specs.Laid.{extended}
 use Rattle.tbr_model.specs.Rule.{spaces, space_text, pending_width}
-use Rattle.tbr_wrap.specs.Wrapper.{HoldsRule}
-use Rattle.tbr_wrap.proofs.lines.LaidByRule.{lays_same}
-use Rattle.tbr_wrap.proofs.lines.HeldLines.{holds_same}
+use Rattle.tbr_wrap.specs.LaidLines.{HoldsRule}
 use Rattle.tbr_tagged.proofs.SameItems.{same_items_trans}
 use Rattle.tbr_wrap.proofs.words.WordsLaid.{on_ok_both, held_some}
 use Rattle.tbr_wrap.proofs.wrapper.Wrapper.place_pending.Goals as goal
@@ -13,18 +11,16 @@ pub returns-in-Some-clause-placed : goal.returns-in-Some-clause-placed
 returns-in-Some-clause-placed g c = λ before given p s.
     let columns = g.W.CharWidth.columns in
     let eq = g.T.PartialEq.eq in
-    let laws = g.met.T.Eq.laws in
     let new = c.place_spaces.new.self in
     let k = c.place_spaces.ensures in
     let w = held_some eq c.args.self.now.space c.in-Some.space p.space (sym c.take.ensures.value ∙ c.in-Some.is) s.space in
-    let taken = lays_same columns eq laws c.args.self.now _ (record { width = refl; may_overflow = refl }) before given p.laid s.lays (holds_same c.args.self.now _ before s.lays.laid s.lays.holds refl refl refl refl) in
-    let both = on_ok_both c.place_spaces.result _ _ (k.placed columns before given p.laid w.0.tag (g.met.W.CharWidth.drawn_in_one 32 refl) taken w.3) k.word in
+    let both = on_ok_both c.place_spaces.result _ _ (k.placed columns w.0.tag (g.met.W.CharWidth.drawn_in_one 32 refl) w.3 before given p.laid s.lays) k.word in
     on_ok_weaker c.place_spaces.result (λ b. record {
       lays = subst (λ o. HoldsRule columns eq new before given (extended p.laid (space_text o) (pending_width o))) (sym w.1) (subst (λ n. HoldsRule columns eq new before given (extended p.laid (spaces n w.0.tag) n)) w.2 b.0);
-      space = rw (k.same.space ∙ c.take.ensures.after) tt;
-      word = same_items_trans eq laws new.flat.word c.args.self.now.flat.word p.word b.1 s.word;
-      word_width = k.same.word_width ∙ s.word_width;
-      mode = k.same.word_mode ∙ s.mode;
-      continuation_flag = k.same.continuation_flag ∙ s.continuation_flag;
-      in_continuation = k.same.in_continuation ∙ s.in_continuation;
+      space = rw c.take.ensures.after tt;
+      word = same_items_trans eq g.met.T.Eq.laws new.flat.word c.args.self.now.lines.flat.word p.word b.1 s.word;
+      word_width = s.word_width;
+      mode = s.mode;
+      continuation_flag = s.continuation_flag;
+      in_continuation = s.in_continuation;
     }) both

@@ -26,21 +26,21 @@ returns-in_err-flush_word-2-clause-too_narrow g c = λ e before given p s.
 pub returns-then-c-eq10-clause-preserved : goal.returns-then-c-eq10-clause-preserved
 returns-then-c-eq10-clause-preserved g c = λ before given p s.
     let columns = g.W.CharWidth.columns in
-    let width = c.args.self.now.width in
+    let width = c.args.self.now.lines.width in
     rw (preserve_newline columns width c.args.c c.args.main_tag.now c.args.wrap_tag.now c.args.mode p c.if-c-eq10.true)
     (c.in_ok-newline.ensures.ended columns before given (flush_word columns width p) (c.in_ok-flush_word.ensures.laid before given p s))
 
 pub tab-requires-clause-stands : goal.tab-requires-clause-stands
 tab-requires-clause-stands g c =
     let w = c.requires.stands in
-    (g.W.CharWidth.columns, w.0, w.1, flush_word g.W.CharWidth.columns c.args.self.now.width w.2, c.in_ok-flush_word-2.ensures.laid w.0 w.1 w.2 w.3)
+    (g.W.CharWidth.columns, (w.0, w.1, flush_word g.W.CharWidth.columns c.args.self.now.lines.width w.2, c.in_ok-flush_word-2.ensures.laid w.0 w.1 w.2 w.3))
 
 pub returns-then-c-eq9-clause-preserved : goal.returns-then-c-eq9-clause-preserved
 returns-then-c-eq9-clause-preserved g c = λ before given p s.
     let columns = g.W.CharWidth.columns in
     let eq = g.T.PartialEq.eq in
     let laws = g.met.T.Eq.laws in
-    let width = c.args.self.now.width in
+    let width = c.args.self.now.lines.width in
     let a = c.args.main_tag.now in
     let b = c.args.wrap_tag.now in
     let same : eq c.if-self.tag.now (tag_of p a b) ≡ true =
@@ -50,19 +50,19 @@ returns-then-c-eq9-clause-preserved g c = λ before given p s.
     ] in
     rw (preserve_tab columns width c.args.c a b c.args.mode p c.if-c-eq9.true)
     (subst (λ (n : ℕ). IsAtProgress columns eq c.tab.new.self before given (tab n (tag_of p a b) (flush_word columns width p))) c.in_ok-flush_word-2.ensures.limits.width
-    (c.in_ok-tab.ensures.put columns before given (flush_word columns width p) (tag_of p a b) (g.met.W.CharWidth.drawn_in_one 32 refl) same (c.in_ok-flush_word-2.ensures.laid before given p s)))
+    (c.in_ok-tab.ensures.put columns (tag_of p a b) (g.met.W.CharWidth.drawn_in_one 32 refl) same before given (flush_word columns width p) (c.in_ok-flush_word-2.ensures.laid before given p s)))
 
 pub returns-in_default-clause-preserved : goal.returns-in_default-clause-preserved
 returns-in_default-clause-preserved g c = λ before given p s.
     let columns = g.W.CharWidth.columns in
-    rw (preserve_none columns c.args.self.now.width c.args.c c.args.main_tag.now c.args.wrap_tag.now c.args.mode p c.if-c-eq-ZERO_WIDTH_SPACE.false c.if-c-eq10.false c.if-c-eq9.false (sym c.width.ensures ∙ none_of c.width.result c.in_default.not-Some)) s
+    rw (preserve_none columns c.args.self.now.lines.width c.args.c c.args.main_tag.now c.args.wrap_tag.now c.args.mode p c.if-c-eq-ZERO_WIDTH_SPACE.false c.if-c-eq10.false c.if-c-eq9.false (sym c.width.ensures ∙ none_of c.width.result c.in_default.not-Some)) s
 
 pub returns-then-always_takes_space-clause-preserved : goal.returns-then-always_takes_space-clause-preserved
 returns-then-always_takes_space-clause-preserved g c = λ before given p s.
     let columns = g.W.CharWidth.columns in
     let is = sym c.width.ensures ∙ c.in-Some.is in
-    rw (preserve_kept columns c.args.self.now.width c.args.c c.args.main_tag.now c.args.wrap_tag.now c.args.mode p c.if-c-eq-ZERO_WIDTH_SPACE.false c.if-c-eq10.false c.if-c-eq9.false c.in-Some.columns (sym c.always_takes_space.ensures ∙ c.if-always_takes_space.true) is)
-    (c.in_ok-keep_character.ensures.kept columns before given p is s)
+    rw (preserve_kept columns c.args.self.now.lines.width c.args.c c.args.main_tag.now c.args.wrap_tag.now c.args.mode p c.if-c-eq-ZERO_WIDTH_SPACE.false c.if-c-eq10.false c.if-c-eq9.false c.in-Some.width (sym c.always_takes_space.ensures ∙ c.if-always_takes_space.true) is)
+    (c.in_ok-keep_character.ensures.kept columns is before given p s)
 
 pub returns-clause-preserved : goal.returns-clause-preserved
 returns-clause-preserved g c = λ before given p s.
@@ -77,5 +77,5 @@ returns-clause-preserved g c = λ before given p s.
       | then-self w ↦ rw w.tag-is (tag_wrap eq laws p a b (sym s.in_continuation ∙ w.if-self.true))
       | else-self w ↦ rw w.tag-is (tag_main eq laws p a b (sym s.in_continuation ∙ w.if-self.false))
     ] in
-    rw (preserve_space columns c.args.self.now.width c.args.c a b c.args.mode p c.if-c-eq-ZERO_WIDTH_SPACE.false c.if-c-eq10.false c.if-c-eq9.false c.in-Some.columns (sym c.always_takes_space.ensures ∙ c.if-always_takes_space.false) is)
-    (c.in_ok-keep_space.ensures.kept columns before given p (tag_of p a b) is same s)
+    rw (preserve_space columns c.args.self.now.lines.width c.args.c a b c.args.mode p c.if-c-eq-ZERO_WIDTH_SPACE.false c.if-c-eq10.false c.if-c-eq9.false c.in-Some.width (sym c.always_takes_space.ensures ∙ c.if-always_takes_space.false) is)
+    (c.in_ok-keep_space.ensures.kept columns (tag_of p a b) is same before given p s)

@@ -1,54 +1,44 @@
-use Rattle.std.proofs.Common.{◌≡◌, refl, sym, ◌∙◌, arith, subst}
+use Rattle.std.proofs.Common.{◌≡◌, sym, ◌∙◌, arith, subst}
 use Rattle.std.proofs.lemmas.Result.{on_ok_weaker}
 use Rattle.tbr_model.specs.Run.{items_width}
 use Rattle.tbr_model.specs.Laid.{extended, put_items}
-use Rattle.tbr_wrap.specs.Wrapper.{HoldsRule}
-use Rattle.tbr_wrap.proofs.lines.LaidByRule.{lays_same}
-use Rattle.tbr_wrap.proofs.lines.HeldLines.{holds_same}
+use Rattle.tbr_wrap.specs.LaidLines.{HoldsRule}
 use Rattle.tbr_wrap.proofs.words.WordsLaid.{put_fitting, same_narrow, on_ok_both}
 use Rattle.tbr_wrap.proofs.wrapper.Wrapper.put_fresh.Goals as goal
 
-pub returns-then-columns-self-clause-put : goal.returns-then-columns-self-clause-put
-returns-then-columns-self-clause-put g c = λ before given p s.
+pub returns-then-width-self-clause-put : goal.returns-then-width-self-clause-put
+returns-then-width-self-clause-put g c = λ before given p s.
     let columns = g.W.CharWidth.columns in
     let eq = g.T.PartialEq.eq in
-    let laws = g.met.T.Eq.laws in
-    let b = c.args.self.now in
-    let n = c.place_word.new.self in
+    let b = c.args.self.now.lines in
     let k = c.in_ok-place_word.ensures in
-    let same = lays_same columns eq laws b _ (record { width = refl; may_overflow = refl }) before given p.laid s.lays (holds_same b _ before s.lays.laid s.lays.holds refl refl refl refl) in
-    let laid = k.placed columns before given p.laid p.word same s.word (sym s.word_width ∙ sym c.replace-columns.ensures.value) in
+    let laid = k.placed columns p.word s.word (sym s.word_width ∙ sym c.replace-width.ensures.value) before given p.laid s.lays in
     let fits : put_items columns b.width p.laid p.word ≡ extended p.laid p.word (items_width columns p.word) =
-    put_fitting columns b.width p.laid p.word (omega (arith, c.if-columns-self.true, c.replace-columns.ensures.value, s.word_width, s.lays.holds.width, s.lays.shows.width, b.fits)) in
+    put_fitting columns b.width p.laid p.word (omega (arith, c.if-width-self.true, c.replace-width.ensures.value, s.word_width, s.lays.holds.width, s.lays.shows.width, b.fits)) in
     record {
-      lays = subst (λ q. HoldsRule columns eq n before given q) (sym fits) laid;
-      space = rw k.same.space s.space;
+      lays = subst (λ q. HoldsRule columns eq c.place_word.new.self before given q) (sym fits) laid;
+      space = s.space;
       word = rw k.word tt;
-      word_width = k.same.word_width ∙ c.replace-columns.ensures.after;
-      mode = k.same.word_mode ∙ s.mode;
-      continuation_flag = k.same.continuation_flag ∙ s.continuation_flag;
-      in_continuation = k.same.in_continuation ∙ s.in_continuation;
+      word_width = c.replace-width.ensures.after;
+      mode = s.mode;
+      continuation_flag = s.continuation_flag;
+      in_continuation = s.in_continuation;
     }
 
 pub returns-clause-put : goal.returns-clause-put
 returns-clause-put g c = λ before given p s.
-    let columns = g.W.CharWidth.columns in
-    let eq = g.T.PartialEq.eq in
-    let laws = g.met.T.Eq.laws in
-    let b = c.args.self.now in
     let k = c.put_word.ensures in
-    let same = lays_same columns eq laws b _ (record { width = refl; may_overflow = refl }) before given p.laid s.lays (holds_same b _ before s.lays.laid s.lays.holds refl refl refl refl) in
     on_ok_weaker c.put_word.result (λ x. record {
       lays = x.0;
-      space = rw k.same.space s.space;
+      space = s.space;
       word = rw x.1 tt;
-      word_width = k.same.word_width ∙ c.replace-columns.ensures.after;
-      mode = k.same.word_mode ∙ s.mode;
-      continuation_flag = k.same.continuation_flag ∙ s.continuation_flag;
-      in_continuation = k.same.in_continuation ∙ s.in_continuation;
-    }) (on_ok_both c.put_word.result _ _ (k.put before given p.laid p.word same s.word) k.word)
+      word_width = c.replace-width.ensures.after;
+      mode = s.mode;
+      continuation_flag = s.continuation_flag;
+      in_continuation = s.in_continuation;
+    }) (on_ok_both c.put_word.result _ _ (k.put p.word s.word before given p.laid s.lays) k.word)
 
 pub returns-clause-too_narrow : goal.returns-clause-too_narrow
 returns-clause-too_narrow g c = λ refused before given p s.
     let n = c.put_word.ensures.too_narrow refused in
-    (n.0, λ h. n.1 (same_narrow g.W.CharWidth.columns g.T.PartialEq.eq c.args.self.now.width c.args.self.now.flat.word p.word s.word h))
+    (n.0, λ h. n.1 (same_narrow g.W.CharWidth.columns g.T.PartialEq.eq c.args.self.now.lines.width c.args.self.now.lines.flat.word p.word s.word h))

@@ -1,29 +1,28 @@
-use Rattle.std.proofs.Common.{◌≡◌, ◌-◌, false, nat_le, refl, ◌∙◌, arith, subst}
+use Rattle.std.proofs.Common.{◌≡◌, ◌-◌, false, nat_le, refl, arith, subst}
 use borrow.Author.Tests.{lt-leb}
 use Rattle.std.proofs.lemmas.Result.{on_ok_weaker}
 use Rattle.tbr_model.specs.Laid.{extended}
 use Rattle.tbr_model.specs.Rule.{spaces}
-use Rattle.tbr_wrap.specs.Wrapper.{HoldsRule}
+use Rattle.tbr_wrap.specs.LaidLines.{HoldsRule}
 use Rattle.tbr_tagged.proofs.SameItems.{same_items_trans}
 use Rattle.tbr_wrap.proofs.words.WordsLaid.{on_ok_both}
 use Rattle.tbr_wrap.proofs.wrapper.Wrapper.shorten_space.Goals as goal
 
-pub returns-then-space-room-clause-lessened : goal.returns-then-space-room-clause-lessened
-returns-then-space-room-clause-lessened g c = λ before given p s t same.
+pub returns-then-space-room-clause-shortened : goal.returns-then-space-room-clause-shortened
+returns-then-space-room-clause-shortened g c = λ before given p s t same.
     let columns = g.W.CharWidth.columns in
     let eq = g.T.PartialEq.eq in
-    let laws = g.met.T.Eq.laws in
-    let b = c.args.self.now in
+    let b = c.args.self.now.lines in
     let new = c.place_spaces.new.self in
     let k = c.place_spaces.ensures in
     let less : nat_le (b.width - p.laid.width) s.width ≡ false = lt-leb _ _ (omega (arith, c.if-space-room.true, same.0, t.lays.holds.width, t.lays.shows.width)) in
-    let both = on_ok_both c.place_spaces.result _ _ (k.placed columns before given p.laid s.tag (g.met.W.CharWidth.drawn_in_one 32 refl) t.lays same.1) k.word in
+    let both = on_ok_both c.place_spaces.result _ _ (k.placed columns s.tag (g.met.W.CharWidth.drawn_in_one 32 refl) same.1 before given p.laid t.lays) k.word in
     rw less (on_ok_weaker c.place_spaces.result (λ x. record {
       lays = subst (λ n. HoldsRule columns eq new before given (extended p.laid (spaces n s.tag) n)) same.0 x.0;
-      space = rw k.same.space t.space;
-      word = same_items_trans eq laws new.flat.word b.flat.word p.word x.1 t.word;
-      word_width = k.same.word_width ∙ t.word_width;
-      mode = k.same.word_mode ∙ t.mode;
-      continuation_flag = k.same.continuation_flag ∙ t.continuation_flag;
-      in_continuation = k.same.in_continuation ∙ t.in_continuation;
+      space = t.space;
+      word = same_items_trans eq g.met.T.Eq.laws new.flat.word b.flat.word p.word x.1 t.word;
+      word_width = t.word_width;
+      mode = t.mode;
+      continuation_flag = t.continuation_flag;
+      in_continuation = t.in_continuation;
     }) both)

@@ -4,39 +4,38 @@ use borrow.Author.Tests.{lt-ltb, le-ltb}
 use Rattle.tbr_model.specs.Laid.{end_if_character}
 use Rattle.tbr_model.specs.Rule.{pending_width, put_tab}
 use Rattle.tbr_tagged.specs.Elements.{SameItems}
-use Rattle.tbr_wrap.specs.Wrapper.{HoldsRule}
+use Rattle.tbr_wrap.specs.LaidLines.{HoldsRule}
 use Rattle.tbr_tagged.proofs.SameItems.{same_items_trans}
-use Rattle.tbr_wrap.proofs.lines.HeldLines.{keeps_trans}
-use Rattle.tbr_wrap.proofs.words.WordsLaid.{same_columns}
+use Rattle.tbr_wrap.proofs.words.WordsLaid.{same_held_width}
 use Rattle.tbr_wrap.proofs.words.ModeCases.{stands_put}
 use Rattle.tbr_wrap.proofs.wrapper.Wrapper.tab.Goals as goal
 
 pub returns-then-pending-self-clause-put : goal.returns-then-pending-self-clause-put
-returns-then-pending-self-clause-put g c = λ columns before given p a one h s.
+returns-then-pending-self-clause-put g c = λ columns a one h before given p s.
     let eq = g.T.PartialEq.eq in
     let laws = g.met.T.Eq.laws in
     let b = c.args.self.now in
     let k = c.put_tab.ensures in
-    let is : b.line_width + c.pending-pending.result ≡ p.laid.width + pending_width p.space = omega (arith, s.lays.holds.width, s.lays.shows.width, c.pending-pending.ensures, same_columns eq b.space p.space s.space) in
-    let test : nat_lt (p.laid.width + pending_width p.space) b.width ≡ true = lt-ltb _ _ (omega (arith, is, c.if-pending-self.true)) in
-    let put = subst (λ (n : ℕ). OnOk c.put_tab.result (HoldsRule columns eq c.put_tab.new.self before given (put_tab b.width n a p.laid))) is (k.put columns before given p.laid a one h s.lays) in
-    let word = on_ok_weaker c.put_tab.result (λ w. same_items_trans eq laws c.put_tab.new.self.flat.word b.flat.word p.word w s.word) k.word in
-    rw test (stands_put columns eq b c.put_tab.new.self before given p (put_tab b.width (p.laid.width + pending_width p.space) a p.laid) c.put_tab.result s put word k.same)
+    let is : b.lines.line_width + c.pending_width-pending.result ≡ p.laid.width + pending_width p.space = omega (arith, s.lays.holds.width, s.lays.shows.width, c.pending_width-pending.ensures, same_held_width eq b.space p.space s.space) in
+    let test : nat_lt (p.laid.width + pending_width p.space) b.lines.width ≡ true = lt-ltb _ _ (omega (arith, is, c.if-pending-self.true)) in
+    let put = subst (λ (n : ℕ). OnOk c.put_tab.result (HoldsRule columns eq c.put_tab.new.self before given (put_tab b.lines.width n a p.laid))) is (k.put columns a one h before given p.laid s.lays) in
+    let word = on_ok_weaker c.put_tab.result (λ w. same_items_trans eq laws c.put_tab.new.self.flat.word b.lines.flat.word p.word w s.word) k.word in
+    rw test (stands_put columns eq b c.put_tab.new.self before given p (put_tab b.lines.width (p.laid.width + pending_width p.space) a p.laid) c.put_tab.result s put word)
 
 pub put_tab-requires-2-clause-behind : goal.put_tab-requires-2-clause-behind
 put_tab-requires-2-clause-behind g c =
     let w = c.requires.stands in
-    omega (arith, (c.in_ok-end_if_character.ensures.ended w.0 w.1 w.2 w.3.laid w.4.lays).1)
+    omega (arith, (c.in_ok-end_if_character.ensures.ended w.0 w.1.0 w.1.1 w.1.2.laid w.1.3.lays).1)
 
 pub returns-clause-put : goal.returns-clause-put
-returns-clause-put g c = λ columns before given p a one h s.
+returns-clause-put g c = λ columns a one h before given p s.
     let eq = g.T.PartialEq.eq in
     let laws = g.met.T.Eq.laws in
     let b = c.args.self.now in
     let f = c.in_ok-end_if_character.ensures in
     let k = c.put_tab-2.ensures in
-    let is : b.line_width + c.pending-pending.result ≡ p.laid.width + pending_width p.space = omega (arith, s.lays.holds.width, s.lays.shows.width, c.pending-pending.ensures, same_columns eq b.space p.space s.space) in
-    let test : nat_lt (p.laid.width + pending_width p.space) b.width ≡ false = le-ltb _ _ (omega (arith, is, c.if-pending-self.false)) in
-    let put = subst (λ (n : ℕ). OnOk c.put_tab-2.result (HoldsRule columns eq c.put_tab-2.new.self before given (put_tab n 0 a (end_if_character p.laid)))) f.same.width (k.put columns before given (end_if_character p.laid) a one h (f.ended columns before given p.laid s.lays).0) in
-    let word = on_ok_weaker c.put_tab-2.result (λ w. same_items_trans eq laws c.put_tab-2.new.self.flat.word b.flat.word p.word (subst (λ is. SameItems eq c.put_tab-2.new.self.flat.word is) (ap (λ t. t.word) f.flat) w) s.word) k.word in
-    rw test (stands_put columns eq b c.put_tab-2.new.self before given p (put_tab b.width 0 a (end_if_character p.laid)) c.put_tab-2.result s put word (keeps_trans b c.end_if_character.new.self c.put_tab-2.new.self f.same k.same))
+    let is : b.lines.line_width + c.pending_width-pending.result ≡ p.laid.width + pending_width p.space = omega (arith, s.lays.holds.width, s.lays.shows.width, c.pending_width-pending.ensures, same_held_width eq b.space p.space s.space) in
+    let test : nat_lt (p.laid.width + pending_width p.space) b.lines.width ≡ false = le-ltb _ _ (omega (arith, is, c.if-pending-self.false)) in
+    let put = subst (λ (n : ℕ). OnOk c.put_tab-2.result (HoldsRule columns eq c.put_tab-2.new.self before given (put_tab n 0 a (end_if_character p.laid)))) f.limits.width (k.put columns a one h before given (end_if_character p.laid) (f.ended columns before given p.laid s.lays).0) in
+    let word = on_ok_weaker c.put_tab-2.result (λ w. same_items_trans eq laws c.put_tab-2.new.self.flat.word b.lines.flat.word p.word (subst (λ is. SameItems eq c.put_tab-2.new.self.flat.word is) (ap (λ t. t.word) f.flat) w) s.word) k.word in
+    rw test (stands_put columns eq b c.put_tab-2.new.self before given p (put_tab b.lines.width 0 a (end_if_character p.laid)) c.put_tab-2.result s put word)

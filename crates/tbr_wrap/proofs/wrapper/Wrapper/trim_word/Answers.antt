@@ -1,7 +1,5 @@
 use Rattle.std.proofs.Common.{refl, ◌∙◌}
 use Rattle.tbr_model.specs.Rule.{without_leading}
-use Rattle.tbr_wrap.proofs.lines.LaidByRule.{lays_same}
-use Rattle.tbr_wrap.proofs.lines.HeldLines.{holds_same}
 use Rattle.tbr_tagged.proofs.SameItems.{same_width}
 use Rattle.tbr_wrap.proofs.wrapper.Wrapper.trim_word.Goals as goal
 
@@ -14,17 +12,14 @@ pub returns-clause-trimmed : goal.returns-clause-trimmed
 returns-clause-trimmed g c = λ before given p s t.
     let columns = g.W.CharWidth.columns in
     let eq = g.T.PartialEq.eq in
-    let laws = g.met.T.Eq.laws in
-    let m = c.trim.new.self in
     let k = c.in_ok-trim.ensures in
-    let lays = k.trimmed columns before given p.laid (g.met.W.CharWidth.drawn_in_one 32 refl) t.lays in
     let word = k.word p.word t.word in
     record {
-      lays = lays_same columns eq laws m _ (record { width = refl; may_overflow = refl }) before given _ lays (holds_same m _ before lays.laid lays.holds refl refl refl refl);
-      space = rw k.same.space t.space;
+      lays = k.trimmed columns (g.met.W.CharWidth.drawn_in_one 32 refl) before given p.laid t.lays;
+      space = t.space;
       word = word;
-      word_width = c.in_ok-self.ensures ∙ same_width columns eq m.flat.word (without_leading p.word) word;
-      mode = k.same.word_mode ∙ t.mode;
-      continuation_flag = k.same.continuation_flag ∙ t.continuation_flag;
-      in_continuation = k.same.in_continuation ∙ t.in_continuation;
+      word_width = c.in_ok-self.ensures ∙ same_width columns eq c.trim.new.self.flat.word (without_leading p.word) word;
+      mode = t.mode;
+      continuation_flag = t.continuation_flag;
+      in_continuation = t.in_continuation;
     }

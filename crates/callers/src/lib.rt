@@ -1,0 +1,5 @@
+//! The callers that the pages of this repository show, proved. `tools/quotes` compares the pages with them.
+#![tactic(auto)]
+
+pub mod best_lines;
+pub mod two_tags;

@@ -1,0 +1,7 @@
+//! Laws, each as the contract of a function that does nothing.
+
+pub use tbr_border::laws::{
+    cell_has_two_arms, cells_keep_two_arms, chops_are_idempotent, joins_are_idempotent,
+    joins_commute, stretching_appends,
+};
+pub use tbr_tagged::laws::copies_of_lists_are_equal;

@@ -1,0 +1,10 @@
+-- What the lines of a run show, in every mode, and what waits behind them.
+pub mod EachItem
+pub mod Passing
+pub mod WaitingMarkers
+pub mod NothingInvented
+pub mod NormalItems
+pub mod MarkersAlone
+pub mod Columns
+pub mod LineEnds
+pub mod CutWords

@@ -1,0 +1,124 @@
+-- Where a visible character that takes columns came, a line has ended, or the open line or the word takes columns.
+use Rattle.std.proofs.Common.{◌≡◌, ℕ, zero, suc, ◌<◌, ◌⊎◌, inl, inr, ◌||◌, nat_lt, unwrap_or, if◌then◌else◌, append_assoc, Bool, true, false, not, Option, List, [], ◌∷◌, ◌++◌, length, refl, ap, sym, ◌∙◌, arith}
+use Rattle.std.specs.List.{list_any, AllZip, AllByRecursion as Each}
+use Rattle.std.specs.Char.{is_whitespace}
+use Rattle.std.proofs.lemmas.Bool.{and_left, and_right, not_from_true, or_cases, or_from, le-ltb}
+use Rattle.std.proofs.lemmas.List.Folds.{list_any-append}
+use Rattle.tbr_model.specs.Run.{Entry, character, marker_entry, Item, glyph, marker, item_width, items_width, is_kept}
+use Rattle.tbr_model.specs.Layout.{joined}
+use Rattle.tbr_model.specs.Laid.{Laid, extended}
+use Rattle.tbr_model.specs.Rule.{Event, run_of, Progress, at_start, without_trailing, progress}
+use Rattle.tbr_model.specs.Hard.{is_visible, letters_of}
+use Rattle.tbr_model.specs.Shown.{shows_columns, run_shows_columns, HasColumns}
+use Rattle.tbr_model.proofs.words.Items.{letters_of-append}
+use Rattle.tbr_model.proofs.rule.Content.{LooksAtKept, StandsFor, AnyMode, any_mode, fold_content}
+use Rattle.tbr_model.proofs.rule.LaidText.{text}
+use Rattle.tbr_model.proofs.rule.AlwaysLaid.{KeptByLaying, Brings, run_stands}
+use Rattle.tbr_model.proofs.lines.Passing.{passing, passing-append, looks_at_passing}
+
+positive : (n : ℕ) → (n ≡ 0) ⊎ (0 < n)
+positive zero = inl refl
+positive (suc n) = inr (omega arith)
+
+module _ {A : Type 0} (columns : ℕ → Option ℕ) where
+  -- the visible characters of items that take columns, and the markers
+  abbrev shown : List (Item A) → List (Item A)
+  shown is = passing (shows_columns columns) is
+
+  looks_at_shown : LooksAtKept {A = A} columns AnyMode shown
+  looks_at_shown =
+      looks_at_passing columns AnyMode (shows_columns columns)
+      (λ c h. and_left (is_visible columns c) (nat_lt 0 (unwrap_or (columns c) 0)) (and_left (is_kept columns c) (not (is_whitespace c)) h))
+      (λ m c h. and_left (is_visible columns c) (nat_lt 0 (unwrap_or (columns c) 0)) (and_right (is_kept columns c) (not (is_whitespace c)) (not_from_true (is_whitespace c) h)))
+
+  -- one of the characters takes columns
+  abbrev some_shown : List (Item A) → Bool
+  some_shown is = list_any (shows_columns columns) (letters_of is)
+
+  some_shown-append : (is js : List (Item A)) → some_shown (is ++ js) ≡ some_shown is || some_shown js
+  some_shown-append is js = ap (list_any (shows_columns columns)) (letters_of-append is js) ∙ list_any-append (shows_columns columns) (letters_of is) (letters_of js)
+
+  -- items that take no columns show none
+  none_shown : (is : List (Item A)) → items_width columns is ≡ 0 → some_shown is ≡ false
+  none_shown [] h = refl
+  none_shown (marker name ∷ is) h = none_shown is (omega (arith, h))
+  none_shown (glyph c a ∷ is) h =
+      let none : nat_lt 0 (unwrap_or (columns c) 0) ≡ false = le-ltb 0 (unwrap_or (columns c) 0) (omega (arith, h)) in
+      or_from (shows_columns columns c) (some_shown is) (and_right (is_visible columns c) (nat_lt 0 (unwrap_or (columns c) 0)) none) (none_shown is (omega (arith, h)))
+
+  -- an open line of no columns shows none
+  abbrev OpenSo : Laid A → Type 0
+  OpenSo l = l.width ≡ 0 → some_shown l.line ≡ false
+
+  extended_so : (l : Laid A) (is : List (Item A)) (n : ℕ) → (n ≡ 0 → some_shown is ≡ false) → OpenSo l → OpenSo (extended l is n)
+  extended_so l is n h r e = some_shown-append l.line is ∙ or_from (some_shown l.line) (some_shown is) (r (omega (arith, e))) (h (omega (arith, e)))
+
+  open_so : KeptByLaying columns (λ i. Unit {0}) (λ a. Unit {0}) OpenSo
+  open_so = record {
+    nothing = λ e. refl;
+    item = λ l i _ r. extended_so l (i ∷ []) (item_width columns i) (λ e. none_shown (i ∷ []) (omega (arith, e))) r;
+    space = λ l a _ r. extended_so l (glyph 32 a ∷ []) 1 (λ e. absurd (omega (arith, e))) r;
+    ended = λ l r e. refl;
+    trims = λ l r e. none_shown (without_trailing l.line) e;
+  }
+
+  all_so : (run : List (Entry A)) → Each (Brings columns (λ i. Unit {0}) (λ a. Unit {0})) run
+  all_so [] = tt
+  all_so (character c a b mode ∷ run) = ((tt, tt, λ x _ may. tt), all_so run)
+  all_so (marker_entry name ∷ run) = (tt, all_so run)
+
+  -- ---- a run
+
+  -- what doesn't pass doesn't count
+  some_passing : (is : List (Item A)) → some_shown (shown is) ≡ some_shown is
+  some_passing [] = refl
+  some_passing (marker name ∷ is) = some_passing is
+  some_passing (glyph c a ∷ is) = go (shows_columns columns c) refl (some_passing is)
+    where
+      go : (b : Bool) → shows_columns columns c ≡ b → some_shown (shown is) ≡ some_shown is → some_shown (if b then glyph c a ∷ shown is else shown is) ≡ b || some_shown is
+      go true e rest = rw e refl
+      go false e rest = rest
+
+  some_alike : (is : List (Item A)) (es : List (Entry A)) → AllZip StandsFor is es → some_shown is ≡ run_shows_columns columns es
+  some_alike [] [] h = refl
+  some_alike [] (e ∷ es) h = elim h [ ]
+  some_alike (i ∷ is) [] h = elim h [ ]
+  some_alike (glyph c x ∷ is) (character d a b m ∷ es) h = rw (h.0.0) (ap (λ (b : Bool). shows_columns columns d || b) (some_alike is es h.1))
+  some_alike (glyph c x ∷ is) (marker_entry name ∷ es) h = elim h.0 [ ]
+  some_alike (marker name ∷ is) (character d a b m ∷ es) h = elim h.0 [ ]
+  some_alike (marker name ∷ is) (marker_entry other ∷ es) h = some_alike is es h.1
+
+  -- lines, the open line and the word show some columns where the run does
+  shown_where : (width : ℕ) (es : List (Event A)) → let p = progress columns width es in some_shown (joined p.laid.done ++ (p.laid.line ++ p.word)) ≡ run_shows_columns columns (run_of es)
+  shown_where width es =
+      let p : Progress A = progress columns width es in
+      let g = fold_content columns AnyMode shown looks_at_shown width es at_start (any_mode (run_of es)) tt in
+      let all : shown (joined p.laid.done ++ (p.laid.line ++ p.word)) ≡ shown g.items =
+      ap shown (sym (append_assoc (joined p.laid.done) p.laid.line p.word)) ∙ passing-append (shows_columns columns) (text p.laid) p.word ∙ g.are in
+      sym (some_passing (joined p.laid.done ++ (p.laid.line ++ p.word))) ∙ ap some_shown all ∙ some_passing g.items ∙ some_alike g.items (run_of es) g.stand
+
+  some_line : (ls : List (List (Item A))) → some_shown (joined ls) ≡ true → 0 < length ls
+  some_line [] h = cc
+  some_line (l ∷ ls) h = omega arith
+
+  pub columns_show : (width : ℕ) (es : List (Event A)) → run_shows_columns columns (run_of es) ≡ true → HasColumns columns (progress columns width es)
+  columns_show width es h = elim (or_cases (some_shown (joined p.laid.done)) (some_shown (p.laid.line ++ p.word)) (sym (some_shown-append (joined p.laid.done) (p.laid.line ++ p.word)) ∙ shown_where width es ∙ h)) [
+    | inl done ↦ inl (some_line p.laid.done done)
+    | inr other ↦ behind (or_cases (some_shown p.laid.line) (some_shown p.word) (sym (some_shown-append p.laid.line p.word) ∙ other))
+  ]
+    where
+      p : Progress A
+      p = progress columns width es
+
+      on_line : some_shown p.laid.line ≡ true → 0 < p.laid.width
+      on_line some = elim (positive p.laid.width) [
+        | inl none ↦ absurd (let hides : some_shown p.laid.line ≡ false = (run_stands columns (λ i. Unit {0}) (λ a. Unit {0}) OpenSo open_so width es (all_so (run_of es))).laid none in cc)
+        | inr more ↦ more
+      ]
+
+      in_word : some_shown p.word ≡ true → 0 < items_width columns p.word
+      in_word some = elim (positive (items_width columns p.word)) [ inl none ↦ absurd (let hides : some_shown p.word ≡ false = none_shown p.word none in cc) | inr more ↦ more ]
+
+      behind : (some_shown p.laid.line ≡ true) ⊎ (some_shown p.word ≡ true) → HasColumns columns p
+      behind (inl some) = inr (inl (on_line some))
+      behind (inr some) = inr (inr (in_word some))

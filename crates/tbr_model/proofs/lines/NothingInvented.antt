@@ -1,0 +1,45 @@
+-- What stands on the lines of a run comes from it.
+use Rattle.std.proofs.Common.{◌≡◌, ℕ, inl, inr, ◌==◌, Bool, true, false, not, Option, List, [], ◌∷◌, refl}
+use Rattle.std.specs.List.{Contains, AllByRecursion as Each}
+use Rattle.std.specs.Char.{is_whitespace}
+use Rattle.std.proofs.lemmas.Bool.{and_parts}
+use Rattle.std.proofs.lemmas.List.Elements.{All-contains_itself, recursion_from_All}
+use Rattle.tbr_model.specs.declared.white_space.WhiteSpace.{WhiteSpace}
+use Rattle.tbr_model.specs.Run.{Entry, character, marker_entry, glyph, is_kept}
+use Rattle.tbr_model.specs.Rule.{Event, run_of, lines_of}
+use Rattle.tbr_model.specs.Shown.{HasAnnotation, ComesFrom, InventsNothing}
+use Rattle.tbr_model.proofs.rule.AlwaysLaid.{MayJoin, Brings}
+use Rattle.tbr_model.proofs.lines.EachItem.{each_on_lines}
+
+module _ {A : Type 0} (columns : ℕ → Option ℕ) (Same : A → A → Type 0) (same : (x : A) → Same x x) (run : List (Entry A)) where
+  kept_or_white : (c : ℕ) (x : A) → HasAnnotation Same run x → is_kept columns c ≡ true → ComesFrom columns Same run (glyph c x)
+  kept_or_white c x h kept = go (is_whitespace c) refl
+    where
+      go : (b : Bool) → is_whitespace c ≡ b → ComesFrom columns Same run (glyph c x)
+      go true e = inr (e, h)
+      go false e = inl (rw (kept, e) refl)
+
+  joins_from : (c : ℕ) (mode : WhiteSpace) (x : A) → HasAnnotation Same run x → MayJoin columns mode c → ComesFrom columns Same run (glyph c x)
+  joins_from c mode x h (inl kept) = kept_or_white c x h kept
+  joins_from c mode x h (inr blank) = inr ((and_parts (is_whitespace c) (not (c == 160)) blank.0).0, h)
+
+  brings : (e : Entry A) → Contains run e → Brings columns (ComesFrom columns Same run) (HasAnnotation Same run) e
+  brings (character c a b m) h = (
+    (character c a b m, h, inl (same a)),
+    (character c a b m, h, inr (same b)),
+    λ x has may. joins_from c m x has may,
+  )
+  brings (marker_entry name) h = h
+
+  all_bring : (es : List (Entry A)) → Each (Contains run) es → Each (Brings columns (ComesFrom columns Same run) (HasAnnotation Same run)) es
+  all_bring [] h = tt
+  all_bring (e ∷ es) h = (brings e h.0, all_bring es h.1)
+
+-- In every mode nothing stands on the lines but visible characters, white space under the run's annotations, and its
+-- markers.
+pub nothing_invented : {A : Type 0} (columns : ℕ → Option ℕ) (width : ℕ) (Same : A → A → Type 0) → ((x : A) → Same x x) → (es : List (Event A)) →
+    InventsNothing columns Same (run_of es) (lines_of columns width es)
+nothing_invented columns width Same same es =
+    let run = run_of es in
+    each_on_lines columns (ComesFrom columns Same run) (HasAnnotation Same run) (λ a h. inr (refl, h)) width es
+    (all_bring columns Same same run run (recursion_from_All (Contains run) run (All-contains_itself run)))

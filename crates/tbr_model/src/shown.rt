@@ -1,0 +1,84 @@
+//! The laws of what the lines of a run show, and what waits behind them, each as the contract of a function that does
+//! nothing.
+ghost use Rattle.std.specs.Prelude.{◌≡◌, ◌≢◌, ℕ, ◌≤◌, ◌⊎◌, Bool, true, false, Option, List, [], ◌++◌};
+ghost use Rattle.tbr_model.specs.Codes.{tab_character, newline_character};
+ghost use Rattle.tbr_model.specs.Run.{Entry, character, Item, is_kept, kept_items};
+ghost use Rattle.tbr_model.specs.Layout.{joined};
+ghost use Rattle.tbr_model.specs.Markers.{names_in_items, names_in_run, names_behind};
+ghost use Rattle.tbr_model.specs.Rule.{Event, run_of, Progress, enter, progress, finished, lines_of, waiting};
+ghost use Rattle.tbr_model.specs.declared.white_space.WhiteSpace.{WhiteSpace};
+ghost use Rattle.tbr_model.specs.declared.white_space.WhiteSpace.TheVariants.{Normal};
+ghost use Rattle.tbr_model.specs.Hard.{AllHaveMode, entry_letters, is_visible, ShowsVisible};
+ghost use Rattle.tbr_model.specs.Shown.{without_spaces, names_waiting, InventsNothing, run_shows_columns, HasColumns, columns_so_far, next_stop, is_newline_or_tab, HasOneMore, EndWhereFull, word_lines};
+
+/// The visible characters of a run stand on its lines once, in order, each under an annotation of its call. Its
+/// markers stand there once, in order, or wait.
+pub fn visible_characters_are_shown<T>()
+    ensures characters { (columns : ℕ → Option ℕ) (width : ℕ) (eq : T → T → Bool) → ((x : T) → eq x x ≡ true) →
+        (es : List (Event T)) → ShowsVisible columns (λ a b. eq a b ≡ true) (run_of es) (lines_of columns width es) }
+    ensures markers { (columns : ℕ → Option ℕ) (width : ℕ) (es : List (Event T)) →
+        names_in_items (joined (lines_of columns width es)) ++ names_waiting columns width es
+        ≡ names_in_run (run_of es) }
+{}
+
+/// The markers that wait where a run ends come behind its last visible character, and in a run of `Normal` alone behind
+/// its last kept one.
+pub fn waiting_markers_end_a_run<T>()
+    ensures visible { (columns : ℕ → Option ℕ) (width : ℕ) (es : List (Event T)) →
+        (front : List (List ℕ))
+        × (front ++ names_waiting columns width es ≡ names_behind (is_visible columns) (run_of es)) }
+    ensures kept { (columns : ℕ → Option ℕ) (width : ℕ) (es : List (Event T)) → AllHaveMode Normal (run_of es) →
+        (front : List (List ℕ))
+        × (front ++ names_waiting columns width es ≡ names_behind (is_kept columns) (run_of es)) }
+{}
+
+/// A run of `Normal` alone keeps its items, whatever the width. The items of its lines, but for the spaces that gaps
+/// are, and then what waits, are its kept characters and its markers, in order, each character under its own
+/// annotation.
+pub fn normal_items_are_kept<T>()
+    ensures { (columns : ℕ → Option ℕ) (width : ℕ) (es : List (Event T)) → AllHaveMode Normal (run_of es) →
+        without_spaces (joined (lines_of columns width es)) ++ waiting columns width (progress columns width es)
+        ≡ kept_items columns (run_of es) }
+{}
+
+/// Nothing stands on the lines of a run but its visible characters, white space under its annotations, and its markers.
+pub fn nothing_is_invented<T>()
+    ensures { (columns : ℕ → Option ℕ) (width : ℕ) (eq : T → T → Bool) → ((x : T) → eq x x ≡ true) →
+        (es : List (Event T)) → InventsNothing columns (λ a b. eq a b ≡ true) (run_of es) (lines_of columns width es) }
+{}
+
+/// A run without a character ends no line, and all its markers wait.
+pub fn markers_alone_end_no_line<T>()
+    ensures under_way { (columns : ℕ → Option ℕ) (width : ℕ) (es : List (Event T)) →
+        entry_letters (run_of es) ≡ [] → (progress columns width es).laid.done ≡ [] }
+    ensures lines { (columns : ℕ → Option ℕ) (width : ℕ) (es : List (Event T)) →
+        entry_letters (run_of es) ≡ [] → lines_of columns width es ≡ [] }
+    ensures wait { (columns : ℕ → Option ℕ) (width : ℕ) (es : List (Event T)) →
+        entry_letters (run_of es) ≡ [] → names_waiting columns width es ≡ names_in_run (run_of es) }
+{}
+
+/// Where a visible character that takes columns came, a line has ended, or the open line or the word takes columns.
+pub fn columns_are_shown<T>()
+    ensures { (columns : ℕ → Option ℕ) (width : ℕ) (es : List (Event T)) →
+        run_shows_columns columns (run_of es) ≡ true → HasColumns columns (progress columns width es) }
+{}
+
+/// A line ends only at a newline in a preserving mode, or where what comes next doesn't fit. While the open line, the
+/// space that waits and the word fit a line together, a newline ends one line, a tab none if its next stop is on the
+/// line, any other entry none, and the end of the run at most one. A word that begins a line is cut only where the
+/// next item that takes columns doesn't fit.
+pub fn lines_end_where_full<T>()
+    ensures entry { (columns : ℕ → Option ℕ) (width : ℕ) (p : Progress T) (e : Entry T) →
+        columns_so_far columns p ≤ width → is_newline_or_tab e ≡ false →
+        (enter columns width p e).laid.done ≡ p.laid.done }
+    ensures tab { (columns : ℕ → Option ℕ) (width : ℕ) (p : Progress T) (a b : T) (mode : WhiteSpace) →
+        mode ≢ Normal → next_stop (columns_so_far columns p) ≤ width →
+        (enter columns width p (character tab_character a b mode)).laid.done ≡ p.laid.done }
+    ensures newline { (columns : ℕ → Option ℕ) (width : ℕ) (p : Progress T) (a b : T) (mode : WhiteSpace) →
+        mode ≢ Normal → columns_so_far columns p ≤ width →
+        HasOneMore p.laid.done (enter columns width p (character newline_character a b mode)).laid.done }
+    ensures end { (columns : ℕ → Option ℕ) (width : ℕ) (p : Progress T) → columns_so_far columns p ≤ width →
+        ((finished columns width p).done ≡ p.laid.done) ⊎ HasOneMore p.laid.done (finished columns width p).done }
+    ensures word { (columns : ℕ → Option ℕ) (width : ℕ) (word : List (Item T)) →
+        EndWhereFull columns width (word_lines columns width word) }
+{}

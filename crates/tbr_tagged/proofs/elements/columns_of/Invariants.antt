@@ -1,8 +1,0 @@
-use Rattle.std.proofs.Common.{◌≡◌, map, take}
-use Rattle.tbr_model.specs.Run.{items_width}
-use Rattle.tbr_tagged.specs.Elements.{items_of}
-use Rattle.tbr_tagged.specs.View.{element_of}
-use Rattle.tbr_tagged.proofs.elements.columns_of.Given as goal
-
-abbrev pub invariant-loop-element : goal.invariant-loop-element
-invariant-loop-element g l = l.width ≡ items_width g.W.CharWidth.columns (items_of (map element_of (take l.element-index l.elements)))

@@ -1,0 +1,14 @@
+use Rattle.std.proofs.Common.{[], refl, ap, arith}
+use Rattle.tbr_model.specs.Laid.{nothing_laid}
+use Rattle.tbr_wrap.proofs.laid_lines.LaidLines.new.Goals as goal
+
+pub returns-clause-holds : goal.returns-clause-holds
+returns-clause-holds g c = λ columns eq. record {
+  laid = nothing_laid;
+  holds = record { placed = ap (λ f. f.placed) c.new.ensures; lens = c.new-2.ensures.items; len = refl; width = refl };
+  shows = record { rest = []; split = refl; done = tt; last = tt; width = refl };
+  measured = record { small = omega arith; line = refl; done = tt };
+}
+
+pub returns-clause-word : goal.returns-clause-word
+returns-clause-word g c = ap (λ f. f.word) c.new.ensures

@@ -1,0 +1,77 @@
+-- What the fields of laid lines say of what is laid.
+use Rattle.std.specs.Prelude.{◌≡◌, ℕ, ◌≤◌, Bool, Option, List, ◌∷◌, ◌++◌, map, length, Result, OnOk}
+use Rattle.std.specs.List.{AllZip, AllByRecursion as Each}
+use Rattle.tbr_model.specs.Run.{Item, items_width}
+use Rattle.tbr_model.specs.Layout.{joined}
+use Rattle.tbr_model.specs.Laid.{Laid}
+use Rattle.tbr_tagged.specs.Elements.{SameItems}
+use Rattle.tbr_wrap.specs.Wrapped.{FitsBlock}
+use Rattle.tbr_wrap.specs.declared.laid_lines.LaidLines.{LaidLines}
+
+-- The fields hold what is laid, behind the lines of earlier runs.
+pub record HoldsLaid {A : Type 0} (b : LaidLines A) (before : List (List (Item A))) (l : Laid A) : Type 0 where
+  pub placed : b.flat.placed ≡ joined (before ++ l.done) ++ l.line
+  pub lens : b.ended.items ≡ map length (before ++ l.done)
+  pub len : b.line_len ≡ length l.line
+  pub width : b.line_width ≡ l.width
+
+-- What is laid is what the rule lays, up to equal tags, but for the first lines, which were handed out.
+pub record LaidLikeRule {A : Type 0} (eq : A → A → Bool) (given : List (List (Item A))) (l r : Laid A) : Type 0 where
+  pub rest : List (List (Item A))
+  pub split : r.done ≡ given ++ rest
+  pub done : AllZip (SameItems eq) l.done rest
+  pub last : SameItems eq l.line r.line
+  pub width : l.width ≡ r.width
+
+-- What the rule lays is as wide as it should be.
+pub record RuleFitsWidth {A : Type 0} (columns : ℕ → Option ℕ) (width : ℕ) (may_overflow : Bool)
+    (r : Laid A) : Type 0 where
+  pub small : r.width ≤ width
+  pub line : r.width ≡ items_width columns r.line
+  pub done : Each (FitsBlock columns width may_overflow) r.done
+
+-- The fields hold what the rule lays.
+pub record HoldsRule {A : Type 0} (columns : ℕ → Option ℕ) (eq : A → A → Bool) (b : LaidLines A)
+    (before given : List (List (Item A))) (r : Laid A) : Type 0 where
+  pub laid : Laid A
+  pub holds : HoldsLaid b before laid
+  pub shows : LaidLikeRule eq given laid r
+  pub measured : RuleFitsWidth columns b.width b.may_overflow r
+
+-- Where the fields hold what the rule lays, a call that succeeds does to it what `f` does.
+abbrev pub LinesFollow : {A X E : Type 0} → (ℕ → Option ℕ) → (A → A → Bool) → LaidLines A → LaidLines A → Result X E →
+    (Laid A → Laid A) → Type 0
+LinesFollow {A} columns eq b c result f = (before given : List (List (Item A))) (r : Laid A) →
+    HoldsRule columns eq b before given r → OnOk result (HoldsRule columns eq c before given (f r))
+
+-- items, and what their first one leaves
+abbrev pub FirstIsGone : {A : Type 0} → List (Item A) → List (Item A) → Type 0
+FirstIsGone {A} is left = (i : Item A) × (rest : List (Item A)) × (is ≡ i ∷ rest) × (left ≡ rest)
+
+-- The fields hold what is laid, with placed items behind it that no line has yet.
+pub record HoldsLaidBefore {A : Type 0} (b : LaidLines A) (before : List (List (Item A))) (l : Laid A)
+    (behind : List (Item A)) : Type 0 where
+  pub placed : b.flat.placed ≡ (joined (before ++ l.done) ++ l.line) ++ behind
+  pub lens : b.ended.items ≡ map length (before ++ l.done)
+  pub len : b.line_len ≡ length l.line
+  pub width : b.line_width ≡ l.width
+
+pub record HoldsRuleBefore {A : Type 0} (columns : ℕ → Option ℕ) (eq : A → A → Bool) (b : LaidLines A)
+    (before given : List (List (Item A))) (r : Laid A) (behind : List (Item A)) : Type 0 where
+  pub laid : Laid A
+  pub holds : HoldsLaidBefore b before laid behind
+  pub shows : LaidLikeRule eq given laid r
+  pub measured : RuleFitsWidth columns b.width b.may_overflow r
+
+-- The limits are as they were.
+pub record KeepsLimits {A : Type 0} (b c : LaidLines A) : Type 0 where
+  pub width : c.width ≡ b.width
+  pub may_overflow : c.may_overflow ≡ b.may_overflow
+
+-- What a line that is handed out leaves.
+pub record LeavesAfterLine {A : Type 0} (b c : LaidLines A) (rest : List (List (Item A))) (l : Laid A) : Type 0 where
+  pub placed : c.flat.placed ≡ joined rest ++ l.line
+  pub word : c.flat.word ≡ b.flat.word
+  pub lens : c.ended.items ≡ map length rest
+  pub len : c.line_len ≡ b.line_len
+  pub width : c.line_width ≡ b.line_width
