@@ -5,17 +5,17 @@ ghost use Rattle.tbr_model.specs.declared.white_space.WhiteSpace.TheVariants.{No
 ghost use Rattle.tbr_lines.specs.State.{text_entries};
 ghost use Rattle.tbr_lines.specs.UnicodeColumns.{unicode_columns};
 ghost use Rattle.tbr_lines.specs.Wrapped.{HasBestLines, ShowsText};
-ghost use Rattle.tbr_lines.specs.declared.error.Error.TheVariants as E;
+ghost use Rattle.tbr_lines.specs.declared.Error.TheVariants as E;
 
 use std::alloc::Global;
 use tbr_lines::{Error, TaggedLine, WhiteSpace, WrappedBlock};
 
 /// The lines of a text at two columns or more: the best layout's. It refuses only for want of memory.
-#[tactic(auto, using(tbr_lines::proofs::Normal::text_normal))]
+#[tactic(auto, using(tbr_lines::proofs::NormalTexts::text_normal, tbr_lines::proofs::NormalTexts::best_lines))]
 pub fn wrapped(alloc: Global, text: &str, width: usize) -> Result<Vec<TaggedLine<()>>, Error>
     requires { 2 ≤ width }
     ensures best { IfOk result (λ lines. (texts : List (List (Item (Unit {0}))))
-        × HasBestLines unicode_columns (λ _ _. true) width (text_entries (chars text.now) tt tt Normal) texts
+        × HasBestLines unicode_columns width (text_entries (chars text.now) tt tt Normal) texts
         × AllZip (ShowsText unicode_columns (λ _ _. true) None width) lines.items texts) }
     ensures memory { IfErr result (λ e. e ≡ E.OutOfMemory) }
 {

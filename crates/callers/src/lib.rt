@@ -2,4 +2,6 @@
 #![tactic(auto)]
 
 pub mod best_lines;
+pub mod numbers;
+pub mod stars;
 pub mod two_tags;

@@ -6,6 +6,7 @@ pub use Rattle.tbr_tagged.specs.Elements
 pub use Rattle.tbr_tagged.specs.Equal
 pub use Rattle.tbr_tagged.specs.Mapped
 pub use Rattle.tbr_tagged.specs.Padding
+pub use Rattle.tbr_tagged.specs.Sums
 pub use Rattle.tbr_tagged.specs.UnicodeColumns
 pub use Rattle.tbr_tagged.specs.View
 pub use Rattle.tbr_tagged.specs.Walks
