@@ -1,1 +1,1 @@
-pub use Rattle.tbr_wrap.proofs.runs.NormalTexts
+pub mod NormalTexts

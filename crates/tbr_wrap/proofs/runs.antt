@@ -2,4 +2,3 @@ pub mod Courses
 pub mod EndedRuns
 pub mod LinesLeft
 pub mod NormalRuns
-pub mod NormalTexts
