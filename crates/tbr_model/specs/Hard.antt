@@ -176,7 +176,7 @@ abbrev pub BeginsBehind : ℕ → List ℕ → ℕ → List ℕ → Type 0
 BeginsBehind width before gap l =
     ((before ≡ []) × (gap ≡ 0))
     ⊎ (BeginsWithNonBlank l × (width < length before + (gap + length (first_stretch l)))
-        × (gap ≡ 0 → (length before ≡ width) × (first_stretch before ≡ before)))
+    × (gap ≡ 0 → (length before ≡ width) × (first_stretch before ≡ before)))
 
 -- A text is these lines, behind the line before: each ends with a non-blank and fits, and spaces are dropped before
 -- lines that begin so, and at the end.

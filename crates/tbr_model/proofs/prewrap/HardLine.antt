@@ -1,19 +1,18 @@
 -- A hard line of `PreWrap`: its stretches of non-blanks stand whole where they fit a line, and it is one line where it fits.
-use Rattle.std.proofs.Common.{◌≡◌, ℕ, zero, suc, ◌+◌, ◌<◌, ◌≤◌, inl, inr, Bool, true, false, Option, Some, List, [], ◌∷◌, ◌++◌, map, flat_map, fold, length, refl, ap, sym, ◌∙◌, arith, append_assoc, append-nil, subst}
+use Rattle.std.proofs.Common.{◌≡◌, ℕ, ◌+◌, ◌<◌, ◌≤◌, inl, inr, Bool, true, false, Option, Some, List, [], ◌∷◌, ◌++◌, map, flat_map, fold, length, refl, ap, sym, ◌∙◌, arith, append_assoc, append-nil, subst}
 use Rattle.std.specs.List.{AllByRecursion as Each}
 use Rattle.std.proofs.lemmas.Bool.{cond_both}
 use Rattle.std.proofs.lemmas.Bool.Decides.{eqb_tells}
 use Rattle.tbr_model.specs.declared.white_space.WhiteSpace.TheVariants.{PreWrap}
-use Rattle.tbr_model.specs.Run.{character, marker_entry, Item, glyph, marker, has_character}
+use Rattle.tbr_model.specs.Run.{character, marker_entry, glyph, has_character}
 use Rattle.tbr_model.specs.Layout.{joined}
 use Rattle.tbr_model.specs.Laid.{Laid, end_line, end_if_character}
 use Rattle.tbr_model.specs.Rule.{Event, call, entry, run_of, Progress, pending_width, space_of, lay, flush_word, break_word, join, tag_of, newline, enter, step, finished}
 use Rattle.tbr_model.specs.Hard.{HasMode, is_newline, letters_of, entry_letters, IsPrintableLine, IsSpaces, without_last_spaces, stretches, IsCutOf, ShowsPreWrap}
-use Rattle.tbr_model.proofs.words.Items.{letters_of-append, no_letters, some_letters, WaitsIn, pending_width-of}
-use Rattle.tbr_model.proofs.lists.Each.{each_append}
+use Rattle.tbr_model.proofs.words.Items.{letters_of-append, no_letters, some_letters}
 use Rattle.tbr_model.proofs.rule.HardLineStart.{BeginsHardLine}
 use Rattle.tbr_model.proofs.rule.BlankLines.{blank_line_of}
-use Rattle.tbr_model.proofs.rule.Printable.{IsVisible, visible_of}
+use Rattle.tbr_model.proofs.rule.Printable.{visible_of}
 use Rattle.tbr_model.proofs.tabs.HardLine.{IsLine, fresh_reads}
 use Rattle.tbr_model.proofs.prewrap.Entry.{enter_wrap_space, enter_wrap_visible, break_none, break_some, spaces_if}
 use Rattle.tbr_model.proofs.prewrap.FittingLine.{fits_read}

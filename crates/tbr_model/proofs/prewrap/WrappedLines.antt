@@ -1,292 +1,25 @@
 -- A hard line of `PreWrap` is wrapped: spaces are dropped, and a line ends, only where the next stretch doesn't fit.
-use Rattle.std.proofs.Common.{◌≡◌, ◌≢◌, ℕ, zero, suc, ◌+◌, ◌<◌, ◌≤◌, ◌⊎◌, inl, inr, ◌==◌, Bool, true, false, nat_le, if◌then◌else◌, Option, Some, None, List, [], ◌∷◌, ◌++◌, map, fold, replicate, length, refl, ap, sym, ◌∙◌, arith, append_assoc, append-nil, length-append, subst, le-leb, leb-true, leb-false, ne_eqb}
+use Rattle.std.proofs.Common.{◌≡◌, ℕ, ◌+◌, ◌<◌, ◌≤◌, ◌⊎◌, inl, inr, Bool, true, false, nat_le, if◌then◌else◌, Option, Some, None, List, [], ◌∷◌, ◌++◌, map, fold, replicate, length, refl, ap, sym, ◌∙◌, arith, append_assoc, append-nil, length-append, subst, leb-true, leb-false}
 use Rattle.std.specs.List.{AllByRecursion as Each}
 use Rattle.std.proofs.lemmas.Bool.{cond_both}
 use Rattle.std.proofs.lemmas.Bool.Decides.{eqb_tells}
-use Rattle.std.proofs.lemmas.List.{map-append, length-replicate, replicate-append-replicate}
+use Rattle.std.proofs.lemmas.List.{map-append, length-replicate}
 use Rattle.tbr_model.specs.declared.white_space.WhiteSpace.TheVariants.{PreWrap}
-use Rattle.tbr_model.specs.Run.{character, marker_entry, Item, glyph, marker, items_width, has_character}
-use Rattle.tbr_model.specs.Laid.{Laid, extended, end_line, end_if_character, put_item, put_items}
-use Rattle.tbr_model.specs.Rule.{Event, call, entry, run_of, Progress, Space, pending_width, space_of, without_trailing, trimmed, wrap_space_by, wrap_space, is_pre, lay_here, lay_fresh, lay, flush_word, break_word, join, tag_of, keep_space, newline, enter, step, finished}
-use Rattle.tbr_model.specs.Hard.{HasMode, letters_of, entry_letters, IsPrintableLine, IsSpaces, BeginsWithNonBlank, EndsWithNonBlank, first_stretch, BeginsBehind, IsWrapped}
-use Rattle.tbr_model.proofs.lists.Each.{each_append}
+use Rattle.tbr_model.specs.Run.{character, marker_entry, Item, glyph, items_width, has_character}
+use Rattle.tbr_model.specs.Laid.{Laid, end_line, end_if_character, put_items}
+use Rattle.tbr_model.specs.Rule.{Event, call, entry, run_of, Progress, Space, pending_width, space_of, trimmed, wrap_space_by, wrap_space, is_pre, lay_here, lay_fresh, lay, flush_word, break_word, join, tag_of, keep_space, newline, enter, step, finished}
+use Rattle.tbr_model.specs.Hard.{HasMode, letters_of, entry_letters, IsPrintableLine, IsSpaces, EndsWithNonBlank, IsWrapped}
 use Rattle.tbr_model.proofs.words.Items.{letters_of-append, some_letters, has_letters, no_letters, no_character_no_width, WaitsIn, pending_width-of}
 use Rattle.tbr_model.proofs.tabs.FittingText.{laid_letters}
 use Rattle.tbr_model.proofs.prewrap.Stretches.{IsVisibleOrMarker, plain_width, plain_leading}
-use Rattle.tbr_model.proofs.prewrap.LaidWord.{IsReadyForWord, waits, join_ready, again_ready, fresh_ready, put_marker, put_here, put_next, lay_cut}
+use Rattle.tbr_model.proofs.prewrap.LaidWord.{IsReadyForWord, waits, join_ready, again_ready, fresh_ready, lay_cut}
 use Rattle.tbr_model.proofs.prewrap.Entry.{enter_wrap_space, enter_wrap_visible, break_none, break_some}
 use Rattle.tbr_model.proofs.rule.Printable.{visible_of}
 use Rattle.tbr_model.proofs.rule.HardLineStart.{BeginsHardLine}
-
--- ---- texts
-
--- characters that are neither spaces nor before them
-abbrev AreNonBlank : List ℕ → Type 0
-AreNonBlank cs = Each (λ c. 33 ≤ c) cs
-
-ends_nonblank : (cs : List ℕ) → AreNonBlank cs → 0 < length cs → EndsWithNonBlank cs
-ends_nonblank [] h some = absurd (omega (arith, some))
-ends_nonblank (c ∷ []) h some = (λ e. omega (arith, h.0, e), λ e. omega (arith, h.0, e))
-ends_nonblank (c ∷ d ∷ cs) h some = ends_nonblank (d ∷ cs) h.1 (omega arith)
-
-ends_append : (xs ys : List ℕ) → EndsWithNonBlank ys → EndsWithNonBlank (xs ++ ys)
-ends_append [] ys h = h
-ends_append (x ∷ []) [] h = absurd h
-ends_append (x ∷ []) (y ∷ ys) h = h
-ends_append (x ∷ z ∷ xs) ys h = ends_append (z ∷ xs) ys h
-
--- a text of non-blanks and what stands behind it begin with all of it
-stretch_front : (cs ds : List ℕ) → AreNonBlank cs → length cs ≤ length (first_stretch (cs ++ ds))
-stretch_front [] ds h = omega arith
-stretch_front (c ∷ cs) ds h =
-    let other : (c == 32) ≡ false = ne_eqb c 32 (λ e. omega (arith, h.0, e)) in
-    rw other (omega (arith, stretch_front cs ds h.1))
-
-stretch_all : (cs : List ℕ) → AreNonBlank cs → first_stretch cs ≡ cs
-stretch_all [] h = refl
-stretch_all (c ∷ cs) h =
-    let other : (c == 32) ≡ false = ne_eqb c 32 (λ e. omega (arith, h.0, e)) in
-    rw other (ap (λ ds. c ∷ ds) (stretch_all cs h.1))
-
--- ---- an open line
-
--- On from an open line of these characters, this text is these lines.
-record GoesOnFrom (width : ℕ) (line cs : List ℕ) (ls : List (List ℕ)) : Type 0 where
-  more : List ℕ
-  rest : List ℕ
-  others : List (List ℕ)
-  lines : ls ≡ (line ++ more) ∷ others
-  text : cs ≡ more ++ rest
-  ends : EndsWithNonBlank (line ++ more)
-  fits : length (line ++ more) ≤ width
-  wrapped : IsWrapped width (line ++ more) rest others
-
--- the same where the open line may be empty, as where a hard line begins
-abbrev GoesOn : ℕ → List ℕ → List ℕ → List (List ℕ) → Type 0
-GoesOn width [] text ls = IsWrapped width [] text ls
-GoesOn width (c ∷ cs) text ls = GoesOnFrom width (c ∷ cs) text ls
-
-goes_on_some : (width : ℕ) (line text : List ℕ) (ls : List (List ℕ)) → 0 < length line → GoesOn width line text ls → GoesOnFrom width line text ls
-goes_on_some width [] text ls some h = absurd (omega (arith, some))
-goes_on_some width (c ∷ line) text ls some h = h
-
--- the line goes on with a text
-longer : (width : ℕ) (line w text : List ℕ) (ls : List (List ℕ)) → GoesOnFrom width (line ++ w) text ls → GoesOnFrom width line (w ++ text) ls
-longer width line w text ls h =
-    let same : (line ++ w) ++ h.more ≡ line ++ (w ++ h.more) = append_assoc line w h.more in
-    record {
-      more = w ++ h.more;
-      rest = h.rest;
-      others = h.others;
-      lines = h.lines ∙ ap (λ (l : List ℕ). l ∷ h.others) same;
-      text = ap (λ (cs : List ℕ). w ++ cs) h.text ∙ sym (append_assoc w h.more h.rest);
-      ends = subst EndsWithNonBlank same h.ends;
-      fits = subst (λ (l : List ℕ). length l ≤ width) same h.fits;
-      wrapped = subst (λ (l : List ℕ). IsWrapped width l h.rest h.others) same h.wrapped;
-    }
-
--- the line is ended
-ended : (width : ℕ) (line text : List ℕ) (ls : List (List ℕ)) → EndsWithNonBlank line → length line ≤ width → IsWrapped width line text ls → GoesOnFrom width line text (line ∷ ls)
-ended width line text ls ends fits wrapped =
-    let same : line ≡ line ++ [] = sym (append-nil line) in
-    record {
-      more = [];
-      rest = text;
-      others = ls;
-      lines = ap (λ (l : List ℕ). l ∷ ls) same;
-      text = refl;
-      ends = subst EndsWithNonBlank same ends;
-      fits = subst (λ (l : List ℕ). length l ≤ width) same fits;
-      wrapped = subst (λ (l : List ℕ). IsWrapped width l text ls) same wrapped;
-    }
-
--- a line begins
-begun : (width : ℕ) (before text : List ℕ) (ls : List (List ℕ)) (gap : ℕ) (h : GoesOnFrom width [] text ls) → BeginsBehind width before gap h.more → IsWrapped width before (replicate gap 32 ++ text) ls
-begun width before text ls gap h begins =
-    subst (IsWrapped width before (replicate gap 32 ++ text)) (sym h.lines)
-    (gap, h.rest, ap (λ (cs : List ℕ). replicate gap 32 ++ cs) h.text, h.ends, h.fits, begins, h.wrapped)
-
--- an open line that holds nothing yet, or ends with a non-blank and fits
-abbrev IsOpen : ℕ → List ℕ → Type 0
-IsOpen width cs = (cs ≡ []) ⊎ (EndsWithNonBlank cs × (length cs ≤ width))
-
--- what goes on from a line with more goes on from the line
-on_line : (width : ℕ) (line w text : List ℕ) (ls : List (List ℕ)) → GoesOnFrom width (line ++ w) text ls → GoesOn width line (w ++ text) ls
-on_line width [] w text ls h = begun width [] (w ++ text) ls 0 (longer width [] w text ls h) (inl (refl, refl))
-on_line width (c ∷ line) w text ls h = longer width (c ∷ line) w text ls h
-
--- what goes on from a line that holds something
-from_some : (width : ℕ) (line text : List ℕ) (ls : List (List ℕ)) → 0 < length line → GoesOnFrom width line text ls → GoesOn width line text ls
-from_some width [] text ls some h = absurd (omega (arith, some))
-from_some width (c ∷ line) text ls some h = h
-
-from_none : (width : ℕ) (line text : List ℕ) (ls : List (List ℕ)) → line ≡ [] → IsWrapped width [] text ls → GoesOn width line text ls
-from_none width line text ls none h = subst (λ (cs : List ℕ). GoesOn width cs text ls) (sym none) h
-
-some_ends : (cs : List ℕ) → EndsWithNonBlank cs → 0 < length cs
-some_ends [] h = absurd h
-some_ends (c ∷ cs) h = omega arith
-
--- a text that ends with a non-blank is one, or what stands behind its first character does
-last_of : (c : ℕ) (cs : List ℕ) → EndsWithNonBlank (c ∷ cs) → ((cs ≡ []) × (c ≢ 32)) ⊎ EndsWithNonBlank cs
-last_of c [] h = inl (refl, h.0)
-last_of c (d ∷ cs) h = inr h
-
--- an open line whose text is no spaces at its end has none there
-trailing_whole : {A : Type 0} (is : List (Item A)) → (letters_of is ≡ []) ⊎ EndsWithNonBlank (letters_of is) → without_trailing is ≡ is
-trailing_whole [] h = refl
-trailing_whole {A} (marker name ∷ is) h = go (without_trailing is) refl (trailing_whole is h)
-  where
-    go : (js : List (Item A)) → without_trailing is ≡ js → js ≡ is → without_trailing (marker name ∷ is) ≡ marker name ∷ is
-    go [] e f = rw e (ap (λ (ks : List (Item A)). marker name ∷ ks) f)
-    go (j ∷ js) e f = rw e (ap (λ (ks : List (Item A)). marker name ∷ ks) f)
-trailing_whole {A} (glyph c a ∷ is) (inl none) = cc
-trailing_whole {A} (glyph c a ∷ is) (inr ends) = go (without_trailing is) refl (trailing_whole is (behind (last_of c (letters_of is) ends)))
-  where
-    behind : ((letters_of is ≡ []) × (c ≢ 32)) ⊎ EndsWithNonBlank (letters_of is) → (letters_of is ≡ []) ⊎ EndsWithNonBlank (letters_of is)
-    behind (inl h) = inl h.0
-    behind (inr h) = inr h
-
-    alone : is ≡ [] → ((letters_of is ≡ []) × (c ≢ 32)) ⊎ EndsWithNonBlank (letters_of is) → c ≢ 32
-    alone e (inl h) = h.1
-    alone e (inr h) = absurd (subst (λ (ks : List (Item A)). EndsWithNonBlank (letters_of ks)) e h)
-
-    go : (js : List (Item A)) → without_trailing is ≡ js → js ≡ is → without_trailing (glyph c a ∷ is) ≡ glyph c a ∷ is
-    go [] e f =
-        let other : (c == 32) ≡ false = ne_eqb c 32 (alone (sym f) (last_of c (letters_of is) ends)) in
-        rw (e, other) (ap (λ (ks : List (Item A)). glyph c a ∷ ks) f)
-    go (j ∷ js) e f = rw e (ap (λ (ks : List (Item A)). glyph c a ∷ ks) f)
-
--- ---- items one by one
-
-nonblanks : {A : Type 0} (columns : ℕ → Option ℕ) (is : List (Item A)) → Each (IsVisibleOrMarker columns) is → AreNonBlank (letters_of is)
-nonblanks columns [] h = tt
-nonblanks columns (glyph c a ∷ is) h = (h.0.from, nonblanks columns is h.1)
-nonblanks columns (marker name ∷ is) h = nonblanks columns is h.1
-
-begins_nonblank : (cs : List ℕ) → 0 < length (first_stretch cs) → BeginsWithNonBlank cs
-begins_nonblank [] h = absurd (omega (arith, h))
-begins_nonblank (c ∷ cs) h = elim (eqb_tells c 32) [
-  | inl w ↦ absurd (let none : length (first_stretch (c ∷ cs)) ≡ 0 = rw (w.0) refl in omega (arith, h, none))
-  | inr w ↦ w.1
-]
-
--- A word that doesn't fit behind the line before begins a line behind dropped spaces, if that reaches all of it that a
--- line has columns for.
-begins_behind : (width : ℕ) → 0 < width → (before : List ℕ) (gap : ℕ) (w more : List ℕ) → 0 < length w → width < length before + (gap + length w) → 0 < gap →
-    ((k : ℕ) → k ≤ width → k ≤ length w → k ≤ length (first_stretch more)) → BeginsBehind width before gap more
-begins_behind width some before gap w more long over apart reach = inr (
-  begins_nonblank more (reach 1 some long),
-  go (nat_le (length w) width) refl,
-  λ none. absurd (omega (arith, none, apart)),
-)
-  where
-    go : (b : Bool) → nat_le (length w) width ≡ b → width < length before + (gap + length (first_stretch more))
-    go true e = let all : length w ≤ length (first_stretch more) = reach (length w) (leb-true _ _ e) (omega arith) in omega (arith, over, all)
-    go false e = let all : width ≤ length (first_stretch more) = reach width (omega arith) (omega (arith, leb-false _ _ e)) in omega (arith, apart, all)
-
-first_begins : (width : ℕ) → 0 < width → (gap : ℕ) (w more : List ℕ) → 0 < length w → width < gap + length w →
-    ((k : ℕ) → k ≤ width → k ≤ length w → k ≤ length (first_stretch more)) → BeginsBehind width [] gap more
-first_begins width some zero w more long over reach = inl (refl, refl)
-first_begins width some (suc gap) w more long over reach = begins_behind width some [] (suc gap) w more long (omega (arith, over)) (omega arith) reach
-
-spaces_alone : (n : ℕ) → IsSpaces (replicate n 32 ++ [])
-spaces_alone zero = tt
-spaces_alone (suc n) = (refl, spaces_alone n)
-
-one_more_space : (n : ℕ) (cs : List ℕ) → replicate (n + 1) 32 ++ cs ≡ replicate n 32 ++ (32 ∷ cs)
-one_more_space n cs = ap (λ (ds : List ℕ). ds ++ cs) (sym (replicate-append-replicate n 1 32)) ∙ append_assoc (replicate n 32) (32 ∷ []) cs
+use Rattle.tbr_model.proofs.prewrap.WrappedText.{GoesOnFrom, GoesOn, IsOpen, ends_nonblank, ends_append, goes_on_some, ended, begun, on_line, from_some, from_none, begins_behind, first_begins, spaces_alone, one_more_space}
+use Rattle.tbr_model.proofs.prewrap.PutText.{trailing_whole, nonblanks, PutsText, ReachesFrom, put_text}
 
 module _ {A : Type 0} (columns : ℕ → Option ℕ) (width : ℕ) (some : 0 < width) where
-  -- what the lines are that go on from the open line of the second, from the open line of the first, on which stand
-  -- the characters y, with w between: it reaches all of these that a line has columns for
-  record ReachesFrom (l : Laid A) (y w : List ℕ) (r : Laid A) (text : List ℕ) (ls : List (List ℕ)) : Type 0 where
-    all : List (List ℕ)
-    are : map letters_of r.done ++ ls ≡ map letters_of l.done ++ all
-    goes : GoesOnFrom width y (w ++ text) all
-    reach : (k : ℕ) → k ≤ width → k ≤ length y + length w → k ≤ length (first_stretch (y ++ goes.more))
-
-  record PutsText (l : Laid A) (y w : List ℕ) (r : Laid A) : Type 0 where
-    nonblank : AreNonBlank (letters_of r.line)
-    fits : length (letters_of r.line) ≤ width
-    measured : 0 < length y + length w → 0 < length (letters_of r.line)
-    goes : (text : List ℕ) (ls : List (List ℕ)) → GoesOnFrom width (letters_of r.line) text ls → ReachesFrom l y w r text ls
-
-  put_none : (l : Laid A) (y : List ℕ) → letters_of l.line ≡ y → AreNonBlank y → length y ≤ width → PutsText l y [] l
-  put_none l y letters nonblank fits = record {
-    nonblank = subst AreNonBlank (sym letters) nonblank;
-    fits = subst (λ (cs : List ℕ). length cs ≤ width) (sym letters) fits;
-    measured = λ h. omega (arith, h, ap length letters);
-    goes = λ text ls h. (let g : GoesOnFrom width y text ls = subst (λ (cs : List ℕ). GoesOnFrom width cs text ls) letters h in record {
-      all = ls;
-      are = refl;
-      goes = g;
-      reach = λ k _ short. omega (arith, short, stretch_front y g.more nonblank);
-    });
-  }
-
-  put_one_here : (l : Laid A) (c : ℕ) (a : A) (y w : List ℕ) (r : Laid A) → PutsText (extended l (glyph c a ∷ []) 1) (y ++ c ∷ []) w r → PutsText l y (c ∷ w) r
-  unfolding longer
-  put_one_here l c a y w r k =
-      let more : length (y ++ c ∷ []) ≡ length y + 1 = length-append y (c ∷ []) in
-      record {
-        nonblank = k.nonblank;
-        fits = k.fits;
-        measured = λ h. k.measured (omega (arith, more));
-        goes = λ text ls h. (let g = k.goes text ls h in record {
-          all = g.all;
-          are = g.are;
-          goes = longer width y (c ∷ []) (w ++ text) g.all g.goes;
-          reach = λ n wide short. subst (λ (cs : List ℕ). n ≤ length (first_stretch cs)) (append_assoc y (c ∷ []) g.goes.more) (g.reach n wide (omega (arith, short, more)));
-        });
-      }
-
-  put_one_next : (l : Laid A) (c : ℕ) (a : A) (y w : List ℕ) (r : Laid A) → letters_of l.line ≡ y → AreNonBlank y → length y ≡ width → 33 ≤ c →
-      PutsText (extended (end_line l) (glyph c a ∷ []) 1) (c ∷ []) w r → PutsText l y (c ∷ w) r
-  unfolding longer ended
-  put_one_next l c a y w r letters nonblank full visible k = record {
-    nonblank = k.nonblank;
-    fits = k.fits;
-    measured = λ h. k.measured (omega arith);
-    goes = λ text ls h.
-        (let g = k.goes text ls h in
-        let next = longer width [] (c ∷ []) (w ++ text) g.all g.goes in
-        let begins : BeginsBehind width y 0 next.more = inr (
-          (λ e. omega (arith, visible, e)),
-          (let one : 1 ≤ length (first_stretch (c ∷ g.goes.more)) = stretch_front (c ∷ []) g.goes.more (visible, tt) in omega (arith, full, one)),
-          (λ _. (full, stretch_all y nonblank)),
-        ) in
-        record {
-          all = y ∷ g.all;
-          are = g.are ∙ ap (λ (xs : List (List ℕ)). xs ++ g.all) (map-append letters_of l.done (l.line ∷ []) ∙ ap (λ (x : List ℕ). map letters_of l.done ++ x ∷ []) letters) ∙ append_assoc (map letters_of l.done) (y ∷ []) g.all;
-          goes = ended width y (c ∷ (w ++ text)) g.all (ends_nonblank y nonblank (omega (arith, full, some))) (omega (arith, full)) (begun width y (c ∷ (w ++ text)) g.all 0 next begins);
-          reach = λ n wide _. (let all : length y ≤ length (first_stretch (y ++ [])) = stretch_front y [] nonblank in omega (arith, wide, full, all));
-        });
-  }
-
-  put_text : (is : List (Item A)) (l : Laid A) (y : List ℕ) → Each (IsVisibleOrMarker columns) is → letters_of l.line ≡ y → AreNonBlank y → l.width ≡ length y → l.width ≤ width →
-      PutsText l y (letters_of is) (put_items columns width l is)
-  put_text [] l y plain letters nonblank measured fits = put_none l y letters nonblank (omega (arith, measured, fits))
-  put_text (marker name ∷ is) l y plain letters nonblank measured fits =
-      rw (put_marker columns width some l name fits)
-      (let k = put_text is (extended l (marker name ∷ []) 0) y plain.1 (letters_of-append l.line (marker name ∷ []) ∙ append-nil (letters_of l.line) ∙ letters) nonblank
-      (omega (arith, measured)) (omega (arith, fits)) in
-      record { nonblank = k.nonblank; fits = k.fits; measured = k.measured; goes = λ text ls h. (let g = k.goes text ls h in record { all = g.all; are = g.are; goes = g.goes; reach = g.reach }) })
-  put_text (glyph c a ∷ is) l y plain letters nonblank measured fits =
-      go (nat_le (l.width + 1) width) refl
-      (λ room. put_text is (extended l (glyph c a ∷ []) 1) (y ++ c ∷ []) plain.1 (letters_of-append l.line (glyph c a ∷ []) ∙ ap (λ cs. cs ++ c ∷ []) letters)
-      (each_append (λ d. 33 ≤ d) y (c ∷ []) nonblank (plain.0.from, tt)) (omega (arith, measured, length-append y (c ∷ []))) room)
-      (put_text is (extended (end_line l) (glyph c a ∷ []) 1) (c ∷ []) plain.1 refl (plain.0.from, tt) refl (omega (arith, some)))
-    where
-      go : (b : Bool) → nat_le (l.width + 1) width ≡ b →
-          (l.width + 1 ≤ width → PutsText (extended l (glyph c a ∷ []) 1) (y ++ c ∷ []) (letters_of is) (put_items columns width (extended l (glyph c a ∷ []) 1) is)) →
-          PutsText (extended (end_line l) (glyph c a ∷ []) 1) (c ∷ []) (letters_of is) (put_items columns width (extended (end_line l) (glyph c a ∷ []) 1) is) →
-          PutsText l y (c ∷ letters_of is) (put_items columns width (put_item columns width l (glyph c a)) is)
-      go true e here k = rw (put_here columns width some l c a plain.0.one (leb-true _ _ e)) (put_one_here l c a y (letters_of is) _ (here (leb-true _ _ e)))
-      go false e here k =
-          rw (put_next columns width some l c a plain.0.one (leb-false _ _ e))
-          (put_one_next l c a y (letters_of is) _ letters nonblank (omega (arith, leb-false _ _ e, measured, fits)) plain.0.from k)
-
   -- ---- a word
 
   -- A word that is laid makes the open line hold something, and lines that go on from there go on from the line before.
@@ -306,7 +39,7 @@ module _ {A : Type 0} (columns : ℕ → Option ℕ) (width : ℕ) (some : 0 < w
       let long : 0 < length w = some_letters p.word has in
       let ends : EndsWithNonBlank w = ends_nonblank w (nonblanks columns p.word h.plain) long in
       let size : length (line ++ (gap ++ w)) ≡ length line + (pending_width p.space + length w) =
-          omega (arith, length-append line (gap ++ w), length-append gap w, length-replicate {A = ℕ} (pending_width p.space) 32) in
+      omega (arith, length-append line (gap ++ w), length-append gap w, length-replicate {A = ℕ} (pending_width p.space) 32) in
       record {
         line = subst (λ (cs : List ℕ). EndsWithNonBlank cs × (length cs ≤ width)) (sym is)
             (ends_append line (gap ++ w) (ends_append gap w ends), omega (arith, size, fits, h.measured, plain_width columns p.word h.plain));
@@ -361,8 +94,8 @@ module _ {A : Type 0} (columns : ℕ → Option ℕ) (width : ℕ) (some : 0 < w
       columns_over : width < length (letters_of p.laid.line) + (n + length w)
       columns_over = omega (arith, over, h.measured, plain_width columns p.word h.plain)
 
-      lays : (l : Laid A) → PutsText l [] w (put_items columns width l p.word) →
-          ((text : List ℕ) (ls : List (List ℕ)) → ReachesFrom l [] w (put_items columns width l p.word) text ls →
+      lays : (l : Laid A) → PutsText columns width some l [] w (put_items columns width l p.word) →
+          ((text : List ℕ) (ls : List (List ℕ)) → ReachesFrom columns width some l [] w (put_items columns width l p.word) text ls →
           (all : List (List ℕ)) × (map letters_of (put_items columns width l p.word).done ++ ls ≡ map letters_of p.laid.done ++ all)
           × GoesOn width (letters_of p.laid.line) (replicate n 32 ++ (w ++ text)) all) →
           LaysText p (let r : Progress A = record q { laid = put_items columns width l p.word; space = None; word = []; continuation_flag = is_pre q.mode } in r)
@@ -374,7 +107,7 @@ module _ {A : Type 0} (columns : ℕ → Option ℕ) (width : ℕ) (some : 0 < w
 
       go : (b : Bool) → has_character q.laid.line ≡ b →
           LaysText p (let r : Progress A = record q { laid = put_items columns width (if b then end_line q.laid else q.laid) p.word; space = None; word = []; continuation_flag = is_pre q.mode } in r)
-      go true e = lays (end_line q.laid) (put_text p.word (end_line q.laid) [] h.plain refl tt refl (omega (arith, some))) (λ text ls g. ended_first text ls g)
+      go true e = lays (end_line q.laid) (put_text columns width some p.word (end_line q.laid) [] h.plain refl tt refl (omega (arith, some))) (λ text ls g. ended_first text ls g)
         where
           full : 0 < length (letters_of p.laid.line)
           full = omega (arith, some_letters q.laid.line e, ap length d.line)
@@ -382,7 +115,7 @@ module _ {A : Type 0} (columns : ℕ → Option ℕ) (width : ℕ) (some : 0 < w
           apart : 0 < n
           apart = elim h.apart [ inl none ↦ absurd (omega (arith, full, ap length none)) | inr gap ↦ gap ]
 
-          ended_first : (text : List ℕ) (ls : List (List ℕ)) → ReachesFrom (end_line q.laid) [] w (put_items columns width (end_line q.laid) p.word) text ls →
+          ended_first : (text : List ℕ) (ls : List (List ℕ)) → ReachesFrom columns width some (end_line q.laid) [] w (put_items columns width (end_line q.laid) p.word) text ls →
               (all : List (List ℕ)) × (map letters_of (put_items columns width (end_line q.laid) p.word).done ++ ls ≡ map letters_of p.laid.done ++ all)
               × GoesOn width (letters_of p.laid.line) (replicate n 32 ++ (w ++ text)) all
           ended_first text ls g = elim line [
@@ -401,12 +134,12 @@ module _ {A : Type 0} (columns : ℕ → Option ℕ) (width : ℕ) (some : 0 < w
               before =
                   map-append letters_of q.laid.done (q.laid.line ∷ []) ∙ ap (λ (ds : List (List (Item A))). map letters_of ds ++ letters_of q.laid.line ∷ []) d.done
                   ∙ ap (λ (cs : List ℕ). map letters_of p.laid.done ++ cs ∷ []) d.line
-      go false e = lays q.laid (put_text p.word q.laid [] h.plain (no_letters q.laid.line e) tt (d.empty e) (omega (arith, d.empty e))) (λ text ls g. first text ls g)
+      go false e = lays q.laid (put_text columns width some p.word q.laid [] h.plain (no_letters q.laid.line e) tt (d.empty e) (omega (arith, d.empty e))) (λ text ls g. first text ls g)
         where
           none : letters_of p.laid.line ≡ []
           none = sym d.line ∙ no_letters q.laid.line e
 
-          first : (text : List ℕ) (ls : List (List ℕ)) → ReachesFrom q.laid [] w (put_items columns width q.laid p.word) text ls →
+          first : (text : List ℕ) (ls : List (List ℕ)) → ReachesFrom columns width some q.laid [] w (put_items columns width q.laid p.word) text ls →
               (all : List (List ℕ)) × (map letters_of (put_items columns width q.laid p.word).done ++ ls ≡ map letters_of p.laid.done ++ all)
               × GoesOn width (letters_of p.laid.line) (replicate n 32 ++ (w ++ text)) all
           first text ls g = (
@@ -493,8 +226,8 @@ module _ {A : Type 0} (columns : ℕ → Option ℕ) (width : ℕ) (some : 0 < w
       let q : Progress A = lay columns width p in
       let n : Progress A = record q { space = space_of (pending_width q.space + 1) a PreWrap } in
       let ahead : text_ahead n cs ≡ 32 ∷ cs =
-          ap (λ (m : ℕ). replicate m 32 ++ (letters_of q.word ++ cs)) (pending_width-of (pending_width q.space + 1) a PreWrap ∙ ap (λ (o : Option (Space A)). pending_width o + 1) no_space)
-          ∙ ap (λ (is : List (Item A)). 32 ∷ (letters_of is ++ cs)) no_word in
+      ap (λ (m : ℕ). replicate m 32 ++ (letters_of q.word ++ cs)) (pending_width-of (pending_width q.space + 1) a PreWrap ∙ ap (λ (o : Option (Space A)). pending_width o + 1) no_space)
+      ∙ ap (λ (is : List (Item A)). 32 ∷ (letters_of is ++ cs)) no_word in
       let (all, are, goes) = k.goes (32 ∷ cs) rest.lines (subst (λ (ds : List ℕ). GoesOnFrom width (letters_of q.laid.line) ds rest.lines) ahead (goes_on_some width (letters_of q.laid.line) (text_ahead n cs) rest.lines k.measured rest.goes)) in
       record {
         lines = all;
@@ -510,10 +243,10 @@ module _ {A : Type 0} (columns : ℕ → Option ℕ) (width : ℕ) (some : 0 < w
       let n : Progress A = record p { space = space_of (pending_width p.space + 1) a PreWrap } in
       let bare : letters_of p.word ≡ [] = no_letters p.word none in
       let ahead : text_ahead n cs ≡ text_ahead p (32 ∷ cs) =
-          ap (λ (m : ℕ). replicate m 32 ++ (letters_of p.word ++ cs)) (pending_width-of (pending_width p.space + 1) a PreWrap)
-          ∙ ap (λ (w : List ℕ). replicate (pending_width p.space + 1) 32 ++ (w ++ cs)) bare
-          ∙ one_more_space (pending_width p.space) cs
-          ∙ ap (λ (w : List ℕ). replicate (pending_width p.space) 32 ++ (w ++ 32 ∷ cs)) (sym bare) in
+      ap (λ (m : ℕ). replicate m 32 ++ (letters_of p.word ++ cs)) (pending_width-of (pending_width p.space + 1) a PreWrap)
+      ∙ ap (λ (w : List ℕ). replicate (pending_width p.space + 1) 32 ++ (w ++ cs)) bare
+      ∙ one_more_space (pending_width p.space) cs
+      ∙ ap (λ (w : List ℕ). replicate (pending_width p.space) 32 ++ (w ++ 32 ∷ cs)) (sym bare) in
       subst (λ (ds : List ℕ). WrapsText p ds l) ahead (record { lines = rest.lines; are = rest.are; goes = rest.goes; last = rest.last })
 
   abbrev end_laid_from : Progress A → List (Event A) → Laid A
