@@ -164,6 +164,28 @@ IsCutOf width (s ∷ ss) ps =
     (front back : List (List ℕ)) × (ps ≡ front ++ back) × (joined front ≡ s) × (length s ≤ width → front ≡ s ∷ [])
     × IsCutOf width ss back
 
+-- a text up to its first space
+abbrev pub first_stretch : List ℕ → List ℕ
+first_stretch [] = []
+first_stretch (c ∷ cs) = if c == space_character then [] else c ∷ first_stretch cs
+
+-- How a line begins behind spaces that are dropped, and behind the line before, which is empty where the hard line
+-- begins: with the hard line, or with a stretch that doesn't fit behind that line with the spaces. If no spaces are
+-- dropped, it goes on with a stretch that filled the line before alone.
+abbrev pub BeginsBehind : ℕ → List ℕ → ℕ → List ℕ → Type 0
+BeginsBehind width before gap l =
+    ((before ≡ []) × (gap ≡ 0))
+    ⊎ (BeginsWithNonBlank l × (width < length before + (gap + length (first_stretch l)))
+    × (gap ≡ 0 → (length before ≡ width) × (first_stretch before ≡ before)))
+
+-- A text is these lines, behind the line before: each ends with a non-blank and fits, and spaces are dropped before
+-- lines that begin so, and at the end.
+abbrev pub IsWrapped : ℕ → List ℕ → List ℕ → List (List ℕ) → Type 0
+IsWrapped width before text [] = IsSpaces text
+IsWrapped width before text (l ∷ ls) =
+    (gap : ℕ) × (rest : List ℕ) × (text ≡ replicate gap space_character ++ (l ++ rest))
+    × EndsWithNonBlank l × (length l ≤ width) × BeginsBehind width before gap l × IsWrapped width l rest ls
+
 -- from a column on, each tab as spaces up to the next multiple of eight
 abbrev pub tabs_filled : ℕ → List ℕ → List ℕ
 tabs_filled n [] = []
@@ -227,6 +249,9 @@ pub record ShowsPreWrap {A : Type 0} (columns : ℕ → Option ℕ) (width : ℕ
   -- its stretches stand on its lines, and only those that are wider than a line are cut
   pub whole : IsPrintableLine columns h →
       IsCutOf width (stretches (entry_letters h)) (flat_map stretches (map letters_of ls))
+  -- spaces are dropped, and a line ends, only where the next stretch doesn't fit
+  pub wrapped : IsPrintableLine columns h → ¬ (IsSpaces (entry_letters h)) →
+      IsWrapped width [] (entry_letters h) (map letters_of ls)
   -- spaces alone leave an empty line before a newline, and no line at the end of the run
   pub blank : IsSpaces (entry_letters h) → ls ≡ blank_lines more
 

@@ -30,8 +30,8 @@ pub fn pre_lines_are_shown<T>()
 
 /// In a run of `PreWrap` alone a hard line of printable characters, not of spaces alone, is one line where it fits
 /// without the spaces at its end, which are dropped. In any case its stretches of non-blanks stand in order, and a
-/// stretch is cut only if it is wider than a line. Spaces alone leave an empty line before a newline, and no line at
-/// the end of the run.
+/// stretch is cut only if it is wider than a line. Spaces are dropped, and a line ends, only where the next stretch
+/// doesn't fit. Spaces alone leave an empty line before a newline, and no line at the end of the run.
 pub fn prewrap_lines_are_shown<T>()
     ensures { (columns : ℕ → Option ℕ) (width : ℕ) → columns space_character ≡ Some 1 → 0 < width →
         (es : List (Event T)) → AllHaveMode PreWrap (run_of es) →

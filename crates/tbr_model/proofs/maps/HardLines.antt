@@ -161,6 +161,7 @@ module _ {A B : Type 0} (f : A → B) where
   prewrap-map columns width more h ls s = record {
     fits = rw (line_letters-map ls, entry_letters-map h) (λ printable some fits. s.fits (printable_unmap columns h printable) some fits);
     whole = rw (line_letters-map ls, entry_letters-map h) (λ printable. s.whole (printable_unmap columns h printable));
+    wrapped = rw (line_letters-map ls, entry_letters-map h) (λ printable other. s.wrapped (printable_unmap columns h printable) other);
     blank = blank-map more h ls s.blank;
   }
 

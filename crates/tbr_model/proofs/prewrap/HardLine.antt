@@ -1,24 +1,24 @@
 -- A hard line of `PreWrap`: its stretches of non-blanks stand whole where they fit a line, and it is one line where it fits.
-use Rattle.std.proofs.Common.{◌≡◌, ℕ, zero, suc, ◌+◌, ◌<◌, ◌≤◌, inl, inr, Bool, true, false, Option, Some, List, [], ◌∷◌, ◌++◌, map, flat_map, fold, length, refl, ap, sym, ◌∙◌, arith, append_assoc, append-nil, subst}
+use Rattle.std.proofs.Common.{◌≡◌, ℕ, ◌+◌, ◌<◌, ◌≤◌, inl, inr, Bool, true, false, Option, Some, List, [], ◌∷◌, ◌++◌, map, flat_map, fold, length, refl, ap, sym, ◌∙◌, arith, append_assoc, append-nil, subst}
 use Rattle.std.specs.List.{AllByRecursion as Each}
 use Rattle.std.proofs.lemmas.Bool.{cond_both}
 use Rattle.std.proofs.lemmas.Bool.Decides.{eqb_tells}
 use Rattle.tbr_model.specs.declared.white_space.WhiteSpace.TheVariants.{PreWrap}
-use Rattle.tbr_model.specs.Run.{character, marker_entry, Item, glyph, marker, has_character}
+use Rattle.tbr_model.specs.Run.{character, marker_entry, glyph, has_character}
 use Rattle.tbr_model.specs.Layout.{joined}
 use Rattle.tbr_model.specs.Laid.{Laid, end_line, end_if_character}
 use Rattle.tbr_model.specs.Rule.{Event, call, entry, run_of, Progress, pending_width, space_of, lay, flush_word, break_word, join, tag_of, newline, enter, step, finished}
 use Rattle.tbr_model.specs.Hard.{HasMode, is_newline, letters_of, entry_letters, IsPrintableLine, IsSpaces, without_last_spaces, stretches, IsCutOf, ShowsPreWrap}
-use Rattle.tbr_model.proofs.words.Items.{letters_of-append, no_letters, some_letters, WaitsIn, pending_width-of}
-use Rattle.tbr_model.proofs.lists.Each.{each_append}
+use Rattle.tbr_model.proofs.words.Items.{letters_of-append, no_letters, some_letters}
 use Rattle.tbr_model.proofs.rule.HardLineStart.{BeginsHardLine}
 use Rattle.tbr_model.proofs.rule.BlankLines.{blank_line_of}
-use Rattle.tbr_model.proofs.rule.Printable.{IsVisible, visible_of}
+use Rattle.tbr_model.proofs.rule.Printable.{visible_of}
 use Rattle.tbr_model.proofs.tabs.HardLine.{IsLine, fresh_reads}
 use Rattle.tbr_model.proofs.prewrap.Entry.{enter_wrap_space, enter_wrap_visible, break_none, break_some, spaces_if}
 use Rattle.tbr_model.proofs.prewrap.FittingLine.{fits_read}
 use Rattle.tbr_model.proofs.prewrap.Stretches.{IsVisibleOrMarker, stretches_gap, stretches_word, plain_solid, plain_width}
-use Rattle.tbr_model.proofs.prewrap.LaidWord.{ended_pieces, pieces, pieces_ended, end_if_character_pieces, IsReadyForWord, lay_cut}
+use Rattle.tbr_model.proofs.prewrap.WrappedLines.{wrapped_line}
+use Rattle.tbr_model.proofs.prewrap.LaidWord.{ended_pieces, pieces, pieces_ended, end_if_character_pieces, IsReadyForWord, waits, join_ready, again_ready, fresh_ready, lay_cut}
 
 -- Behind pieces the lines show what cuts stretches, where another hard line follows and where none does.
 abbrev ShowsCutStretches : {A : Type 0} → ℕ → List (List ℕ) → List (List ℕ) → Laid A → Type 0
@@ -38,20 +38,6 @@ module _ {A : Type 0} (columns : ℕ → Option ℕ) (width : ℕ) (some : 0 < w
   Next p cs = stretches (letters_of p.word ++ cs)
 
   -- ---- one entry
-
-  waits : (p : Progress A) (a : A) → Each (IsVisibleOrMarker columns) p.word → p.laid.width ≡ length (letters_of p.laid.line) →
-      IsReadyForWord columns (record p { space = space_of (pending_width p.space + 1) a PreWrap })
-  waits p a plain measured = record { plain = plain; measured = measured; apart = inr (omega (arith, pending_width-of (pending_width p.space + 1) a PreWrap)); wraps = wrapped (pending_width p.space + 1) }
-    where
-      wrapped : (n : ℕ) → WaitsIn PreWrap (space_of n a PreWrap)
-      wrapped zero = tt
-      wrapped (suc n) = refl
-
-  join_ready : (p : Progress A) (c : ℕ) (a : A) → IsVisible columns c → IsReadyForWord columns p → IsReadyForWord columns (join c a PreWrap p)
-  join_ready p c a v h = record { plain = each_append (IsVisibleOrMarker columns) p.word (glyph c a ∷ []) h.plain (v, tt); measured = h.measured; apart = h.apart; wraps = h.wraps }
-
-  again_ready : (p : Progress A) (in_continuation : Bool) → IsReadyForWord columns p → IsReadyForWord columns (record p { in_continuation = in_continuation })
-  again_ready p in_continuation h = record { plain = h.plain; measured = h.measured; apart = h.apart; wraps = h.wraps }
 
   -- what is laid with the word under way: the word's parts, or none
   record Broken (p q : Progress A) : Type 0 where
@@ -115,7 +101,7 @@ module _ {A : Type 0} (columns : ℕ → Option ℕ) (width : ℕ) (some : 0 < w
 
   whole_read : (es : List (Event A)) (p : Progress A) → Each (HasMode PreWrap) (run_of es) → IsPrintableLine columns (run_of es) → IsReadyForWord columns p → Goal es p
   whole_read [] p modes printable h = let b = flush_broken p h in shown_by width (pieces p.laid) (Next p []) b.parts (flush_word columns width p).laid b.ends b.are b.measured
-  whole_read (call ∷ es) p modes printable h = whole_read es (record p { in_continuation = p.continuation_flag }) modes printable (again_ready p p.continuation_flag h)
+  whole_read (call ∷ es) p modes printable h = whole_read es (record p { in_continuation = p.continuation_flag }) modes printable (again_ready columns p p.continuation_flag h)
   whole_read (entry (marker_entry name) ∷ es) p modes printable h = absurd printable.0
   whole_read (entry (character c a b mode) ∷ es) p modes printable h =
       elim (eqb_tells c 32) [
@@ -126,30 +112,17 @@ module _ {A : Type 0} (columns : ℕ → Option ℕ) (width : ℕ) (some : 0 < w
             let enters : enter columns width p (character 32 a b mode) ≡ n = enter_wrap_space columns width a b mode p modes.0 one ∙ rw (k.word) refl in
             subst (λ d. ShowsCutStretches width (pieces p.laid) (Next p (d ∷ entry_letters (run_of es))) (flush_word columns width (fold (step columns width) (enter columns width p (character d a b mode)) es)).laid) (sym w.1)
             (subst (λ (r : Progress A). ShowsCutStretches width (pieces p.laid) (Next p (32 ∷ entry_letters (run_of es))) (flush_word columns width (fold (step columns width) r es)).laid) (sym enters)
-            (space_shown p q (entry_letters (run_of es)) (flush_word columns width (fold (step columns width) n es)).laid k (whole_read es n modes.1 printable.1 (waits q (tag_of q a b) k.plain k.measured))))
+            (space_shown p q (entry_letters (run_of es)) (flush_word columns width (fold (step columns width) n es)).laid k (whole_read es n modes.1 printable.1 (waits columns q (tag_of q a b) k.plain k.measured))))
         | inr w ↦
             let v = visible_of columns c printable.0 w.1 in
             let n = join c (tag_of p a b) PreWrap p in
             let text : letters_of n.word ++ entry_letters (run_of es) ≡ letters_of p.word ++ (c ∷ entry_letters (run_of es)) =
             ap (λ cs. cs ++ entry_letters (run_of es)) (letters_of-append p.word (glyph c (tag_of p a b) ∷ [])) ∙ append_assoc (letters_of p.word) (c ∷ []) (entry_letters (run_of es)) in
             subst (λ (r : Progress A). ShowsCutStretches width (pieces p.laid) (Next p (c ∷ entry_letters (run_of es))) (flush_word columns width (fold (step columns width) r es)).laid) (sym (enter_wrap_visible columns width a b mode p modes.0 c v))
-            (subst (λ (t : List ℕ). ShowsCutStretches width (pieces p.laid) (stretches t) (flush_word columns width (fold (step columns width) n es)).laid) text (whole_read es n modes.1 printable.1 (join_ready p c (tag_of p a b) v h)))
+            (subst (λ (t : List ℕ). ShowsCutStretches width (pieces p.laid) (stretches t) (flush_word columns width (fold (step columns width) n es)).laid) text (whole_read es n modes.1 printable.1 (join_ready columns p c (tag_of p a b) v h)))
       ]
 
   -- ---- a hard line
-
-  markers_plain : (is : List (Item A)) → has_character is ≡ false → Each (IsVisibleOrMarker columns) is
-  markers_plain [] h = tt
-  markers_plain (glyph c a ∷ is) h = cc
-  markers_plain (marker name ∷ is) h = (tt, markers_plain is h)
-
-  fresh_ready : (p : Progress A) → BeginsHardLine p → IsReadyForWord columns p
-  fresh_ready p h = record {
-    plain = markers_plain p.word h.word;
-    measured = h.width ∙ ap (λ is. length (letters_of is)) (sym h.line);
-    apart = inl (ap letters_of h.line);
-    wraps = subst (WaitsIn PreWrap) (sym h.space) tt;
-  }
 
   whole_line : (p : Progress A) (es : List (Event A)) → BeginsHardLine p → Each (HasMode PreWrap) (run_of es) → IsPrintableLine columns (run_of es) →
       ShowsCutStretches width [] (stretches (entry_letters (run_of es))) (flush_word columns width (fold (step columns width) p es)).laid
@@ -157,7 +130,7 @@ module _ {A : Type 0} (columns : ℕ → Option ℕ) (width : ℕ) (some : 0 < w
       let none : pieces p.laid ≡ [] = ap (λ ds. flat_map stretches (map letters_of ds) ++ stretches (letters_of p.laid.line)) h.done ∙ ap (λ is. stretches (letters_of is)) h.line in
       let lines : Laid A = (flush_word columns width (fold (step columns width) p es)).laid in
       subst (λ (ps : List (List ℕ)). ShowsCutStretches width ps (stretches (entry_letters (run_of es))) lines) none
-      (subst (λ (w : List ℕ). ShowsCutStretches width (pieces p.laid) (stretches (w ++ entry_letters (run_of es))) lines) (no_letters p.word h.word) (whole_read es p modes printable (fresh_ready p h)))
+      (subst (λ (w : List ℕ). ShowsCutStretches width (pieces p.laid) (stretches (w ++ entry_letters (run_of es))) lines) (no_letters p.word h.word) (whole_read es p modes printable (fresh_ready columns p h)))
 
   fits_line : (p : Progress A) (es : List (Event A)) → BeginsHardLine p → Each (HasMode PreWrap) (run_of es) → IsPrintableLine columns (run_of es) → ¬ (IsSpaces (entry_letters (run_of es))) →
       length (without_last_spaces (entry_letters (run_of es))) ≤ width → IsLine (without_last_spaces (entry_letters (run_of es))) (flush_word columns width (fold (step columns width) p es)).laid
@@ -173,11 +146,13 @@ prewrap_line columns width one some p es h no_newline modes = (
   record {
     fits = λ printable other fits. (fits_line columns width some one p es h modes printable other fits).0;
     whole = λ printable. let s = whole_line columns width some one p es h modes printable in subst (IsCutOf width (stretches (entry_letters (run_of es)))) (sym s.2) s.1;
+    wrapped = λ printable other. (wrapped_line columns width some one p es h modes printable other).0;
     blank = λ spaces. (blank_line_of columns width PreWrap (λ e. cc) p es h modes spaces).0;
   },
   record {
     fits = λ printable other fits. (fits_line columns width some one p es h modes printable other fits).1;
     whole = λ printable. let s = whole_line columns width some one p es h modes printable in subst (IsCutOf width (stretches (entry_letters (run_of es)))) (sym s.3) s.1;
+    wrapped = λ printable other. (wrapped_line columns width some one p es h modes printable other).1;
     blank = λ spaces. (blank_line_of columns width PreWrap (λ e. cc) p es h modes spaces).1;
   },
 )

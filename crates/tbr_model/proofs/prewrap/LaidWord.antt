@@ -1,5 +1,5 @@
 -- A word of `PreWrap` is laid: whole, or cut where it is wider than a line.
-use Rattle.std.proofs.Common.{◌≡◌, ◌≢◌, ℕ, ◌+◌, ◌<◌, ◌≤◌, ◌⊎◌, Bool, true, false, nat_le, Option, Some, None, List, [], ◌∷◌, ◌++◌, map, flat_map, replicate, length, refl, ap, sym, ◌∙◌, arith, append_assoc, append-nil, length-append, subst, le-leb, leb-true, leb-false}
+use Rattle.std.proofs.Common.{◌≡◌, ◌≢◌, ℕ, zero, suc, ◌+◌, ◌<◌, ◌≤◌, ◌⊎◌, inl, inr, Bool, true, false, nat_le, Option, Some, None, List, [], ◌∷◌, ◌++◌, map, flat_map, replicate, length, refl, ap, sym, ◌∙◌, arith, append_assoc, append-nil, length-append, subst, le-leb, leb-true, leb-false}
 use Rattle.std.specs.List.{AllByRecursion as Each}
 use Rattle.std.proofs.lemmas.Bool.{cond_both, lt-leb}
 use Rattle.std.proofs.lemmas.Grind.{flat_map-append}
@@ -8,11 +8,13 @@ use Rattle.tbr_model.specs.declared.white_space.WhiteSpace.TheVariants.{PreWrap}
 use Rattle.tbr_model.specs.Run.{Item, glyph, marker, items_width, has_character}
 use Rattle.tbr_model.specs.Layout.{joined}
 use Rattle.tbr_model.specs.Laid.{Laid, extended, end_line, end_if_character, put_item, put_items}
-use Rattle.tbr_model.specs.Rule.{Space, Progress, pending_width, trimmed, wrap_space_by, wrap_space, lay_here, lay_fresh, lay}
+use Rattle.tbr_model.specs.Rule.{Space, Progress, pending_width, space_of, join, trimmed, wrap_space_by, wrap_space, lay_here, lay_fresh, lay}
 use Rattle.tbr_model.specs.Hard.{letters_of, stretches}
-use Rattle.tbr_model.proofs.words.Items.{letters_of-append, no_character_no_width, no_letters, WaitsIn}
+use Rattle.tbr_model.proofs.words.Items.{letters_of-append, no_character_no_width, no_letters, WaitsIn, pending_width-of}
 use Rattle.tbr_model.proofs.lists.Each.{each_append}
 use Rattle.tbr_model.proofs.lists.Joined.{joined-append}
+use Rattle.tbr_model.proofs.rule.HardLineStart.{BeginsHardLine}
+use Rattle.tbr_model.proofs.rule.Printable.{IsVisible}
 use Rattle.tbr_model.proofs.tabs.FittingText.{laid_letters}
 use Rattle.tbr_model.proofs.prewrap.Stretches.{IsSolid, IsVisibleOrMarker, stretches_apart, joined_solid, plain_solid, plain_width, plain_leading, stretches_trailing}
 
@@ -50,20 +52,49 @@ pub record IsReadyForWord {A : Type 0} (columns : ℕ → Option ℕ) (p : Progr
   pub apart : (letters_of p.laid.line ≡ []) ⊎ (0 < pending_width p.space)
   pub wraps : WaitsIn PreWrap p.space
 
+-- ---- entries that join it
+
+pub waits : {A : Type 0} (columns : ℕ → Option ℕ) (p : Progress A) (a : A) → Each (IsVisibleOrMarker columns) p.word → p.laid.width ≡ length (letters_of p.laid.line) →
+    IsReadyForWord columns (record p { space = space_of (pending_width p.space + 1) a PreWrap })
+waits {A} columns p a plain measured = record { plain = plain; measured = measured; apart = inr (omega (arith, pending_width-of (pending_width p.space + 1) a PreWrap)); wraps = wrapped (pending_width p.space + 1) }
+  where
+    wrapped : (n : ℕ) → WaitsIn PreWrap (space_of n a PreWrap)
+    wrapped zero = tt
+    wrapped (suc n) = refl
+
+pub join_ready : {A : Type 0} (columns : ℕ → Option ℕ) (p : Progress A) (c : ℕ) (a : A) → IsVisible columns c → IsReadyForWord columns p → IsReadyForWord columns (join c a PreWrap p)
+join_ready columns p c a v h = record { plain = each_append (IsVisibleOrMarker columns) p.word (glyph c a ∷ []) h.plain (v, tt); measured = h.measured; apart = h.apart; wraps = h.wraps }
+
+pub again_ready : {A : Type 0} (columns : ℕ → Option ℕ) (p : Progress A) (in_continuation : Bool) → IsReadyForWord columns p → IsReadyForWord columns (record p { in_continuation = in_continuation })
+again_ready columns p in_continuation h = record { plain = h.plain; measured = h.measured; apart = h.apart; wraps = h.wraps }
+
+markers_plain : {A : Type 0} (columns : ℕ → Option ℕ) (is : List (Item A)) → has_character is ≡ false → Each (IsVisibleOrMarker columns) is
+markers_plain columns [] h = tt
+markers_plain columns (glyph c a ∷ is) h = cc
+markers_plain columns (marker name ∷ is) h = (tt, markers_plain columns is h)
+
+pub fresh_ready : {A : Type 0} (columns : ℕ → Option ℕ) (p : Progress A) → BeginsHardLine p → IsReadyForWord columns p
+fresh_ready columns p h = record {
+  plain = markers_plain columns p.word h.word;
+  measured = h.width ∙ ap (λ is. length (letters_of is)) (sym h.line);
+  apart = inl (ap letters_of h.line);
+  wraps = subst (WaitsIn PreWrap) (sym h.space) tt;
+}
+
 -- ---- items one by one
 
 module _ {A : Type 0} (columns : ℕ → Option ℕ) (width : ℕ) (some : 0 < width) where
-  put_marker : (l : Laid A) (name : List ℕ) → l.width ≤ width → put_item columns width l (marker name) ≡ extended l (marker name ∷ []) 0
+  pub put_marker : (l : Laid A) (name : List ℕ) → l.width ≤ width → put_item columns width l (marker name) ≡ extended l (marker name ∷ []) 0
   put_marker l name fits =
       let e : nat_le (l.width + 0) width ≡ true = le-leb _ _ (omega (arith, fits)) in
       rw e refl
 
-  put_here : (l : Laid A) (c : ℕ) (a : A) → columns c ≡ Some 1 → l.width + 1 ≤ width → put_item columns width l (glyph c a) ≡ extended l (glyph c a ∷ []) 1
+  pub put_here : (l : Laid A) (c : ℕ) (a : A) → columns c ≡ Some 1 → l.width + 1 ≤ width → put_item columns width l (glyph c a) ≡ extended l (glyph c a ∷ []) 1
   put_here l c a one fits =
       let e : nat_le (l.width + 1) width ≡ true = le-leb _ _ fits in
       rw (one, e) refl
 
-  put_next : (l : Laid A) (c : ℕ) (a : A) → columns c ≡ Some 1 → width < l.width + 1 → put_item columns width l (glyph c a) ≡ extended (end_line l) (glyph c a ∷ []) 1
+  pub put_next : (l : Laid A) (c : ℕ) (a : A) → columns c ≡ Some 1 → width < l.width + 1 → put_item columns width l (glyph c a) ≡ extended (end_line l) (glyph c a ∷ []) 1
   put_next l c a one wide =
       let e : nat_le (l.width + 1) width ≡ false = lt-leb _ _ wide in
       let f : nat_le 1 width ≡ true = le-leb _ _ (omega (arith, some)) in

@@ -80,7 +80,7 @@ module _ {A : Type 0} (columns : ℕ → Option ℕ) (P : Item A → Type 0) (Of
 
   -- ---- a word
 
-  abbrev PendingOf : Option (Space A) → Type 0
+  abbrev pub PendingOf : Option (Space A) → Type 0
   PendingOf None = Unit {0}
   PendingOf (Some s) = Of s.tag
 
@@ -114,7 +114,7 @@ module _ {A : Type 0} (columns : ℕ → Option ℕ) (P : Item A → Type 0) (Of
       (λ _. record { laid = all_spaces s.width s.tag p.laid h k.laid; word = k.word; space = tt })
   wrap_by_stands width p s PreWrap h k = record { laid = keeps.trims p.laid k.laid; word = all_leading p.word k.word; space = tt }
 
-  wrap_stands : (width : ℕ) (p : Progress A) (o : Option (Space A)) → PendingOf o → Stands p → Stands (wrap_space columns width p o)
+  pub wrap_stands : (width : ℕ) (p : Progress A) (o : Option (Space A)) → PendingOf o → Stands p → Stands (wrap_space columns width p o)
   wrap_stands width p None h k = k
   wrap_stands width p (Some s) h k = wrap_by_stands width p s s.mode h k
 
@@ -143,10 +143,10 @@ module _ {A : Type 0} (columns : ℕ → Option ℕ) (P : Item A → Type 0) (Of
       cond_both (nat_le (p.laid.width + (pending_width p.space + items_width columns p.word)) width) _ _ Stands (λ _. lay_here_stands p k)
       (λ _. lay_fresh_stands width (wrap_space columns width p p.space) (wrap_stands width p p.space k.space k))
 
-  pub flush_stands : (width : ℕ) (p : Progress A) → Stands p → Stands (flush_word columns width p)
+  flush_stands : (width : ℕ) (p : Progress A) → Stands p → Stands (flush_word columns width p)
   flush_stands width p k = cond_both (has_character p.word) _ _ Stands (λ _. lay_stands width p k) (λ _. k)
 
-  break_stands : (width : ℕ) (p : Progress A) → Stands p → Stands (break_word columns width p)
+  pub break_stands : (width : ℕ) (p : Progress A) → Stands p → Stands (break_word columns width p)
   break_stands width p k = cond_both (nat_lt 0 (items_width columns p.word)) _ _ Stands (λ _. lay_stands width p k) (λ _. k)
 
   -- ---- an entry
@@ -229,7 +229,7 @@ module _ {A : Type 0} (columns : ℕ → Option ℕ) (P : Item A → Type 0) (Of
 
   -- ---- a run
 
-  pub fold_stands : (width : ℕ) (es : List (Event A)) (p : Progress A) → Each (Brings columns P Of) (run_of es) → Stands p → Stands (fold (step columns width) p es)
+  fold_stands : (width : ℕ) (es : List (Event A)) (p : Progress A) → Each (Brings columns P Of) (run_of es) → Stands p → Stands (fold (step columns width) p es)
   fold_stands width [] p h k = k
   fold_stands width (call ∷ es) p h k =
       fold_stands width es (record p { in_continuation = p.continuation_flag }) h (record { laid = k.laid; word = k.word; space = k.space })

@@ -1,0 +1,131 @@
+-- The items of a word of `PreWrap`, put one by one: on which lines its text stands.
+use Rattle.std.proofs.Common.{◌≡◌, ◌≢◌, ℕ, ◌+◌, ◌<◌, ◌≤◌, ◌⊎◌, inl, inr, ◌==◌, Bool, true, false, nat_le, Option, List, [], ◌∷◌, ◌++◌, map, length, refl, ap, sym, ◌∙◌, arith, append_assoc, append-nil, length-append, subst, leb-true, leb-false, ne_eqb}
+use Rattle.std.specs.List.{AllByRecursion as Each}
+use Rattle.std.proofs.lemmas.List.{map-append}
+use Rattle.tbr_model.specs.Run.{Item, glyph, marker}
+use Rattle.tbr_model.specs.Laid.{Laid, extended, end_line, put_item, put_items}
+use Rattle.tbr_model.specs.Rule.{without_trailing}
+use Rattle.tbr_model.specs.Hard.{letters_of, EndsWithNonBlank, first_stretch, BeginsBehind}
+use Rattle.tbr_model.proofs.lists.Each.{each_append}
+use Rattle.tbr_model.proofs.words.Items.{letters_of-append}
+use Rattle.tbr_model.proofs.prewrap.Stretches.{IsVisibleOrMarker}
+use Rattle.tbr_model.proofs.prewrap.LaidWord.{put_marker, put_here, put_next}
+use Rattle.tbr_model.proofs.prewrap.WrappedText.{AreNonBlank, GoesOnFrom, ends_nonblank, stretch_front, stretch_all, longer, ended, begun, last_of}
+
+-- an open line whose text is no spaces at its end has none there
+pub trailing_whole : {A : Type 0} (is : List (Item A)) → (letters_of is ≡ []) ⊎ EndsWithNonBlank (letters_of is) → without_trailing is ≡ is
+trailing_whole [] h = refl
+trailing_whole {A} (marker name ∷ is) h = go (without_trailing is) refl (trailing_whole is h)
+  where
+    go : (js : List (Item A)) → without_trailing is ≡ js → js ≡ is → without_trailing (marker name ∷ is) ≡ marker name ∷ is
+    go [] e f = rw e (ap (λ (ks : List (Item A)). marker name ∷ ks) f)
+    go (j ∷ js) e f = rw e (ap (λ (ks : List (Item A)). marker name ∷ ks) f)
+trailing_whole {A} (glyph c a ∷ is) (inl none) = cc
+trailing_whole {A} (glyph c a ∷ is) (inr ends) = go (without_trailing is) refl (trailing_whole is (behind (last_of c (letters_of is) ends)))
+  where
+    behind : ((letters_of is ≡ []) × (c ≢ 32)) ⊎ EndsWithNonBlank (letters_of is) → (letters_of is ≡ []) ⊎ EndsWithNonBlank (letters_of is)
+    behind (inl h) = inl h.0
+    behind (inr h) = inr h
+
+    alone : is ≡ [] → ((letters_of is ≡ []) × (c ≢ 32)) ⊎ EndsWithNonBlank (letters_of is) → c ≢ 32
+    alone e (inl h) = h.1
+    alone e (inr h) = absurd (subst (λ (ks : List (Item A)). EndsWithNonBlank (letters_of ks)) e h)
+
+    go : (js : List (Item A)) → without_trailing is ≡ js → js ≡ is → without_trailing (glyph c a ∷ is) ≡ glyph c a ∷ is
+    go [] e f =
+        let other : (c == 32) ≡ false = ne_eqb c 32 (alone (sym f) (last_of c (letters_of is) ends)) in
+        rw (e, other) (ap (λ (ks : List (Item A)). glyph c a ∷ ks) f)
+    go (j ∷ js) e f = rw e (ap (λ (ks : List (Item A)). glyph c a ∷ ks) f)
+
+pub nonblanks : {A : Type 0} (columns : ℕ → Option ℕ) (is : List (Item A)) → Each (IsVisibleOrMarker columns) is → AreNonBlank (letters_of is)
+nonblanks columns [] h = tt
+nonblanks columns (glyph c a ∷ is) h = (h.0.from, nonblanks columns is h.1)
+nonblanks columns (marker name ∷ is) h = nonblanks columns is h.1
+
+module _ {A : Type 0} (columns : ℕ → Option ℕ) (width : ℕ) (some : 0 < width) where
+  -- what the lines are that go on from the open line of the second, from the open line of the first, on which stand
+  -- the characters y, with w between: it reaches all of these that a line has columns for
+  pub record ReachesFrom (l : Laid A) (y w : List ℕ) (r : Laid A) (text : List ℕ) (ls : List (List ℕ)) : Type 0 where
+    pub all : List (List ℕ)
+    pub are : map letters_of r.done ++ ls ≡ map letters_of l.done ++ all
+    pub goes : GoesOnFrom width y (w ++ text) all
+    pub reach : (k : ℕ) → k ≤ width → k ≤ length y + length w → k ≤ length (first_stretch (y ++ goes.more))
+
+  pub record PutsText (l : Laid A) (y w : List ℕ) (r : Laid A) : Type 0 where
+    pub nonblank : AreNonBlank (letters_of r.line)
+    pub fits : length (letters_of r.line) ≤ width
+    pub measured : 0 < length y + length w → 0 < length (letters_of r.line)
+    pub goes : (text : List ℕ) (ls : List (List ℕ)) → GoesOnFrom width (letters_of r.line) text ls → ReachesFrom l y w r text ls
+
+  put_none : (l : Laid A) (y : List ℕ) → letters_of l.line ≡ y → AreNonBlank y → length y ≤ width → PutsText l y [] l
+  put_none l y letters nonblank fits = record {
+    nonblank = subst AreNonBlank (sym letters) nonblank;
+    fits = subst (λ (cs : List ℕ). length cs ≤ width) (sym letters) fits;
+    measured = λ h. omega (arith, h, ap length letters);
+    goes = λ text ls h. (let g : GoesOnFrom width y text ls = subst (λ (cs : List ℕ). GoesOnFrom width cs text ls) letters h in record {
+      all = ls;
+      are = refl;
+      goes = g;
+      reach = λ k _ short. omega (arith, short, stretch_front y g.more nonblank);
+    });
+  }
+
+  put_one_here : (l : Laid A) (c : ℕ) (a : A) (y w : List ℕ) (r : Laid A) → PutsText (extended l (glyph c a ∷ []) 1) (y ++ c ∷ []) w r → PutsText l y (c ∷ w) r
+  put_one_here l c a y w r k =
+      let more : length (y ++ c ∷ []) ≡ length y + 1 = length-append y (c ∷ []) in
+      record {
+        nonblank = k.nonblank;
+        fits = k.fits;
+        measured = λ h. k.measured (omega (arith, more));
+        goes = λ text ls h. (let g = k.goes text ls h in record {
+          all = g.all;
+          are = g.are;
+          goes = longer width y (c ∷ []) (w ++ text) g.all g.goes;
+          reach = λ n wide short. subst (λ (cs : List ℕ). n ≤ length (first_stretch cs)) (append_assoc y (c ∷ []) g.goes.more) (g.reach n wide (omega (arith, short, more)));
+        });
+      }
+
+  put_one_next : (l : Laid A) (c : ℕ) (a : A) (y w : List ℕ) (r : Laid A) → letters_of l.line ≡ y → AreNonBlank y → length y ≡ width → 33 ≤ c →
+      PutsText (extended (end_line l) (glyph c a ∷ []) 1) (c ∷ []) w r → PutsText l y (c ∷ w) r
+  put_one_next l c a y w r letters nonblank full visible k = record {
+    nonblank = k.nonblank;
+    fits = k.fits;
+    measured = λ h. k.measured (omega arith);
+    goes = λ text ls h.
+        (let g = k.goes text ls h in
+        let next = longer width [] (c ∷ []) (w ++ text) g.all g.goes in
+        let begins : BeginsBehind width y 0 next.more = inr (
+          (λ e. omega (arith, visible, e)),
+          (let one : 1 ≤ length (first_stretch (c ∷ g.goes.more)) = stretch_front (c ∷ []) g.goes.more (visible, tt) in omega (arith, full, one)),
+          (λ _. (full, stretch_all y nonblank)),
+        ) in
+        record {
+          all = y ∷ g.all;
+          are = g.are ∙ ap (λ (xs : List (List ℕ)). xs ++ g.all) (map-append letters_of l.done (l.line ∷ []) ∙ ap (λ (x : List ℕ). map letters_of l.done ++ x ∷ []) letters) ∙ append_assoc (map letters_of l.done) (y ∷ []) g.all;
+          goes = ended width y (c ∷ (w ++ text)) g.all (ends_nonblank y nonblank (omega (arith, full, some))) (omega (arith, full)) (begun width y (c ∷ (w ++ text)) g.all 0 next begins);
+          reach = λ n wide _. (let all : length y ≤ length (first_stretch (y ++ [])) = stretch_front y [] nonblank in omega (arith, wide, full, all));
+        });
+  }
+
+  pub put_text : (is : List (Item A)) (l : Laid A) (y : List ℕ) → Each (IsVisibleOrMarker columns) is → letters_of l.line ≡ y → AreNonBlank y → l.width ≡ length y → l.width ≤ width →
+      PutsText l y (letters_of is) (put_items columns width l is)
+  put_text [] l y plain letters nonblank measured fits = put_none l y letters nonblank (omega (arith, measured, fits))
+  put_text (marker name ∷ is) l y plain letters nonblank measured fits =
+      rw (put_marker columns width some l name fits)
+      (let k = put_text is (extended l (marker name ∷ []) 0) y plain.1 (letters_of-append l.line (marker name ∷ []) ∙ append-nil (letters_of l.line) ∙ letters) nonblank
+      (omega (arith, measured)) (omega (arith, fits)) in
+      record { nonblank = k.nonblank; fits = k.fits; measured = k.measured; goes = λ text ls h. (let g = k.goes text ls h in record { all = g.all; are = g.are; goes = g.goes; reach = g.reach }) })
+  put_text (glyph c a ∷ is) l y plain letters nonblank measured fits =
+      go (nat_le (l.width + 1) width) refl
+      (λ room. put_text is (extended l (glyph c a ∷ []) 1) (y ++ c ∷ []) plain.1 (letters_of-append l.line (glyph c a ∷ []) ∙ ap (λ cs. cs ++ c ∷ []) letters)
+      (each_append (λ d. 33 ≤ d) y (c ∷ []) nonblank (plain.0.from, tt)) (omega (arith, measured, length-append y (c ∷ []))) room)
+      (put_text is (extended (end_line l) (glyph c a ∷ []) 1) (c ∷ []) plain.1 refl (plain.0.from, tt) refl (omega (arith, some)))
+    where
+      go : (b : Bool) → nat_le (l.width + 1) width ≡ b →
+          (l.width + 1 ≤ width → PutsText (extended l (glyph c a ∷ []) 1) (y ++ c ∷ []) (letters_of is) (put_items columns width (extended l (glyph c a ∷ []) 1) is)) →
+          PutsText (extended (end_line l) (glyph c a ∷ []) 1) (c ∷ []) (letters_of is) (put_items columns width (extended (end_line l) (glyph c a ∷ []) 1) is) →
+          PutsText l y (c ∷ letters_of is) (put_items columns width (put_item columns width l (glyph c a)) is)
+      go true e here k = rw (put_here columns width some l c a plain.0.one (leb-true _ _ e)) (put_one_here l c a y (letters_of is) _ (here (leb-true _ _ e)))
+      go false e here k =
+          rw (put_next columns width some l c a plain.0.one (leb-false _ _ e))
+          (put_one_next l c a y (letters_of is) _ letters nonblank (omega (arith, leb-false _ _ e, measured, fits)) plain.0.from k)
