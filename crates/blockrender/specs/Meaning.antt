@@ -23,7 +23,8 @@ run_with run bytes = run ++ text_entries (chars bytes) tt tt Normal
 -- Where a command leads.
 abbrev pub Does : (ℕ → Option ℕ) → Progress → Call → Progress → Type 0
 Does columns unbegun (new_block width) next = next ≡ in_block width []
-Does columns (in_block width run) (text bytes) next = EndedWordsFit columns width (run_with run bytes) × (next ≡ in_block width (run_with run bytes))
+Does columns (in_block width run) (text bytes) next =
+    EndedWordsFit columns width (run_with run bytes) × (next ≡ in_block width (run_with run bytes))
 -- the others don't stand here
 Does columns unbegun (text bytes) next = ⊥
 Does columns (in_block width run) (new_block other) next = ⊥
@@ -34,7 +35,8 @@ abbrev pub Refuses : (ℕ → Option ℕ) → Progress → ℕ → Call → RunE
 Refuses columns unbegun number (text bytes) e = e ≡ NotACommand number
 Refuses columns (in_block width run) number (new_block other) e = e ≡ NotACommand number
 -- a word that the text ends holds a character wider than the block
-Refuses columns (in_block width run) number (text bytes) e = (EndedWordsFit columns width (run_with run bytes) → ⊥) × (e ≡ TooNarrow)
+Refuses columns (in_block width run) number (text bytes) e =
+    (EndedWordsFit columns width (run_with run bytes) → ⊥) × (e ≡ TooNarrow)
 Refuses columns unbegun number (new_block width) e = ⊥
 
 -- Where a line leads. An empty line is skipped.
@@ -63,7 +65,8 @@ line_bytes line = encode_utf8_all (flat_map item_characters (line_text line)) ++
 -- The lines of the layout of the run that is ahead of every legal one.
 abbrev pub IsRendered : (ℕ → Option ℕ) → ℕ → List (Entry (Unit {0})) → List ℕ → Type 0
 IsRendered columns width run bytes =
-    (lines : List (List (Slot (Unit {0})))) × IsBest width (slots_of columns width run) lines × (bytes ≡ flat_map line_bytes lines)
+    (lines : List (List (Slot (Unit {0})))) × IsBest width (slots_of columns width run) lines
+    × (bytes ≡ flat_map line_bytes lines)
 
 -- What the end of a script gives, which counts as the line of this number: a text, or a refusal where a word of the run holds
 -- a character wider than the block.
@@ -71,7 +74,8 @@ abbrev pub Ends : (ℕ → Option ℕ) → Progress → ℕ → Result (List ℕ
 -- a script without a command
 Ends columns unbegun number outcome = outcome ≡ Err (NotACommand number)
 Ends columns (in_block width run) number outcome =
-    MatchResult outcome (λ bytes. WordsFit columns width run × IsRendered columns width run bytes) (λ e. (WordsFit columns width run → ⊥) × (e ≡ TooNarrow))
+    MatchResult outcome (λ bytes. WordsFit columns width run × IsRendered columns width run bytes)
+    (λ e. (WordsFit columns width run → ⊥) × (e ≡ TooNarrow))
 
 -- ---- the whole
 

@@ -83,6 +83,7 @@ state_of columns width may_overflow padding failure c = record {
 }
 
 -- what a contract sees where these changes came
-abbrev pub viewed : {A : Type 0} → (ℕ → Option ℕ) → ℕ → Bool → Option A → Option Error → List (RunChange × A × A) → State A
+abbrev pub viewed : {A : Type 0} → (ℕ → Option ℕ) → ℕ → Bool → Option A → Option Error
+    → List (RunChange × A × A) → State A
 viewed columns width may_overflow padding failure changes =
     state_of columns width may_overflow padding failure (course columns width changes)

@@ -11,7 +11,8 @@ use Rattle.tbr_wrap.specs.declared.wrapper.Wrapper.{Wrapper}
 
 -- The lines of earlier runs, and behind them what the rule has laid of the current run, but for its lines that were
 -- handed out. A line has ended where one was handed out or one is left.
-pub record HoldsCourse {A : Type 0} (columns : ℕ → Option ℕ) (eq : A → A → Bool) (b : Wrapper A) (begun : Bool) (c : Course A) : Type 0 where
+pub record HoldsCourse {A : Type 0} (columns : ℕ → Option ℕ) (eq : A → A → Bool) (b : Wrapper A)
+    (begun : Bool) (c : Course A) : Type 0 where
   pub before : List (List (Item A))
   pub earlier : AllZip (SameItems eq) before c.ended
   pub within : c.handed ≤ length c.progress.laid.done

@@ -53,10 +53,18 @@ empty_block width may_overflow padding = record {
 abbrev pub text_entries : {A : Type 0} → List ℕ → A → A → WhiteSpace → List (Entry A)
 text_entries cs a b mode = map (λ c. character c a b mode) cs
 
+-- the run with this text
+abbrev pub run_with_text : {A : Type 0} → State A → List ℕ → A → A → WhiteSpace → List (Entry A)
+run_with_text s cs a b mode = s.run ++ text_entries cs a b mode
+
 -- whether there is something
 abbrev pub is_some_list : {X : Type 0} → List X → Bool
 is_some_list [] = false
 is_some_list (x ∷ xs) = true
+
+-- whether a line has ended, in an earlier run or in this one
+abbrev pub has_begun : {A : Type 0} → State A → Bool
+has_begun s = s.begun || is_some_list s.lines
 
 -- ---- what a call leaves
 
@@ -150,7 +158,8 @@ pub record IsShownBy {A : Type 0} (columns : ℕ → Option ℕ) (width : ℕ) (
   pub hard : Each Preserves run → Parted (ShowsHardLine columns (λ a b. a ≡ b)) (hard_lines run) texts
   pub pre : Each (HasMode Pre) run → Parted (ShowsPre columns (λ a b. a ≡ b) width) (hard_lines run) texts
   pub prewrap : Each (HasMode PreWrap) run → Parted (ShowsPreWrap columns width) (hard_lines run) texts
-  pub tabs : Each (HasMode Pre) run ⊎ Each (HasMode PreWrap) run → Parted (ShowsTabs columns width) (hard_lines run) texts
+  pub tabs : Each (HasMode Pre) run ⊎ Each (HasMode PreWrap) run →
+      Parted (ShowsTabs columns width) (hard_lines run) texts
 
 -- these are the last ones of all
 abbrev pub AreLastOf : {X : Type 0} → List X → List X → Type 0

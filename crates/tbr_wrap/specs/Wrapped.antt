@@ -14,10 +14,12 @@ taking_columns columns (i ∷ is) = (if nat_lt 0 (item_width columns i) then 1 e
 
 -- A line is no wider than the block, or it may be, and then it has exactly one character that takes columns.
 abbrev pub FitsBlock : {A : Type 0} → (ℕ → Option ℕ) → ℕ → Bool → List (Item A) → Type 0
-FitsBlock columns width may_overflow is = (items_width columns is ≤ width) ⊎ ((may_overflow ≡ true) × (taking_columns columns is ≡ 1))
+FitsBlock columns width may_overflow is =
+    (items_width columns is ≤ width) ⊎ ((may_overflow ≡ true) × (taking_columns columns is ≡ 1))
 
 -- The lines are the texts of the layout of the run that is ahead of every legal one, and none is without a character.
-pub record HasBestLines {A : Type 0} (columns : ℕ → Option ℕ) (width : ℕ) (run : List (Entry A)) (texts : List (List (Item A))) : Type 0 where
+pub record HasBestLines {A : Type 0} (columns : ℕ → Option ℕ) (width : ℕ)
+    (run : List (Entry A)) (texts : List (List (Item A))) : Type 0 where
   pub lines : List (List (Slot A))
   pub best : IsBest width (slots_of columns width run) lines
   pub shown : texts ≡ map line_text lines
@@ -37,6 +39,7 @@ padding_of columns None width is = []
 padding_of columns (Some a) width is = text_items (spaces (width - items_width columns is)) a
 
 -- A line has a text and its padding, up to equal tags, in pieces that are the longest stretches under equal tags.
-pub record ShowsText {A : Type 0} (columns : ℕ → Option ℕ) (eq : A → A → Bool) (padding : Option A) (width : ℕ) (es : List (Element A)) (is : List (Item A)) : Type 0 where
+pub record ShowsText {A : Type 0} (columns : ℕ → Option ℕ) (eq : A → A → Bool) (padding : Option A)
+    (width : ℕ) (es : List (Element A)) (is : List (Item A)) : Type 0 where
   pub items : SameItems eq (items_of es) (is ++ padding_of columns padding width is)
   pub merged : IsMerged eq es

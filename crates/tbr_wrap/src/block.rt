@@ -51,9 +51,11 @@ impl<T: Eq + Clone, W: CharWidth> Model for WrappedBlock<T, W> {
     ghost use Rattle.tbr_wrap.specs.Course.{course, viewed};
     ghost use Rattle.tbr_wrap.specs.Held.{HoldsCourse};
 
-    ghost view = { λ b. viewed W.columns b.wrapper.lines.width b.wrapper.lines.may_overflow (if b.pads then Some b.default_tag else None) b.failure b.changes.items };
+    ghost view = { λ b. let padding = if b.pads then Some b.default_tag else None in
+        viewed W.columns b.wrapper.lines.width b.wrapper.lines.may_overflow padding b.failure b.changes.items };
 
-    ghost invariant = { λ b. b.failure ≡ None → HoldsCourse W.columns T.eq b.wrapper b.begun (course W.columns b.wrapper.lines.width b.changes.items) };
+    ghost invariant = { λ b. b.failure ≡ None →
+        HoldsCourse W.columns T.eq b.wrapper b.begun (course W.columns b.wrapper.lines.width b.changes.items) };
 }
 
 impl<T: Eq + Clone, W: CharWidth> WrappedBlock<T, W> {
@@ -61,7 +63,7 @@ impl<T: Eq + Clone, W: CharWidth> WrappedBlock<T, W> {
     ghost use Rattle.tbr_model.specs.Markers.{names_in_items, names_in_run, names_behind, last};
     ghost use Rattle.tbr_tagged.specs.Elements.{marker_element};
     ghost use Rattle.tbr_tagged.specs.View.{element_of};
-    ghost use Rattle.tbr_wrap.specs.State.{empty_block, text_entries, JoinsRun, JoinsAsMarker, EndsRun, KeepsRefusal, WrapsNormally, RunDecides, AreLastOf, loose_taken, lines_left, line_taken, run_flushed};
+    ghost use Rattle.tbr_wrap.specs.State.{empty_block, text_entries, JoinsRun, JoinsAsMarker, EndsRun, has_begun, run_with_text, KeepsRefusal, WrapsNormally, RunDecides, AreLastOf, loose_taken, lines_left, line_taken, run_flushed};
 
     /// A block without text, whose lines take `width` columns at most. It takes no memory.
     ///
@@ -112,7 +114,7 @@ impl<T: Eq + Clone, W: CharWidth> WrappedBlock<T, W> {
 
     /// Whether no line has ended yet, and open line and word take no columns. It is false on a block that has failed.
     pub fn is_empty(&self) -> bool
-        ensures asks { result ≡ is_none self.now.failure && (not (self.now.begun || is_some_list self.now.lines) && self.now.no_columns) }
+        ensures asks { result ≡ is_none self.now.failure && (not (has_begun self.now) && self.now.no_columns) }
         ensures normal { WrapsNormally self.now → RunDecides W.columns self.now }
         ensures shows { self.now.failure ≡ None → run_shows_columns W.columns self.now.run ≡ true →
             (is_some_list self.now.lines ≡ true) ⊎ (self.now.no_columns ≡ false) }
@@ -124,7 +126,7 @@ impl<T: Eq + Clone, W: CharWidth> WrappedBlock<T, W> {
     /// Whether no line has ended yet, and open line and word hold no character. In a `Normal` run these hold none exactly
     /// where the run has no kept character. It is false on a block that has failed.
     pub fn is_blank(&self) -> bool
-        ensures asks { result ≡ is_none self.now.failure && (not (self.now.begun || is_some_list self.now.lines) && self.now.no_character) }
+        ensures asks { result ≡ is_none self.now.failure && (not (has_begun self.now) && self.now.no_character) }
         ensures normal { WrapsNormally self.now → RunDecides W.columns self.now }
     {
         self.known();
@@ -194,7 +196,8 @@ impl<T: Eq + Clone, W: CharWidth> WrappedBlock<T, W> {
         ensures too_narrow { self.old.failure ≡ None → result ≡ Err E.TooNarrow →
             (self.old.may_overflow ≡ false) × ¬ (CharactersFit W.columns self.old.width self.old.run) }
         ensures normal_too_narrow { let run = self.old.run ++ character c main_tag.now wrap_tag.now mode ∷ [] in
-            self.old.failure ≡ None → IsNormal run → result ≡ Err E.TooNarrow → ¬ (EndedWordsFit W.columns self.old.width run) }
+            self.old.failure ≡ None → IsNormal run → result ≡ Err E.TooNarrow →
+            ¬ (EndedWordsFit W.columns self.old.width run) }
     {
         self.refusal()?;
         keep(
@@ -235,13 +238,14 @@ impl<T: Eq + Clone, W: CharWidth> WrappedBlock<T, W> {
         requires { CopiesAreEqual T.is_clone T.eq }
         ensures ok { let more = text_entries (chars text.now) main_tag.now wrap_tag.now ws_mode in
             OnOk result (JoinsRun self.old more self.new) }
-        ensures fit { let run = self.old.run ++ text_entries (chars text.now) main_tag.now wrap_tag.now ws_mode in
+        ensures fit { let run = run_with_text self.old (chars text.now) main_tag.now wrap_tag.now ws_mode in
             OnOk result (self.old.may_overflow ≡ false → IsNormal run → EndedWordsFit W.columns self.old.width run) }
-        ensures too_narrow { let run = self.old.run ++ text_entries (chars text.now) main_tag.now wrap_tag.now ws_mode in
+        ensures too_narrow { let run = run_with_text self.old (chars text.now) main_tag.now wrap_tag.now ws_mode in
             self.old.failure ≡ None → result ≡ Err E.TooNarrow →
             (self.old.may_overflow ≡ false) × ¬ (CharactersFit W.columns self.old.width run) }
-        ensures normal_too_narrow { let run = self.old.run ++ text_entries (chars text.now) main_tag.now wrap_tag.now ws_mode in
-            self.old.failure ≡ None → IsNormal run → result ≡ Err E.TooNarrow → ¬ (EndedWordsFit W.columns self.old.width run) }
+        ensures normal_too_narrow { let run = run_with_text self.old (chars text.now) main_tag.now wrap_tag.now ws_mode in
+            self.old.failure ≡ None → IsNormal run → result ≡ Err E.TooNarrow →
+            ¬ (EndedWordsFit W.columns self.old.width run) }
         ensures two_columns { self.old.failure ≡ None → 2 ≤ self.old.width → result ≢ Err E.TooNarrow }
         ensures kept { KeepsRefusal self.old result self.new }
     {
@@ -261,7 +265,8 @@ impl<T: Eq + Clone, W: CharWidth> WrappedBlock<T, W> {
     where
         T: Drop,
         requires { (name : List ℕ) × (element_of element ≡ marker_element name) }
-        ensures ok { (name : List ℕ) → element_of element ≡ marker_element name → OnOk result (JoinsAsMarker self.old name self.new) }
+        ensures ok { (name : List ℕ) → element_of element ≡ marker_element name →
+            OnOk result (JoinsAsMarker self.old name self.new) }
         ensures memory { self.old.failure ≡ None → IfErr result (λ e. e ≡ E.OutOfMemory) }
         ensures kept { KeepsRefusal self.old result self.new }
     {
@@ -298,7 +303,8 @@ impl<T: Eq + Clone, W: CharWidth> WrappedBlock<T, W> {
         ensures markers { IfOk result (λ es. map element_of es.items ≡ map marker_element self.old.loose) }
         ensures behind { OnOk result (AreLastOf self.old.loose (names_behind (is_visible W.columns) self.old.run)) }
         ensures last { OnOk result (self.old.loose ≡ last (length self.old.loose) (names_in_run self.old.run)) }
-        ensures trailing { WrapsNormally self.old → OnOk result (self.old.loose ≡ names_in_items (trailing W.columns self.old.run)) }
+        ensures trailing { WrapsNormally self.old →
+            OnOk result (self.old.loose ≡ names_in_items (trailing W.columns self.old.run)) }
         ensures memory { self.old.failure ≡ None → IfErr result (λ e. e ≡ E.OutOfMemory) }
         ensures kept { KeepsRefusal self.old result self.new }
     {
@@ -324,10 +330,11 @@ impl<T: Eq + Clone, W: CharWidth> WrappedBlock<T, W> {
     where
         T: Drop,
         requires { CopiesAreEqual T.is_clone T.eq }
-        ensures ok { OnOk result ((texts : List (List (Item T))) × (names : List (List ℕ)) × EndsRun W.columns self.old texts names
-            × (self.new ≡ run_flushed self.old texts names)) }
+        ensures ok { OnOk result ((texts : List (List (Item T))) × (names : List (List ℕ))
+            × EndsRun W.columns self.old texts names × (self.new ≡ run_flushed self.old texts names)) }
         ensures fit { OnOk result (WrapsNormally self.old → WordsFit W.columns self.old.width self.old.run) }
-        ensures visible_fit { OnOk result (self.old.may_overflow ≡ false → VisibleFit W.columns self.old.width self.old.run) }
+        ensures visible_fit { OnOk result (self.old.may_overflow ≡ false →
+            VisibleFit W.columns self.old.width self.old.run) }
         ensures too_narrow { self.old.failure ≡ None → result ≡ Err E.TooNarrow →
             (self.old.may_overflow ≡ false) × ¬ (CharactersFit W.columns self.old.width self.old.run) }
         ensures normal_too_narrow { self.old.failure ≡ None → IsNormal self.old.run → result ≡ Err E.TooNarrow →
@@ -351,7 +358,8 @@ impl<T: Eq + Clone, W: CharWidth> WrappedBlock<T, W> {
         T: Drop,
         requires { CopiesAreEqual T.is_clone T.eq }
         ensures some { (text : List (Item T)) (rest : List (List (Item T))) → lines_left self.old ≡ text ∷ rest →
-            IfOk result (λ o. IsSomeAnd o (λ line. ShowsText W.columns T.eq self.old.padding self.old.width line text)) }
+            IfOk result (λ o. IsSomeAnd o (λ line.
+            ShowsText W.columns T.eq self.old.padding self.old.width line text)) }
         ensures taken { IfOk result (λ o. IsTrue (is_some o) → self.new ≡ line_taken self.old) }
         ensures none { lines_left self.old ≡ [] → self.old.failure ≡ None → (result ≡ Ok None) × (self.new ≡ self.old) }
         ensures memory { self.old.failure ≡ None → IfErr result (λ e. e ≡ E.OutOfMemory) }
@@ -413,7 +421,8 @@ impl<T: Eq + Clone, W: CharWidth> WrappedBlock<T, W> {
     where
         T: Drop,
         requires { CopiesAreEqual T.is_clone T.eq }
-        ensures lines { IfOk result (λ lines. (texts : List (List (Item T))) × (names : List (List ℕ)) × EndsRun W.columns self texts names
+        ensures lines { IfOk result (λ lines. (texts : List (List (Item T))) × (names : List (List ℕ))
+            × EndsRun W.columns self texts names
             × AllZip (ShowsText W.columns T.eq self.padding self.width) lines.items (lines_left self ++ texts)) }
         ensures fit { OnOk result (WrapsNormally self → WordsFit W.columns self.width self.run) }
         ensures visible_fit { OnOk result (self.may_overflow ≡ false → VisibleFit W.columns self.width self.run) }
