@@ -1,6 +1,7 @@
 -- The meaning of a script: that of its commands one after another, up to the first line that is faulty or refuses.
 use Rattle.std.specs.Prelude.{◌≡◌, ℕ, ◌+◌, ◌⊎◌, Option, Result, Err, MatchResult, List, [], ◌∷◌, ◌++◌, flat_map, chars, encode_utf8_all}
 use Rattle.tbr_model.specs.declared.white_space.WhiteSpace.TheVariants.{Normal}
+use Rattle.tbr_model.specs.Codes.{newline_character}
 use Rattle.tbr_model.specs.Run.{Entry, Item, glyph, marker}
 use Rattle.tbr_model.specs.Layout.{Slot, slots_of, line_text, IsBest}
 use Rattle.tbr_lines.specs.State.{text_entries}
@@ -60,7 +61,7 @@ item_characters (marker name) = []
 
 -- a line as it is written: its characters and a newline
 abbrev pub line_bytes : {A : Type 0} → List (Slot A) → List ℕ
-line_bytes line = encode_utf8_all (flat_map item_characters (line_text line)) ++ 10 ∷ []
+line_bytes line = encode_utf8_all (flat_map item_characters (line_text line)) ++ newline_character ∷ []
 
 -- The lines of the layout of the run that is ahead of every legal one.
 abbrev pub IsRendered : (ℕ → Option ℕ) → ℕ → List (Entry (Unit {0})) → List ℕ → Type 0

@@ -4,6 +4,7 @@ use Rattle.std.specs.Char.{IsScalar}
 use Rattle.std.specs.List.{AllByRecursion as Each}
 use Rattle.std.specs.Str.{IsUtf8}
 use Rattle.std.specs.Str.Parse.{IsNumeral, digits_value}
+use Rattle.tbr_model.specs.Codes.{newline_character, tab_character}
 
 -- a byte in front of the first line
 abbrev pub onto_first : ℕ → List (List ℕ) → List (List ℕ)
@@ -13,7 +14,7 @@ onto_first b (line ∷ lines) = (b ∷ line) ∷ lines
 -- The lines of a script. A newline ends a line, and bytes behind the last newline are a line.
 abbrev pub lines_of : List ℕ → List (List ℕ)
 lines_of [] = []
-lines_of (b ∷ bs) = if b == 10 then [] ∷ lines_of bs else onto_first b (lines_of bs)
+lines_of (b ∷ bs) = if b == newline_character then [] ∷ lines_of bs else onto_first b (lines_of bs)
 
 -- one or more decimal digits of a value within `usize`
 abbrev pub IsNumber : List ℕ → Type 0
@@ -25,7 +26,9 @@ NamesCharacter digits = IsNumeral 16 digits × (length digits ≤ 6) × IsScalar
 
 -- the character that a letter behind a backslash stands for: `n` for a newline, `t` for a tab, a backslash for itself
 abbrev pub character_by_letter : ℕ → Option ℕ
-character_by_letter b = if b == 110 then Some 10 else (if b == 116 then Some 9 else (if b == 92 then Some 92 else None))
+character_by_letter b =
+    if b == 110 then Some newline_character
+    else (if b == 116 then Some tab_character else (if b == 92 then Some 92 else None))
 
 -- what stands behind the backslash of an escape, and the character that it stands for: a letter, or `u{..}` with its digits
 abbrev pub IsEscape : List ℕ → ℕ → Type 0

@@ -1,5 +1,6 @@
 -- The cells of a border, as sets of arms.
 use Rattle.std.specs.Prelude.{ℕ, ◌+◌, ◌≤◌, ◌==◌, ◌||◌, Bool, true, false, if◌then◌else◌, ⊤, List, [], ◌∷◌, map}
+use Rattle.tbr_model.specs.Codes.{space_character}
 use Rattle.tbr_border.specs.declared.border.cell.BorderSegHoriz.{BorderSegHoriz}
 use Rattle.tbr_border.specs.declared.border.cell.Side.{Side as StoredSide}
 use Rattle.tbr_border.specs.declared.border.cell.Side.TheVariants.{Above, Below}
@@ -89,7 +90,7 @@ character (arms false true false true) = 0x250C
 character (arms true false false true) = 0x2510
 character (arms false true true false) = 0x2514
 character (arms true false true false) = 0x2518
-character (arms l r u d) = 32
+character (arms l r u d) = space_character
 
 abbrev pub is_among : ℕ → List ℕ → Bool
 is_among c [] = false
@@ -103,4 +104,4 @@ merges below c = is_among (character c) (0x2534 ∷ 0x252C ∷ 0x253C ∷ 0x2514
 
 -- what stands above a cell: │ above ┴ ┼ └ ┘, else a space
 abbrev pub line_above : Cell → ℕ
-line_above c = if is_among (character c) (0x2534 ∷ 0x253C ∷ 0x2514 ∷ 0x2518 ∷ []) then 0x2502 else 32
+line_above c = if is_among (character c) (0x2534 ∷ 0x253C ∷ 0x2514 ∷ 0x2518 ∷ []) then 0x2502 else space_character

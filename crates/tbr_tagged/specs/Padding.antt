@@ -1,12 +1,13 @@
 -- Lines with spaces behind and in front.
 use Rattle.std.specs.Prelude.{ℕ, suc, zero, ◌-◌, ◌/◌, ◌++◌, Bool, Option, List, replicate}
 use Rattle.tbr_model.specs.Run.{Item}
+use Rattle.tbr_model.specs.Codes.{space_character}
 use Rattle.tbr_tagged.specs.declared.padding.CellAlign.{CellAlign}
 use Rattle.tbr_tagged.specs.declared.padding.CellAlign.TheVariants.{Left, Right, Centre}
 use Rattle.tbr_tagged.specs.Elements.{Element, text_items, line_width, push_text, insert_text}
 
 abbrev pub spaces : ℕ → List ℕ
-spaces n = replicate n 32
+spaces n = replicate n space_character
 
 -- the columns that a line lacks to a width
 abbrev pub columns_missing : {A : Type 0} → (ℕ → Option ℕ) → ℕ → List (Element A) → ℕ
