@@ -1,6 +1,6 @@
-//! Wraps the text on standard input, so that its cost can be measured. The first line is `tags`, `markers` or `pre`, what follows is the
-//! text: under a tag for each character in turn, with a marker before each character, or preformatted under one tag. Prints how many
-//! lines there are and how many bytes they hold.
+//! Wraps the text on standard input, so that its cost can be measured. The first line is `tags`, `markers` or `pre`,
+//! what follows is the text: under a tag for each character in turn, with a marker before each character, or
+//! preformatted under one tag. Prints how many lines there are and how many bytes they hold.
 #![tactic(auto)]
 
 ghost use Rattle.std.specs.Prelude.{◌≡◌, ℕ, List, IfOk};

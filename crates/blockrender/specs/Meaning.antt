@@ -69,8 +69,8 @@ IsRendered columns width run bytes =
     (lines : List (List (Slot (Unit {0})))) × IsBest width (slots_of columns width run) lines
     × (bytes ≡ flat_map line_bytes lines)
 
--- What the end of a script gives, which counts as the line of this number: a text, or a refusal where a word of the run holds
--- a character wider than the block.
+-- What the end of a script gives, which counts as the line of this number: a text, or a refusal where a word of the run
+-- holds a character wider than the block.
 abbrev pub Ends : (ℕ → Option ℕ) → Progress → ℕ → Result (List ℕ) RunError → Type 0
 -- a script without a command
 Ends columns unbegun number outcome = outcome ≡ Err (NotACommand number)

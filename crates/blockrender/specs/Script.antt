@@ -30,11 +30,13 @@ character_by_letter b =
     if b == 110 then Some newline_character
     else (if b == 116 then Some tab_character else (if b == 92 then Some 92 else None))
 
--- what stands behind the backslash of an escape, and the character that it stands for: a letter, or `u{..}` with its digits
+-- what stands behind the backslash of an escape, and the character that it stands for: a letter, or `u{..}` with its
+-- digits
 abbrev pub IsEscape : List ℕ → ℕ → Type 0
 IsEscape form c =
     ((letter : ℕ) × (form ≡ letter ∷ []) × (character_by_letter letter ≡ Some c))
-    ⊎ ((digits : List ℕ) × (form ≡ codes "u{" ++ digits ++ codes "}") × NamesCharacter digits × (c ≡ digits_value 16 digits))
+    ⊎ ((digits : List ℕ) × (form ≡ codes "u{" ++ digits ++ codes "}") × NamesCharacter digits
+    × (c ≡ digits_value 16 digits))
 
 -- A piece of a text: a byte that stands for itself, or an escape with its character.
 pub data Piece : Type 0 where
@@ -70,7 +72,9 @@ pub data Call : Type 0 where
 
 -- what stands behind `new `: a width of at least 1 and the decorator
 abbrev pub IsNew : List ℕ → ℕ → Type 0
-IsNew rest width = (digits : List ℕ) × (rest ≡ digits ++ codes " plain") × IsNumber digits × (width ≡ digits_value 10 digits) × (0 < width)
+IsNew rest width =
+    (digits : List ℕ) × (rest ≡ digits ++ codes " plain") × IsNumber digits
+    × (width ≡ digits_value 10 digits) × (0 < width)
 
 -- how a command is written
 abbrev pub Writes : List ℕ → Call → Type 0

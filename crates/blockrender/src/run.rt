@@ -18,11 +18,11 @@ const CHUNK: usize = 4096;
 
 /// Reads the whole script and writes its text.
 ///
-/// The script is read to its end first, then its commands are done in order, up to the first line that is faulty or refuses.
-/// Nothing is written before the text is complete, so after a refusal of the script nothing was, and where the writer fails a
-/// beginning of the text was. `ReadFailed` comes exactly where the reader fails and `WriteFailed` exactly where the writer does.
-/// `OutOfMemory` comes only for want of memory; a reader that never ends meets it, at the latest where the script's length passes
-/// `usize`.
+/// The script is read to its end first, then its commands are done in order, up to the first line that is faulty or
+/// refuses. Nothing is written before the text is complete, so after a refusal of the script nothing was, and where the
+/// writer fails a beginning of the text was. `ReadFailed` comes exactly where the reader fails and `WriteFailed`
+/// exactly where the writer does. `OutOfMemory` comes only for want of memory; a reader that never ends meets it, at
+/// the latest where the script's length passes `usize`.
 pub fn run<R: Source, S: Sink>(
     alloc: Global,
     reader: &mut R,

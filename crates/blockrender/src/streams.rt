@@ -17,7 +17,8 @@ pub trait Source {
 
     ghost failed: { Self → Bool };
 
-    /// Reads some bytes to the front of the buffer and answers how many. None into a buffer that isn't empty is the end.
+    /// Reads some bytes to the front of the buffer and answers how many. None into a buffer that isn't empty is the
+    /// end.
     fn read(&mut self, buf: &mut [u8]) -> Result<usize, Failed>
         ensures bound { ReadsAtMost result buf.new }
         ensures bytes { ReadConsumes (remaining self.old) (remaining self.new) result buf.new }

@@ -26,7 +26,8 @@ flat l ts = record { placed = glyphs l.placed ts; word = glyphs l.word (drop (le
 
 -- the texts between two places in bytes and behind the second
 abbrev pub letters : List ℕ → ℕ → ℕ → Letters
-letters bytes start word_start = record { placed = chars (slice_range bytes start word_start); word = chars (drop word_start bytes) }
+letters bytes start word_start =
+    record { placed = chars (slice_range bytes start word_start); word = chars (drop word_start bytes) }
 
 -- Two places in bytes part them into texts, the last of which has `word` characters.
 pub record AreParts (bytes : List ℕ) (start word_start word : ℕ) : Type 0 where
@@ -38,8 +39,8 @@ pub record AreParts (bytes : List ℕ) (start word_start word : ℕ) : Type 0 wh
 
 -- ---- markers among items
 
--- Markers among characters: how many characters stand behind each one's predecessor and before it, its name, and how many stand
--- behind the last one.
+-- Markers among characters: how many characters stand behind each one's predecessor and before it, its name, and how
+-- many stand behind the last one.
 pub record MarkerPlaces : Type 0 where
   pub markers : List (ℕ × List ℕ)
   pub behind : ℕ
@@ -89,4 +90,6 @@ AreNeighbours (m ∷ ms) = Each (λ n. n.0 ≡ 0) ms
 
 -- the last `n` of the characters and markers are markers alone
 abbrev pub EndsWithMarkers : ℕ → MarkerPlaces → Type 0
-EndsWithMarkers n m = (n ≡ 0) ⊎ ((m.behind ≡ 0) × ((front back : List (ℕ × List ℕ)) × (m.markers ≡ front ++ back) × (length back ≡ n) × AreNeighbours back))
+EndsWithMarkers n m =
+    (n ≡ 0) ⊎ ((m.behind ≡ 0) × ((front back : List (ℕ × List ℕ))
+    × (m.markers ≡ front ++ back) × (length back ≡ n) × AreNeighbours back))

@@ -123,8 +123,8 @@ impl<T: Eq + Clone, W: CharWidth> WrappedBlock<T, W> {
         self.failure.is_none() && !self.has_begun() && self.has_no_columns()
     }
 
-    /// Whether no line has ended yet, and open line and word hold no character. In a `Normal` run these hold none exactly
-    /// where the run has no kept character. It is false on a block that has failed.
+    /// Whether no line has ended yet, and open line and word hold no character. In a `Normal` run these hold none
+    /// exactly where the run has no kept character. It is false on a block that has failed.
     pub fn is_blank(&self) -> bool
         ensures asks { result ≡ is_none self.now.failure && (not (has_begun self.now) && self.now.no_character) }
         ensures normal { WrapsNormally self.now → RunDecides W.columns self.now }
@@ -223,9 +223,9 @@ impl<T: Eq + Clone, W: CharWidth> WrappedBlock<T, W> {
     /// The text joins the run, in the given mode: each character under a copy of the main tag, or of the wrap tag where
     /// its hard line goes on behind a full line.
     ///
-    /// A word that ends is placed. In a `Normal` run `TooNarrow` comes exactly where a word that a break point of the text
-    /// ends, of the run with this text, has a character wider than the block; in any other run only where the run has such
-    /// a character; and never where lines may be wider. `OutOfMemory` comes only for want of memory.
+    /// A word that ends is placed. In a `Normal` run `TooNarrow` comes exactly where a word that a break point of the
+    /// text ends, of the run with this text, has a character wider than the block; in any other run only where the run
+    /// has such a character; and never where lines may be wider. `OutOfMemory` comes only for want of memory.
     pub fn add_text(
         &mut self,
         text: &str,
@@ -292,8 +292,8 @@ impl<T: Eq + Clone, W: CharWidth> WrappedBlock<T, W> {
         Ok(())
     }
 
-    /// Takes the markers of the current word out of the run, in order, if that word has no character, and else none. After a
-    /// [`flush`](WrappedBlock::flush) these are the markers that stand on no ended line.
+    /// Takes the markers of the current word out of the run, in order, if that word has no character, and else none.
+    /// After a [`flush`](WrappedBlock::flush) these are the markers that stand on no ended line.
     ///
     /// It refuses only for want of memory.
     pub fn take_trailing_fragments(&mut self) -> Result<Vec<TaggedLineElement<T>>, Error>
@@ -320,12 +320,12 @@ impl<T: Eq + Clone, W: CharWidth> WrappedBlock<T, W> {
         Ok(markers)
     }
 
-    /// Ends the run. Its last word is placed, and its lines join the ended ones. Markers that stand on none of them begin the
-    /// next run; [`take_trailing_fragments`](WrappedBlock::take_trailing_fragments) takes them.
+    /// Ends the run. Its last word is placed, and its lines join the ended ones. Markers that stand on none of them
+    /// begin the next run; [`take_trailing_fragments`](WrappedBlock::take_trailing_fragments) takes them.
     ///
-    /// In a `Normal` run `TooNarrow` comes exactly where a word of the run has a character wider than the block; in any other
-    /// run only where the run has such a character, and always where that is visible; and never where lines may be wider.
-    /// `OutOfMemory` comes only for want of memory.
+    /// In a `Normal` run `TooNarrow` comes exactly where a word of the run has a character wider than the block; in any
+    /// other run only where the run has such a character, and always where that is visible; and never where lines may
+    /// be wider. `OutOfMemory` comes only for want of memory.
     pub fn flush(&mut self) -> Result<(), Error>
     where
         T: Drop,

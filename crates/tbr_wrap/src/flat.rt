@@ -19,10 +19,11 @@ mod markers;
 mod split_text;
 mod tags;
 
-/// Characters under tags and markers, in one text: those that are placed on lines, and behind them those of the current word.
+/// Characters under tags and markers, in one text: those that are placed on lines, and behind them those of the current
+/// word.
 ///
-/// Placing a word moves no character, and handing out a line costs its own length. A contract sees the items that are placed and not
-/// handed out yet, and those of the word.
+/// Placing a word moves no character, and handing out a line costs its own length. A contract sees the items that are
+/// placed and not handed out yet, and those of the word.
 #[derive(Drop)]
 pub struct FlatText<T> {
     alloc: Global,
@@ -181,9 +182,9 @@ impl<T: Drop> FlatText<T> {
         Ok(markers)
     }
 
-    /// Takes away the spaces at the end of the last `most` placed items, back to a marker, and the white space at the word's
-    /// beginning, up to a marker. It answers how many spaces that were. It takes the time of moving the word, and of going over its
-    /// stretches.
+    /// Takes away the spaces at the end of the last `most` placed items, back to a marker, and the white space at the
+    /// word's beginning, up to a marker. It answers how many spaces that were. It takes the time of moving the word,
+    /// and of going over its stretches.
     ///
     /// Where memory is refused the items stay as they were.
     pub fn trim(&mut self, most: usize) -> Result<usize, OutOfMemory>
@@ -218,8 +219,8 @@ impl<T: Eq + Clone> FlatText<T> {
 
     /// Places `count` spaces before the word. It takes the time of moving the word, and of going over its stretches.
     ///
-    /// Where the spaces part a stretch, the tag is copied, and the word's first characters stand under the copy. Where memory is
-    /// refused the items may be lost.
+    /// Where the spaces part a stretch, the tag is copied, and the word's first characters stand under the copy. Where
+    /// memory is refused the items may be lost.
     pub fn push_spaces(&mut self, count: usize, tag: T) -> Result<(), OutOfMemory>
         requires faithful { CopiesAreEqual T.is_clone T.eq }
         requires some { 0 < count }
@@ -250,8 +251,8 @@ impl<T: Eq + Clone> FlatText<T> {
         Ok(line)
     }
 
-    /// Hands the first placed items to a line, a marker, or at most `most` characters, all under one tag. It answers how many they
-    /// are.
+    /// Hands the first placed items to a line, a marker, or at most `most` characters, all under one tag. It answers
+    /// how many they are.
     fn move_element(&mut self, line: &mut TaggedLine<T>, most: usize) -> Result<usize, OutOfMemory>
         requires faithful { CopiesAreEqual T.is_clone T.eq }
         requires some { 0 < most }

@@ -1,5 +1,5 @@
-//! Tests that cross the crates: worked examples by calls on the libraries, a second width instance, a second type of tags, and
-//! every short text against the plain program for the best layout.
+//! Tests that cross the crates: worked examples by calls on the libraries, a second width instance, a second type of
+//! tags, and every short text against the plain program for the best layout.
 #![tactic(auto)]
 
 #[cfg(test)]

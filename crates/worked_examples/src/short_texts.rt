@@ -1,5 +1,5 @@
-//! Every short text over a few telling characters and markers: the block's lines are those of the plain program for the best layout,
-//! and the markers that are on none of them trail.
+//! Every short text over a few telling characters and markers: the block's lines are those of the plain program for the
+//! best layout, and the markers that are on none of them trail.
 ghost use Rattle.std.specs.Prelude.{◌<◌};
 
 use crate::steps::{add, mark_with, plain};
@@ -88,8 +88,8 @@ fn append_trailing(
     Ok(())
 }
 
-/// The lines of the best layout by the plain program, each with a newline, and the markers that trail, or that the text has no legal
-/// layout.
+/// The lines of the best layout by the plain program, each with a newline, and the markers that trail, or that the text
+/// has no legal layout.
 fn plainly(alloc: Global, width: usize, text: &str) -> Result<String, OutOfMemory> {
     let run = entries(alloc, text)?;
     let Some(cuts) = best_layout::<u8, UnicodeColumns>(alloc, &run, width)? else {

@@ -16,9 +16,9 @@ use tbr_tagged::{OutOfMemory, TaggedString};
 
 /// Characters under tags, in one text: those that are placed on lines, and behind them those of the current word.
 ///
-/// A tag is stored once for each stretch of it, however many lines or words that covers. Placing a word moves no character, and
-/// handing out characters costs their own length. A contract sees the characters that are placed and not handed out yet, and those
-/// of the word.
+/// A tag is stored once for each stretch of it, however many lines or words that covers. Placing a word moves no
+/// character, and handing out characters costs their own length. A contract sees the characters that are placed and not
+/// handed out yet, and those of the word.
 #[derive(Drop)]
 pub struct Characters<T> {
     text: SplitText,
@@ -103,8 +103,9 @@ impl<T> Characters<T> {
 }
 
 impl<T: Drop> Characters<T> {
-    /// Takes away the spaces at the end of the last `last` placed characters, and the white space at the beginning of the word's
-    /// first `first` ones. It answers how many these were. It takes the time of moving the word, and of going over its stretches.
+    /// Takes away the spaces at the end of the last `last` placed characters, and the white space at the beginning of
+    /// the word's first `first` ones. It answers how many these were. It takes the time of moving the word, and of
+    /// going over its stretches.
     ///
     /// Where memory is refused the characters stay as they were.
     pub fn trim(&mut self, last: usize, first: usize) -> Result<(usize, usize), OutOfMemory>
@@ -143,8 +144,8 @@ impl<T: Eq + Clone> Characters<T> {
 
     /// Places `count` spaces before the word. It takes the time of moving the word, and of going over its stretches.
     ///
-    /// Where the spaces part a stretch, the tag is copied, and the word's first characters stand under the copy. Where memory is
-    /// refused the characters may be lost.
+    /// Where the spaces part a stretch, the tag is copied, and the word's first characters stand under the copy. Where
+    /// memory is refused the characters may be lost.
     pub fn push_spaces(&mut self, count: usize, tag: T) -> Result<(), OutOfMemory>
         requires faithful { CopiesAreEqual T.is_clone T.eq }
         requires some { 0 < count }

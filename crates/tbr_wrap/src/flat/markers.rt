@@ -17,7 +17,8 @@ pub struct Marker {
 
 /// Markers among characters.
 ///
-/// A contract sees how many characters stand before each marker, its name, and how many characters stand behind the last one.
+/// A contract sees how many characters stand before each marker, its name, and how many characters stand behind the
+/// last one.
 #[derive(Drop)]
 pub struct Markers {
     markers: VecDeque<Marker>,

@@ -138,8 +138,8 @@ impl SplitText {
         blanks_in_front(&self.text.as_str()[self.word_start..])
     }
 
-    /// Takes away `spaces` spaces at the end of what is placed, and the word's first `blanks` characters. It takes the time of
-    /// moving the word.
+    /// Takes away `spaces` spaces at the end of what is placed, and the word's first `blanks` characters. It takes the
+    /// time of moving the word.
     ///
     /// Where memory is refused the text stays as it was.
     pub fn remove_between(&mut self, spaces: usize, blanks: usize) -> Result<(), OutOfMemory>
@@ -205,7 +205,8 @@ fn bytes_of(text: &str, count: usize) -> usize
     text.len() - rest.as_str().len()
 }
 
-/// How many of the last `most` characters are spaces at the end. A space is one byte, and no other character has that byte.
+/// How many of the last `most` characters are spaces at the end. A space is one byte, and no other character has that
+/// byte.
 fn spaces_at_end(text: &str, most: usize) -> usize
     ensures most { result ≤ most }
     ensures spaces { (front : List ℕ) × (chars text.now ≡ front ++ replicate result 32) }

@@ -74,7 +74,8 @@ impl<T> Stretches<T> {
 }
 
 impl<T: Drop> Stretches<T> {
-    /// Takes `count` tags out in front of the last `last` ones. It takes the time of going over the stretches of all these.
+    /// Takes `count` tags out in front of the last `last` ones. It takes the time of going over the stretches of all
+    /// these.
     pub fn remove_before(&mut self, last: usize, count: usize)
         requires within { last + count ≤ length self.old }
         requires fits { last + count ≤ usize.MAX }
