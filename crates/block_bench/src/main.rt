@@ -4,7 +4,7 @@
 #![tactic(auto)]
 
 ghost use Rattle.std.specs.Prelude.{◌≡◌, ℕ, List, IfOk};
-ghost use Rattle.tbr_lines.specs.Elements.{mark};
+ghost use Rattle.tbr_lines.specs.Elements.{marker_element};
 ghost use Rattle.tbr_lines.specs.View.{element_of};
 
 use std::alloc::Global;
@@ -68,7 +68,7 @@ fn add_behind_markers(
 }
 
 fn marker(alloc: Global) -> Result<TaggedLineElement<u8>, OutOfMemory>
-    ensures { IfOk result (λ marker. (name : List ℕ) × (element_of marker ≡ mark name)) }
+    ensures { IfOk result (λ marker. (name : List ℕ) × (element_of marker ≡ marker_element name)) }
 {
     let name = String::from_str(alloc, "m")?;
     Ok(TaggedLineElement::FragmentStart(name))

@@ -1,6 +1,6 @@
 //! Blocks that are called step by step, and what they tell.
 ghost use Rattle.std.specs.Prelude.{◌<◌, ◌≡◌, ℕ, List, IfOk};
-ghost use Rattle.tbr_lines.specs.Elements.{mark};
+ghost use Rattle.tbr_lines.specs.Elements.{marker_element};
 ghost use Rattle.tbr_lines.specs.View.{element_of};
 
 use crate::texts::{Voice, append_marked_line, append_pieces, shows};
@@ -81,7 +81,7 @@ pub fn mark_with<W: CharWidth + Drop>(
 }
 
 fn marker_of<T>(alloc: Global, name: &str) -> Result<TaggedLineElement<T>, OutOfMemory>
-    ensures { IfOk result (λ marker. (name : List ℕ) × (element_of marker ≡ mark name)) }
+    ensures { IfOk result (λ marker. (name : List ℕ) × (element_of marker ≡ marker_element name)) }
 {
     let name = String::from_str(alloc, name)?;
     Ok(TaggedLineElement::FragmentStart(name))
