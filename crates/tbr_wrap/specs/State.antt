@@ -54,8 +54,8 @@ abbrev pub text_entries : {A : Type 0} → List ℕ → A → A → WhiteSpace �
 text_entries cs a b mode = map (λ c. character c a b mode) cs
 
 -- the run with this text
-abbrev pub run_with_text : {A : Type 0} → State A → List ℕ → A → A → WhiteSpace → List (Entry A)
-run_with_text s cs a b mode = s.run ++ text_entries cs a b mode
+abbrev pub run_with : {A : Type 0} → State A → List ℕ → A → A → WhiteSpace → List (Entry A)
+run_with s cs a b mode = s.run ++ text_entries cs a b mode
 
 -- whether there is something
 abbrev pub is_some_list : {X : Type 0} → List X → Bool

@@ -63,7 +63,7 @@ impl<T: Eq + Clone, W: CharWidth> WrappedBlock<T, W> {
     ghost use Rattle.tbr_model.specs.Markers.{names_in_items, names_in_run, names_behind, last};
     ghost use Rattle.tbr_tagged.specs.Elements.{marker_element};
     ghost use Rattle.tbr_tagged.specs.View.{element_of};
-    ghost use Rattle.tbr_wrap.specs.State.{empty_block, text_entries, JoinsRun, JoinsAsMarker, EndsRun, has_begun, run_with_text, KeepsRefusal, WrapsNormally, RunDecides, AreLastOf, loose_taken, lines_left, line_taken, run_flushed};
+    ghost use Rattle.tbr_wrap.specs.State.{empty_block, text_entries, JoinsRun, JoinsAsMarker, EndsRun, has_begun, run_with, KeepsRefusal, WrapsNormally, RunDecides, AreLastOf, loose_taken, lines_left, line_taken, run_flushed};
 
     /// A block without text, whose lines take `width` columns at most. It takes no memory.
     ///
@@ -238,12 +238,12 @@ impl<T: Eq + Clone, W: CharWidth> WrappedBlock<T, W> {
         requires { CopiesAreEqual T.is_clone T.eq }
         ensures ok { let more = text_entries (chars text.now) main_tag.now wrap_tag.now ws_mode in
             OnOk result (JoinsRun self.old more self.new) }
-        ensures fit { let run = run_with_text self.old (chars text.now) main_tag.now wrap_tag.now ws_mode in
+        ensures fit { let run = run_with self.old (chars text.now) main_tag.now wrap_tag.now ws_mode in
             OnOk result (self.old.may_overflow ≡ false → IsNormal run → EndedWordsFit W.columns self.old.width run) }
-        ensures too_narrow { let run = run_with_text self.old (chars text.now) main_tag.now wrap_tag.now ws_mode in
+        ensures too_narrow { let run = run_with self.old (chars text.now) main_tag.now wrap_tag.now ws_mode in
             self.old.failure ≡ None → result ≡ Err E.TooNarrow →
             (self.old.may_overflow ≡ false) × ¬ (CharactersFit W.columns self.old.width run) }
-        ensures normal_too_narrow { let run = run_with_text self.old (chars text.now) main_tag.now wrap_tag.now ws_mode in
+        ensures normal_too_narrow { let run = run_with self.old (chars text.now) main_tag.now wrap_tag.now ws_mode in
             self.old.failure ≡ None → IsNormal run → result ≡ Err E.TooNarrow →
             ¬ (EndedWordsFit W.columns self.old.width run) }
         ensures two_columns { self.old.failure ≡ None → 2 ≤ self.old.width → result ≢ Err E.TooNarrow }
