@@ -2,6 +2,8 @@
 #![tactic(auto)]
 
 pub mod best_lines;
+pub mod handed_on;
+pub mod line_by_line;
 pub mod numbers;
 pub mod stars;
 pub mod two_tags;

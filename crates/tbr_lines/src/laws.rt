@@ -5,3 +5,7 @@ pub use tbr_border::laws::{
     joins_commute, stretching_appends,
 };
 pub use tbr_tagged::laws::copies_of_lists_are_equal;
+pub use tbr_wrap::laws::{
+    annotations_change_no_promise, handed_out_lines_have_ended, lines_are_handed_out_in_order,
+    lines_join_behind_those_left,
+};

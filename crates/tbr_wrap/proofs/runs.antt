@@ -1,4 +1,5 @@
 pub mod Courses
 pub mod EndedRuns
 pub mod LinesLeft
+pub mod MappedRuns
 pub mod NormalRuns

@@ -1,5 +1,5 @@
 -- What a contract sees of a block.
-use Rattle.std.specs.Prelude.{◌≡◌, ℕ, suc, ◌≤◌, Bool, true, false, ◌||◌, if◌then◌else◌, Option, None, Some, Result, Err, IfErr, unwrap_or, IsTrue, List, [], ◌∷◌, ◌++◌, ◌⊎◌, ◌↔◌, map, length, drop}
+use Rattle.std.specs.Prelude.{◌≡◌, ℕ, zero, suc, ◌≤◌, Bool, true, false, ◌||◌, if◌then◌else◌, Option, None, Some, Result, Err, IfErr, unwrap_or, IsTrue, List, [], ◌∷◌, ◌++◌, ◌⊎◌, ◌↔◌, map, length, drop}
 use Rattle.std.specs.List.{AllByRecursion as Each}
 use Rattle.tbr_model.specs.declared.white_space.WhiteSpace.{WhiteSpace}
 use Rattle.tbr_model.specs.declared.white_space.WhiteSpace.TheVariants.{Normal, Pre, PreWrap}
@@ -7,7 +7,9 @@ use Rattle.tbr_model.specs.Run.{Entry, character, marker_entry, Item, is_kept, i
 use Rattle.tbr_model.specs.Layout.{joined}
 use Rattle.tbr_model.specs.Markers.{names_in_items, names_in_run, marker_items, marker_run, names_behind, without_last_markers}
 use Rattle.tbr_model.specs.Hard.{HasMode, Preserves, IsNarrowEntry, entry_letters, is_visible, hard_lines, Parted, ShowsVisible, ShowsHardLine, ShowsPre, ShowsPreWrap, ShowsTabs}
+use Rattle.std.specs.Option.{option_map}
 use Rattle.tbr_model.specs.Shown.{without_spaces, InventsNothing}
+use Rattle.tbr_model.specs.Mapped.{map_run, map_lines}
 use Rattle.tbr_wrap.specs.Wrapped.{HasBestLines, FitsBlock}
 use Rattle.tbr_tagged.specs.declared.error.Error.{Error}
 
@@ -100,6 +102,15 @@ lines_left s = s.ended ++ drop s.handed s.lines
 abbrev pub line_taken : {A : Type 0} → State A → State A
 line_taken s = if is_some_list s.ended then record s { ended = drop 1 s.ended } else record s { handed = suc s.handed }
 
+-- so many of them are, one by one
+abbrev pub lines_taken : {A : Type 0} → ℕ → State A → State A
+lines_taken zero s = s
+lines_taken (suc n) s = lines_taken n (line_taken s)
+
+-- what was handed out of the run are lines that it has ended
+abbrev pub HandsOutEnded : {A : Type 0} → State A → Type 0
+HandsOutEnded s = s.handed ≤ length s.lines
+
 -- the run has ended, with these lines behind those that it had ended before, and the markers begin the next run
 abbrev pub run_flushed : {A : Type 0} → State A → List (List (Item A)) → List (List ℕ) → State A
 run_flushed s texts names = record s {
@@ -160,6 +171,23 @@ pub record IsShownBy {A : Type 0} (columns : ℕ → Option ℕ) (width : ℕ) (
   pub prewrap : Each (HasMode PreWrap) run → Parted (ShowsPreWrap columns width) (hard_lines run) texts
   pub tabs : Each (HasMode Pre) run ⊎ Each (HasMode PreWrap) run →
       Parted (ShowsTabs columns width) (hard_lines run) texts
+
+-- the same under other annotations
+abbrev pub map_state : {A B : Type 0} → (A → B) → State A → State B
+map_state f s = record {
+  width = s.width;
+  may_overflow = s.may_overflow;
+  padding = option_map f s.padding;
+  begun = s.begun;
+  ended = map_lines f s.ended;
+  lines = map_lines f s.lines;
+  handed = s.handed;
+  run = map_run f s.run;
+  no_columns = s.no_columns;
+  no_character = s.no_character;
+  loose = s.loose;
+  failure = s.failure;
+}
 
 -- these are the last ones of all
 abbrev pub AreLastOf : {X : Type 0} → List X → List X → Type 0

@@ -1,0 +1,158 @@
+-- The end of a run under other annotations.
+use Rattle.std.proofs.Common.{◌≡◌, ℕ, ◌<◌, ◌≤◌, ◌⊎◌, inl, inr, Bool, true, false, not, if◌then◌else◌, nat_lt, Option, None, List, [], ◌∷◌, ◌++◌, map, flat_map, filter, fold, length, slice_index_or, zero, suc, Contains, refl, ap, sym, ◌∙◌, subst, arith}
+use Rattle.std.specs.List.{AllByRecursion as Each}
+use Rattle.std.proofs.lemmas.List.{map-append, length-map}
+use Rattle.tbr_model.specs.declared.white_space.WhiteSpace.{WhiteSpace}
+use Rattle.tbr_model.specs.Run.{Entry, character, marker_entry, Item, glyph, marker, item_width, items_width, is_kept, kept_items, has_character, trailing}
+use Rattle.tbr_model.specs.Layout.{slots_of, line_text, joined}
+use Rattle.tbr_model.specs.Rule.{is_space_item}
+use Rattle.tbr_model.specs.Markers.{names_in_items, names_in_run, marker_items, marked_behind, names_behind}
+use Rattle.tbr_model.specs.Hard.{HasMode, Preserves, HasMain, HasContinuation, entry_letters, is_visible}
+use Rattle.tbr_model.specs.Shown.{without_spaces, HasAnnotation, ComesFrom}
+use Rattle.tbr_model.specs.Mapped.{map_item, map_items, map_entry, map_run, map_slots, map_layout, map_lines}
+use Rattle.tbr_model.proofs.maps.Words.{item_width-map, items_width-map, has_character-map, items_of-map, trailing-map}
+use Rattle.tbr_model.proofs.maps.Layouts.{slots_of-map, line_text-map, joined-map, best-map}
+use Rattle.tbr_model.proofs.maps.HardLines.{visible-map, all_hard_lines-map, all_pre-map, all_prewrap-map, all_tabs-map}
+use Rattle.tbr_wrap.specs.Wrapped.{taking_columns, FitsBlock, HasBestLines}
+use Rattle.tbr_wrap.specs.State.{State, IsNormal, IsShownBy, EndsRun, map_state}
+
+module _ {A B : Type 0} (f : A → B) where
+  -- ---- runs
+
+  mode_unmap : (mode : WhiteSpace) (run : List (Entry A)) → Each (HasMode mode) (map_run f run) → Each (HasMode mode) run
+  mode_unmap mode [] h = tt
+  mode_unmap mode (character c a b m ∷ es) h = (h.0, mode_unmap mode es h.1)
+  mode_unmap mode (marker_entry name ∷ es) h = (tt, mode_unmap mode es h.1)
+
+  preserves_unmap : (run : List (Entry A)) → Each Preserves (map_run f run) → Each Preserves run
+  preserves_unmap [] h = tt
+  preserves_unmap (character c a b m ∷ es) h = (h.0, preserves_unmap es h.1)
+  preserves_unmap (marker_entry name ∷ es) h = (tt, preserves_unmap es h.1)
+
+  letters-map : (run : List (Entry A)) → entry_letters (map_run f run) ≡ entry_letters run
+  letters-map [] = refl
+  letters-map (character c a b m ∷ es) = ap (λ cs. c ∷ cs) (letters-map es)
+  letters-map (marker_entry name ∷ es) = letters-map es
+
+  names_in_run-map : (run : List (Entry A)) → names_in_run (map_run f run) ≡ names_in_run run
+  names_in_run-map [] = refl
+  names_in_run-map (character c a b m ∷ es) = names_in_run-map es
+  names_in_run-map (marker_entry name ∷ es) = ap (λ ns. name ∷ ns) (names_in_run-map es)
+
+  behind-map : (test : ℕ → Bool) (run : List (Entry A)) (names : List (List ℕ)) → fold (marked_behind test) names (map_run f run) ≡ fold (marked_behind test) names run
+  behind-map test [] names = refl
+  behind-map test (character c a b m ∷ es) names = behind-map test es (if test c then [] else names)
+  behind-map test (marker_entry name ∷ es) names = behind-map test es (names ++ name ∷ [])
+
+  kept_items-map : (columns : ℕ → Option ℕ) (run : List (Entry A)) → kept_items columns (map_run f run) ≡ map_items f (kept_items columns run)
+  kept_items-map columns [] = refl
+  kept_items-map columns (e ∷ es) =
+      let first = items_of-map f columns e in
+      let rest = kept_items-map columns es in
+      rw (first, rest) (sym (map-append (map_item f) _ (kept_items columns es)))
+
+  -- ---- items
+
+  names_in_items-map : (is : List (Item A)) → names_in_items (map_items f is) ≡ names_in_items is
+  names_in_items-map [] = refl
+  names_in_items-map (glyph c a ∷ is) = names_in_items-map is
+  names_in_items-map (marker name ∷ is) = ap (λ ns. name ∷ ns) (names_in_items-map is)
+
+  marker_items-map : (names : List (List ℕ)) → map_items f (marker_items names) ≡ marker_items names
+  marker_items-map [] = refl
+  marker_items-map (name ∷ names) = ap (λ (is : List (Item B)). marker name ∷ is) (marker_items-map names)
+
+  without_spaces-map : (is : List (Item A)) → without_spaces (map_items f is) ≡ map_items f (without_spaces is)
+  without_spaces-map [] = refl
+  without_spaces-map (marker name ∷ is) = ap (λ (js : List (Item B)). marker name ∷ js) (without_spaces-map is)
+  without_spaces-map (glyph c a ∷ is) = go (without_spaces-map is) (not (is_space_item (glyph c a)))
+    where
+      go : without_spaces (map_items f is) ≡ map_items f (without_spaces is) → (k : Bool) →
+          (let js : List (Item B) = if k then glyph c (f a) ∷ without_spaces (map_items f is) else without_spaces (map_items f is) in js)
+          ≡ map_items f (if k then glyph c a ∷ without_spaces is else without_spaces is)
+      go rest true = ap (λ (js : List (Item B)). glyph c (f a) ∷ js) rest
+      go rest false = rest
+
+  taking_columns-map : (columns : ℕ → Option ℕ) (is : List (Item A)) → taking_columns columns (map_items f is) ≡ taking_columns columns is
+  taking_columns-map columns [] = refl
+  taking_columns-map columns (i ∷ is) = let first = item_width-map f columns i in let rest = taking_columns-map columns is in rw (first, rest) refl
+
+  -- ---- what comes from the run
+
+  index-map : (run : List (Entry A)) (k : ℕ) (e : Entry A) → slice_index_or (map_run f run) k (map_entry f e) ≡ map_entry f (slice_index_or run k e)
+  index-map [] k e = refl
+  index-map (d ∷ ds) zero e = refl
+  index-map (d ∷ ds) (suc k) e = index-map ds k e
+
+  contains-map : (run : List (Entry A)) (e : Entry A) → Contains run e → Contains (map_run f run) (map_entry f e)
+  contains-map run e h = (h.0, omega (arith, h.1, length-map run (map_entry f)), index-map run h.0 e ∙ ap (map_entry f) h.2)
+
+  has_map : (e : Entry A) (x : A) → HasMain (λ a b. a ≡ b) e x ⊎ HasContinuation (λ a b. a ≡ b) e x → HasMain (λ a b. a ≡ b) (map_entry f e) (f x) ⊎ HasContinuation (λ a b. a ≡ b) (map_entry f e) (f x)
+  has_map (character c a b m) x (inl h) = inl (ap f h)
+  has_map (character c a b m) x (inr h) = inr (ap f h)
+  has_map (marker_entry name) x (inl h) = absurd h
+  has_map (marker_entry name) x (inr h) = absurd h
+
+  module _ (columns : ℕ → Option ℕ) (run : List (Entry A)) where
+    comes-map : (i : Item A) → ComesFrom columns (λ a b. a ≡ b) run i → ComesFrom columns (λ a b. a ≡ b) (map_run f run) (map_item f i)
+    comes-map (glyph c x) (inl h) = inl h
+    comes-map (glyph c x) (inr h) = inr (h.0, (map_entry f h.1.0, contains-map run h.1.0 h.1.1, has_map h.1.0 x h.1.2))
+    comes-map (marker name) h = contains-map run (marker_entry name) h
+
+    all_come-map : (is : List (Item A)) → Each (ComesFrom columns (λ a b. a ≡ b) run) is → Each (ComesFrom columns (λ a b. a ≡ b) (map_run f run)) (map_items f is)
+    all_come-map [] h = tt
+    all_come-map (i ∷ is) h = (comes-map i h.0, all_come-map is h.1)
+
+  -- ---- lines
+
+  fit-map : (columns : ℕ → Option ℕ) (width : ℕ) (may_overflow : Bool) (lines : List (List (Item A))) → Each (FitsBlock columns width may_overflow) lines → Each (FitsBlock columns width may_overflow) (map_lines f lines)
+  fit-map columns width may_overflow [] h = tt
+  fit-map columns width may_overflow (is ∷ ls) h = (rw (items_width-map f columns is, taking_columns-map columns is) h.0, fit-map columns width may_overflow ls h.1)
+
+  full-map : (lines : List (List (Item A))) → Each (λ is. has_character is ≡ true) lines → Each (λ is. has_character is ≡ true) (map_lines f lines)
+  full-map [] h = tt
+  full-map (is ∷ ls) h = (has_character-map f (λ c. None) is ∙ h.0, full-map ls h.1)
+
+  texts-map : (lines : List (List _)) → map line_text (map_layout f lines) ≡ map_lines f (map line_text lines)
+  texts-map [] = refl
+  texts-map (l ∷ ls) = let first = line_text-map f l in let rest = texts-map ls in cc
+
+  best_lines-map : (columns : ℕ → Option ℕ) (width : ℕ) (run : List (Entry A)) (texts : List (List (Item A))) → HasBestLines columns width run texts → HasBestLines columns width (map_run f run) (map_lines f texts)
+  best_lines-map columns width run texts h = record {
+    lines = map_layout f h.lines;
+    best = rw (slots_of-map f columns width run) (best-map f width (slots_of columns width run) h.lines h.best);
+    shown = ap (map_lines f) h.shown ∙ sym (texts-map h.lines);
+    full = full-map texts h.full;
+  }
+
+  shown_by-map : (columns : ℕ → Option ℕ) (width : ℕ) (may_overflow : Bool) (run : List (Entry A)) (texts : List (List (Item A))) →
+      IsShownBy columns width may_overflow run texts → IsShownBy columns width may_overflow (map_run f run) (map_lines f texts)
+  shown_by-map columns width may_overflow run texts h =
+      let Same : A → A → Type 0 = λ a b. a ≡ b in
+      let Other : B → B → Type 0 = λ a b. a ≡ b in
+      let keeps : (x y : A) → x ≡ y → f x ≡ f y = λ x y e. ap f e in
+      record {
+        best = λ narrow normal. best_lines-map columns width run texts (h.best narrow (mode_unmap _ run normal));
+        visible = visible-map f Same Other keeps columns run texts h.visible;
+        hard = λ all. all_hard_lines-map f Same Other keeps columns run texts (h.hard (preserves_unmap run all));
+        pre = λ all. all_pre-map f Same Other keeps columns width run texts (h.pre (mode_unmap _ run all));
+        prewrap = λ all. all_prewrap-map f columns width run texts (h.prewrap (mode_unmap _ run all));
+        tabs = λ either. all_tabs-map f columns width run texts (h.tabs (elim either [ inl all ↦ inl (mode_unmap _ run all) | inr all ↦ inr (mode_unmap _ run all) ]));
+      }
+
+  pub ends_run-map : (columns : ℕ → Option ℕ) (s : State A) (texts : List (List (Item A))) (names : List (List ℕ)) → EndsRun columns s texts names → EndsRun columns (map_state f s) (map_lines f texts) names
+  ends_run-map columns s texts names h =
+      let lines : map_lines f s.lines ++ map_lines f texts ≡ map_lines f (s.lines ++ texts) = sym (map-append (map_items f) s.lines texts) in
+      let items : joined (map_lines f (s.lines ++ texts)) ≡ map_items f (joined (s.lines ++ texts)) = joined-map (map_item f) (s.lines ++ texts) in
+      record {
+        shown = rw lines (shown_by-map columns s.width s.may_overflow s.run (s.lines ++ texts) h.shown);
+        fits = rw lines (fit-map columns s.width s.may_overflow (s.lines ++ texts) h.fits);
+        invents = rw (lines, items) (all_come-map columns s.run (joined (s.lines ++ texts)) h.invents);
+        kept = λ normal. rw (lines, items, without_spaces-map (joined (s.lines ++ texts)), kept_items-map columns s.run, ← marker_items-map names)
+            (sym (map-append (map_item f) (without_spaces (joined (s.lines ++ texts))) (marker_items names)) ∙ ap (map_items f) (h.kept (mode_unmap _ s.run normal)));
+        markers = rw (lines, items, names_in_items-map (joined (s.lines ++ texts)), names_in_run-map s.run) h.markers;
+        behind = rw (behind-map (is_visible columns) s.run []) h.behind;
+        behind_kept = λ normal. rw (behind-map (is_kept columns) s.run []) (h.behind_kept (mode_unmap _ s.run normal));
+        waits = λ narrow normal. rw (trailing-map f columns s.run) (sym (marker_items-map names) ∙ ap (map_items f) (h.waits narrow (mode_unmap _ s.run normal)));
+        alone = λ none. lines ∙ ap (map_lines f) (h.alone (sym (letters-map s.run) ∙ none));
+      }

@@ -1,0 +1,44 @@
+//! The laws of blocks, each as the contract of a function that does nothing.
+ghost use Rattle.std.specs.Prelude.{◌≡◌, ◌≢◌, ◌↔◌, ℕ, ◌++◌, [], Bool, Option, List, take};
+ghost use Rattle.tbr_model.specs.Run.{Item, Entry};
+ghost use Rattle.tbr_model.specs.Mapped.{map_lines};
+ghost use Rattle.tbr_wrap.specs.State.{State, map_state, empty_block, JoinsRun, JoinsAsMarker, EndsRun, loose_taken, lines_left, line_taken, lines_taken, HandsOutEnded, run_flushed};
+
+/// The lines that are handed out one by one, and then those that are left, are in order those that were left before;
+/// and what the end of the run promises stays the same. So the lines of `next_line`, and then those of `into_lines`,
+/// are what `into_lines` alone gives.
+pub fn lines_are_handed_out_in_order<T>()
+    ensures lines { (n : ℕ) (s : State T) →
+        take n (lines_left s) ++ lines_left (lines_taken n s) ≡ lines_left s }
+    ensures promised { (columns : ℕ → Option ℕ) (n : ℕ) (s : State T) (texts : List (List (Item T)))
+        (names : List (List ℕ)) → EndsRun columns s texts names ↔ EndsRun columns (lines_taken n s) texts names }
+{}
+
+/// Lines that a run ends, under way or where it is flushed, come behind those that are left.
+pub fn lines_join_behind_those_left<T>()
+    ensures under_way { (old new : State T) (more : List (Entry T)) → HandsOutEnded old →
+        (joins : JoinsRun old more new) → lines_left new ≡ lines_left old ++ joins.lines }
+    ensures flushed { (s : State T) (texts : List (List (Item T))) (names : List (List ℕ)) →
+        lines_left (run_flushed s texts names) ≡ lines_left s ++ texts }
+{}
+
+/// Only lines that have ended are handed out, whatever calls come.
+pub fn handed_out_lines_have_ended<T>()
+    ensures new { (width : ℕ) (may_overflow : Bool) (padding : Option T) →
+        HandsOutEnded (empty_block width may_overflow padding) }
+    ensures text { (old new : State T) (more : List (Entry T)) → HandsOutEnded old → JoinsRun old more new →
+        HandsOutEnded new }
+    ensures marker { (old new : State T) (name : List ℕ) → HandsOutEnded old → JoinsAsMarker old name new →
+        HandsOutEnded new }
+    ensures markers_taken { (s : State T) → HandsOutEnded s → HandsOutEnded (loose_taken s) }
+    ensures line_taken { (s : State T) → HandsOutEnded s → lines_left s ≢ [] → HandsOutEnded (line_taken s) }
+    ensures flushed { (s : State T) (texts : List (List (Item T))) (names : List (List ℕ)) →
+        HandsOutEnded (run_flushed s texts names) }
+{}
+
+/// What the end of a run promises, it promises under other annotations too, as under what annotations mean.
+pub fn annotations_change_no_promise<A, B>()
+    ensures { (f : A → B) (columns : ℕ → Option ℕ) (s : State A) (texts : List (List (Item A)))
+        (names : List (List ℕ)) → EndsRun columns s texts names →
+        EndsRun columns (map_state f s) (map_lines f texts) names }
+{}

@@ -1,0 +1,6 @@
+pub mod Renderer
+pub mod Meant
+pub mod View
+pub mod Flush
+pub mod Steps
+pub mod Calls
