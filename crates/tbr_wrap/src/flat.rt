@@ -79,7 +79,7 @@ impl<T> FlatText<T> {
 
     /// How many markers the word has.
     pub fn word_markers(&self) -> usize
-        ensures { has_character self.now.word ≡ false → result ≡ length self.now.word }
+        ensures { result ≡ length (names_in_items self.now.word) }
     {
         self.text.holds_characters();
         self.word.len()
@@ -102,14 +102,6 @@ impl<T> FlatText<T> {
         }
         let c = self.text.first()?;
         Some(W::width(c).unwrap_or(0))
-    }
-
-    /// Whether there is a character among the last `last` placed items.
-    pub fn has_character(&self, last: usize) -> bool
-        ensures { (before line : List (Item T)) → self.now.placed ≡ before ++ line → length line ≡ last → result ≡ has_character line }
-    {
-        self.text.holds_characters();
-        !self.placed.ends_with_markers(last)
     }
 
     /// Adds a marker to the word. Where memory is refused the items stay as they were.

@@ -9,11 +9,11 @@ use Rattle.tbr_model.specs.Entry.{is_glyph}
 use Rattle.tbr_model.specs.Run.{Item, marker, has_character}
 use Rattle.tbr_model.proofs.words.Items.{has_character-append}
 use Rattle.tbr_tagged.specs.Elements.{SameItems}
-use Rattle.tbr_wrap.specs.Flat.{Flat, MarkerPlaces, marked, covered, before_first, shortened, followed, EndsWithMarkers}
+use Rattle.tbr_wrap.specs.Flat.{Flat, MarkerPlaces, marked, covered, before_first, shortened, followed, before_last}
 use Rattle.tbr_wrap.proofs.storage.StretchTags.{take_behind}
 use Rattle.tbr_wrap.proofs.storage.MarkerPlaces.{covered_followed, covered_push, some_before, no_marks}
 use Rattle.tbr_tagged.proofs.SameItems.{same_items, same_items_trans, same_items_append}
-use Rattle.tbr_wrap.proofs.storage.MarkedItems.{length-marked, marked_more, marked_push, marked_followed, marked_shortened, taken_front, first_marked, no_character, ends_with_marks}
+use Rattle.tbr_wrap.proofs.storage.MarkedItems.{length-marked, marked_more, marked_push, marked_followed, marked_shortened, taken_front, first_marked, no_character, none_at_end}
 
 -- characters with the markers of those that are placed and of the word
 abbrev pub with_marks : {A : Type 0} → Flat A → MarkerPlaces → MarkerPlaces → Flat A
@@ -134,12 +134,11 @@ module _ {A : Type 0} where
       let parts : placed ≡ before ++ take left line = same_front placed word (before ++ line) old e (omega (arith, len)) ∙ take_behind before line left (length placed) count in
       let alone : has_character (take left line) ≡ false =
       (or_parts (has_character (take left line)) (has_character (drop left line)) (sym (has_character-append (take left line) (drop left line)) ∙ ap has_character (take-append-drop left line) ∙ none)).0 in
-      go stuck (ends_with_marks is m.markers m.behind before (take left line) glyphs h parts alone) (omega (arith, length-take left line))
+      omega (arith, ap length (none_at_end is m before (take left line) glyphs h parts alone (go stuck)), length-take left line)
     where
-      go : {n : ℕ} → (0 < m.behind) ⊎ (m.markers ≡ []) → EndsWithMarkers n m → 0 < n → ⊥
-      go stuck (inl short) some = omega arith
-      go (inl behind) (inr (end, more)) some = omega arith
-      go (inr nothing) (inr (end, (front, back, split, len, near))) some = omega (arith, ap length (sym nothing ∙ split), length-append front back)
+      go : (0 < m.behind) ⊎ (m.markers ≡ []) → 0 < m.behind
+      go (inl some) = some
+      go (inr nothing) = omega (arith, h, ap before_last nothing, ap length nothing, length-marked is m.markers, len, length-append before line)
 
   -- all are back
   pub line_back : (placed word old before line : List (Item A)) (done : ℕ) → placed ++ word ≡ (before ++ line) ++ old → length placed + done ≡ length (before ++ line) → length line ≡ done → (placed ≡ before) × (word ≡ line ++ old)
