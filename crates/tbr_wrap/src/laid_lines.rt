@@ -134,10 +134,9 @@ impl<T: Eq + Clone> LaidLines<T> {
         let Some(line_len) = self.line_len.checked_add(1) else {
             return Err(OutOfMemory);
         };
-        let markers = self.flat.word_markers();
-        self.flat.place_first()?;
+        let markers = self.flat.place_first()?;
         self.line_len = line_len;
-        self.line_markers += markers - self.flat.word_markers();
+        self.line_markers += markers;
         self.line_width += width;
         Ok(())
     }
@@ -234,8 +233,7 @@ impl<T: Eq + Clone> LaidLines<T> {
         let Some(line_len) = self.line_len.checked_add(items) else {
             return Err(OutOfMemory);
         };
-        let markers = self.flat.word_markers();
-        self.flat.place_word()?;
+        let markers = self.flat.place_word()?;
         self.line_len = line_len;
         self.line_markers += markers;
         self.line_width += width;

@@ -171,7 +171,7 @@ module _ {A : Type 0} where
 
   -- ---- how many markers there are
 
-  characters_alone : (is : List (Item A)) → Each (λ i. is_glyph i ≡ true) is → length (names_in_items is) ≡ 0
+  pub characters_alone : (is : List (Item A)) → Each (λ i. is_glyph i ≡ true) is → length (names_in_items is) ≡ 0
   characters_alone [] h = refl
   characters_alone (glyph c a ∷ is) h = characters_alone is h.1
   characters_alone (marker name ∷ is) h = absurd (false≢true h.0)
