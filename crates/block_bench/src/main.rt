@@ -1,6 +1,7 @@
-//! Wraps the text on standard input, so that its cost can be measured. The first line is `tags`, `markers` or `pre`,
-//! what follows is the text: under a tag for each character in turn, with a marker before each character, or
-//! preformatted under one tag. Prints how many lines there are and how many bytes they hold.
+//! Wraps the text on standard input, so that its cost can be measured. The first line is `tags`, `markers`, `pre` or
+//! `narrow`, what follows is the text: under a tag for each character in turn, with a marker before each character,
+//! preformatted under one tag, or in one column with overflow, where an `m` is a marker. Prints how many lines there
+//! are and how many bytes they hold.
 #![tactic(auto)]
 
 ghost use Rattle.std.specs.Prelude.{◌≡◌, ℕ, List, IfOk};
@@ -23,6 +24,8 @@ enum Kind {
     Markers,
     /// At once, preformatted under the tag 1, and 2 where a line goes on.
     Pre,
+    /// Each character by itself, with its white space kept, in one column that may overflow. An `m` is a marker.
+    Narrow,
 }
 
 impl Kind {
@@ -31,7 +34,17 @@ impl Kind {
             "tags" => Some(Kind::Tags),
             "markers" => Some(Kind::Markers),
             "pre" => Some(Kind::Pre),
+            "narrow" => Some(Kind::Narrow),
             _ => None,
+        }
+    }
+
+    fn new_block(self, alloc: Global) -> WrappedBlock<u8> {
+        match self {
+            Kind::Tags | Kind::Markers | Kind::Pre => {
+                WrappedBlock::new(alloc, WIDTH, false, false, 1)
+            }
+            Kind::Narrow => WrappedBlock::new(alloc, 1, false, true, 1),
         }
     }
 
@@ -40,6 +53,7 @@ impl Kind {
             Kind::Tags => add_under_tags_in_turn(block, text),
             Kind::Markers => add_behind_markers(alloc, block, text),
             Kind::Pre => block.add_text(text, WhiteSpace::Pre, &1, &2),
+            Kind::Narrow => add_and_mark(alloc, block, text),
         }
     }
 }
@@ -67,6 +81,18 @@ fn add_behind_markers(
     Ok(())
 }
 
+fn add_and_mark(alloc: Global, block: &mut WrappedBlock<u8>, text: &str) -> Result<(), Error> {
+    for c in text.chars() {
+        if c == 'm' {
+            block.add_element(marker(alloc)?)?;
+        } else {
+            let mut buffer = [0; 4];
+            block.add_text(c.encode_utf8(&mut buffer), WhiteSpace::PreWrap, &1, &1)?;
+        }
+    }
+    Ok(())
+}
+
 fn marker(alloc: Global) -> Result<TaggedLineElement<u8>, OutOfMemory>
     ensures { IfOk result (λ marker. (name : List ℕ) × (element_of marker ≡ marker_element name)) }
 {
@@ -78,7 +104,7 @@ fn run(rt: &HostRuntime) -> Option<()> {
     let input = io::read_to_string(rt.alloc(), rt.reader()).ok()?;
     let (word, text) = input.as_str().split_once('\n')?;
     let kind = Kind::parse(word)?;
-    let mut block = WrappedBlock::new(rt.alloc(), WIDTH, false, false, 1);
+    let mut block = kind.new_block(rt.alloc());
     kind.add(rt.alloc(), &mut block, text).ok()?;
     let lines = block.into_lines().ok()?;
     let mut bytes = 0usize;

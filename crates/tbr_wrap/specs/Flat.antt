@@ -1,6 +1,5 @@
 -- What a contract sees of characters under tags in one text.
-use Rattle.std.specs.Prelude.{◌≡◌, ◌≤◌, ◌⊎◌, ℕ, ◌+◌, ◌-◌, true, List, [], ◌∷◌, ◌++◌, length, take, drop, slice_range, chars}
-use Rattle.std.specs.List.{AllByRecursion as Each}
+use Rattle.std.specs.Prelude.{◌≡◌, ◌≤◌, ℕ, ◌+◌, ◌-◌, true, List, [], ◌∷◌, ◌++◌, length, take, drop, slice_range, chars}
 use Rattle.std.specs.Str.{is_utf8}
 use Rattle.tbr_model.specs.Run.{Item, glyph, marker}
 
@@ -82,14 +81,3 @@ followed m n = go n.markers
     go : List (ℕ × List ℕ) → MarkerPlaces
     go [] = record m { behind = m.behind + n.behind }
     go ((k, name) ∷ ms) = record { markers = m.markers ++ (m.behind + k, name) ∷ ms; behind = n.behind }
-
--- all but the first stand right behind their predecessors
-abbrev pub AreNeighbours : List (ℕ × List ℕ) → Type 0
-AreNeighbours [] = Unit {0}
-AreNeighbours (m ∷ ms) = Each (λ n. n.0 ≡ 0) ms
-
--- the last `n` of the characters and markers are markers alone
-abbrev pub EndsWithMarkers : ℕ → MarkerPlaces → Type 0
-EndsWithMarkers n m =
-    (n ≡ 0) ⊎ ((m.behind ≡ 0) × ((front back : List (ℕ × List ℕ))
-    × (m.markers ≡ front ++ back) × (length back ≡ n) × AreNeighbours back))

@@ -4,6 +4,7 @@ use Rattle.std.specs.List.{AllZip, AllByRecursion as Each}
 use Rattle.tbr_model.specs.Run.{Item, items_width}
 use Rattle.tbr_model.specs.Layout.{joined}
 use Rattle.tbr_model.specs.Laid.{Laid}
+use Rattle.tbr_model.specs.Markers.{names_in_items}
 use Rattle.tbr_tagged.specs.Elements.{SameItems}
 use Rattle.tbr_wrap.specs.Wrapped.{FitsBlock}
 use Rattle.tbr_wrap.specs.declared.laid_lines.LaidLines.{LaidLines}
@@ -13,6 +14,7 @@ pub record HoldsLaid {A : Type 0} (b : LaidLines A) (before : List (List (Item A
   pub placed : b.flat.placed ≡ joined (before ++ l.done) ++ l.line
   pub lens : b.ended.items ≡ map length (before ++ l.done)
   pub len : b.line_len ≡ length l.line
+  pub markers : b.line_markers ≡ length (names_in_items l.line)
   pub width : b.line_width ≡ l.width
 
 -- What is laid is what the rule lays, up to equal tags, but for the first lines, which were handed out.
@@ -54,6 +56,7 @@ pub record HoldsLaidBefore {A : Type 0} (b : LaidLines A) (before : List (List (
   pub placed : b.flat.placed ≡ (joined (before ++ l.done) ++ l.line) ++ behind
   pub lens : b.ended.items ≡ map length (before ++ l.done)
   pub len : b.line_len ≡ length l.line
+  pub markers : b.line_markers ≡ length (names_in_items l.line)
   pub width : b.line_width ≡ l.width
 
 pub record HoldsRuleBefore {A : Type 0} (columns : ℕ → Option ℕ) (eq : A → A → Bool) (b : LaidLines A)
@@ -74,4 +77,5 @@ pub record LeavesAfterLine {A : Type 0} (b c : LaidLines A) (rest : List (List (
   pub word : c.flat.word ≡ b.flat.word
   pub lens : c.ended.items ≡ map length rest
   pub len : c.line_len ≡ b.line_len
+  pub markers : c.line_markers ≡ b.line_markers
   pub width : c.line_width ≡ b.line_width

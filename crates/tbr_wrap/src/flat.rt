@@ -77,14 +77,6 @@ impl<T> FlatText<T> {
         }
     }
 
-    /// How many markers the word has.
-    pub fn word_markers(&self) -> usize
-        ensures { has_character self.now.word ≡ false → result ≡ length self.now.word }
-    {
-        self.text.holds_characters();
-        self.word.len()
-    }
-
     /// The columns of the word.
     pub fn word_width<W: CharWidth>(&self) -> Result<usize, OutOfMemory>
         ensures { IfOk result (λ n. n ≡ items_width W.columns self.now.word) }
@@ -104,14 +96,6 @@ impl<T> FlatText<T> {
         Some(W::width(c).unwrap_or(0))
     }
 
-    /// Whether there is a character among the last `last` placed items.
-    pub fn has_character(&self, last: usize) -> bool
-        ensures { (before line : List (Item T)) → self.now.placed ≡ before ++ line → length line ≡ last → result ≡ has_character line }
-    {
-        self.text.holds_characters();
-        !self.placed.ends_with_markers(last)
-    }
-
     /// Adds a marker to the word. Where memory is refused the items stay as they were.
     pub fn push_marker(&mut self, name: String) -> Result<(), OutOfMemory>
         ensures { OnOk result (self.new ≡ record self.old { word = self.old.word ++ marker (string_bytes name) ∷ [] }) }
@@ -119,34 +103,41 @@ impl<T> FlatText<T> {
         self.word.push(name)
     }
 
-    /// Places the word. It takes the time of moving its markers.
+    /// Places the word, and answers how many markers it has. It takes the time of moving them.
     ///
     /// Where memory is refused the items may be lost.
-    pub fn place_word(&mut self) -> Result<(), OutOfMemory>
-        ensures { OnOk result (self.new ≡ record { placed = self.old.placed ++ self.old.word; word = [] }) }
+    pub fn place_word(&mut self) -> Result<usize, OutOfMemory>
+        ensures markers { IfOk result (λ n. n ≡ length (names_in_items self.old.word)) }
+        ensures placed { OnOk result (self.new ≡ record { placed = self.old.placed ++ self.old.word; word = [] }) }
     {
+        self.text.holds_characters();
+        let markers = self.word.len();
         if let Err(e) = self.placed.append(&mut self.word) {
             clear(&mut self.text, &mut self.placed, &mut self.word);
             return Err(e);
         }
         self.text.place_word();
-        Ok(())
+        Ok(markers)
     }
 
-    /// Places the word's first item. It takes constant time.
+    /// Places the word's first item, and answers how many markers that is, one or none. It takes constant time.
     ///
     /// Where memory is refused the item may be lost.
-    pub fn place_first(&mut self) -> Result<(), OutOfMemory>
+    pub fn place_first(&mut self) -> Result<usize, OutOfMemory>
         requires { 0 < length self.old.word }
-        ensures { OnOk result ((i : Item T) × (rest : List (Item T)) × (self.old.word ≡ i ∷ rest) × (self.new ≡ record { placed = self.old.placed ++ i ∷ []; word = rest })) }
+        ensures { IfOk result (λ n. (i : Item T) × (rest : List (Item T)) × (self.old.word ≡ i ∷ rest)
+            × (self.new ≡ record { placed = self.old.placed ++ i ∷ []; word = rest })
+            × (n ≡ length (names_in_items (i ∷ [])))) }
     {
         if let Some(name) = self.word.pop_first() {
-            return self.placed.push(name);
+            self.placed.push(name)?;
+            return Ok(1);
         }
+        self.text.holds_characters();
         self.placed.add_characters(1)?;
         self.text.place_first();
         self.word.remove_first(1);
-        Ok(())
+        Ok(0)
     }
 
     /// Puts the last `last` placed items in front of the word, if they are markers.

@@ -27,8 +27,11 @@ pub struct LaidLines<T> {
     pub ended: VecDeque<usize>,
     /// The items of the open line.
     pub line_len: usize,
+    /// The markers of the open line.
+    pub line_markers: usize,
     /// The columns of the open line.
     pub line_width: usize,
+    ghost marked: { line_markers ≤ line_len },
     ghost fits: { line_width ≤ width },
     ghost positive: { 0 < width },
     ghost counted: { deque_len ended ≡ length ended.items },
@@ -51,6 +54,7 @@ impl<T> LaidLines<T> {
             flat: FlatText::new(alloc),
             ended: VecDeque::new(alloc),
             line_len: 0,
+            line_markers: 0,
             line_width: 0,
         }
     }
@@ -76,6 +80,7 @@ impl<T: Eq + Clone> LaidLines<T> {
     {
         self.ended.push_back(self.line_len)?;
         self.line_len = 0;
+        self.line_markers = 0;
         self.line_width = 0;
         Ok(())
     }
@@ -85,7 +90,7 @@ impl<T: Eq + Clone> LaidLines<T> {
         ensures { (before : List (List (Item T))) (l : Laid T) → HoldsLaid self.now before l →
             result ≡ has_character l.line }
     {
-        self.flat.has_character(self.line_len)
+        self.line_markers < self.line_len
     }
 
     /// Ends the open line, if it has a character.
@@ -129,8 +134,9 @@ impl<T: Eq + Clone> LaidLines<T> {
         let Some(line_len) = self.line_len.checked_add(1) else {
             return Err(OutOfMemory);
         };
-        self.flat.place_first()?;
+        let markers = self.flat.place_first()?;
         self.line_len = line_len;
+        self.line_markers += markers;
         self.line_width += width;
         Ok(())
     }
@@ -153,6 +159,7 @@ impl<T: Eq + Clone> LaidLines<T> {
         self.flat.place_first()?;
         self.ended.push_back(line_len)?;
         self.line_len = 0;
+        self.line_markers = 0;
         Ok(())
     }
 
@@ -226,8 +233,9 @@ impl<T: Eq + Clone> LaidLines<T> {
         let Some(line_len) = self.line_len.checked_add(items) else {
             return Err(OutOfMemory);
         };
-        self.flat.place_word()?;
+        let markers = self.flat.place_word()?;
         self.line_len = line_len;
+        self.line_markers += markers;
         self.line_width += width;
         Ok(())
     }
@@ -277,6 +285,7 @@ impl<T: Eq + Clone> LaidLines<T> {
         }
         self.ended.push_back(self.line_len)?;
         self.line_len = 0;
+        self.line_markers = 0;
         self.line_width = 0;
         Ok(())
     }

@@ -600,6 +600,7 @@ impl<T: Eq + Clone + Drop> Wrapper<T> {
         self.flush_word::<W>()?;
         self.lines.end_if_character()?;
         self.lines.flat.unplace(self.lines.line_len)?;
+        self.lines.line_markers = 0;
         self.lines.line_len = 0;
         self.space = None;
         self.word_mode = WhiteSpace::Normal;

@@ -5,27 +5,31 @@ use Rattle.tbr_tagged.specs.Elements.{SameItems}
 use Rattle.tbr_model.specs.Run.{Item}
 use Rattle.tbr_model.specs.Layout.{joined}
 use Rattle.tbr_model.specs.Laid.{Laid, extended, end_line}
+use Rattle.tbr_model.specs.Markers.{names_in_items}
 use Rattle.tbr_model.proofs.lists.Joined.{joined-append}
 use Rattle.tbr_wrap.specs.declared.laid_lines.LaidLines.{LaidLines}
 use Rattle.tbr_wrap.specs.LaidLines.{HoldsLaid, KeepsLimits, LeavesAfterLine}
+use Rattle.tbr_wrap.proofs.storage.CountedMarkers.{markers-append}
 
 -- the open line is ended, as it was or with more items
-pub holds_end : {A : Type 0} (b c : LaidLines A) (before : List (List (Item A))) (l : Laid A) (n : ℕ) → HoldsLaid b before l → n ≡ length l.line → c.flat.placed ≡ b.flat.placed → c.ended.items ≡ b.ended.items ++ n ∷ [] → c.line_len ≡ 0 → c.line_width ≡ 0 →
+pub holds_end : {A : Type 0} (b c : LaidLines A) (before : List (List (Item A))) (l : Laid A) (n : ℕ) → HoldsLaid b before l → n ≡ length l.line → c.flat.placed ≡ b.flat.placed → c.ended.items ≡ b.ended.items ++ n ∷ [] → c.line_len ≡ 0 → c.line_markers ≡ 0 → c.line_width ≡ 0 →
     HoldsLaid c before (end_line l)
-holds_end {A} b c before l n h same flat lines len width = record {
+holds_end {A} b c before l n h same flat lines len markers width = record {
   placed = flat ∙ h.placed ∙ sym (append-nil (joined (before ++ (l.done ++ l.line ∷ []))) ∙ ap joined (sym (append_assoc before l.done (l.line ∷ []))) ∙ joined-append (before ++ l.done) (l.line ∷ []) ∙ ap (λ is. joined (before ++ l.done) ++ is) (append-nil l.line));
   lens = lines ∙ ap (λ ns. ns ++ n ∷ []) h.lens ∙ ap (λ m. map length (before ++ l.done) ++ m ∷ []) same ∙ sym (ap (map length) (sym (append_assoc before l.done (l.line ∷ []))) ∙ map-append length (before ++ l.done) (l.line ∷ []));
   len = len;
+  markers = markers;
   width = width;
 }
 
 -- more items on the open line
-pub holds_more : {A : Type 0} (b c : LaidLines A) (before : List (List (Item A))) (l : Laid A) (is : List (Item A)) (columns : ℕ) → HoldsLaid b before l → c.flat.placed ≡ b.flat.placed ++ is → c.ended ≡ b.ended → c.line_len ≡ b.line_len + length is → c.line_width ≡ b.line_width + columns →
+pub holds_more : {A : Type 0} (b c : LaidLines A) (before : List (List (Item A))) (l : Laid A) (is : List (Item A)) (columns : ℕ) → HoldsLaid b before l → c.flat.placed ≡ b.flat.placed ++ is → c.ended ≡ b.ended → c.line_len ≡ b.line_len + length is → c.line_markers ≡ b.line_markers + length (names_in_items is) → c.line_width ≡ b.line_width + columns →
     HoldsLaid c before (extended l is columns)
-holds_more b c before l is columns h placed lines len width = record {
+holds_more b c before l is columns h placed lines len markers width = record {
   placed = placed ∙ ap (λ js. js ++ is) h.placed ∙ append_assoc (joined (before ++ l.done)) l.line is;
   lens = ap (λ q. q.items) lines ∙ h.lens;
   len = omega (arith, len, h.len, length-append l.line is);
+  markers = omega (arith, markers, h.markers, markers-append l.line is);
   width = omega (arith, width, h.width);
 }
 
@@ -36,8 +40,8 @@ keeps_trans a b c h k = record {
 }
 
 -- where no other field changed
-pub holds_same : {A : Type 0} (b c : LaidLines A) (before : List (List (Item A))) (l : Laid A) → HoldsLaid b before l → c.flat.placed ≡ b.flat.placed → c.ended ≡ b.ended → c.line_len ≡ b.line_len → c.line_width ≡ b.line_width → HoldsLaid c before l
-holds_same b c before l h flat lines len width = record { placed = flat ∙ h.placed; lens = ap (λ q. q.items) lines ∙ h.lens; len = len ∙ h.len; width = width ∙ h.width }
+pub holds_same : {A : Type 0} (b c : LaidLines A) (before : List (List (Item A))) (l : Laid A) → HoldsLaid b before l → c.flat.placed ≡ b.flat.placed → c.ended ≡ b.ended → c.line_len ≡ b.line_len → c.line_markers ≡ b.line_markers → c.line_width ≡ b.line_width → HoldsLaid c before l
+holds_same b c before l h flat lines len markers width = record { placed = flat ∙ h.placed; lens = ap (λ q. q.items) lines ∙ h.lens; len = len ∙ h.len; markers = markers ∙ h.markers; width = width ∙ h.width }
 
 -- ---- the first ended line
 
@@ -56,8 +60,8 @@ front_fits b before l n rest h e =
     omega (arith, ap length h.placed, length-append (joined (before ++ l.done)) l.line, ap (λ ls. length (joined ls)) w.2, length-append w.0 (joined w.1), w.3)
 
 pub taken : {A : Type 0} (eq : A → A → Bool) (b c : LaidLines A) (before : List (List (Item A))) (l : Laid A) (is : List (Item A)) (rest : List (List (Item A))) (n : ℕ) (ns : List ℕ) (line : List (Item A)) → HoldsLaid b before l → before ++ l.done ≡ is ∷ rest → b.ended.items ≡ n ∷ ns →
-    SameItems eq line (take n b.flat.placed) → c.flat ≡ record b.flat { placed = drop n b.flat.placed } → c.ended.items ≡ ns → c.line_len ≡ b.line_len → c.line_width ≡ b.line_width → SameItems eq line is × LeavesAfterLine b c rest l
-taken {A} eq b c before l is rest n ns line h first e same flat lens len width =
+    SameItems eq line (take n b.flat.placed) → c.flat ≡ record b.flat { placed = drop n b.flat.placed } → c.ended.items ≡ ns → c.line_len ≡ b.line_len → c.line_markers ≡ b.line_markers → c.line_width ≡ b.line_width → SameItems eq line is × LeavesAfterLine b c rest l
+taken {A} eq b c before l is rest n ns line h first e same flat lens len markers width =
     let parts : b.flat.placed ≡ is ++ (joined rest ++ l.line) = h.placed ∙ ap (λ ls. joined ls ++ l.line) first ∙ append_assoc is (joined rest) l.line in
     let both : n ∷ ns ≡ map length (is ∷ rest) = sym e ∙ h.lens ∙ ap (map length) first in
     let long : length is ≡ n = cc in (
@@ -67,18 +71,20 @@ taken {A} eq b c before l is rest n ns line h first e same flat lens len width =
         word = ap (λ f. f.word) flat;
         lens = lens ∙ (let others : ns ≡ map length rest = cc in others);
         len = len;
+        markers = markers;
         width = width;
       },
     )
 
 -- one more item, with which the open line is ended
-pub holds_wide : {A : Type 0} (b c : LaidLines A) (before : List (List (Item A))) (l : Laid A) (i : Item A) (columns n : ℕ) → HoldsLaid b before l → c.flat.placed ≡ b.flat.placed ++ i ∷ [] → n ≡ b.line_len + 1 → c.ended.items ≡ b.ended.items ++ n ∷ [] → c.line_len ≡ 0 → c.line_width ≡ 0 →
+pub holds_wide : {A : Type 0} (b c : LaidLines A) (before : List (List (Item A))) (l : Laid A) (i : Item A) (columns n : ℕ) → HoldsLaid b before l → c.flat.placed ≡ b.flat.placed ++ i ∷ [] → n ≡ b.line_len + 1 → c.ended.items ≡ b.ended.items ++ n ∷ [] → c.line_len ≡ 0 → c.line_markers ≡ 0 → c.line_width ≡ 0 →
     HoldsLaid c before (end_line (extended l (i ∷ []) columns))
-holds_wide {A} b c before l i columns n h placed count lines len width = record {
+holds_wide {A} b c before l i columns n h placed count lines len markers width = record {
   placed = placed ∙ ap (λ js. js ++ i ∷ []) h.placed ∙ append_assoc (joined (before ++ l.done)) l.line (i ∷ [])
       ∙ sym (append-nil (joined (before ++ (l.done ++ (l.line ++ i ∷ []) ∷ []))) ∙ ap joined (sym (append_assoc before l.done ((l.line ++ i ∷ []) ∷ []))) ∙ joined-append (before ++ l.done) ((l.line ++ i ∷ []) ∷ []) ∙ ap (λ is. joined (before ++ l.done) ++ is) (append-nil (l.line ++ i ∷ [])));
   lens = lines ∙ ap (λ ns. ns ++ n ∷ []) h.lens ∙ ap (λ m. map length (before ++ l.done) ++ m ∷ []) (let e : n ≡ length (l.line ++ i ∷ []) = omega (arith, count, h.len, length-append l.line (i ∷ [])) in e)
       ∙ sym (ap (map length) (sym (append_assoc before l.done ((l.line ++ i ∷ []) ∷ []))) ∙ map-append length (before ++ l.done) ((l.line ++ i ∷ []) ∷ []));
   len = len;
+  markers = markers;
   width = width;
 }

@@ -10,6 +10,7 @@ use Rattle.tbr_model.proofs.lists.Joined.{joined-append}
 use Rattle.tbr_wrap.specs.declared.laid_lines.LaidLines.{LaidLines}
 use Rattle.tbr_wrap.specs.LaidLines.{HoldsRule, HoldsRuleBefore, KeepsLimits}
 use Rattle.tbr_wrap.proofs.lines.LaidByRule.{shows_extended, shows_ended, same_spaces, spaces_width, spaces_length}
+use Rattle.tbr_wrap.proofs.storage.CountedMarkers.{markers-append, spaces_markers}
 use Rattle.tbr_wrap.proofs.lines.LineWidths.{measured_extended, measured_ended}
 
 pub spaces_more : {A : Type 0} (m n : ℕ) (a : A) → spaces (m + n) a ≡ spaces m a ++ spaces n a
@@ -18,10 +19,10 @@ spaces_more (suc m) n a = ap (λ k. spaces k a) (let e : suc m + n ≡ suc (m + 
 
 module _ {A : Type 0} (columns : ℕ → Option ℕ) (eq : A → A → Bool) (laws : IsEquivalence eq) (b c : LaidLines A) (limits : KeepsLimits b c) (before given : List (List (Item A))) (r : Laid A) where
   -- where items are placed behind what is laid
-  pub reserved : (behind : List (Item A)) → HoldsRule columns eq b before given r → c.flat.placed ≡ b.flat.placed ++ behind → c.ended ≡ b.ended → c.line_len ≡ b.line_len → c.line_width ≡ b.line_width → HoldsRuleBefore columns eq c before given r behind
-  reserved behind h placed lines len width = record {
+  pub reserved : (behind : List (Item A)) → HoldsRule columns eq b before given r → c.flat.placed ≡ b.flat.placed ++ behind → c.ended ≡ b.ended → c.line_len ≡ b.line_len → c.line_markers ≡ b.line_markers → c.line_width ≡ b.line_width → HoldsRuleBefore columns eq c before given r behind
+  reserved behind h placed lines len markers width = record {
     laid = h.laid;
-    holds = record { placed = placed ∙ ap (λ is. is ++ behind) h.holds.placed; lens = ap (λ q. q.items) lines ∙ h.holds.lens; len = len ∙ h.holds.len; width = width ∙ h.holds.width };
+    holds = record { placed = placed ∙ ap (λ is. is ++ behind) h.holds.placed; lens = ap (λ q. q.items) lines ∙ h.holds.lens; len = len ∙ h.holds.len; markers = markers ∙ h.holds.markers; width = width ∙ h.holds.width };
     shows = h.shows;
     measured = rw limits.width (rw limits.may_overflow h.measured);
   }
@@ -31,13 +32,14 @@ module _ {A : Type 0} (columns : ℕ → Option ℕ) (eq : A → A → Bool) (la
     small = omega (arith, room, h.holds.width, h.shows.width)
 
     -- they are taken onto the open line
-    pub taken_here : c.flat ≡ b.flat → c.ended ≡ b.ended → c.line_len ≡ b.line_len + n → c.line_width ≡ b.line_width + n → HoldsRuleBefore columns eq c before given (extended r (spaces n a) n) behind
-    taken_here flat lines len width = record {
+    pub taken_here : c.flat ≡ b.flat → c.ended ≡ b.ended → c.line_len ≡ b.line_len + n → c.line_markers ≡ b.line_markers → c.line_width ≡ b.line_width + n → HoldsRuleBefore columns eq c before given (extended r (spaces n a) n) behind
+    taken_here flat lines len markers width = record {
       laid = extended h.laid (spaces n x) n;
       holds = record {
         placed = ap (λ f. f.placed) flat ∙ h.holds.placed ∙ sym (append_assoc (joined (before ++ h.laid.done) ++ h.laid.line) (spaces n x) behind) ∙ ap (λ is. is ++ behind) (append_assoc (joined (before ++ h.laid.done)) h.laid.line (spaces n x));
         lens = ap (λ q. q.items) lines ∙ h.holds.lens;
         len = omega (arith, len, h.holds.len, length-append h.laid.line (spaces n x), spaces_length n x);
+        markers = omega (arith, markers, h.holds.markers, markers-append h.laid.line (spaces n x), spaces_markers n x);
         width = omega (arith, width, h.holds.width);
       };
       shows = shows_extended eq laws given h.laid r (spaces n x) (spaces n a) n n h.shows (same_spaces eq n x a same) refl;
@@ -45,8 +47,8 @@ module _ {A : Type 0} (columns : ℕ → Option ℕ) (eq : A → A → Bool) (la
     }
 
     -- they fill the open line, which is ended
-    pub taken_full : c.flat ≡ b.flat → c.ended.items ≡ b.ended.items ++ (b.line_len + n) ∷ [] → c.line_len ≡ 0 → c.line_width ≡ 0 → HoldsRuleBefore columns eq c before given (end_line (extended r (spaces n a) n)) behind
-    taken_full flat lines len width =
+    pub taken_full : c.flat ≡ b.flat → c.ended.items ≡ b.ended.items ++ (b.line_len + n) ∷ [] → c.line_len ≡ 0 → c.line_markers ≡ 0 → c.line_width ≡ 0 → HoldsRuleBefore columns eq c before given (end_line (extended r (spaces n a) n)) behind
+    taken_full flat lines len markers width =
         let line = h.laid.line ++ spaces n x in
         let many : b.line_len + n ≡ length line = omega (arith, h.holds.len, length-append h.laid.line (spaces n x), spaces_length n x) in
         record {
@@ -58,6 +60,7 @@ module _ {A : Type 0} (columns : ℕ → Option ℕ) (eq : A → A → Bool) (la
             lens = lines ∙ ap (λ ns. ns ++ (b.line_len + n) ∷ []) h.holds.lens ∙ ap (λ m. map length (before ++ h.laid.done) ++ m ∷ []) many
                 ∙ sym (ap (map length) (sym (append_assoc before h.laid.done (line ∷ []))) ∙ map-append length (before ++ h.laid.done) (line ∷ []));
             len = len;
+            markers = markers;
             width = width;
           };
           shows = shows_ended eq laws given (extended h.laid (spaces n x) n) (extended r (spaces n a) n) (shows_extended eq laws given h.laid r (spaces n x) (spaces n a) n n h.shows (same_spaces eq n x a same) refl);
@@ -68,7 +71,7 @@ module _ {A : Type 0} (columns : ℕ → Option ℕ) (eq : A → A → Bool) (la
 pub all_taken : {A : Type 0} (columns : ℕ → Option ℕ) (eq : A → A → Bool) (b : LaidLines A) (before given : List (List (Item A))) (r : Laid A) → HoldsRuleBefore columns eq b before given r [] → HoldsRule columns eq b before given r
 all_taken columns eq b before given r h = record {
   laid = h.laid;
-  holds = record { placed = h.holds.placed ∙ append-nil (joined (before ++ h.laid.done) ++ h.laid.line); lens = h.holds.lens; len = h.holds.len; width = h.holds.width };
+  holds = record { placed = h.holds.placed ∙ append-nil (joined (before ++ h.laid.done) ++ h.laid.line); lens = h.holds.lens; len = h.holds.len; markers = h.holds.markers; width = h.holds.width };
   shows = h.shows;
   measured = h.measured;
 }

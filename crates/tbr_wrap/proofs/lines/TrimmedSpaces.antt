@@ -10,6 +10,7 @@ use Rattle.tbr_tagged.specs.Elements.{SameItem, SameItems}
 use Rattle.tbr_wrap.specs.LaidLines.{HoldsRule, KeepsLimits}
 use Rattle.tbr_wrap.specs.declared.laid_lines.LaidLines.{LaidLines}
 use Rattle.std.proofs.lemmas.List.Elements.{length_all_zip}
+use Rattle.tbr_wrap.proofs.storage.CountedMarkers.{markers_within, trailing_markers}
 
 same_space : {A : Type 0} (eq : A → A → Bool) (i j : Item A) → SameItem eq i j → is_space_item i ≡ is_space_item j
 same_space eq (glyph c a) (glyph d b) h = ap (λ x. x == 32) h.0
@@ -69,6 +70,10 @@ module _ {A : Type 0} (columns : ℕ → Option ℕ) (one : columns 32 ≡ Some 
   pub removed_len : n ≤ b.line_len
   removed_len = omega (arith, removed, h.holds.len)
 
+  -- what is left has all the markers
+  pub markers_left : b.line_markers ≤ b.line_len - n
+  markers_left = omega (arith, removed, h.holds.len, h.holds.markers, trailing_markers h.laid.line, markers_within (without_trailing h.laid.line))
+
   left_width : n + items_width columns (without_trailing r.line) ≡ items_width columns r.line
   left_width =
       let k = same_trailing eq h.laid.line r.line h.shows.last in
@@ -77,12 +82,12 @@ module _ {A : Type 0} (columns : ℕ → Option ℕ) (one : columns 32 ≡ Some 
   pub removed_width : n ≤ b.line_width
   removed_width = omega (arith, left_width, h.measured.line, h.shows.width, h.holds.width)
 
-  pub lays_trimmed : (c : LaidLines A) → KeepsLimits b c → c.flat.placed ≡ joined (before ++ h.laid.done) ++ without_trailing h.laid.line → c.ended ≡ b.ended → c.line_len ≡ b.line_len - n → c.line_width ≡ b.line_width - n → HoldsRule columns eq c before given (trimmed columns r)
-  lays_trimmed c same placed lines len width =
+  pub lays_trimmed : (c : LaidLines A) → KeepsLimits b c → c.flat.placed ≡ joined (before ++ h.laid.done) ++ without_trailing h.laid.line → c.ended ≡ b.ended → c.line_len ≡ b.line_len - n → c.line_markers ≡ b.line_markers → c.line_width ≡ b.line_width - n → HoldsRule columns eq c before given (trimmed columns r)
+  lays_trimmed c same placed lines len markers width =
       let left : b.line_width - n ≡ items_width columns (without_trailing r.line) = omega (arith, left_width, h.measured.line, h.shows.width, h.holds.width) in
       record {
         laid = record { done = h.laid.done; line = without_trailing h.laid.line; width = b.line_width - n };
-        holds = record { placed = placed; lens = ap (λ q. q.items) lines ∙ h.holds.lens; len = omega (arith, len, removed, h.holds.len); width = width };
+        holds = record { placed = placed; lens = ap (λ q. q.items) lines ∙ h.holds.lens; len = omega (arith, len, removed, h.holds.len); markers = omega (arith, markers, h.holds.markers, trailing_markers h.laid.line); width = width };
         shows = record { rest = h.shows.rest; split = h.shows.split; done = h.shows.done; last = same_trailing eq h.laid.line r.line h.shows.last; width = left };
         measured = record { small = omega (arith, left_width, same.width, h.measured.small, h.measured.line); line = refl; done = rw same.width (rw same.may_overflow h.measured.done) };
       }

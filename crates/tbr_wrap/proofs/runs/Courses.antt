@@ -477,7 +477,7 @@ module _ {A : Type 0} (columns : ℕ → Option ℕ) where
                 let count : length next ≡ suc c.handed = length-append given (f.0 ∷ []) ∙ omega (arith, given_count) in
                 let taken : take (suc c.handed) c.progress.laid.done ≡ next = ap (take (suc c.handed)) split ∙ take_at next f.1 (suc c.handed) count in
                 let l : Laid A = record { done = more; line = laid.line; width = laid.width } in
-                let holds : HoldsLaid ls [] l = record { placed = v.placed; lens = v.lens; len = v.len ∙ h.stands.lays.holds.len; width = v.width ∙ h.stands.lays.holds.width } in
+                let holds : HoldsLaid ls [] l = record { placed = v.placed; lens = v.lens; len = v.len ∙ h.stands.lays.holds.len; markers = v.markers ∙ h.stands.lays.holds.markers; width = v.width ∙ h.stands.lays.holds.width } in
                 let shows : LaidLikeRule eq next l c.progress.laid = record { rest = f.1; split = split; done = f.3; last = h.stands.lays.shows.last; width = h.stands.lays.shows.width } in
                 subst (HoldsCourse columns eq d true) none
                 (record {
@@ -497,6 +497,7 @@ module _ {A : Type 0} (columns : ℕ → Option ℕ) where
                   placed = v.placed ∙ ap (λ ls. joined ls ++ laid.line) rests;
                   lens = v.lens ∙ ap (map length) rests;
                   len = v.len ∙ h.stands.lays.holds.len;
+                  markers = v.markers ∙ h.stands.lays.holds.markers;
                   width = v.width ∙ h.stands.lays.holds.width;
                 } in
                 subst (HoldsCourse columns eq d true) earlier

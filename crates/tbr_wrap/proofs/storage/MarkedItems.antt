@@ -2,18 +2,19 @@
 use Rattle.std.proofs.Common.{◌≡◌, ℕ, suc, zero, ◌+◌, ◌-◌, ◌<◌, ◌≤◌, ◌↔◌, inl, inr, Bool, true, false, not, IsTrue, Option, List, [], ◌∷◌, ◌++◌, length, take, drop, refl, ap, sym, ◌∙◌, subst, arith, append_assoc, append-nil}
 use Rattle.std.specs.List.{AllByRecursion as Each}
 use Rattle.std.specs.Cmp.{IsEquivalence}
-use Rattle.std.proofs.lemmas.List.{take-append-drop, take-append-le, drop-append-le, take-take, drop-take, drop-drop, take_all, drop_all, drop_at, nil_from_length, length-append, length-take, length-drop}
-use Rattle.std.proofs.lemmas.Bool.{true≢false, false≢true, true_from_ne_false}
+use Rattle.std.proofs.lemmas.List.{take-append-drop, take-append-le, drop-append-le, take-take, drop-take, drop-drop, take_all, drop_all, drop_at, length-append, length-take, length-drop}
+use Rattle.std.proofs.lemmas.Bool.{true≢false, false≢true, or_parts}
 use Rattle.tbr_model.specs.Run.{Item, glyph, marker, items_width, has_character}
 use Rattle.tbr_model.specs.Entry.{is_glyph}
+use Rattle.tbr_model.specs.Markers.{names_in_items}
 use Rattle.tbr_model.proofs.lists.Each.{each_front, each_back}
-use Rattle.tbr_model.proofs.words.Items.{items_width-append}
+use Rattle.tbr_model.proofs.words.Items.{items_width-append, has_character-append}
 use Rattle.tbr_model.proofs.lists.Joined.{cut_twice}
 use Rattle.tbr_tagged.specs.Elements.{SameItems}
-use Rattle.tbr_wrap.specs.Flat.{MarkerPlaces, marked, before_last, covered, before_first, shortened, followed, EndsWithMarkers}
+use Rattle.tbr_wrap.specs.Flat.{MarkerPlaces, marked, before_last, covered, before_first, shortened, followed}
+use Rattle.tbr_wrap.proofs.storage.CountedMarkers.{markers-append}
 use Rattle.tbr_wrap.proofs.storage.StretchTags.{take_behind}
 use Rattle.tbr_tagged.proofs.SameItems.{same_items_append}
-use Rattle.tbr_wrap.proofs.storage.MarkerPlaces.{before_last-append, none_before, before_neighbours, more_marks}
 
 -- markers alone
 markers_alone : (A : Type 0) (ms : List (ℕ × List ℕ)) → has_character (marked {A = A} [] ms) ≡ false
@@ -150,73 +151,41 @@ module _ {A : Type 0} where
   some_character false (glyph c a ∷ is) ms h e = sym (has_first c a is ms)
   some_character b (marker name ∷ is) ms h e = absurd (false≢true h.0)
 
-  -- ---- markers at the end
-
-  glyph_first : (i : Item A) (is : List (Item A)) → is_glyph i ≡ true → has_character (i ∷ is) ≡ true
-  glyph_first (glyph c a) is h = refl
-  glyph_first (marker name) is h = absurd (false≢true h)
-
-  -- A marker, and behind it markers alone.
-  neighbours : (is : List (Item A)) (line : List (Item A)) (ms : List (ℕ × List ℕ)) (n b : ℕ) (name : List ℕ) → Each (λ i. is_glyph i ≡ true) is → n + before_last ms + b ≡ length is →
-      line ≡ marker name ∷ marked (drop n is) ms → has_character line ≡ false → EndsWithMarkers (length line) (record { markers = (n, name) ∷ ms; behind = b })
-  neighbours is line ms n b name h e l none =
-      let behind : drop n is ≡ [] =
-      no_character (drop n is) ms (each_back (λ i. is_glyph i ≡ true) (take n is) (drop n is) (subst (Each (λ i. is_glyph i ≡ true)) (sym (take-append-drop n is)) h)) (sym (ap has_character l) ∙ none) in
-      let short : length is ≤ n = omega (arith, ap length behind, length-drop n is) in
-      inr (
-        omega arith,
-        ([], (n, name) ∷ ms, refl, omega (arith, ap length l, length-marked (drop n is) ms, ap length behind), none_before ms (omega arith)),
-      )
-
-  -- a line without a character
-  pub ends_with_marks : (is : List (Item A)) (ms : List (ℕ × List ℕ)) (b : ℕ) (before line : List (Item A)) → Each (λ i. is_glyph i ≡ true) is → before_last ms + b ≡ length is → marked is ms ≡ before ++ line →
-      has_character line ≡ false → EndsWithMarkers (length line) (record { markers = ms; behind = b })
-  ends_with_marks is [] b before line h e parts none =
-      let glyphs : Each (λ i. is_glyph i ≡ true) line = each_back (λ i. is_glyph i ≡ true) before line (subst (Each (λ i. is_glyph i ≡ true)) parts h) in
-      inl (ap length (no_character line [] glyphs none))
-  ends_with_marks is ((n, name) ∷ ms) b before line h e parts none =
-      let rest = marked (drop n is) ms in
-      let first : Each (λ i. is_glyph i ≡ true) (take n is) = each_front (λ i. is_glyph i ≡ true) (take n is) (drop n is) (subst (Each (λ i. is_glyph i ≡ true)) (sym (take-append-drop n is)) h) in
-      let second : Each (λ i. is_glyph i ≡ true) (drop n is) = each_back (λ i. is_glyph i ≡ true) (take n is) (drop n is) (subst (Each (λ i. is_glyph i ≡ true)) (sym (take-append-drop n is)) h) in
-      elim (cut_twice (take n is) (marker name ∷ rest) before line parts) [
-        | inl ([], front, back) ↦ neighbours is line ms n b name h e (sym back) none
-        | inl (i ∷ cut, front, back) ↦
-            let behind : rest ≡ cut ++ line = cc in
-            more_marks ms (n, name) b (length line) (ends_with_marks (drop n is) ms b cut line second (omega (arith, length-drop n is)) behind none)
-        | inr (i, cut, front, back) ↦
-            let glyphs : Each (λ i. is_glyph i ≡ true) (i ∷ cut) = each_back (λ i. is_glyph i ≡ true) before (i ∷ cut) (subst (Each (λ i. is_glyph i ≡ true)) front first) in
-            absurd (true≢false (sym (glyph_first i (cut ++ marker name ∷ rest) glyphs.0) ∙ sym (ap has_character back) ∙ none))
-      ]
-
   pub same_back : (xs ys front line : List (Item A)) → xs ++ ys ≡ front ++ line → length ys ≡ length line → ys ≡ line
   same_back xs ys front line e h =
       let len : length xs ≡ length front = omega (arith, ap length e, length-append xs ys, length-append front line) in
       sym (drop_at xs ys (length front) len) ∙ ap (drop (length front)) e ∙ drop_at front line (length front) refl
 
-  -- a line of markers alone
-  no_character_at_end : (is : List (Item A)) (m : MarkerPlaces) (before line : List (Item A)) → covered m ≡ length is → marked is m.markers ≡ before ++ line → EndsWithMarkers (length line) m → has_character line ≡ false
-  no_character_at_end is m before line e parts (inl none) = ap has_character (nil_from_length line none)
-  no_character_at_end is m before line e parts (inr (none, (front, [], split, len, near))) = ap has_character (nil_from_length line (sym len))
-  no_character_at_end is m before line e parts (inr (none, (front, (n, name) ∷ back, split, len, near))) =
-      let s = before_last front in
+  -- behind the last marker stand characters alone, so a line without a character is empty where there are some
+  pub none_at_end : (is : List (Item A)) (m : MarkerPlaces) (before line : List (Item A)) → Each (λ i. is_glyph i ≡ true) is → covered m ≡ length is → marked is m.markers ≡ before ++ line → has_character line ≡ false → 0 < m.behind → line ≡ []
+  none_at_end is m before line h e parts none some =
+      let s = before_last m.markers in
       let rest = drop s is in
-      let all : before_last m.markers ≡ s + before_last ((n, name) ∷ back) = ap before_last split ∙ before_last-append front ((n, name) ∷ back) in
-      let zeros : before_last back ≡ 0 = before_neighbours back near in
-      let few : length rest ≤ n = omega (arith, length-drop s is) in
-      let behind : drop n rest ≡ [] = drop_all n rest few in
-      let whole : (marked (take s is) front ++ take n rest) ++ marker name ∷ marked (drop n rest) back ≡ before ++ line =
-      append_assoc (marked (take s is) front) (take n rest) (marker name ∷ marked (drop n rest) back) ∙ sym (marked_split is front ((n, name) ∷ back)) ∙ ap (marked is) (sym split) ∙ parts in
-      let line_is : marker name ∷ marked (drop n rest) back ≡ line =
-      same_back (marked (take s is) front ++ take n rest) (marker name ∷ marked (drop n rest) back) before line whole (omega (arith, len, length-marked (drop n rest) back, ap length behind)) in
-      sym (ap has_character line_is) ∙ ap (λ js. has_character (marked js back)) behind ∙ markers_alone A back
+      let glyphs : Each (λ i. is_glyph i ≡ true) rest = each_back (λ i. is_glyph i ≡ true) (take s is) rest (subst (Each (λ i. is_glyph i ≡ true)) (sym (take-append-drop s is)) h) in
+      elim (cut_twice (marked (take s is) m.markers) rest before line (sym (marked_last is m.markers) ∙ parts)) [
+        | inl (cut, front, back) ↦ no_character line [] (each_back (λ i. is_glyph i ≡ true) cut line (subst (Each (λ i. is_glyph i ≡ true)) back glyphs)) none
+        | inr (i, cut, front, back) ↦
+            let alone = (or_parts (has_character (i ∷ cut)) (has_character rest) (sym (has_character-append (i ∷ cut) rest) ∙ sym (ap has_character back) ∙ none)).1 in
+            absurd (omega (arith, e, some, length-drop s is, ap length (no_character rest [] glyphs alone)))
+      ]
 
-  -- whether the last so many items have one
-  pub line_has_character : (ends : Bool) (last : ℕ) (is : List (Item A)) (m : MarkerPlaces) (before line : List (Item A)) → Each (λ i. is_glyph i ≡ true) is → covered m ≡ length is → marked is m.markers ≡ before ++ line →
-      length line ≡ last → IsTrue ends ↔ EndsWithMarkers last m → not ends ≡ has_character line
-  line_has_character true last is m before line h e parts len tells =
-      sym (no_character_at_end is m before line e parts (subst (λ n. EndsWithMarkers n m) (sym len) (tells.0 refl)))
-  line_has_character false last is m before line h e parts len tells =
-      sym (true_from_ne_false (has_character line) (λ none. false≢true (tells.1 (subst (λ n. EndsWithMarkers n m) len (ends_with_marks is m.markers m.behind before line h e parts none)))))
+  -- ---- how many markers there are
+
+  pub characters_alone : (is : List (Item A)) → Each (λ i. is_glyph i ≡ true) is → length (names_in_items is) ≡ 0
+  characters_alone [] h = refl
+  characters_alone (glyph c a ∷ is) h = characters_alone is h.1
+  characters_alone (marker name ∷ is) h = absurd (false≢true h.0)
+
+  pub marked_count : (is : List (Item A)) (ms : List (ℕ × List ℕ)) → Each (λ i. is_glyph i ≡ true) is → length (names_in_items (marked is ms)) ≡ length ms
+  marked_count is [] h = characters_alone is h
+  marked_count is ((n, name) ∷ ms) h =
+      let parts : Each (λ i. is_glyph i ≡ true) (take n is ++ drop n is) = subst (Each (λ i. is_glyph i ≡ true)) (sym (take-append-drop n is)) h in
+      omega (
+        arith,
+        markers-append (take n is) (marker name ∷ marked (drop n is) ms),
+        characters_alone (take n is) (each_front (λ i. is_glyph i ≡ true) (take n is) (drop n is) parts),
+        marked_count (drop n is) ms (each_back (λ i. is_glyph i ≡ true) (take n is) (drop n is) parts),
+      )
 
 -- ---- items that are the same up to equal tags
 

@@ -7,13 +7,14 @@ use Rattle.std.proofs.lemmas.Bool.{or_parts}
 use Rattle.std.proofs.lemmas.List.{length-append, length-take, take-append-drop, take-append-le, take_at, take_all, drop_at}
 use Rattle.tbr_model.specs.Entry.{is_glyph}
 use Rattle.tbr_model.specs.Run.{Item, marker, has_character}
+use Rattle.tbr_model.specs.Markers.{names_in_items}
 use Rattle.tbr_model.proofs.words.Items.{has_character-append}
 use Rattle.tbr_tagged.specs.Elements.{SameItems}
-use Rattle.tbr_wrap.specs.Flat.{Flat, MarkerPlaces, marked, covered, before_first, shortened, followed, EndsWithMarkers}
+use Rattle.tbr_wrap.specs.Flat.{Flat, MarkerPlaces, marked, covered, before_first, shortened, followed, before_last}
 use Rattle.tbr_wrap.proofs.storage.StretchTags.{take_behind}
 use Rattle.tbr_wrap.proofs.storage.MarkerPlaces.{covered_followed, covered_push, some_before, no_marks}
 use Rattle.tbr_tagged.proofs.SameItems.{same_items, same_items_trans, same_items_append}
-use Rattle.tbr_wrap.proofs.storage.MarkedItems.{length-marked, marked_more, marked_push, marked_followed, marked_shortened, taken_front, first_marked, no_character, ends_with_marks}
+use Rattle.tbr_wrap.proofs.storage.MarkedItems.{length-marked, marked_more, marked_push, marked_followed, marked_shortened, taken_front, first_marked, no_character, none_at_end, characters_alone}
 
 -- characters with the markers of those that are placed and of the word
 abbrev pub with_marks : {A : Type 0} → Flat A → MarkerPlaces → MarkerPlaces → Flat A
@@ -56,13 +57,14 @@ module _ {A : Type 0} where
   -- the word's first item is placed, a marker
   pub marker_placed : (f t : Flat A) (p w q v : MarkerPlaces) (name : List ℕ) (rest : List (ℕ × List ℕ)) → covered p ≡ length f.placed → w.markers ≡ (0, name) ∷ rest → v ≡ record w { markers = rest } →
       q ≡ record { markers = p.markers ++ (p.behind, name) ∷ []; behind = 0 } → with_marks f p w ≡ t →
-      (i : Item A) × (is : List (Item A)) × (t.word ≡ i ∷ is) × (with_marks f q v ≡ record { placed = t.placed ++ i ∷ []; word = is })
+      (i : Item A) × (is : List (Item A)) × (t.word ≡ i ∷ is) × (with_marks f q v ≡ record { placed = t.placed ++ i ∷ []; word = is }) × (1 ≡ length (names_in_items (i ∷ [])))
   marker_placed f t p w q v name rest h first e d view = (
     marker name,
     marked f.word rest,
     sym (ap (λ (x : Flat A). x.word) view) ∙ ap (marked f.word) first,
     ap (λ (m : MarkerPlaces). with_marks f m v) d ∙ ap (λ (m : MarkerPlaces). record { placed = marked f.placed (p.markers ++ (p.behind, name) ∷ []); word = marked f.word m.markers }) e
         ∙ ap (λ is. record { placed = is; word = marked f.word rest }) (marked_push f.placed p name h ∙ ap (λ (x : Flat A). x.placed ++ marker name ∷ []) view),
+    refl,
   )
 
   -- where no marker comes first a character does
@@ -70,9 +72,9 @@ module _ {A : Type 0} where
   character_first is items m h some other e = some_before m (omega (arith, h, length-marked is m.markers, ap length e)) other
 
   -- it is placed
-  pub character_placed : (f g t : Flat A) (p w q v : MarkerPlaces) (i : Item A) (is : List (Item A)) → covered p ≡ length f.placed → 0 < before_first w → f.word ≡ i ∷ is → g ≡ record { placed = f.placed ++ i ∷ []; word = is } →
-      q ≡ record p { behind = p.behind + 1 } → v ≡ shortened 1 w → with_marks f p w ≡ t → (i : Item A) × (is : List (Item A)) × (t.word ≡ i ∷ is) × (with_marks g q v ≡ record { placed = t.placed ++ i ∷ []; word = is })
-  character_placed f g t p w q v i is h some first d e k view = (
+  pub character_placed : (f g t : Flat A) (p w q v : MarkerPlaces) (i : Item A) (is : List (Item A)) → covered p ≡ length f.placed → 0 < before_first w → Each (λ i. is_glyph i ≡ true) f.word → f.word ≡ i ∷ is → g ≡ record { placed = f.placed ++ i ∷ []; word = is } →
+      q ≡ record p { behind = p.behind + 1 } → v ≡ shortened 1 w → with_marks f p w ≡ t → (i : Item A) × (is : List (Item A)) × (t.word ≡ i ∷ is) × (with_marks g q v ≡ record { placed = t.placed ++ i ∷ []; word = is }) × (0 ≡ length (names_in_items (i ∷ [])))
+  character_placed f g t p w q v i is h some glyphs first d e k view = (
     i,
     marked is (shortened 1 w).markers,
     sym (ap (λ (x : Flat A). x.word) view) ∙ ap (λ js. marked js w.markers) first ∙ first_marked i is w some,
@@ -80,6 +82,7 @@ module _ {A : Type 0} where
         ∙ ap (λ (m : MarkerPlaces). record { placed = marked (f.placed ++ i ∷ []) p.markers; word = marked is m.markers }) k
         ∙ ap (λ js. record { placed = js; word = marked is (shortened 1 w).markers })
         (marked_more f.placed (i ∷ []) p.markers (omega (arith, h)) ∙ ap (λ (x : Flat A). x.placed ++ i ∷ []) view),
+    sym (characters_alone (i ∷ []) ((subst (Each (λ i. is_glyph i ≡ true)) first glyphs).0, tt)),
   )
 
 -- ---- elements that are handed out
@@ -134,12 +137,11 @@ module _ {A : Type 0} where
       let parts : placed ≡ before ++ take left line = same_front placed word (before ++ line) old e (omega (arith, len)) ∙ take_behind before line left (length placed) count in
       let alone : has_character (take left line) ≡ false =
       (or_parts (has_character (take left line)) (has_character (drop left line)) (sym (has_character-append (take left line) (drop left line)) ∙ ap has_character (take-append-drop left line) ∙ none)).0 in
-      go stuck (ends_with_marks is m.markers m.behind before (take left line) glyphs h parts alone) (omega (arith, length-take left line))
+      omega (arith, ap length (none_at_end is m before (take left line) glyphs h parts alone (go stuck)), length-take left line)
     where
-      go : {n : ℕ} → (0 < m.behind) ⊎ (m.markers ≡ []) → EndsWithMarkers n m → 0 < n → ⊥
-      go stuck (inl short) some = omega arith
-      go (inl behind) (inr (end, more)) some = omega arith
-      go (inr nothing) (inr (end, (front, back, split, len, near))) some = omega (arith, ap length (sym nothing ∙ split), length-append front back)
+      go : (0 < m.behind) ⊎ (m.markers ≡ []) → 0 < m.behind
+      go (inl some) = some
+      go (inr nothing) = omega (arith, h, ap before_last nothing, ap length nothing, length-marked is m.markers, len, length-append before line)
 
   -- all are back
   pub line_back : (placed word old before line : List (Item A)) (done : ℕ) → placed ++ word ≡ (before ++ line) ++ old → length placed + done ≡ length (before ++ line) → length line ≡ done → (placed ≡ before) × (word ≡ line ++ old)

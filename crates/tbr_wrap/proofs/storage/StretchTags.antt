@@ -144,6 +144,11 @@ module _ {A : Type 0} where
   pub count_len : (xs : List (Stretch A)) (k i : ℕ) (s : Stretch A) → k ≡ suc i → k ≤ length xs → s ≡ get_or xs i s → length (tags_of (drop i xs)) ≡ s.more + 1 + length (tags_of (drop k xs))
   count_len xs k i s e h is = stretch_len xs i s (omega arith) is ∙ ap (λ j. s.more + 1 + length (tags_of (drop j xs))) (sym e)
 
+  -- where the stretches behind a place have fewer tags than there are, one stands before it
+  pub stretch_before : (xs : List (Stretch A)) (k left last : ℕ) → left + length (tags_of (drop k xs)) ≡ last → last ≤ length (tags_of xs) → 0 < left → 0 < k
+  stretch_before xs zero left last e most some = absurd (omega (arith, e, most, some))
+  stretch_before xs (suc k) left last e most some = omega arith
+
   pub drop_none_len : (xs : List (Stretch A)) (n : ℕ) → n ≡ length xs → length (tags_of (drop n xs)) ≡ 0
   drop_none_len xs n h = ap (λ ys. length (tags_of ys)) (drop_all xs n (omega arith))
 

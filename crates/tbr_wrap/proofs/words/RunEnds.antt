@@ -39,9 +39,9 @@ module _ {A : Type 0} (columns : ℕ → Option ℕ) (eq : A → A → Bool) (la
 
   -- what stands on no ended line waits as a word
   pub run_finished : (h : HoldsRule columns eq d before given (end_if_character q.laid)) → SameItems eq d.flat.word q.word → has_character (waiting columns b.lines.width p) ≡ false → KeepsLimits b.lines d →
-      c.lines.flat.placed ≡ joined (before ++ h.laid.done) → c.lines.flat.word ≡ h.laid.line ++ d.flat.word → c.lines.ended ≡ d.ended → c.lines.line_len ≡ 0 → c.lines.line_width ≡ 0 → c.word_width ≡ 0 → c.space ≡ None → c.word_mode ≡ Normal →
+      c.lines.flat.placed ≡ joined (before ++ h.laid.done) → c.lines.flat.word ≡ h.laid.line ++ d.flat.word → c.lines.ended ≡ d.ended → c.lines.line_len ≡ 0 → c.lines.line_markers ≡ 0 → c.lines.line_width ≡ 0 → c.word_width ≡ 0 → c.space ≡ None → c.word_mode ≡ Normal →
       c.continuation_flag ≡ false → c.in_continuation ≡ false → RunIsFinished columns eq b c before given p
-  run_finished h word none limits placed words lines len zero no_width space mode continuation_flag in_continuation = record {
+  run_finished h word none limits placed words lines len markers zero no_width space mode continuation_flag in_continuation = record {
     now = h.laid.done;
     rest = h.shows.rest;
     split = h.shows.split;
@@ -54,6 +54,7 @@ module _ {A : Type 0} (columns : ℕ → Option ℕ) (eq : A → A → Bool) (la
           placed = placed ∙ ap joined (sym (append-nil (before ++ h.laid.done))) ∙ sym (append-nil (joined ((before ++ h.laid.done) ++ [])));
           lens = ap (λ x. x.items) lines ∙ h.holds.lens ∙ ap (map length) (sym (append-nil (before ++ h.laid.done)));
           len = len;
+          markers = markers;
           width = zero;
         };
         shows = record { rest = []; split = refl; done = tt; last = tt; width = refl };
@@ -72,10 +73,10 @@ module _ {A : Type 0} (columns : ℕ → Option ℕ) (eq : A → A → Bool) (la
 
 module _ {A : Type 0} (columns : ℕ → Option ℕ) (eq : A → A → Bool) (laws : IsEquivalence eq) (b : Wrapper A) (lines : LaidLines A) (before given : List (List (Item A))) (p : Progress A) where
   -- where the word changes by markers alone
-  word_stands : (is : List (Item A)) → IsAtProgress columns eq b before given p → SameItems eq lines.flat.word is → items_width columns is ≡ items_width columns p.word → lines.flat.placed ≡ b.lines.flat.placed → lines.ended ≡ b.lines.ended → lines.line_len ≡ b.lines.line_len →
+  word_stands : (is : List (Item A)) → IsAtProgress columns eq b before given p → SameItems eq lines.flat.word is → items_width columns is ≡ items_width columns p.word → lines.flat.placed ≡ b.lines.flat.placed → lines.ended ≡ b.lines.ended → lines.line_len ≡ b.lines.line_len → lines.line_markers ≡ b.lines.line_markers →
       lines.line_width ≡ b.lines.line_width → KeepsLimits b.lines lines → IsAtProgress columns eq (record b { lines = lines }) before given (record p { word = is })
-  word_stands is s word wide placed ended len width limits = record {
-    lays = lays_same columns eq laws b.lines lines limits before given p.laid s.lays (holds_same b.lines lines before s.lays.laid s.lays.holds placed ended len width);
+  word_stands is s word wide placed ended len markers width limits = record {
+    lays = lays_same columns eq laws b.lines lines limits before given p.laid s.lays (holds_same b.lines lines before s.lays.laid s.lays.holds placed ended len markers width);
     space = s.space;
     word = word;
     word_width = s.word_width ∙ sym wide;
@@ -85,14 +86,14 @@ module _ {A : Type 0} (columns : ℕ → Option ℕ) (eq : A → A → Bool) (la
   }
 
   -- a marker joins it
-  pub marked_stands : (name : List ℕ) → IsAtProgress columns eq b before given p → lines.flat ≡ record b.lines.flat { word = b.lines.flat.word ++ marker name ∷ [] } → lines.ended ≡ b.lines.ended → lines.line_len ≡ b.lines.line_len → lines.line_width ≡ b.lines.line_width → KeepsLimits b.lines lines →
+  pub marked_stands : (name : List ℕ) → IsAtProgress columns eq b before given p → lines.flat ≡ record b.lines.flat { word = b.lines.flat.word ++ marker name ∷ [] } → lines.ended ≡ b.lines.ended → lines.line_len ≡ b.lines.line_len → lines.line_markers ≡ b.lines.line_markers → lines.line_width ≡ b.lines.line_width → KeepsLimits b.lines lines →
       IsAtProgress columns eq (record b { lines = lines }) before given (record p { word = p.word ++ marker name ∷ [] })
-  marked_stands name s flat ended len width limits =
+  marked_stands name s flat ended len markers width limits =
       word_stands (p.word ++ marker name ∷ []) s (rw flat (same_items_append eq laws b.lines.flat.word p.word (marker name ∷ []) (marker name ∷ []) s.word (refl, tt)))
-      (omega (arith, items_width-append columns p.word (marker name ∷ []))) (ap (λ f. f.placed) flat) ended len width limits
+      (omega (arith, items_width-append columns p.word (marker name ∷ []))) (ap (λ f. f.placed) flat) ended len markers width limits
 
   -- all of them are taken out
-  pub unmarked_stands : IsAtProgress columns eq b before given p → has_character b.lines.flat.word ≡ false → lines.flat ≡ record b.lines.flat { word = [] } → lines.ended ≡ b.lines.ended → lines.line_len ≡ b.lines.line_len → lines.line_width ≡ b.lines.line_width → KeepsLimits b.lines lines →
+  pub unmarked_stands : IsAtProgress columns eq b before given p → has_character b.lines.flat.word ≡ false → lines.flat ≡ record b.lines.flat { word = [] } → lines.ended ≡ b.lines.ended → lines.line_len ≡ b.lines.line_len → lines.line_markers ≡ b.lines.line_markers → lines.line_width ≡ b.lines.line_width → KeepsLimits b.lines lines →
       IsAtProgress columns eq (record b { lines = lines }) before given (record p { word = [] })
-  unmarked_stands s none flat ended len width limits =
-      word_stands [] s (rw flat tt) (sym (no_character_no_width columns p.word (sym (same_has eq b.lines.flat.word p.word s.word) ∙ none))) (ap (λ f. f.placed) flat) ended len width limits
+  unmarked_stands s none flat ended len markers width limits =
+      word_stands [] s (rw flat tt) (sym (no_character_no_width columns p.word (sym (same_has eq b.lines.flat.word p.word s.word) ∙ none))) (ap (λ f. f.placed) flat) ended len markers width limits

@@ -1,6 +1,6 @@
 //! Where markers stand among characters.
 ghost use Rattle.std.specs.Prelude.{◌≡◌, ◌≤◌, ◌<◌, ◌+◌, ◌-◌, ◌++◌, ◌∷◌, ◌⊎◌, [], ℕ, List, length, string_bytes, OnOk, OnErr, MatchOption, IsTrue, ◌↔◌};
-ghost use Rattle.tbr_wrap.specs.Flat.{MarkerPlaces, before_first, shortened, followed, EndsWithMarkers};
+ghost use Rattle.tbr_wrap.specs.Flat.{MarkerPlaces, before_first, shortened, followed};
 
 use std::alloc::Global;
 use std::collections::VecDeque;
@@ -80,26 +80,6 @@ impl Markers {
             Some(marker) => marker.before == 0,
             None => false,
         }
-    }
-
-    /// Whether the last `last` characters and markers are markers alone.
-    pub fn ends_with_markers(&self, last: usize) -> bool
-        ensures { IsTrue result ↔ EndsWithMarkers last self.now }
-    {
-        if last == 0 {
-            return true;
-        }
-        let count = self.markers.len();
-        if self.behind > 0 || count < last {
-            return false;
-        }
-        let first = count - last;
-        for index in first + 1..count {
-            if self.markers[index].before > 0 {
-                return false;
-            }
-        }
-        true
     }
 
     /// Notes `count` characters behind the last marker. Where they pass `usize` it changes nothing.

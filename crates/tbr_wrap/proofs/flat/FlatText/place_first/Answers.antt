@@ -1,13 +1,12 @@
 use Rattle.std.proofs.Common.{ap, ◌∙◌, arith}
 use Rattle.std.specs.String.{string_bytes}
-use Rattle.std.proofs.lemmas.Result.{on_ok_weaker}
 use Rattle.tbr_wrap.specs.Flat.{Flat, MarkerPlaces, covered, before_first, before_last, shortened}
 use Rattle.tbr_wrap.proofs.storage.MarkerPlaces.{first_within}
 use Rattle.tbr_wrap.proofs.storage.MarkedText.{covered_pushed, marker_placed, character_first, character_placed}
 use Rattle.tbr_wrap.proofs.flat.FlatText.place_first.Goals as goal
 
-pub invariant_of-self : goal.invariant_of-self
-invariant_of-self g c =
+pub invariant_of-self-in-Some : goal.invariant_of-self-in-Some
+invariant_of-self-in-Some g c =
     let k = c.in-Some.ensures in (
       covered_pushed c.push.result c.self.inside.placed c.push.new.self (string_bytes c.in-Some.name) c.push.ensures.ok c.push.ensures.err ∙ c.self.invariant.0,
       omega (arith, c.self.invariant.1, ap covered k.2, ap before_last k.1),
@@ -16,9 +15,7 @@ invariant_of-self g c =
 pub returns-in-Some : goal.returns-in-Some
 returns-in-Some g c =
     let k = c.in-Some.ensures in
-    on_ok_weaker c.push.result
-    (λ e. marker_placed c.self.inside.text c.args.self.now c.self.inside.placed c.self.inside.word c.push.new.self c.pop_first.new.self (string_bytes c.in-Some.name) k.0 c.self.invariant.0 k.1 k.2 e c.self.view_is)
-    c.push.ensures.ok
+    marker_placed c.self.inside.text c.args.self.now c.self.inside.placed c.self.inside.word c.push.new.self c.pop_first.new.self (string_bytes c.in-Some.name) k.0 c.self.invariant.0 k.1 k.2 c.in_ok-push.ensures.ok c.self.view_is
 
 pub place_first-requires : goal.place_first-requires
 place_first-requires g c =
@@ -34,5 +31,5 @@ pub returns : goal.returns
 returns g c =
     let some = character_first c.self.inside.text.word c.args.self.now.word c.self.inside.word c.self.invariant.1 c.requires c.in_default.ensures.1 (ap (λ (f : Flat g.row.T.Denot). f.word) c.self.view_is) in
     let e = c.place_first.ensures in
-    character_placed c.self.inside.text c.place_first.new.self c.args.self.now c.self.inside.placed c.self.inside.word c.add_characters.new.self c.remove_first.new.self e.0 e.1 c.self.invariant.0 some e.2 e.3 c.in_ok-add_characters.ensures.ok
+    character_placed c.self.inside.text c.place_first.new.self c.args.self.now c.self.inside.placed c.self.inside.word c.add_characters.new.self c.remove_first.new.self e.0 e.1 c.self.invariant.0 some c.holds_characters.ensures.word e.2 e.3 c.in_ok-add_characters.ensures.ok
     (c.remove_first.ensures ∙ ap (λ (m : MarkerPlaces). shortened 1 m) c.in_default.ensures.0) c.self.view_is

@@ -1,5 +1,7 @@
-use Rattle.std.proofs.Common.{◌++◌, [], ap, ◌∙◌}
+use Rattle.std.proofs.Common.{◌++◌, [], length, ap, sym, ◌∙◌}
+use Rattle.tbr_model.specs.Markers.{names_in_items}
 use Rattle.tbr_wrap.specs.Flat.{Flat}
+use Rattle.tbr_wrap.proofs.storage.MarkedItems.{marked_count}
 use Rattle.tbr_wrap.proofs.storage.MarkedText.{word_placed, word_fits}
 use Rattle.tbr_wrap.proofs.flat.FlatText.place_word.Goals as goal
 
@@ -8,8 +10,13 @@ invariant_of-self-2 g c =
     let e = c.in_default.ensures.ok in
     word_fits c.self.inside.text c.place_word.new.self c.self.inside.placed c.self.inside.word c.append.new.self c.append.new.other c.self.invariant.0 c.self.invariant.1 c.place_word.ensures e.0 e.1
 
-pub returns : goal.returns
-returns g c =
+pub returns-clause-markers : goal.returns-clause-markers
+returns-clause-markers g c =
+    c.len-markers.ensures ∙ sym (marked_count c.self.inside.text.word c.self.inside.word.markers c.holds_characters.ensures.word)
+    ∙ ap (λ (f : Flat g.row.T.Denot). length (names_in_items f.word)) c.self.view_is
+
+pub returns-clause-placed : goal.returns-clause-placed
+returns-clause-placed g c =
     let e = c.in_default.ensures.ok in
     word_placed c.self.inside.text c.place_word.new.self c.self.inside.placed c.self.inside.word c.append.new.self c.append.new.other c.self.invariant.0 c.place_word.ensures e.0 e.1
     ∙ ap (λ (f : Flat g.row.T.Denot). record { placed = f.placed ++ f.word; word = [] }) c.self.view_is

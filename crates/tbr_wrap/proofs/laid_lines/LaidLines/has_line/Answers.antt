@@ -1,6 +1,6 @@
-use Rattle.std.proofs.Common.{◌++◌, sym}
-use Rattle.tbr_model.specs.Layout.{joined}
+use Rattle.std.proofs.Common.{nat_lt, ◌∙◌}
+use Rattle.tbr_wrap.proofs.storage.CountedMarkers.{has_from_counts}
 use Rattle.tbr_wrap.proofs.laid_lines.LaidLines.has_line.Goals as goal
 
 pub returns : goal.returns
-returns g c = λ before l h. c.has_character.ensures (joined (before ++ l.done)) l.line h.placed (sym h.len)
+returns g c = λ before l h. (λ i. nat_lt (h.markers i) (h.len i)) ∙ has_from_counts l.line

@@ -15,7 +15,7 @@ loop-left-init g c =
         r,
         p.0,
         g.met.T.Eq.laws.congr p.0 c.args.tag a p.1 ∙ same,
-        reserved columns g.T.PartialEq.eq g.met.T.Eq.laws c.args.self.now _ (record { width = refl; may_overflow = refl }) before given r (spaces c.args.count p.0) h p.2 refl refl refl,
+        reserved columns g.T.PartialEq.eq g.met.T.Eq.laws c.args.self.now _ (record { width = refl; may_overflow = refl }) before given r (spaces c.args.count p.0) h p.2 refl refl refl refl,
         refl,
       );
       room = c.requires.room;

@@ -1,6 +1,6 @@
 use Rattle.std.proofs.Common.{◌++◌, length, refl, sym, ap, arith, length-append}
 use Rattle.tbr_model.specs.Layout.{joined}
-use Rattle.tbr_wrap.proofs.lines.TrimmedSpaces.{same_leading, removed_len, removed_width, lays_trimmed}
+use Rattle.tbr_wrap.proofs.lines.TrimmedSpaces.{same_leading, removed_len, markers_left, removed_width, lays_trimmed}
 use Rattle.tbr_wrap.proofs.laid_lines.LaidLines.trim.Goals as goal
 
 pub trim-requires : goal.trim-requires
@@ -14,6 +14,12 @@ overflow_sub-self g c =
     let h = w.5 in
     removed_len w.0 w.4 g.T.PartialEq.eq c.args.self.now w.1 w.2 w.3 h c.in_ok-removed.removed (c.in_ok-removed.ensures.placed (joined (w.1 ++ h.laid.done)) h.laid.line h.holds.placed (sym h.holds.len)).1
 
+pub invariant_of-self-2-clause-marked : goal.invariant_of-self-2-clause-marked
+invariant_of-self-2-clause-marked g c =
+    let w = c.requires.lays in
+    let h = w.5 in
+    markers_left w.0 w.4 g.T.PartialEq.eq c.args.self.now w.1 w.2 w.3 h c.in_ok-removed.removed (c.in_ok-removed.ensures.placed (joined (w.1 ++ h.laid.done)) h.laid.line h.holds.placed (sym h.holds.len)).1
+
 pub overflow_sub-self-2 : goal.overflow_sub-self-2
 overflow_sub-self-2 g c =
     let w = c.requires.lays in
@@ -23,7 +29,7 @@ overflow_sub-self-2 g c =
 pub returns-clause-trimmed : goal.returns-clause-trimmed
 returns-clause-trimmed g c = λ columns one before given r h.
     let p = c.in_ok-removed.ensures.placed (joined (before ++ h.laid.done)) h.laid.line h.holds.placed (sym h.holds.len) in
-    lays_trimmed columns one g.T.PartialEq.eq c.args.self.now before given r h c.in_ok-removed.removed p.1 _ (record { width = refl; may_overflow = refl }) p.0 refl refl refl
+    lays_trimmed columns one g.T.PartialEq.eq c.args.self.now before given r h c.in_ok-removed.removed p.1 _ (record { width = refl; may_overflow = refl }) p.0 refl refl refl refl
 
 pub returns-clause-word : goal.returns-clause-word
 returns-clause-word g c = λ js same. rw c.in_ok-removed.ensures.word (same_leading g.T.PartialEq.eq c.args.self.now.flat.word js same)

@@ -34,4 +34,4 @@ returns-clause-finished g c = λ before given p s.
     let none = append_none (end_if_character q.laid).line q.word (fresh_none q.laid) (flush_flushes columns b.lines.width p) in
     let u = c.in_ok-unplace.ensures (joined (before ++ l.0.laid.done)) l.0.laid.line l.0.holds.placed (sym l.0.holds.len) (same_has eq l.0.laid.line (end_if_character q.laid).line l.0.shows.last ∙ fresh_none q.laid) in
     run_finished columns eq g.met.T.Eq.laws b _ d before given p l.0 word none (keeps_trans b.lines c.flush_word.new.self.lines d k.limits f.limits)
-    (ap (λ x. x.placed) u) (ap (λ x. x.word) u) refl refl l.1 (t.word_width ∙ no_character_no_width columns q.word (flush_flushes columns b.lines.width p)) refl refl refl refl
+    (ap (λ x. x.placed) u) (ap (λ x. x.word) u) refl refl refl l.1 (t.word_width ∙ no_character_no_width columns q.word (flush_flushes columns b.lines.width p)) refl refl refl refl

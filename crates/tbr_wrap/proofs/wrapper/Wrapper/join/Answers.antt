@@ -13,7 +13,7 @@ returns-clause-joined g c = λ columns a wide same before given p s.
     let k = c.in_ok-push.ensures in
     record {
       lays = lays_same columns eq laws c.args.self.now.lines _ (record { width = refl; may_overflow = refl }) before given p.laid s.lays
-          (holds_same c.args.self.now.lines _ before s.lays.laid s.lays.holds (ap (λ f. f.placed) k.2) refl refl refl);
+          (holds_same c.args.self.now.lines _ before s.lays.laid s.lays.holds (ap (λ f. f.placed) k.2) refl refl refl refl);
       space = s.space;
       word = rw k.2 (same_items_append eq laws c.args.self.now.lines.flat.word p.word (glyph c.args.c k.0 ∷ []) (glyph c.args.c a ∷ []) s.word ((refl, laws.congr k.0 c.args.tag.now a k.1 ∙ same), tt));
       word_width = (let e : c.in-Some.word_width ≡ items_width columns p.word + c.args.width = omega (arith, c.in-Some.ensures, s.word_width) in
