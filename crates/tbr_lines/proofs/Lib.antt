@@ -2,3 +2,4 @@ pub mod NormalTexts
 pub use Rattle.tbr_wrap.proofs.runs.LinesLeft
 pub use Rattle.tbr_wrap.proofs.runs.MappedRuns
 pub use Rattle.tbr_tagged.proofs.SameItems
+pub use Rattle.tbr_tagged.proofs.Copies

@@ -1,5 +1,7 @@
 -- The end of the open run.
 use Rattle.std.specs.Prelude.{◌≡◌, ℕ, Bool, false, Option, None, Some, List, [], ◌∷◌, ◌++◌, map, fold}
+use Rattle.std.specs.Global.{Vec}
+use Rattle.text_block_renderer.specs.Meant.{items_meant}
 use Rattle.tbr_model.specs.Run.{Entry, Item}
 use Rattle.tbr_lines.specs.State.{State, empty_block, EndsRun, IsNormal, CharactersFit, VisibleFit}
 use Rattle.tbr_lines.specs.Wrapped.{WordsFit, EndedWordsFit, padding_of}
@@ -38,6 +40,11 @@ abbrev pub block_lines : {D A : Type 0} →
     (ℕ → Option ℕ) → Renderer D A (List A) → Open (List A) → List (List (Item (List A))) → List (List (Item (List A)))
 block_lines columns r b texts = map (λ is. is ++ padding_of columns b.padding (block_width r) is) texts
 
+-- a line of a block with its padding, by what it means
+abbrev pub line_meant : {A M : Type 0} →
+    (ℕ → Option ℕ) → (A → M) → State (Vec A) → List (Item (Vec A)) → List (Item (List M))
+line_meant columns meaning b is = items_meant meaning (is ++ padding_of columns b.padding b.width is)
+
 -- the run is ended: its lines join the others one by one, and the markers that stand on none of them wait
 abbrev pub flushed : {D A : Type 0} →
     (ℕ → Option ℕ) → Renderer D A (List A) → List (List (Item (List A))) → List (List ℕ) → Renderer D A (List A)
@@ -64,9 +71,9 @@ abbrev pub Flushes : {D A : Type 0} → (ℕ → Option ℕ) → Renderer D A (L
 Flushes columns r s = FlushesBlock columns r r.block s
 
 -- where a flush answers that the block is too narrow
-abbrev pub FlushIsTooNarrow : {D A : Type 0} → (ℕ → Option ℕ) → Renderer D A (List A) → Type 0
-FlushIsTooNarrow columns r = TooNarrowFor r.block
-  where
-    TooNarrowFor : Option (Open (List _)) → Type 0
-    TooNarrowFor None = ⊥
-    TooNarrowFor (Some b) = RunIsTooNarrow columns (block_width r) (may_overflow r) b.run
+abbrev pub BlockIsTooNarrow : {D A T : Type 0} → (ℕ → Option ℕ) → Renderer D A T → Option (Open T) → Type 0
+BlockIsTooNarrow columns r None = ⊥
+BlockIsTooNarrow columns r (Some b) = RunIsTooNarrow columns (block_width r) (may_overflow r) b.run
+
+abbrev pub FlushIsTooNarrow : {D A T : Type 0} → (ℕ → Option ℕ) → Renderer D A T → Type 0
+FlushIsTooNarrow columns r = BlockIsTooNarrow columns r r.block

@@ -1,3 +1,4 @@
+pub mod Options
 pub mod Renderer
 pub mod Meant
 pub mod View

@@ -91,8 +91,11 @@ abbrev pub block_width : {D A T : Type 0} → Renderer D A T → ℕ
 block_width r = least r.width r.options.wrap_width
 
 -- whether a line of the block may be wider
+abbrev pub overflows : RenderOptions → ℕ → Bool
+overflows options columns = options.allow_width_overflow && nat_lt columns 2
+
 abbrev pub may_overflow : {D A T : Type 0} → Renderer D A T → Bool
-may_overflow r = r.options.allow_width_overflow && nat_lt (block_width r) 2
+may_overflow r = overflows r.options (block_width r)
 
 -- a block as it is opened: it pads under the annotations of that moment
 abbrev pub new_block : {D A : Type 0} → Renderer D A (List A) → Open (List A)
@@ -122,15 +125,17 @@ last_mode (mode ∷ next ∷ modes) = last_mode (next ∷ modes)
 abbrev pub without_last : {X : Type 0} → List X → List X
 without_last xs = take (length xs - 1) xs
 
--- each character that takes columns has so many strokes behind it
-abbrev pub struck : (ℕ → Option ℕ) → ℕ → List ℕ → List ℕ
-struck columns depth cs = flat_map (λ c. c ∷ strokes c) cs
-  where
-    stroke : ℕ
-    stroke = 0x336
+-- U+0336, which strikes the character before it
+abbrev pub stroke : ℕ
+stroke = 822
 
-    strokes : ℕ → List ℕ
-    strokes c = if nat_lt 0 (unwrap_or (columns c) 0) then replicate depth stroke else []
+-- a character with so many strokes behind it, if it takes columns
+abbrev pub struck_character : (ℕ → Option ℕ) → ℕ → ℕ → List ℕ
+struck_character columns depth c =
+    c ∷ (if nat_lt 0 (unwrap_or (columns c) 0) then replicate depth stroke else [])
+
+abbrev pub struck : (ℕ → Option ℕ) → ℕ → List ℕ → List ℕ
+struck columns depth cs = flat_map (struck_character columns depth) cs
 
 -- the annotations of a text, and those that it has where its hard line goes on, inside a preformatted stretch
 abbrev pub text_annotations : {D A : Type 0} → (D → Bool → A) → Bool → Renderer D A (List A) → List A

@@ -1,5 +1,5 @@
 -- What each call makes of a renderer.
-use Rattle.std.specs.Prelude.{◌≡◌, ℕ, suc, ◌-◌, Bool, true, false, if◌then◌else◌, ◌↔◌, IsTrue, Option, None, Some, List, [], ◌∷◌, ◌++◌}
+use Rattle.std.specs.Prelude.{◌≡◌, ℕ, suc, ◌-◌, Bool, true, false, if◌then◌else◌, ◌↔◌, IsTrue, Option, None, Some, List, [], ◌∷◌, ◌++◌, ◌⊎◌}
 use Rattle.tbr_model.specs.declared.white_space.WhiteSpace.{WhiteSpace}
 use Rattle.tbr_model.specs.Run.{Entry, marker_entry, items_width, kept_items}
 use Rattle.tbr_lines.specs.State.{IsNormal}
@@ -21,17 +21,20 @@ module _ {D A : Type 0} (columns : ℕ → Option ℕ) where
   abbrev pub StartsBlock : Renderer D A (List A) → Renderer D A (List A) → Type 0
   StartsBlock r s = (m : Renderer D A (List A)) × Flushes columns r m × (s ≡ block_started m)
 
-  -- whether no block is open, or its open line and word take no columns
-  abbrev pub IsAtLineStart : Renderer D A (List A) → Bool → Type 0
-  IsAtLineStart r at = AtLineStart r.block
-    where
-      AtLineStart : Option (Open (List A)) → Type 0
-      AtLineStart None = at ≡ true
-      AtLineStart (Some b) = may_overflow r ≡ false → IsNormal b.run → IsTrue at ↔ (items_width columns (kept_items columns b.run) ≡ 0)
+  -- Whether no block is open, or its open line and word take no columns. A `Normal` run decides it where no line may be
+  -- wider than the block.
+  abbrev pub BlockIsAtLineStart : Renderer D A (List A) → Bool → Option (Open (List A)) → Type 0
+  BlockIsAtLineStart r at None = at ≡ true
+  BlockIsAtLineStart r at (Some b) =
+      may_overflow r ≡ false → IsNormal b.run → IsTrue at ↔ (items_width columns (kept_items columns b.run) ≡ 0)
 
   -- A line break adds an empty line at the beginning of a line, and else ends the line.
+  abbrev pub BreaksLineAt : Bool → Renderer D A (List A) → Renderer D A (List A) → Type 0
+  BreaksLineAt true r s = AddsEmptyLine r s
+  BreaksLineAt false r s = Flushes columns r s
+
   abbrev pub BreaksLine : Renderer D A (List A) → Renderer D A (List A) → Type 0
-  BreaksLine r s = (at : Bool) × IsAtLineStart r at × (if at then AddsEmptyLine r s else Flushes columns r s)
+  BreaksLine r s = (at : Bool) × BlockIsAtLineStart r at r.block × BreaksLineAt at r s
 
 module _ {D A : Type 0} (columns : ℕ → Option ℕ) (preformatted : D → Bool → A) where
   -- the text joins the run of the open block, which goes on
@@ -41,21 +44,25 @@ module _ {D A : Type 0} (columns : ℕ → Option ℕ) (preformatted : D → Boo
       × (s ≡ with_entries r (entries_of columns preformatted r cs))
 
   -- Behind the end of a block white space is ignored in `Normal`, and any other text begins a block.
-  abbrev pub AddsText : List ℕ → Renderer D A (List A) → Renderer D A (List A) → Type 0
-  AddsText cs r s =
-      if ignores r cs then s ≡ r
-      else if r.block_ended
-      then ((m : Renderer D A (List A)) × StartsBlock columns r m × JoinsText cs m s)
-      else JoinsText cs r s
+  abbrev pub AddsTextBy : Bool → Bool → List ℕ → Renderer D A (List A) → Renderer D A (List A) → Type 0
+  AddsTextBy true ended cs r s = s ≡ r
+  AddsTextBy false true cs r s = (m : Renderer D A (List A)) × StartsBlock columns r m × JoinsText cs m s
+  AddsTextBy false false cs r s = JoinsText cs r s
 
+  abbrev pub AddsText : List ℕ → Renderer D A (List A) → Renderer D A (List A) → Type 0
+  AddsText cs r s = AddsTextBy (ignores r cs) r.block_ended cs r s
+
+  -- where a text is answered by `TooNarrow`
   abbrev pub JoinIsTooNarrow : List ℕ → Renderer D A (List A) → Type 0
   JoinIsTooNarrow cs r =
       RunStops columns (block_width r) (may_overflow r) (open_run r.block ++ entries_of columns preformatted r cs)
 
-  -- where a text is answered by `TooNarrow`
+  abbrev pub TextIsTooNarrowBy : Bool → Bool → List ℕ → Renderer D A (List A) → Type 0
+  TextIsTooNarrowBy true ended cs r = ⊥
+  TextIsTooNarrowBy false true cs r =
+      FlushIsTooNarrow columns r
+      ⊎ ((m : Renderer D A (List A)) × StartsBlock columns r m × JoinIsTooNarrow cs m)
+  TextIsTooNarrowBy false false cs r = JoinIsTooNarrow cs r
+
   abbrev pub TextIsTooNarrow : List ℕ → Renderer D A (List A) → Type 0
-  TextIsTooNarrow cs r =
-      if ignores r cs then ⊥
-      else if r.block_ended
-      then (FlushIsTooNarrow columns r ⊎ ((m : Renderer D A (List A)) × StartsBlock columns r m × JoinIsTooNarrow cs m))
-      else JoinIsTooNarrow cs r
+  TextIsTooNarrow cs r = TextIsTooNarrowBy (ignores r cs) r.block_ended cs r

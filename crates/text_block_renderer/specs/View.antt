@@ -1,20 +1,27 @@
 -- What the fields of a renderer mean.
-use Rattle.std.specs.Prelude.{◌≡◌, ℕ, Bool, true, false, ⊤, Option, Some, None, List, [], ◌∷◌, map}
+use Rattle.std.specs.Prelude.{◌≡◌, ◌<◌, ℕ, Bool, true, false, ⊤, Option, Some, None, List, [], ◌∷◌, map}
 use Rattle.std.specs.Option.{option_map}
-use Rattle.std.specs.List.{AllByRecursion as Each}
+use Rattle.std.specs.List.{AllByRecursion as Each, list_any}
+use Rattle.std.specs.Global.{Vec}
+use Rattle.tbr_lines.specs.Copies.{equal_lists}
+use Rattle.tbr_lines.specs.View.{element_of}
+use Rattle.text_block_renderer.specs.declared.sub.SubRenderer.TheInside.{Inside}
 use Rattle.tbr_lines.specs.Elements.{Element, piece, marker_element, items_of, IsMerged}
 use Rattle.tbr_lines.specs.State.{State}
 use Rattle.tbr_lines.specs.declared.RenderLine.{RenderLine}
 use Rattle.tbr_lines.specs.declared.RenderLine.TheVariants.{Text, Line as Rule}
 use Rattle.tbr_lines.specs.RenderLine.{IsMergedText}
-use Rattle.text_block_renderer.specs.Renderer.{Line, text, border, Open, Renderer, block_width, may_overflow}
+use Rattle.text_block_renderer.specs.Renderer.{Line, text, border, line_has_content, Open, Renderer, least, overflows}
 
 abbrev pub line_seen : {T : Type 0} → RenderLine T → Line T
 line_seen (Text es) = text (items_of es)
 line_seen (Rule b) = border b
 
+abbrev pub open_seen : {T : Type 0} → State T → Open T
+open_seen b = record { padding = b.padding; run = b.run }
+
 abbrev pub block_seen : {T : Type 0} → Option (State T) → Option (Open T)
-block_seen block = option_map (λ b. record { padding = b.padding; run = b.run }) block
+block_seen block = option_map open_seen block
 
 -- the names of markers
 abbrev pub names_of : {T : Type 0} → List (Element T) → List (List ℕ)
@@ -37,3 +44,33 @@ pub record IsFresh {T : Type 0} (width : ℕ) (overflows : Bool) (b : State T) :
 abbrev pub IsOpened : {T : Type 0} → ℕ → Bool → Option (State T) → Type 0
 IsOpened width overflows None = ⊤
 IsOpened width overflows (Some b) = IsFresh width overflows b
+
+-- what a contract sees of the fields
+abbrev pub renderer_of : {D W A : Type 0} → Inside D W A → Renderer D A (Vec A)
+renderer_of r = record {
+  width = r.width;
+  options = r.options;
+  decorator = r.decorator;
+  lines = map line_seen r.lines;
+  block = block_seen r.wrapping;
+  waiting = names_of (map element_of r.waiting.items);
+  block_ended = r.block_ended;
+  annotations = r.annotations.items;
+  modes = r.modes.items;
+  strikeouts = r.strikeouts;
+  preformatted = r.preformatted;
+  failure = r.failure;
+}
+
+-- What the fields of a renderer that hasn't failed hold: a fresh block, if any, markers that wait, and lines whose pieces
+-- are the longest stretches under equal annotations.
+pub record HoldsFresh {D W A : Type 0} (eq : A → A → Bool) (r : Inside D W A) : Type 0 where
+  pub opened : IsOpened (least r.width r.options.wrap_width) (overflows r.options (least r.width r.options.wrap_width)) r.wrapping
+  pub markers : AreMarkers (map element_of r.waiting.items)
+  pub merged : Each (IsMergedText (equal_lists eq)) r.lines
+  pub content : r.has_content ≡ list_any line_has_content (map line_seen r.lines)
+
+-- and what those of any renderer do
+pub record HoldsRenderer {D W A : Type 0} (eq : A → A → Bool) (r : Inside D W A) : Type 0 where
+  pub columns : 0 < least r.width r.options.wrap_width
+  pub fresh : r.failure ≡ None → HoldsFresh eq r

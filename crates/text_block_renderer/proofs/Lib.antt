@@ -1,0 +1,5 @@
+pub mod Meanings
+pub mod Fields
+pub mod Lines
+pub mod Fits
+pub mod Flushing

@@ -1,0 +1,100 @@
+//! The end of runs, and the beginning of blocks.
+ghost use Rattle.std.specs.Prelude.{◌≡◌, ◌≢◌, ◌≤◌, None, Some, Ok, Err, map, fold, List, ℕ, IfOk, IfErr, OnOk};
+ghost use Rattle.tbr_lines.specs.State.{lines_left};
+ghost use Rattle.tbr_lines.specs.declared.Error.{Error as Refusal};
+ghost use Rattle.tbr_lines.specs.declared.Error.TheVariants as E;
+ghost use Rattle.text_block_renderer.specs.Renderer.{with_line, block_width};
+ghost use Rattle.text_block_renderer.specs.Meant.{meant};
+ghost use Rattle.text_block_renderer.specs.Flush.{line_meant, Flushes, FlushIsTooNarrow};
+ghost use Rattle.text_block_renderer.specs.Steps.{with_empty_line, AddsEmptyLine, block_started, StartsBlock};
+
+use crate::sub::SubRenderer;
+use tbr_decor::TextDecorator;
+use tbr_lines::{CharWidth, Error, OutOfMemory, TaggedLine, WrappedBlock};
+
+impl<D: TextDecorator, W: CharWidth> SubRenderer<D, W> {
+    /// Adds the lines that a block has ended, one by one. It refuses only for want of memory.
+    fn add_lines_of(
+        &mut self,
+        mut block: WrappedBlock<Vec<D::Annotation>, W>,
+    ) -> Result<(), Error>
+        requires unfailed { self.old.failure ≡ None }
+        requires block { block.failure ≡ None }
+        ensures lines { OnOk result (meant D.meaning self.new ≡ fold (with_line W.columns) (meant D.meaning self.old)
+            (map (line_meant W.columns D.meaning block) (lines_left block))) }
+        ensures unfailed { OnOk result (self.new.failure ≡ None) }
+        ensures memory { IfErr result (λ e. e ≡ E.OutOfMemory) }
+    {
+        while let Some(line) = block.next_line()? {
+            self.add_line(line)?;
+        }
+        Ok(())
+    }
+
+    /// Ends the run of the open block, if there is one.
+    fn try_flush(&mut self) -> Result<(), Error>
+        requires { self.old.failure ≡ None }
+        ensures ok { OnOk result (Flushes W.columns (meant D.meaning self.old) (meant D.meaning self.new)) }
+        ensures unfailed { OnOk result (self.new.failure ≡ None) }
+        ensures too_narrow { result ≡ Err E.TooNarrow → FlushIsTooNarrow W.columns (meant D.meaning self.old) }
+        ensures two_columns { 2 ≤ block_width self.old → result ≢ Err E.TooNarrow }
+    {
+        let Some(mut block) = self.take_block() else {
+            return Ok(());
+        };
+        block.flush()?;
+        let markers = block.take_trailing_fragments()?;
+        self.add_lines_of(block)?;
+        self.add_waiting(markers)?;
+        Ok(())
+    }
+
+    /// Ends the run, and adds an empty line.
+    fn try_add_empty_line(&mut self) -> Result<(), Error>
+        requires { self.old.failure ≡ None }
+        ensures ok { OnOk result (AddsEmptyLine W.columns (meant D.meaning self.old) (meant D.meaning self.new)) }
+        ensures too_narrow { result ≡ Err E.TooNarrow → FlushIsTooNarrow W.columns (meant D.meaning self.old) }
+        ensures two_columns { 2 ≤ block_width self.old → result ≢ Err E.TooNarrow }
+    {
+        self.try_flush()?;
+        self.put_empty_line()?;
+        Ok(())
+    }
+
+    /// Adds an empty line, behind which no block has ended.
+    fn put_empty_line(&mut self) -> Result<(), OutOfMemory>
+        requires { self.old.failure ≡ None }
+        ensures line { OnOk result (meant D.meaning self.new ≡ with_empty_line W.columns (meant D.meaning self.old)) }
+        ensures unfailed { OnOk result (self.new.failure ≡ None) }
+    {
+        self.add_line(TaggedLine::new(self.alloc))?;
+        self.set_block_ended(false);
+        Ok(())
+    }
+
+    /// Ends the run, and begins a block.
+    fn try_start_block(&mut self) -> Result<(), Error>
+        requires { self.old.failure ≡ None }
+        ensures ok { OnOk result (StartsBlock W.columns (meant D.meaning self.old) (meant D.meaning self.new)) }
+        ensures unfailed { OnOk result (self.new.failure ≡ None) }
+        ensures too_narrow { result ≡ Err E.TooNarrow → FlushIsTooNarrow W.columns (meant D.meaning self.old) }
+        ensures two_columns { 2 ≤ block_width self.old → result ≢ Err E.TooNarrow }
+    {
+        self.try_flush()?;
+        self.begin_block()?;
+        Ok(())
+    }
+
+    /// Begins a block, behind an empty line where any line has content.
+    fn begin_block(&mut self) -> Result<(), OutOfMemory>
+        requires { self.old.failure ≡ None }
+        ensures begun { OnOk result (meant D.meaning self.new ≡ block_started W.columns (meant D.meaning self.old)) }
+        ensures unfailed { OnOk result (self.new.failure ≡ None) }
+    {
+        if self.has_content() {
+            return self.put_empty_line();
+        }
+        self.set_block_ended(false);
+        Ok(())
+    }
+}
