@@ -1,10 +1,10 @@
 //! The laws of what the lines of a run show, and what waits behind them, each as the contract of a function that does
 //! nothing.
-ghost use Rattle.std.specs.Prelude.{◌≡◌, ◌≢◌, ℕ, ◌≤◌, ◌⊎◌, Bool, true, false, Option, List, [], ◌++◌};
+ghost use Rattle.std.specs.Prelude.{◌≡◌, ◌≢◌, ℕ, ◌≤◌, ◌⊎◌, Bool, true, false, Option, List, [], ◌++◌, length};
 ghost use Rattle.tbr_model.specs.Codes.{tab_character, newline_character};
-ghost use Rattle.tbr_model.specs.Run.{Entry, character, Item, is_kept, kept_items};
+ghost use Rattle.tbr_model.specs.Run.{Entry, character, Item, is_kept, kept_items, trailing};
 ghost use Rattle.tbr_model.specs.Layout.{joined};
-ghost use Rattle.tbr_model.specs.Markers.{names_in_items, names_in_run, names_behind};
+ghost use Rattle.tbr_model.specs.Markers.{names_in_items, names_in_run, names_behind, marker_items, marker_run, without_last_markers};
 ghost use Rattle.tbr_model.specs.Rule.{Event, run_of, Progress, enter, progress, finished, lines_of, waiting};
 ghost use Rattle.tbr_model.specs.declared.white_space.WhiteSpace.{WhiteSpace};
 ghost use Rattle.tbr_model.specs.declared.white_space.WhiteSpace.TheVariants.{Normal};
@@ -55,6 +55,16 @@ pub fn markers_alone_end_no_line<T>()
         entry_letters (run_of es) ≡ [] → lines_of columns width es ≡ [] }
     ensures wait { (columns : ℕ → Option ℕ) (width : ℕ) (es : List (Event T)) →
         entry_letters (run_of es) ≡ [] → names_waiting columns width es ≡ names_in_run (run_of es) }
+{}
+
+/// A run of markers alone counts as `Normal`, all its markers are trailing, and without them it is empty.
+pub fn markers_alone_are_trailing<T>()
+    ensures normal { (names : List (List ℕ)) → AllHaveMode {A = T} Normal (marker_run names) }
+    ensures trailing { (columns : ℕ → Option ℕ) (names : List (List ℕ)) →
+        trailing {A = T} columns (marker_run names) ≡ marker_items names }
+    ensures names { (names : List (List ℕ)) → names_in_run {A = T} (marker_run names) ≡ names }
+    ensures taken_out { (names : List (List ℕ)) →
+        without_last_markers {A = T} (length names) (marker_run names) ≡ [] }
 {}
 
 /// Where a visible character that takes columns came, a line has ended, or the open line or the word takes columns.
