@@ -4,4 +4,7 @@ pub use tbr_border::laws::{
     cell_has_two_arms, cells_keep_two_arms, chops_are_idempotent, joins_are_idempotent,
     joins_commute, stretching_appends,
 };
-pub use tbr_tagged::laws::copies_of_lists_are_equal;
+pub use tbr_tagged::laws::{
+    copies_of_lists_are_equal, equal_tags_mean_the_same, merged_pieces_have_characters,
+};
+pub use tbr_wrap::laws::texts_are_shown_by_meaning;

@@ -6,5 +6,6 @@ pub use block::WrappedBlock;
 mod block;
 mod flat;
 mod laid_lines;
+pub mod laws;
 mod run_change;
 mod wrapper;
