@@ -1,5 +1,5 @@
 -- Hard lines of `Pre` that begin with a non-blank.
-use Rattle.std.proofs.Common.{◌≡◌, ◌≢◌, ℕ, zero, suc, ◌<◌, true, Bool, List, [], ◌∷◌, ◌++◌, map, length, take, drop, refl, ap, sym, ◌∙◌, subst, arith, append-nil, length-drop}
+use Rattle.std.proofs.Common.{◌≡◌, ◌≢◌, ℕ, zero, suc, true, Bool, List, [], ◌∷◌, ◌++◌, map, take, drop, refl, ap, sym, ◌∙◌, subst}
 use Rattle.std.specs.List.{AllByRecursion as Each}
 use Rattle.std.proofs.lemmas.List.{take-append-drop, take-map, drop-map}
 use Rattle.tbr_model.specs.declared.white_space.WhiteSpace.TheVariants.{Pre}
@@ -7,37 +7,12 @@ use Rattle.tbr_model.specs.Run.{Entry, character, Item}
 use Rattle.tbr_model.specs.Layout.{joined}
 use Rattle.tbr_model.specs.Markers.{names_in_items}
 use Rattle.tbr_model.specs.Hard.{glyphs_of, letters_of, entry_letters, BeginsWithNonBlank, IsCutEvery, StandUnder, HasMain, HasContinuation, ShowsPre}
+use Rattle.tbr_model.proofs.pre.OneCut.{cut_in_one_way, cut_joined}
 use Rattle.tbr_model.proofs.words.Items.{letters_of-append}
 use Rattle.tbr_lines.specs.State.{text_entries}
 use Rattle.small_runs.specs.Small.{small_columns}
 use Rattle.small_runs.proofs.PrintableTexts.{is_printable_text, printable_line, text_letters}
 use Rattle.small_runs.proofs.LinesOfItems.{same_lines}
-
--- ---- a text is cut after every so many characters in one way
-
-cut_some : (width : ℕ) (cs : List ℕ) (ls : List (List ℕ)) → IsCutEvery width cs ls → 0 < length cs
-cut_some width cs [] h = absurd h
-cut_some width cs (l ∷ []) h = omega (arith, ap length h.0, h.1)
-cut_some width cs (l ∷ m ∷ ls) h = omega (arith, cut_some width (drop width cs) (m ∷ ls) h.2, length-drop width cs)
-
-pub cut_in_one_way : (width : ℕ) (cs : List ℕ) (ls ms : List (List ℕ)) → IsCutEvery width cs ls → IsCutEvery width cs ms → ls ≡ ms
-cut_in_one_way width cs [] ms h k = absurd h
-cut_in_one_way width cs (l ∷ ls) [] h k = absurd k
-cut_in_one_way width cs (l ∷ []) (m ∷ []) h k = ap (λ x. x ∷ []) (h.0 ∙ sym k.0)
-cut_in_one_way width cs (l ∷ []) (m ∷ n ∷ ms) h k =
-    absurd (omega (arith, ap length h.0, h.2, cut_some width (drop width cs) (n ∷ ms) k.2, length-drop width cs))
-cut_in_one_way width cs (l ∷ n ∷ ls) (m ∷ []) h k =
-    absurd (omega (arith, ap length k.0, k.2, cut_some width (drop width cs) (n ∷ ls) h.2, length-drop width cs))
-cut_in_one_way width cs (l ∷ n ∷ ls) (m ∷ o ∷ ms) h k =
-    let one : l ≡ m = h.0 ∙ sym k.0 in
-    let rest : n ∷ ls ≡ o ∷ ms = cut_in_one_way width (drop width cs) (n ∷ ls) (o ∷ ms) h.2 k.2 in
-    cc
-
-pub cut_joined : (width : ℕ) (cs : List ℕ) (ls : List (List ℕ)) → IsCutEvery width cs ls → joined ls ≡ cs
-cut_joined width cs [] h = absurd h
-cut_joined width cs (l ∷ []) h = append-nil l ∙ h.0
-cut_joined width cs (l ∷ m ∷ ls) h =
-    ap (λ x. l ++ x) (cut_joined width (drop width cs) (m ∷ ls) h.2) ∙ ap (λ x. x ++ drop width cs) h.0 ∙ take-append-drop width cs
 
 letters_joined : {A : Type 0} (ls : List (List (Item A))) → letters_of (joined ls) ≡ joined (map letters_of ls)
 letters_joined [] = refl
@@ -90,7 +65,7 @@ cut_line {A} width more cs a b ls ms printable none begins cut under p q s = sam
     is_cut = subst (λ ds. IsCutEvery width ds (map letters_of ls)) text (s.cut (printable_line cs a b Pre printable) starts)
 
     letters : map letters_of ls ≡ map letters_of ms
-    letters = cut_in_one_way width cs (map letters_of ls) (map letters_of ms) is_cut cut
+    letters = cut_in_one_way width cs (map letters_of ms) (map letters_of ls) cut is_cut
 
     gs : List (ℕ × A)
     gs = glyphs_of (joined ls)

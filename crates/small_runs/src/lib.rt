@@ -6,3 +6,4 @@ pub mod annotations;
 pub mod markers;
 pub mod preserved;
 pub mod words;
+pub mod wrapped;
