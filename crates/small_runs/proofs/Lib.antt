@@ -5,3 +5,4 @@ pub mod PrintableTexts
 pub mod CutLines
 pub mod OtherLines
 pub mod PreRuns
+pub mod Admitted

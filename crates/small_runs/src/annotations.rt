@@ -8,6 +8,8 @@ ghost use Rattle.small_runs.specs.Small.{MayEnd, two_words, two_words_line};
 
 /// Each word stands under its own annotation, and the space of a gap under that of the first white space there.
 pub fn gaps_stand_under_their_first_space<T>()
+    ensures admitted { (a b d more : T) →
+        MayEnd 5 (two_words a (codes " ") b d more) (two_words_line a b d ∷ []) [] }
     ensures ends { (a b d more : T) (lines : List (List (Item T))) (names : List (List ℕ)) →
         MayEnd 5 (two_words a (codes " ") b d more) lines names →
         (lines ≡ two_words_line a b d ∷ []) × (names ≡ []) }
@@ -19,6 +21,9 @@ pub fn gaps_stand_under_their_first_space<T>()
 
 /// In a `Normal` run no character stands under the annotation for where a hard line goes on.
 pub fn normal_text_has_no_continuation<T>()
+    ensures admitted { (a b : T) →
+        MayEnd 2 (text_entries (codes "ab cd") a b Normal)
+        (text_items (codes "ab") a ∷ text_items (codes "cd") a ∷ []) [] }
     ensures ends { (a b : T) (lines : List (List (Item T))) (names : List (List ℕ)) →
         MayEnd 2 (text_entries (codes "ab cd") a b Normal) lines names →
         (lines ≡ text_items (codes "ab") a ∷ text_items (codes "cd") a ∷ []) × (names ≡ []) }

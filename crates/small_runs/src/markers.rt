@@ -8,6 +8,9 @@ ghost use Rattle.small_runs.specs.Small.{MayEnd, around_marker, around_marker_li
 
 /// A marker inside a word that is cut stands between the same characters.
 pub fn markers_stay_inside_cut_words<T>()
+    ensures admitted { (a b : T) (name : List ℕ) →
+        MayEnd 3 (around_marker (codes "ab") name (codes "cd") a b)
+        (around_marker_line (codes "ab") name (codes "c") a ∷ text_items (codes "d") a ∷ []) [] }
     ensures ends { (a b : T) (name : List ℕ) (lines : List (List (Item T))) (names : List (List ℕ)) →
         MayEnd 3 (around_marker (codes "ab") name (codes "cd") a b) lines names →
         (lines ≡ around_marker_line (codes "ab") name (codes "c") a ∷ text_items (codes "d") a ∷ []) × (names ≡ []) }
@@ -30,6 +33,9 @@ pub fn markers_stay_inside_cut_words<T>()
 
 /// A marker before a word goes with it to the next line.
 pub fn markers_go_with_their_words<T>()
+    ensures admitted { (a b : T) (name : List ℕ) →
+        MayEnd 4 (around_marker (codes "ab ") name (codes "cd") a b)
+        (text_items (codes "ab") a ∷ around_marker_line [] name (codes "cd") a ∷ []) [] }
     ensures ends { (a b : T) (name : List ℕ) (lines : List (List (Item T))) (names : List (List ℕ)) →
         MayEnd 4 (around_marker (codes "ab ") name (codes "cd") a b) lines names →
         (lines ≡ text_items (codes "ab") a ∷ around_marker_line [] name (codes "cd") a ∷ []) × (names ≡ []) }
@@ -43,6 +49,9 @@ pub fn markers_go_with_their_words<T>()
 
 /// A marker behind a word stays on its line, where no white space parts them.
 pub fn markers_stay_behind_their_words<T>()
+    ensures admitted { (a b : T) (name : List ℕ) →
+        MayEnd 4 (around_marker (codes "ab") name (codes " cd") a b)
+        (around_marker_line (codes "ab") name [] a ∷ text_items (codes "cd") a ∷ []) [] }
     ensures ends { (a b : T) (name : List ℕ) (lines : List (List (Item T))) (names : List (List ℕ)) →
         MayEnd 4 (around_marker (codes "ab") name (codes " cd") a b) lines names →
         (lines ≡ around_marker_line (codes "ab") name [] a ∷ text_items (codes "cd") a ∷ []) × (names ≡ []) }
@@ -53,6 +62,8 @@ pub fn markers_stay_behind_their_words<T>()
 
 /// A marker waits only where no word follows and white space parts it from the word before.
 pub fn markers_wait_behind_words<T>()
+    ensures admitted { (a b : T) (name : List ℕ) →
+        MayEnd 4 (around_marker (codes "ab ") name [] a b) (text_items (codes "ab") a ∷ []) (name ∷ []) }
     ensures ends { (a b : T) (name : List ℕ) (lines : List (List (Item T))) (names : List (List ℕ)) →
         MayEnd 4 (around_marker (codes "ab ") name [] a b) lines names →
         (lines ≡ text_items (codes "ab") a ∷ []) × (names ≡ name ∷ []) }

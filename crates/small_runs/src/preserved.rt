@@ -9,6 +9,9 @@ ghost use Rattle.small_runs.specs.Small.{MayEnd};
 
 /// A newline ends a line, also an empty one, and where nothing is cut each character stands under its own annotation.
 pub fn newlines_end_lines<T>()
+    ensures admitted { (a b : T) →
+        MayEnd 5 (text_entries (codes "ab\n\ncd\n") a b Pre)
+        (text_items (codes "ab") a ∷ [] ∷ text_items (codes "cd") a ∷ []) [] }
     ensures ends { (a b : T) (lines : List (List (Item T))) (names : List (List ℕ)) →
         MayEnd 5 (text_entries (codes "ab\n\ncd\n") a b Pre) lines names →
         (lines ≡ text_items (codes "ab") a ∷ [] ∷ text_items (codes "cd") a ∷ []) × (names ≡ []) }
@@ -28,6 +31,10 @@ pub fn newlines_end_lines<T>()
 /// A hard line that is wider than a line is cut where lines are full, and stands under its continuation annotation
 /// behind its first line.
 pub fn full_lines_are_continued<T>()
+    ensures admitted { (a b : T) →
+        MayEnd 4 (text_entries (codes "abcdefghi\njk") a b Pre)
+        (text_items (codes "abcd") a ∷ text_items (codes "efgh") b ∷ text_items (codes "i") b
+        ∷ text_items (codes "jk") a ∷ []) [] }
     ensures ends { (a b : T) (lines : List (List (Item T))) (names : List (List ℕ)) →
         MayEnd 4 (text_entries (codes "abcdefghi\njk") a b Pre) lines names →
         (lines ≡ text_items (codes "abcd") a ∷ text_items (codes "efgh") b ∷ text_items (codes "i") b
@@ -52,6 +59,8 @@ pub fn full_lines_are_continued<T>()
 
 /// Spaces stay as they are, in front of a text, in it and behind it.
 pub fn spaces_stay<T>()
+    ensures admitted { (a b : T) →
+        MayEnd 8 (text_entries (codes "  ab  c ") a b Pre) (text_items (codes "  ab  c ") a ∷ []) [] }
     ensures letters { (a b : T) (lines : List (List (Item T))) (names : List (List ℕ)) →
         MayEnd 8 (text_entries (codes "  ab  c ") a b Pre) lines names →
         (map letters_of lines ≡ codes "  ab  c " ∷ []) × (names ≡ []) }
@@ -68,6 +77,8 @@ pub fn spaces_stay<T>()
 
 /// A tab is spaces up to the next multiple of eight columns.
 pub fn tabs_are_spaces<T>()
+    ensures admitted { (a b : T) →
+        MayEnd 9 (text_entries (codes "a\tb") a b Pre) (text_items (codes "a       b") a ∷ []) [] }
     ensures letters { (a b : T) (lines : List (List (Item T))) (names : List (List ℕ)) →
         MayEnd 9 (text_entries (codes "a\tb") a b Pre) lines names →
         (map letters_of lines ≡ codes "a       b" ∷ []) × (names ≡ []) }

@@ -8,6 +8,8 @@ ghost use Rattle.small_runs.specs.Small.{MayEnd};
 
 /// Words that fit a line share it, in their order.
 pub fn words_that_fit_share_a_line<T>()
+    ensures admitted { (a b : T) →
+        MayEnd 5 (text_entries (codes "ab cd") a b Normal) (text_items (codes "ab cd") a ∷ []) [] }
     ensures ends { (a b : T) (lines : List (List (Item T))) (names : List (List ℕ)) →
         MayEnd 5 (text_entries (codes "ab cd") a b Normal) lines names →
         (lines ≡ text_items (codes "ab cd") a ∷ []) × (names ≡ []) }
@@ -24,6 +26,8 @@ pub fn words_that_fit_share_a_line<T>()
 
 /// A gap within a line is one space, however much white space stands there.
 pub fn gaps_are_one_space<T>()
+    ensures admitted { (a b : T) →
+        MayEnd 9 (text_entries (codes " ab  cd ") a b Normal) (text_items (codes "ab cd") a ∷ []) [] }
     ensures ends { (a b : T) (lines : List (List (Item T))) (names : List (List ℕ)) →
         MayEnd 9 (text_entries (codes " ab  cd ") a b Normal) lines names →
         (lines ≡ text_items (codes "ab cd") a ∷ []) × (names ≡ []) }
@@ -39,6 +43,9 @@ pub fn gaps_are_one_space<T>()
 
 /// A word that doesn't fit behind the one before begins the next line, and the space between them is gone.
 pub fn words_that_do_not_fit_are_moved<T>()
+    ensures admitted { (a b : T) →
+        MayEnd 5 (text_entries (codes "ab cde") a b Normal)
+        (text_items (codes "ab") a ∷ text_items (codes "cde") a ∷ []) [] }
     ensures ends { (a b : T) (lines : List (List (Item T))) (names : List (List ℕ)) →
         MayEnd 5 (text_entries (codes "ab cde") a b Normal) lines names →
         (lines ≡ text_items (codes "ab") a ∷ text_items (codes "cde") a ∷ []) × (names ≡ []) }
@@ -55,6 +62,9 @@ pub fn words_that_do_not_fit_are_moved<T>()
 
 /// A word that is wider than a line begins one and is cut where lines are full.
 pub fn wider_words_are_cut<T>()
+    ensures admitted { (a b : T) →
+        MayEnd 4 (text_entries (codes "a bcdefg h") a b Normal)
+        (text_items (codes "a") a ∷ text_items (codes "bcde") a ∷ text_items (codes "fg h") a ∷ []) [] }
     ensures ends { (a b : T) (lines : List (List (Item T))) (names : List (List ℕ)) →
         MayEnd 4 (text_entries (codes "a bcdefg h") a b Normal) lines names →
         (lines ≡ text_items (codes "a") a ∷ text_items (codes "bcde") a ∷ text_items (codes "fg h") a ∷ [])
@@ -73,6 +83,9 @@ pub fn wider_words_are_cut<T>()
 
 /// A character of two columns goes on the next line where one column is left.
 pub fn wide_characters_stay_whole<T>()
+    ensures admitted { (a b : T) →
+        MayEnd 4 (text_entries (codes "abc漢d") a b Normal)
+        (text_items (codes "abc") a ∷ text_items (codes "漢d") a ∷ []) [] }
     ensures ends { (a b : T) (lines : List (List (Item T))) (names : List (List ℕ)) →
         MayEnd 4 (text_entries (codes "abc漢d") a b Normal) lines names →
         (lines ≡ text_items (codes "abc") a ∷ text_items (codes "漢d") a ∷ []) × (names ≡ []) }

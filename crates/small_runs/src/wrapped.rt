@@ -9,6 +9,9 @@ ghost use Rattle.small_runs.specs.Small.{MayEnd};
 
 /// Spaces are dropped where a line is broken and behind the text, and stay in front of it.
 pub fn spaces_at_breaks_are_dropped<T>()
+    ensures admitted { (a b : T) →
+        MayEnd 5 (text_entries (codes " ab  cd ") a b PreWrap)
+        (text_items (codes " ab") a ∷ text_items (codes "cd") a ∷ []) [] }
     ensures letters { (a b : T) (lines : List (List (Item T))) (names : List (List ℕ)) →
         MayEnd 5 (text_entries (codes " ab  cd ") a b PreWrap) lines names →
         (map letters_of lines ≡ codes " ab" ∷ codes "cd" ∷ []) × (names ≡ []) }
@@ -31,6 +34,9 @@ pub fn spaces_at_breaks_are_dropped<T>()
 
 /// Spaces between words that share a line stay.
 pub fn spaces_within_lines_stay<T>()
+    ensures admitted { (a b : T) →
+        MayEnd 6 (text_entries (codes "ab  cd ef") a b PreWrap)
+        (text_items (codes "ab  cd") a ∷ text_items (codes "ef") a ∷ []) [] }
     ensures letters { (a b : T) (lines : List (List (Item T))) (names : List (List ℕ)) →
         MayEnd 6 (text_entries (codes "ab  cd ef") a b PreWrap) lines names →
         (map letters_of lines ≡ codes "ab  cd" ∷ codes "ef" ∷ []) × (names ≡ []) }
@@ -47,6 +53,10 @@ pub fn spaces_within_lines_stay<T>()
 
 /// A word is cut only if it is wider than a line, and then begins a line and fills it.
 pub fn only_wider_words_are_cut<T>()
+    ensures admitted { (a b : T) →
+        MayEnd 4 (text_entries (codes "a bcdefg hij") a b PreWrap)
+        (text_items (codes "a") a ∷ text_items (codes "bcde") a ∷ text_items (codes "fg") a
+        ∷ text_items (codes "hij") a ∷ []) [] }
     ensures letters { (a b : T) (lines : List (List (Item T))) (names : List (List ℕ)) →
         MayEnd 4 (text_entries (codes "a bcdefg hij") a b PreWrap) lines names →
         (map letters_of lines ≡ codes "a" ∷ codes "bcde" ∷ codes "fg" ∷ codes "hij" ∷ []) × (names ≡ []) }
@@ -65,6 +75,9 @@ pub fn only_wider_words_are_cut<T>()
 
 /// A newline ends a line, also an empty one.
 pub fn newlines_are_kept<T>()
+    ensures admitted { (a b : T) →
+        MayEnd 5 (text_entries (codes "ab\n\ncd") a b PreWrap)
+        (text_items (codes "ab") a ∷ [] ∷ text_items (codes "cd") a ∷ []) [] }
     ensures letters { (a b : T) (lines : List (List (Item T))) (names : List (List ℕ)) →
         MayEnd 5 (text_entries (codes "ab\n\ncd") a b PreWrap) lines names →
         (map letters_of lines ≡ codes "ab" ∷ [] ∷ codes "cd" ∷ []) × (names ≡ []) }

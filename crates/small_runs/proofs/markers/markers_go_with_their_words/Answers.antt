@@ -1,7 +1,9 @@
-use Rattle.std.proofs.Common.{◌≡◌, ℕ, List, [], ◌∷◌, codes, refl}
+use Rattle.std.proofs.Common.{◌≡◌, ℕ, List, [], ◌∷◌, codes, refl, map, inl, arith}
+use Rattle.tbr_model.specs.Rule.{entry}
 use Rattle.tbr_model.specs.Run.{Item}
 use Rattle.tbr_model.proofs.words.KeptItems.{best_lines}
 use Rattle.tbr_lines.specs.Elements.{text_items}
+use Rattle.small_runs.proofs.Admitted.{may_end}
 use Rattle.small_runs.specs.Small.{MayEnd, around_marker, around_marker_line}
 use Rattle.small_runs.proofs.NormalRuns.{best_texts, ends_so}
 use Rattle.small_runs.proofs.OtherLines.{differ}
@@ -14,6 +16,7 @@ ends a b name = ends_so 4 (around_marker (codes "ab ") name (codes "cd") a b) (t
 
 pub returns : goal.returns
 returns g c = record {
+  admitted = λ a b name. may_end 4 (omega arith) (map entry (around_marker (codes "ab ") name (codes "cd") a b)) (inl (omega arith), (inl (omega arith), tt));
   ends = ends;
   not_on_the_line_before = λ a b name names h. differ _ _ refl (ends a b name _ names h).0;
   not_vanished = λ a b name names h. differ _ _ refl (ends a b name _ names h).0;

@@ -1,7 +1,9 @@
-use Rattle.std.proofs.Common.{◌≡◌, ℕ, List, [], ◌∷◌, codes, refl}
+use Rattle.std.proofs.Common.{◌≡◌, ℕ, List, [], ◌∷◌, codes, refl, map, inl, arith}
+use Rattle.tbr_model.specs.Rule.{entry}
 use Rattle.tbr_model.specs.Run.{Item, marker_entry}
 use Rattle.tbr_model.proofs.words.KeptItems.{best_lines}
 use Rattle.tbr_lines.specs.Elements.{text_items}
+use Rattle.small_runs.proofs.Admitted.{may_end}
 use Rattle.small_runs.specs.Small.{MayEnd, around_marker, around_marker_line}
 use Rattle.small_runs.proofs.NormalRuns.{best_texts, ends_so}
 use Rattle.small_runs.proofs.OtherLines.{differ}
@@ -29,6 +31,7 @@ alone name = ends_so 4 (marker_entry name ∷ []) [] (name ∷ []) refl refl ref
 
 pub returns : goal.returns
 returns g c = record {
+  admitted = λ a b name. may_end 4 (omega arith) (map entry (around_marker (codes "ab ") name [] a b)) (inl (omega arith), tt);
   ends = behind;
   not_vanished = λ a b name lines h. let e : [] ≡ name ∷ [] = (behind a b name lines [] h).1 in cc;
   no_line_of_its_own = λ a b name names h. differ _ _ refl (behind a b name _ names h).0;

@@ -1,8 +1,10 @@
-use Rattle.std.proofs.Common.{◌≡◌, ℕ, true, false, List, [], ◌∷◌, ◌++◌, codes, refl, ap, ◌∙◌, arith}
+use Rattle.std.proofs.Common.{◌≡◌, ℕ, true, false, List, [], ◌∷◌, ◌++◌, codes, refl, ap, ◌∙◌, arith, map, inl}
+use Rattle.tbr_model.specs.Rule.{entry}
 use Rattle.tbr_model.specs.declared.white_space.WhiteSpace.TheVariants.{Pre}
 use Rattle.tbr_model.specs.Run.{Item}
 use Rattle.tbr_lines.specs.Elements.{text_items}
 use Rattle.tbr_lines.specs.State.{text_entries}
+use Rattle.small_runs.proofs.Admitted.{may_end}
 use Rattle.small_runs.specs.Small.{MayEnd}
 use Rattle.small_runs.proofs.Flushes.{shown}
 use Rattle.small_runs.proofs.PrintableTexts.{text_has_mode}
@@ -26,6 +28,7 @@ known {A} a b lines names h =
 
 pub returns : goal.returns
 returns g c = record {
+  admitted = λ a b. may_end 4 (omega arith) (map entry (text_entries (codes "abcdefghi\njk") a b Pre)) (inl (omega arith), (inl (omega arith), (inl (omega arith), (inl (omega arith), tt))));
   ends = λ a b lines names h. (known a b lines names h, none_waits 4 (codes "abcdefghi\njk") a b Pre lines names h);
   full = λ a b names h. differ _ _ refl (known a b _ names h);
   continued = λ a b names other h. let e = known a b _ names h in other (cc);

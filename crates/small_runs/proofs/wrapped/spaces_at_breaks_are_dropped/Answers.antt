@@ -1,10 +1,12 @@
 use Rattle.std.proofs.Common.{◌≡◌, ℕ, List, [], ◌∷◌, codes, map, inl, inr, refl, ap, ◌∙◌, arith}
+use Rattle.tbr_model.specs.Rule.{entry}
 use Rattle.tbr_model.specs.declared.white_space.WhiteSpace.TheVariants.{PreWrap}
 use Rattle.tbr_model.specs.Run.{Item}
 use Rattle.tbr_model.specs.Hard.{letters_of, IsWrapped}
 use Rattle.tbr_model.proofs.prewrap.OneWay.{wrapped_in_one_way}
 use Rattle.tbr_lines.specs.Elements.{text_items}
 use Rattle.tbr_lines.specs.State.{text_entries}
+use Rattle.small_runs.proofs.Admitted.{may_end}
 use Rattle.small_runs.specs.Small.{MayEnd}
 use Rattle.small_runs.proofs.Flushes.{shown}
 use Rattle.small_runs.proofs.PrintableTexts.{printable_line, text_has_mode}
@@ -25,6 +27,7 @@ letters a b lines names h =
 
 pub returns : goal.returns
 returns g c = record {
+  admitted = λ a b. may_end 5 (omega arith) (map entry (text_entries (codes " ab  cd ") a b PreWrap)) (inl (omega arith), (inl (omega arith), tt));
   letters = λ a b lines names h. (letters a b lines names h, none_waits 5 (codes " ab  cd ") a b PreWrap lines names h);
   ends = λ a lines names h. lines_by_letters 5 (codes " ab  cd ") a PreWrap lines names h ∙ ap (map (λ ds. text_items ds a)) (letters a a lines names h);
   not_behind_a_line = λ a b names h. texts_differ _ _ refl (letters a b _ names h);
