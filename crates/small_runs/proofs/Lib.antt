@@ -6,3 +6,4 @@ pub mod CutLines
 pub mod OtherLines
 pub mod PreRuns
 pub mod Admitted
+pub mod AnnotatedTexts

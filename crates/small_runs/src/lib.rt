@@ -3,6 +3,7 @@
 #![tactic(auto)]
 
 pub mod annotations;
+pub mod characters;
 pub mod markers;
 pub mod preserved;
 pub mod words;

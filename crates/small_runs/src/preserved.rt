@@ -1,7 +1,8 @@
 //! Runs of `Pre`, which keep white space and newlines.
-ghost use Rattle.std.specs.Prelude.{◌≡◌, ◌≢◌, ℕ, List, [], ◌∷◌, codes, map};
+ghost use Rattle.std.specs.Prelude.{◌≡◌, ◌≢◌, ◌⊎◌, ℕ, List, [], ◌∷◌, ◌++◌, codes, map};
 ghost use Rattle.tbr_model.specs.declared.white_space.WhiteSpace.TheVariants.{Pre};
-ghost use Rattle.tbr_model.specs.Run.{Item};
+ghost use Rattle.tbr_model.specs.Codes.{space_character};
+ghost use Rattle.tbr_model.specs.Run.{Item, glyph};
 ghost use Rattle.tbr_model.specs.Hard.{letters_of};
 ghost use Rattle.tbr_lines.specs.Elements.{text_items};
 ghost use Rattle.tbr_lines.specs.State.{text_entries};
@@ -73,6 +74,20 @@ pub fn spaces_stay<T>()
         ¬ (MayEnd 8 (text_entries (codes "  ab  c ") a b Pre) (text_items (codes "  ab c ") a ∷ []) names) }
     ensures behind { (a b : T) (names : List (List ℕ)) →
         ¬ (MayEnd 8 (text_entries (codes "  ab  c ") a b Pre) (text_items (codes "  ab  c") a ∷ []) names) }
+{}
+
+/// In a text of words and spaces, not cut, each word stands under its own annotation, and a space under one of the two
+/// that its run has.
+pub fn words_stand_under_their_annotations<T>()
+    ensures admitted { (a b : T) →
+        MayEnd 5 (text_entries (codes "ab cd") a b Pre) (text_items (codes "ab cd") a ∷ []) [] }
+    ensures ends { (a b : T) (lines : List (List (Item T))) (names : List (List ℕ)) →
+        MayEnd 5 (text_entries (codes "ab cd") a b Pre) lines names →
+        ((x : T) × (lines ≡ (text_items (codes "ab") a ++ glyph space_character x ∷ text_items (codes "cd") a) ∷ [])
+        × ((x ≡ a) ⊎ (x ≡ b))) × (names ≡ []) }
+    ensures no_continuation { (a b x : T) (names : List (List ℕ)) → a ≢ b →
+        ¬ (MayEnd 5 (text_entries (codes "ab cd") a b Pre)
+        ((text_items (codes "ab") a ++ glyph space_character x ∷ text_items (codes "cd") b) ∷ []) names) }
 {}
 
 /// A tab is spaces up to the next multiple of eight columns.
