@@ -8,3 +8,4 @@ pub mod MarkersAlone
 pub mod Columns
 pub mod LineEnds
 pub mod CutWords
+pub mod KeptOrder

@@ -9,7 +9,7 @@ ghost use Rattle.tbr_model.specs.Rule.{Event, run_of, Progress, enter, progress,
 ghost use Rattle.tbr_model.specs.declared.white_space.WhiteSpace.{WhiteSpace};
 ghost use Rattle.tbr_model.specs.declared.white_space.WhiteSpace.TheVariants.{Normal};
 ghost use Rattle.tbr_model.specs.Hard.{AllHaveMode, entry_letters, is_visible, ShowsVisible};
-ghost use Rattle.tbr_model.specs.Shown.{without_spaces, names_waiting, InventsNothing, run_shows_columns, HasColumns, columns_so_far, next_stop, is_newline_or_tab, HasOneMore, EndWhereFull, word_lines};
+ghost use Rattle.tbr_model.specs.Shown.{without_spaces, names_waiting, InventsNothing, ShowsInOrder, run_shows_columns, HasColumns, columns_so_far, next_stop, is_newline_or_tab, HasOneMore, EndWhereFull, word_lines};
 
 /// The visible characters of a run stand on its lines once, in order, each under an annotation of its call. Its
 /// markers stand there once, in order, or wait.
@@ -19,6 +19,14 @@ pub fn visible_characters_are_shown<T>()
     ensures markers { (columns : ℕ → Option ℕ) (width : ℕ) (es : List (Event T)) →
         names_in_items (joined (lines_of columns width es)) ++ names_waiting columns width es
         ≡ names_in_run (run_of es) }
+{}
+
+/// The visible characters and the markers of a run stand on its lines, and then wait, once and in their order. So each
+/// marker stands between the same visible characters.
+pub fn order_is_kept<T>()
+    ensures { (columns : ℕ → Option ℕ) (width : ℕ) (eq : T → T → Bool) → ((x : T) → eq x x ≡ true) →
+        (es : List (Event T)) → ShowsInOrder columns (λ a b. eq a b ≡ true) (run_of es)
+        (lines_of columns width es) (names_waiting columns width es) }
 {}
 
 /// The markers that wait where a run ends come behind its last visible character, and in a run of `Normal` alone behind
