@@ -44,10 +44,12 @@ pub fn no_break_spaces_break_no_line<T>()
 /// U+200B lets a line be broken, and leaves no space where none is.
 pub fn zero_width_spaces_leave_no_space<T>()
     ensures admitted { (a b : T) →
-        MayEnd 4 (text_entries (codes "ab" ++ zero_width_space ∷ codes "cd" ++ zero_width_space ∷ codes "ef") a b Normal)
+        MayEnd 4
+        (text_entries (codes "ab" ++ zero_width_space ∷ codes "cd" ++ zero_width_space ∷ codes "ef") a b Normal)
         (text_items (codes "abcd") a ∷ text_items (codes "ef") a ∷ []) [] }
     ensures ends { (a b : T) (lines : List (List (Item T))) (names : List (List ℕ)) →
-        MayEnd 4 (text_entries (codes "ab" ++ zero_width_space ∷ codes "cd" ++ zero_width_space ∷ codes "ef") a b Normal)
+        MayEnd 4
+        (text_entries (codes "ab" ++ zero_width_space ∷ codes "cd" ++ zero_width_space ∷ codes "ef") a b Normal)
         lines names →
         (lines ≡ text_items (codes "abcd") a ∷ text_items (codes "ef") a ∷ []) × (names ≡ []) }
     ensures no_space { (a b : T) (names : List (List ℕ)) →

@@ -9,3 +9,4 @@ pub mod Columns
 pub mod LineEnds
 pub mod CutWords
 pub mod KeptOrder
+pub mod OwnAnnotations

@@ -1,6 +1,7 @@
 //! The laws of what the lines of a run show, and what waits behind them, each as the contract of a function that does
 //! nothing.
 ghost use Rattle.std.specs.Prelude.{◌≡◌, ◌≢◌, ℕ, ◌≤◌, ◌⊎◌, Bool, true, false, Option, List, [], ◌++◌, length};
+ghost use Rattle.std.specs.List.{AllByRecursion as Each};
 ghost use Rattle.tbr_model.specs.Codes.{tab_character, newline_character};
 ghost use Rattle.tbr_model.specs.Run.{Entry, character, Item, is_kept, kept_items, trailing};
 ghost use Rattle.tbr_model.specs.Layout.{joined};
@@ -9,7 +10,7 @@ ghost use Rattle.tbr_model.specs.Rule.{Event, run_of, Progress, enter, progress,
 ghost use Rattle.tbr_model.specs.declared.white_space.WhiteSpace.{WhiteSpace};
 ghost use Rattle.tbr_model.specs.declared.white_space.WhiteSpace.TheVariants.{Normal};
 ghost use Rattle.tbr_model.specs.Hard.{AllHaveMode, entry_letters, is_visible, ShowsVisible};
-ghost use Rattle.tbr_model.specs.Shown.{without_spaces, names_waiting, InventsNothing, ShowsInOrder, run_shows_columns, HasColumns, columns_so_far, next_stop, is_newline_or_tab, HasOneMore, EndWhereFull, word_lines};
+ghost use Rattle.tbr_model.specs.Shown.{without_spaces, names_waiting, InventsNothing, ShowsInOrder, IsNotPre, ShowsOwn, run_shows_columns, HasColumns, columns_so_far, next_stop, is_newline_or_tab, HasOneMore, EndWhereFull, word_lines};
 
 /// The visible characters of a run stand on its lines once, in order, each under an annotation of its call. Its
 /// markers stand there once, in order, or wait.
@@ -27,6 +28,14 @@ pub fn order_is_kept<T>()
     ensures { (columns : ℕ → Option ℕ) (width : ℕ) (eq : T → T → Bool) → ((x : T) → eq x x ≡ true) →
         (es : List (Event T)) → ShowsInOrder columns (λ a b. eq a b ≡ true) (run_of es)
         (lines_of columns width es) (names_waiting columns width es) }
+{}
+
+/// Where no character of a run has the mode `Pre`, its visible characters stand on its lines once, in order, each under
+/// its own annotation.
+pub fn only_pre_is_continued<T>()
+    ensures { (columns : ℕ → Option ℕ) (width : ℕ) (eq : T → T → Bool) → ((x : T) → eq x x ≡ true) →
+        (es : List (Event T)) → Each IsNotPre (run_of es) →
+        ShowsOwn columns (λ a b. eq a b ≡ true) (run_of es) (lines_of columns width es) }
 {}
 
 /// The markers that wait where a run ends come behind its last visible character, and in a run of `Normal` alone behind
