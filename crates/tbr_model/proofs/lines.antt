@@ -10,3 +10,4 @@ pub mod LineEnds
 pub mod CutWords
 pub mod KeptOrder
 pub mod OwnAnnotations
+pub mod RunCharacters

@@ -2,7 +2,7 @@
 use Rattle.std.specs.Prelude.{◌≡◌, ◌≢◌, ℕ, ◌+◌, ◌-◌, ◌%◌, ◌<◌, ◌⊎◌, Bool, true, false, not, ◌&&◌, ◌||◌, ◌==◌, nat_lt, if◌then◌else◌, Option, unwrap_or, List, [], ◌∷◌, ◌++◌, filter, length, Contains}
 use Rattle.std.specs.Char.{is_whitespace}
 use Rattle.std.specs.List.{list_any, AllZip, AllByRecursion as Each}
-use Rattle.tbr_model.specs.Codes.{tab_character, newline_character}
+use Rattle.tbr_model.specs.Codes.{tab_character, newline_character, space_character}
 use Rattle.tbr_model.specs.declared.white_space.WhiteSpace.TheVariants.{Pre}
 use Rattle.tbr_model.specs.WhiteSpace.{preserves}
 use Rattle.tbr_model.specs.Run.{Entry, character, marker_entry, Item, glyph, marker, item_width, items_width}
@@ -36,6 +36,12 @@ ComesFrom columns Same run (marker name) = Contains run (marker_entry name)
 abbrev pub InventsNothing : {A : Type 0} →
     (ℕ → Option ℕ) → (A → A → Type 0) → List (Entry A) → List (List (Item A)) → Type 0
 InventsNothing columns Same run ls = Each (ComesFrom columns Same run) (joined ls)
+
+-- U+0020 or a character of the run, under an annotation of the run, or a marker of the run
+abbrev pub ComesWithRun : {A : Type 0} → (A → A → Type 0) → List (Entry A) → Item A → Type 0
+ComesWithRun Same run (glyph c x) =
+    HasAnnotation Same run x × ((c ≡ space_character) ⊎ Contains (entry_letters run) c)
+ComesWithRun Same run (marker name) = Contains run (marker_entry name)
 
 -- ---- order
 

@@ -10,7 +10,7 @@ ghost use Rattle.tbr_model.specs.Rule.{Event, run_of, Progress, enter, progress,
 ghost use Rattle.tbr_model.specs.declared.white_space.WhiteSpace.{WhiteSpace};
 ghost use Rattle.tbr_model.specs.declared.white_space.WhiteSpace.TheVariants.{Normal};
 ghost use Rattle.tbr_model.specs.Hard.{AllHaveMode, entry_letters, is_visible, ShowsVisible};
-ghost use Rattle.tbr_model.specs.Shown.{without_spaces, names_waiting, InventsNothing, ShowsInOrder, IsNotPre, ShowsOwn, run_shows_columns, HasColumns, columns_so_far, next_stop, is_newline_or_tab, HasOneMore, EndWhereFull, word_lines};
+ghost use Rattle.tbr_model.specs.Shown.{without_spaces, names_waiting, InventsNothing, ComesWithRun, ShowsInOrder, IsNotPre, ShowsOwn, run_shows_columns, HasColumns, columns_so_far, next_stop, is_newline_or_tab, HasOneMore, EndWhereFull, word_lines};
 
 /// The visible characters of a run stand on its lines once, in order, each under an annotation of its call. Its
 /// markers stand there once, in order, or wait.
@@ -62,6 +62,13 @@ pub fn normal_items_are_kept<T>()
 pub fn nothing_is_invented<T>()
     ensures { (columns : ℕ → Option ℕ) (width : ℕ) (eq : T → T → Bool) → ((x : T) → eq x x ≡ true) →
         (es : List (Event T)) → InventsNothing columns (λ a b. eq a b ≡ true) (run_of es) (lines_of columns width es) }
+{}
+
+/// Each character on the lines of a run is U+0020 or a character of the run, under an annotation that the run has.
+pub fn characters_come_with_the_run<T>()
+    ensures { (columns : ℕ → Option ℕ) (width : ℕ) (eq : T → T → Bool) → ((x : T) → eq x x ≡ true) →
+        (es : List (Event T)) →
+        Each (ComesWithRun (λ a b. eq a b ≡ true) (run_of es)) (joined (lines_of columns width es)) }
 {}
 
 /// A run without a character ends no line, and all its markers wait.
