@@ -4,8 +4,10 @@ pub use tbr_border::laws::{
     cell_has_two_arms, cells_keep_two_arms, chops_are_idempotent, joins_are_idempotent,
     joins_commute, stretching_appends,
 };
-pub use tbr_tagged::laws::copies_of_lists_are_equal;
+pub use tbr_tagged::laws::{
+    copies_of_lists_are_equal, equal_tags_mean_the_same, merged_pieces_have_characters,
+};
 pub use tbr_wrap::laws::{
     annotations_change_no_promise, handed_out_lines_have_ended, lines_are_handed_out_in_order,
-    lines_join_behind_those_left,
+    lines_join_behind_those_left, texts_are_shown_by_meaning,
 };

@@ -8,3 +8,6 @@ pub mod MarkersAlone
 pub mod Columns
 pub mod LineEnds
 pub mod CutWords
+pub mod KeptOrder
+pub mod OwnAnnotations
+pub mod RunCharacters

@@ -4,3 +4,4 @@ pub mod WaitingWord
 pub mod CutWord
 pub mod Tags
 pub mod HardLine
+pub mod OneCut

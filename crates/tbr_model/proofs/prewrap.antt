@@ -7,3 +7,4 @@ pub mod WrappedText
 pub mod PutText
 pub mod WrappedLines
 pub mod HardLine
+pub mod OneWay

@@ -1,15 +1,16 @@
 -- What the lines of a run show beside its visible characters and its markers, in every mode.
-use Rattle.std.specs.Prelude.{◌≡◌, ℕ, ◌+◌, ◌-◌, ◌%◌, ◌<◌, ◌⊎◌, Bool, true, false, not, ◌&&◌, ◌||◌, ◌==◌, nat_lt, if◌then◌else◌, Option, unwrap_or, List, [], ◌∷◌, ◌++◌, filter, length, Contains}
+use Rattle.std.specs.Prelude.{◌≡◌, ◌≢◌, ℕ, ◌+◌, ◌-◌, ◌%◌, ◌<◌, ◌⊎◌, Bool, true, false, not, ◌&&◌, ◌||◌, ◌==◌, nat_lt, if◌then◌else◌, Option, unwrap_or, List, [], ◌∷◌, ◌++◌, filter, length, Contains}
 use Rattle.std.specs.Char.{is_whitespace}
-use Rattle.std.specs.List.{list_any, AllByRecursion as Each}
-use Rattle.tbr_model.specs.Codes.{tab_character, newline_character}
+use Rattle.std.specs.List.{list_any, AllZip, AllByRecursion as Each}
+use Rattle.tbr_model.specs.Codes.{tab_character, newline_character, space_character}
+use Rattle.tbr_model.specs.declared.white_space.WhiteSpace.TheVariants.{Pre}
 use Rattle.tbr_model.specs.WhiteSpace.{preserves}
 use Rattle.tbr_model.specs.Run.{Entry, character, marker_entry, Item, glyph, marker, item_width, items_width}
 use Rattle.tbr_model.specs.Layout.{joined}
 use Rattle.tbr_model.specs.Laid.{nothing_laid, end_line, put_items}
 use Rattle.tbr_model.specs.Rule.{Event, Progress, is_space_item, pending_width, progress, waiting}
-use Rattle.tbr_model.specs.Markers.{names_in_items}
-use Rattle.tbr_model.specs.Hard.{entry_letters, is_visible, HasMain, HasContinuation}
+use Rattle.tbr_model.specs.Markers.{names_in_items, marker_items}
+use Rattle.tbr_model.specs.Hard.{entry_letters, is_visible, visible_glyphs, visible_entries, IsShown, HasMain, HasContinuation}
 
 -- without U+0020, as which gaps are laid
 abbrev pub without_spaces : {A : Type 0} → List (Item A) → List (Item A)
@@ -35,6 +36,57 @@ ComesFrom columns Same run (marker name) = Contains run (marker_entry name)
 abbrev pub InventsNothing : {A : Type 0} →
     (ℕ → Option ℕ) → (A → A → Type 0) → List (Entry A) → List (List (Item A)) → Type 0
 InventsNothing columns Same run ls = Each (ComesFrom columns Same run) (joined ls)
+
+-- U+0020 or a character of the run, under an annotation of the run, or a marker of the run
+abbrev pub ComesWithRun : {A : Type 0} → (A → A → Type 0) → List (Entry A) → Item A → Type 0
+ComesWithRun Same run (glyph c x) =
+    HasAnnotation Same run x × ((c ≡ space_character) ⊎ Contains (entry_letters run) c)
+ComesWithRun Same run (marker name) = Contains run (marker_entry name)
+
+-- ---- order
+
+-- a visible character, or a marker
+abbrev pub is_visible_or_marker : {A : Type 0} → (ℕ → Option ℕ) → Item A → Bool
+is_visible_or_marker columns (glyph c a) = is_visible columns c
+is_visible_or_marker columns (marker name) = true
+
+-- the same of an entry
+abbrev pub is_entry_to_show : {A : Type 0} → (ℕ → Option ℕ) → Entry A → Bool
+is_entry_to_show columns (character c a b m) = is_visible columns c
+is_entry_to_show columns (marker_entry name) = true
+
+-- a character stands under an annotation of its call, and a marker has its name
+abbrev pub ShowsEntry : {A : Type 0} → (A → A → Type 0) → Item A → Entry A → Type 0
+ShowsEntry Same (glyph c x) e = IsShown Same (c, x) e
+ShowsEntry Same (marker name) (character c a b m) = ⊥
+ShowsEntry Same (marker name) (marker_entry other) = name ≡ other
+
+-- The visible characters and the markers of a run stand in lines, and then wait, once and in their order: so a marker
+-- stands between the same visible characters.
+abbrev pub ShowsInOrder : {A : Type 0} → (ℕ → Option ℕ) → (A → A → Type 0) → List (Entry A)
+    → List (List (Item A)) → List (List ℕ) → Type 0
+ShowsInOrder columns Same run ls names =
+    AllZip (ShowsEntry Same)
+    (filter (is_visible_or_marker columns) (joined ls) ++ marker_items names)
+    (filter (is_entry_to_show columns) run)
+
+-- ---- own annotations
+
+-- a character's mode isn't `Pre`
+abbrev pub IsNotPre : {A : Type 0} → Entry A → Type 0
+IsNotPre (character c a b m) = m ≢ Pre
+IsNotPre (marker_entry name) = Unit {0}
+
+-- a character stands under its own annotation
+abbrev pub StandsUnderOwn : {A : Type 0} → (A → A → Type 0) → ℕ × A → Entry A → Type 0
+StandsUnderOwn Same g (character c a b m) = (g.0 ≡ c) × Same g.1 a
+StandsUnderOwn Same g (marker_entry name) = ⊥
+
+-- The visible characters of a run stand in lines once, in order, each under its own annotation.
+abbrev pub ShowsOwn : {A : Type 0} →
+    (ℕ → Option ℕ) → (A → A → Type 0) → List (Entry A) → List (List (Item A)) → Type 0
+ShowsOwn columns Same run ls =
+    AllZip (StandsUnderOwn Same) (visible_glyphs columns (joined ls)) (visible_entries columns run)
 
 -- ---- columns
 

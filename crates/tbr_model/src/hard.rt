@@ -1,12 +1,12 @@
 //! The laws of the rule by which a block goes on, each as the contract of a function that does nothing.
-ghost use Rattle.std.specs.Prelude.{◌≡◌, ◌≢◌, ℕ, ◌<◌, Bool, true, Option, Some, List, map};
+ghost use Rattle.std.specs.Prelude.{◌≡◌, ◌≢◌, ℕ, ◌<◌, Bool, true, Option, Some, List, [], map};
 ghost use Rattle.std.specs.List.{AllByRecursion as Each};
 ghost use Rattle.tbr_model.specs.declared.white_space.WhiteSpace.{WhiteSpace};
 ghost use Rattle.tbr_model.specs.declared.white_space.WhiteSpace.TheVariants.{Normal, Pre, PreWrap};
 ghost use Rattle.tbr_model.specs.Codes.{space_character};
 ghost use Rattle.tbr_model.specs.Layout.{Slot, slots_of, line_text, AllItemsFit, IsBest};
 ghost use Rattle.tbr_model.specs.Rule.{Event, run_of, lines_of};
-ghost use Rattle.tbr_model.specs.Hard.{AllHaveMode, Preserves, hard_lines, Parted, ShowsHardLine, ShowsPre, ShowsPreWrap, ShowsTabs};
+ghost use Rattle.tbr_model.specs.Hard.{AllHaveMode, Preserves, hard_lines, Parted, IsCutEvery, IsWrapped, ShowsHardLine, ShowsPre, ShowsPreWrap, ShowsTabs};
 
 /// In a run of preserving modes each hard line has lines of its own. Its visible characters stand there once, in order,
 /// each under an annotation of its call. A newline ends a line, even an empty one. Spaces alone leave an empty line
@@ -54,4 +54,12 @@ pub fn rule_is_best<T>()
         AllHaveMode Normal (run_of es) → AllItemsFit columns width (run_of es) →
         (lines : List (List (Slot T))) × IsBest width (slots_of columns width (run_of es)) lines
         × (lines_of columns width es ≡ map line_text lines) }
+{}
+
+/// There is only one way to cut a text after every `width` characters, and only one way to wrap it.
+pub fn texts_wrap_in_one_way()
+    ensures cut { (width : ℕ) (text : List ℕ) (lines others : List (List ℕ)) →
+        IsCutEvery width text lines → IsCutEvery width text others → others ≡ lines }
+    ensures wrapped { (width : ℕ) (text : List ℕ) (lines others : List (List ℕ)) →
+        IsWrapped width [] text lines → IsWrapped width [] text others → others ≡ lines }
 {}

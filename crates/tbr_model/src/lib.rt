@@ -5,7 +5,7 @@ pub use best::best_layout;
 pub use entry::Entry;
 pub use hard::{
     hard_lines_are_shown, pre_lines_are_shown, prewrap_lines_are_shown, rule_is_best,
-    tabs_are_shown,
+    tabs_are_shown, texts_wrap_in_one_way,
 };
 pub use history::History;
 pub use laws::{
@@ -16,8 +16,10 @@ pub use laws::{
 pub use layout::{is_legal, is_legal_line, line_width};
 pub use mapped::{annotations_change_no_hard_line, annotations_change_no_layout};
 pub use shown::{
-    columns_are_shown, lines_end_where_full, markers_alone_end_no_line, normal_items_are_kept,
-    nothing_is_invented, visible_characters_are_shown, waiting_markers_end_a_run,
+    characters_come_with_the_run, columns_are_shown, lines_end_where_full,
+    markers_alone_are_trailing, markers_alone_end_no_line, normal_items_are_kept,
+    nothing_is_invented, only_pre_is_continued, order_is_kept, visible_characters_are_shown,
+    waiting_markers_end_a_run,
 };
 pub use slot::Slot;
 pub use white_space::WhiteSpace;

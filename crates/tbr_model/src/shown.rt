@@ -1,15 +1,16 @@
 //! The laws of what the lines of a run show, and what waits behind them, each as the contract of a function that does
 //! nothing.
-ghost use Rattle.std.specs.Prelude.{◌≡◌, ◌≢◌, ℕ, ◌≤◌, ◌⊎◌, Bool, true, false, Option, List, [], ◌++◌};
+ghost use Rattle.std.specs.Prelude.{◌≡◌, ◌≢◌, ℕ, ◌≤◌, ◌⊎◌, Bool, true, false, Option, List, [], ◌++◌, length};
+ghost use Rattle.std.specs.List.{AllByRecursion as Each};
 ghost use Rattle.tbr_model.specs.Codes.{tab_character, newline_character};
-ghost use Rattle.tbr_model.specs.Run.{Entry, character, Item, is_kept, kept_items};
+ghost use Rattle.tbr_model.specs.Run.{Entry, character, Item, is_kept, kept_items, trailing};
 ghost use Rattle.tbr_model.specs.Layout.{joined};
-ghost use Rattle.tbr_model.specs.Markers.{names_in_items, names_in_run, names_behind};
+ghost use Rattle.tbr_model.specs.Markers.{names_in_items, names_in_run, names_behind, marker_items, marker_run, without_last_markers};
 ghost use Rattle.tbr_model.specs.Rule.{Event, run_of, Progress, enter, progress, finished, lines_of, waiting};
 ghost use Rattle.tbr_model.specs.declared.white_space.WhiteSpace.{WhiteSpace};
 ghost use Rattle.tbr_model.specs.declared.white_space.WhiteSpace.TheVariants.{Normal};
 ghost use Rattle.tbr_model.specs.Hard.{AllHaveMode, entry_letters, is_visible, ShowsVisible};
-ghost use Rattle.tbr_model.specs.Shown.{without_spaces, names_waiting, InventsNothing, run_shows_columns, HasColumns, columns_so_far, next_stop, is_newline_or_tab, HasOneMore, EndWhereFull, word_lines};
+ghost use Rattle.tbr_model.specs.Shown.{without_spaces, names_waiting, InventsNothing, ComesWithRun, ShowsInOrder, IsNotPre, ShowsOwn, run_shows_columns, HasColumns, columns_so_far, next_stop, is_newline_or_tab, HasOneMore, EndWhereFull, word_lines};
 
 /// The visible characters of a run stand on its lines once, in order, each under an annotation of its call. Its
 /// markers stand there once, in order, or wait.
@@ -19,6 +20,22 @@ pub fn visible_characters_are_shown<T>()
     ensures markers { (columns : ℕ → Option ℕ) (width : ℕ) (es : List (Event T)) →
         names_in_items (joined (lines_of columns width es)) ++ names_waiting columns width es
         ≡ names_in_run (run_of es) }
+{}
+
+/// The visible characters and the markers of a run stand on its lines, and then wait, once and in their order. So each
+/// marker stands between the same visible characters.
+pub fn order_is_kept<T>()
+    ensures { (columns : ℕ → Option ℕ) (width : ℕ) (eq : T → T → Bool) → ((x : T) → eq x x ≡ true) →
+        (es : List (Event T)) → ShowsInOrder columns (λ a b. eq a b ≡ true) (run_of es)
+        (lines_of columns width es) (names_waiting columns width es) }
+{}
+
+/// Where no character of a run has the mode `Pre`, its visible characters stand on its lines once, in order, each under
+/// its own annotation.
+pub fn only_pre_is_continued<T>()
+    ensures { (columns : ℕ → Option ℕ) (width : ℕ) (eq : T → T → Bool) → ((x : T) → eq x x ≡ true) →
+        (es : List (Event T)) → Each IsNotPre (run_of es) →
+        ShowsOwn columns (λ a b. eq a b ≡ true) (run_of es) (lines_of columns width es) }
 {}
 
 /// The markers that wait where a run ends come behind its last visible character, and in a run of `Normal` alone behind
@@ -47,6 +64,13 @@ pub fn nothing_is_invented<T>()
         (es : List (Event T)) → InventsNothing columns (λ a b. eq a b ≡ true) (run_of es) (lines_of columns width es) }
 {}
 
+/// Each character on the lines of a run is U+0020 or a character of the run, under an annotation that the run has.
+pub fn characters_come_with_the_run<T>()
+    ensures { (columns : ℕ → Option ℕ) (width : ℕ) (eq : T → T → Bool) → ((x : T) → eq x x ≡ true) →
+        (es : List (Event T)) →
+        Each (ComesWithRun (λ a b. eq a b ≡ true) (run_of es)) (joined (lines_of columns width es)) }
+{}
+
 /// A run without a character ends no line, and all its markers wait.
 pub fn markers_alone_end_no_line<T>()
     ensures under_way { (columns : ℕ → Option ℕ) (width : ℕ) (es : List (Event T)) →
@@ -55,6 +79,16 @@ pub fn markers_alone_end_no_line<T>()
         entry_letters (run_of es) ≡ [] → lines_of columns width es ≡ [] }
     ensures wait { (columns : ℕ → Option ℕ) (width : ℕ) (es : List (Event T)) →
         entry_letters (run_of es) ≡ [] → names_waiting columns width es ≡ names_in_run (run_of es) }
+{}
+
+/// A run of markers alone counts as `Normal`, all its markers are trailing, and without them it is empty.
+pub fn markers_alone_are_trailing<T>()
+    ensures normal { (names : List (List ℕ)) → AllHaveMode {A = T} Normal (marker_run names) }
+    ensures trailing { (columns : ℕ → Option ℕ) (names : List (List ℕ)) →
+        trailing {A = T} columns (marker_run names) ≡ marker_items names }
+    ensures names { (names : List (List ℕ)) → names_in_run {A = T} (marker_run names) ≡ names }
+    ensures taken_out { (names : List (List ℕ)) →
+        without_last_markers {A = T} (length names) (marker_run names) ≡ [] }
 {}
 
 /// Where a visible character that takes columns came, a line has ended, or the open line or the word takes columns.

@@ -1,9 +1,11 @@
--- Mapping tags keeps texts and columns.
-use Rattle.std.proofs.Common.{◌≡◌, ℕ, Option, List, [], ◌∷◌, ◌++◌, refl, ap, sym, ◌∙◌, arith}
-use Rattle.tbr_model.specs.Run.{items_width}
+-- Mapping tags keeps texts and columns, and makes equal tags the same where they mean the same.
+use Rattle.std.proofs.Common.{◌≡◌, ℕ, Bool, Option, List, [], ◌∷◌, ◌++◌, refl, ap, sym, ◌∙◌, arith}
+use Rattle.std.specs.List.{AllZip}
+use Rattle.tbr_model.specs.Run.{Item, glyph, marker, items_width, has_character}
+use Rattle.tbr_model.specs.Mapped.{map_item, map_items, map_lines}
 use Rattle.tbr_model.specs.Width.{width_of_text}
-use Rattle.tbr_tagged.specs.Elements.{Element, piece, marker_element, element_items, element_characters, items_of, characters}
-use Rattle.tbr_tagged.specs.Mapped.{MapsElement, MapsElements}
+use Rattle.tbr_tagged.specs.Elements.{Element, piece, marker_element, element_items, element_characters, items_of, characters, has_piece, SameItem, SameItems, IsMerged}
+use Rattle.tbr_tagged.specs.Mapped.{MapsElement, MapsElements, MeansEqual}
 use Rattle.tbr_tagged.proofs.TextColumns.{items_width-text}
 use Rattle.tbr_model.proofs.words.Items.{items_width-append}
 
@@ -38,3 +40,38 @@ module _ {A B : Type 0} (gives : A → B → Type 0) where
         mapped_columns columns e f h.0,
         mapped_width columns es fs h.1,
       )
+
+module _ {A B : Type 0} (f : A → B) (eq : A → A → Bool) (means : MeansEqual f eq) where
+  means_same_item : (i j : Item A) → SameItem eq i j → map_item f i ≡ map_item f j
+  means_same_item (glyph c a) (glyph d b) h =
+      let letter : c ≡ d = h.0 in
+      let under : f a ≡ f b = means a b h.1 in
+      cc
+  means_same_item (marker m) (marker n) h = ap marker h
+  means_same_item (glyph c a) (marker n) h = absurd h
+  means_same_item (marker m) (glyph d b) h = absurd h
+
+  pub means_same_items : (is js : List (Item A)) → SameItems eq is js → map_items f is ≡ map_items f js
+  means_same_items [] [] h = refl
+  means_same_items [] (j ∷ js) h = absurd h
+  means_same_items (i ∷ is) [] h = absurd h
+  means_same_items (i ∷ is) (j ∷ js) h =
+      let first : map_item f i ≡ map_item f j = means_same_item i j h.0 in
+      let rest : map_items f is ≡ map_items f js = means_same_items is js h.1 in
+      cc
+
+  pub means_same_lines : (ls ms : List (List (Item A))) → AllZip (SameItems eq) ls ms → map_lines f ls ≡ map_lines f ms
+  means_same_lines [] [] h = refl
+  means_same_lines [] (m ∷ ms) h = absurd h
+  means_same_lines (l ∷ ls) [] h = absurd h
+  means_same_lines (l ∷ ls) (m ∷ ms) h =
+      let first : map_items f l ≡ map_items f m = means_same_items l m h.0 in
+      let rest : map_lines f ls ≡ map_lines f ms = means_same_lines ls ms h.1 in
+      cc
+
+-- a merged piece has a character
+pub merged_piece_has : {A : Type 0} (eq : A → A → Bool) (es : List (Element A)) → IsMerged eq es → has_piece es ≡ has_character (items_of es)
+merged_piece_has eq [] h = refl
+merged_piece_has eq (piece [] a ∷ es) h = absurd h.0
+merged_piece_has eq (piece (c ∷ cs) a ∷ es) h = refl
+merged_piece_has eq (marker_element name ∷ es) h = merged_piece_has eq es h.2

@@ -1,5 +1,5 @@
--- Elements whose tags are mapped.
-use Rattle.std.specs.Prelude.{◌≡◌, List}
+-- Elements whose tags are mapped, and what tags mean.
+use Rattle.std.specs.Prelude.{◌≡◌, Bool, true, List}
 use Rattle.std.specs.List.{AllZip}
 use Rattle.tbr_tagged.specs.Elements.{Element, piece, marker_element}
 
@@ -13,3 +13,7 @@ MapsElement gives (marker_element m) (piece ds b) = ⊥
 -- each element of a line is mapped, in order
 abbrev pub MapsElements : {A B : Type 0} → (A → B → Type 0) → List (Element A) → List (Element B) → Type 0
 MapsElements gives = AllZip (MapsElement gives)
+
+-- Equal tags mean the same.
+abbrev pub MeansEqual : {A B : Type 0} → (A → B) → (A → A → Bool) → Type 0
+MeansEqual {A} f eq = (x y : A) → eq x y ≡ true → f x ≡ f y

@@ -3,3 +3,4 @@ pub mod EndedRuns
 pub mod LinesLeft
 pub mod MappedRuns
 pub mod NormalRuns
+pub mod ShownMeanings

@@ -1,7 +1,12 @@
 //! The laws of blocks, each as the contract of a function that does nothing.
-ghost use Rattle.std.specs.Prelude.{◌≡◌, ◌≢◌, ◌↔◌, ℕ, ◌++◌, [], Bool, Option, List, take};
+ghost use Rattle.std.specs.Prelude.{◌≡◌, ◌≢◌, ◌↔◌, ℕ, ◌++◌, [], Bool, Option, List, map, take};
+ghost use Rattle.std.specs.Option.{option_map};
+ghost use Rattle.std.specs.List.{AllZip};
 ghost use Rattle.tbr_model.specs.Run.{Item, Entry};
-ghost use Rattle.tbr_model.specs.Mapped.{map_lines};
+ghost use Rattle.tbr_model.specs.Mapped.{map_items, map_lines};
+ghost use Rattle.tbr_tagged.specs.Elements.{Element, items_of};
+ghost use Rattle.tbr_tagged.specs.Mapped.{MeansEqual};
+ghost use Rattle.tbr_wrap.specs.Wrapped.{ShowsText, padding_of};
 ghost use Rattle.tbr_wrap.specs.State.{State, map_state, empty_block, JoinsRun, JoinsAsMarker, EndsRun, loose_taken, lines_left, line_taken, lines_taken, HandsOutEnded, run_flushed};
 
 /// The lines that are handed out one by one, and then those that are left, are in order those that were left before;
@@ -41,4 +46,20 @@ pub fn annotations_change_no_promise<A, B>()
     ensures { (f : A → B) (columns : ℕ → Option ℕ) (s : State A) (texts : List (List (Item A)))
         (names : List (List ℕ)) → EndsRun columns s texts names →
         EndsRun columns (map_state f s) (map_lines f texts) names }
+{}
+
+/// A line that is handed out has its text and its padding exactly, under what the tags mean, where equal tags mean the
+/// same.
+pub fn texts_are_shown_by_meaning<A, B>()
+    ensures line { (f : A → B) (eq : A → A → Bool) → MeansEqual f eq →
+        (columns : ℕ → Option ℕ) (padding : Option A) (width : ℕ) (es : List (Element A)) (is : List (Item A)) →
+        ShowsText columns eq padding width es is →
+        map_items f (items_of es)
+        ≡ map_items f is ++ padding_of columns (option_map f padding) width (map_items f is) }
+    ensures lines { (f : A → B) (eq : A → A → Bool) → MeansEqual f eq →
+        (columns : ℕ → Option ℕ) (padding : Option A) (width : ℕ)
+        (lines : List (List (Element A))) (texts : List (List (Item A))) →
+        AllZip (ShowsText columns eq padding width) lines texts →
+        map (λ es. map_items f (items_of es)) lines
+        ≡ map (λ is. map_items f is ++ padding_of columns (option_map f padding) width (map_items f is)) texts }
 {}

@@ -1,0 +1,48 @@
+-- Items without a marker are their letters, each under an annotation.
+use Rattle.std.proofs.Common.{◌≡◌, ℕ, ◌⊎◌, inl, inr, true, false, List, [], ◌∷◌, map, refl, sym, ◌∙◌}
+use Rattle.std.specs.List.{AllByRecursion as Each}
+use Rattle.std.proofs.lemmas.List.Elements.{All-contains, All-from_recursion}
+use Rattle.tbr_model.specs.declared.white_space.WhiteSpace.{WhiteSpace}
+use Rattle.tbr_model.specs.Run.{Entry, Item, glyph, marker}
+use Rattle.tbr_model.specs.Markers.{names_in_items}
+use Rattle.tbr_model.specs.Hard.{letters_of, is_visible, HasMain, HasContinuation}
+use Rattle.tbr_model.specs.Shown.{ComesFrom}
+use Rattle.tbr_lines.specs.State.{text_entries}
+use Rattle.small_runs.specs.Small.{small_columns}
+
+-- the letters are these, each under some annotation
+abbrev pub Annotates : {A : Type 0} → List ℕ → (List (Item A) → Type 0) → Type 0
+Annotates [] P = P []
+Annotates {A} (c ∷ cs) P = (x : A) × Annotates cs (λ is. P (glyph c x ∷ is))
+
+pub annotated : {A : Type 0} (P : List (Item A) → Type 0) (cs : List ℕ) (is : List (Item A)) → names_in_items is ≡ [] → letters_of is ≡ cs → P is → Annotates cs P
+annotated P [] [] n e h = h
+annotated P [] (glyph c x ∷ is) n e h = cc
+annotated P [] (marker name ∷ is) n e h = cc
+annotated P (c ∷ cs) [] n e h = cc
+annotated P (c ∷ cs) (marker name ∷ is) n e h = cc
+annotated {A} P (c ∷ cs) (glyph d x ∷ is) n e h =
+    let same : d ≡ c = cc in
+    let rest : letters_of is ≡ cs = cc in
+    let moved : P (glyph c x ∷ is) = rw same at h in
+    (x, annotated (λ js. P (glyph c x ∷ js)) cs is n rest moved)
+
+-- one line of known letters
+pub one_line : {A : Type 0} (cs : List ℕ) (lines : List (List (Item A))) → map letters_of lines ≡ cs ∷ [] → (line : List (Item A)) × (lines ≡ line ∷ []) × (letters_of line ≡ cs)
+one_line cs [] e = cc
+one_line cs (l ∷ []) e = (l, refl, (let p : letters_of l ≡ cs = cc in p))
+one_line cs (l ∷ m ∷ ls) e = cc
+
+-- ---- white space under an annotation of its text
+
+each_either : {A : Type 0} (cs : List ℕ) (a b x : A) (mode : WhiteSpace) →
+    Each (λ e. HasMain (λ p q. p ≡ q) e x ⊎ HasContinuation (λ p q. p ≡ q) e x → (x ≡ a) ⊎ (x ≡ b)) (text_entries cs a b mode)
+each_either [] a b x mode = tt
+each_either (c ∷ cs) a b x mode = ((λ h. h), each_either cs a b x mode)
+
+pub white_under : {A : Type 0} (cs : List ℕ) (a b : A) (mode : WhiteSpace) (c : ℕ) (x : A) → is_visible small_columns c ≡ false →
+    ComesFrom small_columns (λ p q. p ≡ q) (text_entries cs a b mode) (glyph c x) → (x ≡ a) ⊎ (x ≡ b)
+white_under cs a b mode c x hidden (inl e) = absurd (let t : true ≡ false = sym e ∙ hidden in cc)
+white_under {A} cs a b mode c x hidden (inr e) =
+    let P : Entry A → Type 0 = λ f. HasMain (λ p q. p ≡ q) f x ⊎ HasContinuation (λ p q. p ≡ q) f x → (x ≡ a) ⊎ (x ≡ b) in
+    All-contains P (text_entries cs a b mode) e.1.0 (All-from_recursion P (text_entries cs a b mode) (each_either cs a b x mode)) e.1.1 e.1.2

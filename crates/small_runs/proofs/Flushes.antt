@@ -1,0 +1,21 @@
+-- What every flush that may end a small run says of its lines and its markers.
+use Rattle.std.proofs.Common.{◌≡◌, ℕ, false, List, ◌++◌}
+use Rattle.tbr_model.specs.Run.{Entry, Item, trailing}
+use Rattle.tbr_model.specs.Layout.{joined}
+use Rattle.tbr_model.specs.Markers.{names_in_items, names_in_run, marker_items}
+use Rattle.tbr_model.specs.Shown.{InventsNothing}
+use Rattle.tbr_lines.specs.State.{IsNormal, IsShownBy}
+use Rattle.small_runs.specs.Small.{small_columns, MayEnd}
+
+module _ {A : Type 0} (width : ℕ) (run : List (Entry A)) (lines : List (List (Item A))) (names : List (List ℕ)) where
+  pub shown : MayEnd width run lines names → IsShownBy small_columns width false run lines
+  shown h = rw (h.of_width, h.no_wider, h.of_run, h.in_all) at h.ends.shown
+
+  pub invents : MayEnd width run lines names → InventsNothing small_columns (λ a b. a ≡ b) run lines
+  invents h = rw (h.of_run, h.in_all) at h.ends.invents
+
+  pub markers : MayEnd width run lines names → names_in_items (joined lines) ++ names ≡ names_in_run run
+  markers h = rw (h.of_run, h.in_all) at h.ends.markers
+
+  pub waits : IsNormal run → MayEnd width run lines names → marker_items names ≡ trailing small_columns run
+  waits n h = rw (h.of_run) at (h.ends.waits h.no_wider (rw (h.of_run) n))

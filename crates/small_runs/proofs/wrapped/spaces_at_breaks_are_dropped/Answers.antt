@@ -1,0 +1,37 @@
+use Rattle.std.proofs.Common.{◌≡◌, ℕ, List, [], ◌∷◌, codes, map, inl, inr, refl, ap, ◌∙◌, arith}
+use Rattle.tbr_model.specs.Rule.{entry}
+use Rattle.tbr_model.specs.declared.white_space.WhiteSpace.TheVariants.{PreWrap}
+use Rattle.tbr_model.specs.Run.{Item}
+use Rattle.tbr_model.specs.Hard.{letters_of, IsWrapped}
+use Rattle.tbr_model.proofs.prewrap.OneWay.{wrapped_in_one_way}
+use Rattle.tbr_lines.specs.Elements.{text_items}
+use Rattle.tbr_lines.specs.State.{text_entries}
+use Rattle.small_runs.proofs.Admitted.{may_end}
+use Rattle.small_runs.specs.Small.{MayEnd}
+use Rattle.small_runs.proofs.Flushes.{shown}
+use Rattle.small_runs.proofs.PrintableTexts.{printable_line, text_has_mode}
+use Rattle.small_runs.proofs.PreRuns.{none_waits, lines_by_letters}
+use Rattle.small_runs.proofs.OtherLines.{texts_differ}
+use Rattle.small_runs.proofs.wrapped.spaces_at_breaks_are_dropped.Goals as goal
+
+wraps : IsWrapped 5 [] (codes " ab  cd ") (codes " ab" ∷ codes "cd" ∷ [])
+wraps = (0, codes "  cd ", refl, omega arith, omega arith, inl (refl, refl), (2, codes " ", refl, omega arith, omega arith, inr (omega arith, omega arith, λ e. absurd (omega arith)), (refl, tt)))
+
+letters : {A : Type 0} (a b : A) (lines : List (List (Item A))) (names : List (List ℕ)) → MayEnd 5 (text_entries (codes " ab  cd ") a b PreWrap) lines names →
+    map letters_of lines ≡ codes " ab" ∷ codes "cd" ∷ []
+letters a b lines names h =
+    let wrapped : IsWrapped 5 [] (codes " ab  cd ") (map letters_of lines) =
+    ((shown 5 (text_entries (codes " ab  cd ") a b PreWrap) lines names h).prewrap (text_has_mode (codes " ab  cd ") a b PreWrap)).wrapped
+    (printable_line (codes " ab  cd ") a b PreWrap refl) (λ spaces. omega (arith, spaces.1.0)) in
+    wrapped_in_one_way 5 [] (codes " ab  cd ") (codes " ab" ∷ codes "cd" ∷ []) (map letters_of lines) wraps wrapped
+
+pub returns : goal.returns
+returns g c = record {
+  admitted = λ a b. may_end 5 (omega arith) (map entry (text_entries (codes " ab  cd ") a b PreWrap)) (inl (omega arith), (inl (omega arith), tt));
+  letters = λ a b lines names h. (letters a b lines names h, none_waits 5 (codes " ab  cd ") a b PreWrap lines names h);
+  ends = λ a lines names h. lines_by_letters 5 (codes " ab  cd ") a PreWrap lines names h ∙ ap (map (λ ds. text_items ds a)) (letters a a lines names h);
+  not_behind_a_line = λ a b names h. texts_differ _ _ refl (letters a b _ names h);
+  not_before_a_line = λ a b names h. texts_differ _ _ refl (letters a b _ names h);
+  not_behind_the_text = λ a b names h. texts_differ _ _ refl (letters a b _ names h);
+  in_front = λ a b names h. texts_differ _ _ refl (letters a b _ names h);
+}

@@ -1,0 +1,35 @@
+use Rattle.std.proofs.Common.{◌≡◌, ℕ, List, [], ◌∷◌, codes, map, inl, inr, refl, ap, ◌∙◌, arith}
+use Rattle.tbr_model.specs.Rule.{entry}
+use Rattle.tbr_model.specs.declared.white_space.WhiteSpace.TheVariants.{PreWrap}
+use Rattle.tbr_model.specs.Run.{Item}
+use Rattle.tbr_model.specs.Hard.{letters_of, IsWrapped}
+use Rattle.tbr_model.proofs.prewrap.OneWay.{wrapped_in_one_way}
+use Rattle.tbr_lines.specs.Elements.{text_items}
+use Rattle.tbr_lines.specs.State.{text_entries}
+use Rattle.small_runs.proofs.Admitted.{may_end}
+use Rattle.small_runs.specs.Small.{MayEnd}
+use Rattle.small_runs.proofs.Flushes.{shown}
+use Rattle.small_runs.proofs.PrintableTexts.{printable_line, text_has_mode}
+use Rattle.small_runs.proofs.PreRuns.{none_waits, lines_by_letters}
+use Rattle.small_runs.proofs.OtherLines.{texts_differ}
+use Rattle.small_runs.proofs.wrapped.spaces_within_lines_stay.Goals as goal
+
+wraps : IsWrapped 6 [] (codes "ab  cd ef") (codes "ab  cd" ∷ codes "ef" ∷ [])
+wraps = (0, codes " ef", refl, omega arith, omega arith, inl (refl, refl), (1, [], refl, omega arith, omega arith, inr (omega arith, omega arith, λ e. absurd (omega arith)), tt))
+
+letters : {A : Type 0} (a b : A) (lines : List (List (Item A))) (names : List (List ℕ)) → MayEnd 6 (text_entries (codes "ab  cd ef") a b PreWrap) lines names →
+    map letters_of lines ≡ codes "ab  cd" ∷ codes "ef" ∷ []
+letters a b lines names h =
+    let wrapped : IsWrapped 6 [] (codes "ab  cd ef") (map letters_of lines) =
+    ((shown 6 (text_entries (codes "ab  cd ef") a b PreWrap) lines names h).prewrap (text_has_mode (codes "ab  cd ef") a b PreWrap)).wrapped
+    (printable_line (codes "ab  cd ef") a b PreWrap refl) (λ spaces. omega (arith, spaces.0)) in
+    wrapped_in_one_way 6 [] (codes "ab  cd ef") (codes "ab  cd" ∷ codes "ef" ∷ []) (map letters_of lines) wraps wrapped
+
+pub returns : goal.returns
+returns g c = record {
+  admitted = λ a b. may_end 6 (omega arith) (map entry (text_entries (codes "ab  cd ef") a b PreWrap)) (inl (omega arith), (inl (omega arith), tt));
+  letters = λ a b lines names h. (letters a b lines names h, none_waits 6 (codes "ab  cd ef") a b PreWrap lines names h);
+  ends = λ a lines names h. lines_by_letters 6 (codes "ab  cd ef") a PreWrap lines names h ∙ ap (map (λ ds. text_items ds a)) (letters a a lines names h);
+  not_one = λ a b names h. texts_differ _ _ refl (letters a b _ names h);
+  not_moved = λ a b names h. texts_differ _ _ refl (letters a b _ names h);
+}
