@@ -1,5 +1,5 @@
 -- Lines of a block that join those of a renderer.
-use Rattle.std.proofs.Common.{◌≡◌, ℕ, ◌-◌, Bool, true, Option, None, Some, List, [], ◌∷◌, ◌++◌, map, fold, drop, refl, ap, sym, ◌∙◌, subst, append_assoc, append-nil}
+use Rattle.std.proofs.Common.{◌≡◌, ℕ, ◌-◌, Bool, true, false, Option, None, Some, List, [], ◌∷◌, ◌++◌, map, fold, drop, refl, ap, sym, ◌∙◌, subst, append_assoc, append-nil}
 use Rattle.std.specs.Global.{Vec}
 use Rattle.std.proofs.lemmas.List.{map-append}
 use Rattle.std.proofs.lemmas.Grind.{fold-append}
@@ -14,10 +14,11 @@ use Rattle.tbr_lines.specs.State.{State, EndsRun, lines_left, line_taken, loose_
 use Rattle.tbr_lines.specs.Wrapped.{ShowsText, padding_of}
 use Rattle.tbr_lines.proofs.LinesLeft.{lines_left-taken, taken_failure, taken_padding, taken_width}
 use Rattle.tbr_lines.proofs.MappedRuns.{ends_run-map}
-use Rattle.text_block_renderer.specs.Renderer.{Open, Renderer, with_line, block_width, may_overflow}
+use Rattle.text_block_renderer.specs.Renderer.{Open, Renderer, has_content, with_line, block_width, may_overflow}
 use Rattle.text_block_renderer.specs.Meant.{tag_meant, items_meant, map_open, meant}
 use Rattle.text_block_renderer.specs.View.{block_seen, names_of, AreMarkers, IsFresh}
-use Rattle.text_block_renderer.specs.Flush.{line_meant, block_of_run, RunFits, RunIsTooNarrow, EndsBlock, FlushesBlock, Flushes, BlockIsTooNarrow, FlushIsTooNarrow}
+use Rattle.text_block_renderer.specs.Flush.{line_meant, block_lines, block_of_run, RunFits, RunIsTooNarrow, EndsBlock, FlushesBlock, Flushes, BlockIsTooNarrow, FlushIsTooNarrow}
+use Rattle.text_block_renderer.specs.Steps.{block_started, StartsBlock}
 use Rattle.text_block_renderer.proofs.Meanings.{same_meaning, text_items-map}
 use Rattle.text_block_renderer.proofs.Fits.{run_fits-map, run_is_too_narrow-map}
 
@@ -140,3 +141,21 @@ module _ {D A M : Type 0} (f : A → M) (columns : ℕ → Option ℕ) (r : Rend
       subst (λ (o : Option (Open (Vec A))). BlockIsTooNarrow columns (meant f r) (option_map (map_open (tag_meant f)) o)) seen
       (run_is_too_narrow-map (tag_meant f) columns (block_width r) (may_overflow r) b.run
       (subst (λ (w : ℕ). RunIsTooNarrow columns w (may_overflow r) b.run) fresh.width_is (subst (λ (o : Bool). RunIsTooNarrow columns b.width o b.run) fresh.may_overflow narrow)))
+
+-- ---- the columns of blocks stay
+
+module _ {D A : Type 0} (columns : ℕ → Option ℕ) where
+  lines_width : (lines : List (List (Item (List A)))) (r : Renderer D A (List A)) → block_width (fold (with_line columns) r lines) ≡ block_width r
+  lines_width [] r = refl
+  lines_width (l ∷ ls) r = lines_width ls (with_line columns r l)
+
+  flush_width : (r s : Renderer D A (List A)) (o : Option (Open (List A))) → FlushesBlock columns r o s → block_width s ≡ block_width r
+  flush_width r s None h = ap block_width h
+  flush_width r s (Some b) h = ap block_width h.is ∙ lines_width (block_lines columns r b h.texts) (record r { block = None })
+
+  pub start_width : (r s : Renderer D A (List A)) → StartsBlock columns r s → block_width s ≡ block_width r
+  start_width r s h = ap block_width h.2 ∙ go (has_content h.0) refl ∙ flush_width r h.0 r.block h.1
+    where
+      go : (b : Bool) → has_content h.0 ≡ b → block_width (block_started columns h.0) ≡ block_width h.0
+      go true e = rw e refl
+      go false e = rw e refl

@@ -3,3 +3,5 @@ pub mod Fields
 pub mod Lines
 pub mod Fits
 pub mod Flushing
+pub mod Texts
+pub mod Writing

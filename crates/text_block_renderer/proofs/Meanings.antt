@@ -1,5 +1,5 @@
 -- What lines under lists of annotations mean.
-use Rattle.std.proofs.Common.{◌≡◌, ℕ, ◌-◌, ◌&&◌, ◌↔◌, Bool, true, false, not, if◌then◌else◌, IsTrue, Option, None, Some, List, [], ◌∷◌, ◌++◌, map, refl, ap, sym, ◌∙◌, subst}
+use Rattle.std.proofs.Common.{◌≡◌, arith, ℕ, ◌-◌, ◌&&◌, ◌↔◌, suc, length, slice_get, Bool, true, false, not, if◌then◌else◌, IsTrue, Option, None, Some, List, [], ◌∷◌, ◌++◌, map, refl, ap, sym, ◌∙◌, subst}
 use Rattle.std.specs.Global.{Vec}
 use Rattle.std.specs.Vec.{vec_items}
 use Rattle.std.specs.List.{list_any}
@@ -14,14 +14,16 @@ use Rattle.tbr_lines.specs.Copies.{equal_lists}
 use Rattle.tbr_model.specs.Markers.{marker_items}
 use Rattle.tbr_lines.specs.Elements.{Element, marker_element, items_of, text_items, SameItems}
 use Rattle.tbr_lines.specs.Padding.{spaces}
-use Rattle.text_block_renderer.specs.Renderer.{Line, text, border, line_has_content, Renderer, has_content, line_padding, with_line}
+use Rattle.tbr_model.specs.declared.white_space.WhiteSpace.{WhiteSpace}
+use Rattle.tbr_lines.specs.State.{State, empty_block}
+use Rattle.text_block_renderer.specs.Renderer.{Line, text, border, line_has_content, Renderer, has_content, line_padding, with_line, new_block, last_mode}
 use Rattle.text_block_renderer.specs.Steps.{with_empty_line, block_started}
-use Rattle.text_block_renderer.specs.Meant.{tag_meant, items_meant, map_hole, map_line, meant}
-use Rattle.text_block_renderer.specs.View.{names_of, AreMarkers}
+use Rattle.text_block_renderer.specs.Meant.{tag_meant, items_meant, map_hole, map_line, map_open, meant}
+use Rattle.text_block_renderer.specs.View.{names_of, AreMarkers, open_seen}
 
 -- equal lists of annotations mean the same
 module _ {A M : Type 0} (eq : A → A → Bool) (meaning : A → M) (by_meaning : (a b : A) → IsTrue (eq a b) ↔ (meaning a ≡ meaning b)) where
-  lists_mean : (xs ys : List A) → pointwise eq xs ys ≡ true → map meaning xs ≡ map meaning ys
+  pub lists_mean : (xs ys : List A) → pointwise eq xs ys ≡ true → map meaning xs ≡ map meaning ys
   lists_mean [] [] h = refl
   lists_mean [] (y ∷ ys) h = cc
   lists_mean (x ∷ xs) [] h = cc
@@ -126,3 +128,23 @@ module _ {D A M : Type 0} (f : A → M) (columns : ℕ → Option ℕ) (r : Rend
     where
       go : false ≡ has_content r → block_started columns (meant f r) ≡ record (meant f r) { block_ended = false }
       go k = rw (any_content-map f r.lines, ← k) refl
+
+-- ---- blocks that are opened
+
+module _ {D A M : Type 0} (f : A → M) (r : Renderer D A (Vec A)) where
+  pub opened_new : (v : Vec A) (pads : Bool) (b : State (Vec A)) (width : ℕ) (overflows : Bool) → pads ≡ r.options.pad_block_width → tag_meant f v ≡ map f r.annotations → b ≡ empty_block width overflows (if pads then Some v else None) →
+      map_open (tag_meant f) (open_seen b) ≡ new_block (meant f r)
+  opened_new v true b width overflows pads under is = ap (λ s. map_open (tag_meant f) (open_seen s)) is ∙ rw (← pads) (ap (λ (xs : List M). record { padding = Some xs; run = [] }) under)
+  opened_new v false b width overflows pads under is = ap (λ s. map_open (tag_meant f) (open_seen s)) is ∙ rw (← pads) refl
+
+-- ---- modes
+
+pub last_mode_is : (modes : List WhiteSpace) (mode : WhiteSpace) → Some mode ≡ slice_get modes (length modes - 1) → mode ≡ last_mode modes
+last_mode_is [] mode e = cc
+last_mode_is (m ∷ []) mode e =
+    let zeroth : length (m ∷ []) - 1 ≡ 0 = omega (arith) in
+    let here : Some mode ≡ Some m = e ∙ ap (slice_get (m ∷ [])) zeroth in
+    cc
+last_mode_is (m ∷ n ∷ modes) mode e =
+    let next : length (m ∷ n ∷ modes) - 1 ≡ suc (length (n ∷ modes) - 1) = omega (arith) in
+    last_mode_is (n ∷ modes) mode (e ∙ ap (slice_get (m ∷ n ∷ modes)) next)

@@ -35,6 +35,10 @@ pub record RunStops {T : Type 0} (columns : ℕ → Option ℕ) (width : ℕ) (o
   pub wide : ¬ (CharactersFit columns width run)
   pub words : IsNormal run → ¬ (EndedWordsFit columns width run)
 
+-- entries join the run of an open block
+abbrev pub with_run : {T : Type 0} → Open T → List (Entry T) → Open T
+with_run b es = record b { run = b.run ++ es }
+
 -- lines of a block, each padded to the block's width
 abbrev pub block_lines : {D A : Type 0} →
     (ℕ → Option ℕ) → Renderer D A (List A) → Open (List A) → List (List (Item (List A))) → List (List (Item (List A)))

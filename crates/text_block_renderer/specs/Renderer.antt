@@ -4,6 +4,7 @@ use Rattle.std.specs.List.{list_any, list_all}
 use Rattle.std.specs.Char.{is_whitespace}
 use Rattle.tbr_model.specs.declared.white_space.WhiteSpace.{WhiteSpace}
 use Rattle.tbr_model.specs.declared.white_space.WhiteSpace.TheVariants.{Normal, Pre, PreWrap}
+use Rattle.tbr_model.specs.WhiteSpace.{preserves}
 use Rattle.tbr_model.specs.Run.{Entry, marker_entry, Item, items_width, has_character}
 use Rattle.tbr_model.specs.Markers.{marker_items}
 use Rattle.tbr_lines.specs.Border.{Border, has_holes}
@@ -142,21 +143,19 @@ abbrev pub text_annotations : {D A : Type 0} → (D → Bool → A) → Bool →
 text_annotations preformatted continued r =
     if nat_lt 0 r.preformatted then r.annotations ++ preformatted r.decorator continued ∷ [] else r.annotations
 
--- the entries that a text brings
+-- the entries of a text under these
+abbrev pub entries_under : {D A : Type 0} → (D → Bool → A) → Renderer D A (List A) → List ℕ → List (Entry (List A))
+entries_under preformatted r cs =
+    text_entries cs (text_annotations preformatted false r) (text_annotations preformatted true r) (last_mode r.modes)
+
+-- the entries that a text brings, with strokes inside strikeouts
 abbrev pub entries_of : {D A : Type 0} → (ℕ → Option ℕ) → (D → Bool → A) → Renderer D A (List A) → List ℕ → List (Entry (List A))
-entries_of columns preformatted r cs =
-    text_entries (struck columns r.strikeouts cs) (text_annotations preformatted false r)
-    (text_annotations preformatted true r) (last_mode r.modes)
+entries_of columns preformatted r cs = entries_under preformatted r (struck columns r.strikeouts cs)
 
 -- white space alone
 abbrev pub is_white : List ℕ → Bool
 is_white cs = list_all is_whitespace cs
 
-abbrev pub is_normal_mode : WhiteSpace → Bool
-is_normal_mode Normal = true
-is_normal_mode Pre = false
-is_normal_mode PreWrap = false
-
 -- behind the end of a block white space is ignored in `Normal`
 abbrev pub ignores : {D A T : Type 0} → Renderer D A T → List ℕ → Bool
-ignores r cs = r.block_ended && (is_normal_mode (last_mode r.modes) && is_white cs)
+ignores r cs = r.block_ended && (not (preserves (last_mode r.modes)) && is_white cs)

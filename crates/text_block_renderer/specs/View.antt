@@ -5,6 +5,7 @@ use Rattle.std.specs.List.{AllByRecursion as Each, list_any}
 use Rattle.std.specs.Global.{Vec}
 use Rattle.tbr_lines.specs.Copies.{equal_lists}
 use Rattle.tbr_lines.specs.View.{element_of}
+use Rattle.text_block_renderer.specs.Meant.{tag_meant, map_open}
 use Rattle.text_block_renderer.specs.declared.sub.SubRenderer.TheInside.{Inside}
 use Rattle.tbr_lines.specs.Elements.{Element, piece, marker_element, items_of, IsMerged}
 use Rattle.tbr_lines.specs.State.{State}
@@ -22,6 +23,10 @@ open_seen b = record { padding = b.padding; run = b.run }
 
 abbrev pub block_seen : {T : Type 0} → Option (State T) → Option (Open T)
 block_seen block = option_map open_seen block
+
+-- a block by what its tags mean
+abbrev pub block_meant : {A M : Type 0} → (A → M) → State (Vec A) → Open (List M)
+block_meant meaning b = map_open (tag_meant meaning) (open_seen b)
 
 -- the names of markers
 abbrev pub names_of : {T : Type 0} → List (Element T) → List (List ℕ)

@@ -6,7 +6,7 @@ ghost use Rattle.tbr_lines.specs.declared.Error.TheVariants as E;
 ghost use Rattle.text_block_renderer.specs.Renderer.{with_line, block_width};
 ghost use Rattle.text_block_renderer.specs.Meant.{meant};
 ghost use Rattle.text_block_renderer.specs.Flush.{line_meant, Flushes, FlushIsTooNarrow};
-ghost use Rattle.text_block_renderer.specs.Steps.{with_empty_line, AddsEmptyLine, block_started, StartsBlock};
+ghost use Rattle.text_block_renderer.specs.Steps.{with_empty_line, AddsEmptyLine, block_started, StartsBlock, BlockIsAtLineStart, BreaksLine};
 
 use crate::sub::SubRenderer;
 use tbr_decor::TextDecorator;
@@ -32,7 +32,7 @@ impl<D: TextDecorator, W: CharWidth> SubRenderer<D, W> {
     }
 
     /// Ends the run of the open block, if there is one.
-    fn try_flush(&mut self) -> Result<(), Error>
+    pub(crate) fn try_flush(&mut self) -> Result<(), Error>
         requires { self.old.failure ≡ None }
         ensures ok { OnOk result (Flushes W.columns (meant D.meaning self.old) (meant D.meaning self.new)) }
         ensures unfailed { OnOk result (self.new.failure ≡ None) }
@@ -50,7 +50,7 @@ impl<D: TextDecorator, W: CharWidth> SubRenderer<D, W> {
     }
 
     /// Ends the run, and adds an empty line.
-    fn try_add_empty_line(&mut self) -> Result<(), Error>
+    pub(crate) fn try_add_empty_line(&mut self) -> Result<(), Error>
         requires { self.old.failure ≡ None }
         ensures ok { OnOk result (AddsEmptyLine W.columns (meant D.meaning self.old) (meant D.meaning self.new)) }
         ensures too_narrow { result ≡ Err E.TooNarrow → FlushIsTooNarrow W.columns (meant D.meaning self.old) }
@@ -73,10 +73,11 @@ impl<D: TextDecorator, W: CharWidth> SubRenderer<D, W> {
     }
 
     /// Ends the run, and begins a block.
-    fn try_start_block(&mut self) -> Result<(), Error>
+    pub(crate) fn try_start_block(&mut self) -> Result<(), Error>
         requires { self.old.failure ≡ None }
         ensures ok { OnOk result (StartsBlock W.columns (meant D.meaning self.old) (meant D.meaning self.new)) }
         ensures unfailed { OnOk result (self.new.failure ≡ None) }
+        ensures columns { OnOk result (block_width self.new ≡ block_width self.old) }
         ensures too_narrow { result ≡ Err E.TooNarrow → FlushIsTooNarrow W.columns (meant D.meaning self.old) }
         ensures two_columns { 2 ≤ block_width self.old → result ≢ Err E.TooNarrow }
     {
@@ -96,5 +97,29 @@ impl<D: TextDecorator, W: CharWidth> SubRenderer<D, W> {
         }
         self.set_block_ended(false);
         Ok(())
+    }
+
+    /// Whether no block is open, or its open line and word take no columns.
+    fn is_at_line_start(&self) -> bool
+        requires { self.now.failure ≡ None }
+        ensures { BlockIsAtLineStart W.columns (meant D.meaning self.now) result (meant D.meaning self.now).block }
+    {
+        match &self.wrapping {
+            Some(block) => block.at_line_start(),
+            None => true,
+        }
+    }
+
+    /// Ends the run, and adds an empty line at the beginning of a line.
+    pub(crate) fn try_break_line(&mut self) -> Result<(), Error>
+        requires { self.old.failure ≡ None }
+        ensures ok { OnOk result (BreaksLine W.columns (meant D.meaning self.old) (meant D.meaning self.new)) }
+        ensures too_narrow { result ≡ Err E.TooNarrow → FlushIsTooNarrow W.columns (meant D.meaning self.old) }
+        ensures two_columns { 2 ≤ block_width self.old → result ≢ Err E.TooNarrow }
+    {
+        if self.is_at_line_start() {
+            return self.try_add_empty_line();
+        }
+        self.try_flush()
     }
 }
