@@ -91,7 +91,7 @@ abbrev pub ItemUnder : {A : Type 0} → A → Item A → Type 0
 ItemUnder a (glyph c x) = x ≡ a
 ItemUnder a (marker name) = Unit {0}
 
-each_filter : {X : Type 0} (P : X → Type 0) (test : X → Bool) (xs : List X) → Each P xs → Each P (filter test xs)
+pub each_filter : {X : Type 0} (P : X → Type 0) (test : X → Bool) (xs : List X) → Each P xs → Each P (filter test xs)
 each_filter P test [] h = tt
 each_filter P test (x ∷ xs) h = cond_both (test x) _ _ (Each P) (λ _. (h.0, each_filter P test xs h.1)) (λ _. each_filter P test xs h.1)
 

@@ -1,16 +1,18 @@
-use Rattle.std.proofs.Common.{◌≡◌, ℕ, List, [], ◌∷◌, codes, map, inl, inr, refl, ap, ◌∙◌, arith}
+use Rattle.std.proofs.Common.{◌≡◌, ℕ, List, [], ◌∷◌, codes, map, inl, inr, refl, ap, sym, ◌∙◌, arith}
 use Rattle.tbr_model.specs.Rule.{entry}
 use Rattle.tbr_model.specs.declared.white_space.WhiteSpace.TheVariants.{PreWrap}
-use Rattle.tbr_model.specs.Run.{Item}
+use Rattle.tbr_model.specs.Codes.{space_character}
+use Rattle.tbr_model.specs.Run.{Item, glyph}
 use Rattle.tbr_model.specs.Hard.{letters_of, IsWrapped}
 use Rattle.tbr_model.proofs.prewrap.OneWay.{wrapped_in_one_way}
 use Rattle.tbr_lines.specs.Elements.{text_items}
 use Rattle.tbr_lines.specs.State.{text_entries}
 use Rattle.small_runs.proofs.Admitted.{may_end}
 use Rattle.small_runs.specs.Small.{MayEnd}
-use Rattle.small_runs.proofs.Flushes.{shown}
+use Rattle.small_runs.proofs.Flushes.{shown, own}
 use Rattle.small_runs.proofs.PrintableTexts.{printable_line, text_has_mode}
 use Rattle.small_runs.proofs.PreRuns.{none_waits, lines_by_letters}
+use Rattle.small_runs.proofs.OwnTexts.{text_not_pre}
 use Rattle.small_runs.proofs.OtherLines.{texts_differ}
 use Rattle.small_runs.proofs.wrapped.spaces_at_breaks_are_dropped.Goals as goal
 
@@ -34,4 +36,7 @@ returns g c = record {
   not_before_a_line = λ a b names h. texts_differ _ _ refl (letters a b _ names h);
   not_behind_the_text = λ a b names h. texts_differ _ _ refl (letters a b _ names h);
   in_front = λ a b names h. texts_differ _ _ refl (letters a b _ names h);
+  no_continuation = λ a b x names other h.
+      other (sym (own 5 (text_entries (codes " ab  cd ") a b PreWrap) ((glyph space_character x ∷ text_items (codes "ab") a) ∷ text_items (codes "cd") b ∷ []) names
+      (text_not_pre (codes " ab  cd ") a b PreWrap (λ e. cc)) h).1.1.0.1);
 }

@@ -1,16 +1,18 @@
-use Rattle.std.proofs.Common.{◌≡◌, ℕ, List, [], ◌∷◌, codes, map, inl, inr, refl, ap, ◌∙◌, arith}
+use Rattle.std.proofs.Common.{◌≡◌, ℕ, List, [], ◌∷◌, ◌++◌, codes, map, inl, inr, refl, ap, sym, ◌∙◌, arith}
 use Rattle.tbr_model.specs.Rule.{entry}
 use Rattle.tbr_model.specs.declared.white_space.WhiteSpace.TheVariants.{PreWrap}
-use Rattle.tbr_model.specs.Run.{Item}
+use Rattle.tbr_model.specs.Codes.{space_character}
+use Rattle.tbr_model.specs.Run.{Item, glyph}
 use Rattle.tbr_model.specs.Hard.{letters_of, IsWrapped}
 use Rattle.tbr_model.proofs.prewrap.OneWay.{wrapped_in_one_way}
 use Rattle.tbr_lines.specs.Elements.{text_items}
 use Rattle.tbr_lines.specs.State.{text_entries}
 use Rattle.small_runs.proofs.Admitted.{may_end}
 use Rattle.small_runs.specs.Small.{MayEnd}
-use Rattle.small_runs.proofs.Flushes.{shown}
+use Rattle.small_runs.proofs.Flushes.{shown, own}
 use Rattle.small_runs.proofs.PrintableTexts.{printable_line, text_has_mode}
 use Rattle.small_runs.proofs.PreRuns.{none_waits, lines_by_letters}
+use Rattle.small_runs.proofs.OwnTexts.{text_not_pre}
 use Rattle.small_runs.proofs.OtherLines.{texts_differ}
 use Rattle.small_runs.proofs.wrapped.spaces_within_lines_stay.Goals as goal
 
@@ -32,4 +34,8 @@ returns g c = record {
   ends = λ a lines names h. lines_by_letters 6 (codes "ab  cd ef") a PreWrap lines names h ∙ ap (map (λ ds. text_items ds a)) (letters a a lines names h);
   not_one = λ a b names h. texts_differ _ _ refl (letters a b _ names h);
   not_moved = λ a b names h. texts_differ _ _ refl (letters a b _ names h);
+  no_continuation = λ a b x y names other h.
+      other (sym (own 6 (text_entries (codes "ab  cd ef") a b PreWrap)
+      ((text_items (codes "ab") a ++ glyph space_character x ∷ glyph space_character y ∷ text_items (codes "cd") b) ∷ text_items (codes "ef") a ∷ []) names
+      (text_not_pre (codes "ab  cd ef") a b PreWrap (λ e. cc)) h).1.1.0.1);
 }
