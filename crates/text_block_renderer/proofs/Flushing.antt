@@ -80,7 +80,7 @@ module _ {A M : Type 0} (f : A → M) (columns : ℕ → Option ℕ) where
 -- a run says the same of its lines where some of them had ended before
 alone : {T : Type 0} (columns : ℕ → Option ℕ) (b : State T) (texts : List (List (Item T))) (names : List (List ℕ)) → EndsRun columns b texts names → EndsRun columns (block_of_run b.width b.may_overflow b.run) (b.lines ++ texts) names
 alone columns b texts names e = record {
-  shown = e.shown; fits = e.fits; invents = e.invents; kept = e.kept; markers = e.markers; behind = e.behind; behind_kept = e.behind_kept; waits = e.waits; alone = e.alone;
+  shown = e.shown; fits = e.fits; invents = e.invents; come = e.come; order = e.order; own = e.own; kept = e.kept; markers = e.markers; behind = e.behind; behind_kept = e.behind_kept; waits = e.waits; alone = e.alone;
 }
 
 names_of_markers : (T : Type 0) (names : List (List ℕ)) → names_of (map (λ n. let e : Element T = marker_element n in e) names) ≡ names
