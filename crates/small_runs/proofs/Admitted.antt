@@ -6,8 +6,11 @@ use Rattle.tbr_model.specs.Layout.{joined}
 use Rattle.tbr_model.specs.Markers.{names_in_items, marker_items}
 use Rattle.tbr_model.specs.Rule.{Event, run_of, progress, waiting, lines_of}
 use Rattle.tbr_model.specs.Shown.{without_spaces, names_waiting}
+use Rattle.tbr_model.proofs.lines.KeptOrder.{shown_in_order}
 use Rattle.tbr_model.proofs.lines.NormalItems.{normal_keeps}
 use Rattle.tbr_model.proofs.lines.NothingInvented.{nothing_invented}
+use Rattle.tbr_model.proofs.lines.OwnAnnotations.{own_shown}
+use Rattle.tbr_model.proofs.lines.RunCharacters.{come_with_run}
 use Rattle.tbr_model.proofs.lines.WaitingMarkers.{waits_behind_visible, waits_behind_kept}
 use Rattle.tbr_model.proofs.lines.MarkersAlone.{no_line_ends}
 use Rattle.tbr_model.proofs.rule.Markers.{markers_at_end, waiting_none, marker_items_alone}
@@ -38,6 +41,9 @@ module _ {A : Type 0} (width : ℕ) (some : 0 < width) (es : List (Event A)) whe
       shown = shown_run small_columns width refl some false es fits;
       fits = fits;
       invents = nothing_invented small_columns width (λ a b. a ≡ b) (λ a. refl) es;
+      come = come_with_run small_columns width (λ a b. a ≡ b) (λ a. refl) es;
+      order = shown_in_order small_columns width (λ a b. a ≡ b) (λ a. refl) es;
+      own = λ plain. own_shown small_columns width (λ a b. a ≡ b) (λ a. refl) es plain;
       kept = λ normal.
           ap (λ (is : List (Item A)). without_spaces (joined (lines_of small_columns width es)) ++ is) (sym left_is) ∙ normal_keeps small_columns width es normal;
       markers = markers_at_end small_columns width es;

@@ -4,11 +4,13 @@ use Rattle.std.specs.List.{AllByRecursion as Each}
 use Rattle.std.proofs.lemmas.List.Elements.{All-contains, All-from_recursion}
 use Rattle.tbr_model.specs.declared.white_space.WhiteSpace.{WhiteSpace}
 use Rattle.tbr_model.specs.Run.{Entry, Item, glyph, marker}
+use Rattle.tbr_model.specs.Layout.{joined}
 use Rattle.tbr_model.specs.Markers.{names_in_items}
 use Rattle.tbr_model.specs.Hard.{letters_of, is_visible, HasMain, HasContinuation}
 use Rattle.tbr_model.specs.Shown.{ComesFrom}
 use Rattle.tbr_lines.specs.State.{text_entries}
 use Rattle.small_runs.specs.Small.{small_columns}
+use Rattle.small_runs.proofs.LinesOfItems.{unmarked_front, unmarked_back}
 
 -- the letters are these, each under some annotation
 abbrev pub Annotates : {A : Type 0} → List ℕ → (List (Item A) → Type 0) → Type 0
@@ -26,6 +28,22 @@ annotated {A} P (c ∷ cs) (glyph d x ∷ is) n e h =
     let rest : letters_of is ≡ cs = cc in
     let moved : P (glyph c x ∷ is) = rw same at h in
     (x, annotated (λ js. P (glyph c x ∷ js)) cs is n rest moved)
+
+-- lines of these letters, each under some annotation
+abbrev pub AnnotatesLines : {A : Type 0} → List (List ℕ) → (List (List (Item A)) → Type 0) → Type 0
+AnnotatesLines [] P = P []
+AnnotatesLines (cs ∷ texts) P = Annotates cs (λ l. AnnotatesLines texts (λ ls. P (l ∷ ls)))
+
+pub annotated_lines : {A : Type 0} (P : List (List (Item A)) → Type 0) (texts : List (List ℕ)) (lines : List (List (Item A))) → names_in_items (joined lines) ≡ [] → map letters_of lines ≡ texts → P lines →
+    AnnotatesLines texts P
+annotated_lines P [] [] n e h = h
+annotated_lines P [] (l ∷ ls) n e h = cc
+annotated_lines P (cs ∷ texts) [] n e h = cc
+annotated_lines {A} P (cs ∷ texts) (l ∷ ls) n e h =
+    let first : letters_of l ≡ cs = cc in
+    let more : map letters_of ls ≡ texts = cc in
+    annotated (λ (k : List (Item A)). AnnotatesLines texts (λ ms. P (k ∷ ms))) cs l (unmarked_front l (joined ls) n) first
+    (annotated_lines (λ (ms : List (List (Item A))). P (l ∷ ms)) texts ls (unmarked_back l (joined ls) n) more h)
 
 -- one line of known letters
 pub one_line : {A : Type 0} (cs : List ℕ) (lines : List (List (Item A))) → map letters_of lines ≡ cs ∷ [] → (line : List (Item A)) × (lines ≡ line ∷ []) × (letters_of line ≡ cs)

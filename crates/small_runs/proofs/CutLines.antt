@@ -14,7 +14,7 @@ use Rattle.small_runs.specs.Small.{small_columns}
 use Rattle.small_runs.proofs.PrintableTexts.{is_printable_text, printable_line, text_letters}
 use Rattle.small_runs.proofs.LinesOfItems.{same_lines}
 
-letters_joined : {A : Type 0} (ls : List (List (Item A))) → letters_of (joined ls) ≡ joined (map letters_of ls)
+pub letters_joined : {A : Type 0} (ls : List (List (Item A))) → letters_of (joined ls) ≡ joined (map letters_of ls)
 letters_joined [] = refl
 letters_joined (l ∷ ls) = letters_of-append l (joined ls) ∙ ap (λ x. letters_of l ++ x) (letters_joined ls)
 

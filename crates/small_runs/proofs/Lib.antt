@@ -7,3 +7,4 @@ pub mod OtherLines
 pub mod PreRuns
 pub mod Admitted
 pub mod AnnotatedTexts
+pub mod OwnTexts

@@ -35,10 +35,10 @@ text_without_names (c ∷ cs) a b mode = text_without_names cs a b mode
 abbrev pub HasNoMarker : {A : Type 0} → List (Item A) → Type 0
 HasNoMarker is = names_in_items is ≡ []
 
-unmarked_front : {A : Type 0} (is js : List (Item A)) → HasNoMarker (is ++ js) → HasNoMarker is
+pub unmarked_front : {A : Type 0} (is js : List (Item A)) → HasNoMarker (is ++ js) → HasNoMarker is
 unmarked_front is js h = none_in_front (names_in_items is) (names_in_items js) (sym (names_in_items-append is js) ∙ h)
 
-unmarked_back : {A : Type 0} (is js : List (Item A)) → HasNoMarker (is ++ js) → HasNoMarker js
+pub unmarked_back : {A : Type 0} (is js : List (Item A)) → HasNoMarker (is ++ js) → HasNoMarker js
 unmarked_back is js h = none_behind (names_in_items is) (names_in_items js) (sym (names_in_items-append is js) ∙ h)
 
 -- ---- lines by their characters under their annotations
@@ -91,7 +91,7 @@ abbrev pub ItemUnder : {A : Type 0} → A → Item A → Type 0
 ItemUnder a (glyph c x) = x ≡ a
 ItemUnder a (marker name) = Unit {0}
 
-each_filter : {X : Type 0} (P : X → Type 0) (test : X → Bool) (xs : List X) → Each P xs → Each P (filter test xs)
+pub each_filter : {X : Type 0} (P : X → Type 0) (test : X → Bool) (xs : List X) → Each P xs → Each P (filter test xs)
 each_filter P test [] h = tt
 each_filter P test (x ∷ xs) h = cond_both (test x) _ _ (Each P) (λ _. (h.0, each_filter P test xs h.1)) (λ _. each_filter P test xs h.1)
 

@@ -1,6 +1,7 @@
 -- Small runs, and how a flush may end them.
 use Rattle.std.specs.Prelude.{◌≡◌, ℕ, ◌==◌, false, if◌then◌else◌, Option, Some, List, ◌∷◌, ◌++◌, codes}
 use Rattle.tbr_model.specs.Width.{stroke}
+use Rattle.tbr_model.specs.declared.white_space.WhiteSpace.{WhiteSpace}
 use Rattle.tbr_model.specs.declared.white_space.WhiteSpace.TheVariants.{Normal}
 use Rattle.tbr_model.specs.Run.{Entry, marker_entry, Item, marker}
 use Rattle.tbr_lines.specs.Elements.{text_items}
@@ -35,10 +36,14 @@ two_words a gap b d more =
 abbrev pub two_words_line : {A : Type 0} → A → A → A → List (Item A)
 two_words_line a b d = text_items (codes "ab") a ++ text_items (codes " ") b ++ text_items (codes "cd") d
 
--- a `Normal` run with a marker in it
+-- a run of one mode with a marker in it
+abbrev pub around_marker_in : {A : Type 0} → WhiteSpace → List ℕ → List ℕ → List ℕ → A → A → List (Entry A)
+around_marker_in mode before name behind a b =
+    text_entries before a b mode ++ marker_entry name ∷ text_entries behind a b mode
+
+-- a `Normal` one
 abbrev pub around_marker : {A : Type 0} → List ℕ → List ℕ → List ℕ → A → A → List (Entry A)
-around_marker before name behind a b =
-    text_entries before a b Normal ++ marker_entry name ∷ text_entries behind a b Normal
+around_marker before name behind a b = around_marker_in Normal before name behind a b
 
 -- a line with a marker in it
 abbrev pub around_marker_line : {A : Type 0} → List ℕ → List ℕ → List ℕ → A → List (Item A)

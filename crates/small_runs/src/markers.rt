@@ -1,10 +1,11 @@
 //! Runs of words with markers among them.
 ghost use Rattle.std.specs.Prelude.{◌≡◌, ℕ, List, [], ◌∷◌, ◌++◌, codes};
-ghost use Rattle.tbr_model.specs.declared.white_space.WhiteSpace.TheVariants.{Normal};
+ghost use Rattle.tbr_model.specs.declared.white_space.WhiteSpace.{WhiteSpace};
+ghost use Rattle.tbr_model.specs.declared.white_space.WhiteSpace.TheVariants.{Pre};
 ghost use Rattle.tbr_model.specs.Run.{Item, marker_entry, marker};
 ghost use Rattle.tbr_lines.specs.Elements.{text_items};
 ghost use Rattle.tbr_lines.specs.State.{text_entries};
-ghost use Rattle.small_runs.specs.Small.{MayEnd, around_marker, around_marker_line};
+ghost use Rattle.small_runs.specs.Small.{MayEnd, around_marker, around_marker_in, around_marker_line};
 
 /// A marker inside a word that is cut stands between the same characters.
 pub fn markers_stay_inside_cut_words<T>()
@@ -78,4 +79,34 @@ pub fn markers_wait_behind_words<T>()
         ¬ (MayEnd 4 (around_marker (codes "ab") name [] a b) lines (name ∷ names)) }
     ensures alone { (name : List ℕ) (lines : List (List (Item T))) (names : List (List ℕ)) →
         MayEnd 4 (marker_entry name ∷ []) lines names → (lines ≡ []) × (names ≡ name ∷ []) }
+{}
+
+/// In every mode a marker stands between the same visible characters.
+pub fn markers_pass_no_visible_character<T>()
+    ensures admitted { (a b : T) (name : List ℕ) →
+        MayEnd 5 (around_marker_in Pre [] name (codes "a") a b) (around_marker_line [] name (codes "a") a ∷ []) [] }
+    ensures not_behind { (mode : WhiteSpace) (a b : T) (name : List ℕ) (names : List (List ℕ)) →
+        ¬ (MayEnd 5 (around_marker_in mode [] name (codes "a") a b)
+        (around_marker_line (codes "a") name [] a ∷ []) names) }
+    ensures not_before { (mode : WhiteSpace) (a b : T) (name : List ℕ) (names : List (List ℕ)) →
+        ¬ (MayEnd 5 (around_marker_in mode (codes "a") name [] a b)
+        (around_marker_line [] name (codes "a") a ∷ []) names) }
+    ensures not_waiting { (mode : WhiteSpace) (a b : T) (name : List ℕ) (names : List (List ℕ)) →
+        ¬ (MayEnd 5 (around_marker_in mode [] name (codes "a") a b) (text_items (codes "a") a ∷ []) (name ∷ names)) }
+{}
+
+/// A marker goes to no line of another hard line where a visible character parts it from that.
+pub fn markers_stay_on_their_hard_lines<T>()
+    ensures admitted { (a b : T) (name : List ℕ) →
+        MayEnd 5 (around_marker_in Pre (codes "a\n") name (codes "b") a b)
+        (text_items (codes "a") a ∷ around_marker_line [] name (codes "b") a ∷ []) [] }
+    ensures not_on_the_line_before { (mode : WhiteSpace) (a b : T) (name : List ℕ) (names : List (List ℕ)) →
+        ¬ (MayEnd 5 (around_marker_in mode (codes "a\n") name (codes "b") a b)
+        (around_marker_line [] name (codes "a") a ∷ text_items (codes "b") a ∷ []) names) }
+    ensures not_behind { (mode : WhiteSpace) (a b : T) (name : List ℕ) (names : List (List ℕ)) →
+        ¬ (MayEnd 5 (around_marker_in mode (codes "a\n") name (codes "b") a b)
+        (text_items (codes "a") a ∷ around_marker_line (codes "b") name [] a ∷ []) names) }
+    ensures not_on_the_next_line { (mode : WhiteSpace) (a b : T) (name : List ℕ) (names : List (List ℕ)) →
+        ¬ (MayEnd 5 (around_marker_in mode (codes "a") name (codes "b\nc") a b)
+        (text_items (codes "ab") a ∷ around_marker_line [] name (codes "c") a ∷ []) names) }
 {}

@@ -1,8 +1,11 @@
 //! Runs of `Pre`, which keep white space and newlines.
 ghost use Rattle.std.specs.Prelude.{◌≡◌, ◌≢◌, ◌⊎◌, ℕ, List, [], ◌∷◌, ◌++◌, codes, map};
+ghost use Rattle.std.specs.List.{AllByRecursion as Each};
+ghost use Rattle.tbr_model.specs.declared.white_space.WhiteSpace.{WhiteSpace};
 ghost use Rattle.tbr_model.specs.declared.white_space.WhiteSpace.TheVariants.{Pre};
 ghost use Rattle.tbr_model.specs.Codes.{space_character};
 ghost use Rattle.tbr_model.specs.Run.{Item, glyph};
+ghost use Rattle.tbr_model.specs.Layout.{joined};
 ghost use Rattle.tbr_model.specs.Hard.{letters_of};
 ghost use Rattle.tbr_lines.specs.Elements.{text_items};
 ghost use Rattle.tbr_lines.specs.State.{text_entries};
@@ -104,4 +107,17 @@ pub fn tabs_are_spaces<T>()
         ¬ (MayEnd 9 (text_entries (codes "a\tb") a b Pre) (text_items (codes "a b") a ∷ []) names) }
     ensures not_eight_spaces { (a b : T) (names : List (List ℕ)) →
         ¬ (MayEnd 9 (text_entries (codes "a\tb") a b Pre) (text_items (codes "a        b") a ∷ []) names) }
+{}
+
+/// Each character on a line is U+0020 or one that came: no newline stands there, and no tab, where none came.
+pub fn no_other_character_stands_on_lines<T>()
+    ensures admitted { (a b : T) →
+        MayEnd 5 (text_entries (codes "ä") a b Pre) (text_items (codes "ä") a ∷ []) [] }
+    ensures letters { (mode : WhiteSpace) (a b : T) (lines : List (List (Item T))) (names : List (List ℕ)) →
+        MayEnd 5 (text_entries (codes "ä") a b mode) lines names →
+        Each (λ c. (c ≡ space_character) ⊎ (c ≡ 0xE4)) (letters_of (joined lines)) }
+    ensures no_newline { (mode : WhiteSpace) (a b : T) (lines : List (List (Item T))) (names : List (List ℕ)) →
+        ¬ (MayEnd 5 (text_entries (codes "ä") a b mode) (text_items (codes "ä\n") a ∷ lines) names) }
+    ensures no_tab { (mode : WhiteSpace) (a b : T) (lines : List (List (Item T))) (names : List (List ℕ)) →
+        ¬ (MayEnd 5 (text_entries (codes "ä") a b mode) (text_items (codes "ä\t") a ∷ lines) names) }
 {}

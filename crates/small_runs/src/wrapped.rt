@@ -1,23 +1,22 @@
 //! Runs of `PreWrap`, which keep white space and newlines, and break lines between words.
-ghost use Rattle.std.specs.Prelude.{◌≡◌, ℕ, List, [], ◌∷◌, codes, map};
+ghost use Rattle.std.specs.Prelude.{◌≡◌, ◌≢◌, ◌⊎◌, ℕ, List, [], ◌∷◌, ◌++◌, codes};
 ghost use Rattle.tbr_model.specs.declared.white_space.WhiteSpace.TheVariants.{PreWrap};
-ghost use Rattle.tbr_model.specs.Run.{Item};
-ghost use Rattle.tbr_model.specs.Hard.{letters_of};
+ghost use Rattle.tbr_model.specs.Codes.{space_character};
+ghost use Rattle.tbr_model.specs.Run.{Item, glyph};
 ghost use Rattle.tbr_lines.specs.Elements.{text_items};
 ghost use Rattle.tbr_lines.specs.State.{text_entries};
 ghost use Rattle.small_runs.specs.Small.{MayEnd};
 
-/// Spaces are dropped where a line is broken and behind the text, and stay in front of it.
+/// Spaces are dropped where a line is broken and behind the text, and stay in front of it. Each other character stands
+/// under its own annotation.
 pub fn spaces_at_breaks_are_dropped<T>()
     ensures admitted { (a b : T) →
         MayEnd 5 (text_entries (codes " ab  cd ") a b PreWrap)
         (text_items (codes " ab") a ∷ text_items (codes "cd") a ∷ []) [] }
-    ensures letters { (a b : T) (lines : List (List (Item T))) (names : List (List ℕ)) →
+    ensures ends { (a b : T) (lines : List (List (Item T))) (names : List (List ℕ)) →
         MayEnd 5 (text_entries (codes " ab  cd ") a b PreWrap) lines names →
-        (map letters_of lines ≡ codes " ab" ∷ codes "cd" ∷ []) × (names ≡ []) }
-    ensures ends { (a : T) (lines : List (List (Item T))) (names : List (List ℕ)) →
-        MayEnd 5 (text_entries (codes " ab  cd ") a a PreWrap) lines names →
-        lines ≡ text_items (codes " ab") a ∷ text_items (codes "cd") a ∷ [] }
+        ((x : T) × (lines ≡ (glyph space_character x ∷ text_items (codes "ab") a) ∷ text_items (codes "cd") a ∷ [])
+        × ((x ≡ a) ⊎ (x ≡ b))) × (names ≡ []) }
     ensures not_behind_a_line { (a b : T) (names : List (List ℕ)) →
         ¬ (MayEnd 5 (text_entries (codes " ab  cd ") a b PreWrap)
         (text_items (codes " ab  ") a ∷ text_items (codes "cd") a ∷ []) names) }
@@ -30,25 +29,32 @@ pub fn spaces_at_breaks_are_dropped<T>()
     ensures in_front { (a b : T) (names : List (List ℕ)) →
         ¬ (MayEnd 5 (text_entries (codes " ab  cd ") a b PreWrap)
         (text_items (codes "ab") a ∷ text_items (codes "cd") a ∷ []) names) }
+    ensures no_continuation { (a b x : T) (names : List (List ℕ)) → a ≢ b →
+        ¬ (MayEnd 5 (text_entries (codes " ab  cd ") a b PreWrap)
+        ((glyph space_character x ∷ text_items (codes "ab") a) ∷ text_items (codes "cd") b ∷ []) names) }
 {}
 
-/// Spaces between words that share a line stay.
+/// Spaces between words that share a line stay. Each other character stands under its own annotation.
 pub fn spaces_within_lines_stay<T>()
     ensures admitted { (a b : T) →
         MayEnd 6 (text_entries (codes "ab  cd ef") a b PreWrap)
         (text_items (codes "ab  cd") a ∷ text_items (codes "ef") a ∷ []) [] }
-    ensures letters { (a b : T) (lines : List (List (Item T))) (names : List (List ℕ)) →
+    ensures ends { (a b : T) (lines : List (List (Item T))) (names : List (List ℕ)) →
         MayEnd 6 (text_entries (codes "ab  cd ef") a b PreWrap) lines names →
-        (map letters_of lines ≡ codes "ab  cd" ∷ codes "ef" ∷ []) × (names ≡ []) }
-    ensures ends { (a : T) (lines : List (List (Item T))) (names : List (List ℕ)) →
-        MayEnd 6 (text_entries (codes "ab  cd ef") a a PreWrap) lines names →
-        lines ≡ text_items (codes "ab  cd") a ∷ text_items (codes "ef") a ∷ [] }
+        ((x : T) × (y : T)
+        × (lines ≡ (text_items (codes "ab") a ++ glyph space_character x ∷ glyph space_character y
+        ∷ text_items (codes "cd") a) ∷ text_items (codes "ef") a ∷ [])
+        × ((x ≡ a) ⊎ (x ≡ b)) × ((y ≡ a) ⊎ (y ≡ b))) × (names ≡ []) }
     ensures not_one { (a b : T) (names : List (List ℕ)) →
         ¬ (MayEnd 6 (text_entries (codes "ab  cd ef") a b PreWrap)
         (text_items (codes "ab cd") a ∷ text_items (codes "ef") a ∷ []) names) }
     ensures not_moved { (a b : T) (names : List (List ℕ)) →
         ¬ (MayEnd 6 (text_entries (codes "ab  cd ef") a b PreWrap)
         (text_items (codes "ab") a ∷ text_items (codes "cd ef") a ∷ []) names) }
+    ensures no_continuation { (a b x y : T) (names : List (List ℕ)) → a ≢ b →
+        ¬ (MayEnd 6 (text_entries (codes "ab  cd ef") a b PreWrap)
+        ((text_items (codes "ab") a ++ glyph space_character x ∷ glyph space_character y ∷ text_items (codes "cd") b)
+        ∷ text_items (codes "ef") a ∷ []) names) }
 {}
 
 /// A word is cut only if it is wider than a line, and then begins a line and fills it.
@@ -57,13 +63,10 @@ pub fn only_wider_words_are_cut<T>()
         MayEnd 4 (text_entries (codes "a bcdefg hij") a b PreWrap)
         (text_items (codes "a") a ∷ text_items (codes "bcde") a ∷ text_items (codes "fg") a
         ∷ text_items (codes "hij") a ∷ []) [] }
-    ensures letters { (a b : T) (lines : List (List (Item T))) (names : List (List ℕ)) →
+    ensures ends { (a b : T) (lines : List (List (Item T))) (names : List (List ℕ)) →
         MayEnd 4 (text_entries (codes "a bcdefg hij") a b PreWrap) lines names →
-        (map letters_of lines ≡ codes "a" ∷ codes "bcde" ∷ codes "fg" ∷ codes "hij" ∷ []) × (names ≡ []) }
-    ensures ends { (a : T) (lines : List (List (Item T))) (names : List (List ℕ)) →
-        MayEnd 4 (text_entries (codes "a bcdefg hij") a a PreWrap) lines names →
-        lines ≡ text_items (codes "a") a ∷ text_items (codes "bcde") a ∷ text_items (codes "fg") a
-        ∷ text_items (codes "hij") a ∷ [] }
+        (lines ≡ text_items (codes "a") a ∷ text_items (codes "bcde") a ∷ text_items (codes "fg") a
+        ∷ text_items (codes "hij") a ∷ []) × (names ≡ []) }
     ensures begins_a_line { (a b : T) (names : List (List ℕ)) →
         ¬ (MayEnd 4 (text_entries (codes "a bcdefg hij") a b PreWrap)
         (text_items (codes "a bc") a ∷ text_items (codes "defg") a ∷ text_items (codes "hij") a ∷ []) names) }
@@ -71,22 +74,26 @@ pub fn only_wider_words_are_cut<T>()
         ¬ (MayEnd 4 (text_entries (codes "a bcdefg hij") a b PreWrap)
         (text_items (codes "a") a ∷ text_items (codes "bcde") a ∷ text_items (codes "fg h") a
         ∷ text_items (codes "ij") a ∷ []) names) }
+    ensures no_continuation { (a b : T) (names : List (List ℕ)) → a ≢ b →
+        ¬ (MayEnd 4 (text_entries (codes "a bcdefg hij") a b PreWrap)
+        (text_items (codes "a") a ∷ text_items (codes "bcde") a ∷ text_items (codes "fg") b
+        ∷ text_items (codes "hij") a ∷ []) names) }
 {}
 
-/// A newline ends a line, also an empty one.
+/// A newline ends a line, also an empty one, and each character stands under its own annotation.
 pub fn newlines_are_kept<T>()
     ensures admitted { (a b : T) →
         MayEnd 5 (text_entries (codes "ab\n\ncd") a b PreWrap)
         (text_items (codes "ab") a ∷ [] ∷ text_items (codes "cd") a ∷ []) [] }
-    ensures letters { (a b : T) (lines : List (List (Item T))) (names : List (List ℕ)) →
+    ensures ends { (a b : T) (lines : List (List (Item T))) (names : List (List ℕ)) →
         MayEnd 5 (text_entries (codes "ab\n\ncd") a b PreWrap) lines names →
-        (map letters_of lines ≡ codes "ab" ∷ [] ∷ codes "cd" ∷ []) × (names ≡ []) }
-    ensures ends { (a : T) (lines : List (List (Item T))) (names : List (List ℕ)) →
-        MayEnd 5 (text_entries (codes "ab\n\ncd") a a PreWrap) lines names →
-        lines ≡ text_items (codes "ab") a ∷ [] ∷ text_items (codes "cd") a ∷ [] }
+        (lines ≡ text_items (codes "ab") a ∷ [] ∷ text_items (codes "cd") a ∷ []) × (names ≡ []) }
     ensures empty_line_stays { (a b : T) (names : List (List ℕ)) →
         ¬ (MayEnd 5 (text_entries (codes "ab\n\ncd") a b PreWrap)
         (text_items (codes "ab") a ∷ text_items (codes "cd") a ∷ []) names) }
     ensures not_joined { (a b : T) (names : List (List ℕ)) →
         ¬ (MayEnd 5 (text_entries (codes "ab\n\ncd") a b PreWrap) (text_items (codes "ab cd") a ∷ []) names) }
+    ensures no_continuation { (a b : T) (names : List (List ℕ)) → a ≢ b →
+        ¬ (MayEnd 5 (text_entries (codes "ab\n\ncd") a b PreWrap)
+        (text_items (codes "ab") a ∷ [] ∷ text_items (codes "cd") b ∷ []) names) }
 {}

@@ -8,7 +8,7 @@ use Rattle.tbr_model.specs.Layout.{joined}
 use Rattle.tbr_model.specs.Markers.{names_in_items, names_in_run, marker_items, marker_run, names_behind, without_last_markers}
 use Rattle.tbr_model.specs.Hard.{HasMode, Preserves, IsNarrowEntry, entry_letters, is_visible, hard_lines, Parted, ShowsVisible, ShowsHardLine, ShowsPre, ShowsPreWrap, ShowsTabs}
 use Rattle.std.specs.Option.{option_map}
-use Rattle.tbr_model.specs.Shown.{without_spaces, InventsNothing}
+use Rattle.tbr_model.specs.Shown.{without_spaces, InventsNothing, ComesWithRun, ShowsInOrder, IsNotPre, ShowsOwn}
 use Rattle.tbr_model.specs.Mapped.{map_run, map_lines}
 use Rattle.tbr_wrap.specs.Wrapped.{HasBestLines, FitsBlock}
 use Rattle.tbr_tagged.specs.declared.error.Error.{Error}
@@ -200,6 +200,12 @@ pub record EndsRun {A : Type 0} (columns : ℕ → Option ℕ) (s : State A)
   pub shown : IsShownBy columns s.width s.may_overflow s.run (s.lines ++ texts)
   pub fits : Each (FitsBlock columns s.width s.may_overflow) (s.lines ++ texts)
   pub invents : InventsNothing columns (λ a b. a ≡ b) s.run (s.lines ++ texts)
+  -- each character there is U+0020 or one of the run's
+  pub come : Each (ComesWithRun (λ a b. a ≡ b) s.run) (joined (s.lines ++ texts))
+  -- visible characters and markers keep their order, whatever their modes
+  pub order : ShowsInOrder columns (λ a b. a ≡ b) s.run (s.lines ++ texts) names
+  -- without `Pre` each visible character stands under its own annotation
+  pub own : Each IsNotPre s.run → ShowsOwn columns (λ a b. a ≡ b) s.run (s.lines ++ texts)
   -- a `Normal` run's items stand on its lines or wait, whatever the width
   pub kept : IsNormal s.run →
       without_spaces (joined (s.lines ++ texts)) ++ marker_items names ≡ kept_items columns s.run

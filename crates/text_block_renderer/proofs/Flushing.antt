@@ -33,7 +33,6 @@ pub record HasLines {D A M : Type 0} (f : A → M) (columns : ℕ → Option ℕ
   pub meaning : meant f q ≡ fold (with_line columns) (meant f r) (map (line_meant columns f first) given)
 
 module _ {D A M : Type 0} (eq : A → A → Bool) (f : A → M) (agree : (v w : Vec A) → equal_lists eq v w ≡ true → tag_meant f v ≡ tag_meant f w) (columns : ℕ → Option ℕ) where
-
   -- one line more
   pub one_line_more : (first old new : State (Vec A)) (r q s : Renderer D A (Vec A)) (line : List (Element (Vec A))) (text : List (Item (Vec A))) (rest : List (List (Item (Vec A)))) →
       HasLines f columns first old r q → lines_left old ≡ text ∷ rest → new ≡ line_taken old → ShowsText columns (equal_lists eq) old.padding old.width line text → meant f s ≡ with_line columns (meant f q) (items_meant f (items_of line)) → HasLines f columns first new r s
@@ -81,7 +80,18 @@ module _ {A M : Type 0} (f : A → M) (columns : ℕ → Option ℕ) where
 -- a run says the same of its lines where some of them had ended before
 alone : {T : Type 0} (columns : ℕ → Option ℕ) (b : State T) (texts : List (List (Item T))) (names : List (List ℕ)) → EndsRun columns b texts names → EndsRun columns (block_of_run b.width b.may_overflow b.run) (b.lines ++ texts) names
 alone columns b texts names e = record {
-  shown = e.shown; fits = e.fits; invents = e.invents; kept = e.kept; markers = e.markers; behind = e.behind; behind_kept = e.behind_kept; waits = e.waits; alone = e.alone;
+  shown = e.shown;
+  fits = e.fits;
+  invents = e.invents;
+  come = e.come;
+  order = e.order;
+  own = e.own;
+  kept = e.kept;
+  markers = e.markers;
+  behind = e.behind;
+  behind_kept = e.behind_kept;
+  waits = e.waits;
+  alone = e.alone;
 }
 
 names_of_markers : (T : Type 0) (names : List (List ℕ)) → names_of (map (λ n. let e : Element T = marker_element n in e) names) ≡ names

@@ -36,7 +36,7 @@ parted-map R S g k each (x ∷ z ∷ xs) ys h =
 
 -- ---- characters
 
-abbrev map_glyph : {A B : Type 0} → (A → B) → ℕ × A → ℕ × B
+abbrev pub map_glyph : {A B : Type 0} → (A → B) → ℕ × A → ℕ × B
 map_glyph f g = (g.0, f g.1)
 
 module _ {A B : Type 0} (f : A → B) where
@@ -62,13 +62,13 @@ module _ {A B : Type 0} (f : A → B) where
   joined_letters-map : (ls : List (List (Item A))) → letters_of (joined (map_lines f ls)) ≡ letters_of (joined ls)
   joined_letters-map ls = ap letters_of (joined-map (map_item f) ls) ∙ letters_of-map (joined ls)
 
-  joined_glyphs-map : (ls : List (List (Item A))) → glyphs_of (joined (map_lines f ls)) ≡ map (map_glyph f) (glyphs_of (joined ls))
+  pub joined_glyphs-map : (ls : List (List (Item A))) → glyphs_of (joined (map_lines f ls)) ≡ map (map_glyph f) (glyphs_of (joined ls))
   joined_glyphs-map ls = ap glyphs_of (joined-map (map_item f) ls) ∙ glyphs_of-map (joined ls)
 
   -- ---- visible characters
 
   module _ (columns : ℕ → Option ℕ) where
-    visible_glyphs-map : (gs : List (ℕ × A)) → filter (λ g. is_visible columns g.0) (map (map_glyph f) gs) ≡ map (map_glyph f) (filter (λ g. is_visible columns g.0) gs)
+    pub visible_glyphs-map : (gs : List (ℕ × A)) → filter (λ g. is_visible columns g.0) (map (map_glyph f) gs) ≡ map (map_glyph f) (filter (λ g. is_visible columns g.0) gs)
     visible_glyphs-map [] = refl
     visible_glyphs-map (g ∷ gs) = go (visible_glyphs-map gs) (is_visible columns g.0)
       where
@@ -78,7 +78,7 @@ module _ {A B : Type 0} (f : A → B) where
         go rest true = ap (λ (hs : List (ℕ × B)). map_glyph f g ∷ hs) rest
         go rest false = rest
 
-    visible_entries-map : (es : List (Entry A)) → visible_entries columns (map_run f es) ≡ map_run f (visible_entries columns es)
+    pub visible_entries-map : (es : List (Entry A)) → visible_entries columns (map_run f es) ≡ map_run f (visible_entries columns es)
     visible_entries-map [] = refl
     visible_entries-map (marker_entry name ∷ es) = visible_entries-map es
     visible_entries-map (character c a b m ∷ es) = go (visible_entries-map es) (is_visible columns c)

@@ -1,13 +1,12 @@
 -- What each change leaves of a block's course, and what a contract sees of that.
-use Rattle.std.proofs.Common.{◌≡◌, ℕ, zero, suc, ◌+◌, ◌-◌, ◌<◌, ◌≤◌, ◌==◌, not, ◌&&◌, ◌||◌, ◌⊎◌, inl, inr, Bool, true, false, if◌then◌else◌, Option, None, Some, List, [], ◌∷◌, ◌++◌, map, length, take, drop, fold, refl, ap, sym, ◌∙◌, subst, arith, append_assoc, append-nil, length-append, lt-ltb, string_bytes}
+use Rattle.std.proofs.Common.{◌≡◌, ℕ, zero, suc, ◌+◌, ◌-◌, ◌<◌, ◌==◌, not, ◌&&◌, ◌||◌, ◌⊎◌, inl, inr, Bool, true, false, Option, Some, List, [], ◌∷◌, ◌++◌, map, length, take, drop, refl, ap, sym, ◌∙◌, subst, arith, append_assoc, append-nil, length-append, lt-ltb}
 use Rattle.std.proofs.Math.Bool.{or_assoc, or-false, or-true}
-use Rattle.std.proofs.lemmas.List.{take_at, drop_at, drop-append-le, length-take-le, take-append-drop, length-map, map-append}
+use Rattle.std.proofs.lemmas.List.{take_at, drop_at, drop-append-le, length-take-le, length-map}
 use Rattle.std.proofs.lemmas.List.Elements.{length_all_zip}
 use Rattle.std.proofs.lemmas.List.Sums.{fold-append}
-use Rattle.std.proofs.lemmas.Bool.{le-ltb, and_left, and_right, ne_eqb}
+use Rattle.std.proofs.lemmas.Bool.{and_left, and_right, ne_eqb}
 use Rattle.std.specs.List.{AllZip, AllByRecursion as Each}
 use Rattle.std.specs.Prelude.{nat_lt}
-use Rattle.std.specs.Cmp.{IsEquivalence}
 use Rattle.tbr_model.specs.Run.{Item, glyph, marker, is_kept, items_width, kept_items, Entry, marker_entry, has_character}
 use Rattle.tbr_model.specs.Markers.{names_in_items, names_in_run, marker_run, marker_items, names_behind, last, without_last_markers}
 use Rattle.tbr_model.specs.Laid.{Laid, end_if_character}
@@ -19,11 +18,14 @@ use Rattle.tbr_model.proofs.rule.Markers.{markers_run, markers_at_end, waiting_n
 use Rattle.tbr_model.proofs.rule.TakenOutMarkers.{taken_out, without_none}
 use Rattle.tbr_model.specs.declared.white_space.WhiteSpace.TheVariants.{Normal}
 use Rattle.tbr_model.specs.Hard.{HasMode, entry_letters, is_visible}
-use Rattle.tbr_model.specs.Shown.{without_spaces, InventsNothing, run_shows_columns, HasColumns}
+use Rattle.tbr_model.specs.Shown.{without_spaces, InventsNothing, ComesWithRun, ShowsInOrder, IsNotPre, ShowsOwn, run_shows_columns, HasColumns}
 use Rattle.tbr_model.proofs.lines.Columns.{columns_show}
+use Rattle.tbr_model.proofs.lines.KeptOrder.{shown_in_order}
 use Rattle.tbr_model.proofs.lines.MarkersAlone.{no_line_ends}
 use Rattle.tbr_model.proofs.lines.NormalItems.{normal_keeps}
 use Rattle.tbr_model.proofs.lines.NothingInvented.{nothing_invented}
+use Rattle.tbr_model.proofs.lines.OwnAnnotations.{own_shown}
+use Rattle.tbr_model.proofs.lines.RunCharacters.{come_with_run}
 use Rattle.tbr_model.proofs.lines.WaitingMarkers.{waits_behind_visible, waits_behind_kept}
 use Rattle.tbr_model.proofs.words.Items.{no_character_no_width}
 use Rattle.tbr_tagged.specs.Elements.{SameItems}
@@ -31,7 +33,7 @@ use Rattle.tbr_tagged.specs.declared.error.Error.{Error}
 use Rattle.tbr_model.proofs.words.Items.{items_width-append}
 use Rattle.tbr_tagged.proofs.SameItems.{all_zip_append, same_has}
 use Rattle.tbr_wrap.specs.Wrapped.{FitsBlock}
-use Rattle.tbr_wrap.specs.State.{State, JoinsRun, JoinsAsMarker, EndsRun, AreLastOf, IsShownBy, IsNormal, is_some_list, loose_taken, lines_left, line_taken, run_flushed}
+use Rattle.tbr_wrap.specs.State.{State, JoinsRun, JoinsAsMarker, EndsRun, AreLastOf, IsShownBy, is_some_list, loose_taken, line_taken, run_flushed}
 use Rattle.tbr_wrap.specs.Course.{Course, at_first, stepped, word_taken, run_ended, line_handed, after, course, loose_names, state_of, viewed}
 use Rattle.tbr_wrap.specs.Held.{HoldsCourse}
 use Rattle.tbr_wrap.specs.LaidLines.{HoldsLaid, LaidLikeRule, LeavesAfterLine, KeepsLimits}
@@ -390,6 +392,17 @@ module _ {A : Type 0} (columns : ℕ → Option ℕ) where
               invents = subst (λ (ls : List (List (Item A))). InventsNothing columns (λ a b. a ≡ b) c.run ls) lines
                   (subst (λ (es : List (Entry A)). InventsNothing columns (λ a b. a ≡ b) es (lines_of columns b.lines.width h.events)) h.run_is
                   (nothing_invented columns b.lines.width (λ a b. a ≡ b) (λ a. refl) h.events));
+              come = subst (λ (ls : List (List (Item A))). Each (ComesWithRun (λ a b. a ≡ b) c.run) (joined ls)) lines
+                  (subst (λ (es : List (Entry A)). Each (ComesWithRun (λ a b. a ≡ b) es) (joined (lines_of columns b.lines.width h.events))) h.run_is
+                  (come_with_run columns b.lines.width (λ a b. a ≡ b) (λ a. refl) h.events));
+              order = subst (λ (ls : List (List (Item A))). ShowsInOrder columns (λ a b. a ≡ b) c.run ls left_names) lines
+                  (subst (λ (es : List (Entry A)). ShowsInOrder columns (λ a b. a ≡ b) es (lines_of columns b.lines.width h.events) left_names) h.run_is
+                  (subst (λ (is : List (Item A)). ShowsInOrder columns (λ a b. a ≡ b) (run_of h.events) (lines_of columns b.lines.width h.events) (names_in_items is)) waits
+                  (shown_in_order columns b.lines.width (λ a b. a ≡ b) (λ a. refl) h.events)));
+              own = λ plain.
+                  subst (λ (ls : List (List (Item A))). ShowsOwn columns (λ a b. a ≡ b) c.run ls) lines
+                  (subst (λ (es : List (Entry A)). ShowsOwn columns (λ a b. a ≡ b) es (lines_of columns b.lines.width h.events)) h.run_is
+                  (own_shown columns b.lines.width (λ a b. a ≡ b) (λ a. refl) h.events (subst (λ (es : List (Entry A)). Each IsNotPre es) (sym h.run_is) plain)));
               kept = λ normal.
                   ap (λ ls. without_spaces (joined ls) ++ marker_items left_names) (sym lines) ∙ ap (λ is. without_spaces (joined (lines_of columns b.lines.width h.events)) ++ is) (sym left_is ∙ sym waits)
                   ∙ normal_keeps columns b.lines.width h.events (subst (λ (es : List (Entry A)). Each (HasMode Normal) es) (sym h.run_is) normal) ∙ ap (kept_items columns) h.run_is;

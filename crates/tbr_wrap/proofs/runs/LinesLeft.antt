@@ -1,5 +1,5 @@
 -- Lines that are handed out one by one.
-use Rattle.std.proofs.Common.{◌≡◌, ◌≢◌, ◌↔◌, ℕ, zero, suc, ◌+◌, ◌-◌, ◌≤◌, ◌⊎◌, inl, inr, Option, None, Some, Result, Ok, IfOk, true, false, Bool, List, [], ◌∷◌, ◌++◌, take, drop, length, refl, ap, sym, ◌∙◌, subst, arith, append_assoc, length-append}
+use Rattle.std.proofs.Common.{◌≡◌, ◌≢◌, ◌↔◌, ℕ, zero, suc, ◌+◌, ◌-◌, inl, inr, Option, None, Some, Result, Ok, IfOk, true, false, Bool, List, [], ◌∷◌, ◌++◌, take, drop, length, refl, ap, sym, ◌∙◌, subst, arith, append_assoc, length-append}
 use Rattle.std.proofs.lemmas.List.{drop-drop, take-append-drop, drop-append-le}
 use Rattle.std.proofs.lemmas.Bool.{cases_lt}
 use Rattle.std.proofs.Math.ListN.{drop_of_length-le}
@@ -45,6 +45,9 @@ module _ {A : Type 0} (columns : ℕ → Option ℕ) (texts : List (List (Item A
     shown = e.shown;
     fits = e.fits;
     invents = e.invents;
+    come = e.come;
+    order = e.order;
+    own = e.own;
     kept = e.kept;
     markers = e.markers;
     behind = e.behind;
@@ -58,6 +61,9 @@ module _ {A : Type 0} (columns : ℕ → Option ℕ) (texts : List (List (Item A
     shown = e.shown;
     fits = e.fits;
     invents = e.invents;
+    come = e.come;
+    order = e.order;
+    own = e.own;
     kept = e.kept;
     markers = e.markers;
     behind = e.behind;

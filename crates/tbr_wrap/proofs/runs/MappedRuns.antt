@@ -1,20 +1,36 @@
 -- The end of a run under other annotations.
-use Rattle.std.proofs.Common.{◌≡◌, ℕ, ◌<◌, ◌≤◌, ◌⊎◌, inl, inr, Bool, true, false, not, if◌then◌else◌, nat_lt, Option, None, List, [], ◌∷◌, ◌++◌, map, flat_map, filter, fold, length, slice_index_or, zero, suc, Contains, refl, ap, sym, ◌∙◌, subst, arith}
-use Rattle.std.specs.List.{AllByRecursion as Each}
+use Rattle.std.proofs.Common.{◌≡◌, ℕ, ◌⊎◌, inl, inr, Bool, true, false, not, if◌then◌else◌, Option, None, List, [], ◌∷◌, ◌++◌, map, filter, fold, slice_index_or, zero, suc, Contains, refl, ap, sym, ◌∙◌, arith}
+use Rattle.std.specs.List.{AllZip, AllByRecursion as Each}
 use Rattle.std.proofs.lemmas.List.{map-append, length-map}
 use Rattle.tbr_model.specs.declared.white_space.WhiteSpace.{WhiteSpace}
-use Rattle.tbr_model.specs.Run.{Entry, character, marker_entry, Item, glyph, marker, item_width, items_width, is_kept, kept_items, has_character, trailing}
+use Rattle.tbr_model.specs.Run.{Entry, character, marker_entry, Item, glyph, marker, is_kept, kept_items, has_character}
 use Rattle.tbr_model.specs.Layout.{slots_of, line_text, joined}
 use Rattle.tbr_model.specs.Rule.{is_space_item}
-use Rattle.tbr_model.specs.Markers.{names_in_items, names_in_run, marker_items, marked_behind, names_behind}
-use Rattle.tbr_model.specs.Hard.{HasMode, Preserves, HasMain, HasContinuation, entry_letters, is_visible}
-use Rattle.tbr_model.specs.Shown.{without_spaces, HasAnnotation, ComesFrom}
-use Rattle.tbr_model.specs.Mapped.{map_item, map_items, map_entry, map_run, map_slots, map_layout, map_lines}
+use Rattle.tbr_model.specs.Markers.{names_in_items, names_in_run, marker_items, marked_behind}
+use Rattle.tbr_model.specs.Hard.{HasMode, Preserves, HasMain, HasContinuation, entry_letters, is_visible, glyphs_of, visible_glyphs, visible_entries}
+use Rattle.tbr_model.specs.Shown.{without_spaces, ComesFrom, ComesWithRun, is_visible_or_marker, is_entry_to_show, ShowsEntry, ShowsInOrder, IsNotPre, StandsUnderOwn, ShowsOwn}
+use Rattle.tbr_model.specs.Mapped.{map_item, map_items, map_entry, map_run, map_layout, map_lines}
 use Rattle.tbr_model.proofs.maps.Words.{item_width-map, items_width-map, has_character-map, items_of-map, trailing-map}
 use Rattle.tbr_model.proofs.maps.Layouts.{slots_of-map, line_text-map, joined-map, best-map}
-use Rattle.tbr_model.proofs.maps.HardLines.{visible-map, all_hard_lines-map, all_pre-map, all_prewrap-map, all_tabs-map}
+use Rattle.tbr_model.proofs.maps.HardLines.{map_glyph, joined_glyphs-map, visible_glyphs-map, visible_entries-map, visible-map, all_hard_lines-map, all_pre-map, all_prewrap-map, all_tabs-map}
 use Rattle.tbr_wrap.specs.Wrapped.{taking_columns, FitsBlock, HasBestLines}
-use Rattle.tbr_wrap.specs.State.{State, IsNormal, IsShownBy, EndsRun, map_state}
+use Rattle.tbr_wrap.specs.State.{State, IsShownBy, EndsRun, map_state}
+
+-- ---- lists
+
+filter-map : {X Y : Type 0} (g : X → Y) (p : X → Bool) (q : Y → Bool) → ((x : X) → q (g x) ≡ p x) → (xs : List X) → filter q (map g xs) ≡ map g (filter p xs)
+filter-map g p q same [] = refl
+filter-map {X} {Y} g p q same (x ∷ xs) = ap (λ k. if k then g x ∷ filter q (map g xs) else filter q (map g xs)) (same x) ∙ go (filter-map g p q same xs) (p x)
+  where
+    go : filter q (map g xs) ≡ map g (filter p xs) → (k : Bool) → (let ys : List Y = if k then g x ∷ filter q (map g xs) else filter q (map g xs) in ys) ≡ map g (if k then x ∷ filter p xs else filter p xs)
+    go rest true = ap (λ ys. g x ∷ ys) rest
+    go rest false = rest
+
+zip-map : {X Y Z W : Type 0} (R : X → Y → Type 0) (S : Z → W → Type 0) (g : X → Z) (k : Y → W) → ((x : X) (y : Y) → R x y → S (g x) (k y)) → (xs : List X) (ys : List Y) → AllZip R xs ys → AllZip S (map g xs) (map k ys)
+zip-map R S g k each [] [] h = tt
+zip-map R S g k each [] (y ∷ ys) h = absurd h
+zip-map R S g k each (x ∷ xs) [] h = absurd h
+zip-map R S g k each (x ∷ xs) (y ∷ ys) h = (each x y h.0, zip-map R S g k each xs ys h.1)
 
 module _ {A B : Type 0} (f : A → B) where
   -- ---- runs
@@ -28,6 +44,11 @@ module _ {A B : Type 0} (f : A → B) where
   preserves_unmap [] h = tt
   preserves_unmap (character c a b m ∷ es) h = (h.0, preserves_unmap es h.1)
   preserves_unmap (marker_entry name ∷ es) h = (tt, preserves_unmap es h.1)
+
+  not_pre_unmap : (run : List (Entry A)) → Each IsNotPre (map_run f run) → Each IsNotPre run
+  not_pre_unmap [] h = tt
+  not_pre_unmap (character c a b m ∷ es) h = (h.0, not_pre_unmap es h.1)
+  not_pre_unmap (marker_entry name ∷ es) h = (tt, not_pre_unmap es h.1)
 
   letters-map : (run : List (Entry A)) → entry_letters (map_run f run) ≡ entry_letters run
   letters-map [] = refl
@@ -103,6 +124,57 @@ module _ {A B : Type 0} (f : A → B) where
     all_come-map [] h = tt
     all_come-map (i ∷ is) h = (comes-map i h.0, all_come-map is h.1)
 
+    comes_with-map : (i : Item A) → ComesWithRun (λ a b. a ≡ b) run i → ComesWithRun (λ a b. a ≡ b) (map_run f run) (map_item f i)
+    comes_with-map (glyph c x) h = ((map_entry f h.0.0, contains-map run h.0.0 h.0.1, has_map h.0.0 x h.0.2), rw (letters-map run) h.1)
+    comes_with-map (marker name) h = contains-map run (marker_entry name) h
+
+    all_come_with-map : (is : List (Item A)) → Each (ComesWithRun (λ a b. a ≡ b) run) is → Each (ComesWithRun (λ a b. a ≡ b) (map_run f run)) (map_items f is)
+    all_come_with-map [] h = tt
+    all_come_with-map (i ∷ is) h = (comes_with-map i h.0, all_come_with-map is h.1)
+
+  -- ---- order and own annotations
+
+  shown_items-map : (columns : ℕ → Option ℕ) (is : List (Item A)) → filter (is_visible_or_marker columns) (map_items f is) ≡ map_items f (filter (is_visible_or_marker columns) is)
+  shown_items-map columns is = filter-map (map_item f) (is_visible_or_marker columns) (is_visible_or_marker columns) same is
+    where
+      same : (i : Item A) → is_visible_or_marker columns (map_item f i) ≡ is_visible_or_marker columns i
+      same (glyph c a) = refl
+      same (marker name) = refl
+
+  shown_entries-map : (columns : ℕ → Option ℕ) (es : List (Entry A)) → filter (is_entry_to_show columns) (map_run f es) ≡ map_run f (filter (is_entry_to_show columns) es)
+  shown_entries-map columns es = filter-map (map_entry f) (is_entry_to_show columns) (is_entry_to_show columns) same es
+    where
+      same : (e : Entry A) → is_entry_to_show columns (map_entry f e) ≡ is_entry_to_show columns e
+      same (character c a b m) = refl
+      same (marker_entry name) = refl
+
+  entry_shown-map : (i : Item A) (e : Entry A) → ShowsEntry (λ a b. a ≡ b) i e → ShowsEntry (λ a b. a ≡ b) (map_item f i) (map_entry f e)
+  entry_shown-map (glyph c x) (character d a b m) h = (h.0, elim h.1 [ inl main ↦ inl (ap f main) | inr more ↦ inr (ap f more) ])
+  entry_shown-map (glyph c x) (marker_entry name) h = absurd h
+  entry_shown-map (marker name) (character d a b m) h = absurd h
+  entry_shown-map (marker name) (marker_entry other) h = h
+
+  own_stands-map : (g : ℕ × A) (e : Entry A) → StandsUnderOwn (λ a b. a ≡ b) g e → StandsUnderOwn (λ a b. a ≡ b) (map_glyph f g) (map_entry f e)
+  own_stands-map g (character c a b m) h = (h.0, ap f h.1)
+  own_stands-map g (marker_entry name) h = absurd h
+
+  module _ (columns : ℕ → Option ℕ) (run : List (Entry A)) (ls : List (List (Item A))) where
+    in_order-map : (names : List (List ℕ)) → ShowsInOrder columns (λ a b. a ≡ b) run ls names → ShowsInOrder columns (λ a b. a ≡ b) (map_run f run) (map_lines f ls) names
+    in_order-map names h =
+        let shown = filter (is_visible_or_marker columns) (joined ls) in
+        let items : filter (is_visible_or_marker columns) (joined (map_lines f ls)) ++ marker_items names ≡ map_items f (shown ++ marker_items names) =
+        ap (λ (is : List (Item B)). filter (is_visible_or_marker columns) is ++ marker_items names) (joined-map (map_item f) ls) ∙ ap (λ (is : List (Item B)). is ++ marker_items names) (shown_items-map columns (joined ls))
+        ∙ ap (λ (is : List (Item B)). map_items f shown ++ is) (sym (marker_items-map names)) ∙ sym (map-append (map_item f) shown (marker_items names)) in
+        rw (items, shown_entries-map columns run)
+        (zip-map (ShowsEntry (λ a b. a ≡ b)) (ShowsEntry (λ a b. a ≡ b)) (map_item f) (map_entry f) entry_shown-map (shown ++ marker_items names) (filter (is_entry_to_show columns) run) h)
+
+    own-map : ShowsOwn columns (λ a b. a ≡ b) run ls → ShowsOwn columns (λ a b. a ≡ b) (map_run f run) (map_lines f ls)
+    own-map h =
+        let glyphs : visible_glyphs columns (joined (map_lines f ls)) ≡ map (map_glyph f) (visible_glyphs columns (joined ls)) =
+        ap (filter (λ (g : ℕ × B). is_visible columns g.0)) (joined_glyphs-map f ls) ∙ visible_glyphs-map f columns (glyphs_of (joined ls)) in
+        rw (glyphs, visible_entries-map f columns run)
+        (zip-map (StandsUnderOwn (λ a b. a ≡ b)) (StandsUnderOwn (λ a b. a ≡ b)) (map_glyph f) (map_entry f) own_stands-map (visible_glyphs columns (joined ls)) (visible_entries columns run) h)
+
   -- ---- lines
 
   fit-map : (columns : ℕ → Option ℕ) (width : ℕ) (may_overflow : Bool) (lines : List (List (Item A))) → Each (FitsBlock columns width may_overflow) lines → Each (FitsBlock columns width may_overflow) (map_lines f lines)
@@ -148,6 +220,9 @@ module _ {A B : Type 0} (f : A → B) where
         shown = rw lines (shown_by-map columns s.width s.may_overflow s.run (s.lines ++ texts) h.shown);
         fits = rw lines (fit-map columns s.width s.may_overflow (s.lines ++ texts) h.fits);
         invents = rw (lines, items) (all_come-map columns s.run (joined (s.lines ++ texts)) h.invents);
+        come = rw (lines, items) (all_come_with-map columns s.run (joined (s.lines ++ texts)) h.come);
+        order = rw lines (in_order-map columns s.run (s.lines ++ texts) names h.order);
+        own = λ plain. rw lines (own-map columns s.run (s.lines ++ texts) (h.own (not_pre_unmap s.run plain)));
         kept = λ normal. rw (lines, items, without_spaces-map (joined (s.lines ++ texts)), kept_items-map columns s.run, ← marker_items-map names)
             (sym (map-append (map_item f) (without_spaces (joined (s.lines ++ texts))) (marker_items names)) ∙ ap (map_items f) (h.kept (mode_unmap _ s.run normal)));
         markers = rw (lines, items, names_in_items-map (joined (s.lines ++ texts)), names_in_run-map s.run) h.markers;

@@ -10,7 +10,8 @@ use Rattle.small_runs.proofs.Admitted.{may_end}
 use Rattle.small_runs.specs.Small.{MayEnd}
 use Rattle.small_runs.proofs.Flushes.{shown}
 use Rattle.small_runs.proofs.PrintableTexts.{printable_line, text_has_mode}
-use Rattle.small_runs.proofs.PreRuns.{none_waits, lines_by_letters}
+use Rattle.small_runs.proofs.PreRuns.{none_waits}
+use Rattle.small_runs.proofs.OwnTexts.{own_by_letters}
 use Rattle.small_runs.proofs.OtherLines.{texts_differ}
 use Rattle.small_runs.proofs.wrapped.newlines_are_kept.Goals as goal
 
@@ -28,11 +29,15 @@ letters {A} a b lines names h =
     ∙ ap (λ (x : List (List ℕ)). x ++ map letters_of q.1) second
     ∙ ap (λ (x : List (List ℕ)). [] ∷ x) third)
 
+known : {A : Type 0} (a b : A) (lines : List (List (Item A))) (names : List (List ℕ)) → MayEnd 5 (text_entries (codes "ab\n\ncd") a b PreWrap) lines names →
+    lines ≡ map (λ ds. text_items ds a) (codes "ab" ∷ [] ∷ codes "cd" ∷ [])
+known a b lines names h = own_by_letters 5 (codes "ab\n\ncd") a b PreWrap lines names (codes "ab" ∷ [] ∷ codes "cd" ∷ []) (λ e. cc) refl (letters a b lines names h) h
+
 pub returns : goal.returns
 returns g c = record {
   admitted = λ a b. may_end 5 (omega arith) (map entry (text_entries (codes "ab\n\ncd") a b PreWrap)) (inl (omega arith), (inl (omega arith), (inl (omega arith), tt)));
-  letters = λ a b lines names h. (letters a b lines names h, none_waits 5 (codes "ab\n\ncd") a b PreWrap lines names h);
-  ends = λ a lines names h. lines_by_letters 5 (codes "ab\n\ncd") a PreWrap lines names h ∙ ap (map (λ ds. text_items ds a)) (letters a a lines names h);
+  ends = λ a b lines names h. (known a b lines names h, none_waits 5 (codes "ab\n\ncd") a b PreWrap lines names h);
   empty_line_stays = λ a b names h. texts_differ _ _ refl (letters a b _ names h);
   not_joined = λ a b names h. texts_differ _ _ refl (letters a b _ names h);
+  no_continuation = λ a b names other h. let e = known a b _ names h in other (cc);
 }

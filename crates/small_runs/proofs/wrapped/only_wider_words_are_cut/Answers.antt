@@ -1,4 +1,4 @@
-use Rattle.std.proofs.Common.{◌≡◌, ℕ, List, [], ◌∷◌, codes, map, inl, inr, refl, ap, ◌∙◌, arith}
+use Rattle.std.proofs.Common.{◌≡◌, ℕ, List, [], ◌∷◌, codes, map, inl, inr, refl, arith}
 use Rattle.tbr_model.specs.Rule.{entry}
 use Rattle.tbr_model.specs.declared.white_space.WhiteSpace.TheVariants.{PreWrap}
 use Rattle.tbr_model.specs.Run.{Item}
@@ -10,7 +10,8 @@ use Rattle.small_runs.proofs.Admitted.{may_end}
 use Rattle.small_runs.specs.Small.{MayEnd}
 use Rattle.small_runs.proofs.Flushes.{shown}
 use Rattle.small_runs.proofs.PrintableTexts.{printable_line, text_has_mode}
-use Rattle.small_runs.proofs.PreRuns.{none_waits, lines_by_letters}
+use Rattle.small_runs.proofs.PreRuns.{none_waits}
+use Rattle.small_runs.proofs.OwnTexts.{own_by_letters}
 use Rattle.small_runs.proofs.OtherLines.{texts_differ}
 use Rattle.small_runs.proofs.wrapped.only_wider_words_are_cut.Goals as goal
 
@@ -25,11 +26,15 @@ letters a b lines names h =
     (printable_line (codes "a bcdefg hij") a b PreWrap refl) (λ spaces. omega (arith, spaces.0)) in
     wrapped_in_one_way 4 [] (codes "a bcdefg hij") (codes "a" ∷ codes "bcde" ∷ codes "fg" ∷ codes "hij" ∷ []) (map letters_of lines) wraps wrapped
 
+known : {A : Type 0} (a b : A) (lines : List (List (Item A))) (names : List (List ℕ)) → MayEnd 4 (text_entries (codes "a bcdefg hij") a b PreWrap) lines names →
+    lines ≡ map (λ ds. text_items ds a) (codes "a" ∷ codes "bcde" ∷ codes "fg" ∷ codes "hij" ∷ [])
+known a b lines names h = own_by_letters 4 (codes "a bcdefg hij") a b PreWrap lines names (codes "a" ∷ codes "bcde" ∷ codes "fg" ∷ codes "hij" ∷ []) (λ e. cc) refl (letters a b lines names h) h
+
 pub returns : goal.returns
 returns g c = record {
   admitted = λ a b. may_end 4 (omega arith) (map entry (text_entries (codes "a bcdefg hij") a b PreWrap)) (inl (omega arith), (inl (omega arith), (inl (omega arith), (inl (omega arith), tt))));
-  letters = λ a b lines names h. (letters a b lines names h, none_waits 4 (codes "a bcdefg hij") a b PreWrap lines names h);
-  ends = λ a lines names h. lines_by_letters 4 (codes "a bcdefg hij") a PreWrap lines names h ∙ ap (map (λ ds. text_items ds a)) (letters a a lines names h);
+  ends = λ a b lines names h. (known a b lines names h, none_waits 4 (codes "a bcdefg hij") a b PreWrap lines names h);
   begins_a_line = λ a b names h. texts_differ _ _ refl (letters a b _ names h);
   fitting_not_cut = λ a b names h. texts_differ _ _ refl (letters a b _ names h);
+  no_continuation = λ a b names other h. let e = known a b _ names h in other (cc);
 }

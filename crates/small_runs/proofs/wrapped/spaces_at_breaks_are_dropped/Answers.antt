@@ -1,16 +1,20 @@
-use Rattle.std.proofs.Common.{◌≡◌, ℕ, List, [], ◌∷◌, codes, map, inl, inr, refl, ap, ◌∙◌, arith}
+use Rattle.std.proofs.Common.{◌≡◌, ◌⊎◌, ℕ, List, [], ◌∷◌, codes, map, inl, inr, refl, sym, subst, ◌∙◌, arith}
 use Rattle.tbr_model.specs.Rule.{entry}
 use Rattle.tbr_model.specs.declared.white_space.WhiteSpace.TheVariants.{PreWrap}
-use Rattle.tbr_model.specs.Run.{Item}
+use Rattle.tbr_model.specs.Codes.{space_character}
+use Rattle.tbr_model.specs.Run.{Entry, Item, glyph}
 use Rattle.tbr_model.specs.Hard.{letters_of, IsWrapped}
+use Rattle.tbr_model.specs.Shown.{InventsNothing, ShowsOwn}
 use Rattle.tbr_model.proofs.prewrap.OneWay.{wrapped_in_one_way}
 use Rattle.tbr_lines.specs.Elements.{text_items}
 use Rattle.tbr_lines.specs.State.{text_entries}
 use Rattle.small_runs.proofs.Admitted.{may_end}
-use Rattle.small_runs.specs.Small.{MayEnd}
-use Rattle.small_runs.proofs.Flushes.{shown}
+use Rattle.small_runs.specs.Small.{small_columns, MayEnd}
+use Rattle.small_runs.proofs.AnnotatedTexts.{annotated_lines, white_under}
+use Rattle.small_runs.proofs.Flushes.{shown, own, invents}
 use Rattle.small_runs.proofs.PrintableTexts.{printable_line, text_has_mode}
-use Rattle.small_runs.proofs.PreRuns.{none_waits, lines_by_letters}
+use Rattle.small_runs.proofs.PreRuns.{unmarked, none_waits}
+use Rattle.small_runs.proofs.OwnTexts.{text_not_pre}
 use Rattle.small_runs.proofs.OtherLines.{texts_differ}
 use Rattle.small_runs.proofs.wrapped.spaces_at_breaks_are_dropped.Goals as goal
 
@@ -25,13 +29,24 @@ letters a b lines names h =
     (printable_line (codes " ab  cd ") a b PreWrap refl) (λ spaces. omega (arith, spaces.1.0)) in
     wrapped_in_one_way 5 [] (codes " ab  cd ") (codes " ab" ∷ codes "cd" ∷ []) (map letters_of lines) wraps wrapped
 
+known : {A : Type 0} (a b : A) (lines : List (List (Item A))) (names : List (List ℕ)) → MayEnd 5 (text_entries (codes " ab  cd ") a b PreWrap) lines names →
+    (x : A) × (lines ≡ (glyph space_character x ∷ text_items (codes "ab") a) ∷ text_items (codes "cd") a ∷ []) × ((x ≡ a) ⊎ (x ≡ b))
+known {A} a b lines names h =
+    let run : List (Entry A) = text_entries (codes " ab  cd ") a b PreWrap in
+    let (x, (p, (q, (r, (s, e))))) = annotated_lines (λ ls. lines ≡ ls) (codes " ab" ∷ codes "cd" ∷ []) lines (unmarked 5 (codes " ab  cd ") a b PreWrap lines names h) (letters a b lines names h) refl in
+    let o = subst (λ ls. ShowsOwn small_columns (λ p q. p ≡ q) run ls) e (own 5 run lines names (text_not_pre (codes " ab  cd ") a b PreWrap (λ e. cc)) h) in
+    let v = subst (λ ls. InventsNothing small_columns (λ p q. p ≡ q) run ls) e (invents 5 run lines names h) in
+    (x, e ∙ (λ i. (glyph space_character x ∷ glyph 97 (o.0.1 i) ∷ glyph 98 (o.1.0.1 i) ∷ []) ∷ (glyph 99 (o.1.1.0.1 i) ∷ glyph 100 (o.1.1.1.0.1 i) ∷ []) ∷ []), white_under (codes " ab  cd ") a b PreWrap 32 x refl v.0)
+
 pub returns : goal.returns
 returns g c = record {
   admitted = λ a b. may_end 5 (omega arith) (map entry (text_entries (codes " ab  cd ") a b PreWrap)) (inl (omega arith), (inl (omega arith), tt));
-  letters = λ a b lines names h. (letters a b lines names h, none_waits 5 (codes " ab  cd ") a b PreWrap lines names h);
-  ends = λ a lines names h. lines_by_letters 5 (codes " ab  cd ") a PreWrap lines names h ∙ ap (map (λ ds. text_items ds a)) (letters a a lines names h);
+  ends = λ a b lines names h. (known a b lines names h, none_waits 5 (codes " ab  cd ") a b PreWrap lines names h);
   not_behind_a_line = λ a b names h. texts_differ _ _ refl (letters a b _ names h);
   not_before_a_line = λ a b names h. texts_differ _ _ refl (letters a b _ names h);
   not_behind_the_text = λ a b names h. texts_differ _ _ refl (letters a b _ names h);
   in_front = λ a b names h. texts_differ _ _ refl (letters a b _ names h);
+  no_continuation = λ a b x names other h.
+      other (sym (own 5 (text_entries (codes " ab  cd ") a b PreWrap) ((glyph space_character x ∷ text_items (codes "ab") a) ∷ text_items (codes "cd") b ∷ []) names
+      (text_not_pre (codes " ab  cd ") a b PreWrap (λ e. cc)) h).1.1.0.1);
 }
