@@ -1,17 +1,22 @@
 -- Text that joins the run of a block.
-use Rattle.std.proofs.Common.{◌≡◌, ℕ, Bool, true, false, Option, None, Some, unwrap_or, List, [], ◌∷◌, ◌++◌, map, refl, ap, sym, ◌∙◌, subst}
+use Rattle.std.proofs.Common.{◌≡◌, ℕ, ◌&&◌, IsTrue, Bool, true, false, is_none, Option, None, Some, unwrap_or, List, [], ◌∷◌, ◌++◌, map, refl, ap, sym, ◌∙◌, subst}
 use Rattle.std.specs.Global.{Vec}
+use Rattle.std.specs.Option.{option_map}
 use Rattle.std.proofs.lemmas.List.{map-append}
 use Rattle.tbr_model.specs.declared.white_space.WhiteSpace.{WhiteSpace}
-use Rattle.tbr_model.specs.Run.{Entry, character}
+use Rattle.tbr_model.specs.Run.{Entry, character, marker_entry, items_width, kept_items}
+use Rattle.tbr_model.proofs.maps.Words.{items_width-map}
+use Rattle.tbr_lines.proofs.MappedRuns.{kept_items-map}
+use Rattle.tbr_lines.specs.declared.Error.{Error}
 use Rattle.tbr_model.specs.Mapped.{map_entry, map_run}
-use Rattle.tbr_lines.specs.State.{State, text_entries, run_with, JoinsRun, IsNormal}
+use Rattle.tbr_lines.specs.State.{State, text_entries, run_with, JoinsRun, JoinsAsMarker, IsNormal, WrapsNormally, RunDecides}
 use Rattle.tbr_lines.specs.Wrapped.{EndedWordsFit}
-use Rattle.text_block_renderer.specs.Renderer.{Open, Renderer, new_block, open_block, open_run, text_annotations, last_mode, entries_under}
-use Rattle.text_block_renderer.specs.Meant.{tag_meant}
-use Rattle.text_block_renderer.specs.View.{IsFresh, block_meant}
+use Rattle.text_block_renderer.specs.Renderer.{Open, Renderer, new_block, open_block, open_run, text_annotations, last_mode, entries_under, with_entries, block_width, may_overflow}
+use Rattle.text_block_renderer.specs.Meant.{tag_meant, map_open, meant}
+use Rattle.text_block_renderer.specs.View.{IsFresh, block_seen, block_meant}
 use Rattle.text_block_renderer.specs.Flush.{with_run, RunGoesOn, RunStops}
-use Rattle.text_block_renderer.proofs.Fits.{run_goes_on-map, run_stops-map}
+use Rattle.text_block_renderer.specs.Steps.{BlockIsAtLineStart}
+use Rattle.text_block_renderer.proofs.Fits.{normal_unmap, run_goes_on-map, run_stops-map}
 
 pub text_entries-map : {A B : Type 0} (f : A → B) (cs : List ℕ) (a b : A) (mode : WhiteSpace) → map_run f (text_entries cs a b mode) ≡ text_entries cs (f a) (f b) mode
 text_entries-map f [] a b mode = refl
@@ -47,3 +52,32 @@ open_run_is {D} {A} r = go r.block
     go : (o : Option (Open (List A))) → (unwrap_or o (new_block r)).run ≡ open_run o
     go None = refl
     go (Some b) = refl
+
+-- ---- markers
+
+module _ {A M : Type 0} (f : A → M) (width : ℕ) (overflows : Bool) (old new : State (Vec A)) (name : List ℕ) (joins : JoinsAsMarker old name new) where
+  pub fresh_marked : IsFresh width overflows old → IsFresh width overflows new
+  fresh_marked fresh = subst (IsFresh width overflows) (sym joins.is) (record {
+    width_is = fresh.width_is; may_overflow = fresh.may_overflow; begun = fresh.begun; ended = fresh.ended; handed = fresh.handed; unfailed = fresh.unfailed;
+  })
+
+  pub marked : block_meant f new ≡ with_run (block_meant f old) (marker_entry name ∷ [])
+  marked = ap (block_meant f) joins.is ∙ ap (λ (es : List (Entry (List M))). record (block_meant f old) { run = es }) (map-append (map_entry (tag_meant f)) old.run (marker_entry name ∷ []))
+
+-- a renderer whose block has a marker more
+pub marker_added : {D A M : Type 0} (f : A → M) (r taken put : Renderer D A (Vec A)) (old new : State (Vec A)) (name : List ℕ) → taken ≡ record r { block = None } → block_meant f old ≡ open_block (meant f r) → block_meant f new ≡ with_run (block_meant f old) (marker_entry name ∷ []) → put ≡ record taken { block = block_seen (Some new) } →
+    meant f put ≡ with_entries (meant f r) (marker_entry name ∷ [])
+marker_added {D} {A} {M} f r taken put old new name emptied before is done =
+    ap (meant f) done ∙ ap (λ (q : Renderer D A (Vec A)). meant f (record q { block = block_seen (Some new) })) emptied
+    ∙ ap (λ (b : Open (List M)). record (meant f r) { block = Some b }) (is ∙ ap (λ b. with_run b (marker_entry name ∷ [])) before)
+
+-- ---- the beginning of a line
+
+pub line_start : {D A M : Type 0} (f : A → M) (columns : ℕ → Option ℕ) (r : Renderer D A (Vec A)) (b : State (Vec A)) (at : Bool) → block_seen (Some b) ≡ r.block → IsFresh (block_width r) (may_overflow r) b → at ≡ is_none b.failure && b.no_columns → (WrapsNormally b → RunDecides columns b) →
+    BlockIsAtLineStart columns (meant f r) at (option_map (map_open (tag_meant f)) r.block)
+line_start {D} {A} {M} f columns r b at seen fresh asked decides = subst (λ (o : Option (Open (Vec A))). BlockIsAtLineStart columns (meant f r) at (option_map (map_open (tag_meant f)) o)) seen (λ narrow normal.
+    let known = decides (fresh.unfailed, fresh.may_overflow ∙ narrow, normal_unmap (tag_meant f) columns (block_width r) b.run normal) in
+    let is : at ≡ b.no_columns = asked ∙ ap (λ (o : Option Error). is_none o && b.no_columns) fresh.unfailed in
+    let same : items_width columns (kept_items columns (map_run (tag_meant f) b.run)) ≡ items_width columns (kept_items columns b.run) =
+    ap (items_width columns) (kept_items-map (tag_meant f) columns b.run) ∙ items_width-map (tag_meant f) columns (kept_items columns b.run) in
+    (λ at_start. same ∙ known.no_columns.0 (subst IsTrue is at_start), λ none. subst IsTrue (sym is) (known.no_columns.1 (sym same ∙ none))))

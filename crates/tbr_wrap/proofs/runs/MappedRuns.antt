@@ -65,7 +65,7 @@ module _ {A B : Type 0} (f : A → B) where
   behind-map test (character c a b m ∷ es) names = behind-map test es (if test c then [] else names)
   behind-map test (marker_entry name ∷ es) names = behind-map test es (names ++ name ∷ [])
 
-  kept_items-map : (columns : ℕ → Option ℕ) (run : List (Entry A)) → kept_items columns (map_run f run) ≡ map_items f (kept_items columns run)
+  pub kept_items-map : (columns : ℕ → Option ℕ) (run : List (Entry A)) → kept_items columns (map_run f run) ≡ map_items f (kept_items columns run)
   kept_items-map columns [] = refl
   kept_items-map columns (e ∷ es) =
       let first = items_of-map f columns e in
