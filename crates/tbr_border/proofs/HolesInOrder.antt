@@ -1,5 +1,6 @@
 -- Holes in order.
-use Rattle.std.proofs.Common.{◌≡◌, ℕ, suc, ◌+◌, ◌-◌, ◌<◌, ◌≤◌, Bool, List, [], ◌∷◌, ◌++◌, map, length, get_or, refl, subst, arith}
+use Rattle.std.proofs.Common.{◌≡◌, ℕ, suc, ◌+◌, ◌-◌, ◌<◌, ◌≤◌, Bool, List, [], ◌∷◌, ◌++◌, map, length, get_or, refl, sym, ap, ◌∙◌, subst, arith}
+use Rattle.std.proofs.lemmas.List.{map_push}
 use Rattle.std.specs.List.{AllZip}
 use Rattle.tbr_border.specs.Border.{Hole, span_end, AreInOrder, SameHole}
 
@@ -16,6 +17,14 @@ span_end-is (h ∷ k ∷ hs) = span_end-is (k ∷ hs)
 pub in_order_push : {A : Type 0} (from : ℕ) (hs : List (Hole A)) (h : Hole A) (end longer : ℕ) → AreInOrder from hs end → last_end from hs ≤ h.place → h.place + h.width ≤ longer → AreInOrder from (hs ++ h ∷ []) longer
 in_order_push from [] h end longer k p q = (p, q)
 in_order_push from (g ∷ hs) h end longer k p q = (k.0, in_order_push (g.place + g.width) hs h end longer k.1 p q)
+
+-- one more of what holes stand for
+pub mapped_push : {A X : Type 0} (f : X → Hole A) (xs more : List X) (x : X) (h : Hole A) (end longer : ℕ) → more ≡ xs ++ x ∷ [] → f x ≡ h → AreInOrder 0 (map f xs) end → last_end 0 (map f xs) ≤ h.place → h.place + h.width ≤ longer → AreInOrder 0 (map f more) longer
+mapped_push {A} f xs more x h end longer e same k p q =
+    subst (λ (hs : List (Hole A)). AreInOrder 0 hs longer) (sym (ap (map f) e ∙ map_push f xs x ∙ ap (λ g. map f xs ++ g ∷ []) same)) (in_order_push 0 (map f xs) h end longer k p q)
+
+pub before_last : {A : Type 0} (seen hs : List (Hole A)) (place : ℕ) → span_end seen ≤ place → hs ≡ seen → last_end 0 hs ≤ place
+before_last seen hs place h e = omega (arith, h, span_end-is hs, ap span_end e)
 
 pub in_order_longer : {A : Type 0} (from : ℕ) (hs : List (Hole A)) (end longer : ℕ) → AreInOrder from hs end → end ≤ longer → AreInOrder from hs longer
 in_order_longer from [] end longer h k = omega arith

@@ -1,7 +1,7 @@
 -- Rich annotations are equal exactly where they mean the same, and copies are equal.
 use Rattle.std.specs.Prelude.{◌≡◌, ℕ, Bool, true, false, ◌&&◌, ◌==◌, nat_eq, List, String, chars, string_bytes, IsTrue, ◌↔◌, refl}
 use Rattle.std.proofs.Common.{sym, ap, ◌∙◌, subst}
-use Rattle.std.proofs.lemmas.Bool.{eqb-true, eq-eqb}
+use Rattle.std.proofs.lemmas.Bool.{eqb-true, eq-eqb, false≢true}
 use Rattle.std.specs.Cmp.Lexicographic.{pointwise, same_text}
 use Rattle.std.proofs.Math.Bool.{beq}
 use Rattle.std.specs.String.{string_eq, string_eq_equiv}
@@ -56,7 +56,24 @@ same_colour x y h =
 equal_colour : (x : Colour) → IsTrue (colour.ghosts.eq x x)
 equal_colour x = rw (eq-eqb x.r x.r refl, eq-eqb x.g x.g refl, eq-eqb x.b x.b refl) refl
 
+-- a number for each constructor
+kind : Style → ℕ
+kind style.plain = 0
+kind (style.link target) = 1
+kind (style.image source) = 2
+kind style.emphasis = 3
+kind style.strong = 4
+kind style.strikeout = 5
+kind style.code = 6
+kind (style.preformatted continued) = 7
+kind (style.colour c) = 8
+kind (style.background c) = 9
+
+of_one_kind : (s t : Style) → (kind s == kind t) ≡ false → s ≡ t → ⊥
+of_one_kind s t n e = false≢true (sym n ∙ eq-eqb (kind s) (kind t) (ap kind e))
+
 pub equal_by_style : (a b : RichAnnotation) → IsTrue (annotation.ghosts.eq a b) ↔ (style_of a ≡ style_of b)
+unfolding kind
 equal_by_style rich.Default rich.Default = (λ _. refl, λ _. refl)
 equal_by_style (rich.Link s) (rich.Link t) = (λ h. ap style.link (same_characters s t h), λ h. equal_text s t cc)
 equal_by_style (rich.Image s) (rich.Image t) = (λ h. ap style.image (same_characters s t h), λ h. equal_text s t cc)
@@ -76,7 +93,7 @@ equal_by_style (rich.BgColour x) (rich.BgColour y) = (
   λ h. ap style.background (same_colour x y h),
   λ h. let e : x ≡ y = cc in subst (λ (c : Colour). IsTrue (colour.ghosts.eq x c)) e (equal_colour x),
 )
-equal_by_style a b = (λ h. cc, λ h. cc)
+equal_by_style a b = (λ h. absurd (false≢true h), λ e. absurd (of_one_kind (style_of a) (style_of b) refl e))
 
 pub copies_equal : (a b : RichAnnotation) → copy.ghosts.is_clone a b → annotation.ghosts.eq a b ≡ true
 copies_equal rich.Default rich.Default h = refl

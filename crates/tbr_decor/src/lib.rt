@@ -13,8 +13,6 @@ mod colour;
 mod decorator;
 mod plain;
 mod rich;
-#[cfg(test)]
-mod tests;
 pub mod text;
 mod trivial;
 pub mod usual;

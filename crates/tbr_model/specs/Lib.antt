@@ -9,7 +9,6 @@ pub mod Entry
 pub mod Slot
 pub mod Regions
 pub mod Greedy
-pub mod TestWidth
 pub mod Laid
 pub mod Rule
 pub mod Markers

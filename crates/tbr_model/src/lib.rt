@@ -35,8 +35,6 @@ mod layout;
 mod mapped;
 mod shown;
 mod slot;
-#[cfg(test)]
-mod tests;
 mod white_space;
 mod width;
 mod word;

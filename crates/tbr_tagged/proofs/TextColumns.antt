@@ -1,5 +1,5 @@
 -- Columns of texts, and loops over characters.
-use Rattle.std.proofs.Common.{◌≡◌, ℕ, suc, ◌+◌, ◌<◌, Option, Some, unwrap_or, List, [], ◌∷◌, ◌++◌, map, length, get_or, take, drop, refl, ap, sym, ◌∙◌, arith, drop-cons, map-id}
+use Rattle.std.proofs.Common.{◌≡◌, ℕ, suc, ◌+◌, ◌<◌, ◌≤◌, Option, Some, unwrap_or, List, [], ◌∷◌, ◌++◌, map, length, get_or, take, drop, refl, ap, sym, ◌∙◌, arith, drop-cons, map-id}
 use Rattle.std.specs.Iterator.{Yields}
 use Rattle.std.proofs.lemmas.Iterator.{YieldsList}
 use Rattle.std.proofs.lemmas.Iterator.Consumers.{YieldsList-so_far, YieldsList-turn}
@@ -19,6 +19,10 @@ seen_and_rest {A} all xs x seen below is = (
 pub width_of_text-append : (columns : ℕ → Option ℕ) (cs ds : List ℕ) → width_of_text columns (cs ++ ds) ≡ width_of_text columns cs + width_of_text columns ds
 width_of_text-append columns [] ds = omega arith
 width_of_text-append columns (c ∷ cs) ds = omega (arith, width_of_text-append columns cs ds)
+
+-- a text takes what its beginning takes, and the character behind that, or more
+pub width_of_text-beginning : (columns : ℕ → Option ℕ) (all cs : List ℕ) (c : ℕ) (ds : List ℕ) → all ≡ cs ++ c ∷ ds → width_of_text columns cs + unwrap_or (columns c) 0 ≤ width_of_text columns all
+width_of_text-beginning columns all cs c ds e = omega (arith, ap (width_of_text columns) e, width_of_text-append columns cs (c ∷ ds))
 
 pub items_width-text : {A : Type 0} (columns : ℕ → Option ℕ) (cs : List ℕ) (a : A) → items_width columns (map (λ c. glyph c a) cs) ≡ width_of_text columns cs
 items_width-text columns [] a = refl

@@ -1,7 +1,7 @@
 //! Worked examples of blocks that pad, overflow, and hand out their lines one at a time.
 use crate::steps::Step::{Ask, Flush, Next, Normal, Pre};
 use crate::steps::{expect, expect_of, expect_pieces, overflowing, plain, told};
-use crate::texts::Voice;
+use crate::texts::{Voice, counts};
 use std::alloc::{AllocError, Global};
 use std::test::Fail;
 use tbr_lines::{UnicodeColumns, WrappedBlock};
@@ -68,11 +68,8 @@ fn a_word_of_many_letters_is_cut_into_full_lines(rt: HostRuntime) -> Result<(), 
     let word = letters(alloc, 100_000)?;
     let block = plain::<UnicodeColumns>(alloc, 7);
     let lines = told(alloc, block, &[Normal(word.as_str())])?;
-    assert_eq!(rt;
-        lines.len(),
-        100_000 + 14_286,
-        "each line ends in a newline"
-    );
+    // Each line ends in a newline.
+    counts(&rt, lines.len(), 100_000 + 14_286);
     assert!(rt; lines.as_str().ends_with("\nxxxxx\n"));
     Ok(())
 }

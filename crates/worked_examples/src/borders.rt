@@ -2,7 +2,7 @@
 use crate::columns::EveryOne;
 use crate::joins::Join::{Above, Below, Marker, Stretch, Text};
 use crate::joins::{Join, border, joined, shown};
-use crate::texts::{Voice, elements, marker, piece, shows};
+use crate::texts::{Voice, counts, elements, marker, piece, shows};
 use std::alloc::Global;
 use std::process::Abort;
 use std::test::Fail;
@@ -116,8 +116,8 @@ fn joins_stretch_and_keep_other_arms(rt: HostRuntime) -> Result<(), Fail> {
 fn refuses_a_join(rt: &impl Abort, alloc: Global) -> Result<(), Fail> {
     let joins = [Below(1), Below(3), Above(1), Below(6), Stretch(9)];
     let mut line = joined::<UnicodeColumns>(alloc, 5, &joins)?;
-    assert_eq!(rt; line.len(), 9);
-    assert_eq!(rt; line.join_above(usize::MAX), Err(OutOfMemory));
+    counts(rt, line.len(), 9);
+    assert!(rt; line.join_above(usize::MAX).is_err());
     shows(rt, line.to_text(), "─┼─┬──┬──");
     Ok(())
 }
@@ -136,7 +136,7 @@ fn text_hides_cells_and_chops_its_neighbours(rt: HostRuntime) -> Result<(), Fail
     assert!(rt; !border(alloc, 5)?.has_holes());
     let line = joined::<UnicodeColumns>(alloc, 5, &[Above(1), Text(0, "B")])?;
     assert!(rt; line.has_holes());
-    assert_eq!(rt; line.span_end(), 1);
+    counts(&rt, line.span_end(), 1);
     Ok(())
 }
 
@@ -195,7 +195,7 @@ fn merges_join_where_the_other_border_has_joins(rt: HostRuntime) -> Result<(), F
     // As far as joins come.
     line.merge_from_below(&other, 6)?;
     shows(&rt, line.to_text(), "───┴───┬");
-    assert_eq!(rt; line.merge_from_below(&other, usize::MAX), Err(OutOfMemory));
+    assert!(rt; line.merge_from_below(&other, usize::MAX).is_err());
     shows(&rt, line.to_text(), "───┴───┬");
     Ok(())
 }

@@ -1,5 +1,5 @@
-//! Tests that cross the crates: worked examples by calls on the libraries, a second width instance, a second type of
-//! tags, and every short text against the plain program for the best layout.
+//! Tests of the libraries: worked examples by calls on them, a second width instance, a second type of tags, what each
+//! decorator answers, and every short text against the plain program for the best layout.
 #![tactic(auto)]
 
 #[cfg(test)]
@@ -9,9 +9,13 @@ mod borders;
 #[cfg(test)]
 mod columns;
 #[cfg(test)]
+mod decorators;
+#[cfg(test)]
 mod edits;
 #[cfg(test)]
 mod joins;
+#[cfg(test)]
+mod layouts;
 #[cfg(test)]
 mod markers;
 #[cfg(test)]

@@ -2,11 +2,11 @@
 //! best layout, and the markers that are on none of them trail.
 ghost use Rattle.std.specs.Prelude.{◌<◌};
 
-use crate::steps::{add, mark_with, plain};
-use crate::texts::{Voice, append_marked_line, append_marker};
+use crate::steps::{add, mark_with, plain, told};
+use crate::texts::{Voice, append_marker};
 use std::alloc::{AllocError, Global};
 use std::test::Fail;
-use tbr_lines::{Error, OutOfMemory, UnicodeColumns, WhiteSpace, WrappedBlock};
+use tbr_lines::{Error, OutOfMemory, TaggedLineElement, UnicodeColumns, WhiteSpace, WrappedBlock};
 use tbr_model::{Entry, Slot, best_layout, slots};
 
 /// It stands for a marker.
@@ -46,7 +46,8 @@ fn entry(alloc: Global, c: char) -> Result<Entry<u8>, AllocError> {
     })
 }
 
-fn entries(alloc: Global, text: &str) -> Result<Vec<Entry<u8>>, AllocError> {
+/// The entries of a text under one annotation.
+pub fn entries(alloc: Global, text: &str) -> Result<Vec<Entry<u8>>, AllocError> {
     let mut run = Vec::new(alloc);
     for c in text.chars() {
         run.push(entry(alloc, c)?)?;
@@ -115,19 +116,32 @@ fn wrapped(alloc: Global, width: usize, text: &str) -> Result<String, Error>
     requires { 0 < width }
 {
     let mut block = plain::<UnicodeColumns>(alloc, width);
-    for c in text.chars() {
-        join_one(&mut block, alloc, c)?;
-    }
-    block.flush()?;
-    let trailing = block.take_trailing_fragments()?;
-    let mut all = String::new(alloc);
-    for line in &block.into_lines()? {
-        append_marked_line(&mut all, line)?;
-    }
-    for _ in &trailing {
-        append_marker(&mut all, "m")?;
-    }
+    join_all(&mut block, alloc, text)?;
+    let trailing = flushed(&mut block)?;
+    let mut all = told(alloc, block, &[])?;
+    append_markers(&mut all, trailing.len())?;
     Ok(all)
+}
+
+/// The characters and markers of a text join the block's run.
+fn join_all(block: &mut WrappedBlock<Voice>, alloc: Global, text: &str) -> Result<(), Error> {
+    for c in text.chars() {
+        join_one(block, alloc, c)?;
+    }
+    Ok(())
+}
+
+/// The run ends, and its trailing markers are taken out.
+fn flushed(block: &mut WrappedBlock<Voice>) -> Result<Vec<TaggedLineElement<Voice>>, Error> {
+    block.flush()?;
+    Ok(block.take_trailing_fragments()?)
+}
+
+fn append_markers(all: &mut String, count: usize) -> Result<(), OutOfMemory> {
+    for _ in 0..count {
+        append_marker(all, "m")?;
+    }
+    Ok(())
 }
 
 /// One character joins the block's run, or a marker.

@@ -90,6 +90,11 @@ pub fn elements(alloc: Global, line: &TaggedLine<Voice>) -> Result<String, OutOf
     Ok(all)
 }
 
+/// The number is the one that is expected.
+pub fn counts(rt: &impl Abort, number: usize, expected: usize) {
+    assert_eq!(rt; number, expected);
+}
+
 /// The text is the one that is expected.
 pub fn shows<E: Debug + Drop>(rt: &impl Abort, text: Result<String, E>, expected: &str) {
     match text {

@@ -2,8 +2,9 @@
 use crate::columns::EveryOne;
 use crate::steps::Step::{Flush, Normal};
 use crate::steps::{expect, expect_of, plain, told};
-use crate::texts::{Voice, piece};
+use crate::texts::{Voice, counts, piece};
 use std::alloc::Global;
+use std::process::Abort;
 use std::test::Fail;
 use tbr_lines::{Error, OutOfMemory, TaggedLine, UnicodeColumns, WhiteSpace, WrappedBlock};
 
@@ -95,6 +96,11 @@ fn white_space_alone_gives_no_line(rt: HostRuntime) {
     expect(&rt, alloc, 5, &[Normal("   ")], "");
 }
 
+/// Whether a call refused, since a character is too wide.
+fn is_too_narrow<T: Drop>(answer: Result<T, Error>) -> bool {
+    matches!(answer, Err(Error::TooNarrow))
+}
+
 /// A block that has refused a text.
 fn refusing(alloc: Global) -> Result<WrappedBlock<u8>, Fail> {
     let mut block: WrappedBlock<u8> = WrappedBlock::new(alloc, 1, false, false, 1);
@@ -105,19 +111,19 @@ fn refusing(alloc: Global) -> Result<WrappedBlock<u8>, Fail> {
 #[test]
 fn a_character_wider_than_the_block_is_refused_for_good(rt: HostRuntime) -> Result<(), Fail> {
     let alloc = rt.alloc();
-    let refused = told(alloc, plain::<UnicodeColumns>(alloc, 1), &[Normal("漢")]).err();
-    assert_eq!(rt; refused, Some(Error::TooNarrow));
-
-    let mut block = refusing(alloc)?;
-    assert_eq!(rt; block.failure(), None, "the word isn't placed yet");
-    assert_eq!(rt; block.flush(), Err(Error::TooNarrow));
-    assert_eq!(rt; block.failure(), Some(Error::TooNarrow));
-    assert_eq!(rt;
-        block.add_text("a", WhiteSpace::Normal, &1, &1),
-        Err(Error::TooNarrow)
-    );
-    assert_eq!(rt; block.into_lines().err(), Some(Error::TooNarrow));
+    let block = plain::<UnicodeColumns>(alloc, 1);
+    assert!(rt; is_too_narrow(told(alloc, block, &[Normal("漢")])));
+    refuses_for_good(&rt, refusing(alloc)?);
     Ok(())
+}
+
+/// The block refuses as its word is placed, and from then on.
+fn refuses_for_good(rt: &impl Abort, mut block: WrappedBlock<u8>) {
+    assert!(rt; block.failure().is_none(), "the word isn't placed yet");
+    assert!(rt; is_too_narrow(block.flush()));
+    assert!(rt; block.failure() == Some(Error::TooNarrow));
+    assert!(rt; is_too_narrow(block.add_text("a", WhiteSpace::Normal, &1, &1)));
+    assert!(rt; is_too_narrow(block.into_lines()));
 }
 
 #[test]
@@ -133,10 +139,15 @@ fn a_flush_ends_the_run(rt: HostRuntime) {
 
 /// The lines of two texts under tags of their own.
 fn under_two_tags(alloc: Global) -> Result<Vec<TaggedLine<Voice>>, Error> {
-    let mut block: WrappedBlock<Voice> = WrappedBlock::new(alloc, 9, false, false, Voice::First);
-    block.add_text("ab", WhiteSpace::Normal, &Voice::First, &Voice::First)?;
-    block.add_text("c d", WhiteSpace::Normal, &Voice::Second, &Voice::First)?;
+    let mut block = plain(alloc, 9);
+    add_under(&mut block, "ab", Voice::First)?;
+    add_under(&mut block, "c d", Voice::Second)?;
     block.into_lines()
+}
+
+/// A text joins the run, under a tag.
+fn add_under(block: &mut WrappedBlock<Voice>, text: &str, tag: Voice) -> Result<(), Error> {
+    block.add_text(text, WhiteSpace::Normal, &tag, &Voice::First)
 }
 
 /// The line that they make, by itself.
@@ -164,9 +175,10 @@ fn characters_stay_under_their_tags(rt: HostRuntime) -> Result<(), Fail> {
     let alloc = rt.alloc();
     let lines = under_two_tags(alloc)?;
     assert_eq!(rt; lines.len(), 1);
+    let line = &lines[0];
     let expected = line_of_two_tags(alloc)?;
-    assert!(rt; are_debugged_alike(alloc, &lines[0], &expected)?);
-    assert_eq!(rt; lines[0].width::<UnicodeColumns>()?, 5);
-    assert!(rt; !lines[0].is_empty());
+    assert!(rt; are_debugged_alike(alloc, line, &expected)?);
+    counts(&rt, line.width::<UnicodeColumns>()?, 5);
+    assert!(rt; !line.is_empty());
     Ok(())
 }

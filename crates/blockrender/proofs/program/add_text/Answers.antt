@@ -4,7 +4,7 @@ use Rattle.std.proofs.lemmas.Result.{on_ok_weaker}
 use Rattle.tbr_lines.specs.State.{State}
 use Rattle.blockrender.specs.Program.{IsLive}
 use Rattle.tbr_lines.proofs.NormalTexts.{normal_with}
-use Rattle.blockrender.proofs.Refused.{refused_narrow}
+use Rattle.blockrender.proofs.Refused.{refused_narrow, of_such}
 use Rattle.blockrender.proofs.program.add_text.Goals as goal
 
 pub returns-clause-live : goal.returns-clause-live
@@ -22,7 +22,7 @@ returns-clause-run g c = on_ok_weaker c.add_text.result (λ joins. ap (λ (s : S
 pub returns-clause-fit : goal.returns-clause-fit
 returns-clause-fit g c =
     let live = c.requires.live in
-    on_ok_weaker c.add_text.result (λ fit. fit live.0 (normal_with c.args.block.now.run (chars c.args.text.now) tt tt live.5)) c.add_text.ensures.fit
+    of_such c.add_text.result _ _ _ c.add_text.ensures.fit live.0 (normal_with c.args.block.now.run (chars c.args.text.now) tt tt live.5)
 
 pub returns-clause-refused : goal.returns-clause-refused
 returns-clause-refused g c =

@@ -2,7 +2,7 @@ use Rattle.std.proofs.Common.{◌≡◌, unwrap_or, [], ◌∷◌, sym, ◌∙�
 use Rattle.std.proofs.lemmas.Iterator.{YieldsList-from_chars}
 use Rattle.std.proofs.lemmas.Iterator.Consumers.{YieldsList-end}
 use Rattle.tbr_model.specs.Width.{width_of_text}
-use Rattle.tbr_tagged.proofs.TextColumns.{turn_and_rest, width_of_text-append}
+use Rattle.tbr_tagged.proofs.TextColumns.{turn_and_rest, width_of_text-append, width_of_text-beginning}
 use Rattle.tbr_tagged.proofs.width.text_width.Goals as goal
 
 -- what comes behind can only make the sum larger
@@ -11,7 +11,7 @@ returns-in_default g c =
     let columns = g.W.CharWidth.columns in
     let w = turn_and_rest (YieldsList-from_chars c.args.s.now c.utf8.s cc) c.loop-c.yielded _ c.loop-c.yielded_by _ _ c.in-Some.c c.in-Some.is c.next.ensures.steps in
     let one : c.unwrap_or-more.result ≡ unwrap_or (columns c.in-Some.c) 0 = c.unwrap_or-more.ensures ∙ ap (λ o. unwrap_or o 0) c.width.ensures in
-    omega (arith, c.in_default.ensures, c.loop-c.invariant, one, ap (width_of_text columns) w.1, width_of_text-append columns c.loop-c.yielded (c.in-Some.c ∷ w.0))
+    omega (arith, c.in_default.ensures, c.loop-c.invariant, one, width_of_text-beginning columns _ c.loop-c.yielded c.in-Some.c w.0 w.1)
 
 pub loop-c-preserved : goal.loop-c-preserved
 loop-c-preserved g c =

@@ -1,9 +1,9 @@
 use Rattle.std.proofs.Common.{◌≡◌, map, chars}
 use Rattle.std.specs.String.{string_bytes}
 use Rattle.std.proofs.lemmas.Result.{IfOk-weaker}
-use Rattle.tbr_decor.specs.declared.tests.marked.Mark.TheVariants.{Nothing}
+use Rattle.worked_examples.specs.declared.decorators.marked.Mark.TheVariants.{Nothing}
 use Rattle.tbr_decor.proofs.Footnotes.{footnotes_meant}
-use Rattle.tbr_decor.proofs.tests.marked.MarkedDecoratorTextDecorator.finalise.Goals as goal
+use Rattle.worked_examples.proofs.decorators.marked.MarkedDecoratorTextDecorator.finalise.Goals as goal
 
 pub returns-clause-lines : goal.returns-clause-lines
 returns-clause-lines c =

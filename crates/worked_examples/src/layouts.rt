@@ -1,56 +1,21 @@
 //! Worked layouts.
-ghost use Rattle.std.specs.Prelude.{◌≡◌};
-ghost use Rattle.tbr_model.specs.TestWidth.{test_columns, test_at_most_two, test_drawn_in_one};
-
-use super::*;
+use crate::columns::EveryOne;
+use crate::short_texts::entries;
 use std::alloc::{AllocError, Global};
 use std::test::Fail;
-
-/// Every character takes one column, but for the stroke.
-#[derive(Drop)]
-struct TestWidth;
-
-impl CharWidth for TestWidth {
-    ghost use Rattle.std.specs.Prelude.{refl};
-
-    ghost columns = { test_columns };
-
-    ghost at_most_two = { test_at_most_two };
-
-    ghost drawn_in_one = { test_drawn_in_one };
-
-    ghost stroke_takes_none = { refl };
-
-    fn width(c: char) -> Option<usize> {
-        if c == '\u{336}' { Some(0) } else { Some(1) }
-    }
-}
-
-/// The entries of a text under one annotation.
-fn entries(alloc: Global, text: &str) -> Result<Vec<Entry<u8>>, AllocError> {
-    let mut run = Vec::new(alloc);
-    for c in text.chars() {
-        run.push(Entry::Character {
-            c,
-            tag: 7,
-            wrap_tag: 7,
-            mode: WhiteSpace::Normal,
-        })?;
-    }
-    Ok(run)
-}
+use tbr_model::{best_layout, is_legal, slots};
 
 /// Whether the cuts are a legal layout of the text at the width.
 fn judged(alloc: Global, width: usize, text: &str, cuts: &[usize]) -> Result<bool, AllocError> {
     let run = entries(alloc, text)?;
-    let slots = slots::<u8, TestWidth>(alloc, &run, width)?;
+    let slots = slots::<u8, EveryOne>(alloc, &run, width)?;
     Ok(is_legal(width, &slots, cuts))
 }
 
 /// Whether the cuts are the best layout of the text at the width.
 fn is_best(alloc: Global, width: usize, text: &str, cuts: &[usize]) -> Result<bool, AllocError> {
     let run = entries(alloc, text)?;
-    Ok(match best_layout::<u8, TestWidth>(alloc, &run, width)? {
+    Ok(match best_layout::<u8, EveryOne>(alloc, &run, width)? {
         Some(best) => best.as_slice() == cuts,
         None => false,
     })
@@ -97,7 +62,7 @@ fn a_wider_word_begins_a_line(rt: HostRuntime) -> Result<(), Fail> {
 fn an_item_wider_than_the_line_has_no_layout(rt: HostRuntime) -> Result<(), Fail> {
     let alloc = rt.alloc();
     let run = entries(alloc, "a")?;
-    assert!(rt; best_layout::<u8, TestWidth>(alloc, &run, 0)?.is_none());
+    assert!(rt; best_layout::<u8, EveryOne>(alloc, &run, 0)?.is_none());
     assert!(rt; is_best(alloc, 0, " ", &[0])?);
     Ok(())
 }

@@ -1,14 +1,14 @@
 //! A decorator that marks what it is asked to, and has the usual answers for the rest.
 ghost use Rattle.std.specs.Prelude.{None, false, []};
 ghost use Rattle.std.proofs.Common.{rules};
-ghost use Rattle.tbr_decor.specs.declared.tests.marked.Mark.{Mark};
-ghost use Rattle.tbr_decor.specs.declared.tests.marked.Mark.TheVariants.{Nothing, Marked};
+ghost use Rattle.worked_examples.specs.declared.decorators.marked.Mark.{Mark};
+ghost use Rattle.worked_examples.specs.declared.decorators.marked.Mark.TheVariants.{Nothing, Marked};
 ghost use Rattle.tbr_decor.specs.Start as start;
 ghost use Rattle.tbr_decor.specs.Trivial as trivial;
 ghost use Rattle.tbr_decor.specs.Usual as usual;
 
-use crate::{Colour, TextDecorator, text, usual};
 use std::alloc::Global;
+use tbr_decor::{Colour, TextDecorator, text, usual};
 use tbr_lines::{OutOfMemory, TaggedLine};
 
 #[derive(Clone, Copy, PartialEq, Eq, Debug, Default)]
