@@ -1,3 +1,4 @@
+pub mod Kept
 pub mod Meanings
 pub mod Fields
 pub mod Lines

@@ -27,9 +27,6 @@ pub trait Renderer {
     // How many preformatted stretches are open.
     ghost open_preformats: { Self → ℕ };
 
-    // Whether it has neither a line nor text in its open block.
-    ghost is_empty: { Self → Bool → Type 0 };
-
     /// Ends the open line, and adds an empty one.
     fn add_empty_line(&mut self) -> Result<(), Error>
         ensures ok { OnOk result (does call.add_empty_line self.old self.new) }
@@ -122,8 +119,4 @@ pub trait Renderer {
     /// The columns of the renderer.
     fn width(&self) -> usize
         ensures { result ≡ columns_of self.now };
-
-    /// Whether it has no line, and no text in its open block. It is false on a renderer that has failed.
-    fn empty(&self) -> bool
-        ensures { is_empty self.now result };
 }
