@@ -1,5 +1,5 @@
 -- What the fields of a renderer hold after they change.
-use Rattle.std.proofs.Common.{◌≡◌, Bool, true, false, not, ◌||◌, None, List, [], ◌∷◌, ◌++◌, map, refl, ap, sym, ◌∙◌, subst}
+use Rattle.std.proofs.Common.{◌≡◌, Bool, true, false, not, ◌||◌, List, [], ◌∷◌, ◌++◌, map, refl, ap, sym, ◌∙◌, subst}
 use Rattle.std.specs.Global.{Vec}
 use Rattle.std.specs.List.{AllByRecursion as Each, list_any}
 use Rattle.std.proofs.lemmas.List.{map-append}
@@ -13,7 +13,7 @@ use Rattle.tbr_lines.specs.View.{element_of}
 use Rattle.tbr_lines.specs.declared.TaggedLineElement.{TaggedLineElement}
 use Rattle.text_block_renderer.specs.declared.sub.SubRenderer.TheInside.{Inside}
 use Rattle.text_block_renderer.specs.Renderer.{Renderer, text, line_has_content}
-use Rattle.text_block_renderer.specs.View.{line_seen, names_of, AreMarkers, renderer_of, HoldsFresh, HoldsRenderer}
+use Rattle.text_block_renderer.specs.View.{line_seen, names_of, AreMarkers, renderer_of, HoldsRenderer}
 
 -- ---- markers
 

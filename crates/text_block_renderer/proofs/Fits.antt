@@ -1,9 +1,9 @@
 -- Runs whose words fit, under other annotations.
-use Rattle.std.proofs.Common.{◌≡◌, ℕ, Bool, Option, List, [], ◌∷◌, map, refl, ap, sym, ◌∙◌, subst}
+use Rattle.std.proofs.Common.{ℕ, Bool, Option, List, [], ◌∷◌, map, sym, subst}
 use Rattle.std.specs.List.{AllByRecursion as Each}
 use Rattle.tbr_model.specs.Run.{Entry, character, marker_entry, Item, Word, Reading, reading, words_of}
 use Rattle.tbr_model.specs.Greedy.{IsNarrow}
-use Rattle.tbr_model.specs.Mapped.{map_item, map_items, map_run, map_word}
+use Rattle.tbr_model.specs.Mapped.{map_items, map_run, map_word}
 use Rattle.tbr_model.proofs.maps.Words.{item_width-map, reading-map, words_of-map}
 use Rattle.tbr_lines.specs.State.{IsNormal, CharactersFit, VisibleFit}
 use Rattle.tbr_lines.specs.Wrapped.{WordsFit, EndedWordsFit}

@@ -1,5 +1,5 @@
 -- What lines under lists of annotations mean.
-use Rattle.std.proofs.Common.{◌≡◌, arith, ℕ, ◌-◌, ◌&&◌, ◌↔◌, suc, length, slice_get, Bool, true, false, not, if◌then◌else◌, IsTrue, Option, None, Some, List, [], ◌∷◌, ◌++◌, map, refl, ap, sym, ◌∙◌, subst}
+use Rattle.std.proofs.Common.{◌≡◌, arith, ℕ, ◌-◌, ◌↔◌, suc, length, slice_get, Bool, true, false, not, if◌then◌else◌, IsTrue, Option, None, Some, List, [], ◌∷◌, ◌++◌, map, refl, ap, sym, ◌∙◌}
 use Rattle.std.specs.Global.{Vec}
 use Rattle.std.specs.Vec.{vec_items}
 use Rattle.std.specs.List.{list_any}
@@ -96,7 +96,7 @@ module _ {D A M : Type 0} (f : A → M) where
       fills ∙ ap (λ (q : Renderer D A (Vec A)). items_meant f whole ++ line_padding columns (meant f q) (items_meant f whole)) emptied ∙ ap (λ is. is ++ line_padding columns (meant f r) is) front in
       ap (meant f) pushed ∙ ap (λ (q : Renderer D A (Vec A)). meant f (record q { lines = q.lines ++ text full ∷ [] })) emptied
       ∙ ap (λ (ls : List (Line (List M))). record (meant f r) { lines = ls; waiting = [] })
-          (map-append (map_line (tag_meant f)) r.lines (text full ∷ []) ∙ ap (λ (is : List (Item (List M))). map (map_line (tag_meant f)) r.lines ++ text is ∷ []) last)
+      (map-append (map_line (tag_meant f)) r.lines (text full ∷ []) ∙ ap (λ (is : List (Item (List M))). map (map_line (tag_meant f)) r.lines ++ text is ∷ []) last)
 
 -- ---- content
 

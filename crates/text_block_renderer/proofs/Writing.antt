@@ -1,5 +1,5 @@
 -- Text that joins the run of a block.
-use Rattle.std.proofs.Common.{◌≡◌, ℕ, ◌&&◌, IsTrue, Bool, true, false, is_none, Option, None, Some, unwrap_or, List, [], ◌∷◌, ◌++◌, map, refl, ap, sym, ◌∙◌, subst}
+use Rattle.std.proofs.Common.{◌≡◌, ℕ, ◌&&◌, IsTrue, Bool, true, false, is_none, Option, None, Some, unwrap_or, List, [], ◌∷◌, ◌++◌, refl, ap, sym, ◌∙◌, subst}
 use Rattle.std.specs.Global.{Vec}
 use Rattle.std.specs.Option.{option_map}
 use Rattle.std.proofs.lemmas.List.{map-append}
@@ -58,7 +58,12 @@ open_run_is {D} {A} r = go r.block
 module _ {A M : Type 0} (f : A → M) (width : ℕ) (overflows : Bool) (old new : State (Vec A)) (name : List ℕ) (joins : JoinsAsMarker old name new) where
   pub fresh_marked : IsFresh width overflows old → IsFresh width overflows new
   fresh_marked fresh = subst (IsFresh width overflows) (sym joins.is) (record {
-    width_is = fresh.width_is; may_overflow = fresh.may_overflow; begun = fresh.begun; ended = fresh.ended; handed = fresh.handed; unfailed = fresh.unfailed;
+    width_is = fresh.width_is;
+    may_overflow = fresh.may_overflow;
+    begun = fresh.begun;
+    ended = fresh.ended;
+    handed = fresh.handed;
+    unfailed = fresh.unfailed;
   })
 
   pub marked : block_meant f new ≡ with_run (block_meant f old) (marker_entry name ∷ [])

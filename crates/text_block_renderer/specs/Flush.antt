@@ -1,5 +1,5 @@
 -- The end of the open run.
-use Rattle.std.specs.Prelude.{◌≡◌, ℕ, Bool, false, Option, None, Some, List, [], ◌∷◌, ◌++◌, map, fold}
+use Rattle.std.specs.Prelude.{◌≡◌, ℕ, Bool, false, Option, None, Some, List, ◌++◌, map, fold}
 use Rattle.std.specs.Global.{Vec}
 use Rattle.text_block_renderer.specs.Meant.{items_meant}
 use Rattle.tbr_model.specs.Run.{Entry, Item}

@@ -1,16 +1,14 @@
 -- What a contract sees of a renderer, and the small steps by which it changes.
-use Rattle.std.specs.Prelude.{ℕ, suc, ◌-◌, Bool, true, false, ◌&&◌, nat_lt, nat_le, if◌then◌else◌, Option, None, Some, unwrap_or, not, List, [], ◌∷◌, ◌++◌, fold, flat_map, replicate, length, take}
+use Rattle.std.specs.Prelude.{ℕ, ◌-◌, Bool, true, false, ◌&&◌, nat_lt, nat_le, if◌then◌else◌, Option, None, Some, unwrap_or, not, List, [], ◌∷◌, ◌++◌, flat_map, replicate, length, take}
 use Rattle.std.specs.List.{list_any, list_all}
 use Rattle.std.specs.Char.{is_whitespace}
 use Rattle.tbr_model.specs.declared.white_space.WhiteSpace.{WhiteSpace}
-use Rattle.tbr_model.specs.declared.white_space.WhiteSpace.TheVariants.{Normal, Pre, PreWrap}
+use Rattle.tbr_model.specs.declared.white_space.WhiteSpace.TheVariants.{Normal}
 use Rattle.tbr_model.specs.WhiteSpace.{preserves}
-use Rattle.tbr_model.specs.Run.{Entry, marker_entry, Item, items_width, has_character}
+use Rattle.tbr_model.specs.Run.{Entry, Item, has_character}
 use Rattle.tbr_model.specs.Markers.{marker_items}
 use Rattle.tbr_lines.specs.Border.{Border, has_holes}
-use Rattle.tbr_lines.specs.Elements.{text_items}
-use Rattle.tbr_lines.specs.Padding.{spaces}
-use Rattle.tbr_lines.specs.State.{State, empty_block, text_entries}
+use Rattle.tbr_lines.specs.State.{text_entries}
 use Rattle.tbr_lines.specs.Wrapped.{padding_of}
 use Rattle.tbr_lines.specs.declared.Error.{Error}
 use Rattle.text_block_renderer.specs.declared.options.RenderOptions.{RenderOptions}
@@ -72,11 +70,14 @@ abbrev pub has_content : {D A T : Type 0} → Renderer D A T → Bool
 has_content r = list_any line_has_content r.lines
 
 -- what fills a line of text up to the renderer's width, where lines are padded
-abbrev pub line_padding : {D A : Type 0} → (ℕ → Option ℕ) → Renderer D A (List A) → List (Item (List A)) → List (Item (List A))
-line_padding columns r is = padding_of columns (if r.options.pad_block_width then Some r.annotations else None) r.width is
+abbrev pub line_padding : {D A : Type 0} →
+    (ℕ → Option ℕ) → Renderer D A (List A) → List (Item (List A)) → List (Item (List A))
+line_padding columns r is =
+    padding_of columns (if r.options.pad_block_width then Some r.annotations else None) r.width is
 
 -- a line of text more, behind the markers that wait, and padded
-abbrev pub with_line : {D A : Type 0} → (ℕ → Option ℕ) → Renderer D A (List A) → List (Item (List A)) → Renderer D A (List A)
+abbrev pub with_line : {D A : Type 0} →
+    (ℕ → Option ℕ) → Renderer D A (List A) → List (Item (List A)) → Renderer D A (List A)
 with_line columns r is =
     let marked = marker_items r.waiting ++ is in
     record r { lines = r.lines ++ text (marked ++ line_padding columns r marked) ∷ []; waiting = [] }
@@ -149,7 +150,8 @@ entries_under preformatted r cs =
     text_entries cs (text_annotations preformatted false r) (text_annotations preformatted true r) (last_mode r.modes)
 
 -- the entries that a text brings, with strokes inside strikeouts
-abbrev pub entries_of : {D A : Type 0} → (ℕ → Option ℕ) → (D → Bool → A) → Renderer D A (List A) → List ℕ → List (Entry (List A))
+abbrev pub entries_of : {D A : Type 0} →
+    (ℕ → Option ℕ) → (D → Bool → A) → Renderer D A (List A) → List ℕ → List (Entry (List A))
 entries_of columns preformatted r cs = entries_under preformatted r (struck columns r.strikeouts cs)
 
 -- white space alone

@@ -1,9 +1,8 @@
 -- What each call makes of a renderer.
-use Rattle.std.specs.Prelude.{◌≡◌, ℕ, suc, ◌-◌, Bool, true, false, if◌then◌else◌, ◌↔◌, IsTrue, Option, None, Some, List, [], ◌∷◌, ◌++◌, ◌⊎◌}
-use Rattle.tbr_model.specs.declared.white_space.WhiteSpace.{WhiteSpace}
-use Rattle.tbr_model.specs.Run.{Entry, marker_entry, items_width, kept_items}
+use Rattle.std.specs.Prelude.{◌≡◌, ℕ, Bool, true, false, if◌then◌else◌, ◌↔◌, IsTrue, Option, None, Some, List, [], ◌++◌, ◌⊎◌}
+use Rattle.tbr_model.specs.Run.{items_width, kept_items}
 use Rattle.tbr_lines.specs.State.{IsNormal}
-use Rattle.text_block_renderer.specs.Renderer.{Open, Renderer, has_content, with_line, block_width, may_overflow, open_run, with_entries, without_last, entries_of, ignores}
+use Rattle.text_block_renderer.specs.Renderer.{Open, Renderer, has_content, with_line, block_width, may_overflow, open_run, with_entries, entries_of, ignores}
 use Rattle.text_block_renderer.specs.Flush.{RunGoesOn, RunStops, Flushes, FlushIsTooNarrow}
 
 module _ {D A : Type 0} (columns : ℕ → Option ℕ) where

@@ -1,5 +1,5 @@
 -- What the fields of a renderer mean.
-use Rattle.std.specs.Prelude.{◌≡◌, ◌<◌, ℕ, Bool, true, false, ⊤, Option, Some, None, List, [], ◌∷◌, map}
+use Rattle.std.specs.Prelude.{◌≡◌, ◌<◌, ℕ, Bool, false, ⊤, Option, Some, None, List, [], ◌∷◌, map}
 use Rattle.std.specs.Option.{option_map}
 use Rattle.std.specs.List.{AllByRecursion as Each, list_any}
 use Rattle.std.specs.Global.{Vec}
@@ -7,7 +7,7 @@ use Rattle.tbr_lines.specs.Copies.{equal_lists}
 use Rattle.tbr_lines.specs.View.{element_of}
 use Rattle.text_block_renderer.specs.Meant.{tag_meant, map_open}
 use Rattle.text_block_renderer.specs.declared.sub.SubRenderer.TheInside.{Inside}
-use Rattle.tbr_lines.specs.Elements.{Element, piece, marker_element, items_of, IsMerged}
+use Rattle.tbr_lines.specs.Elements.{Element, piece, marker_element, items_of}
 use Rattle.tbr_lines.specs.State.{State}
 use Rattle.tbr_lines.specs.declared.RenderLine.{RenderLine}
 use Rattle.tbr_lines.specs.declared.RenderLine.TheVariants.{Text, Line as Rule}
@@ -67,10 +67,11 @@ renderer_of r = record {
   failure = r.failure;
 }
 
--- What the fields of a renderer that hasn't failed hold: a fresh block, if any, markers that wait, and lines whose pieces
--- are the longest stretches under equal annotations.
+-- What the fields of a renderer that hasn't failed hold: a fresh block, if any, markers that wait, and lines whose
+-- pieces are the longest stretches under equal annotations.
 pub record HoldsFresh {D W A : Type 0} (eq : A → A → Bool) (r : Inside D W A) : Type 0 where
-  pub opened : IsOpened (least r.width r.options.wrap_width) (overflows r.options (least r.width r.options.wrap_width)) r.wrapping
+  pub opened : IsOpened (least r.width r.options.wrap_width)
+      (overflows r.options (least r.width r.options.wrap_width)) r.wrapping
   pub markers : AreMarkers (map element_of r.waiting.items)
   pub merged : Each (IsMergedText (equal_lists eq)) r.lines
   pub content : r.has_content ≡ list_any line_has_content (map line_seen r.lines)

@@ -9,8 +9,8 @@ use tbr_lines::{Error, WhiteSpace};
 
 /// What writes blocks of text, one below another.
 ///
-/// A call that refuses leaves the renderer failed. It keeps that refusal, which each later call that can refuse answers,
-/// doing nothing else; a call that can't refuse does nothing then.
+/// A call that refuses leaves the renderer failed. It keeps that refusal, which each later call that can refuse
+/// answers, doing nothing else; a call that can't refuse does nothing then.
 pub trait Renderer {
     // What a call that succeeds leaves, and where it answers `TooNarrow`.
     ghost does: { Call → Self → Self → Type 0 };

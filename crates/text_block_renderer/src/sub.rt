@@ -23,6 +23,7 @@ use tbr_lines::{
 
 mod blocks;
 mod calls;
+mod lines;
 mod texts;
 
 /// A renderer of a width in columns, whose text stands under lists of what its decorator annotates with.

@@ -21,6 +21,8 @@ mod markers;
 #[cfg(test)]
 mod preserved;
 #[cfg(test)]
+mod renderers;
+#[cfg(test)]
 mod short_texts;
 #[cfg(test)]
 mod steps;

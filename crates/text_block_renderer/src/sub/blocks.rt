@@ -14,10 +14,7 @@ use tbr_lines::{CharWidth, Error, OutOfMemory, TaggedLine, WrappedBlock};
 
 impl<D: TextDecorator, W: CharWidth> SubRenderer<D, W> {
     /// Adds the lines that a block has ended, one by one. It refuses only for want of memory.
-    fn add_lines_of(
-        &mut self,
-        mut block: WrappedBlock<Vec<D::Annotation>, W>,
-    ) -> Result<(), Error>
+    fn add_lines_of(&mut self, mut block: WrappedBlock<Vec<D::Annotation>, W>) -> Result<(), Error>
         requires unfailed { self.old.failure ≡ None }
         requires block { block.failure ≡ None }
         ensures lines { OnOk result (meant D.meaning self.new ≡ fold (with_line W.columns) (meant D.meaning self.old)

@@ -14,9 +14,7 @@ ghost use Rattle.tbr_model.specs.Run.{marker_entry};
 use crate::sub::SubRenderer;
 use std::alloc::Global;
 use tbr_decor::TextDecorator;
-use tbr_lines::{
-    CharWidth, Error, OutOfMemory, TaggedLineElement, WhiteSpace, WrappedBlock,
-};
+use tbr_lines::{CharWidth, Error, OutOfMemory, TaggedLineElement, WhiteSpace, WrappedBlock};
 
 /// The stroke through the character before it.
 const STROKE: char = '\u{336}';
@@ -163,8 +161,8 @@ impl<D: TextDecorator, W: CharWidth> SubRenderer<D, W> {
     /// Adds text to the open block, or to a new one.
     fn add_to_block(&mut self, text: &str) -> Result<(), Error>
         requires { self.old.failure ≡ None }
-        ensures ok { OnOk result
-            (JoinsText W.columns D.preformatted (chars text.now) (meant D.meaning self.old) (meant D.meaning self.new)) }
+        ensures ok { OnOk result (JoinsText W.columns D.preformatted (chars text.now)
+            (meant D.meaning self.old) (meant D.meaning self.new)) }
         ensures too_narrow { result ≡ Err E.TooNarrow →
             JoinIsTooNarrow W.columns D.preformatted (chars text.now) (meant D.meaning self.old) }
         ensures two_columns { 2 ≤ block_width self.old → result ≢ Err E.TooNarrow }
@@ -243,11 +241,7 @@ fn is_white_text(text: &str) -> bool
 }
 
 /// The text with strokes, as many as `depth`, behind each character that takes columns.
-fn struck_text<W: CharWidth>(
-    alloc: Global,
-    text: &str,
-    depth: usize,
-) -> Result<String, OutOfMemory>
+fn struck_text<W: CharWidth>(alloc: Global, text: &str, depth: usize) -> Result<String, OutOfMemory>
     ensures { IfOk result (λ s. chars_of s ≡ struck W.columns depth (chars text.now)) }
 {
     let mut s = String::new(alloc);

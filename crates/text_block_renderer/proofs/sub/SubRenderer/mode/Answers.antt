@@ -1,4 +1,4 @@
-use Rattle.std.proofs.Common.{◌≡◌, ap, sym, ◌∙◌, subst, Some, length, slice_get, ◌-◌}
+use Rattle.std.proofs.Common.{ap, ◌∙◌}
 use Rattle.std.specs.Global.{Vec}
 use Rattle.text_block_renderer.specs.Renderer.{Renderer, last_mode}
 use Rattle.text_block_renderer.proofs.Meanings.{last_mode_is}

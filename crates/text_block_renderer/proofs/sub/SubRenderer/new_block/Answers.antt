@@ -1,4 +1,4 @@
-use Rattle.std.proofs.Common.{◌≡◌, ap, sym, ◌∙◌, map}
+use Rattle.std.proofs.Common.{ap, sym, ◌∙◌, map}
 use Rattle.std.specs.Global.{Vec}
 use Rattle.tbr_lines.proofs.Copies.{list_copies_equal}
 use Rattle.text_block_renderer.specs.Renderer.{Renderer}

@@ -1,4 +1,4 @@
-use Rattle.std.proofs.Common.{◌≡◌, [], ◌∷◌, List, refl, ap, sym, ◌∙◌, subst}
+use Rattle.std.proofs.Common.{[], ◌∷◌, List, refl, ap, sym, ◌∙◌, subst}
 use Rattle.std.specs.Global.{Vec}
 use Rattle.std.specs.String.{string_bytes}
 use Rattle.tbr_model.specs.Run.{marker_entry}
