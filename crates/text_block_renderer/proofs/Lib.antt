@@ -6,3 +6,5 @@ pub mod Fits
 pub mod Flushing
 pub mod Texts
 pub mod Writing
+pub mod Growing
+pub mod Once

@@ -53,6 +53,11 @@ module _ {D A : Type 0} (columns : ℕ → Option ℕ) (preformatted : D → Boo
   IsTooNarrow pop_preformat r = ⊥
   IsTooNarrow (record_frag_start name) r = ⊥
 
+  -- what calls leave, one after another
+  abbrev pub Steps : List Call → Renderer D A (List A) → Renderer D A (List A) → Type 0
+  Steps [] r s = s ≡ r
+  Steps (call ∷ calls) r s = (m : Renderer D A (List A)) × Does call r m × Steps calls m s
+
 -- A call that refuses leaves a renderer failed with what it answers. One that had failed answers its refusal and stays
 -- as it is.
 abbrev pub KeepsFailure : {S R : Type 0} → (S → Option Error) → S → Result R Error → S → Type 0

@@ -1,0 +1,20 @@
+//! What follows from the steps alone, each as the contract of a function that does nothing.
+ghost use Rattle.std.specs.Prelude.{◌≡◌, ℕ, Bool, false, Option, List, ◌++◌};
+ghost use Rattle.tbr_lines.specs.State.{IsNormal};
+ghost use Rattle.text_block_renderer.specs.Renderer.{Line, Renderer, may_overflow, open_run};
+ghost use Rattle.text_block_renderer.specs.Flush.{Flushes};
+ghost use Rattle.text_block_renderer.specs.Calls.{Call, Steps};
+
+/// No call takes a line back.
+pub fn no_call_takes_a_line_back<D, A>()
+    ensures { (columns : ℕ → Option ℕ) (preformatted : D → Bool → A) (calls : List Call)
+        (r s : Renderer D A (List A)) → Steps columns preformatted calls r s →
+        (more : List (Line (List A))) × (s.lines ≡ r.lines ++ more) }
+{}
+
+/// The end of a `Normal` run leaves one state only, where no line may be wider than the block.
+pub fn a_normal_flush_leaves_one_state<D, A>()
+    ensures { (columns : ℕ → Option ℕ) (r s t : Renderer D A (List A)) →
+        may_overflow r ≡ false → IsNormal (open_run r.block) →
+        Flushes columns r s → Flushes columns r t → t ≡ s }
+{}
