@@ -8,3 +8,4 @@ pub mod Texts
 pub mod Writing
 pub mod Growing
 pub mod Once
+pub mod Showing

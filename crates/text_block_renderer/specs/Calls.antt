@@ -1,9 +1,11 @@
 -- The calls that change a renderer.
-use Rattle.std.specs.Prelude.{◌≡◌, ℕ, suc, ◌-◌, Bool, true, Option, Some, Result, Err, IfErr, List, [], ◌∷◌, ◌++◌}
+use Rattle.std.specs.Prelude.{◌≡◌, ℕ, suc, ◌-◌, Bool, true, if◌then◌else◌, Option, Some, Result, Err, IfErr, List, [], ◌∷◌, ◌++◌}
+use Rattle.std.specs.List.{AllZip}
+use Rattle.tbr_model.specs.Hard.{IsShown, visible_glyphs, visible_entries}
 use Rattle.tbr_model.specs.declared.white_space.WhiteSpace.{WhiteSpace}
-use Rattle.tbr_model.specs.Run.{marker_entry}
+use Rattle.tbr_model.specs.Run.{Entry, marker_entry, Item}
 use Rattle.tbr_lines.specs.declared.Error.{Error}
-use Rattle.text_block_renderer.specs.Renderer.{Renderer, with_entries, without_last}
+use Rattle.text_block_renderer.specs.Renderer.{Line, text, border, Renderer, open_run, with_entries, without_last, entries_of, ignores}
 use Rattle.text_block_renderer.specs.Flush.{Flushes, FlushIsTooNarrow}
 use Rattle.text_block_renderer.specs.Steps.{AddsEmptyLine, StartsBlock, BreaksLine, AddsText, TextIsTooNarrow}
 
@@ -57,6 +59,43 @@ module _ {D A : Type 0} (columns : ℕ → Option ℕ) (preformatted : D → Boo
   abbrev pub Steps : List Call → Renderer D A (List A) → Renderer D A (List A) → Type 0
   Steps [] r s = s ≡ r
   Steps (call ∷ calls) r s = (m : Renderer D A (List A)) × Does call r m × Steps calls m s
+
+  -- the entries that a call brings to the open run
+  abbrev pub entries_brought : Call → Renderer D A (List A) → List (Entry (List A))
+  entries_brought (add_inline_text cs) r = if ignores r cs then [] else entries_of columns preformatted r cs
+  entries_brought (record_frag_start name) r = marker_entry name ∷ []
+  entries_brought add_empty_line r = []
+  entries_brought new_line r = []
+  entries_brought new_line_hard r = []
+  entries_brought start_block r = []
+  entries_brought start_table r = []
+  entries_brought end_block r = []
+  entries_brought (push_ws mode) r = []
+  entries_brought pop_ws r = []
+  entries_brought push_preformat r = []
+  entries_brought pop_preformat r = []
+
+  -- Calls one after another, and the entries that they bring.
+  abbrev pub Brings : List Call → Renderer D A (List A) → List (Entry (List A)) → Renderer D A (List A) → Type 0
+  Brings [] r es s = (s ≡ r) × (es ≡ [])
+  Brings (call ∷ calls) r es s =
+      (m : Renderer D A (List A)) × (rest : List (Entry (List A))) × Does call r m × Brings calls m rest s
+      × (es ≡ entries_brought call r ++ rest)
+
+-- the items of the lines of text
+abbrev pub text_of_lines : {T : Type 0} → List (Line T) → List (Item T)
+text_of_lines [] = []
+text_of_lines (text is ∷ ls) = is ++ text_of_lines ls
+text_of_lines (border b ∷ ls) = text_of_lines ls
+
+-- The lines show the visible characters of the entries, but for those of the open run, once and in order, each under an
+-- annotation of its call.
+pub record Shows {D A : Type 0} (columns : ℕ → Option ℕ) (r : Renderer D A (List A))
+    (es : List (Entry (List A))) : Type 0 where
+  pub ended : List (Entry (List A))
+  pub shown : AllZip (IsShown (λ a b. a ≡ b))
+      (visible_glyphs columns (text_of_lines r.lines)) (visible_entries columns ended)
+  pub whole : visible_entries columns (ended ++ open_run r.block) ≡ visible_entries columns es
 
 -- A call that refuses leaves a renderer failed with what it answers. One that had failed answers its refusal and stays
 -- as it is.

@@ -3,7 +3,8 @@ ghost use Rattle.std.specs.Prelude.{◌≡◌, ℕ, Bool, false, Option, List, �
 ghost use Rattle.tbr_lines.specs.State.{IsNormal};
 ghost use Rattle.text_block_renderer.specs.Renderer.{Line, Renderer, may_overflow, open_run};
 ghost use Rattle.text_block_renderer.specs.Flush.{Flushes};
-ghost use Rattle.text_block_renderer.specs.Calls.{Call, Steps};
+ghost use Rattle.text_block_renderer.specs.Calls.{Call, Steps, Brings, Shows};
+ghost use Rattle.tbr_model.specs.Run.{Entry};
 
 /// No call takes a line back.
 pub fn no_call_takes_a_line_back<D, A>()
@@ -17,4 +18,12 @@ pub fn a_normal_flush_leaves_one_state<D, A>()
     ensures { (columns : ℕ → Option ℕ) (r s t : Renderer D A (List A)) →
         may_overflow r ≡ false → IsNormal (open_run r.block) →
         Flushes columns r s → Flushes columns r t → t ≡ s }
+{}
+
+/// After any calls the visible characters of what they brought stand in the lines of text, but for those of the open run,
+/// once and in order, each under an annotation of its call.
+pub fn visible_characters_stand_once<D, A>()
+    ensures { (columns : ℕ → Option ℕ) (preformatted : D → Bool → A) (calls : List Call)
+        (r s : Renderer D A (List A)) (before es : List (Entry (List A))) →
+        Brings columns preformatted calls r es s → Shows columns r before → Shows columns s (before ++ es) }
 {}

@@ -1,0 +1,196 @@
+-- Visible characters stand once.
+use Rattle.std.proofs.Common.{◌≡◌, ℕ, ◌-◌, zero, suc, ◌&&◌, Bool, true, false, not, if◌then◌else◌, Option, Some, None, is_some, List, [], ◌∷◌, ◌++◌, map, fold, filter, replicate, refl, ap, sym, ◌∙◌, subst, append_assoc, append-nil}
+use Rattle.std.specs.List.{AllZip}
+use Rattle.tbr_model.specs.declared.white_space.WhiteSpace.{WhiteSpace}
+use Rattle.tbr_model.specs.Codes.{space_character}
+use Rattle.tbr_model.specs.Run.{Entry, character, marker_entry, Item, glyph, marker, items_width, is_break}
+use Rattle.tbr_model.specs.Layout.{joined}
+use Rattle.tbr_model.specs.Markers.{marker_items}
+use Rattle.tbr_model.specs.Hard.{is_visible, IsShown, visible_glyphs, visible_entries}
+use Rattle.tbr_lines.specs.Elements.{text_items}
+use Rattle.tbr_lines.specs.Padding.{spaces}
+use Rattle.tbr_lines.specs.Wrapped.{padding_of}
+use Rattle.tbr_lines.proofs.SameItems.{all_zip_append}
+use Rattle.text_block_renderer.specs.Renderer.{Line, text, border, Open, Renderer, has_content, line_padding, with_line, open_block, open_run, with_entries, entries_of, ignores, block_width}
+use Rattle.text_block_renderer.specs.Flush.{block_lines, FlushesBlock}
+use Rattle.text_block_renderer.specs.Steps.{AddsEmptyLine, with_empty_line, block_started, StartsBlock, BreaksLineAt, JoinsText, AddsTextBy}
+use Rattle.text_block_renderer.specs.Calls.{Call, add_empty_line, new_line, new_line_hard, start_block, start_table, end_block, add_inline_text, push_ws, pop_ws, push_preformat, pop_preformat, record_frag_start, Does, entries_brought, Brings, text_of_lines, Shows}
+use Rattle.text_block_renderer.proofs.Writing.{open_run_is}
+
+-- ---- items and entries
+
+space_unseen : (columns : ℕ → Option ℕ) → is_visible columns space_character ≡ false
+space_unseen columns = go (is_some (columns space_character))
+  where
+    go : (k : Bool) → (k && false) && false ≡ false
+    go true = refl
+    go false = refl
+
+module _ {T : Type 0} (columns : ℕ → Option ℕ) where
+  glyphs-append : (is js : List (Item T)) → visible_glyphs columns (is ++ js) ≡ visible_glyphs columns is ++ visible_glyphs columns js
+  glyphs-append [] js = refl
+  glyphs-append (marker name ∷ is) js = glyphs-append is js
+  glyphs-append (glyph c a ∷ is) js = go (is_visible columns c) (glyphs-append is js)
+    where
+      go : (v : Bool) (rest : visible_glyphs columns (is ++ js) ≡ visible_glyphs columns is ++ visible_glyphs columns js) →
+          (let gs : List (ℕ × T) = if v then (c, a) ∷ visible_glyphs columns (is ++ js) else visible_glyphs columns (is ++ js) in gs) ≡ (if v then (c, a) ∷ visible_glyphs columns is else visible_glyphs columns is) ++ visible_glyphs columns js
+      go true rest = ap (λ (gs : List (ℕ × T)). (c, a) ∷ gs) rest
+      go false rest = rest
+
+  entries-append : (es fs : List (Entry T)) → visible_entries columns (es ++ fs) ≡ visible_entries columns es ++ visible_entries columns fs
+  entries-append [] fs = refl
+  entries-append (marker_entry name ∷ es) fs = entries-append es fs
+  entries-append (character c a b m ∷ es) fs = go (is_visible columns c) (entries-append es fs)
+    where
+      go : (v : Bool) (rest : visible_entries columns (es ++ fs) ≡ visible_entries columns es ++ visible_entries columns fs) →
+          (let rs : List (Entry T) = if v then character c a b m ∷ visible_entries columns (es ++ fs) else visible_entries columns (es ++ fs) in rs) ≡ (if v then character c a b m ∷ visible_entries columns es else visible_entries columns es) ++ visible_entries columns fs
+      go true rest = ap (λ (rs : List (Entry T)). character c a b m ∷ rs) rest
+      go false rest = rest
+
+  behind_markers : (names : List (List ℕ)) (is : List (Item T)) → visible_glyphs columns (marker_items names ++ is) ≡ visible_glyphs columns is
+  behind_markers [] is = refl
+  behind_markers (name ∷ names) is = behind_markers names is
+
+  spaces_unseen : (n : ℕ) (a : T) → visible_glyphs columns (text_items (spaces n) a) ≡ []
+  spaces_unseen zero a = refl
+  spaces_unseen (suc n) a = rw (space_unseen columns) (spaces_unseen n a)
+
+  padding_unseen : (o : Option T) (width : ℕ) (is : List (Item T)) → visible_glyphs columns (padding_of columns o width is) ≡ []
+  padding_unseen None width is = refl
+  padding_unseen (Some a) width is = spaces_unseen (width - items_width columns is) a
+
+  before_padding : (o : Option T) (width : ℕ) (is js : List (Item T)) → visible_glyphs columns (is ++ padding_of columns o width js) ≡ visible_glyphs columns is
+  before_padding o width is js = glyphs-append is (padding_of columns o width js) ∙ ap (λ gs. visible_glyphs columns is ++ gs) (padding_unseen o width js) ∙ append-nil (visible_glyphs columns is)
+
+text_of_lines-append : {T : Type 0} (ls ms : List (Line T)) → text_of_lines (ls ++ ms) ≡ text_of_lines ls ++ text_of_lines ms
+text_of_lines-append [] ms = refl
+text_of_lines-append (text is ∷ ls) ms = ap (λ js. is ++ js) (text_of_lines-append ls ms) ∙ sym (append_assoc is (text_of_lines ls) (text_of_lines ms))
+text_of_lines-append (border b ∷ ls) ms = text_of_lines-append ls ms
+
+-- ---- lines
+
+module _ {D A : Type 0} (columns : ℕ → Option ℕ) where
+  shown_line : (r : Renderer D A (List A)) (t : List (Item (List A))) → visible_glyphs columns (text_of_lines (with_line columns r t).lines) ≡ visible_glyphs columns (text_of_lines r.lines) ++ visible_glyphs columns t
+  shown_line r t =
+      let marked = marker_items r.waiting ++ t in
+      ap (visible_glyphs columns) (text_of_lines-append r.lines (text (marked ++ line_padding columns r marked) ∷ []))
+      ∙ glyphs-append columns (text_of_lines r.lines) (text_of_lines (text (marked ++ line_padding columns r marked) ∷ []))
+      ∙ ap (λ gs. visible_glyphs columns (text_of_lines r.lines) ++ gs) (ap (visible_glyphs columns) (append-nil (marked ++ line_padding columns r marked))
+      ∙ before_padding columns (if r.options.pad_block_width then Some r.annotations else None) r.width marked marked ∙ behind_markers columns r.waiting t)
+
+  shown_lines : (b : Open (List A)) (width : ℕ) (texts : List (List (Item (List A)))) (r : Renderer D A (List A)) →
+      visible_glyphs columns (text_of_lines (fold (with_line columns) r (map (λ is. is ++ padding_of columns b.padding width is) texts)).lines) ≡ visible_glyphs columns (text_of_lines r.lines) ++ visible_glyphs columns (joined texts)
+  shown_lines b width [] r = sym (append-nil (visible_glyphs columns (text_of_lines r.lines)))
+  shown_lines b width (t ∷ ts) r =
+      let full = t ++ padding_of columns b.padding width t in
+      shown_lines b width ts (with_line columns r full)
+      ∙ ap (λ gs. gs ++ visible_glyphs columns (joined ts)) (shown_line r full ∙ ap (λ gs. visible_glyphs columns (text_of_lines r.lines) ++ gs) (before_padding columns b.padding width t t))
+      ∙ append_assoc (visible_glyphs columns (text_of_lines r.lines)) (visible_glyphs columns t) (visible_glyphs columns (joined ts))
+      ∙ ap (λ gs. visible_glyphs columns (text_of_lines r.lines) ++ gs) (sym (glyphs-append columns t (joined ts)))
+
+  pub no_block : (ts : List (List (Item (List A)))) (q : Renderer D A (List A)) → q.block ≡ None → (fold (with_line columns) q ts).block ≡ None
+  no_block [] q n = n
+  no_block (t ∷ ts) q n = no_block ts (with_line columns q t) n
+
+  -- ---- steps
+
+  shows_flush : (r s : Renderer D A (List A)) (o : Option (Open (List A))) (es : List (Entry (List A))) → o ≡ r.block → FlushesBlock columns r o s → Shows columns r es → Shows columns s es
+  shows_flush r s None es e h k = subst (λ (q : Renderer D A (List A)). Shows columns q es) (sym h) k
+  shows_flush r s (Some b) es e h k =
+      let after = fold (with_line columns) (record r { block = None }) (block_lines columns r b h.texts) in
+      let lines = shown_lines b (block_width r) h.texts (record r { block = None }) in
+      let both : AllZip (IsShown (λ x y. x ≡ y)) (visible_glyphs columns (text_of_lines after.lines)) (visible_entries columns (k.ended ++ b.run)) =
+      subst (λ (gs : List (ℕ × List A)). AllZip (IsShown (λ x y. x ≡ y)) gs (visible_entries columns (k.ended ++ b.run))) (sym lines)
+      (subst (λ (fs : List (Entry (List A))). AllZip (IsShown (λ x y. x ≡ y)) (visible_glyphs columns (text_of_lines r.lines) ++ visible_glyphs columns (joined h.texts)) fs) (sym (entries-append columns k.ended b.run))
+      (all_zip_append (IsShown (λ x y. x ≡ y)) (visible_glyphs columns (text_of_lines r.lines)) (visible_glyphs columns (joined h.texts)) (visible_entries columns k.ended) (visible_entries columns b.run) k.shown h.ends.shown.visible)) in
+      let nothing : open_run after.block ≡ [] = ap open_run (no_block (block_lines columns r b h.texts) (record r { block = None }) refl) in
+      let whole : visible_entries columns ((k.ended ++ b.run) ++ open_run after.block) ≡ visible_entries columns es =
+      ap (λ (run : List (Entry (List A))). visible_entries columns ((k.ended ++ b.run) ++ run)) nothing ∙ ap (visible_entries columns) (append-nil (k.ended ++ b.run))
+      ∙ ap (λ (p : Option (Open (List A))). visible_entries columns (k.ended ++ open_run p)) e ∙ k.whole in
+      subst (λ (q : Renderer D A (List A)). Shows columns q es) (sym h.is) (record { ended = k.ended ++ b.run; shown = both; whole = whole })
+
+  shows_empty : (r s : Renderer D A (List A)) (es : List (Entry (List A))) → s ≡ with_empty_line columns r → Shows columns r es → Shows columns s es
+  shows_empty r s es e k = subst (λ (q : Renderer D A (List A)). Shows columns q es) (sym e) (record {
+    ended = k.ended;
+    shown = subst (λ (gs : List (ℕ × List A)). AllZip (IsShown (λ x y. x ≡ y)) gs (visible_entries columns k.ended)) (sym (shown_line r [] ∙ append-nil (visible_glyphs columns (text_of_lines r.lines)))) k.shown;
+    whole = k.whole;
+  })
+
+  shows_start : (r s : Renderer D A (List A)) (es : List (Entry (List A))) → StartsBlock columns r s → Shows columns r es → Shows columns s es
+  shows_start r s es h k = go (has_content h.0) refl (shows_flush r h.0 r.block es refl h.1 k)
+    where
+      go : (b : Bool) → has_content h.0 ≡ b → Shows columns h.0 es → Shows columns s es
+      go true e m =
+          let begun : block_started columns h.0 ≡ with_empty_line columns h.0 = rw e refl in
+          shows_empty h.0 s es (h.2 ∙ begun) m
+      go false e m =
+          let begun : block_started columns h.0 ≡ record h.0 { block_ended = false } = rw e refl in
+          subst (λ (q : Renderer D A (List A)). Shows columns q es) (sym (h.2 ∙ begun)) (record { ended = m.ended; shown = m.shown; whole = m.whole })
+
+  shows_more : (r s : Renderer D A (List A)) (more es : List (Entry (List A))) → s ≡ with_entries r more → Shows columns r es → Shows columns s (es ++ more)
+  shows_more r s more es e k = subst (λ (q : Renderer D A (List A)). Shows columns q (es ++ more)) (sym e) (record {
+    ended = k.ended;
+    shown = k.shown;
+    whole = ap (λ (run : List (Entry (List A))). visible_entries columns (k.ended ++ (run ++ more))) (open_run_is r) ∙ ap (visible_entries columns) (sym (append_assoc k.ended (open_run r.block) more)) ∙ entries-append columns (k.ended ++ open_run r.block) more
+        ∙ ap (λ fs. fs ++ visible_entries columns more) k.whole ∙ sym (entries-append columns es more);
+  })
+
+  with_none : (s : Renderer D A (List A)) (es : List (Entry (List A))) → Shows columns s es → Shows columns s (es ++ [])
+  with_none s es k = subst (Shows columns s) (sym (append-nil es)) k
+
+  shows_break : (r s : Renderer D A (List A)) (at : Bool) (es : List (Entry (List A))) → BreaksLineAt columns at r s → Shows columns r es → Shows columns s es
+  shows_break r s true es h k = shows_empty h.0 s es h.2 (shows_flush r h.0 r.block es refl h.1 k)
+  shows_break r s false es h k = shows_flush r s r.block es refl h k
+
+  shows_same : (r s : Renderer D A (List A)) (es : List (Entry (List A))) → s.lines ≡ r.lines → s.block ≡ r.block → Shows columns r es → Shows columns s es
+  shows_same r s es lines block k = record {
+    ended = k.ended;
+    shown = subst (λ (ls : List (Line (List A))). AllZip (IsShown (λ x y. x ≡ y)) (visible_glyphs columns (text_of_lines ls)) (visible_entries columns k.ended)) (sym lines) k.shown;
+    whole = ap (λ (o : Option (Open (List A))). visible_entries columns (k.ended ++ open_run o)) block ∙ k.whole;
+  }
+
+  -- ---- calls
+
+  module _ (preformatted : D → Bool → A) where
+    entries_kept : (cs : List ℕ) (texts : List (List (Item (List A)))) (r : Renderer D A (List A)) → entries_of columns preformatted (fold (with_line columns) r texts) cs ≡ entries_of columns preformatted r cs
+    entries_kept cs [] r = refl
+    entries_kept cs (t ∷ ts) r = entries_kept cs ts (with_line columns r t)
+
+    entries_flushed : (cs : List ℕ) (r s : Renderer D A (List A)) (o : Option (Open (List A))) → FlushesBlock columns r o s → entries_of columns preformatted s cs ≡ entries_of columns preformatted r cs
+    entries_flushed cs r s None h = ap (λ (q : Renderer D A (List A)). entries_of columns preformatted q cs) h
+    entries_flushed cs r s (Some b) h = ap (λ (q : Renderer D A (List A)). entries_of columns preformatted q cs) h.is ∙ entries_kept cs (block_lines columns r b h.texts) (record r { block = None })
+
+    entries_started : (cs : List ℕ) (r s : Renderer D A (List A)) → StartsBlock columns r s → entries_of columns preformatted s cs ≡ entries_of columns preformatted r cs
+    entries_started cs r s h = ap (λ (q : Renderer D A (List A)). entries_of columns preformatted q cs) h.2 ∙ go (has_content h.0) refl ∙ entries_flushed cs r h.0 r.block h.1
+      where
+        go : (b : Bool) → has_content h.0 ≡ b → entries_of columns preformatted (block_started columns h.0) cs ≡ entries_of columns preformatted h.0 cs
+        go true e = rw e refl
+        go false e = rw e refl
+
+    shows_text : (ignored ended : Bool) (cs : List ℕ) (r s : Renderer D A (List A)) (es : List (Entry (List A))) → AddsTextBy columns preformatted ignored ended cs r s → Shows columns r es →
+        Shows columns s (es ++ (if ignored then [] else entries_of columns preformatted r cs))
+    shows_text true ended cs r s es h k = with_none s es (subst (λ (q : Renderer D A (List A)). Shows columns q es) (sym h) k)
+    shows_text false false cs r s es h k = shows_more r s (entries_of columns preformatted r cs) es h.1 k
+    shows_text false true cs r s es h k =
+        subst (λ (more : List (Entry (List A))). Shows columns s (es ++ more)) (entries_started cs r h.0 h.1) (shows_more h.0 s (entries_of columns preformatted h.0 cs) es h.2.1 (shows_start r h.0 es h.1 k))
+
+    shows_call : (c : Call) (r s : Renderer D A (List A)) (es : List (Entry (List A))) → Does columns preformatted c r s → Shows columns r es → Shows columns s (es ++ entries_brought columns preformatted c r)
+    shows_call add_empty_line r s es h k = with_none s es (shows_empty h.0 s es h.2 (shows_flush r h.0 r.block es refl h.1 k))
+    shows_call new_line r s es h k = with_none s es (shows_flush r s r.block es refl h k)
+    shows_call new_line_hard r s es h k = with_none s es (shows_break r s h.0 es h.2 k)
+    shows_call start_block r s es h k = with_none s es (shows_start r s es h k)
+    shows_call start_table r s es h k = with_none s es (shows_start r s es h k)
+    shows_call end_block r s es h k = with_none s es (shows_same r s es (ap (λ (q : Renderer D A (List A)). q.lines) h) (ap (λ (q : Renderer D A (List A)). q.block) h) k)
+    shows_call (add_inline_text cs) r s es h k = shows_text (ignores r cs) r.block_ended cs r s es h k
+    shows_call (push_ws mode) r s es h k = with_none s es (shows_same r s es (ap (λ (q : Renderer D A (List A)). q.lines) h) (ap (λ (q : Renderer D A (List A)). q.block) h) k)
+    shows_call pop_ws r s es h k = with_none s es (shows_same r s es (ap (λ (q : Renderer D A (List A)). q.lines) h) (ap (λ (q : Renderer D A (List A)). q.block) h) k)
+    shows_call push_preformat r s es h k = with_none s es (shows_same r s es (ap (λ (q : Renderer D A (List A)). q.lines) h) (ap (λ (q : Renderer D A (List A)). q.block) h) k)
+    shows_call pop_preformat r s es h k = with_none s es (shows_same r s es (ap (λ (q : Renderer D A (List A)). q.lines) h) (ap (λ (q : Renderer D A (List A)). q.block) h) k)
+    shows_call (record_frag_start name) r s es h k = shows_more r s (marker_entry name ∷ []) es h k
+
+    pub brings_shown : (calls : List Call) (r s : Renderer D A (List A)) (before es : List (Entry (List A))) → Brings columns preformatted calls r es s → Shows columns r before → Shows columns s (before ++ es)
+    brings_shown [] r s before es h k = subst (λ (q : Renderer D A (List A)). Shows columns q (before ++ es)) (sym h.0) (subst (λ (fs : List (Entry (List A))). Shows columns r (before ++ fs)) (sym h.1) (with_none r before k))
+    brings_shown (c ∷ cs) r s before es h k =
+        let (m, rest, does, brings, is) = h in
+        let all = brings_shown cs m s (before ++ entries_brought columns preformatted c r) rest brings (shows_call c r m before does k) in
+        subst (Shows columns s) (append_assoc before (entries_brought columns preformatted c r) rest ∙ ap (λ fs. before ++ fs) (sym is)) all
