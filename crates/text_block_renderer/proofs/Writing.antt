@@ -1,7 +1,11 @@
 -- Text that joins the run of a block.
-use Rattle.std.proofs.Common.{◌≡◌, ℕ, ◌&&◌, IsTrue, Bool, true, false, is_none, Option, None, Some, unwrap_or, List, [], ◌∷◌, ◌++◌, refl, ap, sym, ◌∙◌, subst}
+use Rattle.std.proofs.Common.{◌≡◌, ℕ, ◌&&◌, ◌||◌, ◌⊎◌, ◌↔◌, inl, inr, not, IsTrue, Bool, true, false, is_none, Option, None, Some, unwrap_or, List, [], ◌∷◌, ◌++◌, refl, ap, sym, ◌∙◌, subst}
 use Rattle.std.specs.Global.{Vec}
 use Rattle.std.specs.Option.{option_map}
+use Rattle.std.specs.List.{list_any}
+use Rattle.std.proofs.lemmas.Bool.{and_parts}
+use Rattle.tbr_model.specs.Hard.{entry_letters}
+use Rattle.tbr_model.specs.Shown.{shows_columns, run_shows_columns}
 use Rattle.std.proofs.lemmas.List.{map-append}
 use Rattle.tbr_model.specs.declared.white_space.WhiteSpace.{WhiteSpace}
 use Rattle.tbr_model.specs.Run.{Entry, character, marker_entry, items_width, kept_items}
@@ -9,13 +13,13 @@ use Rattle.tbr_model.proofs.maps.Words.{items_width-map}
 use Rattle.tbr_lines.proofs.MappedRuns.{kept_items-map}
 use Rattle.tbr_lines.specs.declared.Error.{Error}
 use Rattle.tbr_model.specs.Mapped.{map_entry, map_run}
-use Rattle.tbr_lines.specs.State.{State, text_entries, run_with, JoinsRun, JoinsAsMarker, IsNormal, WrapsNormally, RunDecides}
+use Rattle.tbr_lines.specs.State.{State, text_entries, run_with, JoinsRun, JoinsAsMarker, IsNormal, WrapsNormally, RunDecides, has_begun, is_some_list}
 use Rattle.tbr_lines.specs.Wrapped.{EndedWordsFit}
 use Rattle.text_block_renderer.specs.Renderer.{Open, Renderer, new_block, open_block, open_run, text_annotations, last_mode, entries_under, with_entries, block_width, may_overflow}
 use Rattle.text_block_renderer.specs.Meant.{tag_meant, map_open, meant}
 use Rattle.text_block_renderer.specs.View.{IsFresh, block_seen, block_meant}
 use Rattle.text_block_renderer.specs.Flush.{with_run, RunGoesOn, RunStops}
-use Rattle.text_block_renderer.specs.Steps.{BlockIsAtLineStart}
+use Rattle.text_block_renderer.specs.Steps.{BlockIsAtLineStart, BlockIsEmpty}
 use Rattle.text_block_renderer.proofs.Fits.{normal_unmap, run_goes_on-map, run_stops-map}
 
 pub text_entries-map : {A B : Type 0} (f : A → B) (cs : List ℕ) (a b : A) (mode : WhiteSpace) → map_run f (text_entries cs a b mode) ≡ text_entries cs (f a) (f b) mode
@@ -86,3 +90,37 @@ line_start {D} {A} {M} f columns r b at seen fresh asked decides = subst (λ (o 
     let same : items_width columns (kept_items columns (map_run (tag_meant f) b.run)) ≡ items_width columns (kept_items columns b.run) =
     ap (items_width columns) (kept_items-map (tag_meant f) columns b.run) ∙ items_width-map (tag_meant f) columns (kept_items columns b.run) in
     (λ at_start. same ∙ known.no_columns.0 (subst IsTrue is at_start), λ none. subst IsTrue (sym is) (known.no_columns.1 (sym same ∙ none))))
+
+-- ---- empty blocks
+
+letters-map : {A B : Type 0} (f : A → B) (run : List (Entry A)) → entry_letters (map_run f run) ≡ entry_letters run
+letters-map f [] = refl
+letters-map f (character c a b m ∷ es) = ap (λ cs. c ∷ cs) (letters-map f es)
+letters-map f (marker_entry name ∷ es) = letters-map f es
+
+and_false : (k : Bool) → k && false ≡ false
+and_false true = refl
+and_false false = refl
+
+pub block_empty : {D A M : Type 0} (f : A → M) (columns : ℕ → Option ℕ) (r : Renderer D A (Vec A)) (b : State (Vec A)) (empty : Bool) → block_seen (Some b) ≡ r.block → IsFresh (block_width r) (may_overflow r) b → empty ≡ is_none b.failure && (not (has_begun b) && b.no_columns) → (WrapsNormally b → RunDecides columns b) →
+    (b.failure ≡ None → run_shows_columns columns b.run ≡ true → (is_some_list b.lines ≡ true) ⊎ (b.no_columns ≡ false)) → BlockIsEmpty columns (meant f r) empty (option_map (map_open (tag_meant f)) r.block)
+block_empty {D} {A} {M} f columns r b empty seen fresh asked decides shows = subst (λ (o : Option (Open (Vec A))). BlockIsEmpty columns (meant f r) empty (option_map (map_open (tag_meant f)) o)) seen (decided, shown)
+  where
+    is : empty ≡ not (is_some_list b.lines) && b.no_columns
+    is = asked ∙ ap (λ (o : Option Error). is_none o && (not (has_begun b) && b.no_columns)) fresh.unfailed ∙ ap (λ (begun : Bool). not (begun || is_some_list b.lines) && b.no_columns) fresh.begun
+
+    same : items_width columns (kept_items columns (map_run (tag_meant f) b.run)) ≡ items_width columns (kept_items columns b.run)
+    same = ap (items_width columns) (kept_items-map (tag_meant f) columns b.run) ∙ items_width-map (tag_meant f) columns (kept_items columns b.run)
+
+    decided : may_overflow (meant f r) ≡ false → IsNormal (map_run (tag_meant f) b.run) → IsTrue empty ↔ (items_width columns (kept_items columns (map_run (tag_meant f) b.run)) ≡ 0)
+    decided narrow normal =
+        let known = decides (fresh.unfailed, fresh.may_overflow ∙ narrow, normal_unmap (tag_meant f) columns (block_width r) b.run normal) in (
+          λ yes. same ∙ known.no_columns.0 (and_parts (not (is_some_list b.lines)) b.no_columns (sym is ∙ yes)).1,
+          λ none. is ∙ ap (λ (ls : List (List _)). not (is_some_list ls) && b.no_columns) (known.no_line (sym same ∙ none)) ∙ known.no_columns.1 (sym same ∙ none),
+        )
+
+    shown : run_shows_columns columns (map_run (tag_meant f) b.run) ≡ true → empty ≡ false
+    shown h = elim (shows fresh.unfailed (ap (list_any (shows_columns columns)) (sym (letters-map (tag_meant f) b.run)) ∙ h)) [
+      | inl some ↦ is ∙ ap (λ k. not k && b.no_columns) some
+      | inr none ↦ is ∙ ap (λ k. not (is_some_list b.lines) && k) none ∙ and_false (not (is_some_list b.lines))
+    ]

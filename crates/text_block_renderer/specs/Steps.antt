@@ -1,7 +1,8 @@
 -- What each call makes of a renderer.
-use Rattle.std.specs.Prelude.{◌≡◌, ℕ, Bool, true, false, if◌then◌else◌, ◌↔◌, IsTrue, Option, None, Some, List, [], ◌++◌, ◌⊎◌}
+use Rattle.std.specs.Prelude.{◌≡◌, ℕ, Bool, true, false, if◌then◌else◌, ◌↔◌, IsTrue, is_none, Option, None, Some, List, [], ◌++◌, ◌⊎◌}
 use Rattle.tbr_model.specs.Run.{items_width, kept_items}
-use Rattle.tbr_lines.specs.State.{IsNormal}
+use Rattle.tbr_lines.specs.State.{IsNormal, is_some_list}
+use Rattle.tbr_model.specs.Shown.{run_shows_columns}
 use Rattle.text_block_renderer.specs.Renderer.{Open, Renderer, has_content, with_line, block_width, may_overflow, open_run, with_entries, entries_of, ignores}
 use Rattle.text_block_renderer.specs.Flush.{RunGoesOn, RunStops, Flushes, FlushIsTooNarrow}
 
@@ -34,6 +35,20 @@ module _ {D A : Type 0} (columns : ℕ → Option ℕ) where
 
   abbrev pub BreaksLine : Renderer D A (List A) → Renderer D A (List A) → Type 0
   BreaksLine r s = (at : Bool) × BlockIsAtLineStart r at r.block × BreaksLineAt at r s
+
+  -- Whether no block is open, or the open one is empty: a `Normal` run decides it where no line may be wider than the
+  -- block, and a visible character that takes columns says no in any run.
+  abbrev pub BlockIsEmpty : Renderer D A (List A) → Bool → Option (Open (List A)) → Type 0
+  BlockIsEmpty r empty None = empty ≡ true
+  BlockIsEmpty r empty (Some b) =
+      (may_overflow r ≡ false → IsNormal b.run → IsTrue empty ↔ (items_width columns (kept_items columns b.run) ≡ 0))
+      × (run_shows_columns columns b.run ≡ true → empty ≡ false)
+
+  -- What `empty` answers: no where the renderer has failed or has a line, and else whether its open block is empty.
+  abbrev pub TellsEmpty : Renderer D A (List A) → Bool → Type 0
+  TellsEmpty r empty =
+      (is_none r.failure ≡ false → empty ≡ false) × (is_some_list r.lines ≡ true → empty ≡ false)
+      × (r.failure ≡ None → r.lines ≡ [] → BlockIsEmpty r empty r.block)
 
 module _ {D A : Type 0} (columns : ℕ → Option ℕ) (preformatted : D → Bool → A) where
   -- the text joins the run of the open block, which goes on

@@ -27,6 +27,9 @@ pub trait Renderer {
     // How many preformatted stretches are open.
     ghost open_preformats: { Self → ℕ };
 
+    // Whether it has neither a line nor text in its open block.
+    ghost tells_empty: { Self → Bool → Type 0 };
+
     /// Ends the open line, and adds an empty one.
     fn add_empty_line(&mut self) -> Result<(), Error>
         ensures ok { OnOk result (does call.add_empty_line self.old self.new) }
@@ -119,4 +122,8 @@ pub trait Renderer {
     /// The columns of the renderer.
     fn width(&self) -> usize
         ensures { result ≡ columns_of self.now };
+
+    /// Whether it has no line, and its open block, if any, is empty. It is false on a renderer that has failed.
+    fn empty(&self) -> bool
+        ensures { tells_empty self.now result };
 }

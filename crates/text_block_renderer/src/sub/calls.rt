@@ -1,9 +1,11 @@
 //! The calls of a renderer.
-ghost use Rattle.std.specs.Prelude.{◌≡◌, ◌≢◌, ◌<◌, ◌++◌, ◌∷◌, [], suc, ◌-◌, None, Some, Ok, Err, OnOk, IfErr};
+ghost use Rattle.std.specs.Prelude.{◌≡◌, ◌≢◌, ◌<◌, ◌++◌, ◌∷◌, [], suc, ◌-◌, not, None, Some, Ok, Err, OnOk, IfErr};
 ghost use Rattle.tbr_lines.specs.declared.Error.TheVariants as E;
 ghost use Rattle.text_block_renderer.specs.Renderer.{block_width, without_last};
 ghost use Rattle.text_block_renderer.specs.Meant.{meant};
+ghost use Rattle.text_block_renderer.specs.Steps.{BlockIsEmpty, TellsEmpty};
 ghost use Rattle.text_block_renderer.specs.Calls.{Does, IsTooNarrow};
+ghost use Rattle.tbr_lines.specs.State.{is_some_list};
 
 use crate::renderer::Renderer;
 use crate::sub::SubRenderer;
@@ -27,6 +29,24 @@ impl<D: TextDecorator, W: CharWidth> SubRenderer<D, W> {
         let _ = self.modes.pop();
     }
 
+    /// Whether it has no line.
+    fn has_no_line(&self) -> bool
+        ensures { result ≡ not (is_some_list self.now.lines) }
+    {
+        self.lines.is_empty()
+    }
+
+    /// Whether no block is open, or the open one is empty.
+    fn has_empty_block(&self) -> bool
+        requires { self.now.failure ≡ None }
+        ensures { BlockIsEmpty W.columns (meant D.meaning self.now) result (meant D.meaning self.now).block }
+    {
+        match &self.wrapping {
+            Some(block) => block.is_empty(),
+            None => true,
+        }
+    }
+
     /// Begins a preformatted stretch.
     fn deepen(&mut self) -> Result<(), Error>
         ensures ok { OnOk result (self.new ≡ record self.old { preformatted = suc self.old.preformatted }) }
@@ -43,6 +63,7 @@ impl<D: TextDecorator, W: CharWidth> SubRenderer<D, W> {
 impl<D: TextDecorator, W: CharWidth> Renderer for SubRenderer<D, W> {
     ghost use Rattle.text_block_renderer.specs.Renderer.{block_width};
     ghost use Rattle.text_block_renderer.specs.Meant.{meant};
+    ghost use Rattle.text_block_renderer.specs.Steps.{TellsEmpty};
     ghost use Rattle.text_block_renderer.specs.Calls.{Does, IsTooNarrow};
 
     ghost does = { λ call old new.
@@ -57,6 +78,8 @@ impl<D: TextDecorator, W: CharWidth> Renderer for SubRenderer<D, W> {
     ghost block_columns = { λ r. block_width r };
 
     ghost open_preformats = { λ r. r.preformatted };
+
+    ghost tells_empty = { λ r empty. TellsEmpty W.columns (meant D.meaning r) empty };
 
     fn add_empty_line(&mut self) -> Result<(), Error> {
         self.refusal()?;
@@ -130,5 +153,9 @@ impl<D: TextDecorator, W: CharWidth> Renderer for SubRenderer<D, W> {
 
     fn width(&self) -> usize {
         self.width
+    }
+
+    fn empty(&self) -> bool {
+        self.failure().is_none() && self.has_no_line() && self.has_empty_block()
     }
 }
