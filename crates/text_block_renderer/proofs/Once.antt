@@ -1,6 +1,6 @@
 -- A flush of a `Normal` run leaves one state.
-use Rattle.std.proofs.Common.{◌≡◌, ℕ, false, Option, Some, None, List, [], ◌∷◌, ◌++◌, map, refl, ap, sym, ◌∙◌}
-use Rattle.tbr_model.specs.Run.{Item, marker}
+use Rattle.std.proofs.Common.{◌≡◌, ℕ, false, Option, Some, None, List, [], ◌∷◌, map, refl, ap, sym, ◌∙◌}
+use Rattle.tbr_model.specs.Run.{Item}
 use Rattle.tbr_model.specs.Layout.{slots_of, line_text}
 use Rattle.tbr_model.specs.Markers.{marker_items}
 use Rattle.tbr_model.proofs.layouts.Ahead.{unique}

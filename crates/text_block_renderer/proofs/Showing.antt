@@ -1,9 +1,8 @@
 -- Visible characters stand once.
-use Rattle.std.proofs.Common.{◌≡◌, ℕ, ◌-◌, zero, suc, ◌&&◌, Bool, true, false, not, if◌then◌else◌, Option, Some, None, is_some, List, [], ◌∷◌, ◌++◌, map, fold, filter, replicate, refl, ap, sym, ◌∙◌, subst, append_assoc, append-nil}
+use Rattle.std.proofs.Common.{◌≡◌, ℕ, ◌-◌, zero, suc, ◌&&◌, Bool, true, false, if◌then◌else◌, Option, Some, None, is_some, List, [], ◌∷◌, ◌++◌, map, fold, refl, ap, sym, ◌∙◌, subst, append_assoc, append-nil}
 use Rattle.std.specs.List.{AllZip}
-use Rattle.tbr_model.specs.declared.white_space.WhiteSpace.{WhiteSpace}
 use Rattle.tbr_model.specs.Codes.{space_character}
-use Rattle.tbr_model.specs.Run.{Entry, character, marker_entry, Item, glyph, marker, items_width, is_break}
+use Rattle.tbr_model.specs.Run.{Entry, character, marker_entry, Item, glyph, marker, items_width}
 use Rattle.tbr_model.specs.Layout.{joined}
 use Rattle.tbr_model.specs.Markers.{marker_items}
 use Rattle.tbr_model.specs.Hard.{is_visible, IsShown, visible_glyphs, visible_entries}
@@ -11,9 +10,9 @@ use Rattle.tbr_lines.specs.Elements.{text_items}
 use Rattle.tbr_lines.specs.Padding.{spaces}
 use Rattle.tbr_lines.specs.Wrapped.{padding_of}
 use Rattle.tbr_lines.proofs.SameItems.{all_zip_append}
-use Rattle.text_block_renderer.specs.Renderer.{Line, text, border, Open, Renderer, has_content, line_padding, with_line, open_block, open_run, with_entries, entries_of, ignores, block_width}
+use Rattle.text_block_renderer.specs.Renderer.{Line, text, border, Open, Renderer, has_content, line_padding, with_line, open_run, with_entries, entries_of, ignores, block_width}
 use Rattle.text_block_renderer.specs.Flush.{block_lines, FlushesBlock}
-use Rattle.text_block_renderer.specs.Steps.{AddsEmptyLine, with_empty_line, block_started, StartsBlock, BreaksLineAt, JoinsText, AddsTextBy}
+use Rattle.text_block_renderer.specs.Steps.{with_empty_line, block_started, StartsBlock, BreaksLineAt, AddsTextBy}
 use Rattle.text_block_renderer.specs.Calls.{Call, add_empty_line, new_line, new_line_hard, start_block, start_table, end_block, add_inline_text, push_ws, pop_ws, push_preformat, pop_preformat, record_frag_start, Does, entries_brought, Brings, text_of_lines, Shows}
 use Rattle.text_block_renderer.proofs.Writing.{open_run_is}
 

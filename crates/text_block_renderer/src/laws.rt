@@ -20,8 +20,8 @@ pub fn a_normal_flush_leaves_one_state<D, A>()
         Flushes columns r s → Flushes columns r t → t ≡ s }
 {}
 
-/// After any calls the visible characters of what they brought stand in the lines of text, but for those of the open run,
-/// once and in order, each under an annotation of its call.
+/// After any calls the visible characters of what they brought stand in the lines of text, but for those of the open
+/// run, once and in order, each under an annotation of its call.
 pub fn visible_characters_stand_once<D, A>()
     ensures { (columns : ℕ → Option ℕ) (preformatted : D → Bool → A) (calls : List Call)
         (r s : Renderer D A (List A)) (before es : List (Entry (List A))) →
