@@ -57,19 +57,13 @@ fn make<R: Renderer>(r: &mut R, call: Call) -> Result<(), Error> {
 
 /// The lines behind calls, each with a newline.
 fn shown(
-    alloc: Global,
     mut r: SubRenderer<PlainDecorator, UnicodeColumns>,
     calls: &[Call],
 ) -> Result<String, Error> {
     for call in calls {
         make(&mut r, *call)?;
     }
-    let mut all = String::new(alloc);
-    for line in r.into_lines()? {
-        all.push_str(line.to_text()?.as_str())?;
-        all.push('\n')?;
-    }
-    Ok(all)
+    r.into_string()
 }
 
 /// Compares the lines behind calls on a renderer of a width.
@@ -77,7 +71,7 @@ fn expect(rt: &impl Abort, alloc: Global, width: usize, calls: &[Call], lines: &
     requires { 0 < width }
 {
     let r = renderer(alloc, width, RenderOptions::default());
-    match shown(alloc, r, calls) {
+    match shown(r, calls) {
         Ok(text) => assert_eq!(rt; text.as_str(), lines),
         Err(_) => assert!(rt; false),
     }
@@ -134,11 +128,7 @@ fn lines_are_wrapped_and_padded(rt: HostRuntime) {
     let mut options = RenderOptions::default();
     options.wrap_width = Some(5);
     options.pad_block_width = true;
-    match shown(
-        alloc,
-        renderer(alloc, 8, options),
-        &[Call::Text("hello world")],
-    ) {
+    match shown(renderer(alloc, 8, options), &[Call::Text("hello world")]) {
         Ok(text) => assert_eq!(rt; text.as_str(), "hello   \nworld   \n"),
         Err(_) => assert!(rt; false),
     }
@@ -147,9 +137,11 @@ fn lines_are_wrapped_and_padded(rt: HostRuntime) {
 #[test]
 fn a_renderer_that_refused_keeps_that_refusal(rt: HostRuntime) {
     let mut r = renderer(rt.alloc(), 1, RenderOptions::default());
+    assert!(rt; r.empty());
     assert!(rt; r.add_inline_text("漢").is_ok());
     assert!(rt; matches!(r.new_line(), Err(Error::TooNarrow)));
     assert!(rt; matches!(r.add_inline_text("a"), Err(Error::TooNarrow)));
     r.end_block();
+    assert!(rt; !r.empty());
     assert!(rt; matches!(r.into_lines(), Err(Error::TooNarrow)));
 }
