@@ -3,13 +3,13 @@ use Rattle.std.proofs.Common.{◌≡◌, Bool, true, false, not, ◌||◌, List,
 use Rattle.std.specs.Global.{Vec}
 use Rattle.std.specs.List.{AllByRecursion as Each, list_any}
 use Rattle.std.proofs.lemmas.List.{map-append}
-use Rattle.tbr_model.specs.Run.{has_character}
 use Rattle.tbr_lines.specs.Copies.{equal_lists}
 use Rattle.tbr_lines.specs.Elements.{Element, piece, marker_element, items_of, has_piece, IsMerged}
 use Rattle.tbr_lines.specs.RenderLine.{IsMergedText}
 use Rattle.tbr_lines.specs.declared.RenderLine.{RenderLine}
 use Rattle.tbr_lines.specs.declared.RenderLine.TheVariants.{Text}
 use Rattle.tbr_lines.specs.View.{element_of}
+use Rattle.tbr_lines.proofs.MappedTags.{merged_piece_has}
 use Rattle.tbr_lines.specs.declared.TaggedLineElement.{TaggedLineElement}
 use Rattle.text_block_renderer.specs.declared.sub.SubRenderer.TheInside.{Inside}
 use Rattle.text_block_renderer.specs.Renderer.{Renderer, text, line_has_content}
@@ -50,13 +50,6 @@ module _ {D W A : Type 0} (eq : A → A → Bool) (r : Inside D W A) (more : Lis
 
 -- ---- lines
 
--- a line whose pieces have text has a piece where it has a character
-pub piece_is_character : {T : Type 0} (eq : T → T → Bool) (es : List (Element T)) → IsMerged eq es → has_piece es ≡ has_character (items_of es)
-piece_is_character eq [] h = refl
-piece_is_character eq (piece [] a ∷ es) h = absurd h.0
-piece_is_character eq (piece (c ∷ cs) a ∷ es) h = refl
-piece_is_character eq (marker_element name ∷ es) h = piece_is_character eq es h.2
-
 -- what is not empty has a piece
 pub has_piece_is : (empty has : Bool) → empty ≡ not has → not empty ≡ has
 has_piece_is empty true e = ap not e
@@ -88,7 +81,7 @@ module _ {D W A : Type 0} (eq : A → A → Bool) (r : Inside D W A) (line : Lis
       opened = f.opened;
       markers = f.markers;
       merged = subst (λ ls. Each (IsMergedText (equal_lists eq)) ls) (sym is) (each_behind (IsMergedText (equal_lists eq)) r.lines (Text line) f.merged merged);
-      content = content ∙ ap (λ b. b || has_piece line) f.content ∙ ap (λ b. list_any line_has_content (map line_seen r.lines) || b) (piece_is_character (equal_lists eq) line merged)
+      content = content ∙ ap (λ b. b || has_piece line) f.content ∙ ap (λ b. list_any line_has_content (map line_seen r.lines) || b) (merged_piece_has (equal_lists eq) line merged)
           ∙ sym (any_behind line_has_content (map line_seen r.lines) (text (items_of line)))
           ∙ ap (list_any line_has_content) (sym (map-append line_seen r.lines (Text line ∷ [])) ∙ ap (map line_seen) (sym is));
     };

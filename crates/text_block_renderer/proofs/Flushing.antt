@@ -19,7 +19,8 @@ use Rattle.text_block_renderer.specs.Meant.{tag_meant, items_meant, map_open, me
 use Rattle.text_block_renderer.specs.View.{block_seen, names_of, AreMarkers, IsFresh}
 use Rattle.text_block_renderer.specs.Flush.{line_meant, block_lines, block_of_run, RunFits, RunIsTooNarrow, EndsBlock, FlushesBlock, Flushes, BlockIsTooNarrow, FlushIsTooNarrow}
 use Rattle.text_block_renderer.specs.Steps.{block_started, StartsBlock}
-use Rattle.text_block_renderer.proofs.Meanings.{same_meaning, text_items-map}
+use Rattle.text_block_renderer.proofs.Meanings.{text_items-map}
+use Rattle.tbr_lines.proofs.MappedTags.{means_same_items}
 use Rattle.text_block_renderer.proofs.Fits.{run_fits-map, run_is_too_narrow-map}
 
 -- The lines of a block that a renderer has: given ones, and the block has the others left.
@@ -38,7 +39,7 @@ module _ {D A M : Type 0} (eq : A → A → Bool) (f : A → M) (agree : (v w : 
       HasLines f columns first old r q → lines_left old ≡ text ∷ rest → new ≡ line_taken old → ShowsText columns (equal_lists eq) old.padding old.width line text → meant f s ≡ with_line columns (meant f q) (items_meant f (items_of line)) → HasLines f columns first new r s
   one_line_more first old new r q s line text rest h left taken shows added =
       let same : items_meant f (items_of line) ≡ line_meant columns f first text =
-      same_meaning (equal_lists eq) (tag_meant f) agree (items_of line) (text ++ padding_of columns old.padding old.width text) shows.items
+      means_same_items (tag_meant f) (equal_lists eq) agree (items_of line) (text ++ padding_of columns old.padding old.width text) shows.items
       ∙ ap (λ (o : Option (Vec A)). items_meant f (text ++ padding_of columns o old.width text)) h.padding ∙ ap (λ (n : ℕ). items_meant f (text ++ padding_of columns first.padding n text)) h.width in
       let last : lines_left new ≡ rest = ap lines_left taken ∙ lines_left-taken old ∙ ap (drop 1) left in
       record {

@@ -12,7 +12,7 @@ use Rattle.tbr_model.specs.Mapped.{map_item, map_items}
 use Rattle.tbr_model.proofs.maps.Words.{items_width-map, has_character-map}
 use Rattle.tbr_lines.specs.Copies.{equal_lists}
 use Rattle.tbr_model.specs.Markers.{marker_items}
-use Rattle.tbr_lines.specs.Elements.{Element, marker_element, items_of, text_items, SameItems}
+use Rattle.tbr_lines.specs.Elements.{Element, marker_element, items_of, text_items}
 use Rattle.tbr_lines.specs.Padding.{spaces}
 use Rattle.tbr_model.specs.declared.white_space.WhiteSpace.{WhiteSpace}
 use Rattle.tbr_lines.specs.State.{State, empty_block}
@@ -35,16 +35,6 @@ module _ {A M : Type 0} (eq : A → A → Bool) (meaning : A → M) (by_meaning 
 
   pub tags_mean : (v w : Vec A) → equal_lists eq v w ≡ true → tag_meant meaning v ≡ tag_meant meaning w
   tags_mean v w h = lists_mean (vec_items v) (vec_items w) h
-
--- equal items mean the same
-pub same_meaning : {A M : Type 0} (eq : A → A → Bool) (f : A → M) (agree : (a b : A) → eq a b ≡ true → f a ≡ f b) (is js : List (Item A)) → SameItems eq is js → map_items f is ≡ map_items f js
-same_meaning eq f agree [] [] h = refl
-same_meaning eq f agree [] (j ∷ js) h = absurd h
-same_meaning eq f agree (i ∷ is) [] h = absurd h
-same_meaning eq f agree (glyph c a ∷ is) (glyph d b ∷ js) h = let e = agree a b h.0.1 in let rest = same_meaning eq f agree is js h.1 in let same : c ≡ d = h.0.0 in cc
-same_meaning eq f agree (marker m ∷ is) (marker n ∷ js) h = let same : m ≡ n = h.0 in let rest = same_meaning eq f agree is js h.1 in cc
-same_meaning eq f agree (glyph c a ∷ is) (marker n ∷ js) h = absurd h.0
-same_meaning eq f agree (marker m ∷ is) (glyph d b ∷ js) h = absurd h.0
 
 -- ---- padding
 

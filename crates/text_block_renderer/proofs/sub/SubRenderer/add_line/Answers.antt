@@ -4,7 +4,8 @@ use Rattle.tbr_lines.specs.Copies.{equal_lists}
 use Rattle.tbr_lines.specs.Elements.{items_of}
 use Rattle.tbr_lines.specs.View.{element_of}
 use Rattle.text_block_renderer.specs.Meant.{tag_meant}
-use Rattle.text_block_renderer.proofs.Meanings.{tags_mean, same_meaning, line_added}
+use Rattle.tbr_lines.proofs.MappedTags.{means_same_items}
+use Rattle.text_block_renderer.proofs.Meanings.{tags_mean, line_added}
 use Rattle.text_block_renderer.proofs.sub.SubRenderer.add_line.Goals as goal
 
 pub returns : goal.returns
@@ -17,6 +18,6 @@ returns g c =
     record {
       line = on_ok_weaker c.push_text.result
           (line_added f g.W.CharWidth.columns c.args.self.now c.take_waiting-waiting.new.self c.push_text.new.self es whole (items_of c.fill.new.line) (items_of c.args.line) taken.markers taken.names taken.rest
-          (same_meaning (equal_lists g.D.Annotation.PartialEq.eq) (tag_meant f) agree whole (items_of es ++ items_of c.args.line) c.in_ok-whole.ensures.items) c.in_ok-fill.ensures.items)
+          (means_same_items (tag_meant f) (equal_lists g.D.Annotation.PartialEq.eq) agree whole (items_of es ++ items_of c.args.line) c.in_ok-whole.ensures.items) c.in_ok-fill.ensures.items)
           c.push_text.ensures;
     }

@@ -6,7 +6,8 @@ use Rattle.tbr_lines.specs.Copies.{equal_lists}
 use Rattle.tbr_lines.specs.Elements.{items_of}
 use Rattle.text_block_renderer.specs.Meant.{tag_meant}
 use Rattle.text_block_renderer.specs.Renderer.{Renderer}
-use Rattle.text_block_renderer.proofs.Meanings.{tags_mean, same_meaning, filled}
+use Rattle.tbr_lines.proofs.MappedTags.{means_same_items}
+use Rattle.text_block_renderer.proofs.Meanings.{tags_mean, filled}
 use Rattle.text_block_renderer.proofs.sub.SubRenderer.fill.Goals as goal
 
 pub pad_to-requires : goal.pad_to-requires
@@ -17,7 +18,7 @@ returns-clause-items g c =
     let f = g.D.TextDecorator.meaning in
     let agree = tags_mean g.D.Annotation.PartialEq.eq f g.met.D.TextDecorator.equal_by_meaning in
     let pads : c.args.self.now.options.pad_block_width ≡ true = ap (λ (r : Renderer g.row.D.Denot g.row.D-Annotation.Denot (Vec g.row.D-Annotation.Denot)). r.options.pad_block_width) (sym c.self.view_is) ∙ c.if-not-self.false in
-    on_ok_weaker c.pad_to.result (λ same. same_meaning (equal_lists g.D.Annotation.PartialEq.eq) (tag_meant f) agree (items_of c.pad_to.new.self) _ same
+    on_ok_weaker c.pad_to.result (λ same. means_same_items (tag_meant f) (equal_lists g.D.Annotation.PartialEq.eq) agree (items_of c.pad_to.new.self) _ same
     ∙ filled f g.W.CharWidth.columns c.args.self.now c.self.inside.annotations c.self.inside.width (items_of c.args.line.now) pads
     (ap (λ (r : Renderer g.row.D.Denot g.row.D-Annotation.Denot (Vec g.row.D-Annotation.Denot)). r.annotations) c.self.view_is)
     (ap (λ (r : Renderer g.row.D.Denot g.row.D-Annotation.Denot (Vec g.row.D-Annotation.Denot)). r.width) c.self.view_is))
