@@ -3,6 +3,7 @@ pub mod End
 pub mod Prefix
 pub mod Ground
 pub mod Change
+pub mod Decoration
 pub mod Meant
 pub mod Style
 pub mod Usual

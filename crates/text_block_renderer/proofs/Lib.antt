@@ -6,6 +6,7 @@ pub mod Fits
 pub mod Flushing
 pub mod Texts
 pub mod Writing
+pub mod Moves
 pub mod Growing
 pub mod Once
 pub mod Showing

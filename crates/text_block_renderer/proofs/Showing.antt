@@ -12,8 +12,10 @@ use Rattle.tbr_lines.specs.Wrapped.{padding_of}
 use Rattle.tbr_lines.proofs.SameItems.{all_zip_append}
 use Rattle.text_block_renderer.specs.Renderer.{Line, text, border, Open, Renderer, has_content, line_padding, with_line, open_run, with_entries, entries_of, ignores, block_width}
 use Rattle.text_block_renderer.specs.Flush.{block_lines, FlushesBlock}
-use Rattle.text_block_renderer.specs.Steps.{with_empty_line, block_started, StartsBlock, BreaksLineAt, AddsTextBy}
-use Rattle.text_block_renderer.specs.Calls.{Call, add_empty_line, new_line, new_line_hard, start_block, start_table, end_block, add_inline_text, push_ws, pop_ws, push_preformat, pop_preformat, record_frag_start, Does, entries_brought, Brings, text_of_lines, Shows}
+use Rattle.text_block_renderer.specs.Steps.{with_empty_line}
+use Rattle.tbr_decor.specs.Decoration.{Decoration}
+use Rattle.text_block_renderer.specs.Calls.{Call, Brings, text_of_lines, Shows}
+use Rattle.text_block_renderer.proofs.Moves.{Move, flush, empty_line, join, turn, brought_by, Makes, along, calls_move}
 use Rattle.text_block_renderer.proofs.Writing.{open_run_is}
 
 -- ---- items and entries
@@ -115,17 +117,6 @@ module _ {D A : Type 0} (columns : ℕ → Option ℕ) where
     whole = k.whole;
   })
 
-  shows_start : (r s : Renderer D A (List A)) (es : List (Entry (List A))) → StartsBlock columns r s → Shows columns r es → Shows columns s es
-  shows_start r s es h k = go (has_content h.0) refl (shows_flush r h.0 r.block es refl h.1 k)
-    where
-      go : (b : Bool) → has_content h.0 ≡ b → Shows columns h.0 es → Shows columns s es
-      go true e m =
-          let begun : block_started columns h.0 ≡ with_empty_line columns h.0 = rw e refl in
-          shows_empty h.0 s es (h.2 ∙ begun) m
-      go false e m =
-          let begun : block_started columns h.0 ≡ record h.0 { block_ended = false } = rw e refl in
-          subst (λ (q : Renderer D A (List A)). Shows columns q es) (sym (h.2 ∙ begun)) (record { ended = m.ended; shown = m.shown; whole = m.whole })
-
   shows_more : (r s : Renderer D A (List A)) (more es : List (Entry (List A))) → s ≡ with_entries r more → Shows columns r es → Shows columns s (es ++ more)
   shows_more r s more es e k = subst (λ (q : Renderer D A (List A)). Shows columns q (es ++ more)) (sym e) (record {
     ended = k.ended;
@@ -137,59 +128,18 @@ module _ {D A : Type 0} (columns : ℕ → Option ℕ) where
   with_none : (s : Renderer D A (List A)) (es : List (Entry (List A))) → Shows columns s es → Shows columns s (es ++ [])
   with_none s es k = subst (Shows columns s) (sym (append-nil es)) k
 
-  shows_break : (r s : Renderer D A (List A)) (at : Bool) (es : List (Entry (List A))) → BreaksLineAt columns at r s → Shows columns r es → Shows columns s es
-  shows_break r s true es h k = shows_empty h.0 s es h.2 (shows_flush r h.0 r.block es refl h.1 k)
-  shows_break r s false es h k = shows_flush r s r.block es refl h k
-
-  shows_same : (r s : Renderer D A (List A)) (es : List (Entry (List A))) → s.lines ≡ r.lines → s.block ≡ r.block → Shows columns r es → Shows columns s es
-  shows_same r s es lines block k = record {
+  shows_move : (m : Move (List A)) (r s : Renderer D A (List A)) (es : List (Entry (List A))) → Makes columns m r s → Shows columns r es → Shows columns s (es ++ brought_by m)
+  shows_move flush r s es h k = with_none s es (shows_flush r s r.block es refl h k)
+  shows_move empty_line r s es h k = with_none s es (shows_empty r s es h k)
+  shows_move (join more) r s es h k = shows_more r s more es h k
+  shows_move turn r s es h k = with_none s es (record {
     ended = k.ended;
-    shown = subst (λ (ls : List (Line (List A))). AllZip (IsShown (λ x y. x ≡ y)) (visible_glyphs columns (text_of_lines ls)) (visible_entries columns k.ended)) (sym lines) k.shown;
-    whole = ap (λ (o : Option (Open (List A))). visible_entries columns (k.ended ++ open_run o)) block ∙ k.whole;
-  }
+    shown = subst (λ (ls : List (Line (List A))). AllZip (IsShown (λ x y. x ≡ y)) (visible_glyphs columns (text_of_lines ls)) (visible_entries columns k.ended)) (sym h.lines) k.shown;
+    whole = ap (λ (o : Option (Open (List A))). visible_entries columns (k.ended ++ open_run o)) h.block ∙ k.whole;
+  })
 
-  -- ---- calls
-
-  module _ (preformatted : D → Bool → A) where
-    entries_kept : (cs : List ℕ) (texts : List (List (Item (List A)))) (r : Renderer D A (List A)) → entries_of columns preformatted (fold (with_line columns) r texts) cs ≡ entries_of columns preformatted r cs
-    entries_kept cs [] r = refl
-    entries_kept cs (t ∷ ts) r = entries_kept cs ts (with_line columns r t)
-
-    entries_flushed : (cs : List ℕ) (r s : Renderer D A (List A)) (o : Option (Open (List A))) → FlushesBlock columns r o s → entries_of columns preformatted s cs ≡ entries_of columns preformatted r cs
-    entries_flushed cs r s None h = ap (λ (q : Renderer D A (List A)). entries_of columns preformatted q cs) h
-    entries_flushed cs r s (Some b) h = ap (λ (q : Renderer D A (List A)). entries_of columns preformatted q cs) h.is ∙ entries_kept cs (block_lines columns r b h.texts) (record r { block = None })
-
-    entries_started : (cs : List ℕ) (r s : Renderer D A (List A)) → StartsBlock columns r s → entries_of columns preformatted s cs ≡ entries_of columns preformatted r cs
-    entries_started cs r s h = ap (λ (q : Renderer D A (List A)). entries_of columns preformatted q cs) h.2 ∙ go (has_content h.0) refl ∙ entries_flushed cs r h.0 r.block h.1
-      where
-        go : (b : Bool) → has_content h.0 ≡ b → entries_of columns preformatted (block_started columns h.0) cs ≡ entries_of columns preformatted h.0 cs
-        go true e = rw e refl
-        go false e = rw e refl
-
-    shows_text : (ignored ended : Bool) (cs : List ℕ) (r s : Renderer D A (List A)) (es : List (Entry (List A))) → AddsTextBy columns preformatted ignored ended cs r s → Shows columns r es →
-        Shows columns s (es ++ (if ignored then [] else entries_of columns preformatted r cs))
-    shows_text true ended cs r s es h k = with_none s es (subst (λ (q : Renderer D A (List A)). Shows columns q es) (sym h) k)
-    shows_text false false cs r s es h k = shows_more r s (entries_of columns preformatted r cs) es h.1 k
-    shows_text false true cs r s es h k =
-        subst (λ (more : List (Entry (List A))). Shows columns s (es ++ more)) (entries_started cs r h.0 h.1) (shows_more h.0 s (entries_of columns preformatted h.0 cs) es h.2.1 (shows_start r h.0 es h.1 k))
-
-    shows_call : (c : Call) (r s : Renderer D A (List A)) (es : List (Entry (List A))) → Does columns preformatted c r s → Shows columns r es → Shows columns s (es ++ entries_brought columns preformatted c r)
-    shows_call add_empty_line r s es h k = with_none s es (shows_empty h.0 s es h.2 (shows_flush r h.0 r.block es refl h.1 k))
-    shows_call new_line r s es h k = with_none s es (shows_flush r s r.block es refl h k)
-    shows_call new_line_hard r s es h k = with_none s es (shows_break r s h.0 es h.2 k)
-    shows_call start_block r s es h k = with_none s es (shows_start r s es h k)
-    shows_call start_table r s es h k = with_none s es (shows_start r s es h k)
-    shows_call end_block r s es h k = with_none s es (shows_same r s es (ap (λ (q : Renderer D A (List A)). q.lines) h) (ap (λ (q : Renderer D A (List A)). q.block) h) k)
-    shows_call (add_inline_text cs) r s es h k = shows_text (ignores r cs) r.block_ended cs r s es h k
-    shows_call (push_ws mode) r s es h k = with_none s es (shows_same r s es (ap (λ (q : Renderer D A (List A)). q.lines) h) (ap (λ (q : Renderer D A (List A)). q.block) h) k)
-    shows_call pop_ws r s es h k = with_none s es (shows_same r s es (ap (λ (q : Renderer D A (List A)). q.lines) h) (ap (λ (q : Renderer D A (List A)). q.block) h) k)
-    shows_call push_preformat r s es h k = with_none s es (shows_same r s es (ap (λ (q : Renderer D A (List A)). q.lines) h) (ap (λ (q : Renderer D A (List A)). q.block) h) k)
-    shows_call pop_preformat r s es h k = with_none s es (shows_same r s es (ap (λ (q : Renderer D A (List A)). q.lines) h) (ap (λ (q : Renderer D A (List A)). q.block) h) k)
-    shows_call (record_frag_start name) r s es h k = shows_more r s (marker_entry name ∷ []) es h k
-
-    pub brings_shown : (calls : List Call) (r s : Renderer D A (List A)) (before es : List (Entry (List A))) → Brings columns preformatted calls r es s → Shows columns r before → Shows columns s (before ++ es)
-    brings_shown [] r s before es h k = subst (λ (q : Renderer D A (List A)). Shows columns q (before ++ es)) (sym h.0) (subst (λ (fs : List (Entry (List A))). Shows columns r (before ++ fs)) (sym h.1) (with_none r before k))
-    brings_shown (c ∷ cs) r s before es h k =
-        let (m, rest, does, brings, is) = h in
-        let all = brings_shown cs m s (before ++ entries_brought columns preformatted c r) rest brings (shows_call c r m before does k) in
-        subst (Shows columns s) (append_assoc before (entries_brought columns preformatted c r) rest ∙ ap (λ fs. before ++ fs) (sym is)) all
+  pub brings_shown : (decoration : Decoration D A) (calls : List Call) (r s : Renderer D A (List A)) (before es : List (Entry (List A))) →
+      Brings columns decoration calls r es s → Shows columns r before → Shows columns s (before ++ es)
+  brings_shown decoration calls r s before es h k =
+      let path = calls_move columns decoration calls r s es h in
+      subst (λ (fs : List (Entry (List A))). Shows columns s (before ++ fs)) path.brings (along columns (Shows columns) shows_move path.moves r s before path.makes k)

@@ -5,6 +5,7 @@ use Rattle.tbr_model.specs.Hard.{IsShown, visible_glyphs, visible_entries}
 use Rattle.tbr_model.specs.declared.white_space.WhiteSpace.{WhiteSpace}
 use Rattle.tbr_model.specs.Run.{Entry, marker_entry, Item}
 use Rattle.tbr_lines.specs.declared.Error.{Error}
+use Rattle.tbr_decor.specs.Decoration.{Decoration}
 use Rattle.text_block_renderer.specs.Renderer.{Line, text, border, Renderer, open_run, with_entries, without_last, entries_of, ignores}
 use Rattle.text_block_renderer.specs.Flush.{Flushes, FlushIsTooNarrow}
 use Rattle.text_block_renderer.specs.Steps.{AddsEmptyLine, StartsBlock, BreaksLine, AddsText, TextIsTooNarrow}
@@ -24,7 +25,7 @@ pub data Call : Type 0 where
   pop_preformat : Call
   record_frag_start : List ℕ → Call
 
-module _ {D A : Type 0} (columns : ℕ → Option ℕ) (preformatted : D → Bool → A) where
+module _ {D A : Type 0} (columns : ℕ → Option ℕ) (decoration : Decoration D A) where
   -- what a call that succeeds leaves
   abbrev pub Does : Call → Renderer D A (List A) → Renderer D A (List A) → Type 0
   Does add_empty_line r s = AddsEmptyLine columns r s
@@ -33,7 +34,7 @@ module _ {D A : Type 0} (columns : ℕ → Option ℕ) (preformatted : D → Boo
   Does start_block r s = StartsBlock columns r s
   Does start_table r s = StartsBlock columns r s
   Does end_block r s = s ≡ record r { block_ended = true }
-  Does (add_inline_text cs) r s = AddsText columns preformatted cs r s
+  Does (add_inline_text cs) r s = AddsText columns decoration.preformatted cs r s
   Does (push_ws mode) r s = s ≡ record r { modes = r.modes ++ mode ∷ [] }
   Does pop_ws r s = s ≡ record r { modes = without_last r.modes }
   Does push_preformat r s = s ≡ record r { preformatted = suc r.preformatted }
@@ -48,7 +49,7 @@ module _ {D A : Type 0} (columns : ℕ → Option ℕ) (preformatted : D → Boo
   IsTooNarrow start_block r = FlushIsTooNarrow columns r
   IsTooNarrow start_table r = FlushIsTooNarrow columns r
   IsTooNarrow end_block r = ⊥
-  IsTooNarrow (add_inline_text cs) r = TextIsTooNarrow columns preformatted cs r
+  IsTooNarrow (add_inline_text cs) r = TextIsTooNarrow columns decoration.preformatted cs r
   IsTooNarrow (push_ws mode) r = ⊥
   IsTooNarrow pop_ws r = ⊥
   IsTooNarrow push_preformat r = ⊥
@@ -62,7 +63,7 @@ module _ {D A : Type 0} (columns : ℕ → Option ℕ) (preformatted : D → Boo
 
   -- the entries that a call brings to the open run
   abbrev pub entries_brought : Call → Renderer D A (List A) → List (Entry (List A))
-  entries_brought (add_inline_text cs) r = if ignores r cs then [] else entries_of columns preformatted r cs
+  entries_brought (add_inline_text cs) r = if ignores r cs then [] else entries_of columns decoration.preformatted r cs
   entries_brought (record_frag_start name) r = marker_entry name ∷ []
   entries_brought add_empty_line r = []
   entries_brought new_line r = []

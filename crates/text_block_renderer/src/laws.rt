@@ -5,11 +5,12 @@ ghost use Rattle.text_block_renderer.specs.Renderer.{Line, Renderer, may_overflo
 ghost use Rattle.text_block_renderer.specs.Flush.{Flushes};
 ghost use Rattle.text_block_renderer.specs.Calls.{Call, Steps, Brings, Shows};
 ghost use Rattle.tbr_model.specs.Run.{Entry};
+ghost use Rattle.tbr_decor.specs.Decoration.{Decoration};
 
 /// No call takes a line back.
 pub fn no_call_takes_a_line_back<D, A>()
-    ensures { (columns : ℕ → Option ℕ) (preformatted : D → Bool → A) (calls : List Call)
-        (r s : Renderer D A (List A)) → Steps columns preformatted calls r s →
+    ensures { (columns : ℕ → Option ℕ) (decoration : Decoration D A) (calls : List Call)
+        (r s : Renderer D A (List A)) → Steps columns decoration calls r s →
         (more : List (Line (List A))) × (s.lines ≡ r.lines ++ more) }
 {}
 
@@ -23,7 +24,7 @@ pub fn a_normal_flush_leaves_one_state<D, A>()
 /// After any calls the visible characters of what they brought stand in the lines of text, but for those of the open
 /// run, once and in order, each under an annotation of its call.
 pub fn visible_characters_stand_once<D, A>()
-    ensures { (columns : ℕ → Option ℕ) (preformatted : D → Bool → A) (calls : List Call)
+    ensures { (columns : ℕ → Option ℕ) (decoration : Decoration D A) (calls : List Call)
         (r s : Renderer D A (List A)) (before es : List (Entry (List A))) →
-        Brings columns preformatted calls r es s → Shows columns r before → Shows columns s (before ++ es) }
+        Brings columns decoration calls r es s → Shows columns r before → Shows columns s (before ++ es) }
 {}

@@ -64,12 +64,13 @@ impl<D: TextDecorator, W: CharWidth> Renderer for SubRenderer<D, W> {
     ghost use Rattle.text_block_renderer.specs.Renderer.{block_width};
     ghost use Rattle.text_block_renderer.specs.Meant.{meant};
     ghost use Rattle.text_block_renderer.specs.Steps.{TellsEmpty};
+    ghost use Rattle.tbr_decor.specs.Decoration.{decoration_of};
     ghost use Rattle.text_block_renderer.specs.Calls.{Does, IsTooNarrow};
 
     ghost does = { λ call old new.
-        Does W.columns D.preformatted call (meant D.meaning old) (meant D.meaning new) };
+        Does W.columns (decoration_of D.TextDecorator) call (meant D.meaning old) (meant D.meaning new) };
 
-    ghost is_too_narrow = { λ call old. IsTooNarrow W.columns D.preformatted call (meant D.meaning old) };
+    ghost is_too_narrow = { λ call old. IsTooNarrow W.columns (decoration_of D.TextDecorator) call (meant D.meaning old) };
 
     ghost kept_refusal = { λ r. r.failure };
 

@@ -1,0 +1,32 @@
+-- A decorator by what its calls give: texts and annotations by its state, and the state that a call leaves.
+use Rattle.std.specs.Prelude.{ℕ, Bool, List, Option}
+use Rattle.tbr_decor.specs.declared.colour.Colour.{Colour}
+use Rattle.tbr_decor.specs.Start.{Start}
+use Rattle.tbr_decor.specs.End.{End}
+use Rattle.tbr_decor.specs.Prefix.{Prefix}
+use Rattle.tbr_decor.specs.Ground.{Ground}
+use Rattle.tbr_decor.specs.Change.{Change}
+use Rattle.tbr_decor.specs.declared.decorator.TextDecorator.{Ghosts}
+
+-- `D` is the state, and an annotation means an `M`.
+pub record Decoration (D M : Type 0) : Type 0 where
+  pub start_text : D → Start → List ℕ
+  pub annotation : D → Start → M
+  pub end_text : D → End → List ℕ
+  pub preformatted : D → Bool → M
+  pub prefix_text : D → Prefix → List ℕ
+  pub colour_annotation : D → Ground → Colour → Option M
+  pub ends_colour : D → Ground → Bool
+  pub after : D → Change → D
+
+abbrev pub decoration_of : {D A : Type 0} → (decorator : Ghosts D A) → Decoration D decorator.Meaning
+decoration_of decorator = record {
+  start_text = decorator.start_text;
+  annotation = decorator.annotation;
+  end_text = decorator.end_text;
+  preformatted = decorator.preformatted;
+  prefix_text = decorator.prefix_text;
+  colour_annotation = decorator.colour_annotation;
+  ends_colour = decorator.ends_colour;
+  after = decorator.after;
+}

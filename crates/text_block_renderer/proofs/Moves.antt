@@ -1,0 +1,161 @@
+-- Calls as the moves of which they consist. What holds of lists of calls is shown move by move.
+use Rattle.std.proofs.Common.{◌≡◌, ℕ, ◌-◌, suc, Bool, true, false, if◌then◌else◌, Option, Some, None, List, [], ◌∷◌, ◌++◌, fold, refl, ap, sym, ◌∙◌, subst, append_assoc, append-nil}
+use Rattle.tbr_model.specs.Run.{Entry, marker_entry, Item}
+use Rattle.tbr_decor.specs.Decoration.{Decoration}
+use Rattle.text_block_renderer.specs.declared.options.RenderOptions.{RenderOptions}
+use Rattle.text_block_renderer.specs.Renderer.{Line, Open, Renderer, has_content, with_line, with_entries, without_last, entries_of, ignores}
+use Rattle.text_block_renderer.specs.Flush.{block_lines, Flushes, FlushesBlock}
+use Rattle.text_block_renderer.specs.Steps.{AddsEmptyLine, with_empty_line, block_started, StartsBlock, BreaksLineAt, AddsTextBy}
+use Rattle.text_block_renderer.specs.Calls.{Call, add_empty_line, new_line, new_line_hard, start_block, start_table, end_block, add_inline_text, push_ws, pop_ws, push_preformat, pop_preformat, record_frag_start, Does, Steps, entries_brought, Brings}
+
+-- The end of the open run, an empty line, entries that join the open run, or a change of what isn't text.
+pub data Move (T : Type 0) : Type 0 where
+  flush : Move T
+  empty_line : Move T
+  join : List (Entry T) → Move T
+  turn : Move T
+
+-- the same lines, open block and waiting markers, in a renderer that wraps alike
+pub record SameText {D A : Type 0} (r s : Renderer D A (List A)) : Type 0 where
+  pub lines : s.lines ≡ r.lines
+  pub block : s.block ≡ r.block
+  pub waiting : s.waiting ≡ r.waiting
+  pub width : s.width ≡ r.width
+  pub options : s.options ≡ r.options
+
+abbrev pub brought_by : {T : Type 0} → Move T → List (Entry T)
+brought_by flush = []
+brought_by empty_line = []
+brought_by (join es) = es
+brought_by turn = []
+
+abbrev pub brought : {T : Type 0} → List (Move T) → List (Entry T)
+brought [] = []
+brought (m ∷ ms) = brought_by m ++ brought ms
+
+brought-append : {T : Type 0} (ms ns : List (Move T)) → brought (ms ++ ns) ≡ brought ms ++ brought ns
+brought-append [] ns = refl
+brought-append (m ∷ ms) ns = ap (λ es. brought_by m ++ es) (brought-append ms ns) ∙ sym (append_assoc (brought_by m) (brought ms) (brought ns))
+
+module _ {D A : Type 0} (columns : ℕ → Option ℕ) where
+  abbrev pub Makes : Move (List A) → Renderer D A (List A) → Renderer D A (List A) → Type 0
+  Makes flush r s = Flushes columns r s
+  Makes empty_line r s = s ≡ with_empty_line columns r
+  Makes (join es) r s = s ≡ with_entries r es
+  Makes turn r s = SameText r s
+
+  abbrev pub MakesAll : List (Move (List A)) → Renderer D A (List A) → Renderer D A (List A) → Type 0
+  MakesAll [] r s = s ≡ r
+  MakesAll (m ∷ ms) r s = (q : Renderer D A (List A)) × Makes m r q × MakesAll ms q s
+
+  -- some moves lead from one renderer to the other, and bring these entries
+  pub record Path (r s : Renderer D A (List A)) (es : List (Entry (List A))) : Type 0 where
+    pub moves : List (Move (List A))
+    pub makes : MakesAll moves r s
+    pub brings : brought moves ≡ es
+
+  makes-append : (ms ns : List (Move (List A))) (r q s : Renderer D A (List A)) → MakesAll ms r q → MakesAll ns q s → MakesAll (ms ++ ns) r s
+  makes-append [] ns r q s h k = subst (λ (p : Renderer D A (List A)). MakesAll ns p s) h k
+  makes-append (m ∷ ms) ns r q s h k = (h.0, h.1, makes-append ms ns h.0 q s h.2 k)
+
+  pub onward : (r q s : Renderer D A (List A)) (es fs : List (Entry (List A))) → Path r q es → Path q s fs → Path r s (es ++ fs)
+  onward r q s es fs p k = record {
+    moves = p.moves ++ k.moves;
+    makes = makes-append p.moves k.moves r q s p.makes k.makes;
+    brings = brought-append p.moves k.moves ∙ ap (λ gs. gs ++ brought k.moves) p.brings ∙ ap (λ gs. es ++ gs) k.brings;
+  }
+
+  one : (m : Move (List A)) (r s : Renderer D A (List A)) → Makes m r s → Path r s (brought_by m)
+  one m r s h = record { moves = m ∷ []; makes = (s, h, refl); brings = append-nil (brought_by m) }
+
+  -- `q` is `r` but for what isn't text
+  turned : (r q s : Renderer D A (List A)) → q.lines ≡ r.lines → q.block ≡ r.block → q.waiting ≡ r.waiting → q.width ≡ r.width → q.options ≡ r.options → s ≡ q → Path r s []
+  turned r q s lines block waiting width options is =
+      one turn r s (subst (λ (p : Renderer D A (List A)). SameText r p) (sym is) (record { lines = lines; block = block; waiting = waiting; width = width; options = options }))
+
+  stays : (r s : Renderer D A (List A)) → s ≡ r → Path r s []
+  stays r s h = record { moves = []; makes = h; brings = refl }
+
+  -- ---- each call
+
+  empty_added : (r s : Renderer D A (List A)) → AddsEmptyLine columns r s → Path r s []
+  empty_added r s h = onward r h.0 s [] [] (one flush r h.0 h.1) (one empty_line h.0 s h.2)
+
+  begun : (r s : Renderer D A (List A)) → s ≡ block_started columns r → Path r s []
+  begun r s h = go (has_content r) refl
+    where
+      go : (b : Bool) → has_content r ≡ b → Path r s []
+      go true e =
+          let is : block_started columns r ≡ with_empty_line columns r = rw e refl in
+          one empty_line r s (h ∙ is)
+      go false e =
+          let is : block_started columns r ≡ record r { block_ended = false } = rw e refl in
+          turned r (record r { block_ended = false }) s refl refl refl refl refl (h ∙ is)
+
+  started : (r s : Renderer D A (List A)) → StartsBlock columns r s → Path r s []
+  started r s h = onward r h.0 s [] [] (one flush r h.0 h.1) (begun h.0 s h.2)
+
+  broken : (r s : Renderer D A (List A)) (at : Bool) → BreaksLineAt columns at r s → Path r s []
+  broken r s true h = empty_added r s h
+  broken r s false h = one flush r s h
+
+  module _ (preformatted : D → Bool → A) where
+    entries_kept : (cs : List ℕ) (texts : List (List (Item (List A)))) (r : Renderer D A (List A)) → entries_of columns preformatted (fold (with_line columns) r texts) cs ≡ entries_of columns preformatted r cs
+    entries_kept cs [] r = refl
+    entries_kept cs (t ∷ ts) r = entries_kept cs ts (with_line columns r t)
+
+    entries_flushed : (cs : List ℕ) (r s : Renderer D A (List A)) (o : Option (Open (List A))) → FlushesBlock columns r o s → entries_of columns preformatted s cs ≡ entries_of columns preformatted r cs
+    entries_flushed cs r s None h = ap (λ (q : Renderer D A (List A)). entries_of columns preformatted q cs) h
+    entries_flushed cs r s (Some b) h = ap (λ (q : Renderer D A (List A)). entries_of columns preformatted q cs) h.is ∙ entries_kept cs (block_lines columns r b h.texts) (record r { block = None })
+
+    entries_started : (cs : List ℕ) (r s : Renderer D A (List A)) → StartsBlock columns r s → entries_of columns preformatted s cs ≡ entries_of columns preformatted r cs
+    entries_started cs r s h = ap (λ (q : Renderer D A (List A)). entries_of columns preformatted q cs) h.2 ∙ go (has_content h.0) refl ∙ entries_flushed cs r h.0 r.block h.1
+      where
+        go : (b : Bool) → has_content h.0 ≡ b → entries_of columns preformatted (block_started columns h.0) cs ≡ entries_of columns preformatted h.0 cs
+        go true e = rw e refl
+        go false e = rw e refl
+
+    text_added : (ignored ended : Bool) (cs : List ℕ) (r s : Renderer D A (List A)) → AddsTextBy columns preformatted ignored ended cs r s →
+        Path r s (if ignored then [] else entries_of columns preformatted r cs)
+    text_added true ended cs r s h = stays r s h
+    text_added false false cs r s h = one (join (entries_of columns preformatted r cs)) r s h.1
+    text_added false true cs r s h =
+        subst (λ (es : List (Entry (List A))). Path r s es) (entries_started cs r h.0 h.1)
+        (onward r h.0 s [] (entries_of columns preformatted h.0 cs) (started r h.0 h.1) (one (join (entries_of columns preformatted h.0 cs)) h.0 s h.2.1))
+
+  module _ (decoration : Decoration D A) where
+    call_moves : (c : Call) (r s : Renderer D A (List A)) → Does columns decoration c r s → Path r s (entries_brought columns decoration c r)
+    call_moves add_empty_line r s h = empty_added r s h
+    call_moves new_line r s h = one flush r s h
+    call_moves new_line_hard r s h = broken r s h.0 h.2
+    call_moves start_block r s h = started r s h
+    call_moves start_table r s h = started r s h
+    call_moves end_block r s h = turned r (record r { block_ended = true }) s refl refl refl refl refl h
+    call_moves (add_inline_text cs) r s h = text_added decoration.preformatted (ignores r cs) r.block_ended cs r s h
+    call_moves (push_ws mode) r s h = turned r (record r { modes = r.modes ++ mode ∷ [] }) s refl refl refl refl refl h
+    call_moves pop_ws r s h = turned r (record r { modes = without_last r.modes }) s refl refl refl refl refl h
+    call_moves push_preformat r s h = turned r (record r { preformatted = suc r.preformatted }) s refl refl refl refl refl h
+    call_moves pop_preformat r s h = turned r (record r { preformatted = r.preformatted - 1 }) s refl refl refl refl refl h
+    call_moves (record_frag_start name) r s h = one (join (marker_entry name ∷ [])) r s h
+
+    pub calls_move : (calls : List Call) (r s : Renderer D A (List A)) (es : List (Entry (List A))) → Brings columns decoration calls r es s → Path r s es
+    calls_move [] r s es h = subst (λ (fs : List (Entry (List A))). Path r s fs) (sym h.1) (stays r s h.0)
+    calls_move (c ∷ cs) r s es h =
+        let (m, rest, does, brings, is) = h in
+        subst (λ (fs : List (Entry (List A))). Path r s fs) (sym is) (onward r m s (entries_brought columns decoration c r) rest (call_moves c r m does) (calls_move cs m s rest brings))
+
+    pub steps_bring : (calls : List Call) (r s : Renderer D A (List A)) → Steps columns decoration calls r s → (es : List (Entry (List A))) × Brings columns decoration calls r es s
+    steps_bring [] r s h = ([], (h, refl))
+    steps_bring (c ∷ cs) r s h =
+        let (m, does, steps) = h in
+        let (rest, brings) = steps_bring cs m s steps in
+        (entries_brought columns decoration c r ++ rest, (m, rest, does, brings, refl))
+
+  -- What each move keeps, moves one after another keep.
+  pub along : (P : Renderer D A (List A) → List (Entry (List A)) → Type 0) →
+      ((m : Move (List A)) (r s : Renderer D A (List A)) (es : List (Entry (List A))) → Makes m r s → P r es → P s (es ++ brought_by m)) →
+      (ms : List (Move (List A))) (r s : Renderer D A (List A)) (es : List (Entry (List A))) → MakesAll ms r s → P r es → P s (es ++ brought ms)
+  along P each [] r s es h k = subst (λ (q : Renderer D A (List A)). P q (es ++ [])) (sym h) (subst (λ (fs : List (Entry (List A))). P r fs) (sym (append-nil es)) k)
+  along P each (m ∷ ms) r s es h k =
+      subst (λ (fs : List (Entry (List A))). P s fs) (append_assoc es (brought_by m) (brought ms))
+      (along P each ms h.0 s (es ++ brought_by m) h.2 (each m r h.0 es h.1 k))
