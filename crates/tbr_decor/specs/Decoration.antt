@@ -17,6 +17,7 @@ pub record Decoration (D M : Type 0) : Type 0 where
   pub prefix_text : D → Prefix → List ℕ
   pub colour_annotation : D → Ground → Colour → Option M
   pub ends_colour : D → Ground → Bool
+  pub subblock : D → D
   pub after : D → Change → D
 
 abbrev pub decoration_of : {D A : Type 0} → (decorator : Ghosts D A) → Decoration D decorator.Meaning
@@ -28,5 +29,6 @@ decoration_of decorator = record {
   prefix_text = decorator.prefix_text;
   colour_annotation = decorator.colour_annotation;
   ends_colour = decorator.ends_colour;
+  subblock = decorator.subblock;
   after = decorator.after;
 }

@@ -14,7 +14,7 @@ use Rattle.tbr_lines.specs.State.{State, EndsRun, lines_left, line_taken, loose_
 use Rattle.tbr_lines.specs.Wrapped.{ShowsText, padding_of}
 use Rattle.tbr_lines.proofs.LinesLeft.{lines_left-taken, taken_failure, taken_padding, taken_width}
 use Rattle.tbr_lines.proofs.MappedRuns.{ends_run-map}
-use Rattle.text_block_renderer.specs.Renderer.{Open, Renderer, has_content, with_line, block_width, may_overflow}
+use Rattle.text_block_renderer.specs.Renderer.{KeepsSettings, settings_of, Open, Renderer, has_content, with_line, block_width, may_overflow}
 use Rattle.text_block_renderer.specs.Meant.{tag_meant, items_meant, map_open, meant}
 use Rattle.text_block_renderer.specs.View.{block_seen, names_of, AreMarkers, IsFresh}
 use Rattle.text_block_renderer.specs.Flush.{line_meant, block_lines, block_of_run, RunFits, RunIsTooNarrow, EndsBlock, FlushesBlock, Flushes, BlockIsTooNarrow, FlushIsTooNarrow}
@@ -32,6 +32,7 @@ pub record HasLines {D A M : Type 0} (f : A → M) (columns : ℕ → Option ℕ
   pub given : List (List (Item (Vec A)))
   pub parts : lines_left first ≡ given ++ lines_left old
   pub meaning : meant f q ≡ fold (with_line columns) (meant f r) (map (line_meant columns f first) given)
+  pub settings : KeepsSettings (meant f r) (meant f q)
 
 module _ {D A M : Type 0} (eq : A → A → Bool) (f : A → M) (agree : (v w : Vec A) → equal_lists eq v w ≡ true → tag_meant f v ≡ tag_meant f w) (columns : ℕ → Option ℕ) where
   -- one line more
@@ -48,6 +49,7 @@ module _ {D A M : Type 0} (eq : A → A → Bool) (f : A → M) (agree : (v w : 
         padding = ap (λ (b : State (Vec A)). b.padding) taken ∙ taken_padding old ∙ h.padding;
         width = ap (λ (b : State (Vec A)). b.width) taken ∙ taken_width old ∙ h.width;
         given = h.given ++ text ∷ [];
+        settings = ap settings_of added ∙ h.settings;
         parts = h.parts ∙ ap (λ ls. h.given ++ ls) left ∙ ap (λ ls. h.given ++ text ∷ ls) (sym last) ∙ sym (append_assoc h.given (text ∷ []) (lines_left new));
         meaning = added ∙ ap (with_line columns (meant f q)) same ∙ ap (λ (m : Renderer D M (List M)). with_line columns m (line_meant columns f first text)) h.meaning
             ∙ sym (fold-append (with_line columns) (meant f r) (map (line_meant columns f first) h.given) (line_meant columns f first text ∷ []))

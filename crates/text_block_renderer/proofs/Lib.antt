@@ -1,4 +1,7 @@
 pub mod Kept
+pub mod Stages
+pub mod Images
+pub mod Opened
 pub mod Meanings
 pub mod Fields
 pub mod Lines

@@ -3,10 +3,18 @@ use Rattle.std.proofs.Common.{◌≡◌, ℕ, ◌-◌, suc, Bool, true, false, i
 use Rattle.tbr_model.specs.Run.{Entry, marker_entry, Item}
 use Rattle.tbr_decor.specs.Decoration.{Decoration}
 use Rattle.text_block_renderer.specs.declared.options.RenderOptions.{RenderOptions}
-use Rattle.text_block_renderer.specs.Renderer.{Line, Open, Renderer, has_content, with_line, with_entries, without_last, entries_of, ignores}
+use Rattle.text_block_renderer.specs.Renderer.{Line, Open, Renderer, has_content, with_line, with_entries, without_last, without_annotation, entries_of, ignores}
 use Rattle.text_block_renderer.specs.Flush.{block_lines, Flushes, FlushesBlock}
-use Rattle.text_block_renderer.specs.Steps.{AddsEmptyLine, with_empty_line, block_started, StartsBlock, BreaksLineAt, AddsTextBy}
-use Rattle.text_block_renderer.specs.Calls.{Call, add_empty_line, new_line, new_line_hard, start_block, start_table, end_block, add_inline_text, push_ws, pop_ws, push_preformat, pop_preformat, record_frag_start, Does, Steps, entries_brought, Brings}
+use Rattle.text_block_renderer.specs.Steps.{AddsEmptyLine, with_empty_line, block_started, StartsBlock, BreaksLineAt, AddsText, AddsTextBy}
+use Rattle.tbr_decor.specs.declared.colour.Colour.{Colour}
+use Rattle.tbr_decor.specs.Start as start
+use Rattle.tbr_decor.specs.Start.{Start}
+use Rattle.tbr_decor.specs.End as end
+use Rattle.tbr_decor.specs.End.{End}
+use Rattle.tbr_decor.specs.Ground.{Ground}
+use Rattle.text_block_renderer.specs.Image.{shown_title}
+use Rattle.text_block_renderer.specs.Decorated.{struck_from, struck_until, asked_to_close, annotated, coloured, uncoloured, Opens, Closes, AddsImageBy}
+use Rattle.text_block_renderer.specs.Calls.{Call, add_empty_line, new_line, new_line_hard, start_block, start_table, end_block, add_inline_text, push_ws, pop_ws, push_preformat, pop_preformat, record_frag_start, begin, finish, start_strikeout, end_strikeout, add_image, push_colour, pop_colour, Does, Steps, text_brought, image_brought, entries_brought, Brings}
 
 -- The end of the open run, an empty line, entries that join the open run, or a change of what isn't text.
 pub data Move (T : Type 0) : Type 0 where
@@ -69,9 +77,11 @@ module _ {D A : Type 0} (columns : ℕ → Option ℕ) where
   one m r s h = record { moves = m ∷ []; makes = (s, h, refl); brings = append-nil (brought_by m) }
 
   -- `q` is `r` but for what isn't text
+  turned_by : (r q s : Renderer D A (List A)) → SameText r q → s ≡ q → Path r s []
+  turned_by r q s same is = one turn r s (subst (λ (p : Renderer D A (List A)). SameText r p) (sym is) same)
+
   turned : (r q s : Renderer D A (List A)) → q.lines ≡ r.lines → q.block ≡ r.block → q.waiting ≡ r.waiting → q.width ≡ r.width → q.options ≡ r.options → s ≡ q → Path r s []
-  turned r q s lines block waiting width options is =
-      one turn r s (subst (λ (p : Renderer D A (List A)). SameText r p) (sym is) (record { lines = lines; block = block; waiting = waiting; width = width; options = options }))
+  turned r q s lines block waiting width options is = turned_by r q s (record { lines = lines; block = block; waiting = waiting; width = width; options = options }) is
 
   stays : (r s : Renderer D A (List A)) → s ≡ r → Path r s []
   stays r s h = record { moves = []; makes = h; brings = refl }
@@ -123,7 +133,51 @@ module _ {D A : Type 0} (columns : ℕ → Option ℕ) where
         subst (λ (es : List (Entry (List A))). Path r s es) (entries_started cs r h.0 h.1)
         (onward r h.0 s [] (entries_of columns preformatted h.0 cs) (started r h.0 h.1) (one (join (entries_of columns preformatted h.0 cs)) h.0 s h.2.1))
 
+  -- ---- decorated text
+
   module _ (decoration : Decoration D A) where
+    struck_from_same : (r : Renderer D A (List A)) (b : Bool) → r.options.use_unicode_strikeout ≡ b → SameText r (struck_from r)
+    struck_from_same r true e = rw e (record { lines = refl; block = refl; waiting = refl; width = refl; options = refl })
+    struck_from_same r false e = rw e (record { lines = refl; block = refl; waiting = refl; width = refl; options = refl })
+
+    struck_until_same : (r : Renderer D A (List A)) (b : Bool) → r.options.use_unicode_strikeout ≡ b → SameText r (struck_until r)
+    struck_until_same r true e = rw e (record { lines = refl; block = refl; waiting = refl; width = refl; options = refl })
+    struck_until_same r false e = rw e (record { lines = refl; block = refl; waiting = refl; width = refl; options = refl })
+
+    coloured_same : (g : Ground) (colour : Colour) (r : Renderer D A (List A)) (o : Option A) → decoration.colour_annotation r.decorator g colour ≡ o → SameText r (coloured decoration g colour r)
+    coloured_same g colour r None e = rw e (record { lines = refl; block = refl; waiting = refl; width = refl; options = refl })
+    coloured_same g colour r (Some a) e = rw e (record { lines = refl; block = refl; waiting = refl; width = refl; options = refl })
+
+    uncoloured_same : (g : Ground) (r : Renderer D A (List A)) (b : Bool) → decoration.ends_colour r.decorator g ≡ b → SameText r (uncoloured decoration g r)
+    uncoloured_same g r true e = rw e (record { lines = refl; block = refl; waiting = refl; width = refl; options = refl })
+    uncoloured_same g r false e = rw e (record { lines = refl; block = refl; waiting = refl; width = refl; options = refl })
+
+    added : (cs : List ℕ) (r s : Renderer D A (List A)) → AddsText columns decoration.preformatted cs r s → Path r s (text_brought columns decoration cs r)
+    added cs r s h = text_added decoration.preformatted (ignores r cs) r.block_ended cs r s h
+
+    opens : (opened : Start) (r s : Renderer D A (List A)) → Opens columns decoration opened r s → Path r s (text_brought columns decoration (decoration.start_text r.decorator opened) (annotated decoration opened r))
+    opens opened r s h =
+        let q = annotated decoration opened r in
+        let cs = decoration.start_text r.decorator opened in
+        onward r q s [] (text_brought columns decoration cs q) (turned r q q refl refl refl refl refl refl) (added cs q s h)
+
+    -- moves, and then a turn
+    turned_then : (r m s : Renderer D A (List A)) (es : List (Entry (List A))) → Path r m es → Path m s [] → Path r s es
+    turned_then r m s es p q = subst (λ (fs : List (Entry (List A))). Path r s fs) (append-nil es) (onward r m s es [] p q)
+
+    closes : (closed : End) (r s : Renderer D A (List A)) → Closes columns decoration closed r s → Path r s (text_brought columns decoration (decoration.end_text r.decorator closed) (asked_to_close decoration closed r))
+    closes closed r s h =
+        let q = asked_to_close decoration closed r in
+        let cs = decoration.end_text r.decorator closed in
+        let es = text_brought columns decoration cs q in
+        onward r q s [] es (turned r q q refl refl refl refl refl refl) (turned_then q h.0 s es (added cs q h.0 h.1) (turned h.0 (without_annotation h.0) s refl refl refl refl refl h.2))
+
+    image_added : (source : List ℕ) (title : Option (List ℕ)) (r s : Renderer D A (List A)) → AddsImageBy columns decoration source title r s → Path r s (image_brought columns decoration source title r)
+    image_added source None r s h = stays r s h
+    image_added source (Some title) r s h =
+        let image = start.image source title in
+        turned_then r h.0 s (text_brought columns decoration (decoration.start_text r.decorator image) (annotated decoration image r)) (opens image r h.0 h.1) (turned h.0 (without_annotation h.0) s refl refl refl refl refl h.2)
+
     call_moves : (c : Call) (r s : Renderer D A (List A)) → Does columns decoration c r s → Path r s (entries_brought columns decoration c r)
     call_moves add_empty_line r s h = empty_added r s h
     call_moves new_line r s h = one flush r s h
@@ -137,6 +191,18 @@ module _ {D A : Type 0} (columns : ℕ → Option ℕ) where
     call_moves push_preformat r s h = turned r (record r { preformatted = suc r.preformatted }) s refl refl refl refl refl h
     call_moves pop_preformat r s h = turned r (record r { preformatted = r.preformatted - 1 }) s refl refl refl refl refl h
     call_moves (record_frag_start name) r s h = one (join (marker_entry name ∷ [])) r s h
+    call_moves (begin opened) r s h = opens opened r s h
+    call_moves (finish closed) r s h = closes closed r s h
+    call_moves start_strikeout r s h =
+        let es = text_brought columns decoration (decoration.start_text r.decorator start.strikeout) (annotated decoration start.strikeout r) in
+        turned_then r h.0 s es (opens start.strikeout r h.0 h.1) (turned_by h.0 (struck_from h.0) s (struck_from_same h.0 h.0.options.use_unicode_strikeout refl) h.2)
+    call_moves end_strikeout r s h =
+        let q = struck_until r in
+        let es = text_brought columns decoration (decoration.end_text q.decorator end.strikeout) (asked_to_close decoration end.strikeout q) in
+        onward r q s [] es (turned_by r q q (struck_until_same r r.options.use_unicode_strikeout refl) refl) (closes end.strikeout q s h)
+    call_moves (add_image source title) r s h = image_added source (shown_title r.options.img_mode source title) r s h
+    call_moves (push_colour g colour) r s h = turned_by r (coloured decoration g colour r) s (coloured_same g colour r (decoration.colour_annotation r.decorator g colour) refl) h
+    call_moves (pop_colour g) r s h = turned_by r (uncoloured decoration g r) s (uncoloured_same g r (decoration.ends_colour r.decorator g) refl) h
 
     pub calls_move : (calls : List Call) (r s : Renderer D A (List A)) (es : List (Entry (List A))) → Brings columns decoration calls r es s → Path r s es
     calls_move [] r s es h = subst (λ (fs : List (Entry (List A))). Path r s fs) (sym h.1) (stays r s h.0)

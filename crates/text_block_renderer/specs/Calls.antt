@@ -1,16 +1,23 @@
 -- The calls that change a renderer.
-use Rattle.std.specs.Prelude.{◌≡◌, ℕ, suc, ◌-◌, Bool, true, if◌then◌else◌, Option, Some, Result, Err, IfErr, List, [], ◌∷◌, ◌++◌}
+use Rattle.std.specs.Prelude.{◌≡◌, ℕ, suc, ◌-◌, Bool, true, if◌then◌else◌, Option, None, Some, Result, Err, IfErr, List, [], ◌∷◌, ◌++◌, map}
 use Rattle.std.specs.List.{AllZip}
 use Rattle.tbr_model.specs.Hard.{IsShown, visible_glyphs, visible_entries}
 use Rattle.tbr_model.specs.declared.white_space.WhiteSpace.{WhiteSpace}
 use Rattle.tbr_model.specs.Run.{Entry, marker_entry, Item}
 use Rattle.tbr_lines.specs.declared.Error.{Error}
+use Rattle.tbr_decor.specs.declared.colour.Colour.{Colour}
 use Rattle.tbr_decor.specs.Decoration.{Decoration}
-use Rattle.text_block_renderer.specs.Renderer.{Line, text, border, Renderer, open_run, with_entries, without_last, entries_of, ignores}
+use Rattle.tbr_decor.specs.Start as start
+use Rattle.tbr_decor.specs.End as end
+use Rattle.tbr_decor.specs.Ground.{Ground}
+use Rattle.text_block_renderer.specs.Renderer.{Line, text, border, Renderer, open_run, with_entries, without_last, entries_of, ignores, IsOneOf, settings_of}
 use Rattle.text_block_renderer.specs.Flush.{Flushes, FlushIsTooNarrow}
 use Rattle.text_block_renderer.specs.Steps.{AddsEmptyLine, StartsBlock, BreaksLine, AddsText, TextIsTooNarrow}
+use Rattle.text_block_renderer.specs.Image.{shown_title}
+use Rattle.text_block_renderer.specs.Decorated.{struck_until, asked_to_open, asked_to_close, asked_for_colour, annotated, coloured, uncoloured, Opens, OpenIsTooNarrow, Closes, CloseIsTooNarrow, OpensStrikeout, ClosesStrikeout, AddsImage, ImageIsTooNarrow}
 
--- A call with its arguments: a text by its characters, a marker by its name.
+-- A call with its arguments: a text by its characters, a marker by its name, an image by its source and title.
+-- Strikeouts begin and end by calls of their own.
 pub data Call : Type 0 where
   add_empty_line : Call
   new_line : Call
@@ -24,6 +31,13 @@ pub data Call : Type 0 where
   push_preformat : Call
   pop_preformat : Call
   record_frag_start : List ℕ → Call
+  begin : start.Start → Call
+  finish : end.End → Call
+  start_strikeout : Call
+  end_strikeout : Call
+  add_image : List ℕ → List ℕ → Call
+  push_colour : Ground → Colour → Call
+  pop_colour : Ground → Call
 
 module _ {D A : Type 0} (columns : ℕ → Option ℕ) (decoration : Decoration D A) where
   -- what a call that succeeds leaves
@@ -40,6 +54,13 @@ module _ {D A : Type 0} (columns : ℕ → Option ℕ) (decoration : Decoration 
   Does push_preformat r s = s ≡ record r { preformatted = suc r.preformatted }
   Does pop_preformat r s = s ≡ record r { preformatted = r.preformatted - 1 }
   Does (record_frag_start name) r s = s ≡ with_entries r (marker_entry name ∷ [])
+  Does (begin opened) r s = Opens columns decoration opened r s
+  Does (finish closed) r s = Closes columns decoration closed r s
+  Does start_strikeout r s = OpensStrikeout columns decoration r s
+  Does end_strikeout r s = ClosesStrikeout columns decoration r s
+  Does (add_image source title) r s = AddsImage columns decoration source title r s
+  Does (push_colour g colour) r s = s ≡ coloured decoration g colour r
+  Does (pop_colour g) r s = s ≡ uncoloured decoration g r
 
   -- where a call answers `TooNarrow`
   abbrev pub IsTooNarrow : Call → Renderer D A (List A) → Type 0
@@ -55,16 +76,79 @@ module _ {D A : Type 0} (columns : ℕ → Option ℕ) (decoration : Decoration 
   IsTooNarrow push_preformat r = ⊥
   IsTooNarrow pop_preformat r = ⊥
   IsTooNarrow (record_frag_start name) r = ⊥
+  IsTooNarrow (begin opened) r = OpenIsTooNarrow columns decoration opened r
+  IsTooNarrow (finish closed) r = CloseIsTooNarrow columns decoration closed r
+  IsTooNarrow start_strikeout r = OpenIsTooNarrow columns decoration start.strikeout r
+  IsTooNarrow end_strikeout r = CloseIsTooNarrow columns decoration end.strikeout (struck_until r)
+  IsTooNarrow (add_image source title) r = ImageIsTooNarrow columns decoration source title r
+  IsTooNarrow (push_colour g colour) r = ⊥
+  IsTooNarrow (pop_colour g) r = ⊥
+
+  -- The stages of a call. One that refuses stops at one of them, with what it is but for its text.
+  abbrev pub open_stages : start.Start → Renderer D A (List A) → List (Renderer D A (List A))
+  open_stages opened r = r ∷ asked_to_open decoration opened r ∷ annotated decoration opened r ∷ []
+
+  abbrev pub close_stages : end.End → Renderer D A (List A) → List (Renderer D A (List A))
+  close_stages closed r = r ∷ asked_to_close decoration closed r ∷ []
+
+  abbrev pub image_stages : List ℕ → Option (List ℕ) → Renderer D A (List A) → List (Renderer D A (List A))
+  image_stages source None r = r ∷ []
+  image_stages source (Some title) r = open_stages (start.image source title) r
+
+  abbrev pub stages : Call → Renderer D A (List A) → List (Renderer D A (List A))
+  stages (begin opened) r = open_stages opened r
+  stages (finish closed) r = close_stages closed r
+  stages start_strikeout r = open_stages start.strikeout r
+  stages end_strikeout r = close_stages end.strikeout (struck_until r)
+  stages (add_image source title) r = image_stages source (shown_title r.options.img_mode source title) r
+  stages (push_colour g colour) r = r ∷ asked_for_colour decoration g colour r ∷ []
+  stages add_empty_line r = r ∷ []
+  stages new_line r = r ∷ []
+  stages new_line_hard r = r ∷ []
+  stages start_block r = r ∷ []
+  stages start_table r = r ∷ []
+  stages end_block r = r ∷ []
+  stages (add_inline_text cs) r = r ∷ []
+  stages (push_ws mode) r = r ∷ []
+  stages pop_ws r = r ∷ []
+  stages push_preformat r = r ∷ []
+  stages pop_preformat r = r ∷ []
+  stages (record_frag_start name) r = r ∷ []
+  stages (pop_colour g) r = r ∷ []
+
+  abbrev pub StopsAtStage : Call → Renderer D A (List A) → Renderer D A (List A) → Type 0
+  StopsAtStage call r s = IsOneOf (settings_of s) (map settings_of (stages call r))
 
   -- what calls leave, one after another
   abbrev pub Steps : List Call → Renderer D A (List A) → Renderer D A (List A) → Type 0
   Steps [] r s = s ≡ r
   Steps (call ∷ calls) r s = (m : Renderer D A (List A)) × Does call r m × Steps calls m s
 
-  -- the entries that a call brings to the open run
+  -- the entries that a text brings to the open run
+  abbrev pub text_brought : List ℕ → Renderer D A (List A) → List (Entry (List A))
+  text_brought cs r = if ignores r cs then [] else entries_of columns decoration.preformatted r cs
+
+  abbrev pub image_brought : List ℕ → Option (List ℕ) → Renderer D A (List A) → List (Entry (List A))
+  image_brought source None r = []
+  image_brought source (Some title) r =
+      let image = start.image source title in
+      text_brought (decoration.start_text r.decorator image) (annotated decoration image r)
+
+  -- the entries that a call brings to it
   abbrev pub entries_brought : Call → Renderer D A (List A) → List (Entry (List A))
-  entries_brought (add_inline_text cs) r = if ignores r cs then [] else entries_of columns decoration.preformatted r cs
+  entries_brought (add_inline_text cs) r = text_brought cs r
   entries_brought (record_frag_start name) r = marker_entry name ∷ []
+  entries_brought (begin opened) r = text_brought (decoration.start_text r.decorator opened) (annotated decoration opened r)
+  entries_brought (finish closed) r =
+      text_brought (decoration.end_text r.decorator closed) (asked_to_close decoration closed r)
+  entries_brought start_strikeout r =
+      text_brought (decoration.start_text r.decorator start.strikeout) (annotated decoration start.strikeout r)
+  entries_brought end_strikeout r =
+      let struck = struck_until r in
+      text_brought (decoration.end_text struck.decorator end.strikeout) (asked_to_close decoration end.strikeout struck)
+  entries_brought (add_image source title) r = image_brought source (shown_title r.options.img_mode source title) r
+  entries_brought (push_colour g colour) r = []
+  entries_brought (pop_colour g) r = []
   entries_brought add_empty_line r = []
   entries_brought new_line r = []
   entries_brought new_line_hard r = []

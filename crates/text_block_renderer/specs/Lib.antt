@@ -4,4 +4,6 @@ pub mod Meant
 pub mod View
 pub mod Flush
 pub mod Steps
+pub mod Image
+pub mod Decorated
 pub mod Calls

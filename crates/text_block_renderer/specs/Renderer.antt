@@ -1,5 +1,5 @@
 -- What a contract sees of a renderer, and the small steps by which it changes.
-use Rattle.std.specs.Prelude.{ℕ, ◌-◌, Bool, true, false, ◌&&◌, nat_lt, nat_le, if◌then◌else◌, Option, None, Some, unwrap_or, not, List, [], ◌∷◌, ◌++◌, flat_map, replicate, length, take}
+use Rattle.std.specs.Prelude.{◌≡◌, ◌⊎◌, ℕ, ◌-◌, Bool, true, false, ◌&&◌, nat_lt, nat_le, if◌then◌else◌, Option, None, Some, unwrap_or, not, List, [], ◌∷◌, ◌++◌, flat_map, replicate, length, take}
 use Rattle.std.specs.List.{list_any, list_all}
 use Rattle.std.specs.Char.{is_whitespace}
 use Rattle.tbr_model.specs.declared.white_space.WhiteSpace.{WhiteSpace}
@@ -58,6 +58,47 @@ new_renderer width options decorator = record {
   preformatted = 0;
   failure = None;
 }
+
+-- ---- what isn't text
+
+-- what a renderer is, but for its text
+pub record Settings (D A : Type 0) : Type 0 where
+  pub width : ℕ
+  pub options : RenderOptions
+  pub decorator : D
+  pub annotations : List A
+  pub modes : List WhiteSpace
+  pub strikeouts : ℕ
+  pub preformatted : ℕ
+
+abbrev pub settings_of : {D A T : Type 0} → Renderer D A T → Settings D A
+settings_of r = record {
+  width = r.width;
+  options = r.options;
+  decorator = r.decorator;
+  annotations = r.annotations;
+  modes = r.modes;
+  strikeouts = r.strikeouts;
+  preformatted = r.preformatted;
+}
+
+abbrev pub KeepsSettings : {D A T : Type 0} → Renderer D A T → Renderer D A T → Type 0
+KeepsSettings r s = settings_of s ≡ settings_of r
+
+abbrev pub IsOneOf : {X : Type 0} → X → List X → Type 0
+IsOneOf x [] = ⊥
+IsOneOf x (y ∷ []) = x ≡ y
+IsOneOf x (y ∷ z ∷ zs) = (x ≡ y) ⊎ IsOneOf x (z ∷ zs)
+
+abbrev pub without_last : {X : Type 0} → List X → List X
+without_last xs = take (length xs - 1) xs
+
+abbrev pub with_annotation : {D A T : Type 0} → Renderer D A T → A → Renderer D A T
+with_annotation r annotation = record r { annotations = r.annotations ++ annotation ∷ [] }
+
+-- the last one is taken, if there is one
+abbrev pub without_annotation : {D A T : Type 0} → Renderer D A T → Renderer D A T
+without_annotation r = record r { annotations = without_last r.annotations }
 
 -- ---- lines
 
@@ -123,9 +164,6 @@ abbrev pub last_mode : List WhiteSpace → WhiteSpace
 last_mode [] = Normal
 last_mode (mode ∷ []) = mode
 last_mode (mode ∷ next ∷ modes) = last_mode (next ∷ modes)
-
-abbrev pub without_last : {X : Type 0} → List X → List X
-without_last xs = take (length xs - 1) xs
 
 -- U+0336, which strikes the character before it
 abbrev pub stroke : ℕ

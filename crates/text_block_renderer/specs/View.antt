@@ -1,5 +1,5 @@
 -- What the fields of a renderer mean.
-use Rattle.std.specs.Prelude.{◌≡◌, ◌<◌, ℕ, Bool, false, ⊤, Option, Some, None, List, [], ◌∷◌, ◌++◌, flat_map, map}
+use Rattle.std.specs.Prelude.{◌≡◌, ◌<◌, ℕ, Bool, false, ⊤, Option, Some, None, List, [], ◌∷◌, ◌++◌, flat_map, map, chars}
 use Rattle.std.specs.Option.{option_map}
 use Rattle.std.specs.List.{AllByRecursion as Each, list_any}
 use Rattle.std.specs.Global.{Vec}
@@ -9,6 +9,15 @@ use Rattle.text_block_renderer.specs.Meant.{tag_meant, map_open}
 use Rattle.text_block_renderer.specs.declared.sub.SubRenderer.TheInside.{Inside}
 use Rattle.tbr_lines.specs.Elements.{Element, piece, marker_element, items_of}
 use Rattle.tbr_lines.specs.State.{State}
+use Rattle.tbr_decor.specs.Start as start
+use Rattle.tbr_decor.specs.End as end
+use Rattle.tbr_decor.specs.Ground as ground
+use Rattle.text_block_renderer.specs.declared.sub.colours.Ground.{Ground as Coloured}
+use Rattle.text_block_renderer.specs.declared.sub.colours.Ground.TheVariants as coloured
+use Rattle.text_block_renderer.specs.declared.sub.decorated.End.{End as Closed}
+use Rattle.text_block_renderer.specs.declared.sub.decorated.End.TheVariants as closed
+use Rattle.text_block_renderer.specs.declared.sub.decorated.Start.{Start as Opened}
+use Rattle.text_block_renderer.specs.declared.sub.decorated.Start.TheVariants as opened
 use Rattle.tbr_lines.specs.declared.RenderLine.{RenderLine}
 use Rattle.tbr_lines.specs.declared.RenderLine.TheVariants.{Text, Line as Rule}
 use Rattle.tbr_model.specs.Codes.{newline_character}
@@ -89,3 +98,25 @@ line_text line = item_characters (line_items line) ++ newline_character ∷ []
 
 abbrev pub lines_text : {T : Type 0} → List (RenderLine T) → List ℕ
 lines_text lines = flat_map line_text lines
+
+-- what is opened or closed
+abbrev pub start_of : Opened → start.Start
+start_of (opened.Link target) = start.link (chars target.now)
+start_of opened.Emphasis = start.emphasis
+start_of opened.Strong = start.strong
+start_of opened.Strikeout = start.strikeout
+start_of opened.Code = start.code
+start_of opened.Superscript = start.superscript
+start_of (opened.Image source title) = start.image (chars source.now) (chars title.now)
+
+abbrev pub end_of : Closed → end.End
+end_of closed.Link = end.link
+end_of closed.Emphasis = end.emphasis
+end_of closed.Strong = end.strong
+end_of closed.Strikeout = end.strikeout
+end_of closed.Code = end.code
+end_of closed.Superscript = end.superscript
+
+abbrev pub ground_of : Coloured → ground.Ground
+ground_of coloured.Text = ground.text
+ground_of coloured.Background = ground.background

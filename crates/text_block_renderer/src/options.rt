@@ -1,5 +1,6 @@
 //! What a renderer is told to do.
-ghost use Rattle.std.specs.Prelude.{◌≡◌};
+ghost use Rattle.std.specs.Prelude.{◌≡◌, chars, None, Some, IfSome};
+ghost use Rattle.text_block_renderer.specs.Image.{file_name, shown_title};
 ghost use Rattle.text_block_renderer.specs.Options.{default_options};
 ghost use Rattle.text_block_renderer.specs.declared.options.ImageRenderMode.TheVariants.{IgnoreEmpty};
 
@@ -16,6 +17,25 @@ pub enum ImageRenderMode {
     Filename,
 }
 
+impl ImageRenderMode {
+    /// The title that is shown for an image, if one is.
+    pub(crate) fn shown_title<'a>(self, src: &'a str, title: &'a str) -> Option<&'a str>
+        ensures some { IfSome result (λ shown.
+            shown_title self (chars src.now) (chars title.now) ≡ Some (chars shown.now)) }
+        ensures none { result ≡ None → shown_title self (chars src.now) (chars title.now) ≡ None }
+    {
+        if !title.is_empty() {
+            return Some(title);
+        }
+        match self {
+            ImageRenderMode::IgnoreEmpty => None,
+            ImageRenderMode::ShowAlways => Some(title),
+            ImageRenderMode::Replace(title) => Some(title),
+            ImageRenderMode::Filename => Some(file_name(src)),
+        }
+    }
+}
+
 impl Default for ImageRenderMode {
     ghost is_default = { λ mode. mode ≡ IgnoreEmpty };
 
@@ -26,7 +46,7 @@ impl Default for ImageRenderMode {
 }
 
 /// What a renderer is told to do.
-#[derive(Clone, Debug, Drop, PartialEq, Eq)]
+#[derive(Clone, Copy, Debug, PartialEq, Eq)]
 pub struct RenderOptions {
     /// The most columns that a line of wrapped text takes, at least 1, if it may take fewer than the renderer has.
     pub wrap_width: Option<usize>,
@@ -68,5 +88,15 @@ impl Default for RenderOptions {
             use_unicode_strikeout: true,
             img_mode: ImageRenderMode::IgnoreEmpty,
         }
+    }
+}
+
+/// What follows the last `/` of a source, or all of it.
+fn file_name(src: &str) -> &str
+    ensures { chars result.now ≡ file_name (chars src.now) }
+{
+    match src.rsplit_once('/') {
+        Some((_, name)) => name,
+        None => src,
     }
 }

@@ -1,8 +1,8 @@
 //! A renderer of blocks of text.
-ghost use Rattle.std.specs.Prelude.{◌≡◌, ◌≢◌, ◌<◌, ◌≤◌, [], ◌∷◌, ◌++◌, None, Some, Ok, Err, true, false, not, ◌&&◌, ◌||◌, suc, ◌-◌, map, fold, chars, string_bytes, IsTrue, ◌↔◌, ◌⊎◌, unwrap_or, is_none, List, IfOk, IfErr, OnOk, MatchResult, ℕ};
+ghost use Rattle.std.specs.Prelude.{◌≡◌, ◌≢◌, ◌<◌, ◌≤◌, [], ◌∷◌, ◌++◌, None, Some, Ok, Err, true, false, not, ◌&&◌, ◌||◌, suc, ◌-◌, map, fold, chars, string_bytes, IsTrue, ◌↔◌, ◌⊎◌, unwrap_or, is_none, is_err, max, List, IfOk, IfErr, OnOk, MatchResult, ℕ};
 ghost use Rattle.tbr_lines.specs.declared.Error.{Error as Refusal};
 ghost use Rattle.tbr_lines.specs.declared.Error.TheVariants as E;
-ghost use Rattle.text_block_renderer.specs.Renderer.{Renderer as Model, new_renderer, has_content, text, line_padding, with_line, block_width, may_overflow};
+ghost use Rattle.text_block_renderer.specs.Renderer.{Renderer as Model, KeepsSettings, new_renderer, has_content, text, line_padding, with_line, block_width, may_overflow};
 ghost use Rattle.text_block_renderer.specs.View.{block_seen, IsFresh, IsOpened, AreMarkers, names_of};
 ghost use Rattle.tbr_lines.specs.View.{element_of};
 ghost use Rattle.tbr_lines.specs.Copies.{equal_lists};
@@ -17,13 +17,17 @@ use std::marker::Model;
 use std::mem;
 use tbr_decor::TextDecorator;
 use tbr_lines::{
-    CharWidth, Error, OutOfMemory, RenderLine, TaggedLine, TaggedLineElement, UnicodeColumns,
-    WhiteSpace, WrappedBlock,
+    CharWidth, Error, OutOfMemory, RenderLine, TaggedLine, TaggedLineElement, TooNarrow,
+    UnicodeColumns, WhiteSpace, WrappedBlock,
 };
 
 mod blocks;
 mod calls;
+mod colours;
+mod decorated;
+mod images;
 mod lines;
+mod strikeouts;
 mod texts;
 
 /// A renderer of a width in columns, whose text stands under lists of what its decorator annotates with.
@@ -121,6 +125,22 @@ impl<D: TextDecorator, W: CharWidth> SubRenderer<D, W> {
         self.preformatted
     }
 
+    /// The columns that are left behind a prefix, but `min_width` at least.
+    ///
+    /// It answers `TooNarrow` where fewer than `min_width` are left and lines may not be wider. It takes no memory, and
+    /// doesn't look at a failure.
+    pub fn width_minus(&self, prefix_len: usize, min_width: usize) -> Result<usize, TooNarrow>
+        ensures width { IfOk result (λ columns. columns ≡ max min_width (self.now.width - prefix_len)) }
+        ensures too_narrow { IsTrue (is_err result)
+            ↔ (self.now.width - prefix_len < min_width) × (self.now.options.allow_width_overflow ≡ false) }
+    {
+        let left = self.width.saturating_sub(prefix_len);
+        if left < min_width && !self.options.allow_width_overflow {
+            return Err(TooNarrow);
+        }
+        Ok(left.max(min_width))
+    }
+
     /// Answers the kept refusal, if there is one.
     fn refusal(&self) -> Result<(), Error>
         ensures { MatchResult result (λ _. self.now.failure ≡ None) (λ e. self.now.failure ≡ Some e) }
@@ -136,6 +156,7 @@ impl<D: TextDecorator, W: CharWidth> SubRenderer<D, W> {
         ensures result { result ≡ done }
         ensures ok { OnOk result (self.new ≡ self.old) }
         ensures failed { IfErr result (λ e. self.new.failure ≡ Some e) }
+        ensures settings { KeepsSettings (meant D.meaning self.old) (meant D.meaning self.new) }
     {
         if let Err(e) = done {
             self.failure = Some(e);
@@ -182,8 +203,9 @@ impl<D: TextDecorator, W: CharWidth> SubRenderer<D, W> {
         mut markers: Vec<TaggedLineElement<Vec<D::Annotation>>>,
     ) -> Result<(), OutOfMemory>
         requires { AreMarkers (map element_of markers.items) }
-        ensures { OnOk result
+        ensures waiting { OnOk result
             (self.new ≡ record self.old { waiting = self.old.waiting ++ names_of (map element_of markers.items) }) }
+        ensures settings { KeepsSettings (meant D.meaning self.old) (meant D.meaning self.new) }
     {
         self.waiting.append(&mut markers)?;
         Ok(())
@@ -202,7 +224,8 @@ impl<D: TextDecorator, W: CharWidth> SubRenderer<D, W> {
     /// Adds a line of text as it is. Where memory is refused the line is lost.
     fn push_text(&mut self, line: TaggedLine<Vec<D::Annotation>>) -> Result<(), OutOfMemory>
         requires { IsMerged (equal_lists D.Annotation.eq) line }
-        ensures { OnOk result (self.new ≡ record self.old { lines = self.old.lines ++ text (items_of line) ∷ [] }) }
+        ensures line { OnOk result (self.new ≡ record self.old { lines = self.old.lines ++ text (items_of line) ∷ [] }) }
+        ensures settings { KeepsSettings (meant D.meaning self.old) (meant D.meaning self.new) }
     {
         let has_piece = !line.is_empty();
         self.lines.push_back(RenderLine::Text(line))?;
@@ -232,6 +255,7 @@ impl<D: TextDecorator, W: CharWidth> SubRenderer<D, W> {
         requires merged { IsMerged (equal_lists D.Annotation.eq) line }
         ensures line { OnOk result (meant D.meaning self.new
             ≡ with_line W.columns (meant D.meaning self.old) (items_meant D.meaning (items_of line))) }
+        ensures settings { KeepsSettings (meant D.meaning self.old) (meant D.meaning self.new) }
     {
         let waiting = self.take_waiting();
         let mut whole = behind_markers(self.alloc, waiting, line)?;

@@ -3,7 +3,7 @@ ghost use Rattle.std.specs.Prelude.{◌≡◌, ◌≢◌, ◌≤◌, None, Some,
 ghost use Rattle.tbr_lines.specs.State.{lines_left};
 ghost use Rattle.tbr_lines.specs.declared.Error.{Error as Refusal};
 ghost use Rattle.tbr_lines.specs.declared.Error.TheVariants as E;
-ghost use Rattle.text_block_renderer.specs.Renderer.{with_line, block_width};
+ghost use Rattle.text_block_renderer.specs.Renderer.{KeepsSettings, with_line, block_width};
 ghost use Rattle.text_block_renderer.specs.Meant.{meant};
 ghost use Rattle.text_block_renderer.specs.Flush.{line_meant, Flushes, FlushIsTooNarrow};
 ghost use Rattle.text_block_renderer.specs.Steps.{with_empty_line, AddsEmptyLine, block_started, StartsBlock, BlockIsAtLineStart, BreaksLine};
@@ -21,6 +21,7 @@ impl<D: TextDecorator, W: CharWidth> SubRenderer<D, W> {
             (map (line_meant W.columns D.meaning block) (lines_left block))) }
         ensures unfailed { OnOk result (self.new.failure ≡ None) }
         ensures memory { IfErr result (λ e. e ≡ E.OutOfMemory) }
+        ensures settings { KeepsSettings (meant D.meaning self.old) (meant D.meaning self.new) }
     {
         while let Some(line) = block.next_line()? {
             self.add_line(line)?;
@@ -35,6 +36,7 @@ impl<D: TextDecorator, W: CharWidth> SubRenderer<D, W> {
         ensures unfailed { OnOk result (self.new.failure ≡ None) }
         ensures too_narrow { result ≡ Err E.TooNarrow → FlushIsTooNarrow W.columns (meant D.meaning self.old) }
         ensures two_columns { 2 ≤ block_width self.old → result ≢ Err E.TooNarrow }
+        ensures settings { KeepsSettings (meant D.meaning self.old) (meant D.meaning self.new) }
     {
         let Some(mut block) = self.take_block() else {
             return Ok(());
@@ -52,6 +54,7 @@ impl<D: TextDecorator, W: CharWidth> SubRenderer<D, W> {
         ensures ok { OnOk result (AddsEmptyLine W.columns (meant D.meaning self.old) (meant D.meaning self.new)) }
         ensures too_narrow { result ≡ Err E.TooNarrow → FlushIsTooNarrow W.columns (meant D.meaning self.old) }
         ensures two_columns { 2 ≤ block_width self.old → result ≢ Err E.TooNarrow }
+        ensures settings { KeepsSettings (meant D.meaning self.old) (meant D.meaning self.new) }
     {
         self.try_flush()?;
         self.put_empty_line()?;
@@ -63,6 +66,7 @@ impl<D: TextDecorator, W: CharWidth> SubRenderer<D, W> {
         requires { self.old.failure ≡ None }
         ensures line { OnOk result (meant D.meaning self.new ≡ with_empty_line W.columns (meant D.meaning self.old)) }
         ensures unfailed { OnOk result (self.new.failure ≡ None) }
+        ensures settings { KeepsSettings (meant D.meaning self.old) (meant D.meaning self.new) }
     {
         self.add_line(TaggedLine::new(self.alloc))?;
         self.set_block_ended(false);
@@ -77,6 +81,7 @@ impl<D: TextDecorator, W: CharWidth> SubRenderer<D, W> {
         ensures columns { OnOk result (block_width self.new ≡ block_width self.old) }
         ensures too_narrow { result ≡ Err E.TooNarrow → FlushIsTooNarrow W.columns (meant D.meaning self.old) }
         ensures two_columns { 2 ≤ block_width self.old → result ≢ Err E.TooNarrow }
+        ensures settings { KeepsSettings (meant D.meaning self.old) (meant D.meaning self.new) }
     {
         self.try_flush()?;
         self.begin_block()?;
@@ -88,6 +93,7 @@ impl<D: TextDecorator, W: CharWidth> SubRenderer<D, W> {
         requires { self.old.failure ≡ None }
         ensures begun { OnOk result (meant D.meaning self.new ≡ block_started W.columns (meant D.meaning self.old)) }
         ensures unfailed { OnOk result (self.new.failure ≡ None) }
+        ensures settings { KeepsSettings (meant D.meaning self.old) (meant D.meaning self.new) }
     {
         if self.has_content() {
             return self.put_empty_line();
@@ -113,6 +119,7 @@ impl<D: TextDecorator, W: CharWidth> SubRenderer<D, W> {
         ensures ok { OnOk result (BreaksLine W.columns (meant D.meaning self.old) (meant D.meaning self.new)) }
         ensures too_narrow { result ≡ Err E.TooNarrow → FlushIsTooNarrow W.columns (meant D.meaning self.old) }
         ensures two_columns { 2 ≤ block_width self.old → result ≢ Err E.TooNarrow }
+        ensures settings { KeepsSettings (meant D.meaning self.old) (meant D.meaning self.new) }
     {
         if self.is_at_line_start() {
             return self.try_add_empty_line();

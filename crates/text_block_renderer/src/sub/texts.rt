@@ -3,7 +3,7 @@ ghost use Rattle.std.specs.Prelude.{◌≡◌, ◌≢◌, ◌≤◌, ◌++◌, �
 ghost use Rattle.tbr_model.specs.Mapped.{map_run};
 ghost use Rattle.tbr_lines.specs.View.{chars_of};
 ghost use Rattle.tbr_lines.specs.declared.Error.TheVariants as E;
-ghost use Rattle.text_block_renderer.specs.Renderer.{block_width, may_overflow, last_mode, struck, struck_character, open_block, new_block, stroke, text_annotations, entries_under, entries_of, with_entries, is_white, ignores};
+ghost use Rattle.text_block_renderer.specs.Renderer.{KeepsSettings, block_width, may_overflow, last_mode, struck, struck_character, open_block, new_block, stroke, text_annotations, entries_under, entries_of, with_entries, is_white, ignores};
 ghost use Rattle.text_block_renderer.specs.View.{IsFresh, open_seen};
 ghost use Rattle.text_block_renderer.specs.Meant.{tag_meant, map_open, meant};
 ghost use Rattle.text_block_renderer.specs.View.{block_meant};
@@ -40,19 +40,25 @@ impl<D: TextDecorator, W: CharWidth> SubRenderer<D, W> {
         }
     }
 
+    /// A copy of the annotations.
+    pub(crate) fn tag(&self) -> Result<Vec<D::Annotation>, OutOfMemory>
+        ensures { IfOk result (λ tag. tag_meant D.meaning tag ≡ map D.meaning self.now.annotations) }
+    {
+        Ok(self.annotations.clone()?)
+    }
+
     /// A block without text.
     fn new_block(&self) -> Result<WrappedBlock<Vec<D::Annotation>, W>, OutOfMemory>
         ensures fresh { IfOk result (λ b. IsFresh (block_width self.now) (may_overflow self.now) b) }
         ensures block { IfOk result (λ b.
             map_open (tag_meant D.meaning) (open_seen b) ≡ new_block (meant D.meaning self.now)) }
     {
-        let tag = self.annotations.clone()?;
         Ok(WrappedBlock::new(
             self.alloc,
             self.block_columns(),
             self.options.pad_block_width,
             self.options.allow_width_overflow,
-            tag,
+            self.tag()?,
         ))
     }
 
@@ -63,6 +69,7 @@ impl<D: TextDecorator, W: CharWidth> SubRenderer<D, W> {
         ensures block { IfOk result (λ b.
             map_open (tag_meant D.meaning) (open_seen b) ≡ open_block (meant D.meaning self.old)) }
         ensures rest { OnOk result (self.new ≡ record self.old { block = None }) }
+        ensures settings { KeepsSettings (meant D.meaning self.old) (meant D.meaning self.new) }
     {
         match self.take_block() {
             Some(block) => Ok(block),
@@ -75,7 +82,7 @@ impl<D: TextDecorator, W: CharWidth> SubRenderer<D, W> {
         ensures { IfOk result (λ tag. tag_meant D.meaning tag
             ≡ map D.meaning self.now.annotations ++ D.meaning annotation ∷ []) }
     {
-        let mut tag = self.annotations.clone()?;
+        let mut tag = self.tag()?;
         tag.push(annotation)?;
         Ok(tag)
     }
@@ -166,6 +173,7 @@ impl<D: TextDecorator, W: CharWidth> SubRenderer<D, W> {
         ensures too_narrow { result ≡ Err E.TooNarrow →
             JoinIsTooNarrow W.columns D.preformatted (chars text.now) (meant D.meaning self.old) }
         ensures two_columns { 2 ≤ block_width self.old → result ≢ Err E.TooNarrow }
+        ensures settings { KeepsSettings (meant D.meaning self.old) (meant D.meaning self.new) }
     {
         let mut block = self.take_or_new_block()?;
         self.write(&mut block, text)?;
@@ -195,6 +203,7 @@ impl<D: TextDecorator, W: CharWidth> SubRenderer<D, W> {
         ensures too_narrow { result ≡ Err E.TooNarrow →
             TextIsTooNarrowBy W.columns D.preformatted false true (chars text.now) (meant D.meaning self.old) }
         ensures two_columns { 2 ≤ block_width self.old → result ≢ Err E.TooNarrow }
+        ensures settings { KeepsSettings (meant D.meaning self.old) (meant D.meaning self.new) }
     {
         self.try_start_block()?;
         self.add_to_block(text)
@@ -208,6 +217,7 @@ impl<D: TextDecorator, W: CharWidth> SubRenderer<D, W> {
         ensures too_narrow { result ≡ Err E.TooNarrow →
             TextIsTooNarrow W.columns D.preformatted (chars text.now) (meant D.meaning self.old) }
         ensures two_columns { 2 ≤ block_width self.old → result ≢ Err E.TooNarrow }
+        ensures settings { KeepsSettings (meant D.meaning self.old) (meant D.meaning self.new) }
     {
         if self.ignores(text) {
             return Ok(());
@@ -224,6 +234,7 @@ impl<D: TextDecorator, W: CharWidth> SubRenderer<D, W> {
         ensures ok { OnOk result
             (meant D.meaning self.new ≡ with_entries (meant D.meaning self.old) (marker_entry name.now ∷ [])) }
         ensures memory { IfErr result (λ e. e ≡ E.OutOfMemory) }
+        ensures settings { KeepsSettings (meant D.meaning self.old) (meant D.meaning self.new) }
     {
         let name = String::from_str(self.alloc, name)?;
         let mut block = self.take_or_new_block()?;

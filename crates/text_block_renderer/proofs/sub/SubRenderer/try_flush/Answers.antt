@@ -34,4 +34,4 @@ returns-clause-ok g c =
     let names = markers_named (map element_of c.in_ok-markers.markers.items) c.flush.new.self.loose c.in_ok-markers.ensures.markers in
     block_flushed f g.W.CharWidth.columns c.args.self.now c.in-Some.block c.in-Some.ensures.block fresh c.flush.new.self c.take_trailing_fragments.new.self flushed.0 flushed.1 (names_of (map element_of c.in_ok-markers.markers.items))
     c.take_block.new.self c.add_lines_of.new.self c.add_waiting.new.self fits flushed.2 flushed.3 c.in_ok-markers.ensures.taken c.in-Some.ensures.rest c.in_ok-add_lines_of.ensures.lines
-    (names ∙ ap (λ (s : State (Vec g.row.D-Annotation.Denot)). s.loose) flushed.3) c.in_ok-add_waiting.ensures
+    (names ∙ ap (λ (s : State (Vec g.row.D-Annotation.Denot)). s.loose) flushed.3) c.in_ok-add_waiting.ensures.waiting
