@@ -10,7 +10,7 @@ use Rattle.tbr_lines.specs.Elements.{text_items}
 use Rattle.tbr_lines.specs.Padding.{spaces}
 use Rattle.tbr_lines.specs.Wrapped.{padding_of}
 use Rattle.tbr_lines.proofs.SameItems.{all_zip_append}
-use Rattle.text_block_renderer.specs.Renderer.{Line, text, border, Open, Renderer, has_content, line_padding, with_line, open_run, with_entries, entries_of, ignores, block_width}
+use Rattle.text_block_renderer.specs.Renderer.{Line, text, border, Open, Renderer, line_padding, with_line, open_run, with_entries, block_width}
 use Rattle.text_block_renderer.specs.Flush.{block_lines, FlushesBlock}
 use Rattle.text_block_renderer.specs.Steps.{with_empty_line}
 use Rattle.tbr_decor.specs.Decoration.{Decoration}

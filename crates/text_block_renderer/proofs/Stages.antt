@@ -1,5 +1,5 @@
 -- What a call that refuses leaves.
-use Rattle.std.proofs.Common.{◌≡◌, Result, Ok, Err, sym, ◌∙◌, subst}
+use Rattle.std.proofs.Common.{◌≡◌, Result, Ok, Err, sym, subst}
 use Rattle.std.specs.Prelude.{OnErr}
 
 pub on_err : {X E P : Type 0} (r : Result X E) → P → OnErr r P

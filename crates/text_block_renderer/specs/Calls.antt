@@ -1,5 +1,5 @@
 -- The calls that change a renderer.
-use Rattle.std.specs.Prelude.{◌≡◌, ℕ, suc, ◌-◌, Bool, true, if◌then◌else◌, Option, None, Some, Result, Err, IfErr, List, [], ◌∷◌, ◌++◌, map}
+use Rattle.std.specs.Prelude.{◌≡◌, ℕ, suc, ◌-◌, true, if◌then◌else◌, Option, None, Some, Result, Err, IfErr, List, [], ◌∷◌, ◌++◌, map}
 use Rattle.std.specs.List.{AllZip}
 use Rattle.tbr_model.specs.Hard.{IsShown, visible_glyphs, visible_entries}
 use Rattle.tbr_model.specs.declared.white_space.WhiteSpace.{WhiteSpace}
@@ -138,7 +138,8 @@ module _ {D A : Type 0} (columns : ℕ → Option ℕ) (decoration : Decoration 
   abbrev pub entries_brought : Call → Renderer D A (List A) → List (Entry (List A))
   entries_brought (add_inline_text cs) r = text_brought cs r
   entries_brought (record_frag_start name) r = marker_entry name ∷ []
-  entries_brought (begin opened) r = text_brought (decoration.start_text r.decorator opened) (annotated decoration opened r)
+  entries_brought (begin opened) r =
+      text_brought (decoration.start_text r.decorator opened) (annotated decoration opened r)
   entries_brought (finish closed) r =
       text_brought (decoration.end_text r.decorator closed) (asked_to_close decoration closed r)
   entries_brought start_strikeout r =

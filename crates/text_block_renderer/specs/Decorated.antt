@@ -1,5 +1,5 @@
 -- What the start and the end of decorated text make of a renderer.
-use Rattle.std.specs.Prelude.{◌≡◌, ℕ, suc, ◌-◌, if◌then◌else◌, Option, None, Some, List, [], ◌∷◌, ◌++◌}
+use Rattle.std.specs.Prelude.{◌≡◌, ℕ, suc, ◌-◌, if◌then◌else◌, Option, None, Some, List}
 use Rattle.tbr_decor.specs.declared.colour.Colour.{Colour}
 use Rattle.tbr_decor.specs.Decoration.{Decoration}
 use Rattle.tbr_decor.specs.Start as start
@@ -63,7 +63,8 @@ module _ {D A : Type 0} (decoration : Decoration D A) where
 
   -- the end of a colour takes the last annotation, where the decorator says so
   abbrev pub uncoloured : Ground → Renderer D A (List A) → Renderer D A (List A)
-  uncoloured g r = if decoration.ends_colour r.decorator g then without_annotation (asked_to_end g r) else asked_to_end g r
+  uncoloured g r =
+      if decoration.ends_colour r.decorator g then without_annotation (asked_to_end g r) else asked_to_end g r
 
   -- a renderer for a block inside, with the same options and annotations
   abbrev pub sub_renderer : ℕ → Renderer D A (List A) → Renderer D A (List A)
@@ -73,10 +74,12 @@ module _ {D A : Type 0} (decoration : Decoration D A) where
 module _ {D A : Type 0} (columns : ℕ → Option ℕ) (decoration : Decoration D A) where
   -- What is opened brings the decorator's text under its annotation.
   abbrev pub Opens : start.Start → Renderer D A (List A) → Renderer D A (List A) → Type 0
-  Opens s r t = AddsText columns decoration.preformatted (decoration.start_text r.decorator s) (annotated decoration s r) t
+  Opens s r t =
+      AddsText columns decoration.preformatted (decoration.start_text r.decorator s) (annotated decoration s r) t
 
   abbrev pub OpenIsTooNarrow : start.Start → Renderer D A (List A) → Type 0
-  OpenIsTooNarrow s r = TextIsTooNarrow columns decoration.preformatted (decoration.start_text r.decorator s) (annotated decoration s r)
+  OpenIsTooNarrow s r =
+      TextIsTooNarrow columns decoration.preformatted (decoration.start_text r.decorator s) (annotated decoration s r)
 
   -- What is closed brings the decorator's text, and then takes the last annotation.
   abbrev pub Closes : end.End → Renderer D A (List A) → Renderer D A (List A) → Type 0
@@ -87,7 +90,8 @@ module _ {D A : Type 0} (columns : ℕ → Option ℕ) (decoration : Decoration 
 
   abbrev pub CloseIsTooNarrow : end.End → Renderer D A (List A) → Type 0
   CloseIsTooNarrow e r =
-      TextIsTooNarrow columns decoration.preformatted (decoration.end_text r.decorator e) (asked_to_close decoration e r)
+      let text = decoration.end_text r.decorator e in
+      TextIsTooNarrow columns decoration.preformatted text (asked_to_close decoration e r)
 
   -- A strikeout is opened, and then text is struck; text is no longer struck, and then it is closed.
   abbrev pub OpensStrikeout : Renderer D A (List A) → Renderer D A (List A) → Type 0

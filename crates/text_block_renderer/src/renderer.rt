@@ -265,8 +265,8 @@ pub trait Renderer {
             OnErr result (stops_at_stage (call.finish end.superscript) self.old self.new) }
         ensures kept { KeepsFailure kept_refusal self.old result self.new };
 
-    /// Begins a strikeout, as a link is begun. Text behind the decorator's has strokes, if struck out text has any. A depth
-    /// that passes `usize` is refused by `OutOfMemory`.
+    /// Begins a strikeout, as a link is begun. Text behind the decorator's has a stroke more, if struck out text has
+    /// any. A depth that passes `usize` is refused by `OutOfMemory`.
     fn start_strikeout(&mut self) -> Result<(), Error>
         ensures ok { OnOk result (does call.start_strikeout self.old self.new) }
         ensures too_narrow { kept_refusal self.old ≡ None → result ≡ Err E.TooNarrow →
@@ -277,7 +277,7 @@ pub trait Renderer {
             OnErr result (stops_at_stage call.start_strikeout self.old self.new) }
         ensures kept { KeepsFailure kept_refusal self.old result self.new };
 
-    /// Ends a strikeout: text that comes has a stroke less, if struck out text has any, and the rest is as a link is ended.
+    /// Ends a strikeout, as a link is ended. The decorator's text has a stroke less already, if struck out text has any.
     fn end_strikeout(&mut self) -> Result<(), Error>
         requires { strikes self.old ≡ true → 0 < open_strikeouts self.old }
         ensures ok { OnOk result (does call.end_strikeout self.old self.new) }
@@ -301,8 +301,8 @@ pub trait Renderer {
             OnErr result (stops_at_stage (call.add_image (chars src.now) (chars title.now)) self.old self.new) }
         ensures kept { KeepsFailure kept_refusal self.old result self.new };
 
-    /// Begins text in a colour, whose annotation joins the others, if the decorator has one. It refuses only for want of
-    /// memory.
+    /// Begins text in a colour, whose annotation joins the others, if the decorator has one. It refuses only for want
+    /// of memory.
     fn push_colour(&mut self, colour: Colour) -> Result<(), Error>
         ensures ok { OnOk result (does (call.push_colour ground.text colour) self.old self.new) }
         ensures memory { kept_refusal self.old ≡ None → result ≢ Err E.TooNarrow }
@@ -329,8 +329,8 @@ pub trait Renderer {
         ensures live { kept_refusal self.old ≡ None → does (call.pop_colour ground.background) self.old self.new }
         ensures failed { (e : Refusal) → kept_refusal self.old ≡ Some e → self.new ≡ self.old };
 
-    /// The text before each line of a header of a level. It refuses only for want of memory, also on a renderer that has
-    /// failed, and changes nothing; so do the other prefixes.
+    /// The text before each line of a header of a level. It refuses only for want of memory, also on a renderer that
+    /// has failed, and changes nothing; so do the other prefixes.
     fn header_prefix(&mut self, level: usize) -> Result<String, Error>
         ensures text { IfOk result (λ text. chars_of text ≡ prefix_text self.old (prefix.header level)) }
         ensures memory { IfErr result (λ e. e ≡ E.OutOfMemory) }
@@ -355,8 +355,8 @@ pub trait Renderer {
         ensures unchanged { self.new ≡ self.old };
 
     /// A renderer of a width of at least 1 for a block inside: without text, with the same options and annotations, and
-    /// with the decorator that the own one makes for it. It refuses only for want of memory, also on a renderer that has
-    /// failed.
+    /// with the decorator that the own one makes for it. It refuses only for want of memory, also on a renderer that
+    /// has failed.
     fn new_sub_renderer(&self, width: usize) -> Result<Self, Error>
         requires { 0 < width }
         ensures sub { IfOk result (λ sub. is_sub_renderer self.now width sub) }

@@ -224,7 +224,8 @@ impl<D: TextDecorator, W: CharWidth> SubRenderer<D, W> {
     /// Adds a line of text as it is. Where memory is refused the line is lost.
     fn push_text(&mut self, line: TaggedLine<Vec<D::Annotation>>) -> Result<(), OutOfMemory>
         requires { IsMerged (equal_lists D.Annotation.eq) line }
-        ensures line { OnOk result (self.new ≡ record self.old { lines = self.old.lines ++ text (items_of line) ∷ [] }) }
+        ensures line { OnOk result
+            (self.new ≡ record self.old { lines = self.old.lines ++ text (items_of line) ∷ [] }) }
         ensures settings { KeepsSettings (meant D.meaning self.old) (meant D.meaning self.new) }
     {
         let has_piece = !line.is_empty();

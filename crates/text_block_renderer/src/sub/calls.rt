@@ -84,7 +84,8 @@ impl<D: TextDecorator, W: CharWidth> Renderer for SubRenderer<D, W> {
     ghost does = { λ call old new.
         Does W.columns (decoration_of D.TextDecorator) call (meant D.meaning old) (meant D.meaning new) };
 
-    ghost is_too_narrow = { λ call old. IsTooNarrow W.columns (decoration_of D.TextDecorator) call (meant D.meaning old) };
+    ghost is_too_narrow = { λ call old.
+        IsTooNarrow W.columns (decoration_of D.TextDecorator) call (meant D.meaning old) };
 
     ghost stops_at_stage = { λ call old new. StopsAtStage W.columns (decoration_of D.TextDecorator) call
         (meant D.meaning old) (meant D.meaning new) };

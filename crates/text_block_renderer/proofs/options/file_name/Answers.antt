@@ -1,4 +1,3 @@
-use Rattle.std.proofs.Common.{chars}
 use Rattle.text_block_renderer.proofs.Images.{name_alone, name_behind}
 use Rattle.text_block_renderer.proofs.options.file_name.Goals as goal
 

@@ -1,9 +1,8 @@
 use Rattle.std.proofs.Common.{◌∙◌, ap, inr}
 use Rattle.std.proofs.lemmas.Result.{on_ok_weaker}
-use Rattle.std.specs.Prelude.{OnErr}
 use Rattle.text_block_renderer.specs.Meant.{meant}
 use Rattle.text_block_renderer.specs.Renderer.{settings_of}
-use Rattle.text_block_renderer.proofs.Stages.{on_err, on_err_weaker}
+use Rattle.text_block_renderer.proofs.Stages.{on_err_weaker}
 use Rattle.text_block_renderer.proofs.sub.SubRenderer.try_start_strikeout.Goals as goal
 
 pub returns-clause-ok : goal.returns-clause-ok
