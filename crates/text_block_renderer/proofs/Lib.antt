@@ -10,3 +10,5 @@ pub mod Moves
 pub mod Growing
 pub mod Once
 pub mod Showing
+pub mod LookingAtLines
+pub mod Standing

@@ -20,7 +20,7 @@ use Rattle.text_block_renderer.proofs.Writing.{open_run_is}
 
 -- ---- items and entries
 
-space_unseen : (columns : ℕ → Option ℕ) → is_visible columns space_character ≡ false
+pub space_unseen : (columns : ℕ → Option ℕ) → is_visible columns space_character ≡ false
 space_unseen columns = go (is_some (columns space_character))
   where
     go : (k : Bool) → (k && false) && false ≡ false

@@ -5,3 +5,4 @@ pub mod View
 pub mod Flush
 pub mod Steps
 pub mod Calls
+pub mod MarkersStand

@@ -1,9 +1,11 @@
 //! What follows from the steps alone, each as the contract of a function that does nothing.
-ghost use Rattle.std.specs.Prelude.{◌≡◌, ℕ, Bool, false, Option, List, ◌++◌};
+ghost use Rattle.std.specs.Prelude.{◌≡◌, ℕ, Bool, false, Option, List, [], ◌++◌};
 ghost use Rattle.tbr_lines.specs.State.{IsNormal};
-ghost use Rattle.text_block_renderer.specs.Renderer.{Line, Renderer, may_overflow, open_run};
+ghost use Rattle.text_block_renderer.specs.Renderer.{Line, Renderer, new_renderer, may_overflow, open_run};
+ghost use Rattle.text_block_renderer.specs.declared.options.RenderOptions.{RenderOptions};
 ghost use Rattle.text_block_renderer.specs.Flush.{Flushes};
 ghost use Rattle.text_block_renderer.specs.Calls.{Call, Steps, Brings, Shows};
+ghost use Rattle.text_block_renderer.specs.MarkersStand.{Stands};
 ghost use Rattle.tbr_model.specs.Run.{Entry};
 ghost use Rattle.tbr_decor.specs.Decoration.{Decoration};
 
@@ -27,4 +29,15 @@ pub fn visible_characters_stand_once<D, A>()
     ensures { (columns : ℕ → Option ℕ) (decoration : Decoration D A) (calls : List Call)
         (r s : Renderer D A (List A)) (before es : List (Entry (List A))) →
         Brings columns decoration calls r es s → Shows columns r before → Shows columns s (before ++ es) }
+{}
+
+/// After any calls what they brought stands in the lines of text, or is a marker that waits, but for the open run: the
+/// visible characters and the markers once and in order, and in `Normal` all kept characters and markers. No marker
+/// waits that has a visible character behind it. To a new renderer nothing was brought.
+pub fn what_was_brought_stands<D, A>()
+    ensures calls { (columns : ℕ → Option ℕ) (decoration : Decoration D A) (calls : List Call)
+        (r s : Renderer D A (List A)) (before es : List (Entry (List A))) →
+        Brings columns decoration calls r es s → Stands columns r before → Stands columns s (before ++ es) }
+    ensures new { (columns : ℕ → Option ℕ) (width : ℕ) (options : RenderOptions) (decorator : D) →
+        Stands columns (new_renderer {D = D} {A = A} width options decorator) [] }
 {}
