@@ -12,3 +12,4 @@ pub mod Once
 pub mod Showing
 pub mod LookingAtLines
 pub mod Standing
+pub mod Waiting

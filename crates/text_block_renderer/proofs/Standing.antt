@@ -6,7 +6,7 @@ use Rattle.std.proofs.lemmas.List.Concat.{flat_map-append}
 use Rattle.std.proofs.lemmas.Grind.{fold-append}
 use Rattle.tbr_model.specs.Run.{Entry, character, marker_entry, Item, glyph, marker, is_kept, items_of, kept_items}
 use Rattle.tbr_model.specs.Layout.{joined}
-use Rattle.tbr_model.specs.Markers.{names_in_items, names_in_run, marker_items, marked_behind, names_behind}
+use Rattle.tbr_model.specs.Markers.{names_in_items, names_in_run, marker_items, marker_run, marked_behind, names_behind}
 use Rattle.tbr_model.specs.Hard.{HasMode, is_visible}
 use Rattle.tbr_model.specs.declared.white_space.WhiteSpace.TheVariants.{Normal}
 use Rattle.tbr_model.specs.Shown.{without_spaces, is_visible_or_marker, is_entry_to_show, ShowsEntry}
@@ -53,7 +53,7 @@ at_passing test h = record { append = filter-append test; nothing = refl; spaces
 at_shown : {T : Type 0} (columns : ℕ → Option ℕ) → Looks {T = T} (filter (is_visible_or_marker columns))
 at_shown columns = at_passing (is_visible_or_marker columns) (λ a. space_unseen columns)
 
-at_unspaced : {T : Type 0} → Looks {T = T} without_spaces
+pub at_unspaced : {T : Type 0} → Looks {T = T} without_spaces
 at_unspaced = at_passing (λ i. not (is_space_item i)) (λ a. refl)
 
 -- ---- what stands for entries
@@ -65,7 +65,7 @@ pub record StandFor {T : Type 0} (columns : ℕ → Option ℕ) (is : List (Item
   pub kept : IsNormal es → without_spaces is ≡ kept_items columns es
 
 -- Whoever looks sees in the new items what is seen in the old ones and then in more.
-abbrev SeenBehind : {T : Type 0} → List (Item T) → List (Item T) → List (Item T) → Type 1
+abbrev pub SeenBehind : {T : Type 0} → List (Item T) → List (Item T) → List (Item T) → Type 1
 SeenBehind {T} old more new = (Y : Type 0) (look : List (Item T) → List Y) → Looks look → look new ≡ look old ++ look more
 
 names_of_markers : (T : Type 0) (names : List (List ℕ)) → names_in_items (let is : List (Item T) = marker_items names in is) ≡ names
@@ -78,11 +78,11 @@ module _ {T : Type 0} (columns : ℕ → Option ℕ) where
   names_in_run-append (character c a b m ∷ es) fs = names_in_run-append es fs
   names_in_run-append (marker_entry name ∷ es) fs = ap (λ ns. name ∷ ns) (names_in_run-append es fs)
 
-  nothing_stands : StandFor {T = T} columns [] []
+  pub nothing_stands : StandFor {T = T} columns [] []
   nothing_stands = record { order = tt; names = refl; kept = λ normal. refl }
 
   -- one behind the other
-  stand_behind : (old more new : List (Item T)) (es fs : List (Entry T)) → SeenBehind old more new → StandFor columns old es → StandFor columns more fs → StandFor columns new (es ++ fs)
+  pub stand_behind : (old more new : List (Item T)) (es fs : List (Entry T)) → SeenBehind old more new → StandFor columns old es → StandFor columns more fs → StandFor columns new (es ++ fs)
   stand_behind old more new es fs seen h k = record {
     order =
         let both = all_zip_append (ShowsEntry (λ a b. a ≡ b)) (filter (is_visible_or_marker columns) old) (filter (is_visible_or_marker columns) more) (filter (is_entry_to_show columns) es) (filter (is_entry_to_show columns) fs) h.order k.order in
@@ -113,8 +113,18 @@ module _ {T : Type 0} (columns : ℕ → Option ℕ) where
   pub names_before : (is : List (Item T)) (names : List (List ℕ)) → names_in_items (is ++ marker_items names) ≡ names_in_items is ++ names
   names_before is names = names-append is (marker_items names) ∙ ap (λ ns. names_in_items is ++ ns) (names_of_markers T names)
 
+  -- they stand for a run that is so
+  pub markers_stand : (names : List (List ℕ)) → StandFor columns (marker_items names) (let es : List (Entry T) = marker_run names in es)
+  markers_stand [] = nothing_stands
+  markers_stand (name ∷ names) =
+      let rest = markers_stand names in record {
+        order = (refl, rest.order);
+        names = ap (λ ns. name ∷ ns) rest.names;
+        kept = λ normal. ap (λ (is : List (Item T)). marker name ∷ is) (rest.kept normal.1);
+      }
+
   -- the lines of a run, and the markers that stand on none of them
-  run_stands : (s : State T) (texts : List (List (Item T))) (names : List (List ℕ)) → s.lines ≡ [] → EndsRun columns s texts names → StandFor columns (joined texts ++ marker_items names) s.run
+  pub run_stands : (s : State T) (texts : List (List (Item T))) (names : List (List ℕ)) → s.lines ≡ [] → EndsRun columns s texts names → StandFor columns (joined texts ++ marker_items names) s.run
   run_stands s texts names none ends =
       let all : s.lines ++ texts ≡ texts = ap (λ ls. ls ++ texts) none in record {
         order = subst (λ (is : List (Item T)). AllZip (ShowsEntry (λ a b. a ≡ b)) is (filter (is_entry_to_show columns) s.run)) (sym (shown_before (joined texts) names))

@@ -5,7 +5,7 @@ ghost use Rattle.text_block_renderer.specs.Renderer.{Line, Renderer, new_rendere
 ghost use Rattle.text_block_renderer.specs.declared.options.RenderOptions.{RenderOptions};
 ghost use Rattle.text_block_renderer.specs.Flush.{Flushes};
 ghost use Rattle.text_block_renderer.specs.Calls.{Call, Steps, Brings, Shows};
-ghost use Rattle.text_block_renderer.specs.MarkersStand.{Stands};
+ghost use Rattle.text_block_renderer.specs.MarkersStand.{Stands, FlushStands, WaitForText};
 ghost use Rattle.tbr_model.specs.Run.{Entry};
 ghost use Rattle.tbr_decor.specs.Decoration.{Decoration};
 
@@ -40,4 +40,18 @@ pub fn what_was_brought_stands<D, A>()
         Brings columns decoration calls r es s → Stands columns r before → Stands columns s (before ++ es) }
     ensures new { (columns : ℕ → Option ℕ) (width : ℕ) (options : RenderOptions) (decorator : D) →
         Stands columns (new_renderer {D = D} {A = A} width options decorator) [] }
+{}
+
+/// What a flush makes stand and wait: the markers that wait then come, in the run or before it, behind the last visible
+/// character of the run, in a `Normal` run behind the last kept one. The kept characters and the markers of a `Normal`
+/// run come in order behind all that stood and waited. Where it may not overflow, just its trailing markers wait.
+pub fn what_a_flush_makes_stand<D, A>()
+    ensures { (columns : ℕ → Option ℕ) (r s : Renderer D A (List A)) →
+        Flushes columns r s → FlushStands columns (open_run r.block) r s }
+{}
+
+/// Markers that wait begin the next line of text, whatever calls come, and until then they wait.
+pub fn waiting_markers_begin_the_next_text<D, A>()
+    ensures { (columns : ℕ → Option ℕ) (decoration : Decoration D A) (calls : List Call)
+        (r s : Renderer D A (List A)) → Steps columns decoration calls r s → WaitForText r s }
 {}
