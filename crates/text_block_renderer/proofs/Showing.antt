@@ -15,7 +15,7 @@ use Rattle.text_block_renderer.specs.Flush.{block_lines, FlushesBlock}
 use Rattle.text_block_renderer.specs.Steps.{with_empty_line}
 use Rattle.tbr_decor.specs.Decoration.{Decoration}
 use Rattle.text_block_renderer.specs.Calls.{Call, Brings, text_of_lines, Shows}
-use Rattle.text_block_renderer.proofs.Moves.{Move, flush, empty_line, join, turn, brought_by, Makes, along, calls_move}
+use Rattle.text_block_renderer.proofs.Moves.{Move, flush, empty_line, join, turn, brought_by, Makes, along, calls_move, no_block}
 use Rattle.text_block_renderer.proofs.Writing.{open_run_is}
 
 -- ---- items and entries
@@ -89,10 +89,6 @@ module _ {D A : Type 0} (columns : ℕ → Option ℕ) where
       ∙ append_assoc (visible_glyphs columns (text_of_lines r.lines)) (visible_glyphs columns t) (visible_glyphs columns (joined ts))
       ∙ ap (λ gs. visible_glyphs columns (text_of_lines r.lines) ++ gs) (sym (glyphs-append columns t (joined ts)))
 
-  pub no_block : (ts : List (List (Item (List A)))) (q : Renderer D A (List A)) → q.block ≡ None → (fold (with_line columns) q ts).block ≡ None
-  no_block [] q n = n
-  no_block (t ∷ ts) q n = no_block ts (with_line columns q t) n
-
   -- ---- steps
 
   shows_flush : (r s : Renderer D A (List A)) (o : Option (Open (List A))) (es : List (Entry (List A))) → o ≡ r.block → FlushesBlock columns r o s → Shows columns r es → Shows columns s es
@@ -104,7 +100,7 @@ module _ {D A : Type 0} (columns : ℕ → Option ℕ) where
       subst (λ (gs : List (ℕ × List A)). AllZip (IsShown (λ x y. x ≡ y)) gs (visible_entries columns (k.ended ++ b.run))) (sym lines)
       (subst (λ (fs : List (Entry (List A))). AllZip (IsShown (λ x y. x ≡ y)) (visible_glyphs columns (text_of_lines r.lines) ++ visible_glyphs columns (joined h.texts)) fs) (sym (entries-append columns k.ended b.run))
       (all_zip_append (IsShown (λ x y. x ≡ y)) (visible_glyphs columns (text_of_lines r.lines)) (visible_glyphs columns (joined h.texts)) (visible_entries columns k.ended) (visible_entries columns b.run) k.shown h.ends.shown.visible)) in
-      let nothing : open_run after.block ≡ [] = ap open_run (no_block (block_lines columns r b h.texts) (record r { block = None }) refl) in
+      let nothing : open_run after.block ≡ [] = ap open_run (no_block columns (block_lines columns r b h.texts) (record r { block = None }) refl) in
       let whole : visible_entries columns ((k.ended ++ b.run) ++ open_run after.block) ≡ visible_entries columns es =
       ap (λ (run : List (Entry (List A))). visible_entries columns ((k.ended ++ b.run) ++ run)) nothing ∙ ap (visible_entries columns) (append-nil (k.ended ++ b.run))
       ∙ ap (λ (p : Option (Open (List A))). visible_entries columns (k.ended ++ open_run p)) e ∙ k.whole in
@@ -130,7 +126,7 @@ module _ {D A : Type 0} (columns : ℕ → Option ℕ) where
 
   shows_move : (m : Move (List A)) (r s : Renderer D A (List A)) (es : List (Entry (List A))) → Makes columns m r s → Shows columns r es → Shows columns s (es ++ brought_by m)
   shows_move flush r s es h k = with_none s es (shows_flush r s r.block es refl h k)
-  shows_move empty_line r s es h k = with_none s es (shows_empty r s es h k)
+  shows_move empty_line r s es h k = with_none s es (shows_empty r s es h.1 k)
   shows_move (join more) r s es h k = shows_more r s more es h k
   shows_move turn r s es h k = with_none s es (record {
     ended = k.ended;

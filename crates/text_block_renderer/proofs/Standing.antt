@@ -23,10 +23,10 @@ use Rattle.text_block_renderer.specs.Flush.{block_of_run, block_lines, flushed, 
 use Rattle.text_block_renderer.specs.Steps.{with_empty_line}
 use Rattle.text_block_renderer.specs.Calls.{Call, Brings, text_of_lines}
 use Rattle.text_block_renderer.specs.MarkersStand.{items_so_far, Stands}
-use Rattle.text_block_renderer.proofs.Moves.{Move, flush, empty_line, join, turn, SameText, brought_by, Makes, along, calls_move}
+use Rattle.text_block_renderer.proofs.Moves.{Move, flush, empty_line, join, turn, SameText, brought_by, Makes, along, calls_move, no_block}
 use Rattle.text_block_renderer.proofs.Writing.{open_run_is}
 use Rattle.text_block_renderer.proofs.LookingAtLines.{Looks, marker_items-append, seen_line, seen_flushed}
-use Rattle.text_block_renderer.proofs.Showing.{space_unseen, no_block}
+use Rattle.text_block_renderer.proofs.Showing.{space_unseen}
 
 -- ---- three ways to look at items
 
@@ -253,7 +253,7 @@ module _ {D A : Type 0} (columns : ℕ → Option ℕ) where
 
   move_stands : (m : Move (List A)) (r s : Renderer D A (List A)) (es : List (Entry (List A))) → Makes columns m r s → Stands columns r es → Stands columns s (es ++ brought_by m)
   move_stands flush r s es h k = subst (Stands columns s) (sym (append-nil es)) (flush_stands r s r.block es refl h k)
-  move_stands empty_line r s es h k = subst (Stands columns s) (sym (append-nil es)) (empty_stands r s es h k)
+  move_stands empty_line r s es h k = subst (Stands columns s) (sym (append-nil es)) (empty_stands r s es h.1 k)
   move_stands (join more) r s es h k = join_stands r s more es h k
   move_stands turn r s es h k = subst (Stands columns s) (sym (append-nil es)) (turn_stands r s es h k)
 

@@ -15,7 +15,7 @@ use Rattle.text_block_renderer.specs.Flush.{block_of_run, block_lines, flushed, 
 use Rattle.text_block_renderer.specs.Steps.{with_empty_line}
 use Rattle.text_block_renderer.specs.Calls.{Call, Steps, text_of_lines}
 use Rattle.text_block_renderer.specs.MarkersStand.{items_so_far, FlushStands, first_text, BeginsWith, WaitForText}
-use Rattle.text_block_renderer.proofs.Moves.{Move, flush, empty_line, join, turn, Makes, MakesAll, steps_bring, calls_move}
+use Rattle.text_block_renderer.proofs.Moves.{Move, flush, empty_line, join, turn, Makes, through, steps_move}
 use Rattle.text_block_renderer.proofs.LookingAtLines.{Looks, marker_items-append, seen_flushed}
 use Rattle.text_block_renderer.proofs.Standing.{StandFor, at_unspaced, stand_behind, markers_stand, nothing_stands, run_stands, unspaced_before, waits_behind, waits_behind_kept}
 
@@ -227,17 +227,12 @@ module _ {D A : Type 0} (columns : ℕ → Option ℕ) where
   move_waits : (m : Move (List A)) (r s : Renderer D A (List A)) → Makes columns m r s → WaitForText r s
   move_waits flush r s h = flush_waits r s r.block h
   move_waits empty_line r s h =
-      subst (λ (q : Renderer D A (List A)). WaitForText r q) (sym h)
+      subst (λ (q : Renderer D A (List A)). WaitForText r q) (sym h.1)
       (wait_on r (with_line columns r []) (with_empty_line columns r) (line_came r []) (same_wait (with_line columns r []) (with_empty_line columns r) refl refl))
   move_waits (join es) r s h = same_wait r s (ap (λ (q : Renderer D A (List A)). q.lines) h) (ap (λ (q : Renderer D A (List A)). q.waiting) h)
   move_waits turn r s h = same_wait r s h.lines h.waiting
 
-  moves_wait : (ms : List (Move (List A))) (r s : Renderer D A (List A)) → MakesAll columns ms r s → WaitForText r s
-  moves_wait [] r s h = same_wait r s (ap (λ (q : Renderer D A (List A)). q.lines) h) (ap (λ (q : Renderer D A (List A)). q.waiting) h)
-  moves_wait (m ∷ ms) r s h = wait_on r h.0 s (move_waits m r h.0 h.1) (moves_wait ms h.0 s h.2)
-
   pub steps_wait : (decoration : Decoration D A) (calls : List Call) (r s : Renderer D A (List A)) → Steps columns decoration calls r s → WaitForText r s
   steps_wait decoration calls r s h =
-      let (es, brings) = steps_bring columns decoration calls r s h in
-      let path = calls_move columns decoration calls r s es brings in
-      moves_wait path.moves r s path.makes
+      let (ms, makes) = steps_move columns decoration calls r s h in
+      through columns WaitForText (λ r s e. same_wait r s (ap (λ (q : Renderer D A (List A)). q.lines) e) (ap (λ (q : Renderer D A (List A)). q.waiting) e)) wait_on move_waits ms r s makes

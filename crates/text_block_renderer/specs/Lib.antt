@@ -6,3 +6,4 @@ pub mod Flush
 pub mod Steps
 pub mod Calls
 pub mod MarkersStand
+pub mod Stretches
