@@ -13,3 +13,4 @@ pub mod Showing
 pub mod LookingAtLines
 pub mod Standing
 pub mod Waiting
+pub mod Stretching

@@ -13,7 +13,7 @@ use Rattle.text_block_renderer.specs.Flush.{block_of_run, with_run}
 abbrev pub line_of_text : {D A : Type 0} → (ℕ → Option ℕ) → Renderer D A (List A) → Open (List A) → List (List ℕ)
     → List (Item (List A)) → Line (List A)
 line_of_text columns r b names is =
-    let line = marker_items names ++ is ++ padding_of columns b.padding (block_width r) is in
+    let line = marker_items names ++ (is ++ padding_of columns b.padding (block_width r) is) in
     text (line ++ line_padding columns r line)
 
 -- texts of a block as lines, the first of them behind the markers that wait

@@ -1,11 +1,12 @@
 //! What follows from the steps alone, each as the contract of a function that does nothing.
-ghost use Rattle.std.specs.Prelude.{◌≡◌, ℕ, Bool, false, Option, List, [], ◌++◌};
+ghost use Rattle.std.specs.Prelude.{◌≡◌, ℕ, Bool, false, ◌⊎◌, Option, Some, List, [], ◌++◌};
 ghost use Rattle.tbr_lines.specs.State.{IsNormal};
-ghost use Rattle.text_block_renderer.specs.Renderer.{Line, Renderer, new_renderer, may_overflow, open_run};
+ghost use Rattle.text_block_renderer.specs.Renderer.{Line, Open, Renderer, new_renderer, may_overflow, open_run};
 ghost use Rattle.text_block_renderer.specs.declared.options.RenderOptions.{RenderOptions};
 ghost use Rattle.text_block_renderer.specs.Flush.{Flushes};
 ghost use Rattle.text_block_renderer.specs.Calls.{Call, Steps, Brings, Shows};
 ghost use Rattle.text_block_renderer.specs.MarkersStand.{Stands, FlushStands, WaitForText};
+ghost use Rattle.text_block_renderer.specs.Stretches.{StandsAsStretch, StaysOpen, EndsAsStretch};
 ghost use Rattle.tbr_model.specs.Run.{Entry};
 ghost use Rattle.tbr_decor.specs.Decoration.{Decoration};
 
@@ -54,4 +55,21 @@ pub fn what_a_flush_makes_stand<D, A>()
 pub fn waiting_markers_begin_the_next_text<D, A>()
     ensures { (columns : ℕ → Option ℕ) (decoration : Decoration D A) (calls : List Call)
         (r s : Renderer D A (List A)) → Steps columns decoration calls r s → WaitForText r s }
+{}
+
+/// The lines of a run stand together for good, where a flush put them: the first behind the markers that waited, and
+/// each with its padding. No legal layout of a `Normal` run that may not overflow has placed more of it after any number
+/// of lines.
+pub fn a_run_is_one_stretch<D, A>()
+    ensures { (columns : ℕ → Option ℕ) (decoration : Decoration D A) (calls : List Call)
+        (r q s : Renderer D A (List A)) (b : Open (List A)) → r.block ≡ Some b → Flushes columns r q →
+        Steps columns decoration calls q s → StandsAsStretch columns r b s.lines }
+{}
+
+/// Whatever calls come, the run of an open block goes on, or it ends as one stretch of the lines: with the first entries
+/// that came, and behind all lines that there were.
+pub fn each_open_run_ends_as_one_stretch<D, A>()
+    ensures { (columns : ℕ → Option ℕ) (decoration : Decoration D A) (calls : List Call)
+        (r s : Renderer D A (List A)) (b : Open (List A)) (es : List (Entry (List A))) → r.block ≡ Some b →
+        Brings columns decoration calls r es s → StaysOpen r b es s ⊎ EndsAsStretch columns r b es s }
 {}
