@@ -17,6 +17,8 @@ use Rattle.tbr_decor.specs.Decoration.{Decoration}
 use Rattle.text_block_renderer.specs.Calls.{Call, Brings, text_of_lines, Shows}
 use Rattle.text_block_renderer.proofs.Moves.{Move, flush, empty_line, join, turn, brought_by, Makes, along, calls_move, no_block}
 use Rattle.text_block_renderer.proofs.Writing.{open_run_is}
+use Rattle.text_block_renderer.proofs.LookingAtLines.{Looks, seen_line, seen_lines}
+use Rattle.text_block_renderer.specs.MarkersStand.{items_so_far}
 
 -- ---- items and entries
 
@@ -48,46 +50,33 @@ module _ {T : Type 0} (columns : ℕ → Option ℕ) where
       go true rest = ap (λ (rs : List (Entry T)). character c a b m ∷ rs) rest
       go false rest = rest
 
-  behind_markers : (names : List (List ℕ)) (is : List (Item T)) → visible_glyphs columns (marker_items names ++ is) ≡ visible_glyphs columns is
-  behind_markers [] is = refl
-  behind_markers (name ∷ names) is = behind_markers names is
-
   spaces_unseen : (n : ℕ) (a : T) → visible_glyphs columns (text_items (spaces n) a) ≡ []
   spaces_unseen zero a = refl
   spaces_unseen (suc n) a = rw (space_unseen columns) (spaces_unseen n a)
 
-  padding_unseen : (o : Option T) (width : ℕ) (is : List (Item T)) → visible_glyphs columns (padding_of columns o width is) ≡ []
-  padding_unseen None width is = refl
-  padding_unseen (Some a) width is = spaces_unseen (width - items_width columns is) a
+  markers_unseen : (names : List (List ℕ)) (is : List (Item T)) → is ≡ marker_items names → visible_glyphs columns is ≡ []
+  markers_unseen [] is e = ap (visible_glyphs columns) e
+  markers_unseen (name ∷ names) is e = ap (visible_glyphs columns) e ∙ markers_unseen names (marker_items names) refl
 
-  before_padding : (o : Option T) (width : ℕ) (is js : List (Item T)) → visible_glyphs columns (is ++ padding_of columns o width js) ≡ visible_glyphs columns is
-  before_padding o width is js = glyphs-append is (padding_of columns o width js) ∙ ap (λ gs. visible_glyphs columns is ++ gs) (padding_unseen o width js) ∙ append-nil (visible_glyphs columns is)
-
-text_of_lines-append : {T : Type 0} (ls ms : List (Line T)) → text_of_lines (ls ++ ms) ≡ text_of_lines ls ++ text_of_lines ms
-text_of_lines-append [] ms = refl
-text_of_lines-append (text is ∷ ls) ms = ap (λ js. is ++ js) (text_of_lines-append ls ms) ∙ sym (append_assoc is (text_of_lines ls) (text_of_lines ms))
-text_of_lines-append (border b ∷ ls) ms = text_of_lines-append ls ms
+  at_visible : Looks (visible_glyphs {A = T} columns)
+  at_visible = record { append = glyphs-append; nothing = refl; spaces_unseen = spaces_unseen }
 
 -- ---- lines
 
 module _ {D A : Type 0} (columns : ℕ → Option ℕ) where
+  on_lines : (r : Renderer D A (List A)) → visible_glyphs columns (items_so_far r) ≡ visible_glyphs columns (text_of_lines r.lines)
+  on_lines r =
+      glyphs-append columns (text_of_lines r.lines) (marker_items r.waiting) ∙ ap (λ gs. visible_glyphs columns (text_of_lines r.lines) ++ gs) (markers_unseen columns r.waiting (marker_items r.waiting) refl)
+      ∙ append-nil (visible_glyphs columns (text_of_lines r.lines))
+
   shown_line : (r : Renderer D A (List A)) (t : List (Item (List A))) → visible_glyphs columns (text_of_lines (with_line columns r t).lines) ≡ visible_glyphs columns (text_of_lines r.lines) ++ visible_glyphs columns t
-  shown_line r t =
-      let marked = marker_items r.waiting ++ t in
-      ap (visible_glyphs columns) (text_of_lines-append r.lines (text (marked ++ line_padding columns r marked) ∷ []))
-      ∙ glyphs-append columns (text_of_lines r.lines) (text_of_lines (text (marked ++ line_padding columns r marked) ∷ []))
-      ∙ ap (λ gs. visible_glyphs columns (text_of_lines r.lines) ++ gs) (ap (visible_glyphs columns) (append-nil (marked ++ line_padding columns r marked))
-      ∙ before_padding columns (if r.options.pad_block_width then Some r.annotations else None) r.width marked marked ∙ behind_markers columns r.waiting t)
+  shown_line r t = sym (on_lines (with_line columns r t)) ∙ seen_line (visible_glyphs columns) (at_visible columns) columns r t ∙ ap (λ gs. gs ++ visible_glyphs columns t) (on_lines r)
 
   shown_lines : (b : Open (List A)) (width : ℕ) (texts : List (List (Item (List A)))) (r : Renderer D A (List A)) →
       visible_glyphs columns (text_of_lines (fold (with_line columns) r (map (λ is. is ++ padding_of columns b.padding width is) texts)).lines) ≡ visible_glyphs columns (text_of_lines r.lines) ++ visible_glyphs columns (joined texts)
-  shown_lines b width [] r = sym (append-nil (visible_glyphs columns (text_of_lines r.lines)))
-  shown_lines b width (t ∷ ts) r =
-      let full = t ++ padding_of columns b.padding width t in
-      shown_lines b width ts (with_line columns r full)
-      ∙ ap (λ gs. gs ++ visible_glyphs columns (joined ts)) (shown_line r full ∙ ap (λ gs. visible_glyphs columns (text_of_lines r.lines) ++ gs) (before_padding columns b.padding width t t))
-      ∙ append_assoc (visible_glyphs columns (text_of_lines r.lines)) (visible_glyphs columns t) (visible_glyphs columns (joined ts))
-      ∙ ap (λ gs. visible_glyphs columns (text_of_lines r.lines) ++ gs) (sym (glyphs-append columns t (joined ts)))
+  shown_lines b width texts r =
+      sym (on_lines (fold (with_line columns) r (map (λ is. is ++ padding_of columns b.padding width is) texts)))
+      ∙ seen_lines (visible_glyphs columns) (at_visible columns) columns b width texts r ∙ ap (λ gs. gs ++ visible_glyphs columns (joined texts)) (on_lines r)
 
   -- ---- steps
 
