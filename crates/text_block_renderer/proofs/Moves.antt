@@ -2,8 +2,7 @@
 use Rattle.std.proofs.Common.{◌≡◌, ℕ, ◌-◌, suc, Bool, true, false, if◌then◌else◌, Option, Some, None, List, [], ◌∷◌, ◌++◌, fold, refl, ap, sym, ◌∙◌, subst, append_assoc, append-nil}
 use Rattle.tbr_model.specs.Run.{Entry, marker_entry, Item}
 use Rattle.tbr_decor.specs.Decoration.{Decoration}
-use Rattle.text_block_renderer.specs.declared.options.RenderOptions.{RenderOptions}
-use Rattle.text_block_renderer.specs.Renderer.{Line, Open, Renderer, has_content, with_line, with_entries, without_last, entries_of, ignores}
+use Rattle.text_block_renderer.specs.Renderer.{Open, Renderer, has_content, with_line, with_entries, without_last, entries_of, ignores}
 use Rattle.text_block_renderer.specs.Flush.{block_lines, Flushes, FlushesBlock}
 use Rattle.text_block_renderer.specs.Steps.{AddsEmptyLine, with_empty_line, block_started, StartsBlock, BreaksLineAt, AddsTextBy}
 use Rattle.text_block_renderer.specs.Calls.{Call, add_empty_line, new_line, new_line_hard, start_block, start_table, end_block, add_inline_text, push_ws, pop_ws, push_preformat, pop_preformat, record_frag_start, Does, Steps, entries_brought, Brings}

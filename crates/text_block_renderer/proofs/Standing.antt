@@ -1,6 +1,6 @@
 -- What was brought stands in the lines of text, or waits.
-use Rattle.std.proofs.Common.{◌≡◌, ℕ, zero, suc, ◌&&◌, Bool, true, false, not, if◌then◌else◌, Option, Some, None, is_some, List, [], ◌∷◌, ◌++◌, filter, fold, refl, ap, sym, ◌∙◌, subst, append_assoc, append-nil}
-use Rattle.std.specs.List.{AllZip, AllByRecursion as Each}
+use Rattle.std.proofs.Common.{◌≡◌, ℕ, zero, suc, Bool, true, false, not, if◌then◌else◌, Option, Some, None, List, [], ◌∷◌, ◌++◌, filter, fold, refl, ap, sym, ◌∙◌, subst, append_assoc, append-nil}
+use Rattle.std.specs.List.{AllZip}
 use Rattle.std.proofs.lemmas.List.Elements.{filter-append}
 use Rattle.std.proofs.lemmas.List.Concat.{flat_map-append}
 use Rattle.std.proofs.lemmas.Grind.{fold-append}
@@ -25,7 +25,7 @@ use Rattle.text_block_renderer.specs.Calls.{Call, Brings, text_of_lines}
 use Rattle.text_block_renderer.specs.MarkersStand.{items_so_far, Stands}
 use Rattle.text_block_renderer.proofs.Moves.{Move, flush, empty_line, join, turn, SameText, brought_by, Makes, along, calls_move, no_block}
 use Rattle.text_block_renderer.proofs.Writing.{open_run_is}
-use Rattle.text_block_renderer.proofs.LookingAtLines.{Looks, marker_items-append, seen_line, seen_flushed}
+use Rattle.text_block_renderer.proofs.LookingAtLines.{Looks, seen_line, seen_flushed}
 use Rattle.text_block_renderer.proofs.Showing.{space_unseen}
 
 -- ---- three ways to look at items

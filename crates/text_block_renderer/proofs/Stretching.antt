@@ -1,28 +1,26 @@
 -- The lines of a run stand together, and no legal layout is ahead of them.
-use Rattle.std.proofs.Common.{◌≡◌, ℕ, ◌≤◌, ◌==◌, ◌⊎◌, inl, inr, nat_lt, Bool, true, false, not, if◌then◌else◌, Option, Some, None, unwrap_or, List, [], ◌∷◌, ◌++◌, map, flat_map, fold, filter, length, take, drop, refl, ap, sym, ◌∙◌, subst, arith, append_assoc, append-nil}
+use Rattle.std.proofs.Common.{◌≡◌, ℕ, ◌==◌, ◌⊎◌, inl, inr, nat_lt, Bool, true, false, not, if◌then◌else◌, Option, Some, None, unwrap_or, List, [], ◌∷◌, ◌++◌, map, flat_map, fold, length, take, drop, refl, ap, sym, ◌∙◌, subst, arith, append_assoc, append-nil}
 use Rattle.std.specs.List.{AllByRecursion as Each}
-use Rattle.std.proofs.lemmas.Bool.{eqb-true, not_from_false}
+use Rattle.std.proofs.lemmas.Bool.{eqb-true}
 use Rattle.std.proofs.lemmas.List.{length-map, map-append, take-map, take-append-drop}
 use Rattle.std.proofs.lemmas.List.Elements.{filter-append}
-use Rattle.tbr_model.specs.Codes.{space_character}
-use Rattle.tbr_model.specs.Run.{Entry, character, marker_entry, Item, glyph, marker, is_kept, items_of, kept_items, items_width, Word, words_of, trailing}
-use Rattle.tbr_model.specs.Layout.{Slot, slot_of, word_slots, slots_of, gap_text, rest_text, line_text, joined, IsLegal, placed}
-use Rattle.tbr_model.specs.Markers.{marker_items}
+use Rattle.tbr_model.specs.Run.{Entry, character, marker_entry, Item, glyph, is_kept, kept_items, items_width, Word, words_of, trailing}
+use Rattle.tbr_model.specs.Layout.{Slot, slot_of, word_slots, slots_of, gap_text, rest_text, line_text, joined, placed}
 use Rattle.tbr_model.specs.Rule.{is_space_item}
 use Rattle.tbr_model.specs.Shown.{without_spaces}
 use Rattle.tbr_model.proofs.lists.Each.{each_front, each_back, each_append}
 use Rattle.tbr_model.proofs.lists.Joined.{joined-append}
 use Rattle.tbr_model.proofs.words.Items.{break_lost}
 use Rattle.tbr_model.proofs.words.KeptItems.{words_hold}
-use Rattle.tbr_lines.specs.State.{IsNormal, EndsRun}
+use Rattle.tbr_lines.specs.State.{EndsRun}
 use Rattle.tbr_lines.specs.Wrapped.{padding_of, HasBestLines}
 use Rattle.tbr_decor.specs.Decoration.{Decoration}
 use Rattle.text_block_renderer.specs.declared.options.RenderOptions.{RenderOptions}
-use Rattle.text_block_renderer.specs.Renderer.{Line, text, Open, Renderer, new_block, least, overflows, line_padding, with_line, with_entries, block_width, may_overflow}
-use Rattle.text_block_renderer.specs.Flush.{block_of_run, block_lines, flushed, with_run, EndsBlock, FlushesBlock, Flushes}
+use Rattle.text_block_renderer.specs.Renderer.{Line, Open, Renderer, new_block, least, overflows, with_line, with_entries, block_width, may_overflow}
+use Rattle.text_block_renderer.specs.Flush.{block_of_run, block_lines, with_run, EndsBlock, FlushesBlock, Flushes}
 use Rattle.text_block_renderer.specs.Calls.{Call, Steps, Brings}
 use Rattle.text_block_renderer.specs.Stretches.{line_of_text, stretch, items_on, NoneIsAhead, StandsAsStretch, StaysOpen, EndsAsStretch}
-use Rattle.text_block_renderer.proofs.Moves.{Move, flush, empty_line, join, turn, SameText, brought, Makes, MakesAll, calls_move}
+use Rattle.text_block_renderer.proofs.Moves.{Move, flush, empty_line, join, turn, SameText, brought, MakesAll, calls_move}
 use Rattle.text_block_renderer.proofs.Growing.{moves_grow, steps_grow}
 
 -- ---- items of lines

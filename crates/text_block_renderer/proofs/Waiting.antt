@@ -1,23 +1,22 @@
 -- Markers that wait, where a run ends and until a line of text comes.
-use Rattle.std.proofs.Common.{◌≡◌, ℕ, ◌<◌, ◌&&◌, ◌||◌, nat_lt, Bool, true, false, if◌then◌else◌, Option, Some, None, List, [], ◌∷◌, ◌++◌, map, length, fold, refl, ap, sym, ◌∙◌, subst, arith, append_assoc, append-nil}
-use Rattle.std.specs.List.{AllZip, AllByRecursion as Each}
-use Rattle.tbr_model.specs.Run.{Entry, character, marker_entry, Item, glyph, marker, items_width, is_kept, items_of, kept_items, first_of, blank_of, has_character, is_break_entry, Reading, start, works, read, reading, words_of, trailing}
-use Rattle.tbr_model.specs.Layout.{Slot, slots_of, word_slots, line_text, joined, HasNoEmptyLine}
+use Rattle.std.proofs.Common.{◌≡◌, ℕ, ◌&&◌, ◌||◌, nat_lt, Bool, true, false, Option, Some, None, List, [], ◌∷◌, ◌++◌, map, fold, refl, ap, sym, ◌∙◌, subst, arith, append_assoc, append-nil}
+use Rattle.tbr_model.specs.Run.{Entry, Item, is_kept, items_of, kept_items, first_of, blank_of, has_character, is_break_entry, Reading, start, works, read, trailing}
+use Rattle.tbr_model.specs.Layout.{slots_of, line_text, joined, HasNoEmptyLine}
 use Rattle.tbr_model.specs.Markers.{names_in_items, names_in_run, marker_items, marker_run, marked_behind, names_behind}
 use Rattle.tbr_model.specs.Hard.{is_visible}
 use Rattle.tbr_model.specs.Shown.{without_spaces}
 use Rattle.tbr_model.proofs.words.Items.{no_character_no_width, has_character-append}
-use Rattle.tbr_lines.specs.State.{IsNormal, AreLastOf, EndsRun}
+use Rattle.tbr_lines.specs.State.{IsNormal}
 use Rattle.tbr_lines.specs.Wrapped.{HasBestLines}
 use Rattle.tbr_decor.specs.Decoration.{Decoration}
 use Rattle.text_block_renderer.specs.Renderer.{Line, text, border, Open, Renderer, with_line, block_width, may_overflow, open_run, line_padding}
 use Rattle.text_block_renderer.specs.Flush.{block_of_run, block_lines, flushed, FlushesBlock, Flushes, EndsBlock}
 use Rattle.text_block_renderer.specs.Steps.{with_empty_line}
-use Rattle.text_block_renderer.specs.Calls.{Call, Steps, text_of_lines}
-use Rattle.text_block_renderer.specs.MarkersStand.{items_so_far, FlushStands, first_text, BeginsWith, WaitForText}
+use Rattle.text_block_renderer.specs.Calls.{Call, Steps}
+use Rattle.text_block_renderer.specs.MarkersStand.{items_so_far, FlushStands, first_text, WaitForText}
 use Rattle.text_block_renderer.proofs.Moves.{Move, flush, empty_line, join, turn, Makes, through, steps_move}
-use Rattle.text_block_renderer.proofs.LookingAtLines.{Looks, marker_items-append, seen_flushed}
-use Rattle.text_block_renderer.proofs.Standing.{StandFor, at_unspaced, stand_behind, markers_stand, nothing_stands, run_stands, unspaced_before, waits_behind, waits_behind_kept}
+use Rattle.text_block_renderer.proofs.LookingAtLines.{marker_items-append, seen_flushed}
+use Rattle.text_block_renderer.proofs.Standing.{StandFor, at_unspaced, stand_behind, markers_stand, run_stands, waits_behind, waits_behind_kept}
 
 -- ---- a run without a kept character
 

@@ -1,5 +1,5 @@
 -- The lines of a run, which stand together for good.
-use Rattle.std.specs.Prelude.{◌≡◌, ℕ, ◌≤◌, Bool, false, Option, Some, ◌⊎◌, List, [], ◌∷◌, ◌++◌, map, length, take}
+use Rattle.std.specs.Prelude.{◌≡◌, ℕ, ◌≤◌, false, Option, Some, List, [], ◌∷◌, ◌++◌, map, length, take}
 use Rattle.tbr_model.specs.Run.{Entry, Item}
 use Rattle.tbr_model.specs.Layout.{Slot, slots_of, joined, IsLegal, placed}
 use Rattle.tbr_model.specs.Markers.{marker_items}
@@ -38,6 +38,7 @@ pub record StandsAsStretch {D A : Type 0} (columns : ℕ → Option ℕ) (r : Re
     (lines : List (Line (List A))) : Type 0 where
   pub texts : List (List (Item (List A)))
   pub names : List (List ℕ)
+  -- what a block promises of a run's texts: in `Normal`, where it may not overflow, those of a legal layout
   pub ends : EndsRun columns (block_of_run (block_width r) (may_overflow r) b.run) texts names
   pub ahead : may_overflow r ≡ false → IsNormal b.run → NoneIsAhead columns (block_width r) b.run texts
   pub behind : List (Line (List A))

@@ -58,16 +58,16 @@ pub fn waiting_markers_begin_the_next_text<D, A>()
 {}
 
 /// The lines of a run stand together for good, where a flush put them: the first behind the markers that waited, and
-/// each with its padding. No legal layout of a `Normal` run that may not overflow has placed more of it after any number
-/// of lines.
+/// each with its padding. After any number of lines no legal layout of a `Normal` run that may not overflow has placed
+/// more of it.
 pub fn a_run_is_one_stretch<D, A>()
     ensures { (columns : ℕ → Option ℕ) (decoration : Decoration D A) (calls : List Call)
         (r q s : Renderer D A (List A)) (b : Open (List A)) → r.block ≡ Some b → Flushes columns r q →
         Steps columns decoration calls q s → StandsAsStretch columns r b s.lines }
 {}
 
-/// Whatever calls come, the run of an open block goes on, or it ends as one stretch of the lines: with the first entries
-/// that came, and behind all lines that there were.
+/// Whatever calls come, the run of an open block goes on, or it ends as one stretch of the lines: with the first of the
+/// entries that came, and behind all lines that there were.
 pub fn each_open_run_ends_as_one_stretch<D, A>()
     ensures { (columns : ℕ → Option ℕ) (decoration : Decoration D A) (calls : List Call)
         (r s : Renderer D A (List A)) (b : Open (List A)) (es : List (Entry (List A))) → r.block ≡ Some b →
