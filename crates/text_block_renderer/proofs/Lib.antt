@@ -14,3 +14,4 @@ pub mod LookingAtLines
 pub mod Standing
 pub mod Waiting
 pub mod Stretching
+pub mod Parting

@@ -142,6 +142,11 @@ module _ {D A : Type 0} (columns : ℕ → Option ℕ) where
 
   -- ---- the end of a run
 
+  pub flush_adds : (r q : Renderer D A (List A)) (b : Open (List A)) → (h : EndsBlock columns r b q) → q.lines ≡ r.lines ++ stretch columns r b h.texts
+  flush_adds r q b h =
+      ap (λ (p : Renderer D A (List A)). p.lines) h.is ∙ lines_added b h.texts (record r { block = None })
+      ∙ ap (λ ls. r.lines ++ ls) (same_stretch r (record r { block = None }) b b h.texts refl refl refl refl refl)
+
   as_stretch : (r q s : Renderer D A (List A)) (b : Open (List A)) → EndsBlock columns r b q → (more : List (Line (List A))) × (s.lines ≡ q.lines ++ more) → StandsAsStretch columns r b s.lines
   as_stretch r q s b h grows = record {
     texts = h.texts;
@@ -149,13 +154,8 @@ module _ {D A : Type 0} (columns : ℕ → Option ℕ) where
     ends = h.ends;
     ahead = λ narrow normal. none_ahead columns (block_width r) b.run h.texts (h.ends.shown.best narrow normal);
     behind = grows.0;
-    is = grows.1 ∙ ap (λ ls. ls ++ grows.0) here;
+    is = grows.1 ∙ ap (λ ls. ls ++ grows.0) (flush_adds r q b h);
   }
-    where
-      here : q.lines ≡ r.lines ++ stretch columns r b h.texts
-      here =
-          ap (λ (p : Renderer D A (List A)). p.lines) h.is ∙ lines_added b h.texts (record r { block = None })
-          ∙ ap (λ ls. r.lines ++ ls) (same_stretch r (record r { block = None }) b b h.texts refl refl refl refl refl)
 
   -- where nothing changed but what the block and the annotations are
   as_before : (r q : Renderer D A (List A)) (b : Open (List A)) (lines : List (Line (List A))) → q.lines ≡ r.lines → q.width ≡ r.width → q.options ≡ r.options → q.annotations ≡ r.annotations → q.waiting ≡ r.waiting →

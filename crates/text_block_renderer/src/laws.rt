@@ -6,7 +6,7 @@ ghost use Rattle.text_block_renderer.specs.declared.options.RenderOptions.{Rende
 ghost use Rattle.text_block_renderer.specs.Flush.{Flushes};
 ghost use Rattle.text_block_renderer.specs.Calls.{Call, Steps, Brings, Shows};
 ghost use Rattle.text_block_renderer.specs.MarkersStand.{Stands, FlushStands, WaitForText};
-ghost use Rattle.text_block_renderer.specs.Stretches.{StandsAsStretch, StaysOpen, EndsAsStretch};
+ghost use Rattle.text_block_renderer.specs.Stretches.{StandsAsStretch, StaysOpen, EndsAsStretch, ComesInParts};
 ghost use Rattle.tbr_model.specs.Run.{Entry};
 ghost use Rattle.tbr_decor.specs.Decoration.{Decoration};
 
@@ -72,4 +72,12 @@ pub fn each_open_run_ends_as_one_stretch<D, A>()
     ensures { (columns : ℕ → Option ℕ) (decoration : Decoration D A) (calls : List Call)
         (r s : Renderer D A (List A)) (b : Open (List A)) (es : List (Entry (List A))) → r.block ≡ Some b →
         Brings columns decoration calls r es s → StaysOpen r b es s ⊎ EndsAsStretch columns r b es s }
+{}
+
+/// The lines that calls add are the stretches of the runs that ended, and empty lines. What the calls brought to the
+/// open run are these runs, one behind another, and then the run that is open.
+pub fn lines_are_stretches_and_empty_lines<D, A>()
+    ensures { (columns : ℕ → Option ℕ) (decoration : Decoration D A) (calls : List Call)
+        (r s : Renderer D A (List A)) (es : List (Entry (List A))) →
+        Brings columns decoration calls r es s → ComesInParts columns r es s }
 {}
