@@ -13,3 +13,8 @@ pub mod Moves
 pub mod Growing
 pub mod Once
 pub mod Showing
+pub mod LookingAtLines
+pub mod Standing
+pub mod Waiting
+pub mod Stretching
+pub mod Parting

@@ -15,7 +15,7 @@ use Rattle.text_block_renderer.specs.Image.{shown_title}
 use Rattle.text_block_renderer.specs.Decorated.{struck_from, struck_until, asked_to_close, annotated, coloured, uncoloured, Opens, Closes, AddsImageBy}
 use Rattle.text_block_renderer.specs.Calls.{Call, add_empty_line, new_line, new_line_hard, start_block, start_table, end_block, add_inline_text, push_ws, pop_ws, push_preformat, pop_preformat, record_frag_start, begin, finish, start_strikeout, end_strikeout, add_image, push_colour, pop_colour, Does, Steps, text_brought, image_brought, entries_brought, Brings}
 
--- The end of the open run, an empty line, entries that join the open run, or a change of what isn't text.
+-- The end of the open run, an empty line where no block is open, entries that join the open run, or a change of what isn't text.
 pub data Move (T : Type 0) : Type 0 where
   flush : Move T
   empty_line : Move T
@@ -47,7 +47,7 @@ brought-append (m ∷ ms) ns = ap (λ es. brought_by m ++ es) (brought-append ms
 module _ {D A : Type 0} (columns : ℕ → Option ℕ) where
   abbrev pub Makes : Move (List A) → Renderer D A (List A) → Renderer D A (List A) → Type 0
   Makes flush r s = Flushes columns r s
-  Makes empty_line r s = s ≡ with_empty_line columns r
+  Makes empty_line r s = (r.block ≡ None) × (s ≡ with_empty_line columns r)
   Makes (join es) r s = s ≡ with_entries r es
   Makes turn r s = SameText r s
 
@@ -87,22 +87,30 @@ module _ {D A : Type 0} (columns : ℕ → Option ℕ) where
 
   -- ---- each call
 
-  empty_added : (r s : Renderer D A (List A)) → AddsEmptyLine columns r s → Path r s []
-  empty_added r s h = onward r h.0 s [] [] (one flush r h.0 h.1) (one empty_line h.0 s h.2)
+  pub no_block : (ts : List (List (Item (List A)))) (q : Renderer D A (List A)) → q.block ≡ None → (fold (with_line columns) q ts).block ≡ None
+  no_block [] q n = n
+  no_block (t ∷ ts) q n = no_block ts (with_line columns q t) n
 
-  begun : (r s : Renderer D A (List A)) → s ≡ block_started columns r → Path r s []
-  begun r s h = go (has_content r) refl
+  closed : (r s : Renderer D A (List A)) (o : Option (Open (List A))) → o ≡ r.block → FlushesBlock columns r o s → s.block ≡ None
+  closed r s None e h = ap (λ (q : Renderer D A (List A)). q.block) h ∙ sym e
+  closed r s (Some b) e h = ap (λ (q : Renderer D A (List A)). q.block) h.is ∙ no_block (block_lines columns r b h.texts) (record r { block = None }) refl
+
+  empty_added : (r s : Renderer D A (List A)) → AddsEmptyLine columns r s → Path r s []
+  empty_added r s h = onward r h.0 s [] [] (one flush r h.0 h.1) (one empty_line h.0 s (closed r h.0 r.block refl h.1, h.2))
+
+  begun : (r s : Renderer D A (List A)) → r.block ≡ None → s ≡ block_started columns r → Path r s []
+  begun r s none h = go (has_content r) refl
     where
       go : (b : Bool) → has_content r ≡ b → Path r s []
       go true e =
           let is : block_started columns r ≡ with_empty_line columns r = rw e refl in
-          one empty_line r s (h ∙ is)
+          one empty_line r s (none, h ∙ is)
       go false e =
           let is : block_started columns r ≡ record r { block_ended = false } = rw e refl in
           turned r (record r { block_ended = false }) s refl refl refl refl refl (h ∙ is)
 
   started : (r s : Renderer D A (List A)) → StartsBlock columns r s → Path r s []
-  started r s h = onward r h.0 s [] [] (one flush r h.0 h.1) (begun h.0 s h.2)
+  started r s h = onward r h.0 s [] [] (one flush r h.0 h.1) (begun h.0 s (closed r h.0 r.block refl h.1) h.2)
 
   broken : (r s : Renderer D A (List A)) (at : Bool) → BreaksLineAt columns at r s → Path r s []
   broken r s true h = empty_added r s h
@@ -209,7 +217,7 @@ module _ {D A : Type 0} (columns : ℕ → Option ℕ) where
         let (m, rest, does, brings, is) = h in
         subst (λ (fs : List (Entry (List A))). Path r s fs) (sym is) (onward r m s (entries_brought columns decoration c r) rest (call_moves c r m does) (calls_move cs m s rest brings))
 
-    pub steps_bring : (calls : List Call) (r s : Renderer D A (List A)) → Steps columns decoration calls r s → (es : List (Entry (List A))) × Brings columns decoration calls r es s
+    steps_bring : (calls : List Call) (r s : Renderer D A (List A)) → Steps columns decoration calls r s → (es : List (Entry (List A))) × Brings columns decoration calls r es s
     steps_bring [] r s h = ([], (h, refl))
     steps_bring (c ∷ cs) r s h =
         let (m, does, steps) = h in
@@ -224,3 +232,17 @@ module _ {D A : Type 0} (columns : ℕ → Option ℕ) where
   along P each (m ∷ ms) r s es h k =
       subst (λ (fs : List (Entry (List A))). P s fs) (append_assoc es (brought_by m) (brought ms))
       (along P each ms h.0 s (es ++ brought_by m) h.2 (each m r h.0 es h.1 k))
+
+  -- A relation that goes on, and that each move has, calls have.
+  pub through : (R : Renderer D A (List A) → Renderer D A (List A) → Type 0) →
+      ((r s : Renderer D A (List A)) → s ≡ r → R r s) →
+      ((r q s : Renderer D A (List A)) → R r q → R q s → R r s) →
+      ((m : Move (List A)) (r s : Renderer D A (List A)) → Makes m r s → R r s) →
+      (ms : List (Move (List A))) (r s : Renderer D A (List A)) → MakesAll ms r s → R r s
+  through R same on each [] r s h = same r s h
+  through R same on each (m ∷ ms) r s h = on r h.0 s (each m r h.0 h.1) (through R same on each ms h.0 s h.2)
+
+  pub steps_move : (decoration : Decoration D A) (calls : List Call) (r s : Renderer D A (List A)) → Steps columns decoration calls r s → (ms : List (Move (List A))) × MakesAll ms r s
+  steps_move decoration calls r s h =
+      let (es, brings) = steps_bring decoration calls r s h in
+      let path = calls_move decoration calls r s es brings in (path.moves, path.makes)

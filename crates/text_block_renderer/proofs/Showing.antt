@@ -1,8 +1,8 @@
 -- Visible characters stand once.
-use Rattle.std.proofs.Common.{◌≡◌, ℕ, ◌-◌, zero, suc, ◌&&◌, Bool, true, false, if◌then◌else◌, Option, Some, None, is_some, List, [], ◌∷◌, ◌++◌, map, fold, refl, ap, sym, ◌∙◌, subst, append_assoc, append-nil}
+use Rattle.std.proofs.Common.{◌≡◌, ℕ, zero, suc, ◌&&◌, Bool, true, false, if◌then◌else◌, Option, Some, None, is_some, List, [], ◌∷◌, ◌++◌, map, fold, refl, ap, sym, ◌∙◌, subst, append_assoc, append-nil}
 use Rattle.std.specs.List.{AllZip}
 use Rattle.tbr_model.specs.Codes.{space_character}
-use Rattle.tbr_model.specs.Run.{Entry, character, marker_entry, Item, glyph, marker, items_width}
+use Rattle.tbr_model.specs.Run.{Entry, character, marker_entry, Item, glyph, marker}
 use Rattle.tbr_model.specs.Layout.{joined}
 use Rattle.tbr_model.specs.Markers.{marker_items}
 use Rattle.tbr_model.specs.Hard.{is_visible, IsShown, visible_glyphs, visible_entries}
@@ -10,17 +10,19 @@ use Rattle.tbr_lines.specs.Elements.{text_items}
 use Rattle.tbr_lines.specs.Padding.{spaces}
 use Rattle.tbr_lines.specs.Wrapped.{padding_of}
 use Rattle.tbr_lines.proofs.SameItems.{all_zip_append}
-use Rattle.text_block_renderer.specs.Renderer.{Line, text, border, Open, Renderer, line_padding, with_line, open_run, with_entries, block_width}
+use Rattle.text_block_renderer.specs.Renderer.{Line, Open, Renderer, with_line, open_run, with_entries, block_width}
 use Rattle.text_block_renderer.specs.Flush.{block_lines, FlushesBlock}
 use Rattle.text_block_renderer.specs.Steps.{with_empty_line}
 use Rattle.tbr_decor.specs.Decoration.{Decoration}
 use Rattle.text_block_renderer.specs.Calls.{Call, Brings, text_of_lines, Shows}
-use Rattle.text_block_renderer.proofs.Moves.{Move, flush, empty_line, join, turn, brought_by, Makes, along, calls_move}
+use Rattle.text_block_renderer.proofs.Moves.{Move, flush, empty_line, join, turn, brought_by, Makes, along, calls_move, no_block}
 use Rattle.text_block_renderer.proofs.Writing.{open_run_is}
+use Rattle.text_block_renderer.proofs.LookingAtLines.{Looks, seen_line, seen_lines}
+use Rattle.text_block_renderer.specs.MarkersStand.{items_so_far}
 
 -- ---- items and entries
 
-space_unseen : (columns : ℕ → Option ℕ) → is_visible columns space_character ≡ false
+pub space_unseen : (columns : ℕ → Option ℕ) → is_visible columns space_character ≡ false
 space_unseen columns = go (is_some (columns space_character))
   where
     go : (k : Bool) → (k && false) && false ≡ false
@@ -48,50 +50,33 @@ module _ {T : Type 0} (columns : ℕ → Option ℕ) where
       go true rest = ap (λ (rs : List (Entry T)). character c a b m ∷ rs) rest
       go false rest = rest
 
-  behind_markers : (names : List (List ℕ)) (is : List (Item T)) → visible_glyphs columns (marker_items names ++ is) ≡ visible_glyphs columns is
-  behind_markers [] is = refl
-  behind_markers (name ∷ names) is = behind_markers names is
-
   spaces_unseen : (n : ℕ) (a : T) → visible_glyphs columns (text_items (spaces n) a) ≡ []
   spaces_unseen zero a = refl
   spaces_unseen (suc n) a = rw (space_unseen columns) (spaces_unseen n a)
 
-  padding_unseen : (o : Option T) (width : ℕ) (is : List (Item T)) → visible_glyphs columns (padding_of columns o width is) ≡ []
-  padding_unseen None width is = refl
-  padding_unseen (Some a) width is = spaces_unseen (width - items_width columns is) a
+  markers_unseen : (names : List (List ℕ)) (is : List (Item T)) → is ≡ marker_items names → visible_glyphs columns is ≡ []
+  markers_unseen [] is e = ap (visible_glyphs columns) e
+  markers_unseen (name ∷ names) is e = ap (visible_glyphs columns) e ∙ markers_unseen names (marker_items names) refl
 
-  before_padding : (o : Option T) (width : ℕ) (is js : List (Item T)) → visible_glyphs columns (is ++ padding_of columns o width js) ≡ visible_glyphs columns is
-  before_padding o width is js = glyphs-append is (padding_of columns o width js) ∙ ap (λ gs. visible_glyphs columns is ++ gs) (padding_unseen o width js) ∙ append-nil (visible_glyphs columns is)
-
-text_of_lines-append : {T : Type 0} (ls ms : List (Line T)) → text_of_lines (ls ++ ms) ≡ text_of_lines ls ++ text_of_lines ms
-text_of_lines-append [] ms = refl
-text_of_lines-append (text is ∷ ls) ms = ap (λ js. is ++ js) (text_of_lines-append ls ms) ∙ sym (append_assoc is (text_of_lines ls) (text_of_lines ms))
-text_of_lines-append (border b ∷ ls) ms = text_of_lines-append ls ms
+  at_visible : Looks (visible_glyphs {A = T} columns)
+  at_visible = record { append = glyphs-append; nothing = refl; spaces_unseen = spaces_unseen }
 
 -- ---- lines
 
 module _ {D A : Type 0} (columns : ℕ → Option ℕ) where
+  on_lines : (r : Renderer D A (List A)) → visible_glyphs columns (items_so_far r) ≡ visible_glyphs columns (text_of_lines r.lines)
+  on_lines r =
+      glyphs-append columns (text_of_lines r.lines) (marker_items r.waiting) ∙ ap (λ gs. visible_glyphs columns (text_of_lines r.lines) ++ gs) (markers_unseen columns r.waiting (marker_items r.waiting) refl)
+      ∙ append-nil (visible_glyphs columns (text_of_lines r.lines))
+
   shown_line : (r : Renderer D A (List A)) (t : List (Item (List A))) → visible_glyphs columns (text_of_lines (with_line columns r t).lines) ≡ visible_glyphs columns (text_of_lines r.lines) ++ visible_glyphs columns t
-  shown_line r t =
-      let marked = marker_items r.waiting ++ t in
-      ap (visible_glyphs columns) (text_of_lines-append r.lines (text (marked ++ line_padding columns r marked) ∷ []))
-      ∙ glyphs-append columns (text_of_lines r.lines) (text_of_lines (text (marked ++ line_padding columns r marked) ∷ []))
-      ∙ ap (λ gs. visible_glyphs columns (text_of_lines r.lines) ++ gs) (ap (visible_glyphs columns) (append-nil (marked ++ line_padding columns r marked))
-      ∙ before_padding columns (if r.options.pad_block_width then Some r.annotations else None) r.width marked marked ∙ behind_markers columns r.waiting t)
+  shown_line r t = sym (on_lines (with_line columns r t)) ∙ seen_line (visible_glyphs columns) (at_visible columns) columns r t ∙ ap (λ gs. gs ++ visible_glyphs columns t) (on_lines r)
 
   shown_lines : (b : Open (List A)) (width : ℕ) (texts : List (List (Item (List A)))) (r : Renderer D A (List A)) →
       visible_glyphs columns (text_of_lines (fold (with_line columns) r (map (λ is. is ++ padding_of columns b.padding width is) texts)).lines) ≡ visible_glyphs columns (text_of_lines r.lines) ++ visible_glyphs columns (joined texts)
-  shown_lines b width [] r = sym (append-nil (visible_glyphs columns (text_of_lines r.lines)))
-  shown_lines b width (t ∷ ts) r =
-      let full = t ++ padding_of columns b.padding width t in
-      shown_lines b width ts (with_line columns r full)
-      ∙ ap (λ gs. gs ++ visible_glyphs columns (joined ts)) (shown_line r full ∙ ap (λ gs. visible_glyphs columns (text_of_lines r.lines) ++ gs) (before_padding columns b.padding width t t))
-      ∙ append_assoc (visible_glyphs columns (text_of_lines r.lines)) (visible_glyphs columns t) (visible_glyphs columns (joined ts))
-      ∙ ap (λ gs. visible_glyphs columns (text_of_lines r.lines) ++ gs) (sym (glyphs-append columns t (joined ts)))
-
-  pub no_block : (ts : List (List (Item (List A)))) (q : Renderer D A (List A)) → q.block ≡ None → (fold (with_line columns) q ts).block ≡ None
-  no_block [] q n = n
-  no_block (t ∷ ts) q n = no_block ts (with_line columns q t) n
+  shown_lines b width texts r =
+      sym (on_lines (fold (with_line columns) r (map (λ is. is ++ padding_of columns b.padding width is) texts)))
+      ∙ seen_lines (visible_glyphs columns) (at_visible columns) columns b width texts r ∙ ap (λ gs. gs ++ visible_glyphs columns (joined texts)) (on_lines r)
 
   -- ---- steps
 
@@ -104,7 +89,7 @@ module _ {D A : Type 0} (columns : ℕ → Option ℕ) where
       subst (λ (gs : List (ℕ × List A)). AllZip (IsShown (λ x y. x ≡ y)) gs (visible_entries columns (k.ended ++ b.run))) (sym lines)
       (subst (λ (fs : List (Entry (List A))). AllZip (IsShown (λ x y. x ≡ y)) (visible_glyphs columns (text_of_lines r.lines) ++ visible_glyphs columns (joined h.texts)) fs) (sym (entries-append columns k.ended b.run))
       (all_zip_append (IsShown (λ x y. x ≡ y)) (visible_glyphs columns (text_of_lines r.lines)) (visible_glyphs columns (joined h.texts)) (visible_entries columns k.ended) (visible_entries columns b.run) k.shown h.ends.shown.visible)) in
-      let nothing : open_run after.block ≡ [] = ap open_run (no_block (block_lines columns r b h.texts) (record r { block = None }) refl) in
+      let nothing : open_run after.block ≡ [] = ap open_run (no_block columns (block_lines columns r b h.texts) (record r { block = None }) refl) in
       let whole : visible_entries columns ((k.ended ++ b.run) ++ open_run after.block) ≡ visible_entries columns es =
       ap (λ (run : List (Entry (List A))). visible_entries columns ((k.ended ++ b.run) ++ run)) nothing ∙ ap (visible_entries columns) (append-nil (k.ended ++ b.run))
       ∙ ap (λ (p : Option (Open (List A))). visible_entries columns (k.ended ++ open_run p)) e ∙ k.whole in
@@ -130,7 +115,7 @@ module _ {D A : Type 0} (columns : ℕ → Option ℕ) where
 
   shows_move : (m : Move (List A)) (r s : Renderer D A (List A)) (es : List (Entry (List A))) → Makes columns m r s → Shows columns r es → Shows columns s (es ++ brought_by m)
   shows_move flush r s es h k = with_none s es (shows_flush r s r.block es refl h k)
-  shows_move empty_line r s es h k = with_none s es (shows_empty r s es h k)
+  shows_move empty_line r s es h k = with_none s es (shows_empty r s es h.1 k)
   shows_move (join more) r s es h k = shows_more r s more es h k
   shows_move turn r s es h k = with_none s es (record {
     ended = k.ended;

@@ -7,3 +7,5 @@ pub mod Steps
 pub mod Image
 pub mod Decorated
 pub mod Calls
+pub mod MarkersStand
+pub mod Stretches

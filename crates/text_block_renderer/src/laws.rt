@@ -1,9 +1,12 @@
 //! What follows from the steps alone, each as the contract of a function that does nothing.
-ghost use Rattle.std.specs.Prelude.{◌≡◌, ℕ, Bool, false, Option, List, ◌++◌};
+ghost use Rattle.std.specs.Prelude.{◌≡◌, ℕ, Bool, false, ◌⊎◌, Option, Some, List, [], ◌++◌};
 ghost use Rattle.tbr_lines.specs.State.{IsNormal};
-ghost use Rattle.text_block_renderer.specs.Renderer.{Line, Renderer, may_overflow, open_run};
+ghost use Rattle.text_block_renderer.specs.Renderer.{Line, Open, Renderer, new_renderer, may_overflow, open_run};
+ghost use Rattle.text_block_renderer.specs.declared.options.RenderOptions.{RenderOptions};
 ghost use Rattle.text_block_renderer.specs.Flush.{Flushes};
 ghost use Rattle.text_block_renderer.specs.Calls.{Call, Steps, Brings, Shows};
+ghost use Rattle.text_block_renderer.specs.MarkersStand.{Stands, FlushStands, WaitForText};
+ghost use Rattle.text_block_renderer.specs.Stretches.{StandsAsStretch, StaysOpen, EndsAsStretch, ComesInParts};
 ghost use Rattle.tbr_model.specs.Run.{Entry};
 ghost use Rattle.tbr_decor.specs.Decoration.{Decoration};
 
@@ -27,4 +30,54 @@ pub fn visible_characters_stand_once<D, A>()
     ensures { (columns : ℕ → Option ℕ) (decoration : Decoration D A) (calls : List Call)
         (r s : Renderer D A (List A)) (before es : List (Entry (List A))) →
         Brings columns decoration calls r es s → Shows columns r before → Shows columns s (before ++ es) }
+{}
+
+/// After any calls what they brought stands in the lines of text, or is a marker that waits, but for the open run: the
+/// visible characters and the markers once and in order, and in `Normal` all kept characters and markers. No marker
+/// waits that has a visible character behind it. To a new renderer nothing was brought.
+pub fn what_was_brought_stands<D, A>()
+    ensures calls { (columns : ℕ → Option ℕ) (decoration : Decoration D A) (calls : List Call)
+        (r s : Renderer D A (List A)) (before es : List (Entry (List A))) →
+        Brings columns decoration calls r es s → Stands columns r before → Stands columns s (before ++ es) }
+    ensures new { (columns : ℕ → Option ℕ) (width : ℕ) (options : RenderOptions) (decorator : D) →
+        Stands columns (new_renderer {D = D} {A = A} width options decorator) [] }
+{}
+
+/// What a flush makes stand and wait: the markers that wait then come, in the run or before it, behind the last visible
+/// character of the run, in a `Normal` run behind the last kept one. The kept characters and the markers of a `Normal`
+/// run come in order behind all that stood and waited. Where it may not overflow, just its trailing markers wait.
+pub fn what_a_flush_makes_stand<D, A>()
+    ensures { (columns : ℕ → Option ℕ) (r s : Renderer D A (List A)) →
+        Flushes columns r s → FlushStands columns (open_run r.block) r s }
+{}
+
+/// Markers that wait begin the next line of text, whatever calls come, and until then they wait.
+pub fn waiting_markers_begin_the_next_text<D, A>()
+    ensures { (columns : ℕ → Option ℕ) (decoration : Decoration D A) (calls : List Call)
+        (r s : Renderer D A (List A)) → Steps columns decoration calls r s → WaitForText r s }
+{}
+
+/// The lines of a run stand together for good, where a flush put them: the first behind the markers that waited, and
+/// each with its padding. After any number of lines no legal layout of a `Normal` run that may not overflow has placed
+/// more of it.
+pub fn a_run_is_one_stretch<D, A>()
+    ensures { (columns : ℕ → Option ℕ) (decoration : Decoration D A) (calls : List Call)
+        (r q s : Renderer D A (List A)) (b : Open (List A)) → r.block ≡ Some b → Flushes columns r q →
+        Steps columns decoration calls q s → StandsAsStretch columns r b s.lines }
+{}
+
+/// Whatever calls come, the run of an open block goes on, or it ends as one stretch of the lines: with the first of the
+/// entries that came, and behind all lines that there were.
+pub fn each_open_run_ends_as_one_stretch<D, A>()
+    ensures { (columns : ℕ → Option ℕ) (decoration : Decoration D A) (calls : List Call)
+        (r s : Renderer D A (List A)) (b : Open (List A)) (es : List (Entry (List A))) → r.block ≡ Some b →
+        Brings columns decoration calls r es s → StaysOpen r b es s ⊎ EndsAsStretch columns r b es s }
+{}
+
+/// The lines that calls add are the stretches of the runs that ended, and empty lines. What the calls brought to the
+/// open run are these runs, one behind another, and then the run that is open.
+pub fn lines_are_stretches_and_empty_lines<D, A>()
+    ensures { (columns : ℕ → Option ℕ) (decoration : Decoration D A) (calls : List Call)
+        (r s : Renderer D A (List A)) (es : List (Entry (List A))) →
+        Brings columns decoration calls r es s → ComesInParts columns r es s }
 {}

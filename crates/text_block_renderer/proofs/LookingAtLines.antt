@@ -1,0 +1,71 @@
+-- What whoever looks at items, but not at spaces, sees of lines of text and of the markers that wait.
+use Rattle.std.proofs.Common.{◌≡◌, ℕ, ◌-◌, if◌then◌else◌, Option, Some, None, List, [], ◌∷◌, ◌++◌, map, fold, refl, ap, sym, ◌∙◌, append_assoc, append-nil}
+use Rattle.std.proofs.lemmas.List.{map-append}
+use Rattle.tbr_model.specs.Run.{Item, marker, items_width}
+use Rattle.tbr_model.specs.Layout.{joined}
+use Rattle.tbr_model.specs.Markers.{marker_items}
+use Rattle.tbr_lines.specs.Elements.{text_items}
+use Rattle.tbr_lines.specs.Padding.{spaces}
+use Rattle.tbr_lines.specs.Wrapped.{padding_of}
+use Rattle.text_block_renderer.specs.Renderer.{Line, text, border, Open, Renderer, line_padding, with_line, block_width}
+use Rattle.text_block_renderer.specs.Flush.{block_lines, flushed}
+use Rattle.text_block_renderer.specs.Calls.{text_of_lines}
+use Rattle.text_block_renderer.specs.MarkersStand.{items_so_far}
+
+pub text_of_lines-append : {T : Type 0} (ls ms : List (Line T)) → text_of_lines (ls ++ ms) ≡ text_of_lines ls ++ text_of_lines ms
+text_of_lines-append [] ms = refl
+text_of_lines-append (text is ∷ ls) ms = ap (λ js. is ++ js) (text_of_lines-append ls ms) ∙ sym (append_assoc is (text_of_lines ls) (text_of_lines ms))
+text_of_lines-append (border b ∷ ls) ms = text_of_lines-append ls ms
+
+pub marker_items-append : {T : Type 0} (ms ns : List (List ℕ)) → (let is : List (Item T) = marker_items (ms ++ ns) in is) ≡ marker_items ms ++ marker_items ns
+marker_items-append {T} ms ns = map-append (λ n. let i : Item T = marker n in i) ms ns
+
+-- One who looks at items, one behind another, and sees nothing in spaces.
+pub record Looks {T Y : Type 0} (look : List (Item T) → List Y) : Type 0 where
+  pub append : (is js : List (Item T)) → look (is ++ js) ≡ look is ++ look js
+  pub nothing : look [] ≡ []
+  pub spaces_unseen : (n : ℕ) (a : T) → look (text_items (spaces n) a) ≡ []
+
+module _ {A Y : Type 0} (look : List (Item (List A)) → List Y) (looks : Looks look) (columns : ℕ → Option ℕ) where
+  padding_unseen : (o : Option (List A)) (width : ℕ) (is : List (Item (List A))) → look (padding_of columns o width is) ≡ []
+  padding_unseen None width is = looks.nothing
+  padding_unseen (Some a) width is = looks.spaces_unseen (width - items_width columns is) a
+
+  pub before_padding : (o : Option (List A)) (width : ℕ) (is js : List (Item (List A))) → look (is ++ padding_of columns o width js) ≡ look is
+  before_padding o width is js = looks.append is (padding_of columns o width js) ∙ ap (λ ys. look is ++ ys) (padding_unseen o width js) ∙ append-nil (look is)
+
+module _ {D A Y : Type 0} (look : List (Item (List A)) → List Y) (looks : Looks look) (columns : ℕ → Option ℕ) where
+  -- one line more
+  pub seen_line : (r : Renderer D A (List A)) (t : List (Item (List A))) → look (items_so_far (with_line columns r t)) ≡ look (items_so_far r) ++ look t
+  seen_line r t =
+      let marked : List (Item (List A)) = marker_items r.waiting ++ t in
+      let full : List (Item (List A)) = marked ++ line_padding columns r marked in
+      ap look (append-nil (text_of_lines (r.lines ++ text full ∷ [])) ∙ text_of_lines-append r.lines (text full ∷ []) ∙ ap (λ is. text_of_lines r.lines ++ is) (append-nil full))
+      ∙ looks.append (text_of_lines r.lines) full
+      ∙ ap (λ ys. look (text_of_lines r.lines) ++ ys) (before_padding look looks columns (if r.options.pad_block_width then Some r.annotations else None) r.width marked marked)
+      ∙ sym (looks.append (text_of_lines r.lines) marked)
+      ∙ ap look (sym (append_assoc (text_of_lines r.lines) (marker_items r.waiting) t))
+      ∙ looks.append (items_so_far r) t
+
+  -- the padded texts of a block
+  pub seen_lines : (b : Open (List A)) (width : ℕ) (texts : List (List (Item (List A)))) (r : Renderer D A (List A)) →
+      look (items_so_far (fold (with_line columns) r (map (λ is. is ++ padding_of columns b.padding width is) texts))) ≡ look (items_so_far r) ++ look (joined texts)
+  seen_lines b width [] r = sym (append-nil (look (items_so_far r))) ∙ ap (λ ys. look (items_so_far r) ++ ys) (sym looks.nothing)
+  seen_lines b width (t ∷ ts) r =
+      let full : List (Item (List A)) = t ++ padding_of columns b.padding width t in
+      seen_lines b width ts (with_line columns r full)
+      ∙ ap (λ ys. ys ++ look (joined ts)) (seen_line r full ∙ ap (λ ys. look (items_so_far r) ++ ys) (before_padding look looks columns b.padding width t t))
+      ∙ append_assoc (look (items_so_far r)) (look t) (look (joined ts))
+      ∙ ap (λ ys. look (items_so_far r) ++ ys) (sym (looks.append t (joined ts)))
+
+  -- the end of a run
+  pub seen_flushed : (r : Renderer D A (List A)) (b : Open (List A)) (texts : List (List (Item (List A)))) (names : List (List ℕ)) →
+      look (items_so_far (flushed columns r (block_lines columns r b texts) names)) ≡ look (items_so_far r) ++ look (joined texts ++ marker_items names)
+  seen_flushed r b texts names =
+      let s : Renderer D A (List A) = fold (with_line columns) (record r { block = None }) (block_lines columns r b texts) in
+      ap (λ is. look (text_of_lines s.lines ++ is)) (marker_items-append s.waiting names)
+      ∙ ap look (sym (append_assoc (text_of_lines s.lines) (marker_items s.waiting) (marker_items names)))
+      ∙ looks.append (items_so_far s) (marker_items names)
+      ∙ ap (λ ys. ys ++ look (marker_items names)) (seen_lines b (block_width r) texts (record r { block = None }))
+      ∙ append_assoc (look (items_so_far r)) (look (joined texts)) (look (marker_items names))
+      ∙ ap (λ ys. look (items_so_far r) ++ ys) (sym (looks.append (joined texts) (marker_items names)))

@@ -1,0 +1,264 @@
+-- What was brought stands in the lines of text, or waits.
+use Rattle.std.proofs.Common.{◌≡◌, ℕ, zero, suc, Bool, true, false, not, if◌then◌else◌, Option, Some, None, List, [], ◌∷◌, ◌++◌, filter, fold, refl, ap, sym, ◌∙◌, subst, append_assoc, append-nil}
+use Rattle.std.specs.List.{AllZip}
+use Rattle.std.proofs.lemmas.List.Elements.{filter-append}
+use Rattle.std.proofs.lemmas.List.Concat.{flat_map-append}
+use Rattle.std.proofs.lemmas.Grind.{fold-append}
+use Rattle.tbr_model.specs.Run.{Entry, character, marker_entry, Item, glyph, marker, is_kept, items_of, kept_items}
+use Rattle.tbr_model.specs.Layout.{joined}
+use Rattle.tbr_model.specs.Markers.{names_in_items, names_in_run, marker_items, marker_run, marked_behind, names_behind}
+use Rattle.tbr_model.specs.Hard.{HasMode, is_visible}
+use Rattle.tbr_model.specs.declared.white_space.WhiteSpace.TheVariants.{Normal}
+use Rattle.tbr_model.specs.Shown.{without_spaces, is_visible_or_marker, is_entry_to_show, ShowsEntry}
+use Rattle.tbr_model.specs.Rule.{is_space_item}
+use Rattle.tbr_model.proofs.lists.Each.{each_front, each_back}
+use Rattle.tbr_lines.specs.Elements.{text_items}
+use Rattle.tbr_lines.specs.Padding.{spaces}
+use Rattle.tbr_lines.specs.State.{State, IsNormal, AreLastOf, EndsRun}
+use Rattle.tbr_lines.proofs.SameItems.{all_zip_append}
+use Rattle.tbr_decor.specs.Decoration.{Decoration}
+use Rattle.text_block_renderer.specs.Renderer.{Line, Open, Renderer, new_renderer, open_block, open_run, with_entries, block_width, may_overflow}
+use Rattle.text_block_renderer.specs.declared.options.RenderOptions.{RenderOptions}
+use Rattle.text_block_renderer.specs.Flush.{block_of_run, block_lines, flushed, FlushesBlock}
+use Rattle.text_block_renderer.specs.Steps.{with_empty_line}
+use Rattle.text_block_renderer.specs.Calls.{Call, Brings, text_of_lines}
+use Rattle.text_block_renderer.specs.MarkersStand.{items_so_far, Stands}
+use Rattle.text_block_renderer.proofs.Moves.{Move, flush, empty_line, join, turn, SameText, brought_by, Makes, along, calls_move, no_block}
+use Rattle.text_block_renderer.proofs.Writing.{open_run_is}
+use Rattle.text_block_renderer.proofs.LookingAtLines.{Looks, seen_line, seen_flushed}
+use Rattle.text_block_renderer.proofs.Showing.{space_unseen}
+
+-- ---- three ways to look at items
+
+names-append : {T : Type 0} (is js : List (Item T)) → names_in_items (is ++ js) ≡ names_in_items is ++ names_in_items js
+names-append [] js = refl
+names-append (glyph c a ∷ is) js = names-append is js
+names-append (marker name ∷ is) js = ap (λ ns. name ∷ ns) (names-append is js)
+
+names_of_spaces : {T : Type 0} (n : ℕ) (a : T) → names_in_items (text_items (spaces n) a) ≡ []
+names_of_spaces zero a = refl
+names_of_spaces (suc n) a = names_of_spaces n a
+
+at_names : {T : Type 0} → Looks {T = T} names_in_items
+at_names = record { append = names-append; nothing = refl; spaces_unseen = names_of_spaces }
+
+-- no space passes the test
+no_space_passes : {T : Type 0} (test : Item T → Bool) → ((a : T) → test (glyph 32 a) ≡ false) → (n : ℕ) (a : T) → filter test (text_items (spaces n) a) ≡ []
+no_space_passes test h zero a = refl
+no_space_passes test h (suc n) a = rw (h a) (no_space_passes test h n a)
+
+at_passing : {T : Type 0} (test : Item T → Bool) → ((a : T) → test (glyph 32 a) ≡ false) → Looks (filter test)
+at_passing test h = record { append = filter-append test; nothing = refl; spaces_unseen = no_space_passes test h }
+
+at_shown : {T : Type 0} (columns : ℕ → Option ℕ) → Looks {T = T} (filter (is_visible_or_marker columns))
+at_shown columns = at_passing (is_visible_or_marker columns) (λ a. space_unseen columns)
+
+pub at_unspaced : {T : Type 0} → Looks {T = T} without_spaces
+at_unspaced = at_passing (λ i. not (is_space_item i)) (λ a. refl)
+
+-- ---- what stands for entries
+
+-- Items have the visible characters and the markers of entries, and, where these are `Normal`, their kept items.
+pub record StandFor {T : Type 0} (columns : ℕ → Option ℕ) (is : List (Item T)) (es : List (Entry T)) : Type 0 where
+  pub order : AllZip (ShowsEntry (λ a b. a ≡ b)) (filter (is_visible_or_marker columns) is) (filter (is_entry_to_show columns) es)
+  pub names : names_in_items is ≡ names_in_run es
+  pub kept : IsNormal es → without_spaces is ≡ kept_items columns es
+
+-- Whoever looks sees in the new items what is seen in the old ones and then in more.
+abbrev pub SeenBehind : {T : Type 0} → List (Item T) → List (Item T) → List (Item T) → Type 1
+SeenBehind {T} old more new = (Y : Type 0) (look : List (Item T) → List Y) → Looks look → look new ≡ look old ++ look more
+
+names_of_markers : (T : Type 0) (names : List (List ℕ)) → names_in_items (let is : List (Item T) = marker_items names in is) ≡ names
+names_of_markers T [] = refl
+names_of_markers T (name ∷ names) = ap (λ ns. name ∷ ns) (names_of_markers T names)
+
+module _ {T : Type 0} (columns : ℕ → Option ℕ) where
+  names_in_run-append : (es fs : List (Entry T)) → names_in_run (es ++ fs) ≡ names_in_run es ++ names_in_run fs
+  names_in_run-append [] fs = refl
+  names_in_run-append (character c a b m ∷ es) fs = names_in_run-append es fs
+  names_in_run-append (marker_entry name ∷ es) fs = ap (λ ns. name ∷ ns) (names_in_run-append es fs)
+
+  pub nothing_stands : StandFor {T = T} columns [] []
+  nothing_stands = record { order = tt; names = refl; kept = λ normal. refl }
+
+  -- one behind the other
+  pub stand_behind : (old more new : List (Item T)) (es fs : List (Entry T)) → SeenBehind old more new → StandFor columns old es → StandFor columns more fs → StandFor columns new (es ++ fs)
+  stand_behind old more new es fs seen h k = record {
+    order =
+        let both = all_zip_append (ShowsEntry (λ a b. a ≡ b)) (filter (is_visible_or_marker columns) old) (filter (is_visible_or_marker columns) more) (filter (is_entry_to_show columns) es) (filter (is_entry_to_show columns) fs) h.order k.order in
+        subst (λ (gs : List (Entry T)). AllZip (ShowsEntry (λ a b. a ≡ b)) (filter (is_visible_or_marker columns) new) gs) (sym (filter-append (is_entry_to_show columns) es fs))
+        (subst (λ (is : List (Item T)). AllZip (ShowsEntry (λ a b. a ≡ b)) is (filter (is_entry_to_show columns) es ++ filter (is_entry_to_show columns) fs)) (sym (seen (Item T) (filter (is_visible_or_marker columns)) (at_shown columns))) both);
+    names = seen (List ℕ) names_in_items at_names ∙ ap (λ ns. ns ++ names_in_items more) h.names ∙ ap (λ ns. names_in_run es ++ ns) k.names ∙ sym (names_in_run-append es fs);
+    kept = λ normal.
+        seen (Item T) without_spaces at_unspaced ∙ ap (λ is. is ++ without_spaces more) (h.kept (each_front (HasMode Normal) es fs normal))
+        ∙ ap (λ is. kept_items columns es ++ is) (k.kept (each_back (HasMode Normal) es fs normal)) ∙ sym (flat_map-append (items_of columns) es fs);
+  }
+
+  -- ---- markers alone
+
+  shown_markers : (names : List (List ℕ)) → filter (is_visible_or_marker columns) (let is : List (Item T) = marker_items names in is) ≡ marker_items names
+  shown_markers [] = refl
+  shown_markers (name ∷ names) = ap (λ (is : List (Item T)). marker name ∷ is) (shown_markers names)
+
+  unspaced_markers : (names : List (List ℕ)) → without_spaces (let is : List (Item T) = marker_items names in is) ≡ marker_items names
+  unspaced_markers [] = refl
+  unspaced_markers (name ∷ names) = ap (λ (is : List (Item T)). marker name ∷ is) (unspaced_markers names)
+
+  pub shown_before : (is : List (Item T)) (names : List (List ℕ)) → filter (is_visible_or_marker columns) (is ++ marker_items names) ≡ filter (is_visible_or_marker columns) is ++ marker_items names
+  shown_before is names = filter-append (is_visible_or_marker columns) is (marker_items names) ∙ ap (λ js. filter (is_visible_or_marker columns) is ++ js) (shown_markers names)
+
+  pub unspaced_before : (is : List (Item T)) (names : List (List ℕ)) → without_spaces (is ++ marker_items names) ≡ without_spaces is ++ marker_items names
+  unspaced_before is names = filter-append (λ i. not (is_space_item i)) is (marker_items names) ∙ ap (λ js. without_spaces is ++ js) (unspaced_markers names)
+
+  pub names_before : (is : List (Item T)) (names : List (List ℕ)) → names_in_items (is ++ marker_items names) ≡ names_in_items is ++ names
+  names_before is names = names-append is (marker_items names) ∙ ap (λ ns. names_in_items is ++ ns) (names_of_markers T names)
+
+  -- they stand for a run that is so
+  pub markers_stand : (names : List (List ℕ)) → StandFor columns (marker_items names) (let es : List (Entry T) = marker_run names in es)
+  markers_stand [] = nothing_stands
+  markers_stand (name ∷ names) =
+      let rest = markers_stand names in record {
+        order = (refl, rest.order);
+        names = ap (λ ns. name ∷ ns) rest.names;
+        kept = λ normal. ap (λ (is : List (Item T)). marker name ∷ is) (rest.kept normal.1);
+      }
+
+  -- the lines of a run, and the markers that stand on none of them
+  pub run_stands : (s : State T) (texts : List (List (Item T))) (names : List (List ℕ)) → s.lines ≡ [] → EndsRun columns s texts names → StandFor columns (joined texts ++ marker_items names) s.run
+  run_stands s texts names none ends =
+      let all : s.lines ++ texts ≡ texts = ap (λ ls. ls ++ texts) none in record {
+        order = subst (λ (is : List (Item T)). AllZip (ShowsEntry (λ a b. a ≡ b)) is (filter (is_entry_to_show columns) s.run)) (sym (shown_before (joined texts) names))
+            (subst (λ (ls : List (List (Item T))). AllZip (ShowsEntry (λ a b. a ≡ b)) (filter (is_visible_or_marker columns) (joined ls) ++ marker_items names) (filter (is_entry_to_show columns) s.run)) all ends.order);
+        names = names_before (joined texts) names ∙ ap (λ ls. names_in_items (joined ls) ++ names) (sym all) ∙ ends.markers;
+        kept = λ normal. unspaced_before (joined texts) names ∙ ap (λ (ls : List (List (Item T))). without_spaces (joined ls) ++ marker_items names) (sym all) ∙ ends.kept normal;
+      }
+
+-- ---- which markers wait
+
+module _ {T : Type 0} (test : ℕ → Bool) where
+  -- the markers behind the last character that passes, of items
+  abbrev item_behind : List (List ℕ) → Item T → List (List ℕ)
+  item_behind names (glyph c a) = if test c then [] else names
+  item_behind names (marker name) = names ++ name ∷ []
+
+  markers_behind : (names more : List (List ℕ)) (is : List (Item T)) → is ≡ marker_items more → fold item_behind names is ≡ names ++ more
+  markers_behind names [] is e = ap (fold item_behind names) e ∙ sym (append-nil names)
+  markers_behind names (name ∷ more) is e = ap (fold item_behind names) e ∙ markers_behind (names ++ name ∷ []) more (marker_items more) refl ∙ append_assoc names (name ∷ []) more
+
+  -- markers at the end of items are the last of those
+  last_behind : (is : List (Item T)) (names all : List (List ℕ)) → fold item_behind [] (is ++ marker_items names) ≡ all → AreLastOf names all
+  last_behind is names all e = (fold item_behind [] is, sym (markers_behind (fold item_behind [] is) names (marker_items names) refl) ∙ sym (fold-append item_behind [] is (marker_items names)) ∙ e)
+
+  behind_alike : (names : List (List ℕ)) (is : List (Item T)) (es : List (Entry T)) → AllZip (ShowsEntry (λ a b. a ≡ b)) is es → fold item_behind names is ≡ fold (marked_behind test) names es
+  behind_alike names [] [] h = refl
+  behind_alike names [] (e ∷ es) h = elim h [ ]
+  behind_alike names (i ∷ is) [] h = elim h [ ]
+  behind_alike names (glyph c x ∷ is) (character d a b m ∷ es) h = rw (h.0.0) (behind_alike (if test d then [] else names) is es h.1)
+  behind_alike names (glyph c x ∷ is) (marker_entry name ∷ es) h = elim h.0 [ ]
+  behind_alike names (marker name ∷ is) (character d a b m ∷ es) h = elim h.0 [ ]
+  behind_alike names (marker name ∷ is) (marker_entry other ∷ es) h = rw (h.0) (behind_alike (names ++ other ∷ []) is es h.1)
+
+module _ {T : Type 0} (columns : ℕ → Option ℕ) where
+  -- what isn't shown doesn't count
+  behind_shown : (names : List (List ℕ)) (es : List (Entry T)) → fold (marked_behind (is_visible columns)) names (filter (is_entry_to_show columns) es) ≡ fold (marked_behind (is_visible columns)) names es
+  behind_shown names [] = refl
+  behind_shown names (marker_entry name ∷ es) = behind_shown (names ++ name ∷ []) es
+  behind_shown names (character c a b m ∷ es) = go (λ ns. behind_shown ns es) (is_visible columns c) refl
+    where
+      go : ((ns : List (List ℕ)) → fold (marked_behind (is_visible columns)) ns (filter (is_entry_to_show columns) es) ≡ fold (marked_behind (is_visible columns)) ns es) → (v : Bool) → is_visible columns c ≡ v →
+          fold (marked_behind (is_visible columns)) names (if v then character c a b m ∷ filter (is_entry_to_show columns) es else filter (is_entry_to_show columns) es) ≡ fold (marked_behind (is_visible columns)) (if v then [] else names) es
+      go rest true e = ap (λ (v : Bool). fold (marked_behind (is_visible columns)) (if v then [] else names) (filter (is_entry_to_show columns) es)) e ∙ rest []
+      go rest false e = rest names
+
+  behind_kept : (names : List (List ℕ)) (es : List (Entry T)) → fold (item_behind (is_kept columns)) names (kept_items columns es) ≡ fold (marked_behind (is_kept columns)) names es
+  behind_kept names [] = refl
+  behind_kept names (marker_entry name ∷ es) = behind_kept (names ++ name ∷ []) es
+  behind_kept names (character c a b m ∷ es) = go (λ ns. behind_kept ns es) (is_kept columns c) refl
+    where
+      go : ((ns : List (List ℕ)) → fold (item_behind (is_kept columns)) ns (kept_items columns es) ≡ fold (marked_behind (is_kept columns)) ns es) → (v : Bool) → is_kept columns c ≡ v →
+          fold (item_behind (is_kept columns)) names ((if v then glyph c a ∷ [] else []) ++ kept_items columns es) ≡ fold (marked_behind (is_kept columns)) (if v then [] else names) es
+      go rest true e = ap (λ (v : Bool). fold (item_behind (is_kept columns)) (if v then [] else names) (kept_items columns es)) e ∙ rest []
+      go rest false e = rest names
+
+  -- the markers at the end of items that stand for entries come behind the last visible character, and the last kept one
+  pub waits_behind : (is : List (Item T)) (names : List (List ℕ)) (es : List (Entry T)) → StandFor columns (is ++ marker_items names) es → AreLastOf names (names_behind (is_visible columns) es)
+  waits_behind is names es h =
+      last_behind (is_visible columns) (filter (is_visible_or_marker columns) is) names (names_behind (is_visible columns) es)
+      (ap (fold (item_behind (is_visible columns)) []) (sym (shown_before columns is names))
+      ∙ behind_alike (is_visible columns) [] (filter (is_visible_or_marker columns) (is ++ marker_items names)) (filter (is_entry_to_show columns) es) h.order
+      ∙ behind_shown [] es)
+
+  pub waits_behind_kept : (is : List (Item T)) (names : List (List ℕ)) (es : List (Entry T)) → StandFor columns (is ++ marker_items names) es → IsNormal es → AreLastOf names (names_behind (is_kept columns) es)
+  waits_behind_kept is names es h normal =
+      last_behind (is_kept columns) (without_spaces is) names (names_behind (is_kept columns) es)
+      (ap (fold (item_behind (is_kept columns)) []) (sym (unspaced_before columns is names) ∙ h.kept normal) ∙ behind_kept [] es)
+
+-- ---- moves
+
+module _ {D A : Type 0} (columns : ℕ → Option ℕ) where
+  stands : (r : Renderer D A (List A)) (es ended : List (Entry (List A))) → ended ++ open_run r.block ≡ es → StandFor columns (items_so_far r) ended → Stands columns r es
+  stands r es ended whole h = record {
+    ended = ended;
+    whole = whole;
+    order = h.order;
+    markers = sym (names_before columns (text_of_lines r.lines) r.waiting) ∙ h.names;
+    waits = waits_behind columns (text_of_lines r.lines) r.waiting ended h;
+    kept = h.kept;
+    waits_kept = waits_behind_kept columns (text_of_lines r.lines) r.waiting ended h;
+  }
+
+  stand : (r : Renderer D A (List A)) (es : List (Entry (List A))) → (h : Stands columns r es) → StandFor columns (items_so_far r) h.ended
+  stand r es h = record { order = h.order; names = names_before columns (text_of_lines r.lines) r.waiting ∙ h.markers; kept = h.kept }
+
+  pub new_stands : (width : ℕ) (options : RenderOptions) (decorator : D) → Stands columns (new_renderer {D = D} {A = A} width options decorator) []
+  new_stands width options decorator = stands (new_renderer width options decorator) [] [] refl (nothing_stands columns)
+
+  -- nothing more stands
+  as_before : (r s : Renderer D A (List A)) (es ended : List (Entry (List A))) → SeenBehind (items_so_far r) [] (items_so_far s) → ended ++ open_run s.block ≡ es → StandFor columns (items_so_far r) ended → Stands columns s es
+  as_before r s es ended seen whole h =
+      let k : StandFor columns (items_so_far s) (ended ++ []) = stand_behind columns (items_so_far r) [] (items_so_far s) ended [] seen h (nothing_stands columns) in
+      stands s es ended whole (subst (λ (fs : List (Entry (List A))). StandFor columns (items_so_far s) fs) (append-nil ended) k)
+
+  same_seen : (r s : Renderer D A (List A)) → items_so_far s ≡ items_so_far r → SeenBehind (items_so_far r) [] (items_so_far s)
+  same_seen r s e Y look looks = ap look e ∙ sym (append-nil (look (items_so_far r))) ∙ ap (λ ys. look (items_so_far r) ++ ys) (sym looks.nothing)
+
+  flush_stands : (r s : Renderer D A (List A)) (o : Option (Open (List A))) (es : List (Entry (List A))) → o ≡ r.block → FlushesBlock columns r o s → Stands columns r es → Stands columns s es
+  flush_stands r s None es e h k = subst (λ (q : Renderer D A (List A)). Stands columns q es) (sym h) k
+  flush_stands r s (Some b) es e h k =
+      let after : Renderer D A (List A) = flushed columns r (block_lines columns r b h.texts) h.names in
+      let more : List (Item (List A)) = joined h.texts ++ marker_items h.names in
+      let all : StandFor columns (items_so_far after) (k.ended ++ b.run) =
+      stand_behind columns (items_so_far r) more (items_so_far after) k.ended b.run (λ Y look looks. seen_flushed look looks columns r b h.texts h.names) (stand r es k)
+      (run_stands columns (block_of_run (block_width r) (may_overflow r) b.run) h.texts h.names refl h.ends) in
+      let nothing : open_run after.block ≡ [] = ap open_run (no_block columns (block_lines columns r b h.texts) (record r { block = None }) refl) in
+      let whole : (k.ended ++ b.run) ++ open_run after.block ≡ es =
+      ap (λ (run : List (Entry (List A))). (k.ended ++ b.run) ++ run) nothing ∙ append-nil (k.ended ++ b.run) ∙ ap (λ (p : Option (Open (List A))). k.ended ++ open_run p) e ∙ k.whole in
+      subst (λ (q : Renderer D A (List A)). Stands columns q es) (sym h.is) (stands after es (k.ended ++ b.run) whole all)
+
+  empty_stands : (r s : Renderer D A (List A)) (es : List (Entry (List A))) → s ≡ with_empty_line columns r → Stands columns r es → Stands columns s es
+  empty_stands r s es e k =
+      subst (λ (q : Renderer D A (List A)). Stands columns q es) (sym e)
+      (as_before r (with_empty_line columns r) es k.ended (λ Y look looks. seen_line look looks columns r []) k.whole (stand r es k))
+
+  join_stands : (r s : Renderer D A (List A)) (more es : List (Entry (List A))) → s ≡ with_entries r more → Stands columns r es → Stands columns s (es ++ more)
+  join_stands r s more es e k =
+      let whole : k.ended ++ ((open_block r).run ++ more) ≡ es ++ more =
+      ap (λ (run : List (Entry (List A))). k.ended ++ (run ++ more)) (open_run_is r) ∙ sym (append_assoc k.ended (open_run r.block) more) ∙ ap (λ fs. fs ++ more) k.whole in
+      subst (λ (q : Renderer D A (List A)). Stands columns q (es ++ more)) (sym e) (stands (with_entries r more) (es ++ more) k.ended whole (stand r es k))
+
+  turn_stands : (r s : Renderer D A (List A)) (es : List (Entry (List A))) → SameText r s → Stands columns r es → Stands columns s es
+  turn_stands r s es h k =
+      let same : items_so_far s ≡ items_so_far r = ap (λ (ls : List (Line (List A))). text_of_lines ls ++ marker_items s.waiting) h.lines ∙ ap (λ ns. text_of_lines r.lines ++ marker_items ns) h.waiting in
+      as_before r s es k.ended (same_seen r s same) (ap (λ (o : Option (Open (List A))). k.ended ++ open_run o) h.block ∙ k.whole) (stand r es k)
+
+  move_stands : (m : Move (List A)) (r s : Renderer D A (List A)) (es : List (Entry (List A))) → Makes columns m r s → Stands columns r es → Stands columns s (es ++ brought_by m)
+  move_stands flush r s es h k = subst (Stands columns s) (sym (append-nil es)) (flush_stands r s r.block es refl h k)
+  move_stands empty_line r s es h k = subst (Stands columns s) (sym (append-nil es)) (empty_stands r s es h.1 k)
+  move_stands (join more) r s es h k = join_stands r s more es h k
+  move_stands turn r s es h k = subst (Stands columns s) (sym (append-nil es)) (turn_stands r s es h k)
+
+  pub brings_stands : (decoration : Decoration D A) (calls : List Call) (r s : Renderer D A (List A)) (before es : List (Entry (List A))) →
+      Brings columns decoration calls r es s → Stands columns r before → Stands columns s (before ++ es)
+  brings_stands decoration calls r s before es h k =
+      let path = calls_move columns decoration calls r s es h in
+      subst (λ (fs : List (Entry (List A))). Stands columns s (before ++ fs)) path.brings (along columns (Stands columns) move_stands path.moves r s before path.makes k)

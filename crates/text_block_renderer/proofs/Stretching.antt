@@ -1,0 +1,235 @@
+-- The lines of a run stand together, and no legal layout is ahead of them.
+use Rattle.std.proofs.Common.{◌≡◌, ℕ, ◌==◌, ◌⊎◌, inl, inr, nat_lt, Bool, true, false, not, if◌then◌else◌, Option, Some, None, unwrap_or, List, [], ◌∷◌, ◌++◌, map, flat_map, fold, length, take, drop, refl, ap, sym, ◌∙◌, subst, arith, append_assoc, append-nil}
+use Rattle.std.specs.List.{AllByRecursion as Each}
+use Rattle.std.proofs.lemmas.Bool.{eqb-true}
+use Rattle.std.proofs.lemmas.List.{length-map, map-append, take-map, take-append-drop}
+use Rattle.std.proofs.lemmas.List.Elements.{filter-append}
+use Rattle.tbr_model.specs.Run.{Entry, character, marker_entry, Item, glyph, is_kept, kept_items, items_width, Word, words_of, trailing}
+use Rattle.tbr_model.specs.Layout.{Slot, slot_of, word_slots, slots_of, gap_text, rest_text, line_text, joined, placed}
+use Rattle.tbr_model.specs.Rule.{is_space_item}
+use Rattle.tbr_model.specs.Shown.{without_spaces}
+use Rattle.tbr_model.proofs.lists.Each.{each_front, each_back, each_append}
+use Rattle.tbr_model.proofs.lists.Joined.{joined-append}
+use Rattle.tbr_model.proofs.words.Items.{break_lost}
+use Rattle.tbr_model.proofs.words.KeptItems.{words_hold}
+use Rattle.tbr_lines.specs.State.{EndsRun}
+use Rattle.tbr_lines.specs.Wrapped.{padding_of, HasBestLines}
+use Rattle.tbr_decor.specs.Decoration.{Decoration}
+use Rattle.text_block_renderer.specs.declared.options.RenderOptions.{RenderOptions}
+use Rattle.text_block_renderer.specs.Renderer.{Line, Open, Renderer, new_block, least, overflows, with_line, with_entries, block_width, may_overflow}
+use Rattle.text_block_renderer.specs.Flush.{block_of_run, block_lines, with_run, EndsBlock, FlushesBlock, Flushes}
+use Rattle.text_block_renderer.specs.Calls.{Call, Steps, Brings}
+use Rattle.text_block_renderer.specs.Stretches.{line_of_text, stretch, items_on, NoneIsAhead, StandsAsStretch, StaysOpen, EndsAsStretch}
+use Rattle.text_block_renderer.proofs.Moves.{Move, flush, empty_line, join, turn, SameText, brought, MakesAll, calls_move}
+use Rattle.text_block_renderer.proofs.Growing.{moves_grow, steps_grow}
+
+-- ---- items of lines
+
+abbrev IsNoSpace : {T : Type 0} → Item T → Type 0
+IsNoSpace i = is_space_item i ≡ false
+
+module _ {T : Type 0} where
+  unspaced_gap : (gap : Option T) → without_spaces (gap_text gap) ≡ []
+  unspaced_gap None = refl
+  unspaced_gap (Some a) = refl
+
+  unspaced_one : (i : Item T) → IsNoSpace i → without_spaces (i ∷ []) ≡ i ∷ []
+  unspaced_one i h = rw h refl
+
+  unspaced-append : (is js : List (Item T)) → without_spaces (is ++ js) ≡ without_spaces is ++ without_spaces js
+  unspaced-append is js = filter-append (λ i. not (is_space_item i)) is js
+
+  unspaced_rest : (ss : List (Slot T)) → Each (λ s. IsNoSpace s.item) ss → without_spaces (rest_text ss) ≡ map (λ s. s.item) ss
+  unspaced_rest [] h = refl
+  unspaced_rest (s ∷ ss) h =
+      unspaced-append (gap_text s.gap ++ s.item ∷ []) (rest_text ss)
+      ∙ ap (λ is. is ++ without_spaces (rest_text ss)) (unspaced-append (gap_text s.gap) (s.item ∷ []) ∙ ap (λ is. is ++ without_spaces (s.item ∷ [])) (unspaced_gap s.gap) ∙ unspaced_one s.item h.0)
+      ∙ ap (λ is. s.item ∷ is) (unspaced_rest ss h.1)
+
+  unspaced_line : (ss : List (Slot T)) → Each (λ s. IsNoSpace s.item) ss → without_spaces (line_text ss) ≡ map (λ s. s.item) ss
+  unspaced_line [] h = refl
+  unspaced_line (s ∷ ss) h =
+      unspaced-append (s.item ∷ []) (rest_text ss) ∙ ap (λ is. is ++ without_spaces (rest_text ss)) (unspaced_one s.item h.0) ∙ ap (λ is. s.item ∷ is) (unspaced_rest ss h.1)
+
+  unspaced_lines : (ls : List (List (Slot T))) → Each (λ s. IsNoSpace s.item) (joined ls) → without_spaces (joined (map line_text ls)) ≡ map (λ s. s.item) (joined ls)
+  unspaced_lines [] h = refl
+  unspaced_lines (l ∷ ls) h =
+      unspaced-append (line_text l) (joined (map line_text ls))
+      ∙ ap (λ is. is ++ without_spaces (joined (map line_text ls))) (unspaced_line l (each_front (λ s. IsNoSpace s.item) l (joined ls) h))
+      ∙ ap (λ is. map (λ s. s.item) l ++ is) (unspaced_lines ls (each_back (λ s. IsNoSpace s.item) l (joined ls) h))
+      ∙ sym (map-append (λ s. s.item) l (joined ls))
+
+  -- as many items stand on the first lines as the layout has placed there
+  placed_on : (n : ℕ) (ls : List (List (Slot T))) → Each (λ s. IsNoSpace s.item) (joined ls) → items_on n (map line_text ls) ≡ placed n ls
+  placed_on n ls h =
+      let parts : joined (take n ls) ++ joined (drop n ls) ≡ joined ls = sym (joined-append (take n ls) (drop n ls)) ∙ ap joined (take-append-drop n ls) in
+      let first = each_front (λ (s : Slot T). IsNoSpace s.item) (joined (take n ls)) (joined (drop n ls)) (subst (Each (λ (s : Slot T). IsNoSpace s.item)) (sym parts) h) in
+      ap (λ ts. length (without_spaces (joined ts))) (take-map line_text n ls) ∙ ap length (unspaced_lines (take n ls) first) ∙ length-map (joined (take n ls)) (λ s. s.item)
+
+-- ---- the slots of a run are no spaces
+
+module _ {T : Type 0} (columns : ℕ → Option ℕ) where
+  kept_no_space : (c : ℕ) (a : T) → is_kept columns c ≡ true → IsNoSpace (glyph c a)
+  kept_no_space c a h = go (c == 32) refl
+    where
+      go : (b : Bool) → c == 32 ≡ b → c == 32 ≡ false
+      go false e = e
+      go true e = absurd (let lost : is_kept columns c ≡ false = ap (is_kept columns) (eqb-true c 32 e) ∙ break_lost columns 32 refl in let no : true ≡ false = sym h ∙ lost in cc)
+
+  kept_no_spaces : (run : List (Entry T)) → Each IsNoSpace (kept_items columns run)
+  kept_no_spaces [] = tt
+  kept_no_spaces (marker_entry name ∷ es) = (refl, kept_no_spaces es)
+  kept_no_spaces (character c a b m ∷ es) = go (is_kept columns c) refl (kept_no_spaces es)
+    where
+      go : (k : Bool) → is_kept columns c ≡ k → Each IsNoSpace (kept_items columns es) → Each IsNoSpace ((if k then glyph c a ∷ [] else []) ++ kept_items columns es)
+      go true e rest = (kept_no_space c a e, rest)
+      go false e rest = rest
+
+  within : (wider : Bool) (is : List (Item T)) → Each IsNoSpace is → Each (λ s. IsNoSpace s.item) (map (slot_of columns wider None false) is)
+  within wider [] h = tt
+  within wider (i ∷ is) h = (h.0, within wider is h.1)
+
+  word_no_spaces : (width : ℕ) (w : Word T) → Each IsNoSpace w.items → Each (λ s. IsNoSpace s.item) (word_slots columns width w)
+  word_no_spaces width w h = go w.items refl h
+    where
+      go : (is : List (Item T)) → w.items ≡ is → Each IsNoSpace is → Each (λ s. IsNoSpace s.item) (word_slots columns width w)
+      go [] e k = rw e tt
+      go (i ∷ is) e k = rw e ((k.0, within (nat_lt width (items_width columns (i ∷ is))) is k.1))
+
+  words_no_spaces : (width : ℕ) (ws : List (Word T)) → Each IsNoSpace (flat_map (λ w. w.items) ws) → Each (λ s. IsNoSpace s.item) (flat_map (word_slots columns width) ws)
+  words_no_spaces width [] h = tt
+  words_no_spaces width (w ∷ ws) h =
+      each_append (λ s. IsNoSpace s.item) (word_slots columns width w) (flat_map (word_slots columns width) ws)
+      (word_no_spaces width w (each_front IsNoSpace w.items (flat_map (λ v. v.items) ws) h)) (words_no_spaces width ws (each_back IsNoSpace w.items (flat_map (λ v. v.items) ws) h))
+
+  slots_no_spaces : (width : ℕ) (run : List (Entry T)) → Each (λ s. IsNoSpace s.item) (slots_of columns width run)
+  slots_no_spaces width run =
+      words_no_spaces width (words_of columns run)
+      (each_front IsNoSpace (flat_map (λ w. w.items) (words_of columns run)) (trailing columns run) (subst (Each IsNoSpace) (sym (words_hold columns run)) (kept_no_spaces run)))
+
+  pub none_ahead : (width : ℕ) (run : List (Entry T)) (texts : List (List (Item T))) → HasBestLines columns width run texts → NoneIsAhead columns width run texts
+  none_ahead width run texts h others legal n =
+      let whole : Each (λ (s : Slot T). IsNoSpace s.item) (joined h.lines) = subst (Each (λ (s : Slot T). IsNoSpace s.item)) (sym h.best.legal.whole) (slots_no_spaces width run) in
+      let on : items_on n texts ≡ placed n h.lines = ap (items_on n) h.shown ∙ placed_on n h.lines whole in
+      omega (arith, on, h.best.ahead others legal n)
+
+-- ---- the lines that a run adds
+
+module _ {D A : Type 0} (columns : ℕ → Option ℕ) where
+  other_lines : (b : Open (List A)) (ts : List (List (Item (List A)))) (r : Renderer D A (List A)) → r.waiting ≡ [] → (fold (with_line columns) r (block_lines columns r b ts)).lines ≡ r.lines ++ map (λ is. line_of_text columns r b [] is) ts
+  other_lines b [] r none = sym (append-nil r.lines)
+  other_lines b (t ∷ ts) r none =
+      other_lines b ts (with_line columns r (t ++ padding_of columns b.padding (block_width r) t)) refl
+      ∙ append_assoc r.lines (line_of_text columns r b r.waiting t ∷ []) (map (λ is. line_of_text columns r b [] is) ts)
+      ∙ ap (λ ns. r.lines ++ line_of_text columns r b ns t ∷ map (λ is. line_of_text columns r b [] is) ts) none
+
+  lines_added : (b : Open (List A)) (ts : List (List (Item (List A)))) (r : Renderer D A (List A)) → (fold (with_line columns) r (block_lines columns r b ts)).lines ≡ r.lines ++ stretch columns r b ts
+  lines_added b [] r = sym (append-nil r.lines)
+  lines_added b (t ∷ ts) r =
+      other_lines b ts (with_line columns r (t ++ padding_of columns b.padding (block_width r) t)) refl
+      ∙ append_assoc r.lines (line_of_text columns r b r.waiting t ∷ []) (map (λ is. line_of_text columns r b [] is) ts)
+
+  -- the same lines come of renderers and blocks that pad alike, and of which the same markers wait
+  same_stretch : (r q : Renderer D A (List A)) (b c : Open (List A)) (ts : List (List (Item (List A)))) → q.width ≡ r.width → q.options ≡ r.options → q.annotations ≡ r.annotations → q.waiting ≡ r.waiting → c.padding ≡ b.padding →
+      stretch columns q c ts ≡ stretch columns r b ts
+  same_stretch r q b c [] width options annotations waiting padding = refl
+  same_stretch r q b c (t ∷ ts) width options annotations waiting padding =
+      ap (λ w. lines_of w q.options q.annotations q.waiting c.padding) width ∙ ap (λ o. lines_of r.width o q.annotations q.waiting c.padding) options ∙ ap (λ a. lines_of r.width r.options a q.waiting c.padding) annotations
+      ∙ ap (λ ns. lines_of r.width r.options r.annotations ns c.padding) waiting ∙ ap (λ p. lines_of r.width r.options r.annotations r.waiting p) padding
+    where
+      lines_of : ℕ → RenderOptions → List A → List (List ℕ) → Option (List A) → List (Line (List A))
+      lines_of w o a ns p = stretch columns (record r { width = w; options = o; annotations = a; waiting = ns }) (record b { padding = p }) (t ∷ ts)
+
+  -- ---- the end of a run
+
+  pub flush_adds : (r q : Renderer D A (List A)) (b : Open (List A)) → (h : EndsBlock columns r b q) → q.lines ≡ r.lines ++ stretch columns r b h.texts
+  flush_adds r q b h =
+      ap (λ (p : Renderer D A (List A)). p.lines) h.is ∙ lines_added b h.texts (record r { block = None })
+      ∙ ap (λ ls. r.lines ++ ls) (same_stretch r (record r { block = None }) b b h.texts refl refl refl refl refl)
+
+  as_stretch : (r q s : Renderer D A (List A)) (b : Open (List A)) → EndsBlock columns r b q → (more : List (Line (List A))) × (s.lines ≡ q.lines ++ more) → StandsAsStretch columns r b s.lines
+  as_stretch r q s b h grows = record {
+    texts = h.texts;
+    names = h.names;
+    ends = h.ends;
+    ahead = λ narrow normal. none_ahead columns (block_width r) b.run h.texts (h.ends.shown.best narrow normal);
+    behind = grows.0;
+    is = grows.1 ∙ ap (λ ls. ls ++ grows.0) (flush_adds r q b h);
+  }
+
+  -- where nothing changed but what the block and the annotations are
+  as_before : (r q : Renderer D A (List A)) (b : Open (List A)) (lines : List (Line (List A))) → q.lines ≡ r.lines → q.width ≡ r.width → q.options ≡ r.options → q.annotations ≡ r.annotations → q.waiting ≡ r.waiting →
+      StandsAsStretch columns q b lines → StandsAsStretch columns r b lines
+  as_before r q b lines same width options annotations waiting h = record {
+    texts = h.texts;
+    names = h.names;
+    ends = ends;
+    ahead = λ narrow normal. none_ahead columns (block_width r) b.run h.texts (ends.shown.best narrow normal);
+    behind = h.behind;
+    is = h.is ∙ ap (λ ls. ls ++ stretch columns q b h.texts ++ h.behind) same ∙ ap (λ ls. r.lines ++ ls ++ h.behind) (same_stretch r q b b h.texts width options annotations waiting refl);
+  }
+    where
+      ends : EndsRun columns (block_of_run (block_width r) (may_overflow r) b.run) h.texts h.names
+      ends =
+          subst (λ (w : ℕ). EndsRun columns (block_of_run (least w r.options.wrap_width) (overflows r.options (least w r.options.wrap_width)) b.run) h.texts h.names) width
+          (subst (λ (o : RenderOptions). EndsRun columns (block_of_run (least q.width o.wrap_width) (overflows o (least q.width o.wrap_width)) b.run) h.texts h.names) options h.ends)
+
+  flush_stands : (r q s : Renderer D A (List A)) (b : Open (List A)) → r.block ≡ Some b → Flushes columns r q → (more : List (Line (List A))) × (s.lines ≡ q.lines ++ more) → StandsAsStretch columns r b s.lines
+  flush_stands r q s b open_block_is h grows = as_stretch r q s b (subst (λ (o : Option (Open (List A))). FlushesBlock columns r o q) open_block_is h) grows
+
+  pub stands_for_good : (decoration : Decoration D A) (calls : List Call) (r q s : Renderer D A (List A)) (b : Open (List A)) → r.block ≡ Some b → Flushes columns r q → Steps columns decoration calls q s → StandsAsStretch columns r b s.lines
+  stands_for_good decoration calls r q s b open_block_is h steps = flush_stands r q s b open_block_is h (steps_grow columns decoration calls q s steps)
+
+  -- ---- an open run
+
+  -- Entries joined the run, and nothing else of lines changed.
+  record Since (r : Renderer D A (List A)) (b : Open (List A)) (es : List (Entry (List A))) (q : Renderer D A (List A)) : Type 0 where
+    text : StaysOpen r b es q
+    width : q.width ≡ r.width
+    options : q.options ≡ r.options
+
+  joined_more : (r q s : Renderer D A (List A)) (b : Open (List A)) (es more : List (Entry (List A))) → Since r b es q → s ≡ with_entries q more → Since r b (es ++ more) s
+  joined_more r q s b es more since h = record {
+    text = record {
+      lines = ap (λ (p : Renderer D A (List A)). p.lines) h ∙ since.text.lines;
+      block = ap (λ (p : Renderer D A (List A)). p.block) h ∙ ap (λ (o : Option (Open (List A))). let c = unwrap_or o (new_block q) in Some (with_run c more)) since.text.block
+          ∙ ap (λ (run : List (Entry (List A))). Some (record b { run = run })) (append_assoc b.run es more);
+      waiting = ap (λ (p : Renderer D A (List A)). p.waiting) h ∙ since.text.waiting;
+    };
+    width = ap (λ (p : Renderer D A (List A)). p.width) h ∙ since.width;
+    options = ap (λ (p : Renderer D A (List A)). p.options) h ∙ since.options;
+  }
+
+  turned : (r q s : Renderer D A (List A)) (b : Open (List A)) (es : List (Entry (List A))) → Since r b es q → SameText q s → Since r b es s
+  turned r q s b es since h = record {
+    text = record { lines = h.lines ∙ since.text.lines; block = h.block ∙ since.text.block; waiting = h.waiting ∙ since.text.waiting };
+    width = h.width ∙ since.width;
+    options = h.options ∙ since.options;
+  }
+
+  run_ends : (ms : List (Move (List A))) (r q s : Renderer D A (List A)) (b : Open (List A)) (es : List (Entry (List A))) → Since r b es q → MakesAll columns ms q s → StaysOpen r b (es ++ brought ms) s ⊎ EndsAsStretch columns r b (es ++ brought ms) s
+  run_ends [] r q s b es since h =
+      inl (subst (λ (p : Renderer D A (List A)). StaysOpen r b (es ++ []) p) (sym h) (subst (λ (fs : List (Entry (List A))). StaysOpen r b fs q) (sym (append-nil es)) since.text))
+  run_ends (flush ∷ ms) r q s b es since h = inr (record {
+    more = es;
+    later = brought ms;
+    came = refl;
+    annotations = q.annotations;
+    stands = as_before (record r { annotations = q.annotations }) q (with_run b es) s.lines since.text.lines since.width since.options refl since.text.waiting
+        (flush_stands q h.0 s (with_run b es) since.text.block h.1 (moves_grow columns ms h.0 s h.2));
+  })
+  run_ends (empty_line ∷ ms) r q s b es since h = absurd (let no : Some (with_run b es) ≡ None = sym since.text.block ∙ h.1.0 in cc)
+  run_ends (join more ∷ ms) r q s b es since h =
+      subst (λ (fs : List (Entry (List A))). StaysOpen r b fs s ⊎ EndsAsStretch columns r b fs s) (append_assoc es more (brought ms))
+      (run_ends ms r h.0 s b (es ++ more) (joined_more r q h.0 b es more since h.1) h.2)
+  run_ends (turn ∷ ms) r q s b es since h = run_ends ms r h.0 s b es (turned r q h.0 b es since h.1) h.2
+
+  pub brings_end : (decoration : Decoration D A) (calls : List Call) (r s : Renderer D A (List A)) (b : Open (List A)) (es : List (Entry (List A))) → r.block ≡ Some b → Brings columns decoration calls r es s → StaysOpen r b es s ⊎ EndsAsStretch columns r b es s
+  brings_end decoration calls r s b es open_block_is h =
+      let path = calls_move columns decoration calls r s es h in
+      let none_yet : Since r b [] r = record {
+        text = record { lines = refl; block = open_block_is ∙ ap (λ (run : List (Entry (List A))). Some (record b { run = run })) (sym (append-nil b.run)); waiting = refl };
+        width = refl;
+        options = refl;
+      } in
+      subst (λ (fs : List (Entry (List A))). StaysOpen r b fs s ⊎ EndsAsStretch columns r b fs s) path.brings (run_ends path.moves r r s b [] none_yet path.makes)

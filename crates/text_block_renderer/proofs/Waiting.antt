@@ -1,0 +1,237 @@
+-- Markers that wait, where a run ends and until a line of text comes.
+use Rattle.std.proofs.Common.{◌≡◌, ℕ, ◌&&◌, ◌||◌, nat_lt, Bool, true, false, Option, Some, None, List, [], ◌∷◌, ◌++◌, map, fold, refl, ap, sym, ◌∙◌, subst, arith, append_assoc, append-nil}
+use Rattle.tbr_model.specs.Run.{Entry, Item, is_kept, items_of, kept_items, first_of, blank_of, has_character, is_break_entry, Reading, start, works, read, trailing}
+use Rattle.tbr_model.specs.Layout.{slots_of, line_text, joined, HasNoEmptyLine}
+use Rattle.tbr_model.specs.Markers.{names_in_items, names_in_run, marker_items, marker_run, marked_behind, names_behind}
+use Rattle.tbr_model.specs.Hard.{is_visible}
+use Rattle.tbr_model.specs.Shown.{without_spaces}
+use Rattle.tbr_model.proofs.words.Items.{no_character_no_width, has_character-append}
+use Rattle.tbr_lines.specs.State.{IsNormal}
+use Rattle.tbr_lines.specs.Wrapped.{HasBestLines}
+use Rattle.tbr_decor.specs.Decoration.{Decoration}
+use Rattle.text_block_renderer.specs.Renderer.{Line, text, border, Open, Renderer, with_line, block_width, may_overflow, open_run, line_padding}
+use Rattle.text_block_renderer.specs.Flush.{block_of_run, block_lines, flushed, FlushesBlock, Flushes, EndsBlock}
+use Rattle.text_block_renderer.specs.Steps.{with_empty_line}
+use Rattle.text_block_renderer.specs.Calls.{Call, Steps}
+use Rattle.text_block_renderer.specs.MarkersStand.{items_so_far, FlushStands, first_text, WaitForText}
+use Rattle.text_block_renderer.proofs.Moves.{Move, flush, empty_line, join, turn, Makes, through, steps_move}
+use Rattle.text_block_renderer.proofs.LookingAtLines.{marker_items-append, seen_flushed}
+use Rattle.text_block_renderer.proofs.Standing.{StandFor, at_unspaced, stand_behind, markers_stand, run_stands, waits_behind, waits_behind_kept}
+
+-- ---- a run without a kept character
+
+no_width_works : {T : Type 0} (columns : ℕ → Option ℕ) (r : Reading T) (e : Entry T) → has_character r.items ≡ false → works columns r e ≡ false
+no_width_works columns r e none = ap (λ n. is_break_entry e && nat_lt 0 n) (no_character_no_width columns r.items none) ∙ go (is_break_entry e)
+  where
+    go : (b : Bool) → b && false ≡ false
+    go true = refl
+    go false = refl
+
+no_word_read : {T : Type 0} (columns : ℕ → Option ℕ) (es : List (Entry T)) (r : Reading T) → r.words ≡ [] → has_character r.items ≡ false → has_character (kept_items columns es) ≡ false →
+    ((fold (read columns) r es).words ≡ []) × (has_character (fold (read columns) r es).items ≡ false)
+no_word_read columns [] r words none kept = (words, none)
+no_word_read {T} columns (e ∷ es) r words none kept =
+    let (first, rest) = neither (has_character (items_of columns e)) (has_character (kept_items columns es)) (sym (has_character-append (items_of columns e) (kept_items columns es)) ∙ kept) in
+    let goes_on : read columns r e ≡ record { words = r.words; gap = first_of r.gap (blank_of e); items = r.items ++ items_of columns e } = rw (no_width_works columns r e none) refl in
+    no_word_read columns es (read columns r e)
+    (ap (λ (q : Reading T). q.words) goes_on ∙ words)
+    (ap (λ (q : Reading T). has_character q.items) goes_on ∙ has_character-append r.items (items_of columns e) ∙ ap (λ b. b || has_character (items_of columns e)) none ∙ first)
+    rest
+  where
+    neither : (a b : Bool) → a || b ≡ false → (a ≡ false) × (b ≡ false)
+    neither true b h = cc
+    neither false b h = (refl, h)
+
+no_slots : {T : Type 0} (columns : ℕ → Option ℕ) (width : ℕ) (run : List (Entry T)) → has_character (kept_items columns run) ≡ false → slots_of columns width run ≡ []
+no_slots columns width run none = let (words, items) = no_word_read columns run start refl refl none in rw (items, words) refl
+
+no_lines_laid : {X : Type 0} (ls : List (List X)) → joined ls ≡ [] → HasNoEmptyLine ls → ls ≡ []
+no_lines_laid [] e full = refl
+no_lines_laid ([] ∷ ls) e full = absurd (omega (arith, full.0))
+no_lines_laid ((x ∷ l) ∷ ls) e full = cc
+
+no_lines : {T : Type 0} (columns : ℕ → Option ℕ) (width : ℕ) (run : List (Entry T)) (texts : List (List (Item T))) → HasBestLines columns width run texts → has_character (kept_items columns run) ≡ false → texts ≡ []
+no_lines columns width run texts h none = h.shown ∙ ap (map line_text) (no_lines_laid h.lines (h.best.legal.whole ∙ no_slots columns width run none) h.best.full)
+
+-- ---- a flush
+
+no_character : {T : Type 0} (names : List (List ℕ)) (is : List (Item T)) → is ≡ marker_items names → has_character is ≡ false
+no_character [] is e = ap has_character e
+no_character (name ∷ names) is e = ap has_character e ∙ no_character names (marker_items names) refl
+
+normal_behind : {T : Type 0} (names : List (List ℕ)) (run : List (Entry T)) → IsNormal run → IsNormal (marker_run names ++ run)
+normal_behind [] run h = h
+normal_behind (name ∷ names) run h = (tt, normal_behind names run h)
+
+names_of_marker_run : {T : Type 0} (test : ℕ → Bool) (run : List (Entry T)) (old names : List (List ℕ)) → run ≡ marker_run names → fold (marked_behind test) old run ≡ old ++ names
+names_of_marker_run test run old [] e = ap (fold (marked_behind test) old) e ∙ sym (append-nil old)
+names_of_marker_run test run old (name ∷ names) e = ap (fold (marked_behind test) old) e ∙ names_of_marker_run test (marker_run names) (old ++ name ∷ []) names refl ∙ append_assoc old (name ∷ []) names
+
+module _ {D A : Type 0} (columns : ℕ → Option ℕ) where
+  none_wait : (q : Renderer D A (List A)) (ts : List (List (Item (List A)))) → q.waiting ≡ [] → (fold (with_line columns) q ts).waiting ≡ []
+  none_wait q [] e = e
+  none_wait q (t ∷ ts) e = none_wait (with_line columns q t) ts refl
+
+  -- a block without lines: its markers wait behind the others
+  bare_flush : (r s : Renderer D A (List A)) (b : Open (List A)) → (h : EndsBlock columns r b s) → h.texts ≡ [] → s ≡ record r { block = None; waiting = r.waiting ++ h.names }
+  bare_flush r s b h none = h.is ∙ ap (λ (ts : List (List (Item (List A)))). flushed columns r (block_lines columns r b ts) h.names) none
+
+  -- and with lines its markers alone wait
+  full_flush : (r s : Renderer D A (List A)) (b : Open (List A)) (t : List (Item (List A))) (ts : List (List (Item (List A)))) → (h : EndsBlock columns r b s) → h.texts ≡ t ∷ ts → s.waiting ≡ h.names
+  full_flush r s b t ts h some =
+      ap (λ (q : Renderer D A (List A)). q.waiting) h.is ∙ ap (λ (ls : List (List (Item (List A)))). (flushed columns r (block_lines columns r b ls) h.names).waiting) some
+      ∙ ap (λ ns. ns ++ h.names) (none_wait (with_line columns (record r { block = None }) _) (block_lines columns r b ts) refl)
+
+  -- what waited counts as the first of the run
+  stand_flushed : (r s : Renderer D A (List A)) (b : Open (List A)) → EndsBlock columns r b s → (is : List (Item (List A))) × StandFor columns (is ++ marker_items s.waiting) (marker_run r.waiting ++ b.run)
+  stand_flushed r s b h = go h.texts refl
+    where
+      all : StandFor columns (marker_items r.waiting ++ (joined h.texts ++ marker_items h.names)) (marker_run r.waiting ++ b.run)
+      all =
+          stand_behind columns (marker_items r.waiting) (joined h.texts ++ marker_items h.names) (marker_items r.waiting ++ (joined h.texts ++ marker_items h.names)) (marker_run r.waiting) b.run
+          (λ Y look looks. looks.append (marker_items r.waiting) (joined h.texts ++ marker_items h.names)) (markers_stand columns r.waiting)
+          (run_stands columns (block_of_run (block_width r) (may_overflow r) b.run) h.texts h.names refl h.ends)
+
+      go : (ts : List (List (Item (List A)))) → h.texts ≡ ts → (is : List (Item (List A))) × StandFor columns (is ++ marker_items s.waiting) (marker_run r.waiting ++ b.run)
+      go [] e =
+          let same : marker_items r.waiting ++ (joined h.texts ++ marker_items h.names) ≡ marker_items s.waiting =
+          ap (λ (ls : List (List (Item (List A)))). marker_items r.waiting ++ (joined ls ++ marker_items h.names)) e ∙ sym (marker_items-append r.waiting h.names) ∙ ap (λ (q : Renderer D A (List A)). marker_items q.waiting) (sym (bare_flush r s b h e)) in
+          ([], subst (λ (is : List (Item (List A))). StandFor columns is (marker_run r.waiting ++ b.run)) same all)
+      go (t ∷ ts) e =
+          let same : marker_items r.waiting ++ (joined h.texts ++ marker_items h.names) ≡ (marker_items r.waiting ++ joined h.texts) ++ marker_items s.waiting =
+          sym (append_assoc (marker_items r.waiting) (joined h.texts) (marker_items h.names)) ∙ ap (λ ns. (marker_items r.waiting ++ joined h.texts) ++ marker_items ns) (sym (full_flush r s b t ts h e)) in
+          (marker_items r.waiting ++ joined h.texts, subst (λ (is : List (Item (List A))). StandFor columns is (marker_run r.waiting ++ b.run)) same all)
+
+  trails : (r s : Renderer D A (List A)) (b : Open (List A)) → EndsBlock columns r b s → may_overflow r ≡ false → IsNormal b.run → has_character (kept_items columns b.run) ≡ true → marker_items s.waiting ≡ trailing columns b.run
+  trails r s b h narrow normal some = go h.texts refl
+    where
+      go : (ts : List (List (Item (List A)))) → h.texts ≡ ts → marker_items s.waiting ≡ trailing columns b.run
+      go (t ∷ ts) e = ap marker_items (full_flush r s b t ts h e) ∙ h.ends.waits narrow normal
+      go [] e =
+          let kept : marker_items h.names ≡ kept_items columns b.run = ap (λ (ls : List (List (Item (List A)))). without_spaces (joined ls) ++ marker_items h.names) (sym e) ∙ h.ends.kept normal in
+          let none : has_character (kept_items columns b.run) ≡ false = no_character h.names (kept_items columns b.run) (sym kept) in
+          absurd (let no : true ≡ false = sym some ∙ none in cc)
+
+  bare : (r s : Renderer D A (List A)) (b : Open (List A)) → EndsBlock columns r b s → may_overflow r ≡ false → IsNormal b.run → has_character (kept_items columns b.run) ≡ false → (s.lines ≡ r.lines) × (s.waiting ≡ r.waiting ++ names_in_run b.run)
+  bare r s b h narrow normal none =
+      let texts : h.texts ≡ [] = no_lines columns (block_width r) b.run h.texts (h.ends.shown.best narrow normal) none in
+      let is = bare_flush r s b h texts in
+      let names : h.names ≡ names_in_run b.run = ap (λ (ls : List (List (Item (List A)))). names_in_items (joined ls) ++ h.names) (sym texts) ∙ h.ends.markers in
+      (ap (λ (q : Renderer D A (List A)). q.lines) is, ap (λ (q : Renderer D A (List A)). q.waiting) is ∙ ap (λ ns. r.waiting ++ ns) names)
+
+  flush_stands : (r s : Renderer D A (List A)) (o : Option (Open (List A))) → FlushesBlock columns r o s → FlushStands columns (open_run o) r s
+  flush_stands r s None h = record {
+    waits = ([], same (is_visible columns));
+    waits_kept = λ normal. ([], same (is_kept columns));
+    kept = λ normal. ap (λ (q : Renderer D A (List A)). without_spaces (items_so_far q)) h ∙ sym (append-nil (without_spaces (items_so_far r)));
+    trails = λ narrow normal some. cc;
+    bare = λ narrow normal none. (ap (λ (q : Renderer D A (List A)). q.lines) h, ap (λ (q : Renderer D A (List A)). q.waiting) h ∙ sym (append-nil r.waiting));
+  }
+    where
+      first : List (Entry (List A))
+      first = marker_run r.waiting
+
+      same : (test : ℕ → Bool) → s.waiting ≡ names_behind {A = List A} test (first ++ [])
+      same test = ap (λ (q : Renderer D A (List A)). q.waiting) h ∙ sym (names_of_marker_run test first [] r.waiting refl) ∙ ap (names_behind test) (sym (append-nil first))
+  flush_stands r s (Some b) h =
+      let (is, all) = stand_flushed r s b h in record {
+        waits = waits_behind columns is s.waiting (marker_run r.waiting ++ b.run) all;
+        waits_kept = λ normal. waits_behind_kept columns is s.waiting (marker_run r.waiting ++ b.run) all (normal_behind r.waiting b.run normal);
+        kept = λ normal.
+            ap (λ (q : Renderer D A (List A)). without_spaces (items_so_far q)) h.is ∙ seen_flushed without_spaces at_unspaced columns r b h.texts h.names
+            ∙ ap (λ js. without_spaces (items_so_far r) ++ js) ((run_stands columns (block_of_run (block_width r) (may_overflow r) b.run) h.texts h.names refl h.ends).kept normal);
+        trails = trails r s b h;
+        bare = bare r s b h;
+      }
+
+  pub flushes_stand : (r s : Renderer D A (List A)) → Flushes columns r s → FlushStands columns (open_run r.block) r s
+  flushes_stand r s h = flush_stands r s r.block h
+
+-- ---- until a line of text comes
+
+first_text-append : {T : Type 0} (ls ms : List (Line T)) → first_text ls ≡ None → first_text (ls ++ ms) ≡ first_text ms
+first_text-append [] ms e = refl
+first_text-append (text is ∷ ls) ms e = cc
+first_text-append (border b ∷ ls) ms e = first_text-append ls ms e
+
+first_text_stays : {T : Type 0} (ls ms : List (Line T)) (is : List (Item T)) → first_text ls ≡ Some is → first_text (ls ++ ms) ≡ Some is
+first_text_stays [] ms is e = cc
+first_text_stays (text js ∷ ls) ms is e = e
+first_text_stays (border b ∷ ls) ms is e = first_text_stays ls ms is e
+
+module _ {D A : Type 0} where
+  wait_on : (r q s : Renderer D A (List A)) → WaitForText r q → WaitForText q s → WaitForText r s
+  wait_on r q s g h = go (first_text g.more) refl
+    where
+      lines : s.lines ≡ r.lines ++ (g.more ++ h.more)
+      lines = h.lines ∙ ap (λ ls. ls ++ h.more) g.lines ∙ append_assoc r.lines g.more h.more
+
+      go : (o : Option (List (Item (List A)))) → first_text g.more ≡ o → WaitForText r s
+      go (Some js) e = record {
+        more = g.more ++ h.more;
+        lines = lines;
+        stand = λ is first. g.stand is (let same : Some js ≡ Some is = sym (first_text_stays g.more h.more js e) ∙ first in e ∙ same);
+        wait = λ none. let no : Some js ≡ None = sym (first_text_stays g.more h.more js e) ∙ none in cc;
+      }
+      go None e =
+          let (rest, here) = g.wait e in
+          let same : first_text (g.more ++ h.more) ≡ first_text h.more = first_text-append g.more h.more e in record {
+            more = g.more ++ h.more;
+            lines = lines;
+            stand = λ is first.
+                let (behind, there) = h.stand is (sym same ∙ first) in
+                (marker_items rest ++ behind, there ∙ ap (λ ns. marker_items ns ++ behind) here ∙ ap (λ js. js ++ behind) (marker_items-append r.waiting rest) ∙ append_assoc (marker_items r.waiting) (marker_items rest) behind);
+            wait = λ none.
+                let (behind, there) = h.wait (sym same ∙ none) in
+                (rest ++ behind, there ∙ ap (λ ns. ns ++ behind) here ∙ append_assoc r.waiting rest behind);
+          }
+
+  -- no line came, and more markers may wait
+  no_line_came : (r s : Renderer D A (List A)) (names : List (List ℕ)) → s.lines ≡ r.lines → s.waiting ≡ r.waiting ++ names → WaitForText r s
+  no_line_came r s names lines waiting = record {
+    more = [];
+    lines = lines ∙ sym (append-nil r.lines);
+    stand = λ is first. cc;
+    wait = λ none. (names, waiting);
+  }
+
+  same_wait : (r s : Renderer D A (List A)) → s.lines ≡ r.lines → s.waiting ≡ r.waiting → WaitForText r s
+  same_wait r s lines waiting = no_line_came r s [] lines (waiting ∙ sym (append-nil r.waiting))
+
+module _ {D A : Type 0} (columns : ℕ → Option ℕ) where
+  line_came : (r : Renderer D A (List A)) (t : List (Item (List A))) → WaitForText r (with_line columns r t)
+  line_came r t =
+      let marked : List (Item (List A)) = marker_items r.waiting ++ t in
+      let full : List (Item (List A)) = marked ++ line_padding columns r marked in record {
+        more = text full ∷ [];
+        lines = refl;
+        stand = λ is first. (t ++ line_padding columns r marked, let same : is ≡ full = cc in same ∙ append_assoc (marker_items r.waiting) t (line_padding columns r marked));
+        wait = λ none. cc;
+      }
+
+  lines_came : (ts : List (List (Item (List A)))) (r : Renderer D A (List A)) → WaitForText r (fold (with_line columns) r ts)
+  lines_came [] r = same_wait r r refl refl
+  lines_came (t ∷ ts) r = wait_on r (with_line columns r t) (fold (with_line columns) (with_line columns r t) ts) (line_came r t) (lines_came ts (with_line columns r t))
+
+  flush_waits : (r s : Renderer D A (List A)) (o : Option (Open (List A))) → FlushesBlock columns r o s → WaitForText r s
+  flush_waits r s None h = same_wait r s (ap (λ (q : Renderer D A (List A)). q.lines) h) (ap (λ (q : Renderer D A (List A)). q.waiting) h)
+  flush_waits r s (Some b) h =
+      let closed : Renderer D A (List A) = record r { block = None } in
+      let after : Renderer D A (List A) = fold (with_line columns) closed (block_lines columns r b h.texts) in
+      subst (λ (q : Renderer D A (List A)). WaitForText r q) (sym h.is)
+      (wait_on r after (record after { waiting = after.waiting ++ h.names })
+      (wait_on r closed after (same_wait r closed refl refl) (lines_came (block_lines columns r b h.texts) closed))
+      (no_line_came after (record after { waiting = after.waiting ++ h.names }) h.names refl refl))
+
+  move_waits : (m : Move (List A)) (r s : Renderer D A (List A)) → Makes columns m r s → WaitForText r s
+  move_waits flush r s h = flush_waits r s r.block h
+  move_waits empty_line r s h =
+      subst (λ (q : Renderer D A (List A)). WaitForText r q) (sym h.1)
+      (wait_on r (with_line columns r []) (with_empty_line columns r) (line_came r []) (same_wait (with_line columns r []) (with_empty_line columns r) refl refl))
+  move_waits (join es) r s h = same_wait r s (ap (λ (q : Renderer D A (List A)). q.lines) h) (ap (λ (q : Renderer D A (List A)). q.waiting) h)
+  move_waits turn r s h = same_wait r s h.lines h.waiting
+
+  pub steps_wait : (decoration : Decoration D A) (calls : List Call) (r s : Renderer D A (List A)) → Steps columns decoration calls r s → WaitForText r s
+  steps_wait decoration calls r s h =
+      let (ms, makes) = steps_move columns decoration calls r s h in
+      through columns WaitForText (λ r s e. same_wait r s (ap (λ (q : Renderer D A (List A)). q.lines) e) (ap (λ (q : Renderer D A (List A)). q.waiting) e)) wait_on move_waits ms r s makes

@@ -1,0 +1,100 @@
+-- The lines of a run, which stand together for good.
+use Rattle.std.specs.Prelude.{◌≡◌, ℕ, ◌≤◌, false, Option, Some, None, List, [], ◌∷◌, ◌++◌, map, flat_map, length, take}
+use Rattle.std.specs.List.{AllByRecursion as Each}
+use Rattle.tbr_model.specs.Run.{Entry, Item}
+use Rattle.tbr_model.specs.Layout.{Slot, slots_of, joined, IsLegal, placed}
+use Rattle.tbr_model.specs.Markers.{marker_items}
+use Rattle.tbr_model.specs.Shown.{without_spaces}
+use Rattle.tbr_lines.specs.State.{IsNormal, EndsRun}
+use Rattle.tbr_lines.specs.Wrapped.{padding_of}
+use Rattle.text_block_renderer.specs.Renderer.{Line, text, Open, Renderer, line_padding, block_width, may_overflow, open_run}
+use Rattle.text_block_renderer.specs.Flush.{block_of_run, with_run}
+
+-- a text of a block as a line: behind markers, and padded to the block's width and to the renderer's
+abbrev pub line_of_text : {D A : Type 0} → (ℕ → Option ℕ) → Renderer D A (List A) → Open (List A) → List (List ℕ)
+    → List (Item (List A)) → Line (List A)
+line_of_text columns r b names is =
+    let line = marker_items names ++ (is ++ padding_of columns b.padding (block_width r) is) in
+    text (line ++ line_padding columns r line)
+
+-- texts of a block as lines, the first of them behind the markers that wait
+abbrev pub stretch : {D A : Type 0} →
+    (ℕ → Option ℕ) → Renderer D A (List A) → Open (List A) → List (List (Item (List A))) → List (Line (List A))
+stretch columns r b [] = []
+stretch columns r b (is ∷ texts) =
+    line_of_text columns r b r.waiting is ∷ map (λ js. line_of_text columns r b [] js) texts
+
+-- how many items the first n texts have, but for the spaces that gaps are
+abbrev pub items_on : {T : Type 0} → ℕ → List (List (Item T)) → ℕ
+items_on n texts = length (without_spaces (joined (take n texts)))
+
+-- After any number of lines no legal layout of the run has placed more items.
+abbrev pub NoneIsAhead : {T : Type 0} → (ℕ → Option ℕ) → ℕ → List (Entry T) → List (List (Item T)) → Type 0
+NoneIsAhead {T} columns width run texts =
+    (others : List (List (Slot T))) → IsLegal width (slots_of columns width run) others →
+    (n : ℕ) → placed n others ≤ items_on n texts
+
+-- Where the open block's run ends, its lines are one stretch behind those that there are.
+pub record StandsAsStretch {D A : Type 0} (columns : ℕ → Option ℕ) (r : Renderer D A (List A)) (b : Open (List A))
+    (lines : List (Line (List A))) : Type 0 where
+  pub texts : List (List (Item (List A)))
+  pub names : List (List ℕ)
+  -- what a block promises of a run's texts: in `Normal`, where it may not overflow, those of a legal layout
+  pub ends : EndsRun columns (block_of_run (block_width r) (may_overflow r) b.run) texts names
+  pub ahead : may_overflow r ≡ false → IsNormal b.run → NoneIsAhead columns (block_width r) b.run texts
+  pub behind : List (Line (List A))
+  pub is : lines ≡ r.lines ++ stretch columns r b texts ++ behind
+
+-- Entries joined the run of the open block, and no line came.
+pub record StaysOpen {D A : Type 0} (r : Renderer D A (List A)) (b : Open (List A)) (es : List (Entry (List A)))
+    (s : Renderer D A (List A)) : Type 0 where
+  pub lines : s.lines ≡ r.lines
+  pub block : s.block ≡ Some (with_run b es)
+  pub waiting : s.waiting ≡ r.waiting
+
+-- Of the entries the first joined the run, which then ended, under the annotations of that moment.
+pub record EndsAsStretch {D A : Type 0} (columns : ℕ → Option ℕ) (r : Renderer D A (List A)) (b : Open (List A))
+    (es : List (Entry (List A))) (s : Renderer D A (List A)) : Type 0 where
+  pub more : List (Entry (List A))
+  pub later : List (Entry (List A))
+  pub came : es ≡ more ++ later
+  pub annotations : List A
+  pub stands : StandsAsStretch columns (record r { annotations = annotations }) (with_run b more) s.lines
+
+-- What adds lines: a run that ended with these texts, or an empty line; each with the renderer at that moment.
+pub data Part (D A : Type 0) : Type 0 where
+  ended : Renderer D A (List A) → Open (List A) → List (List (Item (List A))) → Part D A
+  empty : Renderer D A (List A) → Part D A
+
+abbrev pub run_of_part : {D A : Type 0} → Part D A → List (Entry (List A))
+run_of_part (ended r b texts) = b.run
+run_of_part (empty r) = []
+
+abbrev pub lines_of_part : {D A : Type 0} → (ℕ → Option ℕ) → Part D A → List (Line (List A))
+lines_of_part columns (ended r b texts) = stretch columns r b texts
+lines_of_part columns (empty r) =
+    let line = marker_items r.waiting in
+    text (line ++ line_padding columns r line) ∷ []
+
+-- The open run ended with these texts. The renderer's width and options are still those of another one.
+pub record HasEnded {D A : Type 0} (columns : ℕ → Option ℕ) (first r : Renderer D A (List A)) (b : Open (List A))
+    (texts : List (List (Item (List A)))) : Type 0 where
+  pub width : r.width ≡ first.width
+  pub options : r.options ≡ first.options
+  pub block : r.block ≡ Some b
+  pub names : List (List ℕ)
+  pub ends : EndsRun columns (block_of_run (block_width r) (may_overflow r) b.run) texts names
+
+-- an empty line comes where no block is open
+abbrev pub IsPart : {D A : Type 0} → (ℕ → Option ℕ) → Renderer D A (List A) → Part D A → Type 0
+IsPart columns first (ended r b texts) = HasEnded columns first r b texts
+IsPart columns first (empty r) = r.block ≡ None
+
+-- The lines that came are the stretches of the runs that ended, and empty lines. These runs, one behind another, and
+-- then the open one are what there was of the open run and what came.
+pub record ComesInParts {D A : Type 0} (columns : ℕ → Option ℕ) (r : Renderer D A (List A))
+    (es : List (Entry (List A))) (s : Renderer D A (List A)) : Type 0 where
+  pub parts : List (Part D A)
+  pub are : Each (IsPart columns r) parts
+  pub lines : s.lines ≡ r.lines ++ flat_map (lines_of_part columns) parts
+  pub runs : open_run r.block ++ es ≡ flat_map run_of_part parts ++ open_run s.block
