@@ -49,13 +49,14 @@ name_alone src utf8 h = sym (whole_name (chars src) (none_passes src utf8 h))
 slash_utf8 : (name : List ℕ) → IsUtf8 name → IsUtf8 (47 ∷ name)
 slash_utf8 name (cs, (scalars, e)) = (47 ∷ cs, (scalars, ap (λ bs. bs ++ encode_utf8_all cs) (encode_ascii 47 (lit< tt)) ∙ ap (λ bs. 47 ∷ bs) e))
 
--- and one whose last slash stands between `front` and `name`
-pub name_behind : (src front name : List ℕ) (i j : ℕ) → IsUtf8 src → RFindsChar 47 src (Some (i, j)) → front ≡ take i src → name ≡ drop j src → chars name ≡ file_name (chars src)
-name_behind src front name i j utf8 h f n =
+-- and one whose last slash stands before `name`
+pub name_behind : (src name : List ℕ) (i j : ℕ) → IsUtf8 src → RFindsChar 47 src (Some (i, j)) → name ≡ drop j src → chars name ≡ file_name (chars src)
+name_behind src name i j utf8 h n =
+    let front : List ℕ = take i src in
     let at : IsCharBoundary src j = subst (IsCharBoundary src) (sym h.1.ends) h.1.after in
     let utf8_name : IsUtf8 name = subst IsUtf8 (sym n) (IsUtf8-drop src j utf8 at) in
     let cut : drop i src ≡ 47 ∷ name = drop_at_char 47 src i j h.1 (lit< tt) ∙ ap (λ bs. 47 ∷ bs) (sym n) in
-    let seam : src ≡ front ++ 47 ∷ name = sym (take-append-drop i src) ∙ ap (λ bs. bs ++ drop i src) (sym f) ∙ ap (λ bs. front ++ bs) cut in
+    let seam : src ≡ front ++ 47 ∷ name = sym (take-append-drop i src) ∙ ap (λ bs. front ++ bs) cut in
     let parted : take (length front) src ≡ front = ap (take (length front)) seam ∙ take-append_seam front (47 ∷ name) in
     let utf8_front : IsUtf8 front = subst IsUtf8 parted (IsUtf8-take src (length front) utf8 (IsCharBoundary-at_seam src front (47 ∷ name) seam (slash_utf8 name utf8_name))) in
     let tail : chars (47 ∷ name) ≡ 47 ∷ chars name = chars_past_char (47 ∷ name) name 47 (slash_utf8 name utf8_name) (ap (λ bs. bs ++ name) (sym (encode_ascii 47 (lit< tt)))) in

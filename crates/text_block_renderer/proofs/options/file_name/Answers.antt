@@ -3,8 +3,8 @@ use Rattle.text_block_renderer.proofs.options.file_name.Goals as goal
 
 pub returns-in-Some : goal.returns-in-Some
 returns-in-Some c =
-    let (i, j, found, front, name, _, _, _) = c.in-Some.ensures.cases in
-    name_behind c.args.src.now c.in-Some.field-0-0.now c.in-Some.name.now i j c.utf8.src found front name
+    let (i, j, found, _, name, _, _, _) = c.in-Some.ensures.cases in
+    name_behind c.args.src.now c.in-Some.name.now i j c.utf8.src found name
 
 pub returns-in-None : goal.returns-in-None
 returns-in-None c = name_alone c.args.src.now c.utf8.src c.in-None.ensures.cases
