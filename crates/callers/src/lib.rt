@@ -2,6 +2,7 @@
 #![tactic(auto)]
 
 pub mod best_lines;
+pub mod emphasised;
 pub mod handed_on;
 pub mod line_by_line;
 pub mod numbers;
