@@ -4,6 +4,7 @@ ghost use Rattle.std.specs.Prelude.{◌<◌};
 use super::calls::Call::Text;
 use super::calls::written;
 use super::expected::{expect, expect_in_one_column_each, expect_overflowing, plain};
+use super::wrapping::BREAKS;
 use std::alloc::Global;
 use std::process::Abort;
 use tbr_lines::Error;
@@ -39,7 +40,7 @@ fn characters_of_no_width_stay_with_what_stands_before(rt: HostRuntime) {
 const TEXTS: [&str; 17] = [
     "Hello, world.  Superlongwordreally",
     "Hello there boo",
-    "Do break a line somewhere in foo\u{200b}bar\u{200b}foo\u{200b}bar",
+    BREAKS,
     "Don't break a line between the words Foo\u{a0}and\u{a0}Bar",
     "http://example.org/blah/ one two three",
     "漢漢漢",

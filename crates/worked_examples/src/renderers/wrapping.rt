@@ -28,16 +28,19 @@ fn words_go_where_they_fit_and_wider_ones_are_cut(rt: HostRuntime) {
     expect(&rt, alloc, 9, &[Text("ab"), Text("c d")], "abc d\n");
 }
 
+/// Words between which a line may break without a space.
+pub const BREAKS: &str =
+    "Do break a line somewhere in foo\u{200b}bar\u{200b}foo\u{200b}bar\u{200b}foo\u{200b}bar\
+    \u{200b}foo\u{200b}bar\u{200b}foo\u{200b}bar\u{200b}foo\u{200b}bar";
+
 #[test]
 fn a_zero_width_space_breaks_and_a_no_break_space_does_not(rt: HostRuntime) {
     let alloc = rt.alloc();
-    let breaks =
-        "Do break a line somewhere in foo\u{200b}bar\u{200b}foo\u{200b}bar\u{200b}foo\u{200b}bar\u{200b}foo\u{200b}bar\u{200b}foo\u{200b}bar\u{200b}foo\u{200b}bar";
     expect(
         &rt,
         alloc,
         40,
-        &[Text(breaks)],
+        &[Text(BREAKS)],
         "Do break a line somewhere in foobarfoo\nbarfoobarfoobarfoobarfoobar\n",
     );
     expect(
