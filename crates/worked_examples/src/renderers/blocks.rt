@@ -7,7 +7,14 @@ use tbr_lines::WhiteSpace;
 #[test]
 fn a_block_ends_and_white_space_behind_it_is_ignored(rt: HostRuntime) {
     let alloc = rt.alloc();
-    let ended = [Text("a"), Ends(End::Block), Text("  "), Text("b")];
+    let ended = [
+        Text("a"),
+        Ends(End::Block),
+        Text("  "),
+        Text("\u{a0}"),
+        Text(""),
+        Text("b"),
+    ];
     expect(&rt, alloc, 5, &ended, "a\n\nb\n");
     // Not where white space is preserved.
     let preserved = [

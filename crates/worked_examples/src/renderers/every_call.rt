@@ -5,7 +5,6 @@ use super::calls::Call::{Ends, Line, Marker, Preformat, Text};
 use super::calls::{End, make, make_all};
 use super::expected::plain;
 use std::alloc::Global;
-use std::test::Fail;
 use tbr_decor::PlainDecorator;
 use text_block_renderer::{ImageRenderMode, RenderOptions, Renderer, SubRenderer};
 
@@ -58,28 +57,26 @@ fn a_renderer_has_the_options_that_it_was_made_with(rt: HostRuntime) {
 }
 
 #[test]
-fn a_renderer_is_empty_without_lines_and_characters(rt: HostRuntime) -> Result<(), Fail> {
+fn a_renderer_is_empty_without_lines_and_characters(rt: HostRuntime) {
     let mut r = plain(rt.alloc(), 9);
     assert_eq!(rt; r.width(), 9);
     assert!(rt; r.failure().is_none());
     assert!(rt; r.empty());
-    make_all(&mut r, &[Line, Marker("x"), Text("  ")])?;
+    assert!(rt; make_all(&mut r, &[Line, Marker("x"), Text("  ")]).is_ok());
     assert!(rt; r.empty());
-    make(&mut r, Text("a"))?;
+    assert!(rt; make(&mut r, Text("a")).is_ok());
     assert!(rt; !r.empty());
-    make(&mut r, Line)?;
+    assert!(rt; make(&mut r, Line).is_ok());
     assert!(rt; !r.empty());
     assert!(rt; r.failure().is_none());
-    Ok(())
 }
 
 #[test]
-fn preformatted_stretches_are_counted(rt: HostRuntime) -> Result<(), Fail> {
+fn preformatted_stretches_are_counted(rt: HostRuntime) {
     let mut r = plain(rt.alloc(), 9);
-    make_all(&mut r, &[Preformat, Preformat])?;
+    assert!(rt; make_all(&mut r, &[Preformat, Preformat]).is_ok());
     assert_eq!(rt; r.preformat_depth(), 2);
-    make(&mut r, Ends(End::Preformat))?;
+    assert!(rt; make(&mut r, Ends(End::Preformat)).is_ok());
     assert_eq!(rt; r.preformat_depth(), 1);
     assert_eq!(rt; r.strikeout_depth(), 0);
-    Ok(())
 }

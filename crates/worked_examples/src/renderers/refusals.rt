@@ -6,7 +6,6 @@ use super::calls::{Call, End, make, make_all};
 use super::expected::plain;
 use std::alloc::Global;
 use std::process::Abort;
-use std::test::Fail;
 use tbr_decor::{PlainDecorator, TextDecorator};
 use tbr_lines::{CharWidth, Error, WhiteSpace};
 use text_block_renderer::{RenderOptions, Renderer, SubRenderer};
@@ -56,14 +55,13 @@ pub fn keeps<D: TextDecorator, W: CharWidth>(
 }
 
 #[test]
-fn a_line_that_is_too_narrow_is_refused_for_good(rt: HostRuntime) -> Result<(), Fail> {
+fn a_line_that_is_too_narrow_is_refused_for_good(rt: HostRuntime) {
     let alloc = rt.alloc();
     let mut r = plain(alloc, 1);
-    make(&mut r, Text("漢"))?;
+    assert!(rt; make(&mut r, Text("漢")).is_ok());
     assert!(rt; make(&mut r, Line).err() == Some(Error::TooNarrow));
     keeps(&rt, &mut r, Error::TooNarrow);
     assert!(rt; r.into_string().err() == Some(Error::TooNarrow));
-    Ok(())
 }
 
 /// A renderer whose lines are padded to more columns than there is memory.
@@ -74,11 +72,10 @@ fn endless(alloc: Global) -> SubRenderer<PlainDecorator> {
 }
 
 #[test]
-fn a_line_that_memory_does_not_hold_is_refused_for_good(rt: HostRuntime) -> Result<(), Fail> {
+fn a_line_that_memory_does_not_hold_is_refused_for_good(rt: HostRuntime) {
     let mut r = endless(rt.alloc());
-    make(&mut r, Text("a"))?;
+    assert!(rt; make(&mut r, Text("a")).is_ok());
     assert!(rt; make(&mut r, StartBlock).err() == Some(Error::OutOfMemory));
     keeps(&rt, &mut r, Error::OutOfMemory);
     assert!(rt; r.into_lines().err() == Some(Error::OutOfMemory));
-    Ok(())
 }
