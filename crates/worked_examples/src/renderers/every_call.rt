@@ -1,10 +1,11 @@
 //! What a renderer answers of itself.
 ghost use Rattle.std.specs.Prelude.{◌≢◌, Some};
 
-use super::calls::Call::{Ends, Line, Marker, Preformat, Text};
-use super::calls::{End, make, make_all};
+use super::calls::Call::{EmptyLine, Ends, Line, Marker, Preformat, Text};
+use super::calls::{Call, End, make_all};
 use super::expected::plain;
 use std::alloc::Global;
+use std::process::Abort;
 use tbr_decor::PlainDecorator;
 use text_block_renderer::{ImageRenderMode, RenderOptions, Renderer, SubRenderer};
 
@@ -47,36 +48,55 @@ fn told(alloc: Global) -> SubRenderer<PlainDecorator> {
     SubRenderer::new(alloc, 9, unusual(), PlainDecorator::new())
 }
 
+fn has_options(rt: &impl Abort, r: &SubRenderer<PlainDecorator>, options: &RenderOptions) {
+    assert!(rt; *r.options() == *options);
+}
+
 #[test]
 fn a_renderer_has_the_options_that_it_was_made_with(rt: HostRuntime) {
     let alloc = rt.alloc();
-    assert!(rt; *plain(alloc, 9).options() == usual());
-    assert!(rt; *told(alloc).options() == unusual());
-    assert!(rt; RenderOptions::default() == usual());
+    has_options(&rt, &plain(alloc, 9), &usual());
+    has_options(&rt, &told(alloc), &unusual());
     assert!(rt; ImageRenderMode::default() == ImageRenderMode::IgnoreEmpty);
+}
+
+/// The renderer has nine columns and hasn't refused; this is whether it is empty, and how many preformatted stretches
+/// are open.
+fn tells(rt: &impl Abort, r: &SubRenderer<PlainDecorator>, empty: bool, preformatted: usize) {
+    assert!(rt; r.failure().is_none());
+    assert_eq!(rt; r.width(), 9);
+    assert_eq!(rt; r.empty(), empty);
+    assert_eq!(rt; r.preformat_depth(), preformatted);
+    assert_eq!(rt; r.strikeout_depth(), 0);
+}
+
+/// What a renderer tells behind calls.
+fn tells_behind(
+    rt: &impl Abort,
+    alloc: Global,
+    calls: &[Call<'_>],
+    empty: bool,
+    preformatted: usize,
+) {
+    let mut r = plain(alloc, 9);
+    assert!(rt; make_all(&mut r, calls).is_ok());
+    tells(rt, &r, empty, preformatted);
 }
 
 #[test]
 fn a_renderer_is_empty_without_lines_and_characters(rt: HostRuntime) {
-    let mut r = plain(rt.alloc(), 9);
-    assert_eq!(rt; r.width(), 9);
-    assert!(rt; r.failure().is_none());
-    assert!(rt; r.empty());
-    assert!(rt; make_all(&mut r, &[Line, Marker("x"), Text("  ")]).is_ok());
-    assert!(rt; r.empty());
-    assert!(rt; make(&mut r, Text("a")).is_ok());
-    assert!(rt; !r.empty());
-    assert!(rt; make(&mut r, Line).is_ok());
-    assert!(rt; !r.empty());
-    assert!(rt; r.failure().is_none());
+    let alloc = rt.alloc();
+    tells_behind(&rt, alloc, &[], true, 0);
+    tells_behind(&rt, alloc, &[Line, Marker("x"), Text("  ")], true, 0);
+    tells_behind(&rt, alloc, &[Text("a")], false, 0);
+    tells_behind(&rt, alloc, &[Text("a"), Line], false, 0);
+    tells_behind(&rt, alloc, &[EmptyLine], false, 0);
 }
 
 #[test]
 fn preformatted_stretches_are_counted(rt: HostRuntime) {
-    let mut r = plain(rt.alloc(), 9);
-    assert!(rt; make_all(&mut r, &[Preformat, Preformat]).is_ok());
-    assert_eq!(rt; r.preformat_depth(), 2);
-    assert!(rt; make(&mut r, Ends(End::Preformat)).is_ok());
-    assert_eq!(rt; r.preformat_depth(), 1);
-    assert_eq!(rt; r.strikeout_depth(), 0);
+    let alloc = rt.alloc();
+    tells_behind(&rt, alloc, &[Preformat, Preformat], true, 2);
+    let ended = [Preformat, Preformat, Ends(End::Preformat)];
+    tells_behind(&rt, alloc, &ended, true, 1);
 }
