@@ -4,6 +4,7 @@ ghost use Rattle.std.specs.Prelude.{◌≢◌, Some};
 use super::calls::Call::{EmptyLine, Ends, Line, Marker, Preformat, Text};
 use super::calls::{Call, End, make_all};
 use super::expected::plain;
+use crate::texts::counts;
 use std::alloc::Global;
 use std::process::Abort;
 use tbr_decor::PlainDecorator;
@@ -48,26 +49,25 @@ fn told(alloc: Global) -> SubRenderer<PlainDecorator> {
     SubRenderer::new(alloc, 9, unusual(), PlainDecorator::new())
 }
 
-fn has_options(rt: &impl Abort, r: &SubRenderer<PlainDecorator>, options: &RenderOptions) {
-    assert!(rt; *r.options() == *options);
+fn has_options(rt: &impl Abort, r: SubRenderer<PlainDecorator>, options: RenderOptions) {
+    assert!(rt; *r.options() == options);
 }
 
 #[test]
 fn a_renderer_has_the_options_that_it_was_made_with(rt: HostRuntime) {
     let alloc = rt.alloc();
-    has_options(&rt, &plain(alloc, 9), &usual());
-    has_options(&rt, &told(alloc), &unusual());
-    assert!(rt; ImageRenderMode::default() == ImageRenderMode::IgnoreEmpty);
+    has_options(&rt, plain(alloc, 9), usual());
+    has_options(&rt, told(alloc), unusual());
 }
 
 /// The renderer has nine columns and hasn't refused; this is whether it is empty, and how many preformatted stretches
 /// are open.
 fn tells(rt: &impl Abort, r: &SubRenderer<PlainDecorator>, empty: bool, preformatted: usize) {
     assert!(rt; r.failure().is_none());
-    assert_eq!(rt; r.width(), 9);
-    assert_eq!(rt; r.empty(), empty);
-    assert_eq!(rt; r.preformat_depth(), preformatted);
-    assert_eq!(rt; r.strikeout_depth(), 0);
+    counts(rt, r.width(), 9);
+    assert!(rt; r.empty() == empty);
+    counts(rt, r.preformat_depth(), preformatted);
+    counts(rt, r.strikeout_depth(), 0);
 }
 
 /// What a renderer tells behind calls.
@@ -81,6 +81,11 @@ fn tells_behind(
     let mut r = plain(alloc, 9);
     assert!(rt; make_all(&mut r, calls).is_ok());
     tells(rt, &r, empty, preformatted);
+}
+
+#[test]
+fn an_image_without_a_title_shows_nothing_by_default(rt: HostRuntime) {
+    assert!(rt; ImageRenderMode::default() == ImageRenderMode::IgnoreEmpty);
 }
 
 #[test]
