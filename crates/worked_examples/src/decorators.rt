@@ -1,6 +1,6 @@
 //! What the shipped decorators answer, and one that has only the usual answers.
 mod every_call;
-mod marked;
+pub mod marked;
 
 use crate::texts::shows;
 use marked::{Mark, MarkedDecorator};

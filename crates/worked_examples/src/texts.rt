@@ -42,10 +42,10 @@ pub fn append_marker(all: &mut String, name: &str) -> Result<(), OutOfMemory> {
 }
 
 /// Appends a line's pieces, each with its tag, and a newline.
-pub fn append_pieces(
+pub fn append_pieces<T: Debug>(
     all: &mut String,
     alloc: Global,
-    line: &TaggedLine<Voice>,
+    line: &TaggedLine<T>,
 ) -> Result<(), OutOfMemory> {
     for piece in line.tagged_strings() {
         let text = format!(in alloc; "{}:{:?} ", piece.s.as_str(), piece.tag)?;
