@@ -2,6 +2,7 @@ pub mod Kept
 pub mod Meanings
 pub mod Fields
 pub mod Lines
+pub mod LineTexts
 pub mod Fits
 pub mod Flushing
 pub mod Texts

@@ -1,5 +1,6 @@
 pub mod Options
 pub mod Renderer
+pub mod Text
 pub mod Meant
 pub mod View
 pub mod Flush
