@@ -1,15 +1,14 @@
--- What a refusal of a block says.
-use Rattle.std.proofs.Common.{◌≡◌, ◌≢◌, refl, Result, Ok, Err, OnOk, IfErr}
-use Rattle.tbr_lines.specs.declared.Error.{Error}
-use Rattle.tbr_lines.specs.declared.Error.TheVariants as E
+-- What results say.
+use Rattle.std.proofs.Common.{◌≡◌, Result, Ok, Err, IfOk, IfErr, sym, subst}
 
--- of a block that hasn't failed
-pub refused_narrow : (r : Result (Unit {0}) Error) (Wide : Type 0) → (r ≡ Err E.TooNarrow → Wide) → IfErr r (λ e. e ≢ E.OutOfMemory → Wide × (e ≡ E.TooNarrow))
-refused_narrow (Ok x) Wide h = tt
-refused_narrow (Err E.TooNarrow) Wide h = λ _. (h refl, refl)
-refused_narrow (Err E.OutOfMemory) Wide h = λ not. absurd (not refl)
+-- what a text is, or a refusal
+pub if_ok_then : {X E : Type 0} {P Q : X → Type 0} (r : Result X E) → ((x : X) → P x → Q x) → IfOk r P → IfOk r Q
+if_ok_then (Ok x) f h = f x h
+if_ok_then (Err e) f h = tt
 
--- what an answer says of a run that is so
-pub of_such : (r : Result (Unit {0}) Error) (P Q R : Type 0) → OnOk r (P → Q → R) → P → Q → OnOk r R
-of_such (Ok x) P Q R h p q = h p q
-of_such (Err e) P Q R h p q = tt
+pub if_err_then : {X E : Type 0} {P Q : E → Type 0} (r : Result X E) → ((e : E) → P e → Q e) → IfErr r P → IfErr r Q
+if_err_then (Ok x) f h = tt
+if_err_then (Err e) f h = f e h
+
+pub if_err_is : {X E : Type 0} (P : E → Type 0) (r : Result X E) (y : E) → r ≡ Err y → P y → IfErr r P
+if_err_is P r y is h = subst (λ q. IfErr q P) (sym is) h

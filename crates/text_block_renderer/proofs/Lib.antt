@@ -9,5 +9,6 @@ pub mod Texts
 pub mod Writing
 pub mod Moves
 pub mod Growing
+pub mod Settings
 pub mod Once
 pub mod Showing

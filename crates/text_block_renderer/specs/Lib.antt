@@ -6,3 +6,4 @@ pub mod View
 pub mod Flush
 pub mod Steps
 pub mod Calls
+pub mod Settings

@@ -3,7 +3,8 @@ ghost use Rattle.std.specs.Prelude.{◌≡◌, ℕ, Bool, false, Option, List, �
 ghost use Rattle.tbr_lines.specs.State.{IsNormal};
 ghost use Rattle.text_block_renderer.specs.Renderer.{Line, Renderer, may_overflow, open_run};
 ghost use Rattle.text_block_renderer.specs.Flush.{Flushes};
-ghost use Rattle.text_block_renderer.specs.Calls.{Call, Steps, Brings, Shows};
+ghost use Rattle.text_block_renderer.specs.Calls.{Call, Does, Steps, Brings, Shows};
+ghost use Rattle.text_block_renderer.specs.Settings.{settings_of, settings_behind};
 ghost use Rattle.tbr_model.specs.Run.{Entry};
 ghost use Rattle.tbr_decor.specs.Decoration.{Decoration};
 
@@ -12,6 +13,12 @@ pub fn no_call_takes_a_line_back<D, A>()
     ensures { (columns : ℕ → Option ℕ) (decoration : Decoration D A) (calls : List Call)
         (r s : Renderer D A (List A)) → Steps columns decoration calls r s →
         (more : List (Line (List A))) × (s.lines ≡ r.lines ++ more) }
+{}
+
+/// A call changes the settings that it is there to change, and no others.
+pub fn a_call_changes_its_own_settings_alone<D, A>()
+    ensures { (columns : ℕ → Option ℕ) (decoration : Decoration D A) (call : Call) (r s : Renderer D A (List A)) →
+        Does columns decoration call r s → settings_of s ≡ settings_behind call (settings_of r) }
 {}
 
 /// The end of a `Normal` run leaves one state only, where no line may be wider than the block.
