@@ -11,4 +11,5 @@ pub mod Moves
 pub mod Growing
 pub mod Settings
 pub mod Once
+pub mod OneState
 pub mod Showing

@@ -7,3 +7,4 @@ pub mod Flush
 pub mod Steps
 pub mod Calls
 pub mod Settings
+pub mod Normal

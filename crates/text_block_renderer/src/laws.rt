@@ -3,7 +3,8 @@ ghost use Rattle.std.specs.Prelude.{◌≡◌, ℕ, Bool, false, Option, List, �
 ghost use Rattle.tbr_lines.specs.State.{IsNormal};
 ghost use Rattle.text_block_renderer.specs.Renderer.{Line, Renderer, may_overflow, open_run};
 ghost use Rattle.text_block_renderer.specs.Flush.{Flushes};
-ghost use Rattle.text_block_renderer.specs.Calls.{Call, Does, Steps, Brings, Shows};
+ghost use Rattle.text_block_renderer.specs.Calls.{Call, Does, IsTooNarrow, Steps, Brings, Shows};
+ghost use Rattle.text_block_renderer.specs.Normal.{WrapsNormally, PushesNormal};
 ghost use Rattle.text_block_renderer.specs.Settings.{settings_of, settings_behind};
 ghost use Rattle.tbr_model.specs.Run.{Entry};
 ghost use Rattle.tbr_decor.specs.Decoration.{Decoration};
@@ -26,6 +27,24 @@ pub fn a_normal_flush_leaves_one_state<D, A>()
     ensures { (columns : ℕ → Option ℕ) (r s t : Renderer D A (List A)) →
         may_overflow r ≡ false → IsNormal (open_run r.block) →
         Flushes columns r s → Flushes columns r t → t ≡ s }
+{}
+
+/// A call leaves one state only, where all text is `Normal` and no line may be wider than its block.
+pub fn a_normal_call_leaves_one_state<D, A>()
+    ensures { (columns : ℕ → Option ℕ) (decoration : Decoration D A) (call : Call) (r s t : Renderer D A (List A)) →
+        WrapsNormally r → Does columns decoration call r s → Does columns decoration call r t → t ≡ s }
+{}
+
+/// Where a call may answer `TooNarrow` there, it leaves nothing.
+pub fn a_normal_call_is_too_narrow_or_not<D, A>()
+    ensures { (columns : ℕ → Option ℕ) (decoration : Decoration D A) (call : Call) (r s : Renderer D A (List A)) →
+        WrapsNormally r → Does columns decoration call r s → IsTooNarrow columns decoration call r → ⊥ }
+{}
+
+/// Calls that push no mode but `Normal` keep all text `Normal`.
+pub fn normal_calls_keep_text_normal<D, A>()
+    ensures { (columns : ℕ → Option ℕ) (decoration : Decoration D A) (call : Call) (r s : Renderer D A (List A)) →
+        WrapsNormally r → PushesNormal call → Does columns decoration call r s → WrapsNormally s }
 {}
 
 /// After any calls the visible characters of what they brought stand in the lines of text, but for those of the open
