@@ -8,3 +8,5 @@ pub mod Commands
 pub mod Live
 pub mod LinesGive
 pub mod Refused
+pub mod OneCommand
+pub mod Once

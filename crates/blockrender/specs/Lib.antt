@@ -9,3 +9,4 @@ pub mod Progress
 pub mod Plain
 pub mod Meaning
 pub mod Refusal
+pub mod Normal

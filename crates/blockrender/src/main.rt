@@ -4,6 +4,7 @@
 mod begun;
 mod command;
 mod error;
+mod laws;
 mod opening;
 mod options;
 mod program;
