@@ -7,6 +7,6 @@ pub mod OpeningWords
 pub mod Commands
 pub mod Live
 pub mod LinesGive
-pub mod Refused
+pub mod Results
 pub mod OneCommand
 pub mod Once

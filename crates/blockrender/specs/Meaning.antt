@@ -22,7 +22,8 @@ use Rattle.blockrender.specs.Plain.{plain_decoration}
 abbrev pub Ends : {D M : Type 0} → (ℕ → Option ℕ) → Progress D M (List M) → Result (List ℕ) RunError → Type 0
 Ends {D} {M} columns p outcome =
     MatchResult outcome
-    (λ bytes. (s : Renderer D M (List M)) × Flushes columns p.renderer s × (bytes ≡ encode_utf8_all (lines_text s.lines)))
+    (λ bytes. (s : Renderer D M (List M)) × Flushes columns p.renderer s
+    × (bytes ≡ encode_utf8_all (lines_text s.lines)))
     (λ e. FlushIsTooNarrow columns p.renderer × (e ≡ TooNarrow))
 
 module _ {D M : Type 0} (columns : ℕ → Option ℕ) (decoration : Decoration D M) where

@@ -13,12 +13,19 @@ use text_block_renderer::Renderer;
 /// What a line of a script asks a renderer for. Each is one call of it.
 #[derive(Debug, Drop)]
 pub enum Command {
+    /// A text.
     Text(String),
+    /// A block begins.
     StartBlock,
+    /// A block ends.
     EndBlock,
+    /// A table begins.
     StartTable,
+    /// The open line ends, if there is one.
     NewLine,
+    /// The open line ends; where there is none, an empty line follows.
     HardNewLine,
+    /// The open line ends, and an empty one follows.
     EmptyLine,
     /// A mode of white space begins.
     Mode(WhiteSpace),
@@ -26,6 +33,7 @@ pub enum Command {
     EndMode,
     /// A preformatted stretch begins.
     Preformat,
+    /// A preformatted stretch ends.
     EndPreformat,
     /// A marker, by its name.
     Fragment(String),
@@ -65,9 +73,18 @@ impl Command {
             Command::Mode(mode) => renderer.push_ws(*mode),
             Command::Preformat => renderer.push_preformat(),
             Command::Fragment(name) => renderer.record_frag_start(name.as_str()),
-            Command::EndBlock => Ok(renderer.end_block()),
-            Command::EndMode => Ok(renderer.pop_ws()),
-            Command::EndPreformat => Ok(renderer.pop_preformat()),
+            Command::EndBlock => {
+                renderer.end_block();
+                Ok(())
+            }
+            Command::EndMode => {
+                renderer.pop_ws();
+                Ok(())
+            }
+            Command::EndPreformat => {
+                renderer.pop_preformat();
+                Ok(())
+            }
         }
     }
 }

@@ -22,7 +22,9 @@ pub enum Decorator {
 pub struct Opening {
     /// The columns of the renderer, at least 1.
     pub width: usize,
+    /// The decorator of its texts.
     pub decorator: Decorator,
+    /// What the renderer is told to do. A wrap width is at least 1.
     pub options: RenderOptions,
 }
 

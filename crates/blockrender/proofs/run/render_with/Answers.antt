@@ -3,7 +3,7 @@ use Rattle.std.proofs.lemmas.Result.{err_from_is_err_and}
 use Rattle.tbr_decor.specs.Decoration.{decoration_of}
 use Rattle.blockrender.specs.Progress.{progress_meant}
 use Rattle.blockrender.proofs.LinesGive.{at_end, line_done, line_refused}
-use Rattle.blockrender.proofs.Refused.{if_ok_then, if_err_then, if_err_is}
+use Rattle.blockrender.proofs.Results.{if_ok_then, if_err_then, if_err_is}
 use Rattle.blockrender.proofs.run.render_with.Goals as goal
 
 pub returns-in_err-program-clause-refusal : goal.returns-in_err-program-clause-refusal
