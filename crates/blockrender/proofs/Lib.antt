@@ -1,7 +1,12 @@
 pub mod Writes
 pub mod Lines
 pub mod Texts
+pub mod Words
+pub mod OptionWords
+pub mod OpeningWords
 pub mod Commands
-pub mod Rendered
+pub mod Live
+pub mod LinesGive
+pub mod Results
+pub mod OneCommand
 pub mod Once
-pub mod Refused

@@ -1,7 +1,12 @@
 pub mod Streams
 pub mod Report
 pub mod Script
+pub mod Options
+pub mod Opening
 pub mod Command
+pub mod Begun
+pub mod Progress
+pub mod Plain
 pub mod Meaning
-pub mod Program
 pub mod Refusal
+pub mod Normal

@@ -1,92 +1,86 @@
 -- The meaning of a script: that of its commands one after another, up to the first line that is faulty or refuses.
-use Rattle.std.specs.Prelude.{◌≡◌, ℕ, ◌+◌, ◌⊎◌, Option, Result, Err, MatchResult, List, [], ◌∷◌, ◌++◌, flat_map, chars, encode_utf8_all}
-use Rattle.tbr_model.specs.declared.white_space.WhiteSpace.TheVariants.{Normal}
-use Rattle.tbr_model.specs.Codes.{newline_character}
-use Rattle.tbr_model.specs.Run.{Entry, Item, glyph, marker}
-use Rattle.tbr_model.specs.Layout.{Slot, slots_of, line_text, IsBest}
-use Rattle.tbr_lines.specs.State.{text_entries}
-use Rattle.tbr_lines.specs.Wrapped.{EndedWordsFit, WordsFit}
+use Rattle.std.specs.Prelude.{◌≡◌, ℕ, ◌+◌, ◌⊎◌, true, false, Option, Result, Err, MatchResult, List, [], ◌∷◌, encode_utf8_all}
+use Rattle.tbr_decor.specs.Decoration.{Decoration}
+use Rattle.text_block_renderer.specs.Renderer.{Renderer, new_renderer}
+use Rattle.text_block_renderer.specs.Text.{lines_text}
+use Rattle.text_block_renderer.specs.Flush.{Flushes, FlushIsTooNarrow}
+use Rattle.text_block_renderer.specs.Calls.{Call, Does, IsTooNarrow}
 use Rattle.blockrender.specs.declared.error.RunError.{RunError}
-use Rattle.blockrender.specs.declared.error.RunError.TheVariants.{TooNarrow, NotACommand}
-use Rattle.blockrender.specs.Script.{lines_of, Call, new_block, text, IsCommand}
+use Rattle.blockrender.specs.declared.error.RunError.TheVariants.{TooNarrow, NotACommand, NothingToEnd}
+use Rattle.blockrender.specs.declared.opening.Decorator.{Decorator}
+use Rattle.blockrender.specs.declared.opening.Decorator.TheVariants.{Plain}
+use Rattle.blockrender.specs.declared.opening.Opening.{Opening}
+use Rattle.blockrender.specs.Script.{lines_of, IsCommand}
+use Rattle.blockrender.specs.Opening.{IsOpening}
+use Rattle.blockrender.specs.Begun.{nothing_begun, ends_nothing, counted}
+use Rattle.blockrender.specs.Progress.{Progress}
+use Rattle.blockrender.specs.Plain.{plain_decoration}
 
--- Where a script stands: before its first command, or at a block of a width with the text that was handed to it.
-pub data Progress : Type 0 where
-  unbegun : Progress
-  in_block : ℕ → List (Entry (Unit {0})) → Progress
+-- ---- behind the first command, under any decorator
 
--- a run with more text
-abbrev pub run_with : List (Entry (Unit {0})) → List ℕ → List (Entry (Unit {0}))
-run_with run bytes = run ++ text_entries (chars bytes) tt tt Normal
+-- What the end of a script gives: the text of the lines behind a flush, or that this is too narrow.
+abbrev pub Ends : {D M : Type 0} → (ℕ → Option ℕ) → Progress D M (List M) → Result (List ℕ) RunError → Type 0
+Ends {D} {M} columns p outcome =
+    MatchResult outcome
+    (λ bytes. (s : Renderer D M (List M)) × Flushes columns p.renderer s
+    × (bytes ≡ encode_utf8_all (lines_text s.lines)))
+    (λ e. FlushIsTooNarrow columns p.renderer × (e ≡ TooNarrow))
 
--- ---- one line
+module _ {D M : Type 0} (columns : ℕ → Option ℕ) (decoration : Decoration D M) where
+  -- Where a call leads.
+  pub record CallDoes (p : Progress D M (List M)) (call : Call) (next : Progress D M (List M)) : Type 0 where
+    pub ends : ends_nothing p.begun call ≡ false
+    pub does : Does columns decoration call p.renderer next.renderer
+    pub counts : next.begun ≡ counted p.begun call
 
--- Where a command leads.
-abbrev pub Does : (ℕ → Option ℕ) → Progress → Call → Progress → Type 0
-Does columns unbegun (new_block width) next = next ≡ in_block width []
-Does columns (in_block width run) (text bytes) next =
-    EndedWordsFit columns width (run_with run bytes) × (next ≡ in_block width (run_with run bytes))
--- the others don't stand here
-Does columns unbegun (text bytes) next = ⊥
-Does columns (in_block width run) (new_block other) next = ⊥
+  -- With what a call refuses on the line of this number: it ends nothing, or the renderer is too narrow.
+  abbrev pub CallRefuses : Progress D M (List M) → ℕ → Call → RunError → Type 0
+  CallRefuses p number call e =
+      ((ends_nothing p.begun call ≡ true) × (e ≡ NothingToEnd number))
+      ⊎ ((ends_nothing p.begun call ≡ false) × IsTooNarrow columns decoration call p.renderer × (e ≡ TooNarrow))
 
--- With what a command refuses on the line of this number.
-abbrev pub Refuses : (ℕ → Option ℕ) → Progress → ℕ → Call → RunError → Type 0
--- a block begins a script, and there is one
-Refuses columns unbegun number (text bytes) e = e ≡ NotACommand number
-Refuses columns (in_block width run) number (new_block other) e = e ≡ NotACommand number
--- a word that the text ends holds a character wider than the block
-Refuses columns (in_block width run) number (text bytes) e =
-    (EndedWordsFit columns width (run_with run bytes) → ⊥) × (e ≡ TooNarrow)
-Refuses columns unbegun number (new_block width) e = ⊥
+  -- Where a line leads. An empty line is skipped.
+  abbrev pub LineDoes : Progress D M (List M) → List ℕ → Progress D M (List M) → Type 0
+  LineDoes p [] next = next ≡ p
+  LineDoes p (b ∷ bs) next = (call : Call) × IsCommand (b ∷ bs) call × CallDoes p call next
 
--- Where a line leads. An empty line is skipped.
-abbrev pub LineDoes : (ℕ → Option ℕ) → Progress → List ℕ → Progress → Type 0
-LineDoes columns progress [] next = next ≡ progress
-LineDoes columns progress (b ∷ bs) next = (call : Call) × IsCommand (b ∷ bs) call × Does columns progress call next
+  -- With what the line of this number is refused: it is no command, or its call refuses.
+  abbrev pub LineRefuses : Progress D M (List M) → ℕ → List ℕ → RunError → Type 0
+  LineRefuses p number [] e = ⊥
+  LineRefuses p number (b ∷ bs) e =
+      (((call : Call) → IsCommand (b ∷ bs) call → ⊥) × (e ≡ NotACommand number))
+      ⊎ ((call : Call) × IsCommand (b ∷ bs) call × CallRefuses p number call e)
 
--- With what the line of this number is refused: it is no command, or its command refuses.
-abbrev pub LineRefuses : (ℕ → Option ℕ) → Progress → ℕ → List ℕ → RunError → Type 0
-LineRefuses columns progress number [] e = ⊥
-LineRefuses columns progress number (b ∷ bs) e =
-    (((call : Call) → IsCommand (b ∷ bs) call → ⊥) × (e ≡ NotACommand number))
-    ⊎ ((call : Call) × IsCommand (b ∷ bs) call × Refuses columns progress number call e)
-
--- ---- the end
-
--- an item's characters; a marker has none
-abbrev pub item_characters : {A : Type 0} → Item A → List ℕ
-item_characters (glyph c a) = c ∷ []
-item_characters (marker name) = []
-
--- a line as it is written: its characters and a newline
-abbrev pub line_bytes : {A : Type 0} → List (Slot A) → List ℕ
-line_bytes line = encode_utf8_all (flat_map item_characters (line_text line)) ++ newline_character ∷ []
-
--- The lines of the layout of the run that is ahead of every legal one.
-abbrev pub IsRendered : (ℕ → Option ℕ) → ℕ → List (Entry (Unit {0})) → List ℕ → Type 0
-IsRendered columns width run bytes =
-    (lines : List (List (Slot (Unit {0})))) × IsBest width (slots_of columns width run) lines
-    × (bytes ≡ flat_map line_bytes lines)
-
--- What the end of a script gives, which counts as the line of this number: a text, or a refusal where a word of the run
--- holds a character wider than the block.
-abbrev pub Ends : (ℕ → Option ℕ) → Progress → ℕ → Result (List ℕ) RunError → Type 0
--- a script without a command
-Ends columns unbegun number outcome = outcome ≡ Err (NotACommand number)
-Ends columns (in_block width run) number outcome =
-    MatchResult outcome (λ bytes. WordsFit columns width run × IsRendered columns width run bytes)
-    (λ e. (WordsFit columns width run → ⊥) × (e ≡ TooNarrow))
+  -- What lines give that follow here, the first of them with this number.
+  abbrev pub LinesGive : Progress D M (List M) → ℕ → List (List ℕ) → Result (List ℕ) RunError → Type 0
+  LinesGive p number [] outcome = Ends columns p outcome
+  LinesGive p number (line ∷ lines) outcome =
+      ((e : RunError) × LineRefuses p number line e × (outcome ≡ Err e))
+      ⊎ ((next : Progress D M (List M)) × LineDoes p line next × LinesGive next (number + 1) lines outcome)
 
 -- ---- the whole
 
--- What lines give that follow here, the first of them with this number.
-abbrev pub LinesGive : (ℕ → Option ℕ) → Progress → ℕ → List (List ℕ) → Result (List ℕ) RunError → Type 0
-LinesGive columns progress number [] outcome = Ends columns progress number outcome
-LinesGive columns progress number (line ∷ lines) outcome =
-    ((e : RunError) × LineRefuses columns progress number line e × (outcome ≡ Err e))
-    ⊎ ((next : Progress) × LineDoes columns progress line next × LinesGive columns next (number + 1) lines outcome)
+-- the renderer of a first command, with nothing begun
+abbrev pub opened : {D M : Type 0} → Opening → D → Progress D M (List M)
+opened opening decorator =
+    record { renderer = new_renderer opening.width opening.options decorator; begun = nothing_begun }
 
--- What a script gives: a text, or a refusal.
+-- What lines give behind the first command, whose decorator this is.
+abbrev pub OpensUnder : (ℕ → Option ℕ) → Decorator → Opening → ℕ → List (List ℕ) → Result (List ℕ) RunError → Type 0
+OpensUnder columns Plain opening number lines outcome =
+    LinesGive columns plain_decoration (opened opening (record {})) number lines outcome
+
+abbrev pub Opens : (ℕ → Option ℕ) → Opening → ℕ → List (List ℕ) → Result (List ℕ) RunError → Type 0
+Opens columns opening number lines outcome = OpensUnder columns opening.decorator opening number lines outcome
+
+-- What lines give before the first command, the first of them with this number. The end of a script counts as a line.
+abbrev pub Begins : (ℕ → Option ℕ) → ℕ → List (List ℕ) → Result (List ℕ) RunError → Type 0
+Begins columns number [] outcome = outcome ≡ Err (NotACommand number)
+Begins columns number ([] ∷ lines) outcome = Begins columns (number + 1) lines outcome
+Begins columns number ((b ∷ bs) ∷ lines) outcome =
+    (((opening : Opening) → IsOpening (b ∷ bs) opening → ⊥) × (outcome ≡ Err (NotACommand number)))
+    ⊎ ((opening : Opening) × IsOpening (b ∷ bs) opening × Opens columns opening (number + 1) lines outcome)
+
+-- What a script gives: a text that the calls allow, or a refusal.
 abbrev pub Gives : (ℕ → Option ℕ) → List ℕ → Result (List ℕ) RunError → Type 0
-Gives columns script outcome = LinesGive columns unbegun 1 (lines_of script) outcome
+Gives columns script outcome = Begins columns 1 (lines_of script) outcome

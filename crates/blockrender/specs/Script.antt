@@ -1,10 +1,15 @@
 -- The language of scripts, by the bytes of a script.
-use Rattle.std.specs.Prelude.{◌≡◌, ◌≢◌, ℕ, ◌^◌, ◌<◌, ◌≤◌, ◌==◌, if◌then◌else◌, ◌⊎◌, List, [], ◌∷◌, ◌++◌, length, flat_map, codes, encode_utf8, Option, Some, None}
+use Rattle.std.specs.Prelude.{◌≡◌, ◌≢◌, ℕ, ◌^◌, ◌<◌, ◌≤◌, ◌==◌, if◌then◌else◌, ◌⊎◌, List, [], ◌∷◌, ◌++◌, length, flat_map, codes, chars, encode_utf8, Option, Some, None, ⊤}
 use Rattle.std.specs.Char.{IsScalar}
 use Rattle.std.specs.List.{AllByRecursion as Each}
 use Rattle.std.specs.Str.{IsUtf8}
 use Rattle.std.specs.Str.Parse.{IsNumeral, digits_value}
+use Rattle.std.specs.Borrow.{Bor}
 use Rattle.tbr_model.specs.Codes.{newline_character, tab_character}
+use Rattle.tbr_model.specs.declared.white_space.WhiteSpace.{WhiteSpace}
+use Rattle.tbr_model.specs.declared.white_space.WhiteSpace.TheVariants.{Normal, Pre, PreWrap}
+use Rattle.text_block_renderer.specs.Calls.{Call, add_empty_line, new_line, new_line_hard, start_block, start_table, end_block, add_inline_text, push_ws, pop_ws, push_preformat, pop_preformat, record_frag_start, begin, finish, start_strikeout, end_strikeout, add_image, push_colour, pop_colour}
+use Rattle.blockrender.specs.declared.script.words.Words.{Words}
 
 -- a byte in front of the first line
 abbrev pub onto_first : ℕ → List (List ℕ) → List (List ℕ)
@@ -65,23 +70,74 @@ pub record IsText (writing text : List ℕ) : Type 0 where
   pub writes : flat_map written pieces ≡ writing
   pub means : flat_map meant pieces ≡ text
 
--- A command: a block of a width, or a text.
-pub data Call : Type 0 where
-  new_block : ℕ → Call
-  text : List ℕ → Call
+-- ---- words
 
--- what stands behind `new `: a width of at least 1 and the decorator
-abbrev pub IsNew : List ℕ → ℕ → Type 0
-IsNew rest width =
-    (digits : List ℕ) × (rest ≡ digits ++ codes " plain") × IsNumber digits
-    × (width ≡ digits_value 10 digits) × (0 < width)
+-- The words of a line. Exactly one space stands between two, so a space too many makes an empty word.
+abbrev pub words_of : List ℕ → List (List ℕ)
+words_of [] = [] ∷ []
+words_of (b ∷ bs) = if b == 32 then [] ∷ words_of bs else onto_first b (words_of bs)
 
--- how a command is written
+-- the words still to come
+abbrev pub words_behind : Option (Bor (List ℕ)) → List (List ℕ)
+words_behind None = []
+words_behind (Some rest) = words_of rest.now
+
+abbrev pub words_left : Words → List (List ℕ)
+words_left words = words_behind words.rest
+
+-- ---- commands
+
+abbrev pub mode_name : WhiteSpace → List ℕ
+mode_name Normal = codes "normal"
+mode_name Pre = codes "pre"
+mode_name PreWrap = codes "prewrap"
+
+-- how a call is written
 abbrev pub Writes : List ℕ → Call → Type 0
-Writes line (new_block width) = (rest : List ℕ) × (line ≡ codes "new " ++ rest) × IsNew rest width
-Writes line (text t) = (rest : List ℕ) × (line ≡ codes "text " ++ rest) × IsText rest t
+Writes line start_block = line ≡ codes "block"
+Writes line end_block = line ≡ codes "endblock"
+Writes line start_table = line ≡ codes "table"
+Writes line new_line = line ≡ codes "line"
+Writes line new_line_hard = line ≡ codes "hardline"
+Writes line add_empty_line = line ≡ codes "empty"
+Writes line (push_ws mode) = line ≡ codes "ws " ++ mode_name mode
+Writes line pop_ws = line ≡ codes "endws"
+Writes line push_preformat = line ≡ codes "pre"
+Writes line pop_preformat = line ≡ codes "endpre"
+Writes line (add_inline_text cs) =
+    (rest : List ℕ) × (text : List ℕ) × (line ≡ codes "text " ++ rest) × IsText rest text × (cs ≡ chars text)
+Writes line (record_frag_start name) = (rest : List ℕ) × (line ≡ codes "frag " ++ rest) × IsText rest name
+Writes line (begin opened) = ⊥
+Writes line (finish closed) = ⊥
+Writes line start_strikeout = ⊥
+Writes line end_strikeout = ⊥
+Writes line (add_image source title) = ⊥
+Writes line (push_colour g colour) = ⊥
+Writes line (pop_colour g) = ⊥
 
--- A line that is this command. A line that isn't UTF-8 is none.
+-- A line that is this call. A line that isn't UTF-8 is none.
 pub record IsCommand (line : List ℕ) (call : Call) : Type 0 where
   pub utf8 : IsUtf8 line
   pub writes : Writes line call
+
+-- whether a call has a text or a name with escapes
+abbrev pub TakesText : Call → Type 0
+TakesText (add_inline_text cs) = ⊤
+TakesText (record_frag_start name) = ⊤
+TakesText start_block = ⊥
+TakesText end_block = ⊥
+TakesText start_table = ⊥
+TakesText new_line = ⊥
+TakesText new_line_hard = ⊥
+TakesText add_empty_line = ⊥
+TakesText (push_ws mode) = ⊥
+TakesText pop_ws = ⊥
+TakesText push_preformat = ⊥
+TakesText pop_preformat = ⊥
+TakesText (begin opened) = ⊥
+TakesText (finish closed) = ⊥
+TakesText start_strikeout = ⊥
+TakesText end_strikeout = ⊥
+TakesText (add_image source title) = ⊥
+TakesText (push_colour g colour) = ⊥
+TakesText (pop_colour g) = ⊥

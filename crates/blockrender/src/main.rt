@@ -1,9 +1,12 @@
 //! Renders the script on standard input as text on standard output. Arguments are ignored.
 #![tactic(auto)]
 
+mod begun;
 mod command;
 mod error;
 mod laws;
+mod opening;
+mod options;
 mod program;
 mod run;
 mod script;

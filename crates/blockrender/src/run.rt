@@ -1,16 +1,22 @@
 //! From a script to its text.
-ghost use Rattle.std.specs.Prelude.{◌≡◌, ◌≢◌, ◌↔◌, ℕ, List, true, false, Ok, Err, OnOk, IfOk, IfErr, IfSome, IsErrOf, string_bytes};
+ghost use Rattle.std.specs.Prelude.{◌≡◌, ◌≢◌, ◌<◌, ◌≤◌, ◌+◌, ◌^◌, ◌↔◌, ℕ, List, length, Option, Some, Result, true, false, Ok, Err, OnOk, IfOk, IfErr, IfSome, IsErrOf, string_bytes};
 ghost use Rattle.std.specs.Io.KnownBytes.{Appends, Keeps};
 ghost use Rattle.tbr_lines.specs.UnicodeColumns.{unicode_columns};
 ghost use Rattle.blockrender.specs.Streams.{AppendsBeginning};
-ghost use Rattle.blockrender.specs.Meaning.{Gives};
+ghost use Rattle.tbr_decor.specs.Decoration.{decoration_of};
+ghost use Rattle.blockrender.specs.Script.{lines_of};
+ghost use Rattle.blockrender.specs.Progress.{progress_meant};
+ghost use Rattle.blockrender.specs.Meaning.{LinesGive, Opens, Gives};
+ghost use Rattle.blockrender.specs.declared.error.RunError.{RunError as Refusal};
 ghost use Rattle.blockrender.specs.Refusal.{IsOfScript};
 
 use crate::error::RunError;
+use crate::opening::{Decorator, Opening};
 use crate::program::Program;
 use crate::script::line::split_line;
 use crate::streams::{Sink, Source, write_all};
 use std::alloc::Global;
+use tbr_decor::{PlainDecorator, TextDecorator};
 use tbr_lines::{CharWidth, UnicodeColumns};
 
 /// Bytes that a read asks for at most.
@@ -81,14 +87,68 @@ fn render<W: CharWidth>(alloc: Global, script: &[u8]) -> Result<String, RunError
     ensures refusal { IfErr result (λ e. e ≢ RunError.OutOfMemory → Gives W.columns script.now (Err e)) }
     ensures of_script { IfErr result (λ e. e ≢ RunError.OutOfMemory → IsOfScript e) }
 {
-    let mut program = Program::<W>::new();
+    let (opening, number, rest) = first_command(script)?;
+    match opening.decorator {
+        Decorator::Plain => {
+            let program = Program::<PlainDecorator, W>::new(
+                alloc,
+                opening.width,
+                opening.options,
+                PlainDecorator::new(),
+            );
+            render_with(alloc, program, number, rest)
+        }
+    }
+}
+
+/// The first command of a script, the number of the line behind it, and what follows it.
+fn first_command(script: &[u8]) -> Result<(Opening, usize, &[u8]), RunError>
+    ensures found { IfOk result (λ r. (columns : ℕ → Option ℕ) (outcome : Result (List ℕ) Refusal) →
+        Opens columns r.0 r.1 (lines_of r.2.now) outcome → Gives columns script.now outcome) }
+    ensures bound { IfOk result (λ r. r.1 + length r.2.now ≤ length script.now + 1) }
+    ensures width { IfOk result (λ r. 0 < r.0.width) }
+    ensures wrap_width { IfOk result (λ r. r.0.options.wrap_width ≢ Some 0) }
+    ensures refused { IfErr result (λ e. (columns : ℕ → Option ℕ) → Gives columns script.now (Err e)) }
+    ensures of_script { IfErr result (λ e. IsOfScript e) }
+{
     let mut rest = script;
     let mut number = 1;
+    while !rest.is_empty() {
+        let (line, behind) = split_line(rest);
+        if !line.is_empty() {
+            let Some(opening) = Opening::parse(line) else {
+                return Err(RunError::NotACommand(number));
+            };
+            return Ok((opening, number + 1, behind));
+        }
+        rest = behind;
+        number += 1;
+    }
+    Err(RunError::NotACommand(number))
+}
+
+/// The text of a program to which the rest of a script is told, whose first line has this number.
+fn render_with<D: TextDecorator, W: CharWidth>(
+    alloc: Global,
+    program: Program<D, W>,
+    number: usize,
+    script: &[u8],
+) -> Result<String, RunError>
+    requires { number + length script.now < 2 ^ 64 }
+    ensures text { IfOk result (λ text. LinesGive W.columns (decoration_of D.TextDecorator)
+        (progress_meant D.meaning program) number (lines_of script.now) (Ok (string_bytes text))) }
+    ensures refusal { IfErr result (λ e. e ≢ RunError.OutOfMemory → LinesGive W.columns (decoration_of D.TextDecorator)
+        (progress_meant D.meaning program) number (lines_of script.now) (Err e)) }
+    ensures of_script { IfErr result (λ e. e ≢ RunError.OutOfMemory → IsOfScript e) }
+{
+    let mut program = program;
+    let mut rest = script;
+    let mut number = number;
     while !rest.is_empty() {
         let (line, behind) = split_line(rest);
         program = program.run_line(alloc, number, line)?;
         rest = behind;
         number += 1;
     }
-    program.finish(alloc, number)
+    program.finish()
 }

@@ -3,3 +3,4 @@
 pub mod escape;
 pub mod line;
 pub mod number;
+pub mod words;

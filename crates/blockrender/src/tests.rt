@@ -145,12 +145,109 @@ const SCRIPTS: [(&str, &str); 24] = [
     ("new 1 plain\ntext 漢 a\nnonsense", "1: too narrow\n"),
 ];
 
+/// The options of the first command.
+const OPTIONS: [(&str, &str); 12] = [
+    (
+        "new 8 plain wrap=5 pad\ntext hello world",
+        "hello   \nworld   \n",
+    ),
+    (
+        "new 8 plain pad wrap=5\ntext hello world",
+        "hello   \nworld   \n",
+    ),
+    (
+        "new 8 plain wrap=2 wrap=5\ntext hello world",
+        "hello\nworld\n",
+    ),
+    ("new 1 plain overflow\ntext 漢", "漢\n"),
+    ("new 1 plain overflow\ntext 漢\\u{336}b", "漢\n\u{336}b\n"),
+    ("new 8 plain wrap=0", "2: line 1: not a command\n"),
+    ("new 8 plain wrap=", "2: line 1: not a command\n"),
+    ("new 8 plain wrap", "2: line 1: not a command\n"),
+    ("new 8 plain  pad", "2: line 1: not a command\n"),
+    ("new 8 plain pad ", "2: line 1: not a command\n"),
+    ("new 8 pad", "2: line 1: not a command\n"),
+    ("new 8", "2: line 1: not a command\n"),
+];
+
+/// Blocks, lines and markers.
+const BLOCKS: [(&str, &str); 10] = [
+    ("new 9 plain\ntext a\nblock\ntext b", "a\n\nb\n"),
+    ("new 9 plain\ntext a\ntable\ntext b", "a\n\nb\n"),
+    ("new 5 plain\ntext a\nendblock\ntext   b", "a\n\nb\n"),
+    ("new 5 plain\nendblock\nendblock\ntext a", "a\n"),
+    ("new 5 plain\ntext a\nline\nline\ntext b", "a\nb\n"),
+    (
+        "new 5 plain\ntext a\nhardline\nhardline\ntext b",
+        "a\n\nb\n",
+    ),
+    ("new 5 plain\nempty\ntext a", "\na\n"),
+    ("new 5 plain\nfrag top\ntext a\nfrag \ntext b", "ab\n"),
+    ("new 5 plain\nfrag \\x", "2: line 2: not a command\n"),
+    ("new 5 plain\nfrag", "2: line 2: not a command\n"),
+];
+
+/// Modes of white space, and preformatted stretches.
+const MODES: [(&str, &str); 14] = [
+    ("new 5 plain\nws pre\ntext        ab", "  ab\n"),
+    ("new 5 plain\nws pre\ntext \\tb", "     \nb\n"),
+    ("new 5 plain\nws prewrap\ntext ab  cd", "ab\ncd\n"),
+    (
+        "new 20 plain\nws pre\ntext foo\\nbar\\nwib   asdf;\\n",
+        "foo\nbar\nwib   asdf;\n",
+    ),
+    (
+        "new 9 plain\nws pre\nws normal\ntext a  b\nendws\ntext   c",
+        "a b  c\n",
+    ),
+    ("new 9 plain\npre\ntext a  b\nendpre", "a b\n"),
+    ("new 5 plain\nendws", "2: line 2: nothing to end\n"),
+    ("new 5 plain\nendpre", "2: line 2: nothing to end\n"),
+    (
+        "new 5 plain\nws pre\nendws\nendws",
+        "2: line 4: nothing to end\n",
+    ),
+    (
+        "new 5 plain\npre\nws pre\nendpre\nendpre",
+        "2: line 5: nothing to end\n",
+    ),
+    ("new 5 plain\nendws ", "2: line 2: not a command\n"),
+    ("new 5 plain\nws", "2: line 2: not a command\n"),
+    ("new 5 plain\nws nowrap", "2: line 2: not a command\n"),
+    ("new 1 plain\ntext 漢\nline\nendws", "1: too narrow\n"),
+];
+
+/// Each script tells what stands behind it.
+fn all_tell(
+    rt: &impl Abort,
+    alloc: Global,
+    scripts: &[(&'static str, &'static str)],
+) -> Result<(), Fail> {
+    for (script, told) in scripts {
+        tells(rt, alloc, script.as_bytes(), told)?;
+    }
+    Ok(())
+}
+
+#[test]
+fn options_are_heeded(rt: HostRuntime) -> Result<(), Fail> {
+    all_tell(&rt, rt.alloc(), &OPTIONS)
+}
+
+#[test]
+fn blocks_lines_and_markers_are_called(rt: HostRuntime) -> Result<(), Fail> {
+    all_tell(&rt, rt.alloc(), &BLOCKS)
+}
+
+#[test]
+fn modes_hold_until_they_end(rt: HostRuntime) -> Result<(), Fail> {
+    all_tell(&rt, rt.alloc(), &MODES)
+}
+
 #[test]
 fn scripts_give_their_text_or_their_refusal(rt: HostRuntime) -> Result<(), Fail> {
     let alloc = rt.alloc();
-    for (script, told) in SCRIPTS {
-        tells(&rt, alloc, script.as_bytes(), told)?;
-    }
+    all_tell(&rt, alloc, &SCRIPTS)?;
     tells(
         &rt,
         alloc,

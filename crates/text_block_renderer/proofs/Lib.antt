@@ -5,13 +5,16 @@ pub mod Opened
 pub mod Meanings
 pub mod Fields
 pub mod Lines
+pub mod LineTexts
 pub mod Fits
 pub mod Flushing
 pub mod Texts
 pub mod Writing
 pub mod Moves
 pub mod Growing
+pub mod Settings
 pub mod Once
+pub mod OneState
 pub mod Showing
 pub mod LookingAtLines
 pub mod Standing

@@ -1,5 +1,6 @@
 pub mod Options
 pub mod Renderer
+pub mod Text
 pub mod Meant
 pub mod View
 pub mod Flush
@@ -9,3 +10,5 @@ pub mod Decorated
 pub mod Calls
 pub mod MarkersStand
 pub mod Stretches
+pub mod Settings
+pub mod Normal

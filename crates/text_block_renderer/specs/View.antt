@@ -1,5 +1,5 @@
 -- What the fields of a renderer mean.
-use Rattle.std.specs.Prelude.{◌≡◌, ◌<◌, ℕ, Bool, false, ⊤, Option, Some, None, List, [], ◌∷◌, ◌++◌, flat_map, map, chars}
+use Rattle.std.specs.Prelude.{◌≡◌, ◌<◌, ℕ, Bool, false, ⊤, Option, Some, None, List, [], ◌∷◌, ◌++◌, map, chars}
 use Rattle.std.specs.Option.{option_map}
 use Rattle.std.specs.List.{AllByRecursion as Each, list_any}
 use Rattle.std.specs.Global.{Vec}
@@ -20,9 +20,7 @@ use Rattle.text_block_renderer.specs.declared.sub.decorated.Start.{Start as Open
 use Rattle.text_block_renderer.specs.declared.sub.decorated.Start.TheVariants as opened
 use Rattle.tbr_lines.specs.declared.RenderLine.{RenderLine}
 use Rattle.tbr_lines.specs.declared.RenderLine.TheVariants.{Text, Line as Rule}
-use Rattle.tbr_model.specs.Codes.{newline_character}
-use Rattle.tbr_lines.specs.Walks.{item_characters}
-use Rattle.tbr_lines.specs.RenderLine.{line_items, IsMergedText}
+use Rattle.tbr_lines.specs.RenderLine.{IsMergedText}
 use Rattle.text_block_renderer.specs.Renderer.{Line, text, border, line_has_content, Open, Renderer, least, overflows}
 
 abbrev pub line_seen : {T : Type 0} → RenderLine T → Line T
@@ -91,13 +89,6 @@ pub record HoldsFresh {D W A : Type 0} (eq : A → A → Bool) (r : Inside D W A
 pub record HoldsRenderer {D W A : Type 0} (eq : A → A → Bool) (r : Inside D W A) : Type 0 where
   pub columns : 0 < least r.width r.options.wrap_width
   pub fresh : r.failure ≡ None → HoldsFresh eq r
-
--- a line's characters and a newline
-abbrev pub line_text : {T : Type 0} → RenderLine T → List ℕ
-line_text line = item_characters (line_items line) ++ newline_character ∷ []
-
-abbrev pub lines_text : {T : Type 0} → List (RenderLine T) → List ℕ
-lines_text lines = flat_map line_text lines
 
 -- what is opened or closed
 abbrev pub start_of : Opened → start.Start

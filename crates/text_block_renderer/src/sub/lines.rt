@@ -6,9 +6,9 @@ ghost use Rattle.tbr_lines.specs.RenderLine.{IsMergedText};
 ghost use Rattle.tbr_lines.specs.declared.Error.{Error as Refusal};
 ghost use Rattle.tbr_lines.specs.declared.Error.TheVariants as E;
 ghost use Rattle.text_block_renderer.specs.Renderer.{Renderer as Seen, block_width};
-ghost use Rattle.text_block_renderer.specs.View.{line_seen, line_text, lines_text};
+ghost use Rattle.text_block_renderer.specs.View.{line_seen};
+ghost use Rattle.text_block_renderer.specs.Text.{line_text, lines_text};
 ghost use Rattle.tbr_lines.specs.View.{chars_of};
-ghost use Rattle.std.specs.Global.{Vec};
 ghost use Rattle.text_block_renderer.specs.Meant.{tag_meant, map_line, meant};
 ghost use Rattle.text_block_renderer.specs.Flush.{Flushes, FlushIsTooNarrow};
 
@@ -42,10 +42,8 @@ impl<D: TextDecorator, W: CharWidth> SubRenderer<D, W> {
     ///
     /// It refuses as [`into_lines`](SubRenderer::into_lines) does.
     pub fn into_string(self) -> Result<String, Error>
-        ensures text { IfOk result (λ text. (lines : List (RenderLine (Vec D.Annotation)))
-            × ((s : Seen D D.Meaning (List D.Meaning)) × Flushes W.columns (meant D.meaning self) s
-            × (map (map_line (tag_meant D.meaning)) (map line_seen lines) ≡ s.lines))
-            × (chars_of text ≡ lines_text lines)) }
+        ensures text { IfOk result (λ text. (s : Seen D D.Meaning (List D.Meaning))
+            × Flushes W.columns (meant D.meaning self) s × (chars_of text ≡ lines_text s.lines)) }
         ensures too_narrow { self.failure ≡ None → result ≡ Err E.TooNarrow →
             FlushIsTooNarrow W.columns (meant D.meaning self) }
         ensures two_columns { self.failure ≡ None → 2 ≤ block_width self → result ≢ Err E.TooNarrow }
@@ -69,7 +67,7 @@ impl<D: TextDecorator, W: CharWidth> SubRenderer<D, W> {
 
 /// The text of lines, each with a newline.
 fn text_of<T: Drop>(alloc: Global, lines: LinkedList<RenderLine<T>>) -> Result<String, OutOfMemory>
-    ensures { IfOk result (λ text. chars_of text ≡ lines_text lines) }
+    ensures { IfOk result (λ text. chars_of text ≡ lines_text (map line_seen lines)) }
 {
     let mut text = String::new(alloc);
     for line in lines {
@@ -80,7 +78,7 @@ fn text_of<T: Drop>(alloc: Global, lines: LinkedList<RenderLine<T>>) -> Result<S
 
 /// Appends a line's text and a newline.
 fn push_line<T>(text: &mut String, line: &RenderLine<T>) -> Result<(), OutOfMemory>
-    ensures { OnOk result (chars_of text.new ≡ chars_of text.old ++ line_text line.now) }
+    ensures { OnOk result (chars_of text.new ≡ chars_of text.old ++ line_text (line_seen line.now)) }
 {
     text.push_str(line.to_text()?.as_str())?;
     text.push('\n')?;

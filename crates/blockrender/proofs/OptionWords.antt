@@ -1,0 +1,27 @@
+-- The settings that words are.
+use Rattle.std.proofs.Common.{◌≡◌, ◌≢◌, ℕ, List, [], ◌∷◌, Some, codes, subst, arith}
+use Rattle.std.specs.List.{AllZip}
+use Rattle.text_block_renderer.specs.declared.options.RenderOptions.{RenderOptions}
+use Rattle.blockrender.specs.declared.options.Setting.{Setting}
+use Rattle.blockrender.specs.declared.options.Setting.TheVariants.{Wrap, Overflow, Pad}
+use Rattle.blockrender.specs.Options.{IsWrap, IsSetting, with_setting}
+
+pub no_setting : (word : List ℕ) → word ≢ codes "pad" → word ≢ codes "overflow" → ((columns : ℕ) → IsWrap word columns → ⊥) → (setting : Setting) → IsSetting word setting → ⊥
+no_setting word pad overflow wrap (Wrap columns) k = wrap columns k
+no_setting word pad overflow wrap Overflow k = overflow k
+no_setting word pad overflow wrap Pad k = pad k
+
+-- a first word has its setting, and those behind it have theirs
+pub first_setting : (words rest : List (List ℕ)) (word : List ℕ) (settings : List Setting) → words ≡ word ∷ rest → AllZip IsSetting words settings →
+    ((setting : Setting) × IsSetting word setting) × ((others : List Setting) × AllZip IsSetting rest others)
+first_setting words rest word settings is all = go settings (subst (λ ws. AllZip IsSetting ws settings) is all)
+  where
+    go : (ss : List Setting) → AllZip IsSetting (word ∷ rest) ss → ((setting : Setting) × IsSetting word setting) × ((others : List Setting) × AllZip IsSetting rest others)
+    go [] h = absurd h
+    go (s ∷ ss) h = ((s, h.0), (ss, h.1))
+
+-- no wrap width is 0
+pub wrap_width_kept : (word : List ℕ) (setting : Setting) (options : RenderOptions) → IsSetting word setting → options.wrap_width ≢ Some 0 → (with_setting options setting).wrap_width ≢ Some 0
+wrap_width_kept word (Wrap columns) options k h e = let same : columns ≡ 0 = cc in omega (arith, same, k.4)
+wrap_width_kept word Overflow options k h e = h e
+wrap_width_kept word Pad options k h e = h e

@@ -1,0 +1,32 @@
+-- The options of a script's first command.
+use Rattle.std.specs.Prelude.{◌≡◌, ℕ, ◌<◌, true, List, ◌++◌, Some, codes, fold}
+use Rattle.std.specs.List.{AllZip}
+use Rattle.std.specs.Str.Parse.{digits_value}
+use Rattle.text_block_renderer.specs.Options.{default_options}
+use Rattle.text_block_renderer.specs.declared.options.RenderOptions.{RenderOptions}
+use Rattle.blockrender.specs.Script.{IsNumber}
+use Rattle.blockrender.specs.declared.options.Setting.{Setting}
+use Rattle.blockrender.specs.declared.options.Setting.TheVariants.{Wrap, Overflow, Pad}
+
+-- `wrap=` and a number of columns, at least 1
+abbrev pub IsWrap : List ℕ → ℕ → Type 0
+IsWrap word columns =
+    (digits : List ℕ) × (word ≡ codes "wrap=" ++ digits) × IsNumber digits
+    × (columns ≡ digits_value 10 digits) × (0 < columns)
+
+-- how a setting is written
+abbrev pub IsSetting : List ℕ → Setting → Type 0
+IsSetting word (Wrap columns) = IsWrap word columns
+IsSetting word Overflow = word ≡ codes "overflow"
+IsSetting word Pad = word ≡ codes "pad"
+
+-- options with a setting more
+abbrev pub with_setting : RenderOptions → Setting → RenderOptions
+with_setting options (Wrap columns) = record options { wrap_width = Some columns }
+with_setting options Overflow = record options { allow_width_overflow = true }
+with_setting options Pad = record options { pad_block_width = true }
+
+-- the options that words tell, each of them a setting, the later of a kind counting
+abbrev pub AreOptions : List (List ℕ) → RenderOptions → Type 0
+AreOptions words options =
+    (settings : List Setting) × AllZip IsSetting words settings × (options ≡ fold with_setting default_options settings)

@@ -1,0 +1,198 @@
+-- A call changes no settings but its own.
+use Rattle.std.proofs.Common.{◌≡◌, ℕ, suc, ◌-◌, if◌then◌else◌, Bool, true, false, Option, Some, None, List, [], ◌∷◌, fold, refl, ap, sym, ◌∙◌}
+use Rattle.tbr_model.specs.Run.{Item}
+use Rattle.tbr_decor.specs.Start as start
+use Rattle.tbr_decor.specs.End as end
+use Rattle.tbr_decor.specs.End.{End}
+use Rattle.tbr_decor.specs.Ground.{Ground}
+use Rattle.tbr_decor.specs.declared.colour.Colour.{Colour}
+use Rattle.tbr_decor.specs.Decoration.{Decoration}
+use Rattle.tbr_lines.specs.declared.Error.{Error}
+use Rattle.text_block_renderer.specs.Image.{shown_title}
+use Rattle.text_block_renderer.specs.Decorated.{struck_from, struck_until, asked_to_close, annotated, coloured, uncoloured, Closes, AddsImageBy}
+use Rattle.text_block_renderer.specs.Renderer.{Open, Renderer, Settings, settings_of, has_content, with_line, without_last, without_annotation, ignores}
+use Rattle.text_block_renderer.specs.Flush.{block_lines, Flushes, FlushesBlock}
+use Rattle.text_block_renderer.specs.Steps.{AddsEmptyLine, with_empty_line, block_started, StartsBlock, BreaksLineAt, AddsText, AddsTextBy}
+use Rattle.text_block_renderer.specs.Calls.{Call, add_empty_line, new_line, new_line_hard, start_block, start_table, end_block, add_inline_text, push_ws, pop_ws, push_preformat, pop_preformat, record_frag_start, begin, finish, start_strikeout, end_strikeout, add_image, push_colour, pop_colour, Does}
+use Rattle.text_block_renderer.specs.Settings.{settled, settled_by_image}
+
+-- the settings, and the kept refusal
+pub record Steady (D A : Type 0) : Type 0 where
+  pub settings : Settings D A
+  pub failure : Option Error
+
+abbrev pub steady : {D A : Type 0} → Renderer D A (List A) → Steady D A
+steady r = record { settings = settings_of r; failure = r.failure }
+
+module _ {D A : Type 0} (columns : ℕ → Option ℕ) where
+  lines_added : (texts : List (List (Item (List A)))) (r : Renderer D A (List A)) → steady (fold (with_line columns) r texts) ≡ steady r
+  lines_added [] r = refl
+  lines_added (t ∷ ts) r = lines_added ts (with_line columns r t)
+
+  block_flushed : (r s : Renderer D A (List A)) (o : Option (Open (List A))) → FlushesBlock columns r o s → steady s ≡ steady r
+  block_flushed r s None h = ap (λ (q : Renderer D A (List A)). steady q) h
+  block_flushed r s (Some b) h = ap (λ (q : Renderer D A (List A)). steady q) h.is ∙ lines_added (block_lines columns r b h.texts) (record r { block = None })
+
+  pub flushed_alike : (r s : Renderer D A (List A)) → Flushes columns r s → steady s ≡ steady r
+  flushed_alike r s h = block_flushed r s r.block h
+
+  empty_added : (r s : Renderer D A (List A)) → AddsEmptyLine columns r s → steady s ≡ steady r
+  empty_added r s h = ap (λ (q : Renderer D A (List A)). steady q) h.2 ∙ flushed_alike r h.0 h.1
+
+  begun : (r : Renderer D A (List A)) → steady (block_started columns r) ≡ steady r
+  begun r = go (has_content r) refl
+    where
+      go : (b : Bool) → has_content r ≡ b → steady (block_started columns r) ≡ steady r
+      go true e = rw e refl
+      go false e = rw e refl
+
+  pub started_alike : (r s : Renderer D A (List A)) → StartsBlock columns r s → steady s ≡ steady r
+  started_alike r s h = ap (λ (q : Renderer D A (List A)). steady q) h.2 ∙ begun h.0 ∙ flushed_alike r h.0 h.1
+
+  broken : (r s : Renderer D A (List A)) (at : Bool) → BreaksLineAt columns at r s → steady s ≡ steady r
+  broken r s true h = empty_added r s h
+  broken r s false h = flushed_alike r s h
+
+  text_added : (preformatted : D → Bool → A) (ignored ended : Bool) (cs : List ℕ) (r s : Renderer D A (List A)) → AddsTextBy columns preformatted ignored ended cs r s → steady s ≡ steady r
+  text_added preformatted true ended cs r s h = ap (λ (q : Renderer D A (List A)). steady q) h
+  text_added preformatted false false cs r s h = ap (λ (q : Renderer D A (List A)). steady q) h.1
+  text_added preformatted false true cs r s h = ap (λ (q : Renderer D A (List A)). steady q) h.2.1 ∙ started_alike r h.0 h.1
+
+  module _ (decoration : Decoration D A) where
+    -- a text, and then a turn of the settings that it leaves
+    added : (cs : List ℕ) (r s : Renderer D A (List A)) → AddsText columns decoration.preformatted cs r s → steady s ≡ steady r
+    added cs r s h = text_added decoration.preformatted (ignores r cs) r.block_ended cs r s h
+
+    taken : (m r : Renderer D A (List A)) → steady m ≡ steady r → steady (without_annotation m) ≡ steady (without_annotation r)
+    taken m r e = ap (λ (x : Steady D A). record x { settings = record x.settings { annotations = without_last x.settings.annotations } }) e
+
+    closed_alike : (closed : End) (r s : Renderer D A (List A)) → Closes columns decoration closed r s → steady s ≡ steady (without_annotation (asked_to_close decoration closed r))
+    closed_alike closed r s h =
+        let q = asked_to_close decoration closed r in
+        ap (λ (p : Renderer D A (List A)). steady p) h.2 ∙ taken h.0 q (added (decoration.end_text r.decorator closed) q h.0 h.1)
+
+    image_alike : (source : List ℕ) (title : Option (List ℕ)) (r s : Renderer D A (List A)) → AddsImageBy columns decoration source title r s → steady s ≡ steady (settled_by_image decoration source title r)
+    image_alike source None r s h = ap (λ (p : Renderer D A (List A)). steady p) h
+    image_alike source (Some title) r s h =
+        let image = start.image source title in
+        let q = annotated decoration image r in
+        ap (λ (p : Renderer D A (List A)). steady p) h.2 ∙ taken h.0 q (added (decoration.start_text r.decorator image) q h.0 h.1)
+
+    -- strokes, by the settings alone
+    struck_alike : (m r : Renderer D A (List A)) → steady m ≡ steady r → steady (struck_from m) ≡ steady (struck_from r)
+    struck_alike m r e = is m ∙ ap more e ∙ sym (is r)
+      where
+        more : Steady D A → Steady D A
+        more x = if x.settings.options.use_unicode_strikeout then record x { settings = record x.settings { strikeouts = suc x.settings.strikeouts } } else x
+        is : (q : Renderer D A (List A)) → steady (struck_from q) ≡ more (steady q)
+        is q = go q.options.use_unicode_strikeout refl
+          where
+            go : (b : Bool) → q.options.use_unicode_strikeout ≡ b → steady (struck_from q) ≡ more (steady q)
+            go true e = rw e refl
+            go false e = rw e refl
+
+    pub call_settings : (call : Call) (r s : Renderer D A (List A)) → Does columns decoration call r s → steady s ≡ steady (settled decoration call r)
+    call_settings add_empty_line r s h = empty_added r s h
+    call_settings new_line r s h = flushed_alike r s h
+    call_settings new_line_hard r s h = broken r s h.0 h.2
+    call_settings start_block r s h = started_alike r s h
+    call_settings start_table r s h = started_alike r s h
+    call_settings end_block r s h = ap (λ (q : Renderer D A (List A)). steady q) h
+    call_settings (add_inline_text cs) r s h = text_added decoration.preformatted (ignores r cs) r.block_ended cs r s h
+    call_settings (push_ws mode) r s h = ap (λ (q : Renderer D A (List A)). steady q) h
+    call_settings pop_ws r s h = ap (λ (q : Renderer D A (List A)). steady q) h
+    call_settings push_preformat r s h = ap (λ (q : Renderer D A (List A)). steady q) h
+    call_settings pop_preformat r s h = ap (λ (q : Renderer D A (List A)). steady q) h
+    call_settings (record_frag_start name) r s h = ap (λ (q : Renderer D A (List A)). steady q) h
+    call_settings (begin opened) r s h = added (decoration.start_text r.decorator opened) (annotated decoration opened r) s h
+    call_settings (finish closed) r s h = closed_alike closed r s h
+    call_settings start_strikeout r s h =
+        let q = annotated decoration start.strikeout r in
+        ap (λ (p : Renderer D A (List A)). steady p) h.2 ∙ struck_alike h.0 q (added (decoration.start_text r.decorator start.strikeout) q h.0 h.1)
+    call_settings end_strikeout r s h = closed_alike end.strikeout (struck_until r) s h
+    call_settings (add_image source title) r s h = image_alike source (shown_title r.options.img_mode source title) r s h
+    call_settings (push_colour g colour) r s h = ap (λ (q : Renderer D A (List A)). steady q) h
+    call_settings (pop_colour g) r s h = ap (λ (q : Renderer D A (List A)). steady q) h
+
+    pub call_changes : (call : Call) (r s : Renderer D A (List A)) → Does columns decoration call r s → settings_of s ≡ settings_of (settled decoration call r)
+    call_changes call r s h = ap (λ (x : Steady D A). x.settings) (call_settings call r s h)
+
+    -- ---- the kept refusal, and the preformatted stretches that are open
+
+    abbrev pub preformats_behind : Call → ℕ → ℕ
+    preformats_behind push_preformat n = suc n
+    preformats_behind pop_preformat n = n - 1
+    preformats_behind add_empty_line n = n
+    preformats_behind new_line n = n
+    preformats_behind new_line_hard n = n
+    preformats_behind start_block n = n
+    preformats_behind start_table n = n
+    preformats_behind end_block n = n
+    preformats_behind (add_inline_text cs) n = n
+    preformats_behind (push_ws mode) n = n
+    preformats_behind pop_ws n = n
+    preformats_behind (record_frag_start name) n = n
+    preformats_behind (begin opened) n = n
+    preformats_behind (finish closed) n = n
+    preformats_behind start_strikeout n = n
+    preformats_behind end_strikeout n = n
+    preformats_behind (add_image source title) n = n
+    preformats_behind (push_colour g colour) n = n
+    preformats_behind (pop_colour g) n = n
+
+    -- neither is changed
+    Beside : Renderer D A (List A) → Renderer D A (List A) → Type 0
+    Beside r s = (s.failure ≡ r.failure) × (s.preformatted ≡ r.preformatted)
+
+    struck_from_beside : (r : Renderer D A (List A)) (b : Bool) → r.options.use_unicode_strikeout ≡ b → Beside r (struck_from r)
+    unfolding Beside
+    struck_from_beside r true e = rw e (refl, refl)
+    struck_from_beside r false e = rw e (refl, refl)
+
+    struck_until_beside : (r : Renderer D A (List A)) (b : Bool) → r.options.use_unicode_strikeout ≡ b → Beside r (struck_until r)
+    unfolding Beside
+    struck_until_beside r true e = rw e (refl, refl)
+    struck_until_beside r false e = rw e (refl, refl)
+
+    coloured_beside : (g : Ground) (colour : Colour) (r : Renderer D A (List A)) (o : Option A) → decoration.colour_annotation r.decorator g colour ≡ o → Beside r (coloured decoration g colour r)
+    unfolding Beside
+    coloured_beside g colour r None e = rw e (refl, refl)
+    coloured_beside g colour r (Some a) e = rw e (refl, refl)
+
+    uncoloured_beside : (g : Ground) (r : Renderer D A (List A)) (b : Bool) → decoration.ends_colour r.decorator g ≡ b → Beside r (uncoloured decoration g r)
+    unfolding Beside
+    uncoloured_beside g r true e = rw e (refl, refl)
+    uncoloured_beside g r false e = rw e (refl, refl)
+
+    image_beside : (source : List ℕ) (title : Option (List ℕ)) (r : Renderer D A (List A)) → Beside r (settled_by_image decoration source title r)
+    unfolding Beside
+    image_beside source None r = (refl, refl)
+    image_beside source (Some title) r = (refl, refl)
+
+    settled_beside : (call : Call) (r : Renderer D A (List A)) → (let s = settled decoration call r in (s.failure ≡ r.failure) × (s.preformatted ≡ preformats_behind call r.preformatted))
+    unfolding Beside
+    settled_beside (push_ws mode) r = (refl, refl)
+    settled_beside pop_ws r = (refl, refl)
+    settled_beside push_preformat r = (refl, refl)
+    settled_beside pop_preformat r = (refl, refl)
+    settled_beside add_empty_line r = (refl, refl)
+    settled_beside new_line r = (refl, refl)
+    settled_beside new_line_hard r = (refl, refl)
+    settled_beside start_block r = (refl, refl)
+    settled_beside start_table r = (refl, refl)
+    settled_beside end_block r = (refl, refl)
+    settled_beside (add_inline_text cs) r = (refl, refl)
+    settled_beside (record_frag_start name) r = (refl, refl)
+    settled_beside (begin opened) r = (refl, refl)
+    settled_beside (finish closed) r = (refl, refl)
+    settled_beside start_strikeout r = struck_from_beside (annotated decoration start.strikeout r) r.options.use_unicode_strikeout refl
+    settled_beside end_strikeout r = struck_until_beside r r.options.use_unicode_strikeout refl
+    settled_beside (add_image source title) r = image_beside source (shown_title r.options.img_mode source title) r
+    settled_beside (push_colour g colour) r = coloured_beside g colour r (decoration.colour_annotation r.decorator g colour) refl
+    settled_beside (pop_colour g) r = uncoloured_beside g r (decoration.ends_colour r.decorator g) refl
+
+    pub call_beside : (call : Call) (r s : Renderer D A (List A)) → Does columns decoration call r s → (s.failure ≡ r.failure) × (s.preformatted ≡ preformats_behind call r.preformatted)
+    call_beside call r s h =
+        let e = call_settings call r s h in
+        let behind = settled_beside call r in
+        (ap (λ (x : Steady D A). x.failure) e ∙ behind.0, ap (λ (x : Steady D A). x.settings.preformatted) e ∙ behind.1)
