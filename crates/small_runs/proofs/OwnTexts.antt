@@ -7,6 +7,7 @@ use Rattle.tbr_model.specs.declared.white_space.WhiteSpace.{WhiteSpace}
 use Rattle.tbr_model.specs.declared.white_space.WhiteSpace.TheVariants.{Pre}
 use Rattle.tbr_model.specs.Run.{Entry, character, marker_entry, Item, glyph, marker}
 use Rattle.tbr_model.specs.Layout.{joined}
+use Rattle.tbr_model.specs.Markers.{names_in_items}
 use Rattle.tbr_model.specs.Hard.{letters_of, is_visible, visible_glyphs, visible_entries, HasMain, hard_lines}
 use Rattle.tbr_model.specs.Shown.{IsNotPre, StandsUnderOwn}
 use Rattle.tbr_lines.specs.Elements.{text_items}
@@ -74,18 +75,21 @@ each_own (c ∷ cs) a b x mode = ((λ h. h), each_own cs a b x mode)
 items_own : {A : Type 0} (cs : List ℕ) (a b : A) (mode : WhiteSpace) (is : List (Item A)) → Each (IsUnderOwn (λ p q. p ≡ q) (text_entries cs a b mode)) is → Each (ItemUnder a) is
 items_own cs a b mode [] h = tt
 items_own {A} cs a b mode (glyph c x ∷ is) h =
-    let P : Entry A → Type 0 = λ e. HasMain (λ p q. p ≡ q) e x → x ≡ a in
-    (
+    let P : Entry A → Type 0 = λ e. HasMain (λ p q. p ≡ q) e x → x ≡ a in (
       All-contains P (text_entries cs a b mode) h.0.0 (All-from_recursion P (text_entries cs a b mode) (each_own cs a b x mode)) h.0.1 h.0.2,
       items_own cs a b mode is h.1,
     )
 items_own cs a b mode (marker name ∷ is) h = (tt, items_own cs a b mode is h.1)
 
--- The lines of a text of `Pre` that is one hard line and fits are told by their letters.
+-- A hard line of `Pre` that fits is told by its letters.
+pub fitting_line : {A : Type 0} (width : ℕ) (more : Bool) (cs : List ℕ) (a b : A) (ls : List (List (Item A))) (text : List ℕ) → LineFits small_columns width (text_entries cs a b Pre) →
+    names_in_items (joined ls) ≡ [] → map letters_of ls ≡ text ∷ [] → ShowsFitting small_columns (λ x y. x ≡ y) width more (text_entries cs a b Pre) ls → ls ≡ text_items text a ∷ []
+fitting_line width more cs a b ls text fits none letters shown =
+    lines_under a ls none (items_own cs a b Pre (joined ls) (shown.under fits)) ∙ ap (map (λ ds. text_items ds a)) letters
+
+-- so are the lines of a text that is one
 pub fitting_by_letters : {A : Type 0} (width : ℕ) (cs : List ℕ) (a b : A) (lines : List (List (Item A))) (names : List (List ℕ)) (text : List ℕ) →
     hard_lines (text_entries cs a b Pre) ≡ text_entries cs a b Pre ∷ [] → LineFits small_columns width (text_entries cs a b Pre) → map letters_of lines ≡ text ∷ [] →
     MayEnd width (text_entries cs a b Pre) lines names → lines ≡ text_items text a ∷ []
-fitting_by_letters {A} width cs a b lines names text alone fits letters h =
-    let shown : ShowsFitting small_columns (λ x y. x ≡ y) width false (text_entries cs a b Pre) lines =
-    rw alone at (fitting width (text_entries cs a b Pre) lines names (text_has_mode cs a b Pre) h) in
-    lines_under a lines (unmarked width cs a b Pre lines names h) (items_own cs a b Pre (joined lines) (shown.under fits)) ∙ ap (map (λ ds. text_items ds a)) letters
+fitting_by_letters width cs a b lines names text alone fits letters h =
+    fitting_line width false cs a b lines text fits (unmarked width cs a b Pre lines names h) letters (rw alone at (fitting width (text_entries cs a b Pre) lines names (text_has_mode cs a b Pre) h))

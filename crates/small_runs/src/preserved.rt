@@ -61,6 +61,20 @@ pub fn full_lines_are_continued<T>()
         ∷ text_items (codes "jk") b ∷ []) names) }
 {}
 
+/// A hard line that fits stands under its own annotation, also behind one that is continued.
+pub fn lines_that_fit_are_not_continued<T>()
+    ensures admitted { (a b : T) →
+        MayEnd 4 (text_entries (codes "abcdef\n c") a b Pre)
+        (text_items (codes "abcd") a ∷ text_items (codes "ef") b ∷ text_items (codes " c") a ∷ []) [] }
+    ensures ends { (a b : T) (lines : List (List (Item T))) (names : List (List ℕ)) →
+        MayEnd 4 (text_entries (codes "abcdef\n c") a b Pre) lines names →
+        (lines ≡ text_items (codes "abcd") a ∷ text_items (codes "ef") b ∷ text_items (codes " c") a ∷ [])
+        × (names ≡ []) }
+    ensures no_continuation { (a b : T) (names : List (List ℕ)) → a ≢ b →
+        ¬ (MayEnd 4 (text_entries (codes "abcdef\n c") a b Pre)
+        (text_items (codes "abcd") a ∷ text_items (codes "ef") b ∷ text_items (codes " c") b ∷ []) names) }
+{}
+
 /// Spaces stay as they are, in front of a text, in it and behind it, and under their annotation where nothing is cut.
 pub fn spaces_stay<T>()
     ensures admitted { (a b : T) →
