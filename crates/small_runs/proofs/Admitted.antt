@@ -15,6 +15,7 @@ use Rattle.tbr_model.proofs.lines.WaitingMarkers.{waits_behind_visible, waits_be
 use Rattle.tbr_model.proofs.lines.MarkersAlone.{no_line_ends}
 use Rattle.tbr_model.proofs.rule.Markers.{markers_at_end, waiting_none, marker_items_alone}
 use Rattle.tbr_wrap.proofs.runs.EndedRuns.{shown_run, waits_normal}
+use Rattle.tbr_wrap.proofs.runs.FittingLines.{fitting_lines}
 use Rattle.tbr_lines.specs.State.{empty_block}
 use Rattle.tbr_lines.specs.Wrapped.{FitsBlock}
 use Rattle.small_runs.specs.Small.{small_columns, MayEnd}
@@ -44,6 +45,7 @@ module _ {A : Type 0} (width : ℕ) (some : 0 < width) (es : List (Event A)) whe
       come = come_with_run small_columns width (λ a b. a ≡ b) (λ a. refl) es;
       order = shown_in_order small_columns width (λ a b. a ≡ b) (λ a. refl) es;
       own = λ plain. own_shown small_columns width (λ a b. a ≡ b) (λ a. refl) es plain;
+      fitting = λ pre. fitting_lines small_columns (λ a b. a ≡ b) (λ a. refl) width es pre;
       kept = λ normal.
           ap (λ (is : List (Item A)). without_spaces (joined (lines_of small_columns width es)) ++ is) (sym left_is) ∙ normal_keeps small_columns width es normal;
       markers = markers_at_end small_columns width es;

@@ -1,5 +1,5 @@
 -- Items without a marker are their letters, each under an annotation.
-use Rattle.std.proofs.Common.{◌≡◌, ℕ, ◌⊎◌, inl, inr, true, false, List, [], ◌∷◌, map, refl, sym, ◌∙◌}
+use Rattle.std.proofs.Common.{◌≡◌, ℕ, ◌⊎◌, inl, inr, true, false, List, [], ◌∷◌, map, sym, ◌∙◌}
 use Rattle.std.specs.List.{AllByRecursion as Each}
 use Rattle.std.proofs.lemmas.List.Elements.{All-contains, All-from_recursion}
 use Rattle.tbr_model.specs.declared.white_space.WhiteSpace.{WhiteSpace}
@@ -44,12 +44,6 @@ annotated_lines {A} P (cs ∷ texts) (l ∷ ls) n e h =
     let more : map letters_of ls ≡ texts = cc in
     annotated (λ (k : List (Item A)). AnnotatesLines texts (λ ms. P (k ∷ ms))) cs l (unmarked_front l (joined ls) n) first
     (annotated_lines (λ (ms : List (List (Item A))). P (l ∷ ms)) texts ls (unmarked_back l (joined ls) n) more h)
-
--- one line of known letters
-pub one_line : {A : Type 0} (cs : List ℕ) (lines : List (List (Item A))) → map letters_of lines ≡ cs ∷ [] → (line : List (Item A)) × (lines ≡ line ∷ []) × (letters_of line ≡ cs)
-one_line cs [] e = cc
-one_line cs (l ∷ []) e = (l, refl, (let p : letters_of l ≡ cs = cc in p))
-one_line cs (l ∷ m ∷ ls) e = cc
 
 -- ---- white space under an annotation of its text
 

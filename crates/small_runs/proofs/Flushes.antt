@@ -4,8 +4,10 @@ use Rattle.std.specs.List.{AllByRecursion as Each}
 use Rattle.tbr_model.specs.Run.{Entry, Item, trailing}
 use Rattle.tbr_model.specs.Layout.{joined}
 use Rattle.tbr_model.specs.Markers.{names_in_items, names_in_run, marker_items}
+use Rattle.tbr_model.specs.declared.white_space.WhiteSpace.TheVariants.{Pre}
+use Rattle.tbr_model.specs.Hard.{HasMode, hard_lines, Parted}
 use Rattle.tbr_model.specs.Shown.{InventsNothing, ComesWithRun, ShowsInOrder, IsNotPre, ShowsOwn}
-use Rattle.tbr_lines.specs.State.{IsNormal, IsShownBy}
+use Rattle.tbr_lines.specs.State.{IsNormal, IsShownBy, ShowsFitting}
 use Rattle.small_runs.specs.Small.{small_columns, MayEnd}
 
 module _ {A : Type 0} (width : ℕ) (run : List (Entry A)) (lines : List (List (Item A))) (names : List (List ℕ)) where
@@ -23,6 +25,9 @@ module _ {A : Type 0} (width : ℕ) (run : List (Entry A)) (lines : List (List (
 
   pub own : Each IsNotPre run → MayEnd width run lines names → ShowsOwn small_columns (λ a b. a ≡ b) run lines
   own plain h = rw (h.of_run, h.in_all) at (h.ends.own (rw (h.of_run) plain))
+
+  pub fitting : Each (HasMode Pre) run → MayEnd width run lines names → Parted (ShowsFitting small_columns (λ a b. a ≡ b) width) (hard_lines run) lines
+  fitting pre h = rw (h.of_width, h.of_run, h.in_all) at (h.ends.fitting (rw (h.of_run) pre))
 
   pub markers : MayEnd width run lines names → names_in_items (joined lines) ++ names ≡ names_in_run run
   markers h = rw (h.of_run, h.in_all) at h.ends.markers

@@ -1,15 +1,13 @@
 -- Lines without markers, by their characters.
-use Rattle.std.proofs.Common.{◌≡◌, ℕ, Option, ◌⊎◌, inl, inr, Bool, true, false, List, [], ◌∷◌, ◌++◌, map, length, refl, ap, sym, ◌∙◌, subst}
-use Rattle.std.specs.List.{AllZip, filter, AllByRecursion as Each}
+use Rattle.std.proofs.Common.{◌≡◌, ℕ, Bool, List, [], ◌∷◌, ◌++◌, map, length, refl, ap, sym, ◌∙◌, subst}
+use Rattle.std.specs.List.{filter, AllByRecursion as Each}
 use Rattle.std.proofs.lemmas.List.{length-map}
-use Rattle.std.proofs.lemmas.List.Elements.{All-contains, All-from_recursion}
 use Rattle.std.proofs.lemmas.Bool.{cond_both}
 use Rattle.tbr_model.specs.declared.white_space.WhiteSpace.{WhiteSpace}
-use Rattle.tbr_model.specs.Run.{Entry, character, marker_entry, Item, glyph, marker}
+use Rattle.tbr_model.specs.Run.{Item, glyph, marker}
 use Rattle.tbr_model.specs.Layout.{joined}
 use Rattle.tbr_model.specs.Markers.{names_in_items, names_in_run}
-use Rattle.tbr_model.specs.Hard.{glyphs_of, letters_of, is_visible, is_visible_entry, IsShown, ShowsVisible, HasMain, HasContinuation}
-use Rattle.tbr_model.specs.Shown.{ComesFrom, InventsNothing}
+use Rattle.tbr_model.specs.Hard.{glyphs_of, letters_of}
 use Rattle.tbr_model.proofs.lists.Each.{each_front, each_back}
 use Rattle.tbr_model.proofs.lists.Joined.{joined-append}
 use Rattle.tbr_model.proofs.layouts.Ahead.{cut_once}
@@ -77,15 +75,7 @@ same_lines {A} (l ∷ ls) (m ∷ ms) p q e g =
     let rest : ls ≡ ms = same_lines ls ms (unmarked_back l (joined ls) p) (unmarked_back m (joined ms) q) more cut.1 in
     cc
 
--- ---- a run under one annotation
-
-abbrev pub EntryUnder : {A : Type 0} → A → Entry A → Type 0
-EntryUnder a (character c x y m) = (x ≡ a) × (y ≡ a)
-EntryUnder a (marker_entry name) = Unit {0}
-
-pub text_under : {A : Type 0} (cs : List ℕ) (a : A) (mode : WhiteSpace) → Each (EntryUnder a) (text_entries cs a a mode)
-text_under [] a mode = tt
-text_under (c ∷ cs) a mode = ((refl, refl), text_under cs a mode)
+-- ---- items under one annotation
 
 abbrev pub ItemUnder : {A : Type 0} → A → Item A → Type 0
 ItemUnder a (glyph c x) = x ≡ a
@@ -94,47 +84,6 @@ ItemUnder a (marker name) = Unit {0}
 pub each_filter : {X : Type 0} (P : X → Type 0) (test : X → Bool) (xs : List X) → Each P xs → Each P (filter test xs)
 each_filter P test [] h = tt
 each_filter P test (x ∷ xs) h = cond_both (test x) _ _ (Each P) (λ _. (h.0, each_filter P test xs h.1)) (λ _. each_filter P test xs h.1)
-
-shown_under : {A : Type 0} (a : A) (gs : List (ℕ × A)) (es : List (Entry A)) → AllZip (IsShown (λ x y. x ≡ y)) gs es → Each (EntryUnder a) es →
-    Each (λ g. g.1 ≡ a) gs
-shown_under a [] es h u = tt
-shown_under a (g ∷ gs) [] h u = absurd h
-shown_under a (g ∷ gs) (marker_entry name ∷ es) h u = absurd h.0
-shown_under {A} a (g ∷ gs) (character c x y m ∷ es) h u = (go h.0.1, shown_under a gs es h.1 u.1)
-  where
-    go : (g.1 ≡ x) ⊎ (g.1 ≡ y) → g.1 ≡ a
-    go (inl e) = e ∙ u.0.0
-    go (inr e) = e ∙ u.0.1
-
-has_under : {A : Type 0} (a x : A) (e : Entry A) → EntryUnder a e → HasMain (λ p q. p ≡ q) e x ⊎ HasContinuation (λ p q. p ≡ q) e x → x ≡ a
-has_under a x (character c p q m) u (inl e) = e ∙ u.0
-has_under a x (character c p q m) u (inr e) = e ∙ u.1
-has_under a x (marker_entry name) u (inl e) = absurd e
-has_under a x (marker_entry name) u (inr e) = absurd e
-
-items_under : {A : Type 0} (columns : ℕ → Option ℕ) (a : A) (run : List (Entry A)) (is : List (Item A)) → Each (EntryUnder a) run →
-    Each (λ g. g.1 ≡ a) (filter (λ g. is_visible columns g.0) (glyphs_of is)) → Each (ComesFrom columns (λ x y. x ≡ y) run) is → Each (ItemUnder a) is
-items_under columns a run [] u v h = tt
-items_under columns a run (marker name ∷ is) u v h = (tt, items_under columns a run is u v h.1)
-items_under {A} columns a run (glyph c x ∷ is) u v h = go (is_visible columns c) refl (λ w. items_under columns a run is u w h.1)
-  where
-    others : List (ℕ × A)
-    others = filter (λ g. is_visible columns g.0) (glyphs_of is)
-
-    from : ComesFrom columns (λ p q. p ≡ q) run (glyph c x) → is_visible columns c ≡ false → x ≡ a
-    from (inl e) none = cc
-    from (inr e) none = has_under a x e.1.0 (All-contains (EntryUnder a) run e.1.0 (All-from_recursion (EntryUnder a) run u) e.1.1) e.1.2
-
-    go : (b : Bool) → is_visible columns c ≡ b → (Each (λ g. g.1 ≡ a) others → Each (ItemUnder a) is) → Each (ItemUnder a) (glyph c x ∷ is)
-    go true e more = let w : Each (λ g. g.1 ≡ a) ((c, x) ∷ others) = rw e at v in (w.0, more w.1)
-    go false e more = let w : Each (λ g. g.1 ≡ a) others = rw e at v in (from h.0 e, more w)
-
-pub all_under : {A : Type 0} (columns : ℕ → Option ℕ) (a : A) (run : List (Entry A)) (ls : List (List (Item A))) → Each (EntryUnder a) run →
-    ShowsVisible columns (λ x y. x ≡ y) run ls → InventsNothing columns (λ x y. x ≡ y) run ls → Each (ItemUnder a) (joined ls)
-all_under columns a run ls u visible invents =
-    items_under columns a run (joined ls) u
-    (shown_under a (filter (λ g. is_visible columns g.0) (glyphs_of (joined ls))) (filter (is_visible_entry columns) run) visible
-    (each_filter (EntryUnder a) (is_visible_entry columns) run u)) invents
 
 line_under : {A : Type 0} (a : A) (is : List (Item A)) → HasNoMarker is → Each (ItemUnder a) is → is ≡ text_items (letters_of is) a
 line_under a [] p h = refl

@@ -1,5 +1,5 @@
 //! Runs of `Pre`, which keep white space and newlines.
-ghost use Rattle.std.specs.Prelude.{◌≡◌, ◌≢◌, ◌⊎◌, ℕ, List, [], ◌∷◌, ◌++◌, codes, map};
+ghost use Rattle.std.specs.Prelude.{◌≡◌, ◌≢◌, ◌⊎◌, ℕ, List, [], ◌∷◌, ◌++◌, codes};
 ghost use Rattle.std.specs.List.{AllByRecursion as Each};
 ghost use Rattle.tbr_model.specs.declared.white_space.WhiteSpace.{WhiteSpace};
 ghost use Rattle.tbr_model.specs.declared.white_space.WhiteSpace.TheVariants.{Pre};
@@ -61,52 +61,71 @@ pub fn full_lines_are_continued<T>()
         ∷ text_items (codes "jk") b ∷ []) names) }
 {}
 
-/// Spaces stay as they are, in front of a text, in it and behind it.
+/// A hard line that fits stands under its own annotation, also behind one that is continued.
+pub fn lines_that_fit_are_not_continued<T>()
+    ensures admitted { (a b : T) →
+        MayEnd 4 (text_entries (codes "abcdef\n c") a b Pre)
+        (text_items (codes "abcd") a ∷ text_items (codes "ef") b ∷ text_items (codes " c") a ∷ []) [] }
+    ensures ends { (a b : T) (lines : List (List (Item T))) (names : List (List ℕ)) →
+        MayEnd 4 (text_entries (codes "abcdef\n c") a b Pre) lines names →
+        (lines ≡ text_items (codes "abcd") a ∷ text_items (codes "ef") b ∷ text_items (codes " c") a ∷ [])
+        × (names ≡ []) }
+    ensures no_continuation { (a b : T) (names : List (List ℕ)) → a ≢ b →
+        ¬ (MayEnd 4 (text_entries (codes "abcdef\n c") a b Pre)
+        (text_items (codes "abcd") a ∷ text_items (codes "ef") b ∷ text_items (codes " c") b ∷ []) names) }
+{}
+
+/// Spaces stay as they are, in front of a text, in it and behind it, and under their annotation where nothing is cut.
 pub fn spaces_stay<T>()
     ensures admitted { (a b : T) →
         MayEnd 8 (text_entries (codes "  ab  c ") a b Pre) (text_items (codes "  ab  c ") a ∷ []) [] }
-    ensures letters { (a b : T) (lines : List (List (Item T))) (names : List (List ℕ)) →
+    ensures ends { (a b : T) (lines : List (List (Item T))) (names : List (List ℕ)) →
         MayEnd 8 (text_entries (codes "  ab  c ") a b Pre) lines names →
-        (map letters_of lines ≡ codes "  ab  c " ∷ []) × (names ≡ []) }
-    ensures ends { (a : T) (lines : List (List (Item T))) (names : List (List ℕ)) →
-        MayEnd 8 (text_entries (codes "  ab  c ") a a Pre) lines names →
-        lines ≡ text_items (codes "  ab  c ") a ∷ [] }
+        (lines ≡ text_items (codes "  ab  c ") a ∷ []) × (names ≡ []) }
     ensures in_front { (a b : T) (names : List (List ℕ)) →
         ¬ (MayEnd 8 (text_entries (codes "  ab  c ") a b Pre) (text_items (codes "ab  c ") a ∷ []) names) }
     ensures within { (a b : T) (names : List (List ℕ)) →
         ¬ (MayEnd 8 (text_entries (codes "  ab  c ") a b Pre) (text_items (codes "  ab c ") a ∷ []) names) }
     ensures behind { (a b : T) (names : List (List ℕ)) →
         ¬ (MayEnd 8 (text_entries (codes "  ab  c ") a b Pre) (text_items (codes "  ab  c") a ∷ []) names) }
+    ensures no_continuation { (a b : T) (names : List (List ℕ)) → a ≢ b →
+        ¬ (MayEnd 8 (text_entries (codes "  ab  c ") a b Pre) (text_items (codes "  ab  c ") b ∷ []) names) }
+    ensures no_continued_space { (a b : T) (names : List (List ℕ)) → a ≢ b →
+        ¬ (MayEnd 8 (text_entries (codes "  ab  c ") a b Pre)
+        ((text_items (codes "  ") b ++ text_items (codes "ab  c ") a) ∷ []) names) }
 {}
 
-/// In a text of words and spaces, not cut, each word stands under its own annotation, and a space under one of the two
-/// that its run has.
+/// In a text of words and spaces, not cut, words and spaces stand under their own annotation.
 pub fn words_stand_under_their_annotations<T>()
     ensures admitted { (a b : T) →
         MayEnd 5 (text_entries (codes "ab cd") a b Pre) (text_items (codes "ab cd") a ∷ []) [] }
     ensures ends { (a b : T) (lines : List (List (Item T))) (names : List (List ℕ)) →
         MayEnd 5 (text_entries (codes "ab cd") a b Pre) lines names →
-        ((x : T) × (lines ≡ (text_items (codes "ab") a ++ glyph space_character x ∷ text_items (codes "cd") a) ∷ [])
-        × ((x ≡ a) ⊎ (x ≡ b))) × (names ≡ []) }
+        (lines ≡ text_items (codes "ab cd") a ∷ []) × (names ≡ []) }
     ensures no_continuation { (a b x : T) (names : List (List ℕ)) → a ≢ b →
         ¬ (MayEnd 5 (text_entries (codes "ab cd") a b Pre)
         ((text_items (codes "ab") a ++ glyph space_character x ∷ text_items (codes "cd") b) ∷ []) names) }
+    ensures no_continued_space { (a b : T) (names : List (List ℕ)) → a ≢ b →
+        ¬ (MayEnd 5 (text_entries (codes "ab cd") a b Pre)
+        ((text_items (codes "ab") a ++ glyph space_character b ∷ text_items (codes "cd") a) ∷ []) names) }
 {}
 
-/// A tab is spaces up to the next multiple of eight columns.
+/// A tab is spaces up to the next multiple of eight columns, under its own annotation where nothing is cut.
 pub fn tabs_are_spaces<T>()
     ensures admitted { (a b : T) →
         MayEnd 9 (text_entries (codes "a\tb") a b Pre) (text_items (codes "a       b") a ∷ []) [] }
-    ensures letters { (a b : T) (lines : List (List (Item T))) (names : List (List ℕ)) →
+    ensures ends { (a b : T) (lines : List (List (Item T))) (names : List (List ℕ)) →
         MayEnd 9 (text_entries (codes "a\tb") a b Pre) lines names →
-        (map letters_of lines ≡ codes "a       b" ∷ []) × (names ≡ []) }
-    ensures ends { (a : T) (lines : List (List (Item T))) (names : List (List ℕ)) →
-        MayEnd 9 (text_entries (codes "a\tb") a a Pre) lines names →
-        lines ≡ text_items (codes "a       b") a ∷ [] }
+        (lines ≡ text_items (codes "a       b") a ∷ []) × (names ≡ []) }
     ensures not_one_space { (a b : T) (names : List (List ℕ)) →
         ¬ (MayEnd 9 (text_entries (codes "a\tb") a b Pre) (text_items (codes "a b") a ∷ []) names) }
     ensures not_eight_spaces { (a b : T) (names : List (List ℕ)) →
         ¬ (MayEnd 9 (text_entries (codes "a\tb") a b Pre) (text_items (codes "a        b") a ∷ []) names) }
+    ensures no_continuation { (a b : T) (names : List (List ℕ)) → a ≢ b →
+        ¬ (MayEnd 9 (text_entries (codes "a\tb") a b Pre) (text_items (codes "a       b") b ∷ []) names) }
+    ensures no_continued_tab { (a b : T) (names : List (List ℕ)) → a ≢ b →
+        ¬ (MayEnd 9 (text_entries (codes "a\tb") a b Pre)
+        ((text_items (codes "a") a ++ text_items (codes "       ") b ++ text_items (codes "b") a) ∷ []) names) }
 {}
 
 /// Each character on a line is U+0020 or one that came: no newline stands there, and no tab, where none came.

@@ -1,5 +1,6 @@
 pub mod Courses
 pub mod EndedRuns
+pub mod FittingLines
 pub mod LinesLeft
 pub mod MappedRuns
 pub mod NormalRuns

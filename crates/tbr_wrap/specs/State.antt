@@ -1,14 +1,15 @@
 -- What a contract sees of a block.
-use Rattle.std.specs.Prelude.{◌≡◌, ℕ, zero, suc, ◌≤◌, Bool, true, false, ◌||◌, if◌then◌else◌, Option, None, Some, Result, Err, IfErr, unwrap_or, IsTrue, List, [], ◌∷◌, ◌++◌, ◌⊎◌, ◌↔◌, map, length, drop}
+use Rattle.std.specs.Prelude.{◌≡◌, ℕ, zero, suc, ◌+◌, ◌≤◌, Bool, true, false, ◌||◌, ◌==◌, if◌then◌else◌, Option, None, Some, Result, Err, IfErr, unwrap_or, IsTrue, List, [], ◌∷◌, ◌++◌, ◌⊎◌, ◌↔◌, map, fold, length, drop, Contains}
 use Rattle.std.specs.List.{AllByRecursion as Each}
+use Rattle.tbr_model.specs.Codes.{tab_character, zero_width_space}
 use Rattle.tbr_model.specs.declared.white_space.WhiteSpace.{WhiteSpace}
 use Rattle.tbr_model.specs.declared.white_space.WhiteSpace.TheVariants.{Normal, Pre, PreWrap}
-use Rattle.tbr_model.specs.Run.{Entry, character, marker_entry, Item, is_kept, items_width, kept_items, has_character, trailing}
+use Rattle.tbr_model.specs.Run.{Entry, character, marker_entry, Item, glyph, marker, is_kept, items_width, kept_items, has_character, trailing}
 use Rattle.tbr_model.specs.Layout.{joined}
 use Rattle.tbr_model.specs.Markers.{names_in_items, names_in_run, marker_items, marker_run, names_behind, without_last_markers}
-use Rattle.tbr_model.specs.Hard.{HasMode, Preserves, IsNarrowEntry, entry_letters, is_visible, hard_lines, Parted, ShowsVisible, ShowsHardLine, ShowsPre, ShowsPreWrap, ShowsTabs}
+use Rattle.tbr_model.specs.Hard.{HasMode, Preserves, IsNarrowEntry, entry_letters, is_visible, hard_lines, Parted, ShowsVisible, ShowsHardLine, ShowsPre, ShowsPreWrap, ShowsTabs, HasMain}
 use Rattle.std.specs.Option.{option_map}
-use Rattle.tbr_model.specs.Shown.{without_spaces, InventsNothing, ComesWithRun, ShowsInOrder, IsNotPre, ShowsOwn}
+use Rattle.tbr_model.specs.Shown.{without_spaces, InventsNothing, ComesWithRun, ShowsInOrder, IsNotPre, ShowsOwn, next_stop}
 use Rattle.tbr_model.specs.Mapped.{map_run, map_lines}
 use Rattle.tbr_wrap.specs.Wrapped.{HasBestLines, FitsBlock}
 use Rattle.tbr_tagged.specs.declared.error.Error.{Error}
@@ -193,6 +194,37 @@ map_state f s = record {
 abbrev pub AreLastOf : {X : Type 0} → List X → List X → Type 0
 AreLastOf {X} xs all = (front : List X) × (front ++ xs ≡ all)
 
+-- ---- hard lines that fit
+
+-- The column behind an entry that comes at a column: a tab goes to the next multiple of eight, and U+200B takes none.
+abbrev pub column_behind : {A : Type 0} → (ℕ → Option ℕ) → ℕ → Entry A → ℕ
+column_behind columns n (character c a b m) =
+    if c == zero_width_space then n
+    else if c == tab_character then next_stop n
+    else n + unwrap_or (columns c) 0
+column_behind columns n (marker_entry name) = n
+
+-- a hard line takes no more columns than the block has
+abbrev pub LineFits : {A : Type 0} → (ℕ → Option ℕ) → ℕ → List (Entry A) → Type 0
+LineFits columns width h = fold (column_behind columns) 0 h ≤ width
+
+-- an entry has the annotation as its own
+abbrev pub HasOwnAnnotation : {A : Type 0} → (A → A → Type 0) → List (Entry A) → A → Type 0
+HasOwnAnnotation {A} Same es x = (e : Entry A) × Contains es e × HasMain Same e x
+
+-- a character stands under the own annotation of an entry
+abbrev pub IsUnderOwn : {A : Type 0} → (A → A → Type 0) → List (Entry A) → Item A → Type 0
+IsUnderOwn Same es (glyph c x) = HasOwnAnnotation Same es x
+IsUnderOwn Same es (marker name) = Unit {0}
+
+-- In a run of `Pre` alone a hard line that fits isn't cut. Each visible character there stands under its own annotation,
+-- and any other under the own annotation of an entry of the hard line.
+pub record ShowsFitting {A : Type 0} (columns : ℕ → Option ℕ) (Same : A → A → Type 0) (width : ℕ) (more : Bool)
+    (h : List (Entry A)) (ls : List (List (Item A))) : Type 0 where
+  pub uncut : LineFits columns width h → length ls ≤ 1
+  pub own : LineFits columns width h → ShowsOwn columns Same h ls
+  pub under : LineFits columns width h → Each (IsUnderOwn Same h) (joined ls)
+
 -- The lines that the end of the run adds to those that it had ended before, and the markers that stand on none of
 -- them. Each line is as wide as it may be. Nothing stands on the lines but what came, and white space under its tags.
 pub record EndsRun {A : Type 0} (columns : ℕ → Option ℕ) (s : State A)
@@ -206,6 +238,9 @@ pub record EndsRun {A : Type 0} (columns : ℕ → Option ℕ) (s : State A)
   pub order : ShowsInOrder columns (λ a b. a ≡ b) s.run (s.lines ++ texts) names
   -- without `Pre` each visible character stands under its own annotation
   pub own : Each IsNotPre s.run → ShowsOwn columns (λ a b. a ≡ b) s.run (s.lines ++ texts)
+  -- in `Pre` alone a hard line that fits stands under its own annotations
+  pub fitting : Each (HasMode Pre) s.run →
+      Parted (ShowsFitting columns (λ a b. a ≡ b) s.width) (hard_lines s.run) (s.lines ++ texts)
   -- a `Normal` run's items stand on its lines or wait, whatever the width
   pub kept : IsNormal s.run →
       without_spaces (joined (s.lines ++ texts)) ++ marker_items names ≡ kept_items columns s.run

@@ -89,6 +89,7 @@ alone columns b texts names e = record {
   come = e.come;
   order = e.order;
   own = e.own;
+  fitting = e.fitting;
   kept = e.kept;
   markers = e.markers;
   behind = e.behind;

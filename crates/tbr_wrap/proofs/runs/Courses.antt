@@ -16,8 +16,8 @@ use Rattle.tbr_model.proofs.rule.DoneLines.{if_same, step_adds, finished_adds}
 use Rattle.tbr_model.proofs.rule.HardLines.{run_of-append}
 use Rattle.tbr_model.proofs.rule.Markers.{markers_run, markers_at_end, waiting_none, marker_items_alone, names_in_items-append, markers_lead, run_of_markers}
 use Rattle.tbr_model.proofs.rule.TakenOutMarkers.{taken_out, without_none}
-use Rattle.tbr_model.specs.declared.white_space.WhiteSpace.TheVariants.{Normal}
-use Rattle.tbr_model.specs.Hard.{HasMode, entry_letters, is_visible}
+use Rattle.tbr_model.specs.declared.white_space.WhiteSpace.TheVariants.{Normal, Pre}
+use Rattle.tbr_model.specs.Hard.{HasMode, entry_letters, is_visible, hard_lines, Parted}
 use Rattle.tbr_model.specs.Shown.{without_spaces, InventsNothing, ComesWithRun, ShowsInOrder, IsNotPre, ShowsOwn, run_shows_columns, HasColumns}
 use Rattle.tbr_model.proofs.lines.Columns.{columns_show}
 use Rattle.tbr_model.proofs.lines.KeptOrder.{shown_in_order}
@@ -33,7 +33,7 @@ use Rattle.tbr_tagged.specs.declared.error.Error.{Error}
 use Rattle.tbr_model.proofs.words.Items.{items_width-append}
 use Rattle.tbr_tagged.proofs.SameItems.{all_zip_append, same_has}
 use Rattle.tbr_wrap.specs.Wrapped.{FitsBlock}
-use Rattle.tbr_wrap.specs.State.{State, JoinsRun, JoinsAsMarker, EndsRun, AreLastOf, IsShownBy, is_some_list, loose_taken, line_taken, run_flushed}
+use Rattle.tbr_wrap.specs.State.{State, JoinsRun, JoinsAsMarker, EndsRun, ShowsFitting, AreLastOf, IsShownBy, is_some_list, loose_taken, line_taken, run_flushed}
 use Rattle.tbr_wrap.specs.Course.{Course, at_first, stepped, word_taken, run_ended, line_handed, after, course, loose_names, state_of, viewed}
 use Rattle.tbr_wrap.specs.Held.{HoldsCourse}
 use Rattle.tbr_wrap.specs.LaidLines.{HoldsLaid, LaidLikeRule, LeavesAfterLine, KeepsLimits}
@@ -42,6 +42,7 @@ use Rattle.tbr_wrap.specs.declared.laid_lines.LaidLines.{LaidLines}
 use Rattle.tbr_wrap.specs.declared.run_change.RunChange.{RunChange}
 use Rattle.tbr_wrap.specs.declared.wrapper.Wrapper.{Wrapper}
 use Rattle.tbr_wrap.proofs.runs.EndedRuns.{shown_run, waits_normal}
+use Rattle.tbr_wrap.proofs.runs.FittingLines.{fitting_lines}
 
 -- ---- whether there are lines
 
@@ -403,6 +404,10 @@ module _ {A : Type 0} (columns : ℕ → Option ℕ) where
                   subst (λ (ls : List (List (Item A))). ShowsOwn columns (λ a b. a ≡ b) c.run ls) lines
                   (subst (λ (es : List (Entry A)). ShowsOwn columns (λ a b. a ≡ b) es (lines_of columns b.lines.width h.events)) h.run_is
                   (own_shown columns b.lines.width (λ a b. a ≡ b) (λ a. refl) h.events (subst (λ (es : List (Entry A)). Each IsNotPre es) (sym h.run_is) plain)));
+              fitting = λ pre.
+                  subst (λ (ls : List (List (Item A))). Parted (ShowsFitting columns (λ a b. a ≡ b) b.lines.width) (hard_lines c.run) ls) lines
+                  (subst (λ (es : List (Entry A)). Parted (ShowsFitting columns (λ a b. a ≡ b) b.lines.width) (hard_lines es) (lines_of columns b.lines.width h.events)) h.run_is
+                  (fitting_lines columns (λ a b. a ≡ b) (λ a. refl) b.lines.width h.events (subst (λ (es : List (Entry A)). Each (HasMode Pre) es) (sym h.run_is) pre)));
               kept = λ normal.
                   ap (λ ls. without_spaces (joined ls) ++ marker_items left_names) (sym lines) ∙ ap (λ is. without_spaces (joined (lines_of columns b.lines.width h.events)) ++ is) (sym left_is ∙ sym waits)
                   ∙ normal_keeps columns b.lines.width h.events (subst (λ (es : List (Entry A)). Each (HasMode Normal) es) (sym h.run_is) normal) ∙ ap (kept_items columns) h.run_is;

@@ -48,6 +48,7 @@ module _ {A : Type 0} (columns : ℕ → Option ℕ) (texts : List (List (Item A
     come = e.come;
     order = e.order;
     own = e.own;
+    fitting = e.fitting;
     kept = e.kept;
     markers = e.markers;
     behind = e.behind;
@@ -64,6 +65,7 @@ module _ {A : Type 0} (columns : ℕ → Option ℕ) (texts : List (List (Item A
     come = e.come;
     order = e.order;
     own = e.own;
+    fitting = e.fitting;
     kept = e.kept;
     markers = e.markers;
     behind = e.behind;

@@ -7,14 +7,14 @@ use Rattle.tbr_model.specs.Run.{Entry, character, marker_entry, Item, glyph, mar
 use Rattle.tbr_model.specs.Layout.{slots_of, line_text, joined}
 use Rattle.tbr_model.specs.Rule.{is_space_item}
 use Rattle.tbr_model.specs.Markers.{names_in_items, names_in_run, marker_items, marked_behind}
-use Rattle.tbr_model.specs.Hard.{HasMode, Preserves, HasMain, HasContinuation, entry_letters, is_visible, glyphs_of, visible_glyphs, visible_entries}
+use Rattle.tbr_model.specs.Hard.{HasMode, Preserves, hard_lines, HasMain, HasContinuation, entry_letters, is_visible, glyphs_of, visible_glyphs, visible_entries}
 use Rattle.tbr_model.specs.Shown.{without_spaces, ComesFrom, ComesWithRun, is_visible_or_marker, is_entry_to_show, ShowsEntry, ShowsInOrder, IsNotPre, StandsUnderOwn, ShowsOwn}
 use Rattle.tbr_model.specs.Mapped.{map_item, map_items, map_entry, map_run, map_layout, map_lines}
 use Rattle.tbr_model.proofs.maps.Words.{item_width-map, items_width-map, has_character-map, items_of-map, trailing-map}
 use Rattle.tbr_model.proofs.maps.Layouts.{slots_of-map, line_text-map, joined-map, best-map}
-use Rattle.tbr_model.proofs.maps.HardLines.{map_glyph, joined_glyphs-map, visible_glyphs-map, visible_entries-map, visible-map, all_hard_lines-map, all_pre-map, all_prewrap-map, all_tabs-map}
+use Rattle.tbr_model.proofs.maps.HardLines.{hard_lines-map, parted-map, map_glyph, joined_glyphs-map, visible_glyphs-map, visible_entries-map, visible-map, all_hard_lines-map, all_pre-map, all_prewrap-map, all_tabs-map}
 use Rattle.tbr_wrap.specs.Wrapped.{taking_columns, FitsBlock, HasBestLines}
-use Rattle.tbr_wrap.specs.State.{State, IsShownBy, EndsRun, map_state}
+use Rattle.tbr_wrap.specs.State.{State, IsShownBy, column_behind, IsUnderOwn, ShowsFitting, EndsRun, map_state}
 
 -- ---- lists
 
@@ -175,6 +175,30 @@ module _ {A B : Type 0} (f : A → B) where
         rw (glyphs, visible_entries-map f columns run)
         (zip-map (StandsUnderOwn (λ a b. a ≡ b)) (StandsUnderOwn (λ a b. a ≡ b)) (map_glyph f) (map_entry f) own_stands-map (visible_glyphs columns (joined ls)) (visible_entries columns run) h)
 
+  -- ---- hard lines that fit
+
+  columns-map : (columns : ℕ → Option ℕ) (es : List (Entry A)) (n : ℕ) → fold (column_behind columns) n (map_run f es) ≡ fold (column_behind columns) n es
+  columns-map columns [] n = refl
+  columns-map columns (character c a b m ∷ es) n = columns-map columns es (column_behind columns n (character c a b m))
+  columns-map columns (marker_entry name ∷ es) n = columns-map columns es n
+
+  main-map : (e : Entry A) (x : A) → HasMain (λ a b. a ≡ b) e x → HasMain (λ a b. a ≡ b) (map_entry f e) (f x)
+  main-map (character c a b m) x h = ap f h
+  main-map (marker_entry name) x h = absurd h
+
+  under_own-map : (es : List (Entry A)) (is : List (Item A)) → Each (IsUnderOwn (λ a b. a ≡ b) es) is → Each (IsUnderOwn (λ a b. a ≡ b) (map_run f es)) (map_items f is)
+  under_own-map es [] h = tt
+  under_own-map es (glyph c x ∷ is) h = ((map_entry f h.0.0, contains-map es h.0.0 h.0.1, main-map h.0.0 x h.0.2), under_own-map es is h.1)
+  under_own-map es (marker name ∷ is) h = (tt, under_own-map es is h.1)
+
+  fitting-map : (columns : ℕ → Option ℕ) (width : ℕ) (more : Bool) (h : List (Entry A)) (ls : List (List (Item A))) →
+      ShowsFitting columns (λ a b. a ≡ b) width more h ls → ShowsFitting columns (λ a b. a ≡ b) width more (map_run f h) (map_lines f ls)
+  fitting-map columns width more h ls s = record {
+    uncut = rw (columns-map columns h 0) (λ fits. omega (arith, s.uncut fits, length-map ls (map_items f)));
+    own = rw (columns-map columns h 0) (λ fits. own-map columns h ls (s.own fits));
+    under = rw (columns-map columns h 0, joined-map (map_item f) ls) (λ fits. under_own-map h (joined ls) (s.under fits));
+  }
+
   -- ---- lines
 
   fit-map : (columns : ℕ → Option ℕ) (width : ℕ) (may_overflow : Bool) (lines : List (List (Item A))) → Each (FitsBlock columns width may_overflow) lines → Each (FitsBlock columns width may_overflow) (map_lines f lines)
@@ -223,6 +247,10 @@ module _ {A B : Type 0} (f : A → B) where
         come = rw (lines, items) (all_come_with-map columns s.run (joined (s.lines ++ texts)) h.come);
         order = rw lines (in_order-map columns s.run (s.lines ++ texts) names h.order);
         own = λ plain. rw lines (own-map columns s.run (s.lines ++ texts) (h.own (not_pre_unmap s.run plain)));
+        fitting = λ pre.
+            rw (lines, hard_lines-map f s.run)
+            (parted-map (ShowsFitting columns (λ a b. a ≡ b) s.width) (ShowsFitting columns (λ a b. a ≡ b) s.width) (map_run f) (map_items f)
+            (fitting-map columns s.width) (hard_lines s.run) (s.lines ++ texts) (h.fitting (mode_unmap _ s.run pre)));
         kept = λ normal. rw (lines, items, without_spaces-map (joined (s.lines ++ texts)), kept_items-map columns s.run, ← marker_items-map names)
             (sym (map-append (map_item f) (without_spaces (joined (s.lines ++ texts))) (marker_items names)) ∙ ap (map_items f) (h.kept (mode_unmap _ s.run normal)));
         markers = rw (lines, items, names_in_items-map (joined (s.lines ++ texts)), names_in_run-map s.run) h.markers;
