@@ -434,6 +434,19 @@ impl<T: Eq + Clone, W: CharWidth> WrappedBlock<T, W> {
         ensures kept { (e : _) → self.failure ≡ Some e → result ≡ Err e }
     {
         self.flush()?;
+        self.hand_out()
+    }
+
+    /// Hands out all ended lines that aren't handed out yet.
+    fn hand_out(&mut self) -> Result<Vec<TaggedLine<T>>, Error>
+    where
+        T: Drop,
+        requires faithful { CopiesAreEqual T.is_clone T.eq }
+        requires live { self.old.failure ≡ None }
+        ensures lines { IfOk result (λ lines.
+            AllZip (ShowsText W.columns T.eq self.old.padding self.old.width) lines.items (lines_left self.old)) }
+        ensures memory { IfErr result (λ e. e ≡ E.OutOfMemory) }
+    {
         let mut lines = Vec::new(self.alloc);
         while let Some(line) = self.next_line()? {
             lines.push(line)?;

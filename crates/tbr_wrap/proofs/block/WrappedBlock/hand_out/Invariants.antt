@@ -3,7 +3,7 @@ use Rattle.std.specs.List.{AllZip}
 use Rattle.tbr_model.specs.Run.{Item}
 use Rattle.tbr_wrap.specs.State.{lines_left}
 use Rattle.tbr_wrap.specs.Wrapped.{ShowsText}
-use Rattle.tbr_wrap.proofs.block.WrappedBlock.into_lines.Given as goal
+use Rattle.tbr_wrap.proofs.block.WrappedBlock.hand_out.Given as goal
 
 abbrev pub invariant-loop-lines : goal.invariant-loop-lines
 invariant-loop-lines g l =
