@@ -25,11 +25,11 @@ const MODES: [ImageRenderMode; 4] = [
 const SOURCE: &str = "http://www.example.com/path/foo.jpg";
 
 /// The line of an image between texts.
-fn expect_shown(
+fn expect_shown<'a>(
     rt: &impl Abort,
     alloc: Global,
     mode: ImageRenderMode,
-    image: (&str, &str),
+    image: (&'a str, &'a str),
     line: &str,
 ) {
     let calls = [Text("Hello x"), Image(image.0, image.1), Text("y")];

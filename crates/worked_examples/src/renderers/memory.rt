@@ -120,6 +120,8 @@ fn text_or_refusal(rt: &impl Abort, text: Result<String, Error>, expected: &str)
 #[test]
 fn prefixes_and_sub_renderers_may_be_refused_and_that_is_not_kept(rt: HostRuntime) {
     let mut r = padding(rt.alloc());
+    let _ = make_all(&mut r, &[Opens(Opening::Link("t"))]);
+    let failure = r.failure();
     text_or_refusal(&rt, r.header_prefix(2), "## ");
     text_or_refusal(&rt, r.quote_prefix(), "> ");
     text_or_refusal(&rt, r.unordered_item_prefix(), "* ");
@@ -127,5 +129,5 @@ fn prefixes_and_sub_renderers_may_be_refused_and_that_is_not_kept(rt: HostRuntim
     if let Err(refusal) = r.new_sub_renderer(5) {
         assert!(rt; refusal == Error::OutOfMemory);
     }
-    assert!(rt; r.failure().is_none());
+    assert!(rt; r.failure() == failure);
 }

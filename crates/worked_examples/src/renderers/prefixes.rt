@@ -40,8 +40,8 @@ fn prefixes_are_those_of_the_decorator(rt: HostRuntime) {
 #[test]
 fn a_prefix_that_passes_every_size_is_refused_and_not_kept(rt: HostRuntime) {
     let mut r = plain(rt.alloc(), 9);
-    assert!(&rt; r.header_prefix(usize::MAX).err() == Some(Error::OutOfMemory));
-    assert!(&rt; r.failure().is_none());
+    assert!(rt; r.header_prefix(usize::MAX).err() == Some(Error::OutOfMemory));
+    assert!(rt; r.failure().is_none());
     has_plain_prefixes(&rt, &mut r);
 }
 
