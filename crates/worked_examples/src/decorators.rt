@@ -1,6 +1,7 @@
 //! What the shipped decorators answer, and one that has only the usual answers.
 mod every_call;
 pub mod marked;
+pub mod odd;
 
 use crate::texts::shows;
 use marked::{Mark, MarkedDecorator};

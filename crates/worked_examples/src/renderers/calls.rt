@@ -5,7 +5,7 @@ use crate::texts::{append_marked_line, append_pieces};
 use std::alloc::Global;
 use std::collections::LinkedList;
 use std::fmt::Debug;
-use tbr_decor::TextDecorator;
+use tbr_decor::{Colour, TextDecorator};
 use tbr_lines::{CharWidth, Error, OutOfMemory, RenderLine, WhiteSpace};
 use text_block_renderer::{RenderOptions, Renderer, SubRenderer};
 
@@ -16,6 +16,32 @@ pub enum End {
     Mode,
     /// A preformatted stretch, where one is open.
     Preformat,
+    Colour,
+    Background,
+}
+
+/// What a decorator opens.
+#[derive(Clone, Copy)]
+pub enum Opening<'a> {
+    /// A link by its target.
+    Link(&'a str),
+    Emphasis,
+    Strong,
+    Strikeout,
+    Code,
+    Superscript,
+}
+
+/// What a decorator closes.
+#[derive(Clone, Copy)]
+pub enum Closing {
+    Link,
+    Emphasis,
+    Strong,
+    /// A strikeout, where one is open or no text has strokes.
+    Strikeout,
+    Code,
+    Superscript,
 }
 
 /// A call on a renderer.
@@ -30,6 +56,12 @@ pub enum Call<'a> {
     Line,
     HardLine,
     EmptyLine,
+    Opens(Opening<'a>),
+    Closes(Closing),
+    /// An image by its source and title.
+    Image(&'a str, &'a str),
+    Colour(Colour),
+    Background(Colour),
     Ends(End),
 }
 
@@ -53,7 +85,44 @@ fn make_end<D: TextDecorator, W: CharWidth>(r: &mut SubRenderer<D, W>, what: End
                 r.pop_preformat();
             }
         }
+        End::Colour => r.pop_colour(),
+        End::Background => r.pop_bgcolour(),
     }
+}
+
+fn open<D: TextDecorator, W: CharWidth>(
+    r: &mut SubRenderer<D, W>,
+    what: Opening<'_>,
+) -> Result<(), Error> {
+    match what {
+        Opening::Link(target) => r.start_link(target),
+        Opening::Emphasis => r.start_emphasis(),
+        Opening::Strong => r.start_strong(),
+        Opening::Strikeout => r.start_strikeout(),
+        Opening::Code => r.start_code(),
+        Opening::Superscript => r.start_superscript(),
+    }
+}
+
+fn close<D: TextDecorator, W: CharWidth>(
+    r: &mut SubRenderer<D, W>,
+    what: Closing,
+) -> Result<(), Error> {
+    match what {
+        Closing::Link => r.end_link(),
+        Closing::Emphasis => r.end_emphasis(),
+        Closing::Strong => r.end_strong(),
+        Closing::Strikeout => close_strikeout(r),
+        Closing::Code => r.end_code(),
+        Closing::Superscript => r.end_superscript(),
+    }
+}
+
+fn close_strikeout<D: TextDecorator, W: CharWidth>(r: &mut SubRenderer<D, W>) -> Result<(), Error> {
+    if r.options().use_unicode_strikeout && r.strikeout_depth() == 0 {
+        return Ok(());
+    }
+    r.end_strikeout()
 }
 
 /// Makes a call.
@@ -71,6 +140,11 @@ pub fn make<D: TextDecorator, W: CharWidth>(
         Call::Line => r.new_line(),
         Call::HardLine => r.new_line_hard(),
         Call::EmptyLine => r.add_empty_line(),
+        Call::Opens(what) => open(r, what),
+        Call::Closes(what) => close(r, what),
+        Call::Image(src, title) => r.add_image(src, title),
+        Call::Colour(colour) => r.push_colour(colour),
+        Call::Background(colour) => r.push_bgcolour(colour),
         Call::Ends(what) => {
             make_end(r, what);
             Ok(())

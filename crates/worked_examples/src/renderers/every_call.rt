@@ -3,7 +3,7 @@ ghost use Rattle.std.specs.Prelude.{◌≢◌, Some};
 
 use super::calls::Call::{EmptyLine, Ends, Line, Marker, Preformat, Text};
 use super::calls::{Call, End, make_all};
-use super::expected::plain;
+use super::expected::{plain, told};
 use crate::texts::counts;
 use std::alloc::Global;
 use std::process::Abort;
@@ -27,7 +27,7 @@ fn usual() -> RenderOptions {
 }
 
 /// Options of which each differs from the usual one.
-fn unusual() -> RenderOptions
+pub fn unusual() -> RenderOptions
     ensures { result.wrap_width ≢ Some 0 }
 {
     RenderOptions {
@@ -44,11 +44,6 @@ fn unusual() -> RenderOptions
     }
 }
 
-/// A renderer of nine columns under unusual options.
-fn told(alloc: Global) -> SubRenderer<PlainDecorator> {
-    SubRenderer::new(alloc, 9, unusual(), PlainDecorator::new())
-}
-
 fn has_options(rt: &impl Abort, r: SubRenderer<PlainDecorator>, options: RenderOptions) {
     assert!(rt; *r.options() == options);
 }
@@ -57,7 +52,7 @@ fn has_options(rt: &impl Abort, r: SubRenderer<PlainDecorator>, options: RenderO
 fn a_renderer_has_the_options_that_it_was_made_with(rt: HostRuntime) {
     let alloc = rt.alloc();
     has_options(&rt, plain(alloc, 9), usual());
-    has_options(&rt, told(alloc), unusual());
+    has_options(&rt, told(alloc, 9, unusual()), unusual());
 }
 
 /// The renderer has nine columns and hasn't refused; this is whether it is empty, and how many preformatted stretches

@@ -1,5 +1,5 @@
 //! What renderers are expected to have behind calls.
-ghost use Rattle.std.specs.Prelude.{◌<◌};
+ghost use Rattle.std.specs.Prelude.{◌<◌, ◌≢◌, Some};
 
 use super::calls::{Call, Shown, fresh, handed_out, written};
 use crate::columns::EveryOne;
@@ -16,6 +16,14 @@ pub fn plain(alloc: Global, width: usize) -> SubRenderer<PlainDecorator>
     requires { 0 < width }
 {
     fresh(alloc, width, PlainDecorator::new())
+}
+
+/// The same with options of its own.
+pub fn told(alloc: Global, width: usize, options: RenderOptions) -> SubRenderer<PlainDecorator>
+    requires width { 0 < width }
+    requires wrap_width { options.wrap_width ≢ Some 0 }
+{
+    SubRenderer::new(alloc, width, options, PlainDecorator::new())
 }
 
 /// The lines behind calls on a new renderer of that width, under a decorator.
@@ -42,6 +50,13 @@ pub fn expect(rt: &impl Abort, alloc: Global, width: usize, calls: &[Call<'_>], 
     shows(rt, rich, lines);
     let marked = written_under(alloc, width, MarkedDecorator::new(), calls);
     shows(rt, marked, lines);
+}
+
+/// The lines under the plain decorator.
+pub fn expect_plain(rt: &impl Abort, alloc: Global, width: usize, calls: &[Call<'_>], lines: &str)
+    requires { 0 < width }
+{
+    shows(rt, written(plain(alloc, width), calls), lines);
 }
 
 /// The lines where every character takes one column.
@@ -78,12 +93,7 @@ pub fn expect_overflowing(
 {
     let mut options = RenderOptions::default();
     options.allow_width_overflow = true;
-    let r: SubRenderer<PlainDecorator> = SubRenderer::new(
-        alloc,
-        width,
-        options,
-        PlainDecorator::new(),
-    );
+    let r = told(alloc, width, options);
     shows(rt, written(r, calls), lines);
 }
 
@@ -97,6 +107,20 @@ pub fn expect_rich_pieces(
 )
     requires { 0 < width }
 {
-    let r = fresh::<_, UnicodeColumns>(alloc, width, RichDecorator::new());
+    expect_pieces(rt, alloc, width, RichDecorator::new(), calls, pieces);
+}
+
+/// The pieces of the lines, each with its annotations, under a decorator.
+pub fn expect_pieces<D: TextDecorator>(
+    rt: &impl Abort,
+    alloc: Global,
+    width: usize,
+    decorator: D,
+    calls: &[Call<'_>],
+    pieces: &str,
+)
+    requires { 0 < width }
+{
+    let r = fresh::<_, UnicodeColumns>(alloc, width, decorator);
     shows(rt, handed_out(alloc, Shown::Pieces, r, calls), pieces);
 }
