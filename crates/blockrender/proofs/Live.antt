@@ -35,6 +35,7 @@ counted_behind columns decoration (pop_colour g) begun = refl
 pub still_live : {D A M : Type 0} (columns : ℕ → Option ℕ) (decoration : Decoration D M) (meaning : A → M) (call : Call) (r s : Renderer D A (Vec A)) (begun next : Begun) →
     IsLive r begun → next ≡ counted begun call → Does columns decoration call (meant meaning r) (meant meaning s) → IsLive s next
 still_live {D} {A} {M} columns decoration meaning call r s begun next live is does =
-    let behind = call_beside columns decoration call (meant meaning r) (meant meaning s) does in
-    (behind.0 ∙ live.0,
-    behind.1 ∙ ap (λ n. preformats_behind columns decoration call n) live.1 ∙ counted_behind columns decoration call begun ∙ ap (λ (b : Begun). b.preformats) (sym is))
+    let behind = call_beside columns decoration call (meant meaning r) (meant meaning s) does in (
+      behind.0 ∙ live.0,
+      behind.1 ∙ ap (λ n. preformats_behind columns decoration call n) live.1 ∙ counted_behind columns decoration call begun ∙ ap (λ (b : Begun). b.preformats) (sym is),
+    )

@@ -84,6 +84,7 @@ module _ {D A : Type 0} (columns : ℕ → Option ℕ) where
       where
         more : Steady D A → Steady D A
         more x = if x.settings.options.use_unicode_strikeout then record x { settings = record x.settings { strikeouts = suc x.settings.strikeouts } } else x
+
         is : (q : Renderer D A (List A)) → steady (struck_from q) ≡ more (steady q)
         is q = go q.options.use_unicode_strikeout refl
           where

@@ -277,7 +277,8 @@ pub trait Renderer {
             OnErr result (stops_at_stage call.start_strikeout self.old self.new) }
         ensures kept { KeepsFailure kept_refusal self.old result self.new };
 
-    /// Ends a strikeout, as a link is ended. The decorator's text has a stroke less already, if struck out text has any.
+    /// Ends a strikeout, as a link is ended. The decorator's text has a stroke less already, if struck out text has
+    /// any.
     fn end_strikeout(&mut self) -> Result<(), Error>
         requires { strikes self.old ≡ true → 0 < open_strikeouts self.old }
         ensures ok { OnOk result (does call.end_strikeout self.old self.new) }
