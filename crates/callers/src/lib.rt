@@ -2,6 +2,7 @@
 #![tactic(auto)]
 
 pub mod best_lines;
+pub mod counting;
 pub mod emphasised;
 pub mod handed_on;
 pub mod line_by_line;

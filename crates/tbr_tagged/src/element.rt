@@ -110,7 +110,8 @@ impl<T> TaggedLineElement<T> {
     where
         T: Eq + Clone,
         requires { CopiesAreEqual T.is_clone T.eq }
-        ensures { IfOk result (λ copy. SameElement T.eq (element_of copy) (element_of self.now)) }
+        ensures same { IfOk result (λ copy. SameElement T.eq (element_of copy) (element_of self.now)) }
+        ensures equal { IfOk result (λ copy. ⟦<TaggedLineElement<T> as PartialEq>⟧.eq copy self.now ≡ true) }
     {
         Ok(match self {
             TaggedLineElement::Str(piece) => TaggedLineElement::Str(piece.clone()?),

@@ -14,4 +14,4 @@ loop-span-preserved g c =
       one_more hole_of c.args.holes.now c.loop-span.span-index c.span-item.result c.loop-span-test.true c.span-item.is,
     )
     (AllZip-push (SameHole g.T.PartialEq.eq) (map hole_of c.loop-span.copies.items) (map hole_of (take c.loop-span.span-index c.args.holes.now)) _ (hole_of c.span-item.result)
-    c.loop-span.invariant (refl, refl, c.in_ok-clone.ensures))
+    c.loop-span.invariant (refl, refl, c.in_ok-clone.ensures.same))

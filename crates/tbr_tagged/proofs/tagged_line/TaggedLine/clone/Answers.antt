@@ -15,7 +15,7 @@ loop-element-preserved g c =
       one_more element_of c.deref-element-items.result.now c.loop-element.element-index c.element-item.result c.loop-element-test.true c.element-item.is,
     )
     (AllZip-push (SameElement g.T.PartialEq.eq) (map element_of c.loop-element.elements.items) (map element_of (take c.loop-element.element-index c.deref-element-items.result.now)) (element_of c.in_ok-clone.field-0) (element_of c.element-item.result)
-    c.loop-element.invariant c.in_ok-clone.ensures)
+    c.loop-element.invariant c.in_ok-clone.ensures.same)
 
 pub returns-clause-elements : goal.returns-clause-elements
 returns-clause-elements g c =
