@@ -1,45 +1,69 @@
 //! Worked examples of blocks and line breaks.
 use super::calls::Call::{EmptyLine, Ends, HardLine, Line, Mode, StartBlock, StartTable, Text};
 use super::calls::End;
-use super::expected::expect;
+use super::expected::Expected::Lines;
+use super::expected::{Example, Told, meet_all};
 use tbr_lines::WhiteSpace;
 
-#[test]
-fn a_block_ends_and_white_space_behind_it_is_ignored(rt: HostRuntime) {
-    let alloc = rt.alloc();
-    let ended = [
-        Text("a"),
-        Ends(End::Block),
-        Text("  "),
-        Text("\u{a0}"),
-        Text(""),
-        Text("b"),
-    ];
-    expect(&rt, alloc, 5, &ended, "a\n\nb\n");
-    // Not where white space is preserved.
-    let preserved = [
-        Text("a"),
-        Ends(End::Block),
-        Mode(WhiteSpace::Pre),
-        Text("  "),
-        Text("b"),
-    ];
-    expect(&rt, alloc, 5, &preserved, "a\n\n  b\n");
-}
+const EXAMPLES: [Example; 6] = [
+    Example {
+        name: "a block ends, and white space behind it is ignored",
+        told: Told::Nothing,
+        width: 5,
+        calls: &[
+            Text("a"),
+            Ends(End::Block),
+            Text("  "),
+            Text("\u{a0}"),
+            Text(""),
+            Text("b"),
+        ],
+        expected: &[Lines("a\n\nb\n")],
+    },
+    Example {
+        name: "preserved white space behind a block is not ignored",
+        told: Told::Nothing,
+        width: 5,
+        calls: &[
+            Text("a"),
+            Ends(End::Block),
+            Mode(WhiteSpace::Pre),
+            Text("  "),
+            Text("b"),
+        ],
+        expected: &[Lines("a\n\n  b\n")],
+    },
+    Example {
+        name: "a block begins behind an empty line where any line has content",
+        told: Told::Nothing,
+        width: 5,
+        calls: &[StartBlock, Text("a"), StartBlock, StartTable, Text("b")],
+        expected: &[Lines("a\n\n\nb\n")],
+    },
+    Example {
+        name: "an empty line is no content",
+        told: Told::Nothing,
+        width: 5,
+        calls: &[EmptyLine, StartBlock, Text("a")],
+        expected: &[Lines("\na\n")],
+    },
+    Example {
+        name: "hard lines leave an empty line",
+        told: Told::Nothing,
+        width: 5,
+        calls: &[Text("a"), HardLine, HardLine, Text("b")],
+        expected: &[Lines("a\n\nb\n")],
+    },
+    Example {
+        name: "lines leave none",
+        told: Told::Nothing,
+        width: 5,
+        calls: &[Text("a"), Line, Line, Text("b")],
+        expected: &[Lines("a\nb\n")],
+    },
+];
 
 #[test]
-fn a_block_begins_behind_an_empty_line_where_any_line_has_content(rt: HostRuntime) {
-    let alloc = rt.alloc();
-    let begun = [StartBlock, Text("a"), StartBlock, StartTable, Text("b")];
-    expect(&rt, alloc, 5, &begun, "a\n\n\nb\n");
-    // An empty line is no content.
-    expect(&rt, alloc, 5, &[EmptyLine, StartBlock, Text("a")], "\na\n");
-}
-
-#[test]
-fn hard_lines_leave_an_empty_line(rt: HostRuntime) {
-    let alloc = rt.alloc();
-    let hard = [Text("a"), HardLine, HardLine, Text("b")];
-    expect(&rt, alloc, 5, &hard, "a\n\nb\n");
-    expect(&rt, alloc, 5, &[Text("a"), Line, Line, Text("b")], "a\nb\n");
+fn blocks_and_lines_end(rt: HostRuntime) {
+    meet_all(&rt, rt.alloc(), &EXAMPLES);
 }

@@ -1,13 +1,11 @@
 //! Renderers that are called call by call, and the lines that they have then.
-ghost use Rattle.std.specs.Prelude.{◌<◌};
-
 use crate::texts::{append_marked_line, append_pieces};
 use std::alloc::Global;
 use std::collections::LinkedList;
 use std::fmt::Debug;
 use tbr_decor::{Colour, TextDecorator};
 use tbr_lines::{CharWidth, Error, OutOfMemory, RenderLine, WhiteSpace};
-use text_block_renderer::{RenderOptions, Renderer, SubRenderer};
+use text_block_renderer::{Renderer, SubRenderer};
 
 /// What a call ends that can't refuse.
 #[derive(Clone, Copy)]
@@ -63,17 +61,6 @@ pub enum Call<'a> {
     Colour(Colour),
     Background(Colour),
     Ends(End),
-}
-
-/// A renderer without text, under the usual options.
-pub fn fresh<D: TextDecorator, W: CharWidth>(
-    alloc: Global,
-    width: usize,
-    decorator: D,
-) -> SubRenderer<D, W>
-    requires { 0 < width }
-{
-    SubRenderer::new(alloc, width, RenderOptions::default(), decorator)
 }
 
 fn make_end<D: TextDecorator, W: CharWidth>(r: &mut SubRenderer<D, W>, what: End) {
@@ -163,18 +150,11 @@ pub fn make_all<D: TextDecorator, W: CharWidth>(
     Ok(())
 }
 
-/// The lines behind calls, each with a newline.
-pub fn written<D: TextDecorator, W: CharWidth>(
-    mut r: SubRenderer<D, W>,
-    calls: &[Call<'_>],
-) -> Result<String, Error> {
-    make_all(&mut r, calls)?;
-    r.into_string()
-}
-
 /// What lines show.
 #[derive(Clone, Copy)]
 pub enum Shown {
+    /// Their text.
+    Text,
     /// Their text with markers, as `<name>`.
     Markers,
     /// Their pieces, each with its annotations.
@@ -189,8 +169,8 @@ fn append_line<T: Debug + Drop>(
     line: &RenderLine<T>,
 ) -> Result<(), OutOfMemory> {
     match (shown, line) {
-        (Shown::Markers, RenderLine::Text(line)) => append_marked_line(all, line),
         (Shown::Pieces, RenderLine::Text(line)) => append_pieces(all, alloc, line),
+        (_, RenderLine::Text(line)) => append_marked_line(all, line),
         (_, RenderLine::Line(_)) => Ok(()),
     }
 }
@@ -208,6 +188,18 @@ fn shown_lines<T: Debug + Drop>(
     Ok(all)
 }
 
+/// What the lines of a renderer show, each with a newline.
+fn shown_of<D: TextDecorator, W: CharWidth>(
+    alloc: Global,
+    shown: Shown,
+    r: SubRenderer<D, W>,
+) -> Result<String, Error> {
+    match shown {
+        Shown::Text => r.into_string(),
+        Shown::Markers | Shown::Pieces => Ok(shown_lines(alloc, shown, r.into_lines()?)?),
+    }
+}
+
 /// What the lines behind calls show, each with a newline.
 pub fn handed_out<D: TextDecorator, W: CharWidth>(
     alloc: Global,
@@ -216,5 +208,5 @@ pub fn handed_out<D: TextDecorator, W: CharWidth>(
     calls: &[Call<'_>],
 ) -> Result<String, Error> {
     make_all(&mut r, calls)?;
-    Ok(shown_lines(alloc, shown, r.into_lines()?)?)
+    shown_of(alloc, shown, r)
 }

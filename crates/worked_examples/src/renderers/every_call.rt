@@ -1,102 +1,166 @@
 //! What a renderer answers of itself.
-ghost use Rattle.std.specs.Prelude.{◌≢◌, Some};
-
-use super::calls::Call::{EmptyLine, Ends, Line, Marker, Preformat, Text};
-use super::calls::{Call, End, make_all};
-use super::expected::{plain, told};
-use crate::texts::counts;
+use super::calls::Call::{Closes, EmptyLine, Ends, Line, Marker, Opens, Preformat, Text};
+use super::calls::{Call, Closing, End, Opening, make_all};
+use super::expected::{Told, plain};
 use std::alloc::Global;
 use std::process::Abort;
-use tbr_decor::PlainDecorator;
-use text_block_renderer::{ImageRenderMode, RenderOptions, Renderer, SubRenderer};
+use tbr_lines::Error;
+use text_block_renderer::{ImageRenderMode, RenderOptions, Renderer};
 
 /// The usual options.
-fn usual() -> RenderOptions {
-    RenderOptions {
-        wrap_width: None,
-        allow_width_overflow: false,
-        pad_block_width: false,
-        raw: false,
-        draw_borders: true,
-        fence_tables: false,
-        wrap_links: true,
-        include_link_footnotes: false,
-        use_unicode_strikeout: true,
-        img_mode: ImageRenderMode::IgnoreEmpty,
-    }
-}
+const USUAL: RenderOptions = RenderOptions {
+    wrap_width: None,
+    allow_width_overflow: false,
+    pad_block_width: false,
+    raw: false,
+    draw_borders: true,
+    fence_tables: false,
+    wrap_links: true,
+    include_link_footnotes: false,
+    use_unicode_strikeout: true,
+    img_mode: ImageRenderMode::IgnoreEmpty,
+};
 
 /// Options of which each differs from the usual one.
-pub fn unusual() -> RenderOptions
-    ensures { result.wrap_width ≢ Some 0 }
-{
-    RenderOptions {
-        wrap_width: Some(7),
-        allow_width_overflow: true,
-        pad_block_width: true,
-        raw: true,
-        draw_borders: false,
-        fence_tables: true,
-        wrap_links: false,
-        include_link_footnotes: true,
-        use_unicode_strikeout: false,
-        img_mode: ImageRenderMode::Replace("image"),
-    }
-}
+pub const UNUSUAL: RenderOptions = RenderOptions {
+    wrap_width: Some(7),
+    allow_width_overflow: true,
+    pad_block_width: true,
+    raw: true,
+    draw_borders: false,
+    fence_tables: true,
+    wrap_links: false,
+    include_link_footnotes: true,
+    use_unicode_strikeout: false,
+    img_mode: ImageRenderMode::Replace("image"),
+};
 
-fn has_options(rt: &impl Abort, r: SubRenderer<PlainDecorator>, options: RenderOptions) {
-    assert!(rt; *r.options() == options);
+fn told_options(alloc: Global, told: Told) -> RenderOptions {
+    *plain(alloc, 9, told).options()
 }
 
 #[test]
 fn a_renderer_has_the_options_that_it_was_made_with(rt: HostRuntime) {
     let alloc = rt.alloc();
-    has_options(&rt, plain(alloc, 9), usual());
-    has_options(&rt, told(alloc, 9, unusual()), unusual());
-}
-
-/// The renderer has nine columns and hasn't refused; this is whether it is empty, and how many preformatted stretches
-/// are open.
-fn tells(rt: &impl Abort, r: &SubRenderer<PlainDecorator>, empty: bool, preformatted: usize) {
-    assert!(rt; r.failure().is_none());
-    counts(rt, r.width(), 9);
-    assert!(rt; r.empty() == empty);
-    counts(rt, r.preformat_depth(), preformatted);
-    counts(rt, r.strikeout_depth(), 0);
-}
-
-/// What a renderer tells behind calls.
-fn tells_behind(
-    rt: &impl Abort,
-    alloc: Global,
-    calls: &[Call<'_>],
-    empty: bool,
-    preformatted: usize,
-) {
-    let mut r = plain(alloc, 9);
-    assert!(rt; make_all(&mut r, calls).is_ok());
-    tells(rt, &r, empty, preformatted);
-}
-
-#[test]
-fn an_image_without_a_title_shows_nothing_by_default(rt: HostRuntime) {
+    assert!(rt; told_options(alloc, Told::Nothing) == USUAL);
+    assert!(rt; told_options(alloc, Told::Unusual) == UNUSUAL);
     assert!(rt; ImageRenderMode::default() == ImageRenderMode::IgnoreEmpty);
 }
 
-#[test]
-fn a_renderer_is_empty_without_lines_and_characters(rt: HostRuntime) {
-    let alloc = rt.alloc();
-    tells_behind(&rt, alloc, &[], true, 0);
-    tells_behind(&rt, alloc, &[Line, Marker("x"), Text("  ")], true, 0);
-    tells_behind(&rt, alloc, &[Text("a")], false, 0);
-    tells_behind(&rt, alloc, &[Text("a"), Line], false, 0);
-    tells_behind(&rt, alloc, &[EmptyLine], false, 0);
+/// Calls on a renderer of nine columns, and what it tells then: whether it is empty, how many preformatted stretches
+/// are open, and how many strikeouts that have strokes.
+#[derive(Clone, Copy)]
+struct State {
+    name: &'static str,
+    told: Told,
+    calls: &'static [Call<'static>],
+    tells: (bool, usize, usize),
+}
+
+const NEW: State = State {
+    name: "a renderer without lines and characters is empty",
+    told: Told::Nothing,
+    calls: &[],
+    tells: (true, 0, 0),
+};
+
+const STATES: [State; 11] = [
+    NEW,
+    State {
+        name: "lines without characters, markers and white space leave it empty",
+        calls: &[Line, Marker("x"), Text("  ")],
+        ..NEW
+    },
+    State {
+        name: "a text does not leave it empty",
+        calls: &[Text("a")],
+        tells: (false, 0, 0),
+        ..NEW
+    },
+    State {
+        name: "a line does not leave it empty",
+        calls: &[Text("a"), Line],
+        tells: (false, 0, 0),
+        ..NEW
+    },
+    State {
+        name: "an empty line does not leave it empty",
+        calls: &[EmptyLine],
+        tells: (false, 0, 0),
+        ..NEW
+    },
+    State {
+        name: "preformatted stretches are counted",
+        calls: &[Preformat, Preformat],
+        tells: (true, 2, 0),
+        ..NEW
+    },
+    State {
+        name: "the end of a preformatted stretch is counted",
+        calls: &[Preformat, Preformat, Ends(End::Preformat)],
+        tells: (true, 1, 0),
+        ..NEW
+    },
+    State {
+        name: "strikeouts are counted",
+        calls: &[Opens(Opening::Strikeout), Opens(Opening::Strikeout)],
+        tells: (true, 0, 2),
+        ..NEW
+    },
+    State {
+        name: "the end of a strikeout is counted",
+        calls: &[
+            Opens(Opening::Strikeout),
+            Opens(Opening::Strikeout),
+            Closes(Closing::Strikeout),
+        ],
+        tells: (true, 0, 1),
+        ..NEW
+    },
+    State {
+        name: "strikeouts without strokes are not counted",
+        told: Told::NoStrokes,
+        calls: &[Opens(Opening::Strikeout), Opens(Opening::Strikeout)],
+        ..NEW
+    },
+    State {
+        name: "without strokes the end of a strikeout is not counted either",
+        told: Told::NoStrokes,
+        calls: &[
+            Opens(Opening::Strikeout),
+            Opens(Opening::Strikeout),
+            Closes(Closing::Strikeout),
+        ],
+        ..NEW
+    },
+];
+
+/// What a renderer tells behind calls, and its columns.
+fn told_behind(
+    alloc: Global,
+    told: Told,
+    calls: &[Call<'_>],
+) -> Result<(usize, bool, usize, usize), Error> {
+    let mut r = plain(alloc, 9, told);
+    make_all(&mut r, calls)?;
+    Ok((
+        r.width(),
+        r.empty(),
+        r.preformat_depth(),
+        r.strikeout_depth(),
+    ))
 }
 
 #[test]
-fn preformatted_stretches_are_counted(rt: HostRuntime) {
+fn a_renderer_tells_what_it_has(rt: HostRuntime) {
     let alloc = rt.alloc();
-    tells_behind(&rt, alloc, &[Preformat, Preformat], true, 2);
-    let ended = [Preformat, Preformat, Ends(End::Preformat)];
-    tells_behind(&rt, alloc, &ended, true, 1);
+    for state in &STATES {
+        let (empty, preformatted, struck) = state.tells;
+        let told = told_behind(alloc, state.told, state.calls);
+        assert!(rt;
+            told == Ok((9, empty, preformatted, struck)),
+            "{}",
+            state.name
+        );
+    }
 }

@@ -1,126 +1,190 @@
-//! What renderers are expected to have behind calls.
+//! Worked examples as tables: calls on a new renderer, and what it is expected to have then.
 ghost use Rattle.std.specs.Prelude.{◌<◌, ◌≢◌, Some};
 
-use super::calls::{Call, Shown, fresh, handed_out, written};
+use super::calls::{Call, Shown, handed_out};
+use super::every_call::UNUSUAL;
 use crate::columns::EveryOne;
 use crate::decorators::marked::MarkedDecorator;
-use crate::texts::shows;
+use crate::decorators::odd::OddDecorator;
 use std::alloc::Global;
 use std::process::Abort;
 use tbr_decor::{PlainDecorator, RichDecorator, TextDecorator, TrivialDecorator};
-use tbr_lines::{Error, UnicodeColumns};
-use text_block_renderer::{RenderOptions, SubRenderer};
+use tbr_lines::{CharWidth, Error, UnicodeColumns};
+use text_block_renderer::{ImageRenderMode, RenderOptions, SubRenderer};
 
-/// A renderer that hasn't been called, under the plain decorator.
-pub fn plain(alloc: Global, width: usize) -> SubRenderer<PlainDecorator>
-    requires { 0 < width }
-{
-    fresh(alloc, width, PlainDecorator::new())
+/// What a renderer is told beside the usual options.
+#[derive(Clone, Copy)]
+pub enum Told {
+    Nothing,
+    /// A line may be wider than the renderer.
+    Overflow,
+    /// Blocks have five columns, and lines are padded.
+    Padding,
+    /// Struck out text has no strokes.
+    NoStrokes,
+    /// What an image without a title shows.
+    Images(ImageRenderMode),
+    /// Each option differs from the usual one.
+    Unusual,
 }
 
-/// The same with options of its own.
-pub fn told(alloc: Global, width: usize, options: RenderOptions) -> SubRenderer<PlainDecorator>
-    requires width { 0 < width }
-    requires wrap_width { options.wrap_width ≢ Some 0 }
-{
-    SubRenderer::new(alloc, width, options, PlainDecorator::new())
+/// A decorator, and what gives the widths of characters.
+#[derive(Clone, Copy, Debug)]
+pub enum Under {
+    Plain,
+    Trivial,
+    Rich,
+    Marked,
+    Odd,
+    /// The plain decorator, where every character takes one column.
+    OneColumnEach,
 }
 
-/// The lines behind calls on a new renderer of that width, under a decorator.
-fn written_under<D: TextDecorator>(
-    alloc: Global,
-    width: usize,
-    decorator: D,
-    calls: &[Call<'_>],
-) -> Result<String, Error>
-    requires { 0 < width }
-{
-    written::<D, UnicodeColumns>(fresh(alloc, width, decorator), calls)
+const EACH: [Under; 4] = [Under::Plain, Under::Trivial, Under::Rich, Under::Marked];
+
+/// What is expected behind calls.
+#[derive(Clone, Copy)]
+pub enum Expected {
+    /// The lines, under each shipped decorator and one that has only the usual answers.
+    Lines(&'static str),
+    LinesUnder(Under, &'static str),
+    /// The lines with their markers, as `<name>`, under the plain decorator.
+    Markers(&'static str),
+    /// The pieces of the lines, each with its annotations.
+    Pieces(Under, &'static str),
+    /// A refusal, under the plain decorator.
+    Refused(Error),
 }
 
-/// The lines behind calls on a new renderer of that width are these, under each decorator.
-pub fn expect(rt: &impl Abort, alloc: Global, width: usize, calls: &[Call<'_>], lines: &str)
-    requires { 0 < width }
-{
-    let plain = written_under(alloc, width, PlainDecorator::new(), calls);
-    shows(rt, plain, lines);
-    let trivial = written_under(alloc, width, TrivialDecorator::new(), calls);
-    shows(rt, trivial, lines);
-    let rich = written_under(alloc, width, RichDecorator::new(), calls);
-    shows(rt, rich, lines);
-    let marked = written_under(alloc, width, MarkedDecorator::new(), calls);
-    shows(rt, marked, lines);
+/// Calls on a new renderer, and what is expected then.
+#[derive(Clone, Copy)]
+pub struct Example {
+    pub name: &'static str,
+    pub told: Told,
+    pub width: usize,
+    pub calls: &'static [Call<'static>],
+    pub expected: &'static [Expected],
 }
 
-/// The lines under the plain decorator.
-pub fn expect_plain(rt: &impl Abort, alloc: Global, width: usize, calls: &[Call<'_>], lines: &str)
-    requires { 0 < width }
-{
-    shows(rt, written(plain(alloc, width), calls), lines);
-}
-
-/// The lines where every character takes one column.
-pub fn expect_in_one_column_each(
-    rt: &impl Abort,
-    alloc: Global,
-    width: usize,
-    calls: &[Call<'_>],
-    lines: &str,
-)
-    requires { 0 < width }
-{
-    let r = fresh::<_, EveryOne>(alloc, width, PlainDecorator::new());
-    shows(rt, written(r, calls), lines);
-}
-
-/// The lines with their markers.
-pub fn expect_marked(rt: &impl Abort, alloc: Global, width: usize, calls: &[Call<'_>], lines: &str)
-    requires { 0 < width }
-{
-    let lines_with_markers = handed_out(alloc, Shown::Markers, plain(alloc, width), calls);
-    shows(rt, lines_with_markers, lines);
-}
-
-/// The lines where a line may be wider than the renderer.
-pub fn expect_overflowing(
-    rt: &impl Abort,
-    alloc: Global,
-    width: usize,
-    calls: &[Call<'_>],
-    lines: &str,
-)
-    requires { 0 < width }
+/// The options of a renderer.
+pub fn options(told: Told) -> RenderOptions
+    ensures { result.wrap_width ≢ Some 0 }
 {
     let mut options = RenderOptions::default();
-    options.allow_width_overflow = true;
-    let r = told(alloc, width, options);
-    shows(rt, written(r, calls), lines);
+    match told {
+        Told::Nothing => {}
+        Told::Overflow => options.allow_width_overflow = true,
+        Told::Padding => {
+            options.wrap_width = Some(5);
+            options.pad_block_width = true;
+        }
+        Told::NoStrokes => options.use_unicode_strikeout = false,
+        Told::Images(mode) => options.img_mode = mode,
+        Told::Unusual => options = UNUSUAL,
+    }
+    options
 }
 
-/// The pieces of the lines, each with its annotations, under the rich decorator.
-pub fn expect_rich_pieces(
-    rt: &impl Abort,
-    alloc: Global,
-    width: usize,
-    calls: &[Call<'_>],
-    pieces: &str,
-)
+/// A renderer that hasn't been called, under the plain decorator.
+pub fn plain(alloc: Global, width: usize, told: Told) -> SubRenderer<PlainDecorator>
     requires { 0 < width }
 {
-    expect_pieces(rt, alloc, width, RichDecorator::new(), calls, pieces);
+    SubRenderer::new(alloc, width, options(told), PlainDecorator::new())
 }
 
-/// The pieces of the lines, each with its annotations, under a decorator.
-pub fn expect_pieces<D: TextDecorator>(
-    rt: &impl Abort,
+/// What the lines behind an example's calls show.
+fn shown_by<D: TextDecorator, W: CharWidth>(
     alloc: Global,
-    width: usize,
+    example: Example,
+    shown: Shown,
     decorator: D,
-    calls: &[Call<'_>],
-    pieces: &str,
-)
-    requires { 0 < width }
+) -> Result<String, Error>
+    requires { 0 < example.width }
 {
-    let r = fresh::<_, UnicodeColumns>(alloc, width, decorator);
-    shows(rt, handed_out(alloc, Shown::Pieces, r, calls), pieces);
+    let r: SubRenderer<D, W> = SubRenderer::new(
+        alloc,
+        example.width,
+        options(example.told),
+        decorator,
+    );
+    handed_out(alloc, shown, r, example.calls)
+}
+
+/// The same under one decorator.
+fn shown_under(alloc: Global, example: Example, shown: Shown, under: Under) -> Result<String, Error>
+    requires { 0 < example.width }
+{
+    match under {
+        Under::Plain => shown_by::<_, UnicodeColumns>(alloc, example, shown, PlainDecorator::new()),
+        Under::Trivial => {
+            shown_by::<_, UnicodeColumns>(alloc, example, shown, TrivialDecorator::new())
+        }
+        Under::Rich => shown_by::<_, UnicodeColumns>(alloc, example, shown, RichDecorator::new()),
+        Under::Marked => {
+            shown_by::<_, UnicodeColumns>(alloc, example, shown, MarkedDecorator::new())
+        }
+        Under::Odd => shown_by::<_, UnicodeColumns>(alloc, example, shown, OddDecorator::new()),
+        Under::OneColumnEach => {
+            shown_by::<_, EveryOne>(alloc, example, shown, PlainDecorator::new())
+        }
+    }
+}
+
+/// The text is shown, or the example of that name fails.
+pub fn compare(
+    rt: &impl Abort,
+    name: &str,
+    under: Under,
+    shown: Result<String, Error>,
+    text: &str,
+) {
+    match shown {
+        Ok(shown) => assert_eq!(rt; shown.as_str(), text, "{name} ({under:?})"),
+        Err(error) => panic!(rt; "{name} ({under:?}): {error:?}"),
+    }
+}
+
+/// The example shows a text.
+fn shows(rt: &impl Abort, alloc: Global, example: Example, shown: Shown, under: Under, text: &str) {
+    assert!(rt; 0 < example.width);
+    let shown = shown_under(alloc, example, shown, under);
+    compare(rt, example.name, under, shown, text);
+}
+
+/// The example has these lines under each decorator.
+fn shows_lines(rt: &impl Abort, alloc: Global, example: Example, lines: &str) {
+    for under in EACH {
+        shows(rt, alloc, example, Shown::Text, under, lines);
+    }
+}
+
+/// The example is refused.
+fn refuses(rt: &impl Abort, alloc: Global, example: Example, refusal: Error) {
+    assert!(rt; 0 < example.width);
+    let seen = shown_under(alloc, example, Shown::Text, Under::Plain);
+    assert!(rt; seen.err() == Some(refusal), "{}", example.name);
+}
+
+fn meets(rt: &impl Abort, alloc: Global, example: Example, expected: Expected) {
+    match expected {
+        Expected::Lines(lines) => shows_lines(rt, alloc, example, lines),
+        Expected::LinesUnder(under, lines) => shows(rt, alloc, example, Shown::Text, under, lines),
+        Expected::Markers(lines) => shows(rt, alloc, example, Shown::Markers, Under::Plain, lines),
+        Expected::Pieces(under, pieces) => shows(rt, alloc, example, Shown::Pieces, under, pieces),
+        Expected::Refused(refusal) => refuses(rt, alloc, example, refusal),
+    }
+}
+
+/// The example has all that is expected.
+fn meets_each(rt: &impl Abort, alloc: Global, example: Example) {
+    for expected in example.expected {
+        meets(rt, alloc, example, *expected);
+    }
+}
+
+/// Each example has all that is expected.
+pub fn meet_all(rt: &impl Abort, alloc: Global, examples: &[Example]) {
+    for example in examples {
+        meets_each(rt, alloc, *example);
+    }
 }

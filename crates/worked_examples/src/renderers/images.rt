@@ -1,76 +1,126 @@
 //! Worked examples of images.
 use super::calls::Call::{Image, Text};
-use super::calls::written;
-use super::expected::told;
-use crate::texts::shows;
+use super::calls::{Call, Shown, handed_out};
+use super::expected::{Told, Under, compare, plain};
 use std::alloc::Global;
-use std::process::Abort;
-use tbr_decor::PlainDecorator;
-use text_block_renderer::{ImageRenderMode, RenderOptions, SubRenderer};
-
-/// A renderer that shows images without titles by a mode.
-fn showing(alloc: Global, mode: ImageRenderMode) -> SubRenderer<PlainDecorator> {
-    let mut options = RenderOptions::default();
-    options.img_mode = mode;
-    told(alloc, 80, options)
-}
-
-const MODES: [ImageRenderMode; 4] = [
-    ImageRenderMode::IgnoreEmpty,
-    ImageRenderMode::ShowAlways,
-    ImageRenderMode::Replace("image"),
-    ImageRenderMode::Filename,
-];
+use tbr_lines::Error;
+use text_block_renderer::ImageRenderMode;
+use text_block_renderer::ImageRenderMode::{Filename, IgnoreEmpty, Replace, ShowAlways};
 
 const SOURCE: &str = "http://www.example.com/path/foo.jpg";
 
-/// The line of an image between texts.
-fn expect_shown<'a>(
-    rt: &impl Abort,
-    alloc: Global,
-    mode: ImageRenderMode,
-    image: (&'a str, &'a str),
-    line: &str,
-) {
-    let calls = [Text("Hello x"), Image(image.0, image.1), Text("y")];
-    shows(rt, written(showing(alloc, mode), &calls), line);
-}
+/// An image without a title, between texts.
+const UNTITLED: &[Call<'static>] = &[Text("Hello x"), Image(SOURCE, ""), Text("y")];
 
-#[test]
-fn an_image_without_a_title_is_shown_by_the_mode(rt: HostRuntime) {
-    let alloc = rt.alloc();
-    let lines = [
+const TITLED: &[Call<'static>] = &[Text("Hello x"), Image(SOURCE, "t"), Text("y")];
+
+/// An image without a title.
+const ALONE: &[Call<'static>] = &[Image("s", "")];
+
+/// A name, the mode for images without a title, calls, and the lines that they leave.
+const EXAMPLES: [(&str, ImageRenderMode, &[Call<'static>], &str); 15] = [
+    (
+        "an image without a title is ignored",
+        IgnoreEmpty,
+        UNTITLED,
         "Hello xy\n",
+    ),
+    (
+        "an image without a title shows none",
+        ShowAlways,
+        UNTITLED,
         "Hello x[]y\n",
+    ),
+    (
+        "an image without a title shows another",
+        Replace("image"),
+        UNTITLED,
         "Hello x[image]y\n",
+    ),
+    (
+        "an image without a title shows its file",
+        Filename,
+        UNTITLED,
         "Hello x[foo.jpg]y\n",
-    ];
-    for (mode, line) in MODES.into_iter().zip(lines) {
-        expect_shown(&rt, alloc, mode, (SOURCE, ""), line);
-    }
+    ),
+    (
+        "a title is shown where none is ignored",
+        IgnoreEmpty,
+        TITLED,
+        "Hello x[t]y\n",
+    ),
+    (
+        "a title is shown where none is shown",
+        ShowAlways,
+        TITLED,
+        "Hello x[t]y\n",
+    ),
+    (
+        "a title is shown where none is replaced",
+        Replace("image"),
+        TITLED,
+        "Hello x[t]y\n",
+    ),
+    (
+        "a title is shown where none is a file",
+        Filename,
+        TITLED,
+        "Hello x[t]y\n",
+    ),
+    (
+        "the name of a file is a source without a slash",
+        Filename,
+        &[Text("Hello x"), Image("foo.jpg", ""), Text("y")],
+        "Hello x[foo.jpg]y\n",
+    ),
+    (
+        "the name of a file is empty behind the last slash",
+        Filename,
+        &[Text("Hello x"), Image("a/b/", ""), Text("y")],
+        "Hello x[]y\n",
+    ),
+    (
+        "the name of a file follows the last slash",
+        Filename,
+        &[Text("Hello x"), Image("/b", ""), Text("y")],
+        "Hello x[b]y\n",
+    ),
+    (
+        "an image that is ignored is no line",
+        IgnoreEmpty,
+        ALONE,
+        "",
+    ),
+    (
+        "an image that shows no title is a line",
+        ShowAlways,
+        ALONE,
+        "[]\n",
+    ),
+    (
+        "an image that shows another title is a line",
+        Replace("image"),
+        ALONE,
+        "[image]\n",
+    ),
+    (
+        "an image that shows its file is a line",
+        Filename,
+        ALONE,
+        "[s]\n",
+    ),
+];
+
+/// The lines behind calls, where images are shown by a mode.
+fn lines(alloc: Global, mode: ImageRenderMode, calls: &[Call<'_>]) -> Result<String, Error> {
+    let r = plain(alloc, 80, Told::Images(mode));
+    handed_out(alloc, Shown::Text, r, calls)
 }
 
 #[test]
-fn an_image_shows_its_title_in_every_mode(rt: HostRuntime) {
+fn an_image_is_shown_by_its_title_or_the_mode(rt: HostRuntime) {
     let alloc = rt.alloc();
-    for mode in MODES {
-        expect_shown(&rt, alloc, mode, (SOURCE, "t"), "Hello x[t]y\n");
-    }
-}
-
-#[test]
-fn the_name_of_a_file_follows_the_last_slash(rt: HostRuntime) {
-    let alloc = rt.alloc();
-    let mode = ImageRenderMode::Filename;
-    expect_shown(&rt, alloc, mode, ("foo.jpg", ""), "Hello x[foo.jpg]y\n");
-    expect_shown(&rt, alloc, mode, ("a/b/", ""), "Hello x[]y\n");
-    expect_shown(&rt, alloc, mode, ("/b", ""), "Hello x[b]y\n");
-}
-
-#[test]
-fn an_image_alone_is_a_line_where_it_is_shown(rt: HostRuntime) {
-    let alloc = rt.alloc();
-    for (mode, line) in MODES.into_iter().zip(["", "[]\n", "[image]\n", "[s]\n"]) {
-        shows(&rt, written(showing(alloc, mode), &[Image("s", "")]), line);
+    for (name, mode, calls, shown) in EXAMPLES {
+        compare(&rt, name, Under::Plain, lines(alloc, mode, calls), shown);
     }
 }

@@ -1,38 +1,62 @@
 //! Worked examples of fragment markers.
 use super::calls::Call::{EmptyLine, Line, Marker, Mode, StartBlock, Text};
-use super::expected::expect_marked;
+use super::expected::Expected::Markers;
+use super::expected::{Example, Told, meet_all};
 use tbr_lines::WhiteSpace;
 
-#[test]
-fn a_marker_goes_where_its_word_goes(rt: HostRuntime) {
-    let alloc = rt.alloc();
-    let moved = [Text("ab "), Marker("x"), Text("cde")];
-    expect_marked(&rt, alloc, 3, &moved, "ab\n<x>cde\n");
-    // Where the word is cut it stays behind the character before.
-    let cut = [Text("abc"), Marker("x"), Text("def")];
-    expect_marked(&rt, alloc, 3, &cut, "abc<x>\ndef\n");
-}
+const EXAMPLES: [Example; 7] = [
+    Example {
+        name: "a marker goes where its word goes",
+        told: Told::Nothing,
+        width: 3,
+        calls: &[Text("ab "), Marker("x"), Text("cde")],
+        expected: &[Markers("ab\n<x>cde\n")],
+    },
+    Example {
+        name: "where the word is cut it stays behind the character before",
+        told: Told::Nothing,
+        width: 3,
+        calls: &[Text("abc"), Marker("x"), Text("def")],
+        expected: &[Markers("abc<x>\ndef\n")],
+    },
+    Example {
+        name: "a marker waits for the next line",
+        told: Told::Nothing,
+        width: 9,
+        calls: &[Text("ab "), Marker("x"), Line, Text("cd")],
+        expected: &[Markers("ab\n<x>cd\n")],
+    },
+    Example {
+        name: "an empty line with a marker is a line, but has no content",
+        told: Told::Nothing,
+        width: 9,
+        calls: &[Marker("x"), EmptyLine, StartBlock, Text("a")],
+        expected: &[Markers("<x>\na\n")],
+    },
+    Example {
+        name: "markers that wait stand before those of the line",
+        told: Told::Nothing,
+        width: 9,
+        calls: &[Marker("x"), Line, Marker("y"), Text("a")],
+        expected: &[Markers("<x><y>a\n")],
+    },
+    Example {
+        name: "a newline leaves a marker to the next word",
+        told: Told::Nothing,
+        width: 9,
+        calls: &[Mode(WhiteSpace::Pre), Marker("x"), Text("\na")],
+        expected: &[Markers("\n<x>a\n")],
+    },
+    Example {
+        name: "a marker alone is no line",
+        told: Told::Nothing,
+        width: 9,
+        calls: &[Marker("x")],
+        expected: &[Markers("")],
+    },
+];
 
 #[test]
-fn a_marker_waits_for_the_next_line(rt: HostRuntime) {
-    let alloc = rt.alloc();
-    let trailing = [Text("ab "), Marker("x"), Line, Text("cd")];
-    expect_marked(&rt, alloc, 9, &trailing, "ab\n<x>cd\n");
-    // An empty one is a line, but has no content then.
-    let empty = [Marker("x"), EmptyLine, StartBlock, Text("a")];
-    expect_marked(&rt, alloc, 9, &empty, "<x>\na\n");
-    // Those that wait stand before those of the line.
-    let both = [Marker("x"), Line, Marker("y"), Text("a")];
-    expect_marked(&rt, alloc, 9, &both, "<x><y>a\n");
-}
-
-#[test]
-fn a_newline_leaves_a_marker_to_the_next_word(rt: HostRuntime) {
-    let calls = [Mode(WhiteSpace::Pre), Marker("x"), Text("\na")];
-    expect_marked(&rt, rt.alloc(), 9, &calls, "\n<x>a\n");
-}
-
-#[test]
-fn a_marker_alone_is_no_line(rt: HostRuntime) {
-    expect_marked(&rt, rt.alloc(), 9, &[Marker("x")], "");
+fn markers_stand_in_lines(rt: HostRuntime) {
+    meet_all(&rt, rt.alloc(), &EXAMPLES);
 }

@@ -5,15 +5,17 @@ use super::calls::Call::{
 };
 use super::calls::{Call, Closing, End, Opening, Shown, handed_out, make_all};
 use super::colours::RED;
+use super::expected::{Told, options};
+use super::prefixes::prefixes;
 use super::refusals::keeps;
 use crate::texts::shows;
 use std::alloc::Global;
 use std::process::Abort;
-use tbr_decor::RichDecorator;
+use tbr_decor::{RichDecorator, TextDecorator};
 use tbr_lines::{Error, WhiteSpace};
 use text_block_renderer::{RenderOptions, Renderer, SubRenderer};
 
-const CALLS: [Call<'static>; 18] = [
+const CALLS: &[Call<'static>] = &[
     Text("ab cd ef gh"),
     Marker("x"),
     Line,
@@ -37,7 +39,7 @@ const CALLS: [Call<'static>; 18] = [
 const LINES: &str =
     "ab cd ef \ngh<x>       \n         \n<y>p q      \n         \n         \n         \nend      \n";
 
-const DECORATED: [Call<'static>; 25] = [
+const DECORATED: &[Call<'static>] = &[
     Opens(Opening::Link("t")),
     Text("a"),
     Closes(Closing::Link),
@@ -68,49 +70,30 @@ const DECORATED: [Call<'static>; 25] = [
 const DECORATED_LINES: &str = "abcd\u{336}e    \n^{f}gh   \n";
 
 /// A renderer of nine columns whose blocks have eight, and whose lines are padded.
-fn padding(alloc: Global) -> SubRenderer<RichDecorator> {
-    let mut options = RenderOptions::default();
-    options.wrap_width = Some(8);
-    options.pad_block_width = true;
-    SubRenderer::new(alloc, 9, options, RichDecorator::new())
+fn padding<D: TextDecorator>(alloc: Global, decorator: D) -> SubRenderer<D> {
+    let options = RenderOptions {
+        wrap_width: Some(8),
+        ..options(Told::Padding)
+    };
+    SubRenderer::new(alloc, 9, options, decorator)
 }
 
-/// The renderer has the lines, or refuses for want of memory.
-fn ends(rt: &impl Abort, alloc: Global, r: SubRenderer<RichDecorator>, lines: &str) {
-    match handed_out(alloc, Shown::Markers, r, &[]) {
-        Err(Error::OutOfMemory) => {}
-        shown => shows(rt, shown, lines),
+/// What lines show behind calls, one of which may refuse; the refusal is kept.
+fn shown_or_refused<D: TextDecorator>(
+    rt: &impl Abort,
+    alloc: Global,
+    decorator: D,
+    calls: &[Call<'_>],
+) -> Result<String, Error> {
+    let mut r = padding(alloc, decorator);
+    if let Err(refusal) = make_all(&mut r, calls) {
+        keeps(rt, &mut r, refusal);
     }
+    handed_out(alloc, Shown::Markers, r, &[])
 }
 
-/// The renderer refused for want of memory, and keeps that.
-fn refused(rt: &impl Abort, mut r: SubRenderer<RichDecorator>, refusal: Error) {
-    assert!(rt; refusal == Error::OutOfMemory);
-    keeps(rt, &mut r, refusal);
-    assert!(rt; r.into_lines().err() == Some(refusal));
-}
-
-/// The calls leave the lines, or one of them refuses.
-fn leave(rt: &impl Abort, alloc: Global, calls: &[Call<'_>], lines: &str) {
-    let mut r = padding(alloc);
-    match make_all(&mut r, calls) {
-        Ok(()) => ends(rt, alloc, r, lines),
-        Err(refusal) => refused(rt, r, refusal),
-    }
-}
-
-#[test]
-fn every_call_leaves_its_lines_or_refuses_for_good(rt: HostRuntime) {
-    leave(&rt, rt.alloc(), &CALLS, LINES);
-}
-
-#[test]
-fn every_call_of_decorated_text_does(rt: HostRuntime) {
-    leave(&rt, rt.alloc(), &DECORATED, DECORATED_LINES);
-}
-
-/// The text of a prefix, or a refusal for want of memory.
-fn text_or_refusal(rt: &impl Abort, text: Result<String, Error>, expected: &str) {
+/// The text is the one that is expected, or it is refused for want of memory.
+fn shows_or_refuses(rt: &impl Abort, text: Result<String, Error>, expected: &str) {
     match text {
         Err(Error::OutOfMemory) => {}
         text => shows(rt, text, expected),
@@ -118,16 +101,32 @@ fn text_or_refusal(rt: &impl Abort, text: Result<String, Error>, expected: &str)
 }
 
 #[test]
-fn prefixes_and_sub_renderers_may_be_refused_and_that_is_not_kept(rt: HostRuntime) {
-    let mut r = padding(rt.alloc());
+fn every_call_leaves_its_lines_or_refuses_for_good(rt: HostRuntime) {
+    let alloc = rt.alloc();
+    for (calls, lines) in [(CALLS, LINES), (DECORATED, DECORATED_LINES)] {
+        let shown = shown_or_refused(&rt, alloc, RichDecorator::new(), calls);
+        shows_or_refuses(&rt, shown, lines);
+    }
+}
+
+/// The prefixes and a sub-renderer, each of which may be refused for want of memory, and that isn't kept.
+fn prefixes_or_refusal<D: TextDecorator>(
+    rt: &impl Abort,
+    alloc: Global,
+    decorator: D,
+) -> Result<String, Error> {
+    let mut r = padding(alloc, decorator);
     let _ = make_all(&mut r, &[Opens(Opening::Link("t"))]);
     let failure = r.failure();
-    text_or_refusal(&rt, r.header_prefix(2), "## ");
-    text_or_refusal(&rt, r.quote_prefix(), "> ");
-    text_or_refusal(&rt, r.unordered_item_prefix(), "* ");
-    text_or_refusal(&rt, r.ordered_item_prefix(7), "7. ");
-    if let Err(refusal) = r.new_sub_renderer(5) {
-        assert!(rt; refusal == Error::OutOfMemory);
-    }
+    let shown = prefixes(&mut r, 2);
+    let refusal = r.new_sub_renderer(5).err();
+    assert!(rt; refusal.is_none() || refusal == Some(Error::OutOfMemory));
     assert!(rt; r.failure() == failure);
+    shown
+}
+
+#[test]
+fn prefixes_and_sub_renderers_may_be_refused_and_that_is_not_kept(rt: HostRuntime) {
+    let shown = prefixes_or_refusal(&rt, rt.alloc(), RichDecorator::new());
+    shows_or_refuses(&rt, shown, "## |> |* |-1. ");
 }

@@ -2,38 +2,79 @@
 ghost use Rattle.std.specs.Prelude.{◌<◌};
 
 use super::calls::Call::Text;
-use super::calls::written;
-use super::expected::{expect, expect_in_one_column_each, expect_overflowing, plain};
+use super::calls::{Shown, handed_out};
+use super::expected::Expected::{Lines, LinesUnder, Refused};
+use super::expected::{Example, Told, Under, meet_all, plain};
 use super::wrapping::BREAKS;
 use std::alloc::Global;
 use std::process::Abort;
 use tbr_lines::Error;
 
-#[test]
-fn a_wide_character_stands_on_a_line_of_two_columns(rt: HostRuntime) {
-    let alloc = rt.alloc();
-    expect(&rt, alloc, 2, &[Text("a漢b")], "a\n漢\nb\n");
-    expect_in_one_column_each(&rt, alloc, 2, &[Text("a漢b")], "a漢\nb\n");
-    expect_overflowing(&rt, alloc, 1, &[Text("a漢b")], "a\n漢\nb\n");
-    let narrow = written(plain(alloc, 1), &[Text("a漢b")]);
-    assert!(rt; narrow.err() == Some(Error::TooNarrow));
-}
+const EXAMPLES: [Example; 8] = [
+    Example {
+        name: "a wide character stands on a line of two columns",
+        told: Told::Nothing,
+        width: 2,
+        calls: &[Text("a漢b")],
+        expected: &[
+            Lines("a\n漢\nb\n"),
+            LinesUnder(Under::OneColumnEach, "a漢\nb\n"),
+        ],
+    },
+    Example {
+        name: "a wide character overflows one column",
+        told: Told::Overflow,
+        width: 1,
+        calls: &[Text("a漢b")],
+        expected: &[LinesUnder(Under::Plain, "a\n漢\nb\n")],
+    },
+    Example {
+        name: "a wide character is refused at one column",
+        told: Told::Nothing,
+        width: 1,
+        calls: &[Text("a漢b")],
+        expected: &[Refused(Error::TooNarrow)],
+    },
+    Example {
+        name: "characters of no width stay with what stands before",
+        told: Told::Nothing,
+        width: 2,
+        calls: &[Text("a\u{336}b\u{336}c")],
+        expected: &[Lines("a\u{336}b\u{336}\nc\n")],
+    },
+    Example {
+        name: "a space behind a character of no width begins no line",
+        told: Told::Nothing,
+        width: 9,
+        calls: &[Text("\u{336} a")],
+        expected: &[Lines("\u{336}a\n")],
+    },
+    Example {
+        name: "a character of no width stands behind a space",
+        told: Told::Nothing,
+        width: 9,
+        calls: &[Text("b \u{336} a")],
+        expected: &[Lines("b \u{336}a\n")],
+    },
+    Example {
+        name: "a zero width space vanishes, and a no-break space does not",
+        told: Told::Nothing,
+        width: 9,
+        calls: &[Text("a\u{200b}b\u{a0}c")],
+        expected: &[Lines("ab\u{a0}c\n")],
+    },
+    Example {
+        name: "a character of no width stands before a wide one that overflows",
+        told: Told::Overflow,
+        width: 1,
+        calls: &[Text("\u{336}漢b")],
+        expected: &[LinesUnder(Under::Plain, "\u{336}漢\nb\n")],
+    },
+];
 
 #[test]
-fn characters_of_no_width_stay_with_what_stands_before(rt: HostRuntime) {
-    let alloc = rt.alloc();
-    expect(
-        &rt,
-        alloc,
-        2,
-        &[Text("a\u{336}b\u{336}c")],
-        "a\u{336}b\u{336}\nc\n",
-    );
-    expect(&rt, alloc, 9, &[Text("\u{336} a")], "\u{336}a\n");
-    expect(&rt, alloc, 9, &[Text("b \u{336} a")], "b \u{336}a\n");
-    expect(&rt, alloc, 9, &[Text("a\u{200b}b\u{a0}c")], "ab\u{a0}c\n");
-    // Or before a wide one that overflows.
-    expect_overflowing(&rt, alloc, 1, &[Text("\u{336}漢b")], "\u{336}漢\nb\n");
+fn narrow_lines_have_wide_characters_and_those_of_no_width(rt: HostRuntime) {
+    meet_all(&rt, rt.alloc(), &EXAMPLES);
 }
 
 /// Texts in `Normal`, with wide characters, those of no width, and words that are cut.
@@ -62,7 +103,12 @@ fn has_room(rt: &impl Abort, alloc: Global, width: usize)
     requires { 0 < width }
 {
     for text in TEXTS {
-        let lines = written(plain(alloc, width), &[Text(text)]);
+        let lines = handed_out(
+            alloc,
+            Shown::Text,
+            plain(alloc, width, Told::Nothing),
+            &[Text(text)],
+        );
         assert!(rt; lines.is_ok(), "{text:?} at width {width}");
     }
 }

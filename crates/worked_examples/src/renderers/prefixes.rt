@@ -1,100 +1,96 @@
 //! Worked examples of prefixes, and of the columns that are left behind them.
-use super::calls::fresh;
-use super::expected::{plain, told};
+use super::expected::{Told, options, plain};
 use crate::texts::shows;
 use std::alloc::Global;
 use std::process::Abort;
 use tbr_decor::{PlainDecorator, RichDecorator, TextDecorator, TrivialDecorator};
-use tbr_lines::{CharWidth, Error, UnicodeColumns};
-use text_block_renderer::{RenderOptions, Renderer, SubRenderer};
+use tbr_lines::{CharWidth, Error};
+use text_block_renderer::{Renderer, SubRenderer};
 
-/// The prefixes of a header of level 3, a quote, an item and the item -1.
-fn expect_prefixes<D: TextDecorator, W: CharWidth>(
-    rt: &impl Abort,
-    r: &mut SubRenderer<D, W>,
-    prefixes: [&str; 4],
-) {
-    let [header, quote, item, number] = prefixes;
-    shows(rt, r.header_prefix(3), header);
-    shows(rt, r.quote_prefix(), quote);
-    shows(rt, r.unordered_item_prefix(), item);
-    shows(rt, r.ordered_item_prefix(-1), number);
+fn append(all: &mut String, prefix: Result<String, Error>) -> Result<(), Error> {
+    all.push('|')?;
+    all.push_str(prefix?.as_str())?;
+    Ok(())
 }
 
-/// The renderer has the prefixes of the plain decorator.
-pub fn has_plain_prefixes(rt: &impl Abort, r: &mut SubRenderer<PlainDecorator>) {
-    expect_prefixes(rt, r, ["### ", "> ", "* ", "-1. "]);
+/// The prefixes of a header, a quote, an item and the item -1, with bars between.
+pub fn prefixes<D: TextDecorator, W: CharWidth>(
+    r: &mut SubRenderer<D, W>,
+    level: usize,
+) -> Result<String, Error> {
+    let mut all = r.header_prefix(level)?;
+    append(&mut all, r.quote_prefix())?;
+    append(&mut all, r.unordered_item_prefix())?;
+    append(&mut all, r.ordered_item_prefix(-1))?;
+    Ok(all)
+}
+
+/// The prefixes under a decorator.
+fn prefixes_under<D: TextDecorator>(
+    alloc: Global,
+    decorator: D,
+    level: usize,
+) -> Result<String, Error> {
+    let mut r: SubRenderer<D> = SubRenderer::new(alloc, 9, options(Told::Nothing), decorator);
+    prefixes(&mut r, level)
 }
 
 #[test]
 fn prefixes_are_those_of_the_decorator(rt: HostRuntime) {
     let alloc = rt.alloc();
-    has_plain_prefixes(&rt, &mut plain(alloc, 9));
-    let mut trivial = fresh::<_, UnicodeColumns>(alloc, 9, TrivialDecorator::new());
-    expect_prefixes(&rt, &mut trivial, ["", "", "", ""]);
-    let mut rich = fresh::<_, UnicodeColumns>(alloc, 9, RichDecorator::new());
-    shows(&rt, rich.header_prefix(0), " ");
-    expect_prefixes(&rt, &mut rich, ["### ", "> ", "* ", "-1. "]);
+    let plain = prefixes_under(alloc, PlainDecorator::new(), 3);
+    shows(&rt, plain, "### |> |* |-1. ");
+    let trivial = prefixes_under(alloc, TrivialDecorator::new(), 3);
+    shows(&rt, trivial, "|||");
+    let rich = prefixes_under(alloc, RichDecorator::new(), 3);
+    shows(&rt, rich, "### |> |* |-1. ");
+    let without_level = prefixes_under(alloc, RichDecorator::new(), 0);
+    shows(&rt, without_level, " |> |* |-1. ");
+}
+
+/// A prefix that passes every size is refused; these are the prefixes then.
+fn prefixes_behind_a_refusal<D: TextDecorator>(
+    rt: &impl Abort,
+    alloc: Global,
+    decorator: D,
+) -> Result<String, Error> {
+    let mut r: SubRenderer<D> = SubRenderer::new(alloc, 9, options(Told::Nothing), decorator);
+    // The sign of each level is a character, so that this needs more bytes than there are.
+    assert!(rt; r.header_prefix(usize::MAX).err() == Some(Error::OutOfMemory));
+    assert!(rt; r.failure().is_none());
+    prefixes(&mut r, 3)
 }
 
 #[test]
 fn a_prefix_that_passes_every_size_is_refused_and_not_kept(rt: HostRuntime) {
-    let mut r = plain(rt.alloc(), 9);
-    assert!(rt; r.header_prefix(usize::MAX).err() == Some(Error::OutOfMemory));
-    assert!(rt; r.failure().is_none());
-    has_plain_prefixes(&rt, &mut r);
+    let shown = prefixes_behind_a_refusal(&rt, rt.alloc(), PlainDecorator::new());
+    shows(&rt, shown, "### |> |* |-1. ");
 }
 
-/// What is left of five columns behind prefixes, where a least width is asked for; none is a refusal.
-fn expect_left(
-    rt: &impl Abort,
-    r: &SubRenderer<PlainDecorator>,
-    asked: (usize, usize),
-    left: Option<usize>,
-) {
-    assert!(rt; r.width_minus(asked.0, asked.1).ok() == left, "{asked:?}");
+/// What is left of five columns behind a prefix, where a least width is asked for; none is a refusal.
+fn left(alloc: Global, told: Told, prefix: usize, least: usize) -> Option<usize> {
+    plain(alloc, 5, told).width_minus(prefix, least).ok()
 }
 
-const ASKED: [(usize, usize); 8] = [
-    (3, 4),
-    (1, 4),
-    (1, 3),
-    (0, 5),
-    (0, 6),
-    (5, 0),
-    (9, 0),
-    (9, 1),
+/// The columns of a prefix, the least width, and what is left where lines may not be wider, and where they may.
+const LEFT: [(usize, usize, Option<usize>, usize); 8] = [
+    (3, 4, None, 4),
+    (1, 4, Some(4), 4),
+    (1, 3, Some(4), 4),
+    (0, 5, Some(5), 5),
+    (0, 6, None, 6),
+    (5, 0, Some(0), 0),
+    (9, 0, Some(0), 0),
+    (9, 1, None, 1),
 ];
 
 #[test]
 fn columns_are_left_behind_a_prefix(rt: HostRuntime) {
-    let r = plain(rt.alloc(), 5);
-    let left = [
-        None,
-        Some(4),
-        Some(4),
-        Some(5),
-        None,
-        Some(0),
-        Some(0),
-        None,
-    ];
-    for (asked, left) in ASKED.into_iter().zip(left) {
-        expect_left(&rt, &r, asked, left);
-    }
-}
-
-/// A renderer of five columns whose lines may be wider.
-fn overflowing(alloc: Global) -> SubRenderer<PlainDecorator> {
-    let mut options = RenderOptions::default();
-    options.allow_width_overflow = true;
-    told(alloc, 5, options)
-}
-
-#[test]
-fn the_least_width_is_left_where_lines_may_be_wider(rt: HostRuntime) {
-    let r = overflowing(rt.alloc());
-    for (asked, left) in ASKED.into_iter().zip([4, 4, 4, 5, 6, 0, 0, 1]) {
-        expect_left(&rt, &r, asked, Some(left));
+    let alloc = rt.alloc();
+    for (prefix, least, narrow, wide) in LEFT {
+        let seen = left(alloc, Told::Nothing, prefix, least);
+        assert!(rt; seen == narrow, "{least} behind {prefix}");
+        let seen = left(alloc, Told::Overflow, prefix, least);
+        assert!(rt; seen == Some(wide), "{least} behind {prefix}, or wider");
     }
 }

@@ -1,80 +1,118 @@
 //! Worked examples of the modes that preserve white space, and of preformatted stretches.
 use super::calls::Call::{Ends, Mode, Preformat, Text};
 use super::calls::End;
-use super::expected::{expect, expect_rich_pieces};
-use tbr_lines::WhiteSpace;
+use super::expected::Expected::{Lines, Pieces};
+use super::expected::{Example, Told, Under, meet_all};
+use tbr_lines::WhiteSpace::{Normal, Pre, PreWrap};
 
-const PRE: WhiteSpace = WhiteSpace::Pre;
-
-const PRE_WRAP: WhiteSpace = WhiteSpace::PreWrap;
+const EXAMPLES: [Example; 14] = [
+    Example {
+        name: "newlines end lines",
+        told: Told::Nothing,
+        width: 20,
+        calls: &[Mode(Pre), Text("foo\nbar\nwib   asdf;\n")],
+        expected: &[Lines("foo\nbar\nwib   asdf;\n")],
+    },
+    Example {
+        name: "newlines end empty lines",
+        told: Told::Nothing,
+        width: 5,
+        calls: &[Mode(Pre), Text("a\n\nb")],
+        expected: &[Lines("a\n\nb\n")],
+    },
+    Example {
+        name: "spaces alone are an empty line",
+        told: Told::Nothing,
+        width: 5,
+        calls: &[Mode(Pre), Text("   \n")],
+        expected: &[Lines("\n")],
+    },
+    Example {
+        name: "a line that spaces fill before a word isn't written",
+        told: Told::Nothing,
+        width: 5,
+        calls: &[Mode(Pre), Text("       ab")],
+        expected: &[Lines("  ab\n")],
+    },
+    Example {
+        name: "a tab fills a line",
+        told: Told::Nothing,
+        width: 5,
+        calls: &[Mode(Pre), Text("\tb")],
+        expected: &[Lines("     \nb\n")],
+    },
+    Example {
+        name: "a tab fills the rest of a line",
+        told: Told::Nothing,
+        width: 5,
+        calls: &[Mode(Pre), Text("ab\tc")],
+        expected: &[Lines("ab   \nc\n")],
+    },
+    Example {
+        name: "a tab goes to the next eighth column",
+        told: Told::Nothing,
+        width: 20,
+        calls: &[Mode(Pre), Text("ab\tc")],
+        expected: &[Lines("ab      c\n")],
+    },
+    Example {
+        name: "white space vanishes where a word is moved",
+        told: Told::Nothing,
+        width: 5,
+        calls: &[Mode(PreWrap), Text("ab  cd")],
+        expected: &[Lines("ab\ncd\n")],
+    },
+    Example {
+        name: "white space before a no-break space vanishes too",
+        told: Told::Nothing,
+        width: 5,
+        calls: &[Mode(PreWrap), Text("ab \u{a0}cdef")],
+        expected: &[Lines("ab\ncdef\n")],
+    },
+    Example {
+        name: "the mode before holds where one ended",
+        told: Told::Nothing,
+        width: 5,
+        calls: &[Mode(Pre), Text("  "), Ends(End::Mode), Text("abcd")],
+        expected: &[Lines("  \nabcd\n")],
+    },
+    Example {
+        name: "the mode that was pushed last holds",
+        told: Told::Nothing,
+        width: 5,
+        calls: &[Mode(Pre), Text("  "), Mode(Normal), Text("abcd")],
+        expected: &[Lines("  \nabcd\n")],
+    },
+    Example {
+        name: "a preformatted line goes on under another annotation",
+        told: Told::Nothing,
+        width: 3,
+        calls: &[Preformat, Mode(Pre), Text("abcde\nf")],
+        expected: &[Pieces(
+            Under::Rich,
+            "abc:[Preformat(false)] \nde:[Preformat(true)] \nf:[Preformat(false)] \n",
+        )],
+    },
+    Example {
+        name: "a preformatted line goes on behind a space",
+        told: Told::Nothing,
+        width: 3,
+        calls: &[Preformat, Mode(Pre), Text(" abcd")],
+        expected: &[Pieces(
+            Under::Rich,
+            " :[Preformat(false)] \nab:[Preformat(false)] c:[Preformat(true)] \nd:[Preformat(true)] \n",
+        )],
+    },
+    Example {
+        name: "outside of preformatted stretches there is none",
+        told: Told::Nothing,
+        width: 9,
+        calls: &[Preformat, Text("ab "), Ends(End::Preformat), Text("cd")],
+        expected: &[Pieces(Under::Rich, "ab :[Preformat(false)] cd:[] \n")],
+    },
+];
 
 #[test]
-fn newlines_end_lines(rt: HostRuntime) {
-    let alloc = rt.alloc();
-    let three = [Mode(PRE), Text("foo\nbar\nwib   asdf;\n")];
-    expect(&rt, alloc, 20, &three, "foo\nbar\nwib   asdf;\n");
-    // Even of an empty line; spaces alone are one.
-    expect(&rt, alloc, 5, &[Mode(PRE), Text("a\n\nb")], "a\n\nb\n");
-    expect(&rt, alloc, 5, &[Mode(PRE), Text("   \n")], "\n");
-}
-
-#[test]
-fn spaces_and_tabs_fill_lines(rt: HostRuntime) {
-    let alloc = rt.alloc();
-    // A line that spaces fill before a word isn't written.
-    expect(&rt, alloc, 5, &[Mode(PRE), Text("       ab")], "  ab\n");
-    expect(&rt, alloc, 5, &[Mode(PRE), Text("\tb")], "     \nb\n");
-    expect(&rt, alloc, 5, &[Mode(PRE), Text("ab\tc")], "ab   \nc\n");
-    expect(&rt, alloc, 20, &[Mode(PRE), Text("ab\tc")], "ab      c\n");
-}
-
-#[test]
-fn white_space_vanishes_where_a_word_is_moved(rt: HostRuntime) {
-    let alloc = rt.alloc();
-    expect(&rt, alloc, 5, &[Mode(PRE_WRAP), Text("ab  cd")], "ab\ncd\n");
-    expect(
-        &rt,
-        alloc,
-        5,
-        &[Mode(PRE_WRAP), Text("ab \u{a0}cdef")],
-        "ab\ncdef\n",
-    );
-}
-
-#[test]
-fn the_mode_that_was_pushed_last_holds(rt: HostRuntime) {
-    let alloc = rt.alloc();
-    let ended = [Mode(PRE), Text("  "), Ends(End::Mode), Text("abcd")];
-    expect(&rt, alloc, 5, &ended, "  \nabcd\n");
-    let inner = [
-        Mode(PRE),
-        Text("  "),
-        Mode(WhiteSpace::Normal),
-        Text("abcd"),
-    ];
-    expect(&rt, alloc, 5, &inner, "  \nabcd\n");
-}
-
-#[test]
-fn a_preformatted_line_goes_on_under_another_annotation(rt: HostRuntime) {
-    let alloc = rt.alloc();
-    let lines = [Preformat, Mode(PRE), Text("abcde\nf")];
-    expect_rich_pieces(
-        &rt,
-        alloc,
-        3,
-        &lines,
-        "abc:[Preformat(false)] \nde:[Preformat(true)] \nf:[Preformat(false)] \n",
-    );
-    let spaced = [Preformat, Mode(PRE), Text(" abcd")];
-    expect_rich_pieces(
-        &rt,
-        alloc,
-        3,
-        &spaced,
-        " :[Preformat(false)] \nab:[Preformat(false)] c:[Preformat(true)] \nd:[Preformat(true)] \n",
-    );
-    // Outside there is none.
-    let ended = [Preformat, Text("ab "), Ends(End::Preformat), Text("cd")];
-    expect_rich_pieces(&rt, alloc, 9, &ended, "ab :[Preformat(false)] cd:[] \n");
+fn white_space_is_preserved(rt: HostRuntime) {
+    meet_all(&rt, rt.alloc(), &EXAMPLES);
 }

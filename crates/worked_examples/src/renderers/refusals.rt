@@ -1,20 +1,22 @@
 //! What a renderer does that has refused.
+ghost use Rattle.std.specs.Prelude.{◌<◌};
+
 use super::calls::Call::{
     Background, Closes, Colour, EmptyLine, Ends, HardLine, Image, Line, Marker, Mode, Opens,
     Preformat, StartBlock, StartTable, Text,
 };
-use super::calls::{Call, Closing, End, Opening, make, make_all};
+use super::calls::{Call, Closing, End, Opening, Shown, handed_out, make, make_all};
 use super::colours::RED;
-use super::expected::{plain, told};
-use super::prefixes::has_plain_prefixes;
-use crate::texts::counts;
+use super::expected::{Told, options};
+use super::prefixes::prefixes;
+use crate::texts::{counts, shows};
 use std::alloc::Global;
 use std::process::Abort;
 use tbr_decor::{PlainDecorator, TextDecorator};
 use tbr_lines::{CharWidth, Error, WhiteSpace};
-use text_block_renderer::{RenderOptions, Renderer, SubRenderer};
+use text_block_renderer::{Renderer, SubRenderer};
 
-/// Each call that can refuse, but the end of a strikeout.
+/// Each call that can refuse, but the end of a strikeout, which may be called where one is open.
 const REFUSING: [Call<'static>; 24] = [
     Text("a"),
     Marker("x"),
@@ -60,6 +62,9 @@ fn refuses_each<D: TextDecorator, W: CharWidth>(
     for call in REFUSING {
         assert!(rt; make(r, call).err() == Some(refusal));
     }
+    if r.strikeout_depth() > 0 {
+        assert!(rt; make(r, Closes(Closing::Strikeout)).err() == Some(refusal));
+    }
 }
 
 /// The renderer keeps the refusal, and what can't refuse still answers.
@@ -79,53 +84,92 @@ pub fn keeps<D: TextDecorator, W: CharWidth>(
     assert!(rt; r.failure() == Some(refusal));
 }
 
+/// Calls that a renderer answers, one that it refuses, how many strikeouts are open then, and what is asked for at the
+/// end.
+#[derive(Clone, Copy)]
+struct Refusal {
+    name: &'static str,
+    told: Told,
+    width: usize,
+    answered: &'static [Call<'static>],
+    refused: Call<'static>,
+    error: Error,
+    struck: usize,
+    asked: Shown,
+}
+
+const REFUSALS: [Refusal; 3] = [
+    Refusal {
+        name: "a line that is too narrow",
+        told: Told::Nothing,
+        width: 1,
+        answered: &[Text("漢")],
+        refused: Line,
+        error: Error::TooNarrow,
+        struck: 0,
+        asked: Shown::Text,
+    },
+    Refusal {
+        name: "a struck out line that is too narrow",
+        told: Told::Nothing,
+        width: 1,
+        answered: &[Opens(Opening::Strikeout), Text("漢")],
+        refused: Line,
+        error: Error::TooNarrow,
+        struck: 1,
+        asked: Shown::Text,
+    },
+    Refusal {
+        name: "a line that is padded to more columns than there is memory",
+        told: Told::Padding,
+        width: usize::MAX,
+        answered: &[Text("a")],
+        refused: StartBlock,
+        error: Error::OutOfMemory,
+        struck: 0,
+        asked: Shown::Pieces,
+    },
+];
+
+/// What looks at no failure answers.
+fn still_answers<D: TextDecorator, W: CharWidth>(rt: &impl Abort, r: &mut SubRenderer<D, W>) {
+    let width = r.width();
+    assert!(rt; r.width_minus(0, width).ok() == Some(width));
+    assert!(rt; r.width_minus(1, width).is_err());
+    shows(rt, prefixes(r, 3), "### |> |* |-1. ");
+}
+
+/// The calls are answered up to the one that is refused, and the refusal is kept; this is what is shown at the end.
+fn refuses_for_good<D: TextDecorator>(
+    rt: &impl Abort,
+    alloc: Global,
+    decorator: D,
+    refusal: Refusal,
+) -> Result<String, Error> {
+    assert!(rt; 0 < refusal.width);
+    let mut r: SubRenderer<D> = SubRenderer::new(
+        alloc,
+        refusal.width,
+        options(refusal.told),
+        decorator,
+    );
+    assert!(rt; make_all(&mut r, refusal.answered).is_ok());
+    assert!(rt;
+        make(&mut r, refusal.refused).err() == Some(refusal.error),
+        "{}",
+        refusal.name
+    );
+    counts(rt, r.strikeout_depth(), refusal.struck);
+    still_answers(rt, &mut r);
+    keeps(rt, &mut r, refusal.error);
+    handed_out(alloc, refusal.asked, r, &[])
+}
+
 #[test]
-fn a_line_that_is_too_narrow_is_refused_for_good(rt: HostRuntime) {
+fn a_refusal_is_kept(rt: HostRuntime) {
     let alloc = rt.alloc();
-    let mut r = plain(alloc, 1);
-    assert!(rt; make(&mut r, Text("漢")).is_ok());
-    assert!(rt; make(&mut r, Line).err() == Some(Error::TooNarrow));
-    keeps(&rt, &mut r, Error::TooNarrow);
-    assert!(rt; r.into_string().err() == Some(Error::TooNarrow));
-}
-
-/// What looks at no failure answers on a renderer of one column.
-fn still_answers(rt: &impl Abort, r: &mut SubRenderer<PlainDecorator>) {
-    assert!(rt; r.width_minus(0, 1).ok() == Some(1));
-    assert!(rt; r.width_minus(1, 1).is_err());
-    has_plain_prefixes(rt, r);
-    assert!(rt; r.failure() == Some(Error::TooNarrow));
-}
-
-#[test]
-fn widths_and_prefixes_are_answered_behind_a_refusal(rt: HostRuntime) {
-    let mut r = plain(rt.alloc(), 1);
-    assert!(rt; make_all(&mut r, &[Text("漢"), Line]).is_err());
-    still_answers(&rt, &mut r);
-}
-
-#[test]
-fn the_end_of_a_strikeout_refuses_too(rt: HostRuntime) {
-    let mut r = plain(rt.alloc(), 1);
-    let narrow = [Opens(Opening::Strikeout), Text("漢"), Line];
-    assert!(rt; make_all(&mut r, &narrow).is_err());
-    let ended = make(&mut r, Closes(Closing::Strikeout));
-    assert!(rt; ended.err() == Some(Error::TooNarrow));
-    counts(&rt, r.strikeout_depth(), 1);
-}
-
-/// A renderer whose lines are padded to more columns than there is memory.
-fn endless(alloc: Global) -> SubRenderer<PlainDecorator> {
-    let mut options = RenderOptions::default();
-    options.pad_block_width = true;
-    told(alloc, usize::MAX, options)
-}
-
-#[test]
-fn a_line_that_memory_does_not_hold_is_refused_for_good(rt: HostRuntime) {
-    let mut r = endless(rt.alloc());
-    assert!(rt; make(&mut r, Text("a")).is_ok());
-    assert!(rt; make(&mut r, StartBlock).err() == Some(Error::OutOfMemory));
-    keeps(&rt, &mut r, Error::OutOfMemory);
-    assert!(rt; r.into_lines().err() == Some(Error::OutOfMemory));
+    for refusal in REFUSALS {
+        let shown = refuses_for_good(&rt, alloc, PlainDecorator::new(), refusal);
+        assert!(rt; shown.err() == Some(refusal.error), "{}", refusal.name);
+    }
 }

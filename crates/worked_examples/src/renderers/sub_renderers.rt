@@ -1,86 +1,119 @@
 //! Worked examples of renderers for blocks inside.
+ghost use Rattle.std.specs.Prelude.{◌<◌};
+
 use super::calls::Call::{Ends, Line, Mode, Opens, Preformat, Text};
-use super::calls::{Call, End, Opening, Shown, fresh, handed_out, make_all};
-use super::every_call::unusual;
-use super::expected::told;
-use crate::texts::{counts, shows};
+use super::calls::{Call, End, Opening, Shown, handed_out, make_all};
+use super::expected::{Told, Under, compare, options};
 use std::alloc::Global;
 use std::process::Abort;
-use tbr_decor::RichDecorator;
+use tbr_decor::{RichDecorator, TextDecorator};
 use tbr_lines::{Error, WhiteSpace};
-use text_block_renderer::{Renderer, SubRenderer};
+use text_block_renderer::{RenderOptions, Renderer, SubRenderer};
 
-/// A renderer of five columns in one behind calls that may refuse.
-fn sub_renderer(alloc: Global, calls: &[Call<'_>]) -> Result<SubRenderer<RichDecorator>, Error> {
-    let mut r = fresh(alloc, 9, RichDecorator::new());
-    make_all(&mut r, calls)?;
+/// A renderer behind calls, of which the first may refuse, and the pieces of a text in one of five columns inside.
+#[derive(Clone, Copy)]
+struct Inside {
+    name: &'static str,
+    told: Told,
+    width: usize,
+    calls: &'static [Call<'static>],
+    refusal: Option<Error>,
+    then: &'static [Call<'static>],
+    pieces: &'static str,
+}
+
+const EXAMPLES: [Inside; 4] = [
+    Inside {
+        name: "a sub-renderer is under the annotations of its parent alone",
+        told: Told::Nothing,
+        width: 9,
+        calls: &[
+            Text("a"),
+            Line,
+            Opens(Opening::Emphasis),
+            Opens(Opening::Strikeout),
+            Preformat,
+            Mode(WhiteSpace::Pre),
+            Text(" b"),
+        ],
+        refusal: None,
+        then: &[],
+        pieces: "cd:[Emphasis, Strikeout] \nefg:[Emphasis, Strikeout] \n",
+    },
+    Inside {
+        name: "a renderer that wasn't called has sub-renderers",
+        told: Told::Nothing,
+        width: 9,
+        calls: &[],
+        refusal: None,
+        then: &[],
+        pieces: "cd:[] \nefg:[] \n",
+    },
+    Inside {
+        name: "a sub-renderer has the options of its parent",
+        told: Told::Unusual,
+        width: 9,
+        calls: &[],
+        refusal: None,
+        then: &[],
+        pieces: "cd   :[] \nefg  :[] \n",
+    },
+    Inside {
+        name: "a renderer that refused has sub-renderers, and the ends of colours take nothing of it",
+        told: Told::Nothing,
+        width: 1,
+        calls: &[Opens(Opening::Emphasis), Text("漢"), Line],
+        refusal: Some(Error::TooNarrow),
+        then: &[Ends(End::Colour), Ends(End::Background)],
+        pieces: "cd:[Emphasis] \nefg:[Emphasis] \n",
+    },
+];
+
+/// The renderer inside.
+fn sub_renderer<D: TextDecorator>(
+    rt: &impl Abort,
+    alloc: Global,
+    decorator: D,
+    inside: Inside,
+) -> Result<SubRenderer<D>, Error> {
+    assert!(rt; 0 < inside.width);
+    let mut r: SubRenderer<D> = SubRenderer::new(
+        alloc,
+        inside.width,
+        options(inside.told),
+        decorator,
+    );
+    let _ = make_all(&mut r, inside.calls);
+    assert!(rt; r.failure() == inside.refusal, "{}", inside.name);
+    let _ = make_all(&mut r, inside.then);
     r.new_sub_renderer(5)
 }
 
-/// The renderer has five columns, and neither text nor depths.
-fn is_new(rt: &impl Abort, r: &SubRenderer<RichDecorator>) {
-    assert!(rt; r.failure().is_none());
-    assert!(rt; r.empty());
-    counts(rt, r.width(), 5);
-    counts(rt, r.preformat_depth(), 0);
-    counts(rt, r.strikeout_depth(), 0);
+/// The renderer has five columns and the options, and neither text nor depths.
+fn is_new<D: TextDecorator>(r: &SubRenderer<D>, options: RenderOptions) -> bool {
+    r.failure().is_none()
+        && r.empty()
+        && *r.options() == options
+        && (r.width(), r.preformat_depth(), r.strikeout_depth()) == (5, 0, 0)
 }
 
-/// The renderer is new, and these are the pieces of a text in it.
-fn expect_new(
+/// The pieces of a text in the renderer inside, which is new.
+fn pieces<D: TextDecorator>(
     rt: &impl Abort,
     alloc: Global,
-    r: Result<SubRenderer<RichDecorator>, Error>,
-    pieces: &str,
-) {
-    match r {
-        Ok(r) => {
-            is_new(rt, &r);
-            let text = [Text("  cd efg")];
-            shows(rt, handed_out(alloc, Shown::Pieces, r, &text), pieces);
-        }
-        Err(error) => panic!(rt; "{error:?}"),
-    }
+    decorator: D,
+    inside: Inside,
+) -> Result<String, Error> {
+    let r = sub_renderer(rt, alloc, decorator, inside)?;
+    assert!(rt; is_new(&r, options(inside.told)), "{}", inside.name);
+    handed_out(alloc, Shown::Pieces, r, &[Text("  cd efg")])
 }
 
 #[test]
-fn a_sub_renderer_is_new_under_the_annotations_of_its_parent(rt: HostRuntime) {
+fn sub_renderers_are_new_under_the_annotations_of_their_parents(rt: HostRuntime) {
     let alloc = rt.alloc();
-    let calls = [
-        Text("a"),
-        Line,
-        Opens(Opening::Emphasis),
-        Opens(Opening::Strikeout),
-        Preformat,
-        Mode(WhiteSpace::Pre),
-        Text(" b"),
-    ];
-    let pieces = "cd:[Emphasis, Strikeout] \nefg:[Emphasis, Strikeout] \n";
-    expect_new(&rt, alloc, sub_renderer(alloc, &calls), pieces);
-    expect_new(&rt, alloc, sub_renderer(alloc, &[]), "cd:[] \nefg:[] \n");
-}
-
-#[test]
-fn a_sub_renderer_has_the_options_of_its_parent(rt: HostRuntime) {
-    match told(rt.alloc(), 9, unusual()).new_sub_renderer(5) {
-        Ok(sub) => assert!(rt; *sub.options() == unusual()),
-        Err(error) => panic!(rt; "{error:?}"),
+    for inside in EXAMPLES {
+        let shown = pieces(&rt, alloc, RichDecorator::new(), inside);
+        compare(&rt, inside.name, Under::Rich, shown, inside.pieces);
     }
-}
-
-/// A renderer that refused, in emphasis that the ends of colours can't take then.
-fn failed(alloc: Global) -> SubRenderer<RichDecorator> {
-    let mut r = fresh(alloc, 1, RichDecorator::new());
-    let _ = make_all(&mut r, &[Opens(Opening::Emphasis), Text("漢"), Line]);
-    let _ = make_all(&mut r, &[Ends(End::Colour), Ends(End::Background)]);
-    r
-}
-
-#[test]
-fn a_renderer_that_refused_has_sub_renderers(rt: HostRuntime) {
-    let alloc = rt.alloc();
-    let r = failed(alloc);
-    assert!(rt; r.failure() == Some(Error::TooNarrow));
-    let pieces = "cd:[Emphasis] \nefg:[Emphasis] \n";
-    expect_new(&rt, alloc, r.new_sub_renderer(5), pieces);
 }
