@@ -5,7 +5,7 @@ use super::expected::Expected::Lines;
 use super::expected::{Example, Told, meet_all};
 use tbr_lines::WhiteSpace;
 
-const EXAMPLES: [Example; 6] = [
+const EXAMPLES: &[Example] = &[
     Example {
         name: "a block ends, and white space behind it is ignored",
         told: Told::Nothing,
@@ -65,5 +65,5 @@ const EXAMPLES: [Example; 6] = [
 
 #[test]
 fn blocks_and_lines_end(rt: HostRuntime) {
-    meet_all(&rt, rt.alloc(), &EXAMPLES);
+    meet_all(&rt, rt.alloc(), EXAMPLES);
 }

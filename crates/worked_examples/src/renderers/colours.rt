@@ -9,7 +9,7 @@ pub const RED: Paint = Paint { r: 255, g: 0, b: 0 };
 
 const BLUE: Paint = Paint { r: 0, g: 0, b: 255 };
 
-const EXAMPLES: [Example; 6] = [
+const EXAMPLES: &[Example] = &[
     Example {
         name: "text in a colour stands under its annotation",
         told: Told::Nothing,
@@ -84,5 +84,5 @@ const EXAMPLES: [Example; 6] = [
 
 #[test]
 fn colours_begin_and_end(rt: HostRuntime) {
-    meet_all(&rt, rt.alloc(), &EXAMPLES);
+    meet_all(&rt, rt.alloc(), EXAMPLES);
 }

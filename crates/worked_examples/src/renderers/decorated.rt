@@ -4,7 +4,7 @@ use super::calls::{Closing, Opening};
 use super::expected::Expected::{Lines, LinesUnder, Pieces};
 use super::expected::{Example, Told, Under, meet_all};
 
-const EXAMPLES: [Example; 9] = [
+const EXAMPLES: &[Example] = &[
     Example {
         name: "a link stands in emphasis in strong text",
         told: Told::Nothing,
@@ -133,5 +133,5 @@ const EXAMPLES: [Example; 9] = [
 
 #[test]
 fn decorated_text_stands_under_its_annotations(rt: HostRuntime) {
-    meet_all(&rt, rt.alloc(), &EXAMPLES);
+    meet_all(&rt, rt.alloc(), EXAMPLES);
 }

@@ -4,8 +4,9 @@ use super::calls::{Call, Closing, End, Opening, make_all};
 use super::expected::{Told, plain};
 use std::alloc::Global;
 use std::process::Abort;
-use tbr_lines::Error;
-use text_block_renderer::{ImageRenderMode, RenderOptions, Renderer};
+use tbr_decor::TextDecorator;
+use tbr_lines::{CharWidth, Error};
+use text_block_renderer::{ImageRenderMode, RenderOptions, Renderer, SubRenderer};
 
 /// The usual options.
 const USUAL: RenderOptions = RenderOptions {
@@ -64,7 +65,7 @@ const NEW: State = State {
     tells: (true, 0, 0),
 };
 
-const STATES: [State; 11] = [
+const STATES: &[State] = &[
     NEW,
     State {
         name: "lines without characters, markers and white space leave it empty",
@@ -135,30 +136,36 @@ const STATES: [State; 11] = [
     },
 ];
 
-/// What a renderer tells behind calls, and its columns.
-fn told_behind(
-    alloc: Global,
-    told: Told,
-    calls: &[Call<'_>],
-) -> Result<(usize, bool, usize, usize), Error> {
-    let mut r = plain(alloc, 9, told);
-    make_all(&mut r, calls)?;
-    Ok((
-        r.width(),
+/// A renderer's failure, whether it is empty, its columns, and how many preformatted stretches and strikeouts are open.
+pub fn tells<D: TextDecorator, W: CharWidth>(
+    r: &SubRenderer<D, W>,
+) -> (Option<Error>, bool, usize, usize, usize) {
+    (
+        r.failure(),
         r.empty(),
+        r.width(),
         r.preformat_depth(),
         r.strikeout_depth(),
-    ))
+    )
+}
+
+/// What a renderer tells behind calls.
+fn tells_behind<D: TextDecorator, W: CharWidth>(
+    mut r: SubRenderer<D, W>,
+    calls: &[Call<'_>],
+) -> (Option<Error>, bool, usize, usize, usize) {
+    let _ = make_all(&mut r, calls);
+    tells(&r)
 }
 
 #[test]
 fn a_renderer_tells_what_it_has(rt: HostRuntime) {
     let alloc = rt.alloc();
-    for state in &STATES {
+    for state in STATES {
         let (empty, preformatted, struck) = state.tells;
-        let told = told_behind(alloc, state.told, state.calls);
+        let told = tells_behind(plain(alloc, 9, state.told), state.calls);
         assert!(rt;
-            told == Ok((9, empty, preformatted, struck)),
+            told == (None, empty, 9, preformatted, struck),
             "{}",
             state.name
         );

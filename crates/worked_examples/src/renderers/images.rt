@@ -18,7 +18,7 @@ const TITLED: &[Call<'static>] = &[Text("Hello x"), Image(SOURCE, "t"), Text("y"
 const ALONE: &[Call<'static>] = &[Image("s", "")];
 
 /// A name, the mode for images without a title, calls, and the lines that they leave.
-const EXAMPLES: [(&str, ImageRenderMode, &[Call<'static>], &str); 15] = [
+const EXAMPLES: &[(&str, ImageRenderMode, &[Call<'static>], &str)] = &[
     (
         "an image without a title is ignored",
         IgnoreEmpty,
@@ -121,6 +121,6 @@ fn lines(alloc: Global, mode: ImageRenderMode, calls: &[Call<'_>]) -> Result<Str
 fn an_image_is_shown_by_its_title_or_the_mode(rt: HostRuntime) {
     let alloc = rt.alloc();
     for (name, mode, calls, shown) in EXAMPLES {
-        compare(&rt, name, Under::Plain, lines(alloc, mode, calls), shown);
+        compare(&rt, name, Under::Plain, lines(alloc, *mode, calls), shown);
     }
 }

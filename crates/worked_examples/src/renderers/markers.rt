@@ -4,7 +4,7 @@ use super::expected::Expected::Markers;
 use super::expected::{Example, Told, meet_all};
 use tbr_lines::WhiteSpace;
 
-const EXAMPLES: [Example; 7] = [
+const EXAMPLES: &[Example] = &[
     Example {
         name: "a marker goes where its word goes",
         told: Told::Nothing,
@@ -58,5 +58,5 @@ const EXAMPLES: [Example; 7] = [
 
 #[test]
 fn markers_stand_in_lines(rt: HostRuntime) {
-    meet_all(&rt, rt.alloc(), &EXAMPLES);
+    meet_all(&rt, rt.alloc(), EXAMPLES);
 }

@@ -69,6 +69,8 @@ const DECORATED: &[Call<'static>] = &[
 
 const DECORATED_LINES: &str = "abcd\u{336}e    \n^{f}gh   \n";
 
+const EXAMPLES: &[(&[Call<'static>], &str)] = &[(CALLS, LINES), (DECORATED, DECORATED_LINES)];
+
 /// A renderer of nine columns whose blocks have eight, and whose lines are padded.
 fn padding<D: TextDecorator>(alloc: Global, decorator: D) -> SubRenderer<D> {
     let options = RenderOptions {
@@ -103,30 +105,40 @@ fn shows_or_refuses(rt: &impl Abort, text: Result<String, Error>, expected: &str
 #[test]
 fn every_call_leaves_its_lines_or_refuses_for_good(rt: HostRuntime) {
     let alloc = rt.alloc();
-    for (calls, lines) in [(CALLS, LINES), (DECORATED, DECORATED_LINES)] {
+    for (calls, lines) in EXAMPLES {
         let shown = shown_or_refused(&rt, alloc, RichDecorator::new(), calls);
         shows_or_refuses(&rt, shown, lines);
     }
 }
 
-/// The prefixes and a sub-renderer, each of which may be refused for want of memory, and that isn't kept.
+/// The prefixes of a renderer, one of which may be refused for want of memory, and that isn't kept.
 fn prefixes_or_refusal<D: TextDecorator>(
     rt: &impl Abort,
     alloc: Global,
     decorator: D,
 ) -> Result<String, Error> {
     let mut r = padding(alloc, decorator);
-    let _ = make_all(&mut r, &[Opens(Opening::Link("t"))]);
-    let failure = r.failure();
     let shown = prefixes(&mut r, 2);
-    let refusal = r.new_sub_renderer(5).err();
-    assert!(rt; refusal.is_none() || refusal == Some(Error::OutOfMemory));
-    assert!(rt; r.failure() == failure);
+    assert!(rt; r.failure().is_none());
     shown
+}
+
+/// The lines of a sub-renderer behind calls, one of which may refuse, as the sub-renderer may itself.
+fn shown_inside<D: TextDecorator>(
+    alloc: Global,
+    decorator: D,
+    calls: &[Call<'_>],
+) -> Result<String, Error> {
+    let mut r = padding(alloc, decorator);
+    let _ = make_all(&mut r, calls);
+    handed_out(alloc, Shown::Text, r.new_sub_renderer(5)?, &[])
 }
 
 #[test]
 fn prefixes_and_sub_renderers_may_be_refused_and_that_is_not_kept(rt: HostRuntime) {
-    let shown = prefixes_or_refusal(&rt, rt.alloc(), RichDecorator::new());
+    let alloc = rt.alloc();
+    let shown = prefixes_or_refusal(&rt, alloc, RichDecorator::new());
     shows_or_refuses(&rt, shown, "## |> |* |-1. ");
+    let inside = shown_inside(alloc, RichDecorator::new(), &[Opens(Opening::Link("t"))]);
+    shows_or_refuses(&rt, inside, "");
 }

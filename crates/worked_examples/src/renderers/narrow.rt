@@ -10,7 +10,7 @@ use std::alloc::Global;
 use std::process::Abort;
 use tbr_lines::Error;
 
-const EXAMPLES: [Example; 8] = [
+const EXAMPLES: &[Example] = &[
     Example {
         name: "a wide character stands on a line of two columns",
         told: Told::Nothing,
@@ -74,11 +74,11 @@ const EXAMPLES: [Example; 8] = [
 
 #[test]
 fn narrow_lines_have_wide_characters_and_those_of_no_width(rt: HostRuntime) {
-    meet_all(&rt, rt.alloc(), &EXAMPLES);
+    meet_all(&rt, rt.alloc(), EXAMPLES);
 }
 
 /// Texts in `Normal`, with wide characters, those of no width, and words that are cut.
-const TEXTS: [&str; 17] = [
+const TEXTS: &[&str] = &[
     "Hello, world.  Superlongwordreally",
     "Hello there boo",
     BREAKS,

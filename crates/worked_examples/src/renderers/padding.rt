@@ -3,7 +3,7 @@ use super::calls::Call::{EmptyLine, Line, Marker, Preformat, Text};
 use super::expected::Expected::{LinesUnder, Markers, Pieces};
 use super::expected::{Example, Told, Under, meet_all};
 
-const EXAMPLES: [Example; 3] = [
+const EXAMPLES: &[Example] = &[
     Example {
         name: "lines are wrapped and padded",
         told: Told::Padding,
@@ -32,5 +32,5 @@ const EXAMPLES: [Example; 3] = [
 
 #[test]
 fn lines_are_padded(rt: HostRuntime) {
-    meet_all(&rt, rt.alloc(), &EXAMPLES);
+    meet_all(&rt, rt.alloc(), EXAMPLES);
 }

@@ -73,7 +73,7 @@ fn left(alloc: Global, told: Told, prefix: usize, least: usize) -> Option<usize>
 }
 
 /// The columns of a prefix, the least width, and what is left where lines may not be wider, and where they may.
-const LEFT: [(usize, usize, Option<usize>, usize); 8] = [
+const LEFT: &[(usize, usize, Option<usize>, usize)] = &[
     (3, 4, None, 4),
     (1, 4, Some(4), 4),
     (1, 3, Some(4), 4),
@@ -87,7 +87,7 @@ const LEFT: [(usize, usize, Option<usize>, usize); 8] = [
 #[test]
 fn columns_are_left_behind_a_prefix(rt: HostRuntime) {
     let alloc = rt.alloc();
-    for (prefix, least, narrow, wide) in LEFT {
+    for &(prefix, least, narrow, wide) in LEFT {
         let seen = left(alloc, Told::Nothing, prefix, least);
         assert!(rt; seen == narrow, "{least} behind {prefix}");
         let seen = left(alloc, Told::Overflow, prefix, least);

@@ -5,7 +5,7 @@ use super::expected::Expected::{Lines, Pieces};
 use super::expected::{Example, Told, Under, meet_all};
 use tbr_lines::WhiteSpace::{Normal, Pre, PreWrap};
 
-const EXAMPLES: [Example; 14] = [
+const EXAMPLES: &[Example] = &[
     Example {
         name: "newlines end lines",
         told: Told::Nothing,
@@ -114,5 +114,5 @@ const EXAMPLES: [Example; 14] = [
 
 #[test]
 fn white_space_is_preserved(rt: HostRuntime) {
-    meet_all(&rt, rt.alloc(), &EXAMPLES);
+    meet_all(&rt, rt.alloc(), EXAMPLES);
 }

@@ -7,6 +7,7 @@ use super::calls::Call::{
 };
 use super::calls::{Call, Closing, End, Opening, Shown, handed_out, make, make_all};
 use super::colours::RED;
+use super::every_call::tells;
 use super::expected::{Told, options};
 use super::prefixes::prefixes;
 use crate::texts::{counts, shows};
@@ -17,7 +18,7 @@ use tbr_lines::{CharWidth, Error, WhiteSpace};
 use text_block_renderer::{Renderer, SubRenderer};
 
 /// Each call that can refuse, but the end of a strikeout, which may be called where one is open.
-const REFUSING: [Call<'static>; 24] = [
+const REFUSING: &[Call<'static>] = &[
     Text("a"),
     Marker("x"),
     Mode(WhiteSpace::Pre),
@@ -45,7 +46,7 @@ const REFUSING: [Call<'static>; 24] = [
 ];
 
 /// Each call that can't.
-const ENDS: [Call<'static>; 5] = [
+const ENDS: &[Call<'static>] = &[
     Ends(End::Block),
     Ends(End::Mode),
     Ends(End::Preformat),
@@ -60,7 +61,7 @@ fn refuses_each<D: TextDecorator, W: CharWidth>(
     refusal: Error,
 ) {
     for call in REFUSING {
-        assert!(rt; make(r, call).err() == Some(refusal));
+        assert!(rt; make(r, *call).err() == Some(refusal));
     }
     if r.strikeout_depth() > 0 {
         assert!(rt; make(r, Closes(Closing::Strikeout)).err() == Some(refusal));
@@ -73,15 +74,11 @@ pub fn keeps<D: TextDecorator, W: CharWidth>(
     r: &mut SubRenderer<D, W>,
     refusal: Error,
 ) {
-    let depths = (r.strikeout_depth(), r.preformat_depth());
-    let width = r.width();
-    assert!(rt; r.failure() == Some(refusal));
+    let before = tells(r);
     refuses_each(rt, r, refusal);
-    assert!(rt; make_all(r, &ENDS).is_ok());
-    assert!(rt; !r.empty());
-    assert_eq!(rt; r.width(), width);
-    assert!(rt; (r.strikeout_depth(), r.preformat_depth()) == depths);
-    assert!(rt; r.failure() == Some(refusal));
+    assert!(rt; make_all(r, ENDS).is_ok());
+    assert!(rt; before.0 == Some(refusal) && !before.1);
+    assert!(rt; tells(r) == before);
 }
 
 /// Calls that a renderer answers, one that it refuses, how many strikeouts are open then, and what is asked for at the
@@ -98,7 +95,7 @@ struct Refusal {
     asked: Shown,
 }
 
-const REFUSALS: [Refusal; 3] = [
+const REFUSALS: &[Refusal] = &[
     Refusal {
         name: "a line that is too narrow",
         told: Told::Nothing,
@@ -169,7 +166,7 @@ fn refuses_for_good<D: TextDecorator>(
 fn a_refusal_is_kept(rt: HostRuntime) {
     let alloc = rt.alloc();
     for refusal in REFUSALS {
-        let shown = refuses_for_good(&rt, alloc, PlainDecorator::new(), refusal);
+        let shown = refuses_for_good(&rt, alloc, PlainDecorator::new(), *refusal);
         assert!(rt; shown.err() == Some(refusal.error), "{}", refusal.name);
     }
 }

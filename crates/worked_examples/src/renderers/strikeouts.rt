@@ -4,7 +4,7 @@ use super::calls::{Closing, Opening};
 use super::expected::Expected::{Lines, LinesUnder, Pieces};
 use super::expected::{Example, Told, Under, meet_all};
 
-const EXAMPLES: [Example; 10] = [
+const EXAMPLES: &[Example] = &[
     Example {
         name: "a stroke stands behind each character",
         told: Told::Nothing,
@@ -109,5 +109,5 @@ const EXAMPLES: [Example; 10] = [
 
 #[test]
 fn struck_out_text_has_strokes(rt: HostRuntime) {
-    meet_all(&rt, rt.alloc(), &EXAMPLES);
+    meet_all(&rt, rt.alloc(), EXAMPLES);
 }

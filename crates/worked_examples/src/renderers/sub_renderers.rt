@@ -3,12 +3,13 @@ ghost use Rattle.std.specs.Prelude.{◌<◌};
 
 use super::calls::Call::{Ends, Line, Mode, Opens, Preformat, Text};
 use super::calls::{Call, End, Opening, Shown, handed_out, make_all};
+use super::every_call::tells;
 use super::expected::{Told, Under, compare, options};
 use std::alloc::Global;
 use std::process::Abort;
 use tbr_decor::{RichDecorator, TextDecorator};
 use tbr_lines::{Error, WhiteSpace};
-use text_block_renderer::{RenderOptions, Renderer, SubRenderer};
+use text_block_renderer::{Renderer, SubRenderer};
 
 /// A renderer behind calls, of which the first may refuse, and the pieces of a text in one of five columns inside.
 #[derive(Clone, Copy)]
@@ -22,7 +23,7 @@ struct Inside {
     pieces: &'static str,
 }
 
-const EXAMPLES: [Inside; 4] = [
+const EXAMPLES: &[Inside] = &[
     Inside {
         name: "a sub-renderer is under the annotations of its parent alone",
         told: Told::Nothing,
@@ -89,15 +90,7 @@ fn sub_renderer<D: TextDecorator>(
     r.new_sub_renderer(5)
 }
 
-/// The renderer has five columns and the options, and neither text nor depths.
-fn is_new<D: TextDecorator>(r: &SubRenderer<D>, options: RenderOptions) -> bool {
-    r.failure().is_none()
-        && r.empty()
-        && *r.options() == options
-        && (r.width(), r.preformat_depth(), r.strikeout_depth()) == (5, 0, 0)
-}
-
-/// The pieces of a text in the renderer inside, which is new.
+/// The pieces of a text in the renderer inside, which has neither text nor depths before.
 fn pieces<D: TextDecorator>(
     rt: &impl Abort,
     alloc: Global,
@@ -105,7 +98,8 @@ fn pieces<D: TextDecorator>(
     inside: Inside,
 ) -> Result<String, Error> {
     let r = sub_renderer(rt, alloc, decorator, inside)?;
-    assert!(rt; is_new(&r, options(inside.told)), "{}", inside.name);
+    assert!(rt; tells(&r) == (None, true, 5, 0, 0), "{}", inside.name);
+    assert!(rt; *r.options() == options(inside.told), "{}", inside.name);
     handed_out(alloc, Shown::Pieces, r, &[Text("  cd efg")])
 }
 
@@ -113,7 +107,7 @@ fn pieces<D: TextDecorator>(
 fn sub_renderers_are_new_under_the_annotations_of_their_parents(rt: HostRuntime) {
     let alloc = rt.alloc();
     for inside in EXAMPLES {
-        let shown = pieces(&rt, alloc, RichDecorator::new(), inside);
+        let shown = pieces(&rt, alloc, RichDecorator::new(), *inside);
         compare(&rt, inside.name, Under::Rich, shown, inside.pieces);
     }
 }

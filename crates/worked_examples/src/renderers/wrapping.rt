@@ -9,7 +9,7 @@ pub const BREAKS: &str =
     "Do break a line somewhere in foo\u{200b}bar\u{200b}foo\u{200b}bar\u{200b}foo\u{200b}bar\
     \u{200b}foo\u{200b}bar\u{200b}foo\u{200b}bar\u{200b}foo\u{200b}bar";
 
-const EXAMPLES: [Example; 11] = [
+const EXAMPLES: &[Example] = &[
     Example {
         name: "words go where they fit, and wider ones are cut",
         told: Told::Nothing,
@@ -94,5 +94,5 @@ const EXAMPLES: [Example; 11] = [
 
 #[test]
 fn text_is_wrapped(rt: HostRuntime) {
-    meet_all(&rt, rt.alloc(), &EXAMPLES);
+    meet_all(&rt, rt.alloc(), EXAMPLES);
 }
