@@ -6,7 +6,7 @@ use super::calls::Call::{
 use super::calls::{Call, Closing, End, Opening, Shown, handed_out, make_all};
 use super::colours::RED;
 use super::expected::{Told, options};
-use super::prefixes::prefixes;
+use super::prefixes::prefixes_under;
 use super::refusals::keeps;
 use crate::texts::shows;
 use std::alloc::Global;
@@ -111,18 +111,6 @@ fn every_call_leaves_its_lines_or_refuses_for_good(rt: HostRuntime) {
     }
 }
 
-/// The prefixes of a renderer, one of which may be refused for want of memory, and that isn't kept.
-fn prefixes_or_refusal<D: TextDecorator>(
-    rt: &impl Abort,
-    alloc: Global,
-    decorator: D,
-) -> Result<String, Error> {
-    let mut r = padding(alloc, decorator);
-    let shown = prefixes(&mut r, 2);
-    assert!(rt; r.failure().is_none());
-    shown
-}
-
 /// The lines of a sub-renderer behind calls, one of which may refuse, as the sub-renderer may itself.
 fn shown_inside<D: TextDecorator>(
     alloc: Global,
@@ -137,7 +125,7 @@ fn shown_inside<D: TextDecorator>(
 #[test]
 fn prefixes_and_sub_renderers_may_be_refused_and_that_is_not_kept(rt: HostRuntime) {
     let alloc = rt.alloc();
-    let shown = prefixes_or_refusal(&rt, alloc, RichDecorator::new());
+    let shown = prefixes_under(&rt, alloc, RichDecorator::new(), false, 2);
     shows_or_refuses(&rt, shown, "## |> |* |-1. ");
     let inside = shown_inside(alloc, RichDecorator::new(), &[Opens(Opening::Link("t"))]);
     shows_or_refuses(&rt, inside, "");

@@ -14,7 +14,7 @@ fn append(all: &mut String, prefix: Result<String, Error>) -> Result<(), Error> 
 }
 
 /// The prefixes of a header, a quote, an item and the item -1, with bars between.
-pub fn prefixes<D: TextDecorator, W: CharWidth>(
+fn prefixes<D: TextDecorator, W: CharWidth>(
     r: &mut SubRenderer<D, W>,
     level: usize,
 ) -> Result<String, Error> {
@@ -25,46 +25,55 @@ pub fn prefixes<D: TextDecorator, W: CharWidth>(
     Ok(all)
 }
 
-/// The prefixes under a decorator.
-fn prefixes_under<D: TextDecorator>(
+/// The same, where a prefix that is refused isn't kept.
+pub fn prefixes_of<D: TextDecorator, W: CharWidth>(
+    rt: &impl Abort,
+    r: &mut SubRenderer<D, W>,
+    level: usize,
+) -> Result<String, Error> {
+    let before = r.failure();
+    let shown = prefixes(r, level);
+    assert!(rt; r.failure() == before);
+    shown
+}
+
+/// A prefix that passes every size is refused, and that isn't kept.
+fn refuses_greatest_header<D: TextDecorator, W: CharWidth>(
+    rt: &impl Abort,
+    r: &mut SubRenderer<D, W>,
+) {
+    assert!(rt; r.header_prefix(usize::MAX).err() == Some(Error::OutOfMemory));
+    assert!(rt; r.failure().is_none());
+}
+
+/// The prefixes under a decorator, behind a refusal or not.
+pub fn prefixes_under<D: TextDecorator>(
+    rt: &impl Abort,
     alloc: Global,
     decorator: D,
+    behind_refusal: bool,
     level: usize,
 ) -> Result<String, Error> {
     let mut r: SubRenderer<D> = SubRenderer::new(alloc, 9, options(Told::Nothing), decorator);
-    prefixes(&mut r, level)
+    if behind_refusal {
+        refuses_greatest_header(rt, &mut r);
+    }
+    prefixes_of(rt, &mut r, level)
 }
 
 #[test]
 fn prefixes_are_those_of_the_decorator(rt: HostRuntime) {
     let alloc = rt.alloc();
-    let plain = prefixes_under(alloc, PlainDecorator::new(), 3);
-    shows(&rt, plain, "### |> |* |-1. ");
-    let trivial = prefixes_under(alloc, TrivialDecorator::new(), 3);
+    let trivial = prefixes_under(&rt, alloc, TrivialDecorator::new(), false, 3);
     shows(&rt, trivial, "|||");
-    let rich = prefixes_under(alloc, RichDecorator::new(), 3);
+    let rich = prefixes_under(&rt, alloc, RichDecorator::new(), false, 3);
     shows(&rt, rich, "### |> |* |-1. ");
-    let without_level = prefixes_under(alloc, RichDecorator::new(), 0);
+    let without_level = prefixes_under(&rt, alloc, RichDecorator::new(), false, 0);
     shows(&rt, without_level, " |> |* |-1. ");
-}
-
-/// A prefix that passes every size is refused; these are the prefixes then.
-fn prefixes_behind_a_refusal<D: TextDecorator>(
-    rt: &impl Abort,
-    alloc: Global,
-    decorator: D,
-) -> Result<String, Error> {
-    let mut r: SubRenderer<D> = SubRenderer::new(alloc, 9, options(Told::Nothing), decorator);
-    // The sign of each level is a character, so that this needs more bytes than there are.
-    assert!(rt; r.header_prefix(usize::MAX).err() == Some(Error::OutOfMemory));
-    assert!(rt; r.failure().is_none());
-    prefixes(&mut r, 3)
-}
-
-#[test]
-fn a_prefix_that_passes_every_size_is_refused_and_not_kept(rt: HostRuntime) {
-    let shown = prefixes_behind_a_refusal(&rt, rt.alloc(), PlainDecorator::new());
-    shows(&rt, shown, "### |> |* |-1. ");
+    for behind_refusal in [false, true] {
+        let plain = prefixes_under(&rt, alloc, PlainDecorator::new(), behind_refusal, 3);
+        shows(&rt, plain, "### |> |* |-1. ");
+    }
 }
 
 /// What is left of five columns behind a prefix, where a least width is asked for; none is a refusal.

@@ -9,7 +9,7 @@ use super::calls::{Call, Closing, End, Opening, Shown, handed_out, make, make_al
 use super::colours::RED;
 use super::every_call::tells;
 use super::expected::{Told, options};
-use super::prefixes::prefixes;
+use super::prefixes::prefixes_of;
 use crate::texts::{counts, shows};
 use std::alloc::Global;
 use std::process::Abort;
@@ -133,7 +133,7 @@ fn still_answers<D: TextDecorator, W: CharWidth>(rt: &impl Abort, r: &mut SubRen
     let width = r.width();
     assert!(rt; r.width_minus(0, width).ok() == Some(width));
     assert!(rt; r.width_minus(1, width).is_err());
-    shows(rt, prefixes(r, 3), "### |> |* |-1. ");
+    shows(rt, prefixes_of(rt, r, 3), "### |> |* |-1. ");
 }
 
 /// The calls are answered up to the one that is refused, and the refusal is kept; this is what is shown at the end.
