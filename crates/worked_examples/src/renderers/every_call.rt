@@ -3,7 +3,6 @@ use super::calls::Call::{Closes, EmptyLine, Ends, Line, Marker, Opens, Preformat
 use super::calls::{Call, Closing, End, Opening, make_all};
 use super::expected::{Told, plain};
 use std::alloc::Global;
-use std::process::Abort;
 use tbr_decor::TextDecorator;
 use tbr_lines::{CharWidth, Error};
 use text_block_renderer::{ImageRenderMode, RenderOptions, Renderer, SubRenderer};

@@ -1,6 +1,4 @@
 //! What a renderer does that has refused.
-ghost use Rattle.std.specs.Prelude.{◌<◌};
-
 use super::calls::Call::{
     Background, Closes, Colour, EmptyLine, Ends, HardLine, Image, Line, Marker, Mode, Opens,
     Preformat, StartBlock, StartTable, Text,

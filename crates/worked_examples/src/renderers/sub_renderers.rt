@@ -1,6 +1,4 @@
 //! Worked examples of renderers for blocks inside.
-ghost use Rattle.std.specs.Prelude.{◌<◌};
-
 use super::calls::Call::{Ends, Line, Mode, Opens, Preformat, Text};
 use super::calls::{Call, End, Opening, Shown, handed_out, make_all};
 use super::every_call::tells;
