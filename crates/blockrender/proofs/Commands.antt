@@ -6,7 +6,7 @@ use Rattle.std.proofs.lemmas.Bool.{false≢true}
 use Rattle.std.specs.Borrow.{Bor}
 use Rattle.std.specs.Option.{IfNone, IfSome, IsSomeAnd}
 use Rattle.std.proofs.lemmas.Str.Pattern.{IsSplitOnceResult, split_after, split_parts}
-use Rattle.text_block_renderer.specs.Calls.{Call, add_empty_line, new_line, new_line_hard, start_block, start_table, end_block, add_inline_text, push_ws, pop_ws, push_preformat, pop_preformat, record_frag_start, begin, finish, start_strikeout, end_strikeout, add_image, push_colour, pop_colour}
+use Rattle.text_block_renderer.specs.Calls.{Call, add_inline_text, record_frag_start, begin, add_image, push_colour}
 use Rattle.tbr_decor.specs.Start as start
 use Rattle.tbr_decor.specs.Ground as ground
 use Rattle.tbr_decor.specs.declared.colour.Colour.{Colour}

@@ -4,7 +4,7 @@ use Rattle.tbr_decor.specs.Start as start
 use Rattle.tbr_decor.specs.End as end
 use Rattle.tbr_decor.specs.Ground as ground
 use Rattle.tbr_model.specs.declared.white_space.WhiteSpace.TheVariants.{Normal, Pre, PreWrap}
-use Rattle.text_block_renderer.specs.Calls.{Call, add_empty_line, new_line, new_line_hard, start_block, start_table, end_block, add_inline_text, push_ws, pop_ws, push_preformat, pop_preformat, record_frag_start, begin, finish, start_strikeout, end_strikeout, add_image, push_colour, pop_colour}
+use Rattle.text_block_renderer.specs.Calls.{Call, add_empty_line, new_line, new_line_hard, start_block, start_table, end_block, push_ws, pop_ws, push_preformat, pop_preformat, begin, finish, start_strikeout, end_strikeout, pop_colour}
 use Rattle.blockrender.specs.Script.{Writes}
 use Rattle.blockrender.specs.Form.{Form, layout, beginning, ending, argument, form_of}
 

@@ -13,10 +13,10 @@ use Rattle.tbr_decor.specs.Decoration.{Decoration}
 use Rattle.text_block_renderer.specs.Renderer.{Renderer, Settings, settings_of}
 use Rattle.text_block_renderer.specs.declared.options.RenderOptions.{RenderOptions}
 use Rattle.text_block_renderer.specs.Image.{shown_title}
-use Rattle.text_block_renderer.specs.Decorated.{struck_from, struck_until, annotated, coloured, uncoloured}
+use Rattle.text_block_renderer.specs.Decorated.{coloured, uncoloured}
 use Rattle.text_block_renderer.specs.Settings.{settled, settled_by_image}
 use Rattle.text_block_renderer.specs.Meant.{meant}
-use Rattle.text_block_renderer.specs.Calls.{Call, add_empty_line, new_line, new_line_hard, start_block, start_table, end_block, add_inline_text, push_ws, pop_ws, push_preformat, pop_preformat, record_frag_start, begin, finish, start_strikeout, end_strikeout, add_image, push_colour, pop_colour, Does}
+use Rattle.text_block_renderer.specs.Calls.{Call, pop_preformat, begin, finish, start_strikeout, end_strikeout, add_image, push_colour, pop_colour, Does}
 use Rattle.text_block_renderer.proofs.Settings.{preformats_behind, call_beside, call_changes}
 use Rattle.blockrender.specs.declared.begun.Begun.{Begun}
 use Rattle.blockrender.specs.Begun.{ends_nothing, more, less, opens, closes, in_colour, counted}
@@ -124,9 +124,10 @@ still_live {D} {A} {M} columns decoration meaning call r s begun next live is do
     let before = meant meaning r in
     let behind = call_beside columns decoration call before (meant meaning s) does in
     let settings : settings_of (meant meaning s) ≡ settings_of (settled decoration call before) = call_changes columns decoration call before (meant meaning s) does in
-    let options = ap (λ (x : Settings D M). x.options) settings ∙ settled_options columns decoration call before in
-    (behind.0 ∙ live.0,
-    behind.1 ∙ ap (λ n. preformats_behind columns decoration call n) live.1 ∙ counted_preformats columns decoration call begun ∙ ap (λ (b : Begun). b.preformats) (sym is),
-    λ on.
-        let before_on = sym (ap (λ (x : RenderOptions). x.use_unicode_strikeout) options) ∙ on in
-        ap (λ (x : Settings D M). x.strikeouts) settings ∙ settled_strikeouts columns decoration call before begun before_on (live.2 before_on) ∙ ap (λ (b : Begun). b.strikeouts) (sym is))
+    let options = ap (λ (x : Settings D M). x.options) settings ∙ settled_options columns decoration call before in (
+      behind.0 ∙ live.0,
+      behind.1 ∙ ap (λ n. preformats_behind columns decoration call n) live.1 ∙ counted_preformats columns decoration call begun ∙ ap (λ (b : Begun). b.preformats) (sym is),
+      λ on.
+          let before_on = sym (ap (λ (x : RenderOptions). x.use_unicode_strikeout) options) ∙ on in
+          ap (λ (x : Settings D M). x.strikeouts) settings ∙ settled_strikeouts columns decoration call before begun before_on (live.2 before_on) ∙ ap (λ (b : Begun). b.strikeouts) (sym is),
+    )

@@ -93,7 +93,13 @@ fn render<W: CharWidth>(alloc: Global, script: &[u8]) -> Result<String, RunError
             render_under::<PlainDecorator, W>(alloc, opening, PlainDecorator::new(), number, rest)
         }
         Decorator::Trivial => {
-            render_under::<TrivialDecorator, W>(alloc, opening, TrivialDecorator::new(), number, rest)
+            render_under::<TrivialDecorator, W>(
+                alloc,
+                opening,
+                TrivialDecorator::new(),
+                number,
+                rest,
+            )
         }
         Decorator::Rich => {
             render_under::<RichDecorator, W>(alloc, opening, RichDecorator::new(), number, rest)

@@ -219,10 +219,7 @@ const MODES: [(&str, &str); 14] = [
 
 /// Decorated text, under each decorator.
 const DECORATED: [(&str, &str); 22] = [
-    (
-        "new 20 plain\ntext x\nsuper\ntext 2\nendsuper",
-        "x^{2}\n",
-    ),
+    ("new 20 plain\ntext x\nsuper\ntext 2\nendsuper", "x^{2}\n"),
     (
         "new 20 plain\ntext a\nlink u\ntext b\nendlink\ntext  c",
         "a[b] c\n",
@@ -256,10 +253,7 @@ const DECORATED: [(&str, &str); 22] = [
     ("new 9 plain\ncolour 1 0  0", "2: line 2: not a command\n"),
     ("new 9 plain\nbg 1 0", "2: line 2: not a command\n"),
     ("new 5 plain\nendem", "2: line 2: nothing to end\n"),
-    (
-        "new 5 plain\nem\nendstrong",
-        "2: line 3: nothing to end\n",
-    ),
+    ("new 5 plain\nem\nendstrong", "2: line 3: nothing to end\n"),
     (
         "new 5 plain\ncolour 0 0 0\nendbg",
         "2: line 3: nothing to end\n",
