@@ -1,13 +1,17 @@
 -- How a line begins.
-use Rattle.std.proofs.Common.{◌≡◌, ◌≢◌, ℕ, zero, suc, ◌<◌, List, [], ◌∷◌, ◌++◌, length, get_or, Option, Some, None, ◌⊎◌, inl, inr, codes, lit<, arith, sym, subst}
+use Rattle.std.proofs.Common.{◌≡◌, ◌≢◌, ℕ, zero, suc, ◌<◌, ◌==◌, if◌then◌else◌, List, [], ◌∷◌, ◌++◌, length, get_or, Option, Some, None, MatchOption, codes, lit<, arith, refl, sym, ap, ◌∙◌, subst}
 use Rattle.std.specs.List.{AllByRecursion as Each}
 use Rattle.std.specs.Prelude.{is_some}
 use Rattle.std.proofs.lemmas.Bool.{false≢true}
 use Rattle.std.specs.Borrow.{Bor}
-use Rattle.std.specs.Option.{IfNone}
-use Rattle.std.proofs.lemmas.Str.Pattern.{IsSplitOnceResult, split_after}
-use Rattle.text_block_renderer.specs.Calls.{Call, add_empty_line, new_line, new_line_hard, start_block, start_table, end_block, add_inline_text, push_ws, pop_ws, push_preformat, pop_preformat, record_frag_start, begin, finish, start_strikeout, end_strikeout, add_image, push_colour, pop_colour}
-use Rattle.blockrender.specs.Script.{Writes, TakesText, IsText}
+use Rattle.std.specs.Option.{IfNone, IfSome, IsSomeAnd}
+use Rattle.std.proofs.lemmas.Str.Pattern.{IsSplitOnceResult, split_after, split_parts}
+use Rattle.text_block_renderer.specs.Calls.{Call, add_inline_text, record_frag_start, begin, add_image, push_colour}
+use Rattle.tbr_decor.specs.Start as start
+use Rattle.tbr_decor.specs.Ground as ground
+use Rattle.tbr_decor.specs.declared.colour.Colour.{Colour}
+use Rattle.blockrender.specs.Script.{Writes, Behind, IsText, AreCharacters, AreSplitTexts, IsImage, IsColour}
+use Rattle.blockrender.specs.Form.{argument, form_of}
 
 pub if_none_weaker : {X P Q : Type 0} (r : Option X) → (P → Q) → IfNone r P → IfNone r Q
 if_none_weaker None f h = f h
@@ -20,59 +24,134 @@ if_none_mapped None (Some y) e f h = tt
 if_none_mapped (Some x) None e f h = absurd (false≢true e)
 if_none_mapped (Some x) (Some y) e f h = tt
 
--- a word, a space and a text
-abbrev HasText : List ℕ → List ℕ → Type 0
-HasText line word = (rest : List ℕ) × (text : List ℕ) × (line ≡ word ++ 32 ∷ rest) × IsText rest text
-
--- a call with a text has one of two words
-one_of_two : (line : List ℕ) (call : Call) → Writes line call → TakesText call → HasText line (codes "text") ⊎ HasText line (codes "frag")
-one_of_two line (add_inline_text cs) k t = inl (k.0, k.1, k.2, k.3)
-one_of_two line (record_frag_start name) k t = inr (k.0, name, k.1, k.2)
-one_of_two line add_empty_line k t = absurd t
-one_of_two line new_line k t = absurd t
-one_of_two line new_line_hard k t = absurd t
-one_of_two line start_block k t = absurd t
-one_of_two line start_table k t = absurd t
-one_of_two line end_block k t = absurd t
-one_of_two line (push_ws mode) k t = absurd t
-one_of_two line pop_ws k t = absurd t
-one_of_two line push_preformat k t = absurd t
-one_of_two line pop_preformat k t = absurd t
-one_of_two line (begin opened) k t = absurd t
-one_of_two line (finish closed) k t = absurd t
-one_of_two line start_strikeout k t = absurd t
-one_of_two line end_strikeout k t = absurd t
-one_of_two line (add_image source title) k t = absurd t
-one_of_two line (push_colour g colour) k t = absurd t
-one_of_two line (pop_colour g) k t = absurd t
+-- ---- a word, a space and an argument
 
 no_space : (xs : List ℕ) → Each (λ b. b ≢ 32) xs → (i : ℕ) → i < length xs → get_or xs i 0 ≢ 32
 no_space [] a i lt e = absurd (omega arith)
 no_space (x ∷ xs) a zero lt e = a.0 e
 no_space (x ∷ xs) a (suc i) lt e = no_space xs a.1 i (omega arith) e
 
+-- the words behind which an argument stands
+pub data Word : Type 0 where
+  text_word : Word
+  marker_word : Word
+  link_word : Word
+  image_word : Word
+  colour_word : Word
+  ground_word : Word
+
+abbrev pub written_as : Word → List ℕ
+written_as text_word = codes "text"
+written_as marker_word = codes "frag"
+written_as link_word = codes "link"
+written_as image_word = codes "image"
+written_as colour_word = codes "colour"
+written_as ground_word = codes "bg"
+
+spaceless : (w : Word) → Each (λ b. b ≢ 32) (written_as w)
+spaceless text_word = (λ e. omega arith, (λ e. omega arith, (λ e. omega arith, (λ e. omega arith, tt))))
+spaceless marker_word = (λ e. omega arith, (λ e. omega arith, (λ e. omega arith, (λ e. omega arith, tt))))
+spaceless link_word = (λ e. omega arith, (λ e. omega arith, (λ e. omega arith, (λ e. omega arith, tt))))
+spaceless image_word = (λ e. omega arith, (λ e. omega arith, (λ e. omega arith, (λ e. omega arith, (λ e. omega arith, tt)))))
+spaceless colour_word = (λ e. omega arith, (λ e. omega arith, (λ e. omega arith, (λ e. omega arith, (λ e. omega arith, (λ e. omega arith, tt))))))
+spaceless ground_word = (λ e. omega arith, (λ e. omega arith, tt))
+
+-- a word by its first letter
+read_word : List ℕ → Word
+read_word [] = text_word
+read_word (b ∷ bs) =
+    if b == 116 then text_word
+    else if b == 102 then marker_word
+    else if b == 108 then link_word
+    else if b == 105 then image_word
+    else if b == 99 then colour_word
+    else ground_word
+
+pub word_once : (v w : Word) (xs ys : List ℕ) → written_as v ++ 32 ∷ xs ≡ written_as w ++ 32 ∷ ys → v ≡ w
+unfolding read_word
+word_once v w xs ys e = sym (is v xs) ∙ ap read_word e ∙ is w ys
+  where
+    is : (x : Word) (zs : List ℕ) → read_word (written_as x ++ 32 ∷ zs) ≡ x
+    is text_word zs = refl
+    is marker_word zs = refl
+    is link_word zs = refl
+    is image_word zs = refl
+    is colour_word zs = refl
+    is ground_word zs = refl
+
+-- what stands behind the word
+abbrev pub Argument : Word → List ℕ → Type 0
+Argument text_word bs = (t : List ℕ) × IsText bs t
+Argument marker_word bs = (t : List ℕ) × IsText bs t
+Argument link_word bs = (t : List ℕ) × IsText bs t
+Argument image_word bs = (s : List ℕ) × (t : List ℕ) × AreSplitTexts bs s t
+Argument colour_word bs = (colour : Colour) × IsColour bs colour
+Argument ground_word bs = (colour : Colour) × IsColour bs colour
+
+module _ (line : List ℕ) where
+  another : (word : List ℕ) (P Q : List ℕ → Type 0) → ((bs : List ℕ) → P bs → Q bs) → Behind word line P → Behind word line Q
+  another word P Q f k = (k.0, k.1, f k.0 k.2)
+
+  by_word : (call : Call) → Writes line call → form_of call ≡ argument → (w : Word) × Behind (written_as w) line (Argument w)
+  by_word (add_inline_text cs) k e = (text_word, another (codes "text") (λ bs. AreCharacters bs cs) (Argument text_word) (λ bs t. (t.0, t.1)) k)
+  by_word (record_frag_start name) k e = (marker_word, another (codes "frag") (λ bs. IsText bs name) (Argument marker_word) (λ bs t. (name, t)) k)
+  by_word (begin (start.link cs)) k e = (link_word, another (codes "link") (λ bs. AreCharacters bs cs) (Argument link_word) (λ bs t. (t.0, t.1)) k)
+  by_word (begin (start.image source title)) k e = absurd k
+  by_word (begin start.emphasis) k e = absurd cc
+  by_word (begin start.strong) k e = absurd cc
+  by_word (begin start.strikeout) k e = absurd cc
+  by_word (begin start.code) k e = absurd cc
+  by_word (begin start.superscript) k e = absurd cc
+  by_word (add_image source title) k e = (image_word, another (codes "image") (λ bs. IsImage bs source title) (Argument image_word) (λ bs i. (i.0, i.1, i.2)) k)
+  by_word (push_colour ground.text colour) k e = (colour_word, another (codes "colour") (λ bs. IsColour bs colour) (Argument colour_word) (λ bs c. (colour, c)) k)
+  by_word (push_colour ground.background colour) k e = (ground_word, another (codes "bg") (λ bs. IsColour bs colour) (Argument ground_word) (λ bs c. (colour, c)) k)
+  by_word call k e = absurd cc
+
+parts : (line : List ℕ) (r : Option (Bor (List ℕ) × Bor (List ℕ))) → IsSplitOnceResult 32 line r → (w : Word) → Behind (written_as w) line (Argument w) → MatchOption r ⊥ (λ x. (x.0.now ≡ written_as w) × Argument w x.1.now)
+parts line None h w k = split_after 32 line (written_as w) k.0 None h (lit< tt) k.1 (no_space (written_as w) (spaceless w))
+parts line (Some x) h w k =
+    let p = split_after 32 line (written_as w) k.0 (Some x) h (lit< tt) k.1 (no_space (written_as w) (spaceless w)) in
+    (p.0, subst (Argument w) (sym p.1) k.2)
+
+-- without a space there is no argument
+pub no_space_no_argument : (line : List ℕ) → IsSplitOnceResult 32 line None → (call : Call) → Writes line call → form_of call ≢ argument
+no_space_no_argument line h call k e = let w = by_word line call k e in parts line None h w.0 w.1
+
 module _ (line : List ℕ) (word rest : Bor (List ℕ)) (h : IsSplitOnceResult 32 line (Some (word, rest))) where
-  -- such a line is split behind the word
-  parts : (name : List ℕ) → Each (λ b. b ≢ 32) name → (k : HasText line name) → (word.now ≡ name) × IsText rest.now k.1
-  parts name free k =
-      let split = split_after 32 line name k.0 (Some (word, rest)) h (lit< tt) k.2 (no_space name free) in
-      (split.0, subst (λ bs. IsText bs k.1) (sym split.1) k.3)
+  -- what stands behind this word is no argument of it
+  pub no_argument : (w : Word) → word.now ≡ written_as w → (Argument w rest.now → ⊥) → (call : Call) → Writes line call → form_of call ≢ argument
+  no_argument w is n call k e =
+      let v = by_word line call k e in
+      let p = parts line (Some (word, rest)) h v.0 v.1 in
+      n (subst (λ x. Argument x rest.now) (word_once v.0 w [] [] (ap (λ bs. bs ++ 32 ∷ []) (sym p.0 ∙ is))) p.1)
 
-  in_text : Each (λ b. b ≢ 32) (codes "text")
-  in_text = (λ e. omega arith, (λ e. omega arith, (λ e. omega arith, (λ e. omega arith, tt))))
+  pub behind_it : line ≡ word.now ++ (32 ∷ rest.now)
+  behind_it = (split_parts 32 line (Some (word, rest)) h (lit< tt)).0
 
-  in_frag : Each (λ b. b ≢ 32) (codes "frag")
-  in_frag = (λ e. omega arith, (λ e. omega arith, (λ e. omega arith, (λ e. omega arith, tt))))
+  -- another word has none
+  pub no_word : word.now ≢ codes "text" → word.now ≢ codes "frag" → word.now ≢ codes "link" → word.now ≢ codes "image" → word.now ≢ codes "colour" → word.now ≢ codes "bg" → (call : Call) → Writes line call → form_of call ≢ argument
+  no_word a b c d f g call k e =
+      let v = by_word line call k e in
+      go v.0 (parts line (Some (word, rest)) h v.0 v.1).0
+    where
+      go : (w : Word) → word.now ≢ written_as w
+      go text_word is = a is
+      go marker_word is = b is
+      go link_word is = c is
+      go image_word is = d is
+      go colour_word is = f is
+      go ground_word is = g is
 
-  -- what stands behind `text ` or `frag ` is no text
-  none_of : ((text : List ℕ) → IsText rest.now text → ⊥) → HasText line (codes "text") ⊎ HasText line (codes "frag") → ⊥
-  none_of n (inl k) = n k.1 (parts (codes "text") in_text k).1
-  none_of n (inr k) = n k.1 (parts (codes "frag") in_frag k).1
-
-  pub no_text : ((text : List ℕ) → IsText rest.now text → ⊥) → (call : Call) → Writes line call → TakesText call → ⊥
-  no_text n call k t = none_of n (one_of_two line call k t)
+-- and something of something
+pub if_some_mapped : {X Y : Type 0} (Post : X → Y → Type 0) (P : X → Type 0) (Q : Y → Type 0) (o : Option X) (r : Option Y) → MatchOption o (r ≡ None) (λ x. IsSomeAnd r (Post x)) → ((x : X) (y : Y) → Post x y → P x → Q y) → IfSome o P → IfSome r Q
+if_some_mapped Post P Q None r e f h = subst (λ q. IfSome q Q) (sym e) tt
+if_some_mapped Post P Q (Some x) None e f h = tt
+if_some_mapped Post P Q (Some x) (Some y) e f h = f x y e h
 
 -- what is so where there is none
 pub of_none : {X P : Type 0} (r : Option X) → r ≡ None → IfNone r P → P
 of_none None e h = h
 of_none (Some x) e h = absurd cc
+
+pub of_some : {X : Type 0} (P : X → Type 0) (r : Option X) (x : X) → r ≡ Some x → IfSome r P → P x
+of_some P r x e h = subst (λ q. IfSome q P) e h

@@ -1,9 +1,12 @@
 pub mod Writes
 pub mod Lines
 pub mod Texts
+pub mod Bars
+pub mod Colours
 pub mod Words
 pub mod OptionWords
 pub mod OpeningWords
+pub mod Forms
 pub mod Commands
 pub mod Live
 pub mod LinesGive

@@ -11,9 +11,9 @@ use Rattle.text_block_renderer.proofs.OneState.{call_once, call_or_not, call_nor
 use Rattle.blockrender.specs.declared.begun.Begun.{Begun}
 use Rattle.blockrender.specs.declared.error.RunError.{RunError}
 use Rattle.blockrender.specs.declared.opening.Decorator.{Decorator}
-use Rattle.blockrender.specs.declared.opening.Decorator.TheVariants.{Plain}
+use Rattle.blockrender.specs.declared.opening.Decorator.TheVariants.{Plain, Trivial, Rich}
 use Rattle.blockrender.specs.declared.opening.Opening.{Opening}
-use Rattle.blockrender.specs.Plain.{plain_decoration}
+use Rattle.blockrender.specs.Decorations.{plain_decoration, trivial_decoration, rich_decoration}
 use Rattle.blockrender.specs.Progress.{Progress}
 use Rattle.blockrender.specs.Normal.{IsNormalLine}
 use Rattle.blockrender.specs.Meaning.{CallDoes, CallRefuses, LineDoes, LineRefuses, Ends, LinesGive, opened, OpensUnder, Begins}
@@ -89,6 +89,10 @@ module _ (columns : ℕ → Option ℕ) where
   opens_once : (d : Decorator) (o : Opening) (number : ℕ) (lines : List (List ℕ)) (x y : Result (List ℕ) RunError) → o.options.allow_width_overflow ≡ false → Each IsNormalLine lines → OpensUnder columns d o number lines x → OpensUnder columns d o number lines y → x ≡ y
   opens_once Plain o number lines x y narrow all a b =
       lines_give_once columns plain_decoration (opened o (record {})) number lines x y (record { narrow = rw narrow refl; modes = tt; run = tt }) all a b
+  opens_once Trivial o number lines x y narrow all a b =
+      lines_give_once columns trivial_decoration (opened o (record {})) number lines x y (record { narrow = rw narrow refl; modes = tt; run = tt }) all a b
+  opens_once Rich o number lines x y narrow all a b =
+      lines_give_once columns rich_decoration (opened o (record {})) number lines x y (record { narrow = rw narrow refl; modes = tt; run = tt }) all a b
 
   pub begins_once : (number : ℕ) (lines : List (List ℕ)) (x y : Result (List ℕ) RunError) → Each IsNormalLine lines → Begins columns number lines x → Begins columns number lines y → x ≡ y
   begins_once number [] x y all a b = a ∙ sym b

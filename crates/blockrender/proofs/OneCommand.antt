@@ -1,21 +1,30 @@
 -- A line is one command.
-use Rattle.std.proofs.Common.{◌≡◌, ◌≢◌, ℕ, ◌==◌, ◌&&◌, Bool, true, false, if◌then◌else◌, List, [], ◌∷◌, ◌++◌, flat_map, fold, refl, sym, ap, ◌∙◌, codes, chars, arith, get_or, Option, Some, None, subst}
+use Rattle.std.proofs.Common.{◌≡◌, ℕ, ◌==◌, ◌&&◌, Bool, true, false, if◌then◌else◌, List, [], ◌∷◌, ◌++◌, flat_map, fold, refl, sym, ap, ◌∙◌, codes, chars, Option, Some, None, subst}
 use Rattle.std.specs.Prelude.{encode_utf8}
 use Rattle.std.specs.List.{AllByRecursion as Each, AllZip}
 use Rattle.std.specs.Str.Parse.{digits_value}
+use Rattle.std.proofs.lemmas.List.{append_cancel_left}
+use Rattle.tbr_decor.specs.Start as start
+use Rattle.tbr_decor.specs.End as end
+use Rattle.tbr_decor.specs.Ground as ground
+use Rattle.tbr_decor.specs.declared.colour.Colour.{Colour}
 use Rattle.tbr_model.specs.declared.white_space.WhiteSpace.TheVariants.{Normal, Pre, PreWrap}
 use Rattle.text_block_renderer.specs.Options.{default_options}
 use Rattle.text_block_renderer.specs.declared.options.RenderOptions.{RenderOptions}
+use Rattle.text_block_renderer.specs.declared.options.ImageRenderMode.TheVariants.{IgnoreEmpty, ShowAlways, Replace, Filename}
 use Rattle.text_block_renderer.specs.Calls.{Call, add_empty_line, new_line, new_line_hard, start_block, start_table, end_block, add_inline_text, push_ws, pop_ws, push_preformat, pop_preformat, record_frag_start, begin, finish, start_strikeout, end_strikeout, add_image, push_colour, pop_colour}
 use Rattle.blockrender.specs.declared.options.Setting.{Setting}
-use Rattle.blockrender.specs.declared.options.Setting.TheVariants.{Wrap, Overflow, Pad}
+use Rattle.blockrender.specs.declared.options.Setting.TheVariants.{Wrap, Overflow, Pad, NoBorders, NoStrike, Images}
 use Rattle.blockrender.specs.declared.opening.Decorator.{Decorator}
-use Rattle.blockrender.specs.declared.opening.Decorator.TheVariants.{Plain}
+use Rattle.blockrender.specs.declared.opening.Decorator.TheVariants.{Plain, Trivial, Rich}
 use Rattle.blockrender.specs.declared.opening.Opening.{Opening}
-use Rattle.blockrender.specs.Script.{Piece, itself, escape, IsPiece, written, meant, IsText, Writes, IsCommand}
-use Rattle.blockrender.specs.Options.{IsSetting, with_setting, AreOptions}
-use Rattle.blockrender.specs.Opening.{AsksFor, IsOpening}
+use Rattle.blockrender.specs.Script.{Piece, itself, escape, IsPiece, written, meant, IsText, AreSplitTexts, IsColour, Writes, IsCommand}
+use Rattle.blockrender.specs.Options.{IsWrap, IsSetting, with_setting, AreOptions}
+use Rattle.blockrender.specs.Opening.{name_of, AsksFor, IsOpening}
 use Rattle.blockrender.proofs.Texts.{one_escape}
+use Rattle.blockrender.proofs.Bars.{one_split}
+use Rattle.blockrender.proofs.Colours.{colour_once}
+use Rattle.blockrender.proofs.Commands.{Word, text_word, marker_word, link_word, image_word, colour_word, ground_word, written_as, word_once}
 
 -- ---- texts
 
@@ -45,7 +54,7 @@ same [] (y ∷ ys) = false
 same (x ∷ xs) [] = false
 same (x ∷ xs) (y ∷ ys) = (x == y) && same xs ys
 
--- the call without a text that a line is
+-- the call without an argument that a line is
 read : List ℕ → Option Call
 read line =
     if same line (codes "block") then Some start_block
@@ -57,88 +66,147 @@ read line =
     else if same line (codes "ws normal") then Some (push_ws Normal)
     else if same line (codes "ws pre") then Some (push_ws Pre)
     else if same line (codes "ws prewrap") then Some (push_ws PreWrap)
-    else if same line (codes "endws") then Some pop_ws
     else if same line (codes "pre") then Some push_preformat
+    else if same line (codes "em") then Some (begin start.emphasis)
+    else if same line (codes "strong") then Some (begin start.strong)
+    else if same line (codes "strike") then Some start_strikeout
+    else if same line (codes "code") then Some (begin start.code)
+    else if same line (codes "super") then Some (begin start.superscript)
+    else if same line (codes "endws") then Some pop_ws
     else if same line (codes "endpre") then Some pop_preformat
+    else if same line (codes "endlink") then Some (finish end.link)
+    else if same line (codes "endem") then Some (finish end.emphasis)
+    else if same line (codes "endstrong") then Some (finish end.strong)
+    else if same line (codes "endstrike") then Some end_strikeout
+    else if same line (codes "endcode") then Some (finish end.code)
+    else if same line (codes "endsuper") then Some (finish end.superscript)
+    else if same line (codes "endcolour") then Some (pop_colour ground.text)
+    else if same line (codes "endbg") then Some (pop_colour ground.background)
     else None
 
--- a call is read so, or it has a text
+-- what call a word with its argument is
+Argued : Word → List ℕ → Call → Type 0
+Argued text_word bs call = (t : List ℕ) × IsText bs t × (call ≡ add_inline_text (chars t))
+Argued marker_word bs call = (t : List ℕ) × IsText bs t × (call ≡ record_frag_start t)
+Argued link_word bs call = (t : List ℕ) × IsText bs t × (call ≡ begin (start.link (chars t)))
+Argued image_word bs call = (s : List ℕ) × (t : List ℕ) × AreSplitTexts bs s t × (call ≡ add_image (chars s) (chars t))
+Argued colour_word bs call = (c : Colour) × IsColour bs c × (call ≡ push_colour ground.text c)
+Argued ground_word bs call = (c : Colour) × IsColour bs c × (call ≡ push_colour ground.background c)
+
+-- a call is read so, or it has an argument
 data IsRead (line : List ℕ) (call : Call) : Type 0 where
   whole : read line ≡ Some call → IsRead line call
-  text : (rest : List ℕ) → (t : List ℕ) → line ≡ codes "text " ++ rest → IsText rest t → call ≡ add_inline_text (chars t) → IsRead line call
-  name : (rest : List ℕ) → (t : List ℕ) → line ≡ codes "frag " ++ rest → IsText rest t → call ≡ record_frag_start t → IsRead line call
+  argued : (w : Word) → (bs : List ℕ) → line ≡ written_as w ++ 32 ∷ bs → Argued w bs call → IsRead line call
 
 is_read : (line : List ℕ) (call : Call) → Writes line call → IsRead line call
-unfolding read same
-is_read line start_block w = whole (ap read w)
-is_read line end_block w = whole (ap read w)
-is_read line start_table w = whole (ap read w)
-is_read line new_line w = whole (ap read w)
-is_read line new_line_hard w = whole (ap read w)
-is_read line add_empty_line w = whole (ap read w)
-is_read line pop_ws w = whole (ap read w)
-is_read line push_preformat w = whole (ap read w)
-is_read line pop_preformat w = whole (ap read w)
+unfolding read same Argued
 is_read line (push_ws Normal) w = whole (ap read w)
 is_read line (push_ws Pre) w = whole (ap read w)
 is_read line (push_ws PreWrap) w = whole (ap read w)
-is_read line (add_inline_text cs) w = text w.0 w.1 w.2 w.3 (ap add_inline_text w.4)
-is_read line (record_frag_start n) w = name w.0 n w.1 w.2 refl
-is_read line (begin opened) w = absurd w
-is_read line (finish closed) w = absurd w
-is_read line start_strikeout w = absurd w
-is_read line end_strikeout w = absurd w
-is_read line (add_image source title) w = absurd w
-is_read line (push_colour g colour) w = absurd w
-is_read line (pop_colour g) w = absurd w
+is_read line (add_inline_text cs) w = argued text_word w.0 w.1 (w.2.0, w.2.1, ap add_inline_text w.2.2)
+is_read line (record_frag_start n) w = argued marker_word w.0 w.1 (n, w.2, refl)
+is_read line (begin (start.link target)) w = argued link_word w.0 w.1 (w.2.0, w.2.1, ap (λ cs. begin (start.link cs)) w.2.2)
+is_read line (begin start.emphasis) w = whole (ap read w)
+is_read line (begin start.strong) w = whole (ap read w)
+is_read line (begin start.code) w = whole (ap read w)
+is_read line (begin start.superscript) w = whole (ap read w)
+is_read line (begin start.strikeout) w = absurd w
+is_read line (begin (start.image source title)) w = absurd w
+is_read line (finish end.link) w = whole (ap read w)
+is_read line (finish end.emphasis) w = whole (ap read w)
+is_read line (finish end.strong) w = whole (ap read w)
+is_read line (finish end.code) w = whole (ap read w)
+is_read line (finish end.superscript) w = whole (ap read w)
+is_read line (finish end.strikeout) w = absurd w
+is_read line (add_image source title) w =
+    argued image_word w.0 w.1 (w.2.0, w.2.1, w.2.2, ap (λ s. add_image s title) w.2.3 ∙ ap (add_image (chars w.2.0)) w.2.4)
+is_read line (push_colour ground.text colour) w = argued colour_word w.0 w.1 (colour, w.2, refl)
+is_read line (push_colour ground.background colour) w = argued ground_word w.0 w.1 (colour, w.2, refl)
+is_read line (pop_colour ground.text) w = whole (ap read w)
+is_read line (pop_colour ground.background) w = whole (ap read w)
+is_read line call w = whole (ap read w)
 
--- a line with a text isn't read
-no_text : (line rest : List ℕ) (call : Call) → line ≡ codes "text " ++ rest → read line ≡ Some call → ⊥
+-- a line with an argument isn't read
+not_read : (line bs : List ℕ) (call : Call) (w : Word) → line ≡ written_as w ++ 32 ∷ bs → read line ≡ Some call → ⊥
 unfolding read same
-no_text line rest call is e = let none : read line ≡ None = ap read is in cc
+not_read line bs call text_word is e = let none : read line ≡ None = ap read is in cc
+not_read line bs call marker_word is e = let none : read line ≡ None = ap read is in cc
+not_read line bs call link_word is e = let none : read line ≡ None = ap read is in cc
+not_read line bs call image_word is e = let none : read line ≡ None = ap read is in cc
+not_read line bs call colour_word is e = let none : read line ≡ None = ap read is in cc
+not_read line bs call ground_word is e = let none : read line ≡ None = ap read is in cc
 
-no_name : (line rest : List ℕ) (call : Call) → line ≡ codes "frag " ++ rest → read line ≡ Some call → ⊥
-unfolding read same
-no_name line rest call is e = let none : read line ≡ None = ap read is in cc
-
-text_or_name : (line x y : List ℕ) → line ≡ codes "text " ++ x → line ≡ codes "frag " ++ y → ⊥
-text_or_name line x y e f = let first : codes "text " ++ x ≡ codes "frag " ++ y = sym e ∙ f in omega (arith, ap (λ zs. get_or zs 0 0) first)
+argued_once : (bs : List ℕ) (w : Word) (c d : Call) → Argued w bs c → Argued w bs d → c ≡ d
+unfolding Argued
+argued_once bs text_word c d a b = a.2 ∙ ap (λ s. add_inline_text (chars s)) (text_once bs a.0 b.0 a.1 b.1) ∙ sym b.2
+argued_once bs marker_word c d a b = a.2 ∙ ap record_frag_start (text_once bs a.0 b.0 a.1 b.1) ∙ sym b.2
+argued_once bs link_word c d a b = a.2 ∙ ap (λ s. begin (start.link (chars s))) (text_once bs a.0 b.0 a.1 b.1) ∙ sym b.2
+argued_once bs image_word c d a b =
+    let one = one_split bs a.0 a.1 b.0 b.1 a.2 b.2 in
+    let source = text_once b.2.before a.0 b.0 (subst (λ x. IsText x a.0) one.0 a.2.one_is) b.2.one_is in
+    let title = text_once b.2.behind a.1 b.1 (subst (λ x. IsText x a.1) one.1 a.2.other_is) b.2.other_is in
+    a.3 ∙ ap (λ s. add_image (chars s) (chars a.1)) source ∙ ap (λ t. add_image (chars b.0) (chars t)) title ∙ sym b.3
+argued_once bs colour_word c d a b = a.2 ∙ ap (push_colour ground.text) (colour_once bs a.0 b.0 a.1 b.1) ∙ sym b.2
+argued_once bs ground_word c d a b = a.2 ∙ ap (push_colour ground.background) (colour_once bs a.0 b.0 a.1 b.1) ∙ sym b.2
 
 read_once : (line : List ℕ) (c d : Call) → IsRead line c → IsRead line d → c ≡ d
 read_once line c d (whole a) (whole b) = cc
-read_once line c d (whole a) (text x t e k is) = absurd (no_text line x c e a)
-read_once line c d (whole a) (name x t e k is) = absurd (no_name line x c e a)
-read_once line c d (text x t e k is) (whole b) = absurd (no_text line x d e b)
-read_once line c d (name x t e k is) (whole b) = absurd (no_name line x d e b)
-read_once line c d (text x t e k is) (name y u f l at) = absurd (text_or_name line x y e f)
-read_once line c d (name x t e k is) (text y u f l at) = absurd (text_or_name line y x f e)
-read_once line c d (text x t e k is) (text y u f l at) =
-    let rest : x ≡ y = cc (e, f) in
-    is ∙ ap (λ s. add_inline_text (chars s)) (text_once y t u (subst (λ w. IsText w t) rest k) l) ∙ sym at
-read_once line c d (name x t e k is) (name y u f l at) =
-    let rest : x ≡ y = cc (e, f) in
-    is ∙ ap record_frag_start (text_once y t u (subst (λ w. IsText w t) rest k) l) ∙ sym at
+read_once line c d (whole a) (argued w bs e k) = absurd (not_read line bs c w e a)
+read_once line c d (argued w bs e k) (whole b) = absurd (not_read line bs d w e b)
+read_once line c d (argued v xs e k) (argued w ys f l) =
+    let word = word_once v w xs ys (sym e ∙ f) in
+    let there : written_as w ++ 32 ∷ xs ≡ written_as w ++ 32 ∷ ys = ap (λ x. written_as x ++ 32 ∷ xs) (sym word) ∙ sym e ∙ f in
+    let rest : xs ≡ ys = cc (append_cancel_left (written_as w) (32 ∷ xs) (32 ∷ ys) there) in
+    argued_once ys w c d (subst (λ bs. Argued w bs c) rest (subst (λ x. Argued x xs c) word k)) l
 
 pub command_once : (line : List ℕ) (c d : Call) → IsCommand line c → IsCommand line d → c ≡ d
 command_once line c d a b = read_once line c d (is_read line c a.writes) (is_read line d b.writes)
 
 -- ---- first commands
 
-wrap_is_not : (word x : List ℕ) (n : ℕ) → word ≡ codes "wrap=" ++ x → get_or word 0 0 ≡ n → n ≢ 119 → ⊥
-wrap_is_not word x n e f not = not (sym f ∙ ap (λ zs. get_or zs 0 0) e)
+-- the setting without a number that a word is
+read_setting : List ℕ → Option Setting
+read_setting word =
+    if same word (codes "overflow") then Some Overflow
+    else if same word (codes "pad") then Some Pad
+    else if same word (codes "noborders") then Some NoBorders
+    else if same word (codes "nostrike") then Some NoStrike
+    else if same word (codes "img=ignore") then Some (Images IgnoreEmpty)
+    else if same word (codes "img=filename") then Some (Images Filename)
+    else if same word (codes "img=always") then Some (Images ShowAlways)
+    else None
+
+data IsReadSetting (word : List ℕ) (setting : Setting) : Type 0 where
+  whole_word : read_setting word ≡ Some setting → IsReadSetting word setting
+  wrapping : (columns : ℕ) → IsWrap word columns → setting ≡ Wrap columns → IsReadSetting word setting
+
+setting_read : (word : List ℕ) (s : Setting) → IsSetting word s → IsReadSetting word s
+unfolding read_setting same
+setting_read word (Wrap n) w = wrapping n w refl
+setting_read word Overflow w = whole_word (ap read_setting w)
+setting_read word Pad w = whole_word (ap read_setting w)
+setting_read word NoBorders w = whole_word (ap read_setting w)
+setting_read word NoStrike w = whole_word (ap read_setting w)
+setting_read word (Images IgnoreEmpty) w = whole_word (ap read_setting w)
+setting_read word (Images Filename) w = whole_word (ap read_setting w)
+setting_read word (Images ShowAlways) w = whole_word (ap read_setting w)
+setting_read word (Images (Replace title)) w = absurd w
+
+no_wrap : (word : List ℕ) (n : ℕ) (s : Setting) → IsWrap word n → read_setting word ≡ Some s → ⊥
+unfolding read_setting same
+no_wrap word n s w e = let none : read_setting word ≡ None = ap read_setting w.1 in cc
+
+wrap_once : (word : List ℕ) (m n : ℕ) → IsWrap word m → IsWrap word n → m ≡ n
+wrap_once word m n a b = let digits : a.0 ≡ b.0 = cc (a.1, b.1) in a.3 ∙ ap (digits_value 10) digits ∙ sym b.3
+
+read_setting_once : (word : List ℕ) (s t : Setting) → IsReadSetting word s → IsReadSetting word t → s ≡ t
+read_setting_once word s t (whole_word a) (whole_word b) = cc
+read_setting_once word s t (whole_word a) (wrapping n b is) = absurd (no_wrap word n s b a)
+read_setting_once word s t (wrapping m a is) (whole_word b) = absurd (no_wrap word m t a b)
+read_setting_once word s t (wrapping m a is) (wrapping n b at) = is ∙ ap Wrap (wrap_once word m n a b) ∙ sym at
 
 setting_once : (word : List ℕ) (s t : Setting) → IsSetting word s → IsSetting word t → s ≡ t
-setting_once word (Wrap m) (Wrap n) a b =
-    let digits : a.0 ≡ b.0 = cc (a.1, b.1) in
-    ap Wrap (a.3 ∙ ap (digits_value 10) digits ∙ sym b.3)
-setting_once word (Wrap m) Overflow a b = absurd (wrap_is_not word a.0 111 a.1 (ap (λ zs. get_or zs 0 0) b) (λ e. omega arith))
-setting_once word (Wrap m) Pad a b = absurd (wrap_is_not word a.0 112 a.1 (ap (λ zs. get_or zs 0 0) b) (λ e. omega arith))
-setting_once word Overflow (Wrap n) a b = absurd (wrap_is_not word b.0 111 b.1 (ap (λ zs. get_or zs 0 0) a) (λ e. omega arith))
-setting_once word Pad (Wrap n) a b = absurd (wrap_is_not word b.0 112 b.1 (ap (λ zs. get_or zs 0 0) a) (λ e. omega arith))
-setting_once word Overflow Overflow a b = refl
-setting_once word Pad Pad a b = refl
-setting_once word Overflow Pad a b = absurd cc
-setting_once word Pad Overflow a b = absurd cc
+setting_once word s t a b = read_setting_once word s t (setting_read word s a) (setting_read word t b)
 
 settings_once : (words : List (List ℕ)) (ss ts : List Setting) → AllZip IsSetting words ss → AllZip IsSetting words ts → ss ≡ ts
 settings_once [] [] [] a b = refl
@@ -151,8 +219,16 @@ settings_once (w ∷ ws) (s ∷ ss) (t ∷ ts) a b = ap (λ x. x ∷ ss) (settin
 options_once : (words : List (List ℕ)) (o p : RenderOptions) → AreOptions words o → AreOptions words p → o ≡ p
 options_once words o p a b = a.2 ∙ ap (fold with_setting default_options) (settings_once words a.0 b.0 a.1 b.1) ∙ sym b.2
 
-decorator_once : (d e : Decorator) → d ≡ e
-decorator_once Plain Plain = refl
+decorator_once : (d e : Decorator) → name_of d ≡ name_of e → d ≡ e
+decorator_once Plain Plain k = refl
+decorator_once Plain Trivial k = absurd cc
+decorator_once Plain Rich k = absurd cc
+decorator_once Trivial Plain k = absurd cc
+decorator_once Trivial Trivial k = refl
+decorator_once Trivial Rich k = absurd cc
+decorator_once Rich Plain k = absurd cc
+decorator_once Rich Trivial k = absurd cc
+decorator_once Rich Rich k = refl
 
 opening_parts : (o p : Opening) → o.width ≡ p.width → o.decorator ≡ p.decorator → o.options ≡ p.options → o ≡ p
 opening_parts o p w d e =
@@ -161,8 +237,9 @@ opening_parts o p w d e =
 asks_once : (words : List (List ℕ)) (o p : Opening) → AsksFor words o → AsksFor words p → o ≡ p
 asks_once words o p a b =
     let digits : a.0 ≡ b.0 = cc (a.2, b.2) in
+    let names : name_of o.decorator ≡ name_of p.decorator = cc (a.2, b.2) in
     let rest : a.1 ≡ b.1 = cc (a.2, b.2) in
-    opening_parts o p (a.4 ∙ ap (digits_value 10) digits ∙ sym b.4) (decorator_once o.decorator p.decorator)
+    opening_parts o p (a.4 ∙ ap (digits_value 10) digits ∙ sym b.4) (decorator_once o.decorator p.decorator names)
     (options_once b.1 o.options p.options (subst (λ ws. AreOptions ws o.options) rest a.6) b.6)
 
 pub opening_once : (line : List ℕ) (o p : Opening) → IsOpening line o → IsOpening line p → o ≡ p

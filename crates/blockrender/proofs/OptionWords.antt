@@ -2,14 +2,22 @@
 use Rattle.std.proofs.Common.{◌≡◌, ◌≢◌, ℕ, List, [], ◌∷◌, Some, codes, subst, arith}
 use Rattle.std.specs.List.{AllZip}
 use Rattle.text_block_renderer.specs.declared.options.RenderOptions.{RenderOptions}
+use Rattle.text_block_renderer.specs.declared.options.ImageRenderMode.TheVariants.{IgnoreEmpty, ShowAlways, Replace, Filename}
 use Rattle.blockrender.specs.declared.options.Setting.{Setting}
-use Rattle.blockrender.specs.declared.options.Setting.TheVariants.{Wrap, Overflow, Pad}
+use Rattle.blockrender.specs.declared.options.Setting.TheVariants.{Wrap, Overflow, Pad, NoBorders, NoStrike, Images}
 use Rattle.blockrender.specs.Options.{IsWrap, IsSetting, with_setting}
 
-pub no_setting : (word : List ℕ) → word ≢ codes "pad" → word ≢ codes "overflow" → ((columns : ℕ) → IsWrap word columns → ⊥) → (setting : Setting) → IsSetting word setting → ⊥
-no_setting word pad overflow wrap (Wrap columns) k = wrap columns k
-no_setting word pad overflow wrap Overflow k = overflow k
-no_setting word pad overflow wrap Pad k = pad k
+pub no_setting : (word : List ℕ) → word ≢ codes "overflow" → word ≢ codes "pad" → word ≢ codes "noborders" → word ≢ codes "nostrike" →
+    word ≢ codes "img=ignore" → word ≢ codes "img=filename" → word ≢ codes "img=always" → ((columns : ℕ) → IsWrap word columns → ⊥) → (setting : Setting) → IsSetting word setting → ⊥
+no_setting word a b c d f g h wrap (Wrap columns) k = wrap columns k
+no_setting word a b c d f g h wrap Overflow k = a k
+no_setting word a b c d f g h wrap Pad k = b k
+no_setting word a b c d f g h wrap NoBorders k = c k
+no_setting word a b c d f g h wrap NoStrike k = d k
+no_setting word a b c d f g h wrap (Images IgnoreEmpty) k = f k
+no_setting word a b c d f g h wrap (Images Filename) k = g k
+no_setting word a b c d f g h wrap (Images ShowAlways) k = h k
+no_setting word a b c d f g h wrap (Images (Replace title)) k = k
 
 -- a first word has its setting, and those behind it have theirs
 pub first_setting : (words rest : List (List ℕ)) (word : List ℕ) (settings : List Setting) → words ≡ word ∷ rest → AllZip IsSetting words settings →
@@ -25,3 +33,6 @@ pub wrap_width_kept : (word : List ℕ) (setting : Setting) (options : RenderOpt
 wrap_width_kept word (Wrap columns) options k h e = let same : columns ≡ 0 = cc in omega (arith, same, k.4)
 wrap_width_kept word Overflow options k h e = h e
 wrap_width_kept word Pad options k h e = h e
+wrap_width_kept word NoBorders options k h e = h e
+wrap_width_kept word NoStrike options k h e = h e
+wrap_width_kept word (Images mode) options k h e = h e

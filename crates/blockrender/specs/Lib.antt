@@ -1,12 +1,13 @@
 pub mod Streams
 pub mod Report
 pub mod Script
+pub mod Form
 pub mod Options
 pub mod Opening
 pub mod Command
 pub mod Begun
 pub mod Progress
-pub mod Plain
+pub mod Decorations
 pub mod Meaning
 pub mod Refusal
 pub mod Normal

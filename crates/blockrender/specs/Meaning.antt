@@ -8,13 +8,13 @@ use Rattle.text_block_renderer.specs.Calls.{Call, Does, IsTooNarrow}
 use Rattle.blockrender.specs.declared.error.RunError.{RunError}
 use Rattle.blockrender.specs.declared.error.RunError.TheVariants.{TooNarrow, NotACommand, NothingToEnd}
 use Rattle.blockrender.specs.declared.opening.Decorator.{Decorator}
-use Rattle.blockrender.specs.declared.opening.Decorator.TheVariants.{Plain}
+use Rattle.blockrender.specs.declared.opening.Decorator.TheVariants.{Plain, Trivial, Rich}
 use Rattle.blockrender.specs.declared.opening.Opening.{Opening}
 use Rattle.blockrender.specs.Script.{lines_of, IsCommand}
 use Rattle.blockrender.specs.Opening.{IsOpening}
 use Rattle.blockrender.specs.Begun.{nothing_begun, ends_nothing, counted}
 use Rattle.blockrender.specs.Progress.{Progress}
-use Rattle.blockrender.specs.Plain.{plain_decoration}
+use Rattle.blockrender.specs.Decorations.{plain_decoration, trivial_decoration, rich_decoration}
 
 -- ---- behind the first command, under any decorator
 
@@ -69,6 +69,10 @@ opened opening decorator =
 abbrev pub OpensUnder : (ℕ → Option ℕ) → Decorator → Opening → ℕ → List (List ℕ) → Result (List ℕ) RunError → Type 0
 OpensUnder columns Plain opening number lines outcome =
     LinesGive columns plain_decoration (opened opening (record {})) number lines outcome
+OpensUnder columns Trivial opening number lines outcome =
+    LinesGive columns trivial_decoration (opened opening (record {})) number lines outcome
+OpensUnder columns Rich opening number lines outcome =
+    LinesGive columns rich_decoration (opened opening (record {})) number lines outcome
 
 abbrev pub Opens : (ℕ → Option ℕ) → Opening → ℕ → List (List ℕ) → Result (List ℕ) RunError → Type 0
 Opens columns opening number lines outcome = OpensUnder columns opening.decorator opening number lines outcome

@@ -5,11 +5,13 @@ use Rattle.std.specs.Str.Parse.{digits_value}
 use Rattle.blockrender.specs.Script.{IsNumber, words_of}
 use Rattle.blockrender.specs.Options.{AreOptions}
 use Rattle.blockrender.specs.declared.opening.Decorator.{Decorator}
-use Rattle.blockrender.specs.declared.opening.Decorator.TheVariants.{Plain}
+use Rattle.blockrender.specs.declared.opening.Decorator.TheVariants.{Plain, Trivial, Rich}
 use Rattle.blockrender.specs.declared.opening.Opening.{Opening}
 
 abbrev pub name_of : Decorator → List ℕ
 name_of Plain = codes "plain"
+name_of Trivial = codes "trivial"
+name_of Rich = codes "rich"
 
 -- the words behind `new`: a width of at least 1, a decorator, and options
 abbrev pub AsksFor : List (List ℕ) → Opening → Type 0

@@ -1,5 +1,5 @@
 -- The language of scripts, by the bytes of a script.
-use Rattle.std.specs.Prelude.{◌≡◌, ◌≢◌, ℕ, ◌^◌, ◌<◌, ◌≤◌, ◌==◌, if◌then◌else◌, ◌⊎◌, List, [], ◌∷◌, ◌++◌, length, flat_map, codes, chars, encode_utf8, Option, Some, None, ⊤}
+use Rattle.std.specs.Prelude.{◌≡◌, ◌≢◌, ℕ, ◌^◌, ◌<◌, ◌≤◌, ◌==◌, if◌then◌else◌, ◌⊎◌, List, [], ◌∷◌, ◌++◌, length, flat_map, codes, chars, encode_utf8, Option, Some, None}
 use Rattle.std.specs.Char.{IsScalar}
 use Rattle.std.specs.List.{AllByRecursion as Each}
 use Rattle.std.specs.Str.{IsUtf8}
@@ -8,6 +8,10 @@ use Rattle.std.specs.Borrow.{Bor}
 use Rattle.tbr_model.specs.Codes.{newline_character, tab_character}
 use Rattle.tbr_model.specs.declared.white_space.WhiteSpace.{WhiteSpace}
 use Rattle.tbr_model.specs.declared.white_space.WhiteSpace.TheVariants.{Normal, Pre, PreWrap}
+use Rattle.tbr_decor.specs.declared.colour.Colour.{Colour}
+use Rattle.tbr_decor.specs.Start as start
+use Rattle.tbr_decor.specs.End as end
+use Rattle.tbr_decor.specs.Ground as ground
 use Rattle.text_block_renderer.specs.Calls.{Call, add_empty_line, new_line, new_line_hard, start_block, start_table, end_block, add_inline_text, push_ws, pop_ws, push_preformat, pop_preformat, record_frag_start, begin, finish, start_strikeout, end_strikeout, add_image, push_colour, pop_colour}
 use Rattle.blockrender.specs.declared.script.words.Words.{Words}
 
@@ -24,6 +28,21 @@ lines_of (b ∷ bs) = if b == newline_character then [] ∷ lines_of bs else ont
 -- one or more decimal digits of a value within `usize`
 abbrev pub IsNumber : List ℕ → Type 0
 IsNumber digits = IsNumeral 10 digits × (digits_value 10 digits < 2 ^ 64)
+
+-- the same of a value up to 255
+abbrev pub IsByte : List ℕ → Type 0
+IsByte digits = IsNumeral 10 digits × (digits_value 10 digits < 2 ^ 8)
+
+-- a part of a colour
+abbrev pub IsPart : List ℕ → ℕ → Type 0
+IsPart digits part = IsByte digits × (part ≡ digits_value 10 digits)
+
+-- a colour by its red, green and blue parts, with a space between two
+abbrev pub IsColour : List ℕ → Colour → Type 0
+IsColour writing colour =
+    (red : List ℕ) × (green : List ℕ) × (blue : List ℕ)
+    × (writing ≡ red ++ (codes " " ++ (green ++ (codes " " ++ blue))))
+    × IsPart red colour.r × IsPart green colour.g × IsPart blue colour.b
 
 -- one to six hexadecimal digits that name a character
 abbrev pub NamesCharacter : List ℕ → Type 0
@@ -70,6 +89,28 @@ pub record IsText (writing text : List ℕ) : Type 0 where
   pub writes : flat_map written pieces ≡ writing
   pub means : flat_map meant pieces ≡ text
 
+-- the same text by its characters
+abbrev pub AreCharacters : List ℕ → List ℕ → Type 0
+AreCharacters writing cs = (text : List ℕ) × IsText writing text × (cs ≡ chars text)
+
+-- what stands between two texts
+abbrev pub bar : List ℕ
+bar = codes " | "
+
+-- Two texts, split where a bar stands first.
+pub record AreSplitTexts (writing one other : List ℕ) : Type 0 where
+  pub before : List ℕ
+  pub behind : List ℕ
+  pub splits : writing ≡ before ++ (bar ++ behind)
+  pub first : (xs ys : List ℕ) → writing ≡ xs ++ (bar ++ ys) → length before ≤ length xs
+  pub one_is : IsText before one
+  pub other_is : IsText behind other
+
+-- an image by its source and title, as characters
+abbrev pub IsImage : List ℕ → List ℕ → List ℕ → Type 0
+IsImage writing source title =
+    (s : List ℕ) × (t : List ℕ) × AreSplitTexts writing s t × (source ≡ chars s) × (title ≡ chars t)
+
 -- ---- words
 
 -- The words of a line. Exactly one space stands between two, so a space too many makes an empty word.
@@ -92,6 +133,10 @@ mode_name Normal = codes "normal"
 mode_name Pre = codes "pre"
 mode_name PreWrap = codes "prewrap"
 
+-- a word, a space, and what follows it
+abbrev pub Behind : List ℕ → List ℕ → (List ℕ → Type 0) → Type 0
+Behind word line IsArgument = (argument : List ℕ) × (line ≡ word ++ (codes " " ++ argument)) × IsArgument argument
+
 -- how a call is written
 abbrev pub Writes : List ℕ → Call → Type 0
 Writes line start_block = line ≡ codes "block"
@@ -104,40 +149,30 @@ Writes line (push_ws mode) = line ≡ codes "ws " ++ mode_name mode
 Writes line pop_ws = line ≡ codes "endws"
 Writes line push_preformat = line ≡ codes "pre"
 Writes line pop_preformat = line ≡ codes "endpre"
-Writes line (add_inline_text cs) =
-    (rest : List ℕ) × (text : List ℕ) × (line ≡ codes "text " ++ rest) × IsText rest text × (cs ≡ chars text)
-Writes line (record_frag_start name) = (rest : List ℕ) × (line ≡ codes "frag " ++ rest) × IsText rest name
-Writes line (begin opened) = ⊥
-Writes line (finish closed) = ⊥
-Writes line start_strikeout = ⊥
-Writes line end_strikeout = ⊥
-Writes line (add_image source title) = ⊥
-Writes line (push_colour g colour) = ⊥
-Writes line (pop_colour g) = ⊥
+Writes line (begin (start.link target)) = Behind (codes "link") line (λ argument. AreCharacters argument target)
+Writes line (begin start.emphasis) = line ≡ codes "em"
+Writes line (begin start.strong) = line ≡ codes "strong"
+Writes line (begin start.code) = line ≡ codes "code"
+Writes line (begin start.superscript) = line ≡ codes "super"
+Writes line (begin start.strikeout) = ⊥
+Writes line (begin (start.image source title)) = ⊥
+Writes line (finish end.link) = line ≡ codes "endlink"
+Writes line (finish end.emphasis) = line ≡ codes "endem"
+Writes line (finish end.strong) = line ≡ codes "endstrong"
+Writes line (finish end.code) = line ≡ codes "endcode"
+Writes line (finish end.superscript) = line ≡ codes "endsuper"
+Writes line (finish end.strikeout) = ⊥
+Writes line start_strikeout = line ≡ codes "strike"
+Writes line end_strikeout = line ≡ codes "endstrike"
+Writes line (push_colour ground.text colour) = Behind (codes "colour") line (λ argument. IsColour argument colour)
+Writes line (push_colour ground.background colour) = Behind (codes "bg") line (λ argument. IsColour argument colour)
+Writes line (pop_colour ground.text) = line ≡ codes "endcolour"
+Writes line (pop_colour ground.background) = line ≡ codes "endbg"
+Writes line (add_inline_text cs) = Behind (codes "text") line (λ argument. AreCharacters argument cs)
+Writes line (record_frag_start name) = Behind (codes "frag") line (λ argument. IsText argument name)
+Writes line (add_image source title) = Behind (codes "image") line (λ argument. IsImage argument source title)
 
 -- A line that is this call. A line that isn't UTF-8 is none.
 pub record IsCommand (line : List ℕ) (call : Call) : Type 0 where
   pub utf8 : IsUtf8 line
   pub writes : Writes line call
-
--- whether a call has a text or a name with escapes
-abbrev pub TakesText : Call → Type 0
-TakesText (add_inline_text cs) = ⊤
-TakesText (record_frag_start name) = ⊤
-TakesText start_block = ⊥
-TakesText end_block = ⊥
-TakesText start_table = ⊥
-TakesText new_line = ⊥
-TakesText new_line_hard = ⊥
-TakesText add_empty_line = ⊥
-TakesText (push_ws mode) = ⊥
-TakesText pop_ws = ⊥
-TakesText push_preformat = ⊥
-TakesText pop_preformat = ⊥
-TakesText (begin opened) = ⊥
-TakesText (finish closed) = ⊥
-TakesText start_strikeout = ⊥
-TakesText end_strikeout = ⊥
-TakesText (add_image source title) = ⊥
-TakesText (push_colour g colour) = ⊥
-TakesText (pop_colour g) = ⊥

@@ -1,42 +1,49 @@
 //! The commands behind the first.
-ghost use Rattle.std.specs.Prelude.{◌≡◌, ◌<◌, None, Err, OnOk, IfOk, IfSome, IfNone};
-ghost use Rattle.text_block_renderer.specs.Calls.{Call, pop_preformat};
+ghost use Rattle.std.specs.Prelude.{◌≡◌, ◌≢◌, ◌<◌, true, None, Err, OnOk, IfOk, IfSome, IfNone};
+ghost use Rattle.text_block_renderer.specs.Calls.{Call, pop_preformat, end_strikeout};
 ghost use Rattle.tbr_lines.specs.declared.Error.TheVariants as E;
-ghost use Rattle.blockrender.specs.Script.{Writes, TakesText, IsCommand};
+ghost use Rattle.blockrender.specs.Script.{Writes, IsCommand};
+ghost use Rattle.blockrender.specs.Form as form;
+ghost use Rattle.blockrender.specs.Form.{form_of};
 ghost use Rattle.blockrender.specs.Command.{call_of};
+ghost use Rattle.blockrender.specs.Begun.{begins, ends};
 
+use crate::command::beginning::Beginning;
+use crate::command::kind::Kind;
+use crate::command::layout::Layout;
+use crate::script::colour::colour;
 use crate::script::escape::unescape;
+use crate::script::image::Image;
 use std::alloc::{AllocError, Global};
-use tbr_lines::{Error, WhiteSpace};
+use tbr_decor::Colour;
+use tbr_lines::Error;
 use text_block_renderer::Renderer;
+
+pub mod beginning;
+pub mod kind;
+pub mod layout;
 
 /// What a line of a script asks a renderer for. Each is one call of it.
 #[derive(Debug, Drop)]
 pub enum Command {
+    /// A block or a line begins or ends.
+    Layout(Layout),
+    /// What has no argument begins.
+    Begin(Beginning),
+    /// What was begun ends.
+    End(Kind),
     /// A text.
     Text(String),
-    /// A block begins.
-    StartBlock,
-    /// A block ends.
-    EndBlock,
-    /// A table begins.
-    StartTable,
-    /// The open line ends, if there is one.
-    NewLine,
-    /// The open line ends; where there is none, an empty line follows.
-    HardNewLine,
-    /// The open line ends, and an empty one follows.
-    EmptyLine,
-    /// A mode of white space begins.
-    Mode(WhiteSpace),
-    /// The mode ends that began last.
-    EndMode,
-    /// A preformatted stretch begins.
-    Preformat,
-    /// A preformatted stretch ends.
-    EndPreformat,
     /// A marker, by its name.
     Fragment(String),
+    /// A link begins, by its target.
+    Link(String),
+    /// An image.
+    Image(Image),
+    /// Text in a colour begins.
+    Colour(Colour),
+    /// A background in a colour begins.
+    Background(Colour),
 }
 
 impl Command {
@@ -50,79 +57,90 @@ impl Command {
         let Ok(line) = str::from_utf8(line) else {
             return Ok(None);
         };
-        match without_text(line) {
+        match alone(line) {
             Some(command) => Ok(Some(command)),
-            None => with_text(alloc, line),
+            None => with_argument(alloc, line),
+        }
+    }
+
+    /// What it begins, if it begins something.
+    pub fn begins(&self) -> Option<Kind>
+        ensures { result ≡ begins (call_of self.now) }
+    {
+        match self {
+            Command::Begin(beginning) => Some(beginning.kind()),
+            Command::Link(_) => Some(Kind::Link),
+            Command::Colour(_) => Some(Kind::Colour),
+            Command::Background(_) => Some(Kind::Background),
+            _ => None,
+        }
+    }
+
+    /// What it ends, if it ends something that commands begin.
+    pub fn ends(&self) -> Option<Kind>
+        ensures { result ≡ ends (call_of self.now) }
+    {
+        match self {
+            Command::End(kind) => Some(*kind),
+            _ => None,
         }
     }
 
     /// Asks a renderer for it.
     pub fn call<R: Renderer>(&self, renderer: &mut R) -> Result<(), Error>
         requires live { R.kept_refusal renderer.old ≡ None }
-        requires begun { call_of self.now ≡ pop_preformat → 0 < R.open_preformats renderer.old }
+        requires preformats { call_of self.now ≡ pop_preformat → 0 < R.open_preformats renderer.old }
+        requires strikeouts { call_of self.now ≡ end_strikeout → R.strikes renderer.old ≡ true →
+            0 < R.open_strikeouts renderer.old }
         ensures ok { OnOk result (R.does (call_of self.now) renderer.old renderer.new) }
         ensures too_narrow { result ≡ Err E.TooNarrow → R.is_too_narrow (call_of self.now) renderer.old }
     {
         match self {
+            Command::Layout(layout) => layout.call(renderer),
+            Command::Begin(beginning) => beginning.call(renderer),
+            Command::End(kind) => kind.end(renderer),
             Command::Text(text) => renderer.add_inline_text(text.as_str()),
-            Command::StartBlock => renderer.start_block(),
-            Command::StartTable => renderer.start_table(),
-            Command::NewLine => renderer.new_line(),
-            Command::HardNewLine => renderer.new_line_hard(),
-            Command::EmptyLine => renderer.add_empty_line(),
-            Command::Mode(mode) => renderer.push_ws(*mode),
-            Command::Preformat => renderer.push_preformat(),
             Command::Fragment(name) => renderer.record_frag_start(name.as_str()),
-            Command::EndBlock => {
-                renderer.end_block();
-                Ok(())
+            Command::Link(target) => renderer.start_link(target.as_str()),
+            Command::Image(image) => {
+                renderer.add_image(image.source.as_str(), image.title.as_str())
             }
-            Command::EndMode => {
-                renderer.pop_ws();
-                Ok(())
-            }
-            Command::EndPreformat => {
-                renderer.pop_preformat();
-                Ok(())
-            }
+            Command::Colour(colour) => renderer.push_colour(*colour),
+            Command::Background(colour) => renderer.push_bgcolour(*colour),
         }
     }
 }
 
-/// The command that a line without a text is.
-fn without_text(line: &str) -> Option<Command>
+/// The command that a line without an argument is.
+fn alone(line: &str) -> Option<Command>
     ensures found { IfSome result (λ command. Writes line.now (call_of command)) }
-    ensures none { IfNone result ((call : Call) → Writes line.now call → TakesText call) }
+    ensures none { IfNone result ((call : Call) → Writes line.now call → form_of call ≡ form.argument) }
 {
-    match line {
-        "block" => Some(Command::StartBlock),
-        "endblock" => Some(Command::EndBlock),
-        "table" => Some(Command::StartTable),
-        "line" => Some(Command::NewLine),
-        "hardline" => Some(Command::HardNewLine),
-        "empty" => Some(Command::EmptyLine),
-        "ws normal" => Some(Command::Mode(WhiteSpace::Normal)),
-        "ws pre" => Some(Command::Mode(WhiteSpace::Pre)),
-        "ws prewrap" => Some(Command::Mode(WhiteSpace::PreWrap)),
-        "endws" => Some(Command::EndMode),
-        "pre" => Some(Command::Preformat),
-        "endpre" => Some(Command::EndPreformat),
-        _ => None,
+    if let Some(layout) = Layout::named(line) {
+        return Some(Command::Layout(layout));
     }
+    if let Some(beginning) = Beginning::named(line) {
+        return Some(Command::Begin(beginning));
+    }
+    Kind::ended_by(line).map(Command::End)
 }
 
-/// The command that a line with a text is.
-fn with_text(alloc: Global, line: &str) -> Result<Option<Command>, AllocError>
+/// The command that a line with an argument is.
+fn with_argument(alloc: Global, line: &str) -> Result<Option<Command>, AllocError>
     ensures found { IfOk result (λ found. IfSome found (λ command. Writes line.now (call_of command))) }
     ensures none { IfOk result (λ found.
-        IfNone found ((call : Call) → Writes line.now call → TakesText call → ⊥)) }
+        IfNone found ((call : Call) → Writes line.now call → form_of call ≢ form.argument)) }
 {
-    let Some((word, text)) = line.split_once(' ') else {
+    let Some((word, argument)) = line.split_once(' ') else {
         return Ok(None);
     };
     match word {
-        "text" => Ok(unescape(alloc, text)?.map(Command::Text)),
-        "frag" => Ok(unescape(alloc, text)?.map(Command::Fragment)),
+        "text" => Ok(unescape(alloc, argument)?.map(Command::Text)),
+        "frag" => Ok(unescape(alloc, argument)?.map(Command::Fragment)),
+        "link" => Ok(unescape(alloc, argument)?.map(Command::Link)),
+        "image" => Ok(Image::parse(alloc, argument)?.map(Command::Image)),
+        "colour" => Ok(colour(argument).map(Command::Colour)),
+        "bg" => Ok(colour(argument).map(Command::Background)),
         _ => Ok(None),
     }
 }

@@ -15,6 +15,10 @@ use text_block_renderer::RenderOptions;
 pub enum Decorator {
     /// `PlainDecorator`.
     Plain,
+    /// `TrivialDecorator`.
+    Trivial,
+    /// `RichDecorator`.
+    Rich,
 }
 
 /// What the first command asks for.
@@ -36,6 +40,8 @@ impl Decorator {
     {
         match name {
             "plain" => Some(Decorator::Plain),
+            "trivial" => Some(Decorator::Trivial),
+            "rich" => Some(Decorator::Rich),
             _ => None,
         }
     }

@@ -8,7 +8,7 @@ ghost use Rattle.text_block_renderer.specs.declared.options.RenderOptions.{Rende
 
 use crate::script::number::number;
 use crate::script::words::Words;
-use text_block_renderer::RenderOptions;
+use text_block_renderer::{ImageRenderMode, RenderOptions};
 
 /// What one word tells the renderer.
 #[derive(Clone, Copy, Debug)]
@@ -19,6 +19,12 @@ pub enum Setting {
     Overflow,
     /// Lines are filled with spaces up to their width.
     Pad,
+    /// Borders of tables aren't drawn.
+    NoBorders,
+    /// Struck out text has no strokes.
+    NoStrike,
+    /// What an image without a title shows.
+    Images(ImageRenderMode),
 }
 
 impl Setting {
@@ -30,6 +36,11 @@ impl Setting {
         match word {
             "overflow" => Some(Setting::Overflow),
             "pad" => Some(Setting::Pad),
+            "noborders" => Some(Setting::NoBorders),
+            "nostrike" => Some(Setting::NoStrike),
+            "img=ignore" => Some(Setting::Images(ImageRenderMode::IgnoreEmpty)),
+            "img=filename" => Some(Setting::Images(ImageRenderMode::Filename)),
+            "img=always" => Some(Setting::Images(ImageRenderMode::ShowAlways)),
             _ => wrap(word),
         }
     }
@@ -42,6 +53,9 @@ impl Setting {
             Setting::Wrap(columns) => options.wrap_width = Some(columns),
             Setting::Overflow => options.allow_width_overflow = true,
             Setting::Pad => options.pad_block_width = true,
+            Setting::NoBorders => options.draw_borders = false,
+            Setting::NoStrike => options.use_unicode_strikeout = false,
+            Setting::Images(mode) => options.img_mode = mode,
         }
     }
 }

@@ -6,7 +6,7 @@ ghost use Rattle.blockrender.specs.Streams.{AppendsBeginning};
 ghost use Rattle.tbr_decor.specs.Decoration.{decoration_of};
 ghost use Rattle.blockrender.specs.Script.{lines_of};
 ghost use Rattle.blockrender.specs.Progress.{progress_meant};
-ghost use Rattle.blockrender.specs.Meaning.{LinesGive, Opens, Gives};
+ghost use Rattle.blockrender.specs.Meaning.{LinesGive, opened, Opens, Gives};
 ghost use Rattle.blockrender.specs.declared.error.RunError.{RunError as Refusal};
 ghost use Rattle.blockrender.specs.Refusal.{IsOfScript};
 
@@ -16,7 +16,7 @@ use crate::program::Program;
 use crate::script::line::split_line;
 use crate::streams::{Sink, Source, write_all};
 use std::alloc::Global;
-use tbr_decor::{PlainDecorator, TextDecorator};
+use tbr_decor::{PlainDecorator, RichDecorator, TextDecorator, TrivialDecorator};
 use tbr_lines::{CharWidth, UnicodeColumns};
 
 /// Bytes that a read asks for at most.
@@ -90,15 +90,42 @@ fn render<W: CharWidth>(alloc: Global, script: &[u8]) -> Result<String, RunError
     let (opening, number, rest) = first_command(script)?;
     match opening.decorator {
         Decorator::Plain => {
-            let program = Program::<PlainDecorator, W>::new(
+            render_under::<PlainDecorator, W>(alloc, opening, PlainDecorator::new(), number, rest)
+        }
+        Decorator::Trivial => {
+            render_under::<TrivialDecorator, W>(
                 alloc,
-                opening.width,
-                opening.options,
-                PlainDecorator::new(),
-            );
-            render_with(alloc, program, number, rest)
+                opening,
+                TrivialDecorator::new(),
+                number,
+                rest,
+            )
+        }
+        Decorator::Rich => {
+            render_under::<RichDecorator, W>(alloc, opening, RichDecorator::new(), number, rest)
         }
     }
+}
+
+/// The text of a script behind its first command, under the decorator that this names.
+fn render_under<D: TextDecorator, W: CharWidth>(
+    alloc: Global,
+    opening: Opening,
+    decorator: D,
+    number: usize,
+    script: &[u8],
+) -> Result<String, RunError>
+    requires width { 0 < opening.width }
+    requires wrap_width { opening.options.wrap_width ≢ Some 0 }
+    requires number { number + length script.now < 2 ^ 64 }
+    ensures text { IfOk result (λ text. LinesGive W.columns (decoration_of D.TextDecorator)
+        (opened opening decorator) number (lines_of script.now) (Ok (string_bytes text))) }
+    ensures refusal { IfErr result (λ e. e ≢ RunError.OutOfMemory → LinesGive W.columns (decoration_of D.TextDecorator)
+        (opened opening decorator) number (lines_of script.now) (Err e)) }
+    ensures of_script { IfErr result (λ e. e ≢ RunError.OutOfMemory → IsOfScript e) }
+{
+    let program = Program::<D, W>::new(alloc, opening.width, opening.options, decorator);
+    render_with(alloc, program, number, script)
 }
 
 /// The first command of a script, the number of the line behind it, and what follows it.

@@ -217,6 +217,59 @@ const MODES: [(&str, &str); 14] = [
     ("new 1 plain\ntext 漢\nline\nendws", "1: too narrow\n"),
 ];
 
+/// Decorated text, under each decorator.
+const DECORATED: [(&str, &str); 22] = [
+    ("new 20 plain\ntext x\nsuper\ntext 2\nendsuper", "x^{2}\n"),
+    (
+        "new 20 plain\ntext a\nlink u\ntext b\nendlink\ntext  c",
+        "a[b] c\n",
+    ),
+    (
+        "new 20 trivial\ntext a\nlink u\ntext b\nendlink\ntext  c",
+        "ab c\n",
+    ),
+    ("new 20 rich\nlink \ntext b\nendlink", "b\n"),
+    (
+        "new 20 rich\nem\nstrong\ncode\ntext b\nendem\nendcode\nendstrong",
+        "b\n",
+    ),
+    (
+        "new 9 plain\nstrike\ntext a b\nendstrike\ntext c",
+        "a\u{336} \u{336}b\u{336}c\n",
+    ),
+    (
+        "new 9 plain nostrike\nstrike\ntext a\nendstrike\ntext c",
+        "ac\n",
+    ),
+    (
+        "new 9 plain nostrike\nstrike\nendstrike\nendstrike",
+        "2: line 4: nothing to end\n",
+    ),
+    (
+        "new 9 rich\ncolour 0 0 255\nbg 255 0 00\ntext a\nendcolour\nendbg",
+        "a\n",
+    ),
+    ("new 9 plain\ncolour 256 0 0", "2: line 2: not a command\n"),
+    ("new 9 plain\ncolour 1 0  0", "2: line 2: not a command\n"),
+    ("new 9 plain\nbg 1 0", "2: line 2: not a command\n"),
+    ("new 5 plain\nendem", "2: line 2: nothing to end\n"),
+    ("new 5 plain\nem\nendstrong", "2: line 3: nothing to end\n"),
+    (
+        "new 5 plain\ncolour 0 0 0\nendbg",
+        "2: line 3: nothing to end\n",
+    ),
+    ("new 9 plain\nimage s | t", "[t]\n"),
+    ("new 9 trivial\nimage s | t | u", "t | u\n"),
+    ("new 9 plain\nimage s", "2: line 2: not a command\n"),
+    ("new 9 plain\nimage s | \ntext a", "a\n"),
+    ("new 9 plain img=always\nimage s | ", "[]\n"),
+    ("new 9 plain img=filename\nimage d/s | ", "[s]\n"),
+    (
+        "new 9 plain img=always img=ignore noborders\nimage s | ",
+        "",
+    ),
+];
+
 /// Each script tells what stands behind it.
 fn all_tell(
     rt: &impl Abort,
@@ -242,6 +295,11 @@ fn blocks_lines_and_markers_are_called(rt: HostRuntime) -> Result<(), Fail> {
 #[test]
 fn modes_hold_until_they_end(rt: HostRuntime) -> Result<(), Fail> {
     all_tell(&rt, rt.alloc(), &MODES)
+}
+
+#[test]
+fn decorated_text_is_as_the_decorator_shows_it(rt: HostRuntime) -> Result<(), Fail> {
+    all_tell(&rt, rt.alloc(), &DECORATED)
 }
 
 #[test]

@@ -1,7 +1,7 @@
 //! Numbers of a script.
 ghost use Rattle.std.specs.Option.{SomeIff};
 ghost use Rattle.std.specs.Str.Parse.{digits_value};
-ghost use Rattle.blockrender.specs.Script.{IsNumber, NamesCharacter};
+ghost use Rattle.blockrender.specs.Script.{IsNumber, IsByte, NamesCharacter};
 
 /// The value of decimal digits. There is none without a digit, with anything else, and past `usize`.
 pub fn number(digits: &str) -> Option<usize>
@@ -12,6 +12,16 @@ pub fn number(digits: &str) -> Option<usize>
         return None;
     }
     digits.parse::<usize>().ok()
+}
+
+/// The same up to 255.
+pub fn byte(digits: &str) -> Option<u8>
+    ensures { SomeIff result (IsByte digits.now) (digits_value 10 digits.now) }
+{
+    if digits.starts_with('+') {
+        return None;
+    }
+    digits.parse::<u8>().ok()
 }
 
 /// The character that one to six hexadecimal digits name.
