@@ -1,10 +1,10 @@
 -- Lines only come.
 use Rattle.std.proofs.Common.{◌≡◌, ℕ, Option, Some, None, List, [], ◌∷◌, ◌++◌, fold, refl, ap, sym, ◌∙◌, append_assoc, append-nil}
 use Rattle.tbr_model.specs.Run.{Item}
-use Rattle.text_block_renderer.specs.Renderer.{Line, Open, Renderer, with_line}
-use Rattle.text_block_renderer.specs.Flush.{block_lines, FlushesBlock}
+use Rattle.tbr_renderer.specs.Renderer.{Line, Open, Renderer, with_line}
+use Rattle.tbr_renderer.specs.Flush.{block_lines, FlushesBlock}
 use Rattle.tbr_decor.specs.Decoration.{Decoration}
-use Rattle.text_block_renderer.specs.Calls.{Call, Steps}
+use Rattle.tbr_renderer.specs.Calls.{Call, Steps}
 use Rattle.text_block_renderer.proofs.Moves.{Move, flush, empty_line, join, turn, Makes, MakesAll, through, steps_move}
 
 abbrev pub Grows : {D A : Type 0} → Renderer D A (List A) → Renderer D A (List A) → Type 0

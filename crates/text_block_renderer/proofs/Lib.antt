@@ -1,15 +1,3 @@
-pub mod Kept
-pub mod Stages
-pub mod Images
-pub mod Opened
-pub mod Meanings
-pub mod Fields
-pub mod Lines
-pub mod LineTexts
-pub mod Fits
-pub mod Flushing
-pub mod Texts
-pub mod Writing
 pub mod Moves
 pub mod Growing
 pub mod Settings

@@ -7,9 +7,9 @@ use Rattle.tbr_model.specs.Markers.{marker_items}
 use Rattle.tbr_lines.specs.Elements.{text_items}
 use Rattle.tbr_lines.specs.Padding.{spaces}
 use Rattle.tbr_lines.specs.Wrapped.{padding_of}
-use Rattle.text_block_renderer.specs.Renderer.{Line, text, border, Open, Renderer, line_padding, with_line, block_width}
-use Rattle.text_block_renderer.specs.Flush.{block_lines, flushed}
-use Rattle.text_block_renderer.specs.Calls.{text_of_lines}
+use Rattle.tbr_renderer.specs.Renderer.{Line, text, border, Open, Renderer, line_padding, with_line, block_width}
+use Rattle.tbr_renderer.specs.Flush.{block_lines, flushed}
+use Rattle.tbr_renderer.specs.Calls.{text_of_lines}
 use Rattle.text_block_renderer.specs.MarkersStand.{items_so_far}
 
 pub text_of_lines-append : {T : Type 0} (ls ms : List (Line T)) → text_of_lines (ls ++ ms) ≡ text_of_lines ls ++ text_of_lines ms

@@ -5,8 +5,8 @@ use Rattle.tbr_model.specs.Layout.{slots_of, line_text}
 use Rattle.tbr_model.specs.Markers.{marker_items}
 use Rattle.tbr_model.proofs.layouts.Ahead.{unique}
 use Rattle.tbr_lines.specs.State.{IsNormal}
-use Rattle.text_block_renderer.specs.Renderer.{Open, Renderer, block_width, may_overflow, open_run}
-use Rattle.text_block_renderer.specs.Flush.{block_lines, flushed, FlushesBlock, Flushes}
+use Rattle.tbr_renderer.specs.Renderer.{Open, Renderer, block_width, may_overflow, open_run}
+use Rattle.tbr_renderer.specs.Flush.{block_lines, flushed, FlushesBlock, Flushes}
 
 same_names : (A : Type 0) (ms ns : List (List ℕ)) → (let is : List (Item A) = marker_items ms in is) ≡ marker_items ns → ms ≡ ns
 same_names A [] [] e = refl

@@ -16,12 +16,12 @@ use Rattle.tbr_decor.specs.End as end
 use Rattle.tbr_decor.specs.End.{End}
 use Rattle.tbr_decor.specs.Ground.{Ground}
 use Rattle.tbr_decor.specs.Decoration.{Decoration}
-use Rattle.text_block_renderer.specs.Image.{shown_title}
-use Rattle.text_block_renderer.specs.Decorated.{struck_from, struck_until, asked_to_close, annotated, coloured, uncoloured, Opens, OpenIsTooNarrow, Closes, CloseIsTooNarrow, AddsImageBy, ImageIsTooNarrowBy}
-use Rattle.text_block_renderer.specs.Renderer.{Open, Renderer, Settings, settings_of, without_annotation, has_content, with_line, with_entries, without_last, last_mode, struck, text_annotations, entries_of, ignores, least, overflows, may_overflow, open_run}
-use Rattle.text_block_renderer.specs.Flush.{block_lines, Flushes, FlushesBlock, BlockIsTooNarrow, FlushIsTooNarrow}
-use Rattle.text_block_renderer.specs.Steps.{with_empty_line, AddsEmptyLine, block_started, StartsBlock, BlockIsAtLineStart, BreaksLineAt, BreaksLine, JoinsText, AddsText, AddsTextBy, JoinIsTooNarrow, TextIsTooNarrow, TextIsTooNarrowBy}
-use Rattle.text_block_renderer.specs.Calls.{Call, add_empty_line, new_line, new_line_hard, start_block, start_table, end_block, add_inline_text, push_ws, pop_ws, push_preformat, pop_preformat, record_frag_start, begin, finish, start_strikeout, end_strikeout, add_image, push_colour, pop_colour, Does, IsTooNarrow}
+use Rattle.tbr_renderer.specs.Image.{shown_title}
+use Rattle.tbr_renderer.specs.Decorated.{struck_from, struck_until, asked_to_close, annotated, coloured, uncoloured, Opens, OpenIsTooNarrow, Closes, CloseIsTooNarrow, AddsImageBy, ImageIsTooNarrowBy}
+use Rattle.tbr_renderer.specs.Renderer.{Open, Renderer, Settings, settings_of, without_annotation, has_content, with_line, with_entries, without_last, last_mode, struck, text_annotations, entries_of, ignores, least, overflows, may_overflow, open_run}
+use Rattle.tbr_renderer.specs.Flush.{block_lines, Flushes, FlushesBlock, BlockIsTooNarrow, FlushIsTooNarrow}
+use Rattle.tbr_renderer.specs.Steps.{with_empty_line, AddsEmptyLine, block_started, StartsBlock, BlockIsAtLineStart, BreaksLineAt, BreaksLine, JoinsText, AddsText, AddsTextBy, JoinIsTooNarrow, TextIsTooNarrow, TextIsTooNarrowBy}
+use Rattle.tbr_renderer.specs.Calls.{Call, add_empty_line, new_line, new_line_hard, start_block, start_table, end_block, add_inline_text, push_ws, pop_ws, push_preformat, pop_preformat, record_frag_start, begin, finish, start_strikeout, end_strikeout, add_image, push_colour, pop_colour, Does, IsTooNarrow}
 use Rattle.text_block_renderer.specs.Settings.{settled, settled_by_image}
 use Rattle.text_block_renderer.specs.Normal.{WrapsNormally, PushesNormal}
 use Rattle.text_block_renderer.proofs.Once.{flushes_once}

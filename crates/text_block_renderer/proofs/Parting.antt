@@ -5,13 +5,13 @@ use Rattle.tbr_model.specs.Run.{Entry, Item}
 use Rattle.tbr_model.specs.Markers.{marker_items}
 use Rattle.tbr_model.proofs.lists.Each.{each_append}
 use Rattle.tbr_decor.specs.Decoration.{Decoration}
-use Rattle.text_block_renderer.specs.Renderer.{text, Open, Renderer, line_padding, with_line, with_entries, open_run}
-use Rattle.text_block_renderer.specs.Flush.{block_lines, EndsBlock, FlushesBlock}
-use Rattle.text_block_renderer.specs.Steps.{with_empty_line}
-use Rattle.text_block_renderer.specs.Calls.{Call, Brings}
+use Rattle.tbr_renderer.specs.Renderer.{text, Open, Renderer, line_padding, with_line, with_entries, open_run}
+use Rattle.tbr_renderer.specs.Flush.{block_lines, EndsBlock, FlushesBlock}
+use Rattle.tbr_renderer.specs.Steps.{with_empty_line}
+use Rattle.tbr_renderer.specs.Calls.{Call, Brings}
 use Rattle.text_block_renderer.specs.Stretches.{Part, ended, empty, run_of_part, lines_of_part, IsPart, ComesInParts}
 use Rattle.text_block_renderer.proofs.Moves.{Move, flush, empty_line, join, turn, brought_by, brought, Makes, along, calls_move, no_block}
-use Rattle.text_block_renderer.proofs.Writing.{open_run_is}
+use Rattle.tbr_renderer.proofs.Writing.{open_run_is}
 use Rattle.text_block_renderer.proofs.Stretching.{flush_adds}
 
 flat_map_one : {X Y : Type 0} (f : X → List Y) (xs : List X) (x : X) → flat_map f (xs ++ x ∷ []) ≡ flat_map f xs ++ f x

@@ -10,13 +10,13 @@ use Rattle.tbr_lines.specs.Elements.{text_items}
 use Rattle.tbr_lines.specs.Padding.{spaces}
 use Rattle.tbr_lines.specs.Wrapped.{padding_of}
 use Rattle.tbr_lines.proofs.SameItems.{all_zip_append}
-use Rattle.text_block_renderer.specs.Renderer.{Line, Open, Renderer, with_line, open_run, with_entries, block_width}
-use Rattle.text_block_renderer.specs.Flush.{block_lines, FlushesBlock}
-use Rattle.text_block_renderer.specs.Steps.{with_empty_line}
+use Rattle.tbr_renderer.specs.Renderer.{Line, Open, Renderer, with_line, open_run, with_entries, block_width}
+use Rattle.tbr_renderer.specs.Flush.{block_lines, FlushesBlock}
+use Rattle.tbr_renderer.specs.Steps.{with_empty_line}
 use Rattle.tbr_decor.specs.Decoration.{Decoration}
-use Rattle.text_block_renderer.specs.Calls.{Call, Brings, text_of_lines, Shows}
+use Rattle.tbr_renderer.specs.Calls.{Call, Brings, text_of_lines, Shows}
 use Rattle.text_block_renderer.proofs.Moves.{Move, flush, empty_line, join, turn, brought_by, Makes, along, calls_move, no_block}
-use Rattle.text_block_renderer.proofs.Writing.{open_run_is}
+use Rattle.tbr_renderer.proofs.Writing.{open_run_is}
 use Rattle.text_block_renderer.proofs.LookingAtLines.{Looks, seen_line, seen_lines}
 use Rattle.text_block_renderer.specs.MarkersStand.{items_so_far}
 

@@ -17,14 +17,14 @@ use Rattle.tbr_lines.specs.Padding.{spaces}
 use Rattle.tbr_lines.specs.State.{State, IsNormal, AreLastOf, EndsRun}
 use Rattle.tbr_lines.proofs.SameItems.{all_zip_append}
 use Rattle.tbr_decor.specs.Decoration.{Decoration}
-use Rattle.text_block_renderer.specs.Renderer.{Line, Open, Renderer, new_renderer, open_block, open_run, with_entries, block_width, may_overflow}
-use Rattle.text_block_renderer.specs.declared.options.RenderOptions.{RenderOptions}
-use Rattle.text_block_renderer.specs.Flush.{block_of_run, block_lines, flushed, FlushesBlock}
-use Rattle.text_block_renderer.specs.Steps.{with_empty_line}
-use Rattle.text_block_renderer.specs.Calls.{Call, Brings, text_of_lines}
+use Rattle.tbr_renderer.specs.Renderer.{Line, Open, Renderer, new_renderer, open_block, open_run, with_entries, block_width, may_overflow}
+use Rattle.tbr_renderer.specs.declared.options.RenderOptions.{RenderOptions}
+use Rattle.tbr_renderer.specs.Flush.{block_of_run, block_lines, flushed, FlushesBlock}
+use Rattle.tbr_renderer.specs.Steps.{with_empty_line}
+use Rattle.tbr_renderer.specs.Calls.{Call, Brings, text_of_lines}
 use Rattle.text_block_renderer.specs.MarkersStand.{items_so_far, Stands}
 use Rattle.text_block_renderer.proofs.Moves.{Move, flush, empty_line, join, turn, SameText, brought_by, Makes, along, calls_move, no_block}
-use Rattle.text_block_renderer.proofs.Writing.{open_run_is}
+use Rattle.tbr_renderer.proofs.Writing.{open_run_is}
 use Rattle.text_block_renderer.proofs.LookingAtLines.{Looks, seen_line, seen_flushed}
 use Rattle.text_block_renderer.proofs.Showing.{space_unseen}
 

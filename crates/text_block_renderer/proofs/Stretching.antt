@@ -15,10 +15,10 @@ use Rattle.tbr_model.proofs.words.KeptItems.{words_hold}
 use Rattle.tbr_lines.specs.State.{EndsRun}
 use Rattle.tbr_lines.specs.Wrapped.{padding_of, HasBestLines}
 use Rattle.tbr_decor.specs.Decoration.{Decoration}
-use Rattle.text_block_renderer.specs.declared.options.RenderOptions.{RenderOptions}
-use Rattle.text_block_renderer.specs.Renderer.{Line, Open, Renderer, new_block, least, overflows, with_line, with_entries, block_width, may_overflow}
-use Rattle.text_block_renderer.specs.Flush.{block_of_run, block_lines, with_run, EndsBlock, FlushesBlock, Flushes}
-use Rattle.text_block_renderer.specs.Calls.{Call, Steps, Brings}
+use Rattle.tbr_renderer.specs.declared.options.RenderOptions.{RenderOptions}
+use Rattle.tbr_renderer.specs.Renderer.{Line, Open, Renderer, new_block, least, overflows, with_line, with_entries, block_width, may_overflow}
+use Rattle.tbr_renderer.specs.Flush.{block_of_run, block_lines, with_run, EndsBlock, FlushesBlock, Flushes}
+use Rattle.tbr_renderer.specs.Calls.{Call, Steps, Brings}
 use Rattle.text_block_renderer.specs.Stretches.{line_of_text, stretch, items_on, NoneIsAhead, StandsAsStretch, StaysOpen, EndsAsStretch}
 use Rattle.text_block_renderer.proofs.Moves.{Move, flush, empty_line, join, turn, SameText, brought, MakesAll, calls_move}
 use Rattle.text_block_renderer.proofs.Growing.{moves_grow, steps_grow}

@@ -9,10 +9,10 @@ use Rattle.tbr_model.proofs.words.Items.{no_character_no_width, has_character-ap
 use Rattle.tbr_lines.specs.State.{IsNormal}
 use Rattle.tbr_lines.specs.Wrapped.{HasBestLines}
 use Rattle.tbr_decor.specs.Decoration.{Decoration}
-use Rattle.text_block_renderer.specs.Renderer.{Line, text, border, Open, Renderer, with_line, block_width, may_overflow, open_run, line_padding}
-use Rattle.text_block_renderer.specs.Flush.{block_of_run, block_lines, flushed, FlushesBlock, Flushes, EndsBlock}
-use Rattle.text_block_renderer.specs.Steps.{with_empty_line}
-use Rattle.text_block_renderer.specs.Calls.{Call, Steps}
+use Rattle.tbr_renderer.specs.Renderer.{Line, text, border, Open, Renderer, with_line, block_width, may_overflow, open_run, line_padding}
+use Rattle.tbr_renderer.specs.Flush.{block_of_run, block_lines, flushed, FlushesBlock, Flushes, EndsBlock}
+use Rattle.tbr_renderer.specs.Steps.{with_empty_line}
+use Rattle.tbr_renderer.specs.Calls.{Call, Steps}
 use Rattle.text_block_renderer.specs.MarkersStand.{items_so_far, FlushStands, first_text, WaitForText}
 use Rattle.text_block_renderer.proofs.Moves.{Move, flush, empty_line, join, turn, Makes, through, steps_move}
 use Rattle.text_block_renderer.proofs.LookingAtLines.{marker_items-append, seen_flushed}

@@ -6,8 +6,8 @@ use Rattle.tbr_model.specs.Markers.{names_in_items, names_in_run, marker_items, 
 use Rattle.tbr_model.specs.Hard.{is_visible}
 use Rattle.tbr_model.specs.Shown.{without_spaces, is_visible_or_marker, is_entry_to_show, ShowsEntry}
 use Rattle.tbr_lines.specs.State.{IsNormal, AreLastOf}
-use Rattle.text_block_renderer.specs.Renderer.{Line, text, border, Renderer, may_overflow, open_run}
-use Rattle.text_block_renderer.specs.Calls.{text_of_lines}
+use Rattle.tbr_renderer.specs.Renderer.{Line, text, border, Renderer, may_overflow, open_run}
+use Rattle.tbr_renderer.specs.Calls.{text_of_lines}
 
 -- the items of the lines of text, and behind them the markers that wait
 abbrev pub items_so_far : {D A : Type 0} → Renderer D A (List A) → List (Item (List A))

@@ -4,8 +4,8 @@ use Rattle.std.specs.List.{AllByRecursion as Each}
 use Rattle.tbr_model.specs.declared.white_space.WhiteSpace.{WhiteSpace}
 use Rattle.tbr_model.specs.declared.white_space.WhiteSpace.TheVariants.{Normal}
 use Rattle.tbr_lines.specs.State.{IsNormal}
-use Rattle.text_block_renderer.specs.Renderer.{Renderer, may_overflow, open_run}
-use Rattle.text_block_renderer.specs.Calls.{Call, add_empty_line, new_line, new_line_hard, start_block, start_table, end_block, add_inline_text, push_ws, pop_ws, push_preformat, pop_preformat, record_frag_start, begin, finish, start_strikeout, end_strikeout, add_image, push_colour, pop_colour}
+use Rattle.tbr_renderer.specs.Renderer.{Renderer, may_overflow, open_run}
+use Rattle.tbr_renderer.specs.Calls.{Call, add_empty_line, new_line, new_line_hard, start_block, start_table, end_block, add_inline_text, push_ws, pop_ws, push_preformat, pop_preformat, record_frag_start, begin, finish, start_strikeout, end_strikeout, add_image, push_colour, pop_colour}
 
 -- the open run is `Normal`, so is each mode that was pushed, and no line may be wider than the block
 pub record WrapsNormally {D A : Type 0} (r : Renderer D A (List A)) : Type 0 where

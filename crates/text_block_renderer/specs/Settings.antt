@@ -3,10 +3,10 @@ use Rattle.std.specs.Prelude.{ℕ, suc, ◌-◌, Option, None, Some, List, [], �
 use Rattle.tbr_decor.specs.Start as start
 use Rattle.tbr_decor.specs.End as end
 use Rattle.tbr_decor.specs.Decoration.{Decoration}
-use Rattle.text_block_renderer.specs.Renderer.{Renderer, without_last, without_annotation}
-use Rattle.text_block_renderer.specs.Image.{shown_title}
-use Rattle.text_block_renderer.specs.Decorated.{struck_from, struck_until, asked_to_close, annotated, coloured, uncoloured}
-use Rattle.text_block_renderer.specs.Calls.{Call, add_empty_line, new_line, new_line_hard, start_block, start_table, end_block, add_inline_text, push_ws, pop_ws, push_preformat, pop_preformat, record_frag_start, begin, finish, start_strikeout, end_strikeout, add_image, push_colour, pop_colour}
+use Rattle.tbr_renderer.specs.Renderer.{Renderer, without_last, without_annotation}
+use Rattle.tbr_renderer.specs.Image.{shown_title}
+use Rattle.tbr_renderer.specs.Decorated.{struck_from, struck_until, asked_to_close, annotated, coloured, uncoloured}
+use Rattle.tbr_renderer.specs.Calls.{Call, add_empty_line, new_line, new_line_hard, start_block, start_table, end_block, add_inline_text, push_ws, pop_ws, push_preformat, pop_preformat, record_frag_start, begin, finish, start_strikeout, end_strikeout, add_image, push_colour, pop_colour}
 
 module _ {D A : Type 0} (decoration : Decoration D A) where
   abbrev pub settled_by_image : List ℕ → Option (List ℕ) → Renderer D A (List A) → Renderer D A (List A)

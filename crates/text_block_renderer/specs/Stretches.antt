@@ -7,8 +7,8 @@ use Rattle.tbr_model.specs.Markers.{marker_items}
 use Rattle.tbr_model.specs.Shown.{without_spaces}
 use Rattle.tbr_lines.specs.State.{IsNormal, EndsRun}
 use Rattle.tbr_lines.specs.Wrapped.{padding_of}
-use Rattle.text_block_renderer.specs.Renderer.{Line, text, Open, Renderer, line_padding, block_width, may_overflow, open_run}
-use Rattle.text_block_renderer.specs.Flush.{block_of_run, with_run}
+use Rattle.tbr_renderer.specs.Renderer.{Line, text, Open, Renderer, line_padding, block_width, may_overflow, open_run}
+use Rattle.tbr_renderer.specs.Flush.{block_of_run, with_run}
 
 -- a text of a block as a line: behind markers, and padded to the block's width and to the renderer's
 abbrev pub line_of_text : {D A : Type 0} → (ℕ → Option ℕ) → Renderer D A (List A) → Open (List A) → List (List ℕ)

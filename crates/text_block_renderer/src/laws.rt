@@ -1,10 +1,10 @@
 //! What follows from the steps alone, each as the contract of a function that does nothing.
 ghost use Rattle.std.specs.Prelude.{◌≡◌, ℕ, Bool, false, ◌⊎◌, Option, Some, List, [], ◌++◌};
 ghost use Rattle.tbr_lines.specs.State.{IsNormal};
-ghost use Rattle.text_block_renderer.specs.Renderer.{Line, Open, Renderer, new_renderer, settings_of, may_overflow, open_run};
-ghost use Rattle.text_block_renderer.specs.declared.options.RenderOptions.{RenderOptions};
-ghost use Rattle.text_block_renderer.specs.Flush.{Flushes};
-ghost use Rattle.text_block_renderer.specs.Calls.{Call, Does, IsTooNarrow, Steps, Brings, Shows};
+ghost use Rattle.tbr_renderer.specs.Renderer.{Line, Open, Renderer, new_renderer, settings_of, may_overflow, open_run};
+ghost use Rattle.tbr_renderer.specs.declared.options.RenderOptions.{RenderOptions};
+ghost use Rattle.tbr_renderer.specs.Flush.{Flushes};
+ghost use Rattle.tbr_renderer.specs.Calls.{Call, Does, IsTooNarrow, Steps, Brings, Shows};
 ghost use Rattle.text_block_renderer.specs.Normal.{WrapsNormally, PushesNormal};
 ghost use Rattle.text_block_renderer.specs.Settings.{settled};
 ghost use Rattle.text_block_renderer.specs.MarkersStand.{Stands, FlushStands, WaitForText};

@@ -1,11 +1,6 @@
-//! A renderer of blocks of text, one below another.
+//! Renderers of blocks of text, and what holds of every list of calls. It re-exports the crate that has the calls.
 #![tactic(auto)]
 
-pub use options::{ImageRenderMode, RenderOptions};
-pub use renderer::Renderer;
-pub use sub::SubRenderer;
+pub use tbr_renderer::{ImageRenderMode, RenderOptions, Renderer, SubRenderer};
 
 pub mod laws;
-mod options;
-mod renderer;
-mod sub;

@@ -1,0 +1,12 @@
+pub mod Kept
+pub mod Stages
+pub mod Images
+pub mod Opened
+pub mod Meanings
+pub mod Fields
+pub mod Lines
+pub mod LineTexts
+pub mod Fits
+pub mod Flushing
+pub mod Texts
+pub mod Writing

@@ -1,0 +1,140 @@
+-- What lines under lists of annotations mean.
+use Rattle.std.proofs.Common.{◌≡◌, arith, ℕ, ◌-◌, ◌↔◌, suc, length, slice_get, Bool, true, false, not, if◌then◌else◌, IsTrue, Option, None, Some, List, [], ◌∷◌, ◌++◌, map, refl, ap, sym, ◌∙◌}
+use Rattle.std.specs.Global.{Vec}
+use Rattle.std.specs.Vec.{vec_items}
+use Rattle.std.specs.List.{list_any}
+use Rattle.tbr_lines.specs.Border.{Hole, has_holes}
+use Rattle.std.specs.Cmp.Lexicographic.{pointwise}
+use Rattle.std.proofs.lemmas.Bool.{and_parts}
+use Rattle.std.proofs.lemmas.List.{map-append}
+use Rattle.tbr_model.specs.Run.{Item, glyph, marker, items_width}
+use Rattle.tbr_model.specs.Mapped.{map_item, map_items}
+use Rattle.tbr_model.proofs.maps.Words.{items_width-map, has_character-map}
+use Rattle.tbr_lines.specs.Copies.{equal_lists}
+use Rattle.tbr_model.specs.Markers.{marker_items}
+use Rattle.tbr_lines.specs.Elements.{Element, marker_element, items_of, text_items}
+use Rattle.tbr_lines.specs.Padding.{spaces}
+use Rattle.tbr_model.specs.declared.white_space.WhiteSpace.{WhiteSpace}
+use Rattle.tbr_lines.specs.State.{State, empty_block}
+use Rattle.tbr_renderer.specs.Renderer.{Line, text, border, line_has_content, Renderer, has_content, line_padding, with_line, new_block, last_mode}
+use Rattle.tbr_renderer.specs.Steps.{with_empty_line, block_started}
+use Rattle.tbr_renderer.specs.Meant.{tag_meant, items_meant, map_hole, map_line, map_open, meant}
+use Rattle.tbr_renderer.specs.View.{names_of, AreMarkers, open_seen}
+
+-- equal lists of annotations mean the same
+module _ {A M : Type 0} (eq : A → A → Bool) (meaning : A → M) (by_meaning : (a b : A) → IsTrue (eq a b) ↔ (meaning a ≡ meaning b)) where
+  pub lists_mean : (xs ys : List A) → pointwise eq xs ys ≡ true → map meaning xs ≡ map meaning ys
+  lists_mean [] [] h = refl
+  lists_mean [] (y ∷ ys) h = cc
+  lists_mean (x ∷ xs) [] h = cc
+  lists_mean (x ∷ xs) (y ∷ ys) h =
+      let parts = and_parts (eq x y) (pointwise eq xs ys) h in
+      let first : meaning x ≡ meaning y = (by_meaning x y).0 parts.0 in
+      let rest = lists_mean xs ys parts.1 in
+      cc
+
+  pub tags_mean : (v w : Vec A) → equal_lists eq v w ≡ true → tag_meant meaning v ≡ tag_meant meaning w
+  tags_mean v w h = lists_mean (vec_items v) (vec_items w) h
+
+-- ---- padding
+
+pub text_items-map : {A B : Type 0} (f : A → B) (cs : List ℕ) (a : A) → map_items f (text_items cs a) ≡ text_items cs (f a)
+text_items-map f [] a = refl
+text_items-map {A} {B} f (c ∷ cs) a = ap (λ (is : List (Item B)). glyph c (f a) ∷ is) (text_items-map f cs a)
+
+module _ {D A M : Type 0} (f : A → M) (columns : ℕ → Option ℕ) (r : Renderer D A (Vec A)) where
+  -- a line that is filled
+  pub filled : (v : Vec A) (width : ℕ) (is : List (Item (Vec A))) → r.options.pad_block_width ≡ true → vec_items v ≡ r.annotations → width ≡ r.width →
+      items_meant f (is ++ text_items (spaces (width - items_width columns is)) v) ≡ items_meant f is ++ line_padding columns (meant f r) (items_meant f is)
+  filled v width is pads under wide =
+      map-append (map_item (tag_meant f)) is (text_items (spaces (width - items_width columns is)) v)
+      ∙ ap (λ js. items_meant f is ++ js) (text_items-map (tag_meant f) (spaces (width - items_width columns is)) v
+      ∙ ap (λ xs. text_items (spaces (width - items_width columns is)) (map f xs)) under
+      ∙ ap (λ w. text_items (spaces (w - items_width columns is)) (map f r.annotations)) wide
+      ∙ ap (λ n. text_items (spaces (r.width - n)) (map f r.annotations)) (sym (items_width-map (tag_meant f) columns is))
+      ∙ padded)
+    where
+      padded : text_items (spaces (r.width - items_width columns (items_meant f is))) (map f r.annotations) ≡ line_padding columns (meant f r) (items_meant f is)
+      padded = rw pads refl
+
+-- ---- lines behind markers
+
+marker_elements : (T : Type 0) (names : List (List ℕ)) → items_of (map (λ n. let e : Element T = marker_element n in e) names) ≡ marker_items names
+marker_elements T [] = refl
+marker_elements T (name ∷ names) = ap (λ (is : List (Item T)). marker name ∷ is) (marker_elements T names)
+
+marker_items-map : {T U : Type 0} (f : T → U) (names : List (List ℕ)) → map_items f (marker_items names) ≡ marker_items names
+marker_items-map f [] = refl
+marker_items-map {T} {U} f (name ∷ names) = ap (λ (is : List (Item U)). marker name ∷ is) (marker_items-map f names)
+
+module _ {A M : Type 0} (f : A → M) where
+  marked : (es : List (Element (Vec A))) (names : List (List ℕ)) (line : List (Item (Vec A))) → AreMarkers es → names_of es ≡ names →
+      items_meant f (items_of es ++ line) ≡ marker_items names ++ items_meant f line
+  marked es names line are is =
+      map-append (map_item (tag_meant f)) (items_of es) line
+      ∙ ap (λ js. js ++ items_meant f line) (ap (λ xs. items_meant f (items_of xs)) (sym are) ∙ ap (items_meant f) (marker_elements (Vec A) (names_of es)) ∙ marker_items-map (tag_meant f) (names_of es) ∙ ap marker_items is)
+
+module _ {D A M : Type 0} (f : A → M) where
+  -- a renderer with a line more, behind the markers that waited, and filled
+  pub line_added : (columns : ℕ → Option ℕ) (r a b : Renderer D A (Vec A)) (es : List (Element (Vec A))) (whole full line : List (Item (Vec A))) →
+      AreMarkers es → names_of es ≡ r.waiting → a ≡ record r { waiting = [] } → items_meant f whole ≡ items_meant f (items_of es ++ line) →
+      items_meant f full ≡ items_meant f whole ++ line_padding columns (meant f a) (items_meant f whole) → b ≡ record a { lines = a.lines ++ text full ∷ [] } →
+      meant f b ≡ with_line columns (meant f r) (items_meant f line)
+  line_added columns r a b es whole full line are names emptied same fills pushed =
+      let front : items_meant f whole ≡ marker_items r.waiting ++ items_meant f line = same ∙ marked f es r.waiting line are names in
+      let last : items_meant f full ≡ (marker_items r.waiting ++ items_meant f line) ++ line_padding columns (meant f r) (marker_items r.waiting ++ items_meant f line) =
+      fills ∙ ap (λ (q : Renderer D A (Vec A)). items_meant f whole ++ line_padding columns (meant f q) (items_meant f whole)) emptied ∙ ap (λ is. is ++ line_padding columns (meant f r) is) front in
+      ap (meant f) pushed ∙ ap (λ (q : Renderer D A (Vec A)). meant f (record q { lines = q.lines ++ text full ∷ [] })) emptied
+      ∙ ap (λ (ls : List (Line (List M))). record (meant f r) { lines = ls; waiting = [] })
+      (map-append (map_line (tag_meant f)) r.lines (text full ∷ []) ∙ ap (λ (is : List (Item (List M))). map (map_line (tag_meant f)) r.lines ++ text is ∷ []) last)
+
+-- ---- content
+
+module _ {A M : Type 0} (f : A → M) where
+  content-map : (l : Line (Vec A)) → line_has_content (map_line (tag_meant f) l) ≡ line_has_content l
+  content-map (text is) = has_character-map (tag_meant f) (λ c. None) is
+  content-map (border b) = holes b.holes
+    where
+      holes : (hs : List (Hole (Vec A))) → not (has_holes (map (map_hole (tag_meant f)) hs)) ≡ not (has_holes hs)
+      holes [] = refl
+      holes (h ∷ hs) = refl
+
+  any_content-map : (ls : List (Line (Vec A))) → list_any line_has_content (map (map_line (tag_meant f)) ls) ≡ list_any line_has_content ls
+  any_content-map [] = refl
+  any_content-map (l ∷ ls) = let first = content-map l in let rest = any_content-map ls in rw (first, rest) refl
+
+module _ {D A M : Type 0} (f : A → M) (columns : ℕ → Option ℕ) (r : Renderer D A (Vec A)) where
+  abbrev pub Begins : Bool → Renderer D M (List M) → Type 0
+  Begins true s = s ≡ with_empty_line columns (meant f r)
+  Begins false s = s ≡ record (meant f r) { block_ended = false }
+
+  -- a block begins
+  pub block_begun : (b : Bool) (s : Renderer D M (List M)) → b ≡ has_content r → Begins b s → s ≡ block_started columns (meant f r)
+  block_begun true s e h = h ∙ sym (go e)
+    where
+      go : true ≡ has_content r → block_started columns (meant f r) ≡ with_empty_line columns (meant f r)
+      go k = rw (any_content-map f r.lines, ← k) refl
+  block_begun false s e h = h ∙ sym (go e)
+    where
+      go : false ≡ has_content r → block_started columns (meant f r) ≡ record (meant f r) { block_ended = false }
+      go k = rw (any_content-map f r.lines, ← k) refl
+
+-- ---- blocks that are opened
+
+module _ {D A M : Type 0} (f : A → M) (r : Renderer D A (Vec A)) where
+  pub opened_new : (v : Vec A) (pads : Bool) (b : State (Vec A)) (width : ℕ) (overflows : Bool) → pads ≡ r.options.pad_block_width → tag_meant f v ≡ map f r.annotations → b ≡ empty_block width overflows (if pads then Some v else None) →
+      map_open (tag_meant f) (open_seen b) ≡ new_block (meant f r)
+  opened_new v true b width overflows pads under is = ap (λ s. map_open (tag_meant f) (open_seen s)) is ∙ rw (← pads) (ap (λ (xs : List M). record { padding = Some xs; run = [] }) under)
+  opened_new v false b width overflows pads under is = ap (λ s. map_open (tag_meant f) (open_seen s)) is ∙ rw (← pads) refl
+
+-- ---- modes
+
+pub last_mode_is : (modes : List WhiteSpace) (mode : WhiteSpace) → Some mode ≡ slice_get modes (length modes - 1) → mode ≡ last_mode modes
+last_mode_is [] mode e = cc
+last_mode_is (m ∷ []) mode e =
+    let zeroth : length (m ∷ []) - 1 ≡ 0 = omega (arith) in
+    let here : Some mode ≡ Some m = e ∙ ap (slice_get (m ∷ [])) zeroth in
+    cc
+last_mode_is (m ∷ n ∷ modes) mode e =
+    let next : length (m ∷ n ∷ modes) - 1 ≡ suc (length (n ∷ modes) - 1) = omega (arith) in
+    last_mode_is (n ∷ modes) mode (e ∙ ap (slice_get (m ∷ n ∷ modes)) next)

@@ -1,0 +1,23 @@
+-- Decorated text.
+use Rattle.std.proofs.Common.{◌≡◌, ℕ, Bool, Option, List, map, ap, ◌∙◌, subst}
+use Rattle.std.specs.Global.{Vec}
+use Rattle.tbr_decor.specs.Decoration.{Decoration}
+use Rattle.tbr_renderer.specs.declared.options.RenderOptions.{RenderOptions}
+use Rattle.tbr_renderer.specs.Renderer.{Renderer, new_renderer}
+use Rattle.tbr_renderer.specs.Meant.{tag_meant, meant}
+use Rattle.tbr_renderer.specs.Steps.{AddsText}
+use Rattle.tbr_renderer.specs.Decorated.{sub_renderer}
+
+-- the same text, added to the same renderer
+pub text_as : {D A : Type 0} (columns : ℕ → Option ℕ) (preformatted : D → Bool → A) (cs ds : List ℕ) (q r s : Renderer D A (List A)) → q ≡ r → cs ≡ ds → AddsText columns preformatted cs q s → AddsText columns preformatted ds r s
+text_as {D} {A} columns preformatted cs ds q r s e f h = subst (λ (p : Renderer D A (List A)). AddsText columns preformatted ds p s) e (subst (λ (es : List ℕ). AddsText columns preformatted es q s) f h)
+
+-- a renderer for a block inside, from a new one
+pub sub_made : {D A M : Type 0} (f : A → M) (decoration : Decoration D M) (r made sub : Renderer D A (Vec A)) (width : ℕ) (options : RenderOptions) (d : D) (tag : Vec A) →
+    made ≡ new_renderer width options d → meant f sub ≡ record (meant f made) { annotations = tag_meant f tag } → options ≡ r.options → d ≡ decoration.subblock r.decorator → tag_meant f tag ≡ map f r.annotations →
+    meant f sub ≡ sub_renderer decoration width (meant f r)
+sub_made {D} {A} {M} f decoration r made sub width options d tag new is same made_by copied =
+    is ∙ ap (λ (q : Renderer D A (Vec A)). record (meant f q) { annotations = tag_meant f tag }) new
+    ∙ ap (λ xs. record (new_renderer width options d) { annotations = xs }) copied
+    ∙ ap (λ o. record (new_renderer width o d) { annotations = map f r.annotations }) same
+    ∙ ap (λ e. record (new_renderer width r.options e) { annotations = map f r.annotations }) made_by

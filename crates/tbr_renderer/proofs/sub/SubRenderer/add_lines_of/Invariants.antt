@@ -1,0 +1,10 @@
+use Rattle.std.proofs.Common.{length}
+use Rattle.tbr_lines.specs.State.{lines_left}
+use Rattle.tbr_renderer.proofs.Flushing.{HasLines}
+use Rattle.tbr_renderer.proofs.sub.SubRenderer.add_lines_of.Given as goal
+
+abbrev pub invariant-loop-block : goal.invariant-loop-block
+invariant-loop-block g l = HasLines g.D.TextDecorator.meaning g.W.CharWidth.columns l.initial.block l.block l.initial.self l.self
+
+abbrev pub decreases-loop-block : goal.decreases-loop-block
+decreases-loop-block g l = length (lines_left l.block)

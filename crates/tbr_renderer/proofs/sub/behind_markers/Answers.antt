@@ -1,0 +1,20 @@
+use Rattle.std.proofs.Common.{[], map, sym, ◌∙◌}
+use Rattle.std.proofs.lemmas.Bool.{eqb-true}
+use Rattle.std.proofs.lemmas.List.{nil_from_length}
+use Rattle.tbr_lines.specs.Elements.{items_of}
+use Rattle.tbr_lines.specs.View.{element_of}
+use Rattle.tbr_renderer.proofs.Lines.{nothing_in_front, one_more}
+use Rattle.tbr_renderer.proofs.sub.behind_markers.Goals as goal
+
+pub returns-then-is_empty-clause-items : goal.returns-then-is_empty-clause-items
+returns-then-is_empty-clause-items g c = nothing_in_front g.T.PartialEq.eq g.met.T.Eq.laws c.args.markers.items c.args.line (nil_from_length c.args.markers.items (sym c.args.markers.ok.0 ∙ eqb-true _ 0 (sym c.if-is_empty.ensures)))
+
+pub loop-marker-preserved : goal.loop-marker-preserved
+loop-marker-preserved g c =
+    let inv = c.loop-marker.invariant in
+    (one_more g.T.PartialEq.eq g.met.T.Eq.laws c.loop-marker.whole c.push.new.self [] c.loop-marker.yielded c.in-Some.marker inv.0 c.in_ok-push.ensures.items, c.in_ok-push.ensures.merged inv.1)
+
+pub loop-element-preserved : goal.loop-element-preserved
+loop-element-preserved g c =
+    let inv = c.loop-element.invariant in
+    (one_more g.T.PartialEq.eq g.met.T.Eq.laws c.loop-element.whole c.push-in-loop-element.new.self (items_of (map element_of c.args.markers.items)) c.loop-element.yielded c.in-Some-element.element inv.0 c.in_ok-push-2.ensures.items, c.in_ok-push-2.ensures.merged inv.1)

@@ -1,0 +1,10 @@
+use Rattle.std.proofs.Common.{◌++◌, map}
+use Rattle.tbr_lines.specs.Elements.{items_of, SameItems, IsMerged}
+use Rattle.tbr_lines.specs.View.{element_of}
+use Rattle.tbr_renderer.proofs.sub.behind_markers.Given as goal
+
+abbrev pub invariant-loop-marker : goal.invariant-loop-marker
+invariant-loop-marker g l = SameItems g.T.PartialEq.eq (items_of l.whole) (items_of (map element_of l.yielded)) × IsMerged g.T.PartialEq.eq l.whole
+
+abbrev pub invariant-loop-element : goal.invariant-loop-element
+invariant-loop-element g l = SameItems g.T.PartialEq.eq (items_of l.whole) (items_of (map element_of l.fn.markers.items) ++ items_of (map element_of l.yielded)) × IsMerged g.T.PartialEq.eq l.whole

@@ -1,0 +1,13 @@
+use Rattle.std.specs.Global.{Vec}
+use Rattle.tbr_decor.specs.Decoration.{decoration_of}
+use Rattle.tbr_renderer.specs.Meant.{meant}
+use Rattle.tbr_renderer.specs.Renderer.{Renderer}
+use Rattle.tbr_renderer.specs.Decorated.{OpensStrikeout}
+use Rattle.tbr_renderer.proofs.Kept.{kept_ok}
+use Rattle.tbr_renderer.proofs.sub.calls.SubRendererRenderer.start_strikeout.Goals as goal
+
+pub returns-clause-ok : goal.returns-clause-ok
+returns-clause-ok g c =
+    let f = g.D.TextDecorator.meaning in
+    kept_ok (λ (r : Renderer g.row.D.Denot g.row.D-Annotation.Denot (Vec g.row.D-Annotation.Denot)). OpensStrikeout g.W.CharWidth.columns (decoration_of g.D.TextDecorator) (meant f c.args.self.now) (meant f r))
+    c.keep.result c.try_start_strikeout-done.result c.try_start_strikeout-done.new.self c.keep.new.self c.keep.ensures.result c.keep.ensures.ok c.try_start_strikeout-done.ensures.ok

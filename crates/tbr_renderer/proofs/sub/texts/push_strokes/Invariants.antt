@@ -1,0 +1,7 @@
+use Rattle.std.proofs.Common.{◌≡◌, ◌++◌, replicate}
+use Rattle.tbr_lines.specs.View.{chars_of}
+use Rattle.tbr_renderer.specs.Renderer.{stroke}
+use Rattle.tbr_renderer.proofs.sub.texts.push_strokes.Given as goal
+
+abbrev pub invariant-loop : goal.invariant-loop
+invariant-loop l = chars_of l.s ≡ chars_of l.initial.s ++ replicate l.counter stroke

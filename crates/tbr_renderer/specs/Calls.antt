@@ -1,0 +1,190 @@
+-- The calls that change a renderer.
+use Rattle.std.specs.Prelude.{◌≡◌, ℕ, suc, ◌-◌, true, if◌then◌else◌, Option, None, Some, Result, Err, IfErr, List, [], ◌∷◌, ◌++◌, map}
+use Rattle.std.specs.List.{AllZip}
+use Rattle.tbr_model.specs.Hard.{IsShown, visible_glyphs, visible_entries}
+use Rattle.tbr_model.specs.declared.white_space.WhiteSpace.{WhiteSpace}
+use Rattle.tbr_model.specs.Run.{Entry, marker_entry, Item}
+use Rattle.tbr_lines.specs.declared.Error.{Error}
+use Rattle.tbr_decor.specs.declared.colour.Colour.{Colour}
+use Rattle.tbr_decor.specs.Decoration.{Decoration}
+use Rattle.tbr_decor.specs.Start as start
+use Rattle.tbr_decor.specs.End as end
+use Rattle.tbr_decor.specs.Ground.{Ground}
+use Rattle.tbr_renderer.specs.Renderer.{Line, text, border, Renderer, open_run, with_entries, without_last, entries_of, ignores, IsOneOf, settings_of}
+use Rattle.tbr_renderer.specs.Flush.{Flushes, FlushIsTooNarrow}
+use Rattle.tbr_renderer.specs.Steps.{AddsEmptyLine, StartsBlock, BreaksLine, AddsText, TextIsTooNarrow}
+use Rattle.tbr_renderer.specs.Image.{shown_title}
+use Rattle.tbr_renderer.specs.Decorated.{struck_until, asked_to_open, asked_to_close, asked_for_colour, annotated, coloured, uncoloured, Opens, OpenIsTooNarrow, Closes, CloseIsTooNarrow, OpensStrikeout, ClosesStrikeout, AddsImage, ImageIsTooNarrow}
+
+-- A call with its arguments: a text by its characters, a marker by its name, an image by its source and title.
+-- Strikeouts begin and end by calls of their own.
+pub data Call : Type 0 where
+  add_empty_line : Call
+  new_line : Call
+  new_line_hard : Call
+  start_block : Call
+  start_table : Call
+  end_block : Call
+  add_inline_text : List ℕ → Call
+  push_ws : WhiteSpace → Call
+  pop_ws : Call
+  push_preformat : Call
+  pop_preformat : Call
+  record_frag_start : List ℕ → Call
+  begin : start.Start → Call
+  finish : end.End → Call
+  start_strikeout : Call
+  end_strikeout : Call
+  add_image : List ℕ → List ℕ → Call
+  push_colour : Ground → Colour → Call
+  pop_colour : Ground → Call
+
+module _ {D A : Type 0} (columns : ℕ → Option ℕ) (decoration : Decoration D A) where
+  -- what a call that succeeds leaves
+  abbrev pub Does : Call → Renderer D A (List A) → Renderer D A (List A) → Type 0
+  Does add_empty_line r s = AddsEmptyLine columns r s
+  Does new_line r s = Flushes columns r s
+  Does new_line_hard r s = BreaksLine columns r s
+  Does start_block r s = StartsBlock columns r s
+  Does start_table r s = StartsBlock columns r s
+  Does end_block r s = s ≡ record r { block_ended = true }
+  Does (add_inline_text cs) r s = AddsText columns decoration.preformatted cs r s
+  Does (push_ws mode) r s = s ≡ record r { modes = r.modes ++ mode ∷ [] }
+  Does pop_ws r s = s ≡ record r { modes = without_last r.modes }
+  Does push_preformat r s = s ≡ record r { preformatted = suc r.preformatted }
+  Does pop_preformat r s = s ≡ record r { preformatted = r.preformatted - 1 }
+  Does (record_frag_start name) r s = s ≡ with_entries r (marker_entry name ∷ [])
+  Does (begin opened) r s = Opens columns decoration opened r s
+  Does (finish closed) r s = Closes columns decoration closed r s
+  Does start_strikeout r s = OpensStrikeout columns decoration r s
+  Does end_strikeout r s = ClosesStrikeout columns decoration r s
+  Does (add_image source title) r s = AddsImage columns decoration source title r s
+  Does (push_colour g colour) r s = s ≡ coloured decoration g colour r
+  Does (pop_colour g) r s = s ≡ uncoloured decoration g r
+
+  -- where a call answers `TooNarrow`
+  abbrev pub IsTooNarrow : Call → Renderer D A (List A) → Type 0
+  IsTooNarrow add_empty_line r = FlushIsTooNarrow columns r
+  IsTooNarrow new_line r = FlushIsTooNarrow columns r
+  IsTooNarrow new_line_hard r = FlushIsTooNarrow columns r
+  IsTooNarrow start_block r = FlushIsTooNarrow columns r
+  IsTooNarrow start_table r = FlushIsTooNarrow columns r
+  IsTooNarrow end_block r = ⊥
+  IsTooNarrow (add_inline_text cs) r = TextIsTooNarrow columns decoration.preformatted cs r
+  IsTooNarrow (push_ws mode) r = ⊥
+  IsTooNarrow pop_ws r = ⊥
+  IsTooNarrow push_preformat r = ⊥
+  IsTooNarrow pop_preformat r = ⊥
+  IsTooNarrow (record_frag_start name) r = ⊥
+  IsTooNarrow (begin opened) r = OpenIsTooNarrow columns decoration opened r
+  IsTooNarrow (finish closed) r = CloseIsTooNarrow columns decoration closed r
+  IsTooNarrow start_strikeout r = OpenIsTooNarrow columns decoration start.strikeout r
+  IsTooNarrow end_strikeout r = CloseIsTooNarrow columns decoration end.strikeout (struck_until r)
+  IsTooNarrow (add_image source title) r = ImageIsTooNarrow columns decoration source title r
+  IsTooNarrow (push_colour g colour) r = ⊥
+  IsTooNarrow (pop_colour g) r = ⊥
+
+  -- The stages of a call. One that refuses stops at one of them, with what it is but for its text.
+  abbrev pub open_stages : start.Start → Renderer D A (List A) → List (Renderer D A (List A))
+  open_stages opened r = r ∷ asked_to_open decoration opened r ∷ annotated decoration opened r ∷ []
+
+  abbrev pub close_stages : end.End → Renderer D A (List A) → List (Renderer D A (List A))
+  close_stages closed r = r ∷ asked_to_close decoration closed r ∷ []
+
+  abbrev pub image_stages : List ℕ → Option (List ℕ) → Renderer D A (List A) → List (Renderer D A (List A))
+  image_stages source None r = r ∷ []
+  image_stages source (Some title) r = open_stages (start.image source title) r
+
+  abbrev pub stages : Call → Renderer D A (List A) → List (Renderer D A (List A))
+  stages (begin opened) r = open_stages opened r
+  stages (finish closed) r = close_stages closed r
+  stages start_strikeout r = open_stages start.strikeout r
+  stages end_strikeout r = close_stages end.strikeout (struck_until r)
+  stages (add_image source title) r = image_stages source (shown_title r.options.img_mode source title) r
+  stages (push_colour g colour) r = r ∷ asked_for_colour decoration g colour r ∷ []
+  stages add_empty_line r = r ∷ []
+  stages new_line r = r ∷ []
+  stages new_line_hard r = r ∷ []
+  stages start_block r = r ∷ []
+  stages start_table r = r ∷ []
+  stages end_block r = r ∷ []
+  stages (add_inline_text cs) r = r ∷ []
+  stages (push_ws mode) r = r ∷ []
+  stages pop_ws r = r ∷ []
+  stages push_preformat r = r ∷ []
+  stages pop_preformat r = r ∷ []
+  stages (record_frag_start name) r = r ∷ []
+  stages (pop_colour g) r = r ∷ []
+
+  abbrev pub StopsAtStage : Call → Renderer D A (List A) → Renderer D A (List A) → Type 0
+  StopsAtStage call r s = IsOneOf (settings_of s) (map settings_of (stages call r))
+
+  -- what calls leave, one after another
+  abbrev pub Steps : List Call → Renderer D A (List A) → Renderer D A (List A) → Type 0
+  Steps [] r s = s ≡ r
+  Steps (call ∷ calls) r s = (m : Renderer D A (List A)) × Does call r m × Steps calls m s
+
+  -- the entries that a text brings to the open run
+  abbrev pub text_brought : List ℕ → Renderer D A (List A) → List (Entry (List A))
+  text_brought cs r = if ignores r cs then [] else entries_of columns decoration.preformatted r cs
+
+  abbrev pub image_brought : List ℕ → Option (List ℕ) → Renderer D A (List A) → List (Entry (List A))
+  image_brought source None r = []
+  image_brought source (Some title) r =
+      let image = start.image source title in
+      text_brought (decoration.start_text r.decorator image) (annotated decoration image r)
+
+  -- the entries that a call brings to it
+  abbrev pub entries_brought : Call → Renderer D A (List A) → List (Entry (List A))
+  entries_brought (add_inline_text cs) r = text_brought cs r
+  entries_brought (record_frag_start name) r = marker_entry name ∷ []
+  entries_brought (begin opened) r =
+      text_brought (decoration.start_text r.decorator opened) (annotated decoration opened r)
+  entries_brought (finish closed) r =
+      text_brought (decoration.end_text r.decorator closed) (asked_to_close decoration closed r)
+  entries_brought start_strikeout r =
+      text_brought (decoration.start_text r.decorator start.strikeout) (annotated decoration start.strikeout r)
+  entries_brought end_strikeout r =
+      let struck = struck_until r in
+      text_brought (decoration.end_text struck.decorator end.strikeout) (asked_to_close decoration end.strikeout struck)
+  entries_brought (add_image source title) r = image_brought source (shown_title r.options.img_mode source title) r
+  entries_brought (push_colour g colour) r = []
+  entries_brought (pop_colour g) r = []
+  entries_brought add_empty_line r = []
+  entries_brought new_line r = []
+  entries_brought new_line_hard r = []
+  entries_brought start_block r = []
+  entries_brought start_table r = []
+  entries_brought end_block r = []
+  entries_brought (push_ws mode) r = []
+  entries_brought pop_ws r = []
+  entries_brought push_preformat r = []
+  entries_brought pop_preformat r = []
+
+  -- Calls one after another, and the entries that they bring.
+  abbrev pub Brings : List Call → Renderer D A (List A) → List (Entry (List A)) → Renderer D A (List A) → Type 0
+  Brings [] r es s = (s ≡ r) × (es ≡ [])
+  Brings (call ∷ calls) r es s =
+      (m : Renderer D A (List A)) × (rest : List (Entry (List A))) × Does call r m × Brings calls m rest s
+      × (es ≡ entries_brought call r ++ rest)
+
+-- the items of the lines of text
+abbrev pub text_of_lines : {T : Type 0} → List (Line T) → List (Item T)
+text_of_lines [] = []
+text_of_lines (text is ∷ ls) = is ++ text_of_lines ls
+text_of_lines (border b ∷ ls) = text_of_lines ls
+
+-- The lines show the visible characters of the entries, but for those of the open run, once and in order, each under an
+-- annotation of its call.
+pub record Shows {D A : Type 0} (columns : ℕ → Option ℕ) (r : Renderer D A (List A))
+    (es : List (Entry (List A))) : Type 0 where
+  pub ended : List (Entry (List A))
+  pub shown : AllZip (IsShown (λ a b. a ≡ b))
+      (visible_glyphs columns (text_of_lines r.lines)) (visible_entries columns ended)
+  pub whole : visible_entries columns (ended ++ open_run r.block) ≡ visible_entries columns es
+
+-- A call that refuses leaves a renderer failed with what it answers. One that had failed answers its refusal and stays
+-- as it is.
+abbrev pub KeepsFailure : {S R : Type 0} → (S → Option Error) → S → Result R Error → S → Type 0
+KeepsFailure failure old result new =
+    IfErr result (λ e. failure new ≡ Some e) × ((e : Error) → failure old ≡ Some e → (result ≡ Err e) × (new ≡ old))

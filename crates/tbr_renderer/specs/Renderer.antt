@@ -1,0 +1,201 @@
+-- What a contract sees of a renderer, and the small steps by which it changes.
+use Rattle.std.specs.Prelude.{◌≡◌, ◌⊎◌, ℕ, ◌-◌, Bool, true, false, ◌&&◌, nat_lt, nat_le, if◌then◌else◌, Option, None, Some, unwrap_or, not, List, [], ◌∷◌, ◌++◌, flat_map, replicate, length, take}
+use Rattle.std.specs.List.{list_any, list_all}
+use Rattle.std.specs.Char.{is_whitespace}
+use Rattle.tbr_model.specs.declared.white_space.WhiteSpace.{WhiteSpace}
+use Rattle.tbr_model.specs.declared.white_space.WhiteSpace.TheVariants.{Normal}
+use Rattle.tbr_model.specs.WhiteSpace.{preserves}
+use Rattle.tbr_model.specs.Run.{Entry, Item, has_character}
+use Rattle.tbr_model.specs.Markers.{marker_items}
+use Rattle.tbr_lines.specs.Border.{Border, has_holes}
+use Rattle.tbr_lines.specs.State.{text_entries}
+use Rattle.tbr_lines.specs.Wrapped.{padding_of}
+use Rattle.tbr_lines.specs.declared.Error.{Error}
+use Rattle.tbr_renderer.specs.declared.options.RenderOptions.{RenderOptions}
+
+-- A line: a text, or a border.
+pub data Line (T : Type 0) : Type 0 where
+  text : List (Item T) → Line T
+  border : Border T → Line T
+
+-- The open block: what the padding of its lines stands under, where they are padded, and its run.
+pub record Open (T : Type 0) : Type 0 where
+  pub padding : Option T
+  pub run : List (Entry T)
+
+-- A renderer, whose decorator is a `D`. Text stands under a `T`, which holds several annotations `A`.
+pub record Renderer (D A T : Type 0) : Type 0 where
+  pub width : ℕ
+  pub options : RenderOptions
+  pub decorator : D
+  pub lines : List (Line T)
+  pub block : Option (Open T)
+  -- the markers that wait for a line of text
+  pub waiting : List (List ℕ)
+  -- whether text that comes begins a block
+  pub block_ended : Bool
+  pub annotations : List A
+  pub modes : List WhiteSpace
+  -- how many strikeouts and how many preformatted stretches are open
+  pub strikeouts : ℕ
+  pub preformatted : ℕ
+  -- the kept refusal
+  pub failure : Option Error
+
+-- a renderer to which nothing was added
+abbrev pub new_renderer : {D A T : Type 0} → ℕ → RenderOptions → D → Renderer D A T
+new_renderer width options decorator = record {
+  width = width;
+  options = options;
+  decorator = decorator;
+  lines = [];
+  block = None;
+  waiting = [];
+  block_ended = false;
+  annotations = [];
+  modes = [];
+  strikeouts = 0;
+  preformatted = 0;
+  failure = None;
+}
+
+-- ---- what isn't text
+
+-- what a renderer is, but for its text
+pub record Settings (D A : Type 0) : Type 0 where
+  pub width : ℕ
+  pub options : RenderOptions
+  pub decorator : D
+  pub annotations : List A
+  pub modes : List WhiteSpace
+  pub strikeouts : ℕ
+  pub preformatted : ℕ
+
+abbrev pub settings_of : {D A T : Type 0} → Renderer D A T → Settings D A
+settings_of r = record {
+  width = r.width;
+  options = r.options;
+  decorator = r.decorator;
+  annotations = r.annotations;
+  modes = r.modes;
+  strikeouts = r.strikeouts;
+  preformatted = r.preformatted;
+}
+
+abbrev pub KeepsSettings : {D A T : Type 0} → Renderer D A T → Renderer D A T → Type 0
+KeepsSettings r s = settings_of s ≡ settings_of r
+
+abbrev pub IsOneOf : {X : Type 0} → X → List X → Type 0
+IsOneOf x [] = ⊥
+IsOneOf x (y ∷ []) = x ≡ y
+IsOneOf x (y ∷ z ∷ zs) = (x ≡ y) ⊎ IsOneOf x (z ∷ zs)
+
+abbrev pub without_last : {X : Type 0} → List X → List X
+without_last xs = take (length xs - 1) xs
+
+abbrev pub with_annotation : {D A T : Type 0} → Renderer D A T → A → Renderer D A T
+with_annotation r annotation = record r { annotations = r.annotations ++ annotation ∷ [] }
+
+-- the last one is taken, if there is one
+abbrev pub without_annotation : {D A T : Type 0} → Renderer D A T → Renderer D A T
+without_annotation r = record r { annotations = without_last r.annotations }
+
+-- ---- lines
+
+-- a line of text with a character, or a border without holes
+abbrev pub line_has_content : {T : Type 0} → Line T → Bool
+line_has_content (text is) = has_character is
+line_has_content (border b) = not (has_holes b.holes)
+
+abbrev pub has_content : {D A T : Type 0} → Renderer D A T → Bool
+has_content r = list_any line_has_content r.lines
+
+-- what fills a line of text up to the renderer's width, where lines are padded
+abbrev pub line_padding : {D A : Type 0} →
+    (ℕ → Option ℕ) → Renderer D A (List A) → List (Item (List A)) → List (Item (List A))
+line_padding columns r is =
+    padding_of columns (if r.options.pad_block_width then Some r.annotations else None) r.width is
+
+-- a line of text more, behind the markers that wait, and padded
+abbrev pub with_line : {D A : Type 0} →
+    (ℕ → Option ℕ) → Renderer D A (List A) → List (Item (List A)) → Renderer D A (List A)
+with_line columns r is =
+    let marked = marker_items r.waiting ++ is in
+    record r { lines = r.lines ++ text (marked ++ line_padding columns r marked) ∷ []; waiting = [] }
+
+-- ---- the open block
+
+-- the lesser of the renderer's width and the wrap width
+abbrev pub least : ℕ → Option ℕ → ℕ
+least width None = width
+least width (Some wrap) = if nat_le width wrap then width else wrap
+
+abbrev pub block_width : {D A T : Type 0} → Renderer D A T → ℕ
+block_width r = least r.width r.options.wrap_width
+
+-- whether a line of the block may be wider
+abbrev pub overflows : RenderOptions → ℕ → Bool
+overflows options columns = options.allow_width_overflow && nat_lt columns 2
+
+abbrev pub may_overflow : {D A T : Type 0} → Renderer D A T → Bool
+may_overflow r = overflows r.options (block_width r)
+
+-- a block as it is opened: it pads under the annotations of that moment
+abbrev pub new_block : {D A : Type 0} → Renderer D A (List A) → Open (List A)
+new_block r = record { padding = (if r.options.pad_block_width then Some r.annotations else None); run = [] }
+
+-- the open block, or a new one
+abbrev pub open_block : {D A : Type 0} → Renderer D A (List A) → Open (List A)
+open_block r = unwrap_or r.block (new_block r)
+
+-- the open run, which is empty where no block is open
+abbrev pub open_run : {T : Type 0} → Option (Open T) → List (Entry T)
+open_run None = []
+open_run (Some b) = b.run
+
+-- entries join the run of the open block
+abbrev pub with_entries : {D A : Type 0} → Renderer D A (List A) → List (Entry (List A)) → Renderer D A (List A)
+with_entries r es = let b = open_block r in record r { block = Some (record b { run = b.run ++ es }) }
+
+-- ---- text
+
+-- the mode that was pushed last
+abbrev pub last_mode : List WhiteSpace → WhiteSpace
+last_mode [] = Normal
+last_mode (mode ∷ []) = mode
+last_mode (mode ∷ next ∷ modes) = last_mode (next ∷ modes)
+
+-- U+0336, which strikes the character before it
+abbrev pub stroke : ℕ
+stroke = 822
+
+-- a character with so many strokes behind it, if it takes columns
+abbrev pub struck_character : (ℕ → Option ℕ) → ℕ → ℕ → List ℕ
+struck_character columns depth c =
+    c ∷ (if nat_lt 0 (unwrap_or (columns c) 0) then replicate depth stroke else [])
+
+abbrev pub struck : (ℕ → Option ℕ) → ℕ → List ℕ → List ℕ
+struck columns depth cs = flat_map (struck_character columns depth) cs
+
+-- the annotations of a text, and those that it has where its hard line goes on, inside a preformatted stretch
+abbrev pub text_annotations : {D A : Type 0} → (D → Bool → A) → Bool → Renderer D A (List A) → List A
+text_annotations preformatted continued r =
+    if nat_lt 0 r.preformatted then r.annotations ++ preformatted r.decorator continued ∷ [] else r.annotations
+
+-- the entries of a text under these
+abbrev pub entries_under : {D A : Type 0} → (D → Bool → A) → Renderer D A (List A) → List ℕ → List (Entry (List A))
+entries_under preformatted r cs =
+    text_entries cs (text_annotations preformatted false r) (text_annotations preformatted true r) (last_mode r.modes)
+
+-- the entries that a text brings, with strokes inside strikeouts
+abbrev pub entries_of : {D A : Type 0} →
+    (ℕ → Option ℕ) → (D → Bool → A) → Renderer D A (List A) → List ℕ → List (Entry (List A))
+entries_of columns preformatted r cs = entries_under preformatted r (struck columns r.strikeouts cs)
+
+-- white space alone
+abbrev pub is_white : List ℕ → Bool
+is_white cs = list_all is_whitespace cs
+
+-- behind the end of a block white space is ignored in `Normal`
+abbrev pub ignores : {D A T : Type 0} → Renderer D A T → List ℕ → Bool
+ignores r cs = r.block_ended && (not (preserves (last_mode r.modes)) && is_white cs)

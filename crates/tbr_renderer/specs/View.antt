@@ -1,0 +1,113 @@
+-- What the fields of a renderer mean.
+use Rattle.std.specs.Prelude.{◌≡◌, ◌<◌, ℕ, Bool, false, ⊤, Option, Some, None, List, [], ◌∷◌, ◌++◌, map, chars}
+use Rattle.std.specs.Option.{option_map}
+use Rattle.std.specs.List.{AllByRecursion as Each, list_any}
+use Rattle.std.specs.Global.{Vec}
+use Rattle.tbr_lines.specs.Copies.{equal_lists}
+use Rattle.tbr_lines.specs.View.{element_of}
+use Rattle.tbr_renderer.specs.Meant.{tag_meant, map_open}
+use Rattle.tbr_renderer.specs.declared.sub.SubRenderer.TheInside.{Inside}
+use Rattle.tbr_lines.specs.Elements.{Element, piece, marker_element, items_of}
+use Rattle.tbr_lines.specs.State.{State}
+use Rattle.tbr_decor.specs.Start as start
+use Rattle.tbr_decor.specs.End as end
+use Rattle.tbr_decor.specs.Ground as ground
+use Rattle.tbr_renderer.specs.declared.sub.colours.Ground.{Ground as Coloured}
+use Rattle.tbr_renderer.specs.declared.sub.colours.Ground.TheVariants as coloured
+use Rattle.tbr_renderer.specs.declared.sub.decorated.End.{End as Closed}
+use Rattle.tbr_renderer.specs.declared.sub.decorated.End.TheVariants as closed
+use Rattle.tbr_renderer.specs.declared.sub.decorated.Start.{Start as Opened}
+use Rattle.tbr_renderer.specs.declared.sub.decorated.Start.TheVariants as opened
+use Rattle.tbr_lines.specs.declared.RenderLine.{RenderLine}
+use Rattle.tbr_lines.specs.declared.RenderLine.TheVariants.{Text, Line as Rule}
+use Rattle.tbr_lines.specs.RenderLine.{IsMergedText}
+use Rattle.tbr_renderer.specs.Renderer.{Line, text, border, line_has_content, Open, Renderer, least, overflows}
+
+abbrev pub line_seen : {T : Type 0} → RenderLine T → Line T
+line_seen (Text es) = text (items_of es)
+line_seen (Rule b) = border b
+
+abbrev pub open_seen : {T : Type 0} → State T → Open T
+open_seen b = record { padding = b.padding; run = b.run }
+
+abbrev pub block_seen : {T : Type 0} → Option (State T) → Option (Open T)
+block_seen block = option_map open_seen block
+
+-- a block by what its tags mean
+abbrev pub block_meant : {A M : Type 0} → (A → M) → State (Vec A) → Open (List M)
+block_meant meaning b = map_open (tag_meant meaning) (open_seen b)
+
+-- the names of markers
+abbrev pub names_of : {T : Type 0} → List (Element T) → List (List ℕ)
+names_of [] = []
+names_of (piece cs a ∷ es) = names_of es
+names_of (marker_element name ∷ es) = name ∷ names_of es
+
+abbrev pub AreMarkers : {T : Type 0} → List (Element T) → Type 0
+AreMarkers es = map marker_element (names_of es) ≡ es
+
+-- a block of which no line was handed out, and that has had no run before
+pub record IsFresh {T : Type 0} (width : ℕ) (overflows : Bool) (b : State T) : Type 0 where
+  pub width_is : b.width ≡ width
+  pub may_overflow : b.may_overflow ≡ overflows
+  pub begun : b.begun ≡ false
+  pub ended : b.ended ≡ []
+  pub handed : b.handed ≡ 0
+  pub unfailed : b.failure ≡ None
+
+abbrev pub IsOpened : {T : Type 0} → ℕ → Bool → Option (State T) → Type 0
+IsOpened width overflows None = ⊤
+IsOpened width overflows (Some b) = IsFresh width overflows b
+
+-- what a contract sees of the fields
+abbrev pub renderer_of : {D W A : Type 0} → Inside D W A → Renderer D A (Vec A)
+renderer_of r = record {
+  width = r.width;
+  options = r.options;
+  decorator = r.decorator;
+  lines = map line_seen r.lines;
+  block = block_seen r.wrapping;
+  waiting = names_of (map element_of r.waiting.items);
+  block_ended = r.block_ended;
+  annotations = r.annotations.items;
+  modes = r.modes.items;
+  strikeouts = r.strikeouts;
+  preformatted = r.preformatted;
+  failure = r.failure;
+}
+
+-- What the fields of a renderer that hasn't failed hold: a fresh block, if any, markers that wait, and lines whose
+-- pieces are the longest stretches under equal annotations.
+pub record HoldsFresh {D W A : Type 0} (eq : A → A → Bool) (r : Inside D W A) : Type 0 where
+  pub opened : IsOpened (least r.width r.options.wrap_width)
+      (overflows r.options (least r.width r.options.wrap_width)) r.wrapping
+  pub markers : AreMarkers (map element_of r.waiting.items)
+  pub merged : Each (IsMergedText (equal_lists eq)) r.lines
+  pub content : r.has_content ≡ list_any line_has_content (map line_seen r.lines)
+
+-- and what those of any renderer do
+pub record HoldsRenderer {D W A : Type 0} (eq : A → A → Bool) (r : Inside D W A) : Type 0 where
+  pub columns : 0 < least r.width r.options.wrap_width
+  pub fresh : r.failure ≡ None → HoldsFresh eq r
+
+-- what is opened or closed
+abbrev pub start_of : Opened → start.Start
+start_of (opened.Link target) = start.link (chars target.now)
+start_of opened.Emphasis = start.emphasis
+start_of opened.Strong = start.strong
+start_of opened.Strikeout = start.strikeout
+start_of opened.Code = start.code
+start_of opened.Superscript = start.superscript
+start_of (opened.Image source title) = start.image (chars source.now) (chars title.now)
+
+abbrev pub end_of : Closed → end.End
+end_of closed.Link = end.link
+end_of closed.Emphasis = end.emphasis
+end_of closed.Strong = end.strong
+end_of closed.Strikeout = end.strikeout
+end_of closed.Code = end.code
+end_of closed.Superscript = end.superscript
+
+abbrev pub ground_of : Coloured → ground.Ground
+ground_of coloured.Text = ground.text
+ground_of coloured.Background = ground.background

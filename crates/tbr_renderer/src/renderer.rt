@@ -1,0 +1,373 @@
+//! The calls of a renderer.
+ghost use Rattle.std.specs.Prelude.{◌≡◌, ◌≢◌, ◌≤◌, ◌<◌, ℕ, Bool, true, List, Option, None, Some, Err, OnOk, OnErr, IfOk, IfErr, chars};
+ghost use Rattle.tbr_lines.specs.View.{chars_of};
+ghost use Rattle.tbr_decor.specs.Start as start;
+ghost use Rattle.tbr_decor.specs.End as end;
+ghost use Rattle.tbr_decor.specs.Prefix as prefix;
+ghost use Rattle.tbr_decor.specs.Ground as ground;
+ghost use Rattle.tbr_renderer.specs.Calls as call;
+ghost use Rattle.tbr_renderer.specs.Calls.{Call, KeepsFailure};
+ghost use Rattle.tbr_lines.specs.declared.Error.{Error as Refusal};
+ghost use Rattle.tbr_lines.specs.declared.Error.TheVariants as E;
+
+use tbr_decor::Colour;
+use tbr_lines::{Error, WhiteSpace};
+
+/// What writes blocks of text, one below another.
+///
+/// A call that refuses leaves the renderer failed. It keeps that refusal, which each later call that can refuse
+/// answers, doing nothing else; a call that can't refuse does nothing then.
+pub trait Renderer {
+    // What a call that succeeds leaves, and where it answers `TooNarrow`.
+    ghost does: { Call → Self → Self → Type 0 };
+
+    ghost is_too_narrow: { Call → Self → Type 0 };
+
+    // At which stages a call that refuses stops.
+    ghost stops_at_stage: { Call → Self → Self → Type 0 };
+
+    // The kept refusal, the columns of the renderer, and those of its blocks.
+    ghost kept_refusal: { Self → Option Refusal };
+
+    ghost columns_of: { Self → ℕ };
+
+    ghost block_columns: { Self → ℕ };
+
+    // How many preformatted stretches and strikeouts are open, and whether struck out text has strokes.
+    ghost open_preformats: { Self → ℕ };
+
+    ghost open_strikeouts: { Self → ℕ };
+
+    ghost strikes: { Self → Bool };
+
+    // The text of a prefix, and a renderer for a block inside.
+    ghost prefix_text: { Self → prefix.Prefix → List ℕ };
+
+    ghost is_sub_renderer: { Self → ℕ → Self → Type 0 };
+
+    // Whether it has neither a line nor text in its open block.
+    ghost tells_empty: { Self → Bool → Type 0 };
+
+    /// Ends the open line, and adds an empty one.
+    fn add_empty_line(&mut self) -> Result<(), Error>
+        ensures ok { OnOk result (does call.add_empty_line self.old self.new) }
+        ensures too_narrow { kept_refusal self.old ≡ None → result ≡ Err E.TooNarrow →
+            is_too_narrow call.add_empty_line self.old }
+        ensures two_columns { kept_refusal self.old ≡ None → 2 ≤ block_columns self.old →
+            result ≢ Err E.TooNarrow }
+        ensures left { kept_refusal self.old ≡ None →
+            OnErr result (stops_at_stage call.add_empty_line self.old self.new) }
+        ensures kept { KeepsFailure kept_refusal self.old result self.new };
+
+    /// Ends the open line, if there is one.
+    fn new_line(&mut self) -> Result<(), Error>
+        ensures ok { OnOk result (does call.new_line self.old self.new) }
+        ensures too_narrow { kept_refusal self.old ≡ None → result ≡ Err E.TooNarrow →
+            is_too_narrow call.new_line self.old }
+        ensures two_columns { kept_refusal self.old ≡ None → 2 ≤ block_columns self.old →
+            result ≢ Err E.TooNarrow }
+        ensures left { kept_refusal self.old ≡ None →
+            OnErr result (stops_at_stage call.new_line self.old self.new) }
+        ensures kept { KeepsFailure kept_refusal self.old result self.new };
+
+    /// Ends the open line, and adds an empty line where that has no columns.
+    fn new_line_hard(&mut self) -> Result<(), Error>
+        ensures ok { OnOk result (does call.new_line_hard self.old self.new) }
+        ensures too_narrow { kept_refusal self.old ≡ None → result ≡ Err E.TooNarrow →
+            is_too_narrow call.new_line_hard self.old }
+        ensures two_columns { kept_refusal self.old ≡ None → 2 ≤ block_columns self.old →
+            result ≢ Err E.TooNarrow }
+        ensures left { kept_refusal self.old ≡ None →
+            OnErr result (stops_at_stage call.new_line_hard self.old self.new) }
+        ensures kept { KeepsFailure kept_refusal self.old result self.new };
+
+    /// Begins a block: ends the open line, and adds an empty line below lines that have content.
+    fn start_block(&mut self) -> Result<(), Error>
+        ensures ok { OnOk result (does call.start_block self.old self.new) }
+        ensures too_narrow { kept_refusal self.old ≡ None → result ≡ Err E.TooNarrow →
+            is_too_narrow call.start_block self.old }
+        ensures two_columns { kept_refusal self.old ≡ None → 2 ≤ block_columns self.old →
+            result ≢ Err E.TooNarrow }
+        ensures left { kept_refusal self.old ≡ None →
+            OnErr result (stops_at_stage call.start_block self.old self.new) }
+        ensures kept { KeepsFailure kept_refusal self.old result self.new };
+
+    /// Begins a table, as a block is begun.
+    fn start_table(&mut self) -> Result<(), Error>
+        ensures ok { OnOk result (does call.start_table self.old self.new) }
+        ensures too_narrow { kept_refusal self.old ≡ None → result ≡ Err E.TooNarrow →
+            is_too_narrow call.start_table self.old }
+        ensures two_columns { kept_refusal self.old ≡ None → 2 ≤ block_columns self.old →
+            result ≢ Err E.TooNarrow }
+        ensures left { kept_refusal self.old ≡ None →
+            OnErr result (stops_at_stage call.start_table self.old self.new) }
+        ensures kept { KeepsFailure kept_refusal self.old result self.new };
+
+    /// Ends a block: text that comes begins a new one, but for white space in `Normal`, which is ignored. It takes no
+    /// memory.
+    fn end_block(&mut self)
+        ensures live { kept_refusal self.old ≡ None → does call.end_block self.old self.new }
+        ensures failed { (e : Refusal) → kept_refusal self.old ≡ Some e → self.new ≡ self.old };
+
+    /// Adds text to the open block, or to a new one, in the mode that was pushed last and under the annotations.
+    fn add_inline_text(&mut self, text: &str) -> Result<(), Error>
+        ensures ok { OnOk result (does (call.add_inline_text (chars text.now)) self.old self.new) }
+        ensures too_narrow { kept_refusal self.old ≡ None → result ≡ Err E.TooNarrow →
+            is_too_narrow (call.add_inline_text (chars text.now)) self.old }
+        ensures two_columns { kept_refusal self.old ≡ None → 2 ≤ block_columns self.old →
+            result ≢ Err E.TooNarrow }
+        ensures left { kept_refusal self.old ≡ None →
+            OnErr result (stops_at_stage (call.add_inline_text (chars text.now)) self.old self.new) }
+        ensures kept { KeepsFailure kept_refusal self.old result self.new };
+
+    /// Pushes a mode of white space. It refuses only for want of memory.
+    fn push_ws(&mut self, ws: WhiteSpace) -> Result<(), Error>
+        ensures ok { OnOk result (does (call.push_ws ws) self.old self.new) }
+        ensures memory { kept_refusal self.old ≡ None → result ≢ Err E.TooNarrow }
+        ensures left { kept_refusal self.old ≡ None →
+            OnErr result (stops_at_stage (call.push_ws ws) self.old self.new) }
+        ensures kept { KeepsFailure kept_refusal self.old result self.new };
+
+    /// Takes the mode that was pushed last, if there is one. It takes no memory.
+    fn pop_ws(&mut self)
+        ensures live { kept_refusal self.old ≡ None → does call.pop_ws self.old self.new }
+        ensures failed { (e : Refusal) → kept_refusal self.old ≡ Some e → self.new ≡ self.old };
+
+    /// Begins a preformatted stretch. It refuses only where the depth passes `usize`.
+    fn push_preformat(&mut self) -> Result<(), Error>
+        ensures ok { OnOk result (does call.push_preformat self.old self.new) }
+        ensures memory { kept_refusal self.old ≡ None → result ≢ Err E.TooNarrow }
+        ensures left { kept_refusal self.old ≡ None →
+            OnErr result (stops_at_stage call.push_preformat self.old self.new) }
+        ensures kept { KeepsFailure kept_refusal self.old result self.new };
+
+    /// Ends a preformatted stretch. It takes no memory.
+    fn pop_preformat(&mut self)
+        requires { 0 < open_preformats self.old }
+        ensures live { kept_refusal self.old ≡ None → does call.pop_preformat self.old self.new }
+        ensures failed { (e : Refusal) → kept_refusal self.old ≡ Some e → self.new ≡ self.old };
+
+    /// Puts a marker where the text stands. It opens a block if there is none, and refuses only for want of memory.
+    fn record_frag_start(&mut self, name: &str) -> Result<(), Error>
+        ensures ok { OnOk result (does (call.record_frag_start name.now) self.old self.new) }
+        ensures memory { kept_refusal self.old ≡ None → result ≢ Err E.TooNarrow }
+        ensures left { kept_refusal self.old ≡ None →
+            OnErr result (stops_at_stage (call.record_frag_start name.now) self.old self.new) }
+        ensures kept { KeepsFailure kept_refusal self.old result self.new };
+
+    /// Begins a link: its annotation joins the others, and the decorator's text is added under it.
+    fn start_link(&mut self, target: &str) -> Result<(), Error>
+        ensures ok { OnOk result (does (call.begin (start.link (chars target.now))) self.old self.new) }
+        ensures too_narrow { kept_refusal self.old ≡ None → result ≡ Err E.TooNarrow →
+            is_too_narrow (call.begin (start.link (chars target.now))) self.old }
+        ensures two_columns { kept_refusal self.old ≡ None → 2 ≤ block_columns self.old →
+            result ≢ Err E.TooNarrow }
+        ensures left { kept_refusal self.old ≡ None →
+            OnErr result (stops_at_stage (call.begin (start.link (chars target.now))) self.old self.new) }
+        ensures kept { KeepsFailure kept_refusal self.old result self.new };
+
+    /// Ends a link: the decorator's text is added, and then the last annotation is taken, if there is one.
+    fn end_link(&mut self) -> Result<(), Error>
+        ensures ok { OnOk result (does (call.finish end.link) self.old self.new) }
+        ensures too_narrow { kept_refusal self.old ≡ None → result ≡ Err E.TooNarrow →
+            is_too_narrow (call.finish end.link) self.old }
+        ensures two_columns { kept_refusal self.old ≡ None → 2 ≤ block_columns self.old →
+            result ≢ Err E.TooNarrow }
+        ensures left { kept_refusal self.old ≡ None →
+            OnErr result (stops_at_stage (call.finish end.link) self.old self.new) }
+        ensures kept { KeepsFailure kept_refusal self.old result self.new };
+
+    /// Begins emphasised text, as a link is begun.
+    fn start_emphasis(&mut self) -> Result<(), Error>
+        ensures ok { OnOk result (does (call.begin start.emphasis) self.old self.new) }
+        ensures too_narrow { kept_refusal self.old ≡ None → result ≡ Err E.TooNarrow →
+            is_too_narrow (call.begin start.emphasis) self.old }
+        ensures two_columns { kept_refusal self.old ≡ None → 2 ≤ block_columns self.old →
+            result ≢ Err E.TooNarrow }
+        ensures left { kept_refusal self.old ≡ None →
+            OnErr result (stops_at_stage (call.begin start.emphasis) self.old self.new) }
+        ensures kept { KeepsFailure kept_refusal self.old result self.new };
+
+    /// Ends emphasised text, as a link is ended.
+    fn end_emphasis(&mut self) -> Result<(), Error>
+        ensures ok { OnOk result (does (call.finish end.emphasis) self.old self.new) }
+        ensures too_narrow { kept_refusal self.old ≡ None → result ≡ Err E.TooNarrow →
+            is_too_narrow (call.finish end.emphasis) self.old }
+        ensures two_columns { kept_refusal self.old ≡ None → 2 ≤ block_columns self.old →
+            result ≢ Err E.TooNarrow }
+        ensures left { kept_refusal self.old ≡ None →
+            OnErr result (stops_at_stage (call.finish end.emphasis) self.old self.new) }
+        ensures kept { KeepsFailure kept_refusal self.old result self.new };
+
+    /// Begins strong text, as a link is begun.
+    fn start_strong(&mut self) -> Result<(), Error>
+        ensures ok { OnOk result (does (call.begin start.strong) self.old self.new) }
+        ensures too_narrow { kept_refusal self.old ≡ None → result ≡ Err E.TooNarrow →
+            is_too_narrow (call.begin start.strong) self.old }
+        ensures two_columns { kept_refusal self.old ≡ None → 2 ≤ block_columns self.old →
+            result ≢ Err E.TooNarrow }
+        ensures left { kept_refusal self.old ≡ None →
+            OnErr result (stops_at_stage (call.begin start.strong) self.old self.new) }
+        ensures kept { KeepsFailure kept_refusal self.old result self.new };
+
+    /// Ends strong text, as a link is ended.
+    fn end_strong(&mut self) -> Result<(), Error>
+        ensures ok { OnOk result (does (call.finish end.strong) self.old self.new) }
+        ensures too_narrow { kept_refusal self.old ≡ None → result ≡ Err E.TooNarrow →
+            is_too_narrow (call.finish end.strong) self.old }
+        ensures two_columns { kept_refusal self.old ≡ None → 2 ≤ block_columns self.old →
+            result ≢ Err E.TooNarrow }
+        ensures left { kept_refusal self.old ≡ None →
+            OnErr result (stops_at_stage (call.finish end.strong) self.old self.new) }
+        ensures kept { KeepsFailure kept_refusal self.old result self.new };
+
+    /// Begins code, as a link is begun.
+    fn start_code(&mut self) -> Result<(), Error>
+        ensures ok { OnOk result (does (call.begin start.code) self.old self.new) }
+        ensures too_narrow { kept_refusal self.old ≡ None → result ≡ Err E.TooNarrow →
+            is_too_narrow (call.begin start.code) self.old }
+        ensures two_columns { kept_refusal self.old ≡ None → 2 ≤ block_columns self.old →
+            result ≢ Err E.TooNarrow }
+        ensures left { kept_refusal self.old ≡ None →
+            OnErr result (stops_at_stage (call.begin start.code) self.old self.new) }
+        ensures kept { KeepsFailure kept_refusal self.old result self.new };
+
+    /// Ends code, as a link is ended.
+    fn end_code(&mut self) -> Result<(), Error>
+        ensures ok { OnOk result (does (call.finish end.code) self.old self.new) }
+        ensures too_narrow { kept_refusal self.old ≡ None → result ≡ Err E.TooNarrow →
+            is_too_narrow (call.finish end.code) self.old }
+        ensures two_columns { kept_refusal self.old ≡ None → 2 ≤ block_columns self.old →
+            result ≢ Err E.TooNarrow }
+        ensures left { kept_refusal self.old ≡ None →
+            OnErr result (stops_at_stage (call.finish end.code) self.old self.new) }
+        ensures kept { KeepsFailure kept_refusal self.old result self.new };
+
+    /// Begins a superscript, as a link is begun.
+    fn start_superscript(&mut self) -> Result<(), Error>
+        ensures ok { OnOk result (does (call.begin start.superscript) self.old self.new) }
+        ensures too_narrow { kept_refusal self.old ≡ None → result ≡ Err E.TooNarrow →
+            is_too_narrow (call.begin start.superscript) self.old }
+        ensures two_columns { kept_refusal self.old ≡ None → 2 ≤ block_columns self.old →
+            result ≢ Err E.TooNarrow }
+        ensures left { kept_refusal self.old ≡ None →
+            OnErr result (stops_at_stage (call.begin start.superscript) self.old self.new) }
+        ensures kept { KeepsFailure kept_refusal self.old result self.new };
+
+    /// Ends a superscript, as a link is ended.
+    fn end_superscript(&mut self) -> Result<(), Error>
+        ensures ok { OnOk result (does (call.finish end.superscript) self.old self.new) }
+        ensures too_narrow { kept_refusal self.old ≡ None → result ≡ Err E.TooNarrow →
+            is_too_narrow (call.finish end.superscript) self.old }
+        ensures two_columns { kept_refusal self.old ≡ None → 2 ≤ block_columns self.old →
+            result ≢ Err E.TooNarrow }
+        ensures left { kept_refusal self.old ≡ None →
+            OnErr result (stops_at_stage (call.finish end.superscript) self.old self.new) }
+        ensures kept { KeepsFailure kept_refusal self.old result self.new };
+
+    /// Begins a strikeout, as a link is begun. Text behind the decorator's has a stroke more, if struck out text has
+    /// any. A depth that passes `usize` is refused by `OutOfMemory`.
+    fn start_strikeout(&mut self) -> Result<(), Error>
+        ensures ok { OnOk result (does call.start_strikeout self.old self.new) }
+        ensures too_narrow { kept_refusal self.old ≡ None → result ≡ Err E.TooNarrow →
+            is_too_narrow call.start_strikeout self.old }
+        ensures two_columns { kept_refusal self.old ≡ None → 2 ≤ block_columns self.old →
+            result ≢ Err E.TooNarrow }
+        ensures left { kept_refusal self.old ≡ None →
+            OnErr result (stops_at_stage call.start_strikeout self.old self.new) }
+        ensures kept { KeepsFailure kept_refusal self.old result self.new };
+
+    /// Ends a strikeout, as a link is ended. The decorator's text has a stroke less already, if struck out text has
+    /// any.
+    fn end_strikeout(&mut self) -> Result<(), Error>
+        requires { strikes self.old ≡ true → 0 < open_strikeouts self.old }
+        ensures ok { OnOk result (does call.end_strikeout self.old self.new) }
+        ensures too_narrow { kept_refusal self.old ≡ None → result ≡ Err E.TooNarrow →
+            is_too_narrow call.end_strikeout self.old }
+        ensures two_columns { kept_refusal self.old ≡ None → 2 ≤ block_columns self.old →
+            result ≢ Err E.TooNarrow }
+        ensures left { kept_refusal self.old ≡ None →
+            OnErr result (stops_at_stage call.end_strikeout self.old self.new) }
+        ensures kept { KeepsFailure kept_refusal self.old result self.new };
+
+    /// Adds what the decorator shows for an image, under an annotation of its own. What an image without a title shows,
+    /// the options say.
+    fn add_image(&mut self, src: &str, title: &str) -> Result<(), Error>
+        ensures ok { OnOk result (does (call.add_image (chars src.now) (chars title.now)) self.old self.new) }
+        ensures too_narrow { kept_refusal self.old ≡ None → result ≡ Err E.TooNarrow →
+            is_too_narrow (call.add_image (chars src.now) (chars title.now)) self.old }
+        ensures two_columns { kept_refusal self.old ≡ None → 2 ≤ block_columns self.old →
+            result ≢ Err E.TooNarrow }
+        ensures left { kept_refusal self.old ≡ None →
+            OnErr result (stops_at_stage (call.add_image (chars src.now) (chars title.now)) self.old self.new) }
+        ensures kept { KeepsFailure kept_refusal self.old result self.new };
+
+    /// Begins text in a colour, whose annotation joins the others, if the decorator has one. It refuses only for want
+    /// of memory.
+    fn push_colour(&mut self, colour: Colour) -> Result<(), Error>
+        ensures ok { OnOk result (does (call.push_colour ground.text colour) self.old self.new) }
+        ensures memory { kept_refusal self.old ≡ None → result ≢ Err E.TooNarrow }
+        ensures left { kept_refusal self.old ≡ None →
+            OnErr result (stops_at_stage (call.push_colour ground.text colour) self.old self.new) }
+        ensures kept { KeepsFailure kept_refusal self.old result self.new };
+
+    /// Ends text in a colour: the last annotation is taken, if there is one, where the decorator says so. It takes no
+    /// memory.
+    fn pop_colour(&mut self)
+        ensures live { kept_refusal self.old ≡ None → does (call.pop_colour ground.text) self.old self.new }
+        ensures failed { (e : Refusal) → kept_refusal self.old ≡ Some e → self.new ≡ self.old };
+
+    /// Begins a background in a colour, as text in a colour is begun.
+    fn push_bgcolour(&mut self, colour: Colour) -> Result<(), Error>
+        ensures ok { OnOk result (does (call.push_colour ground.background colour) self.old self.new) }
+        ensures memory { kept_refusal self.old ≡ None → result ≢ Err E.TooNarrow }
+        ensures left { kept_refusal self.old ≡ None →
+            OnErr result (stops_at_stage (call.push_colour ground.background colour) self.old self.new) }
+        ensures kept { KeepsFailure kept_refusal self.old result self.new };
+
+    /// Ends a background in a colour, as text in a colour is ended.
+    fn pop_bgcolour(&mut self)
+        ensures live { kept_refusal self.old ≡ None → does (call.pop_colour ground.background) self.old self.new }
+        ensures failed { (e : Refusal) → kept_refusal self.old ≡ Some e → self.new ≡ self.old };
+
+    /// The text before each line of a header of a level. It refuses only for want of memory, also on a renderer that
+    /// has failed, and changes nothing; so do the other prefixes.
+    fn header_prefix(&mut self, level: usize) -> Result<String, Error>
+        ensures text { IfOk result (λ text. chars_of text ≡ prefix_text self.old (prefix.header level)) }
+        ensures memory { IfErr result (λ e. e ≡ E.OutOfMemory) }
+        ensures unchanged { self.new ≡ self.old };
+
+    /// The text before each line of a quoted block.
+    fn quote_prefix(&mut self) -> Result<String, Error>
+        ensures text { IfOk result (λ text. chars_of text ≡ prefix_text self.old prefix.quote) }
+        ensures memory { IfErr result (λ e. e ≡ E.OutOfMemory) }
+        ensures unchanged { self.new ≡ self.old };
+
+    /// The text before an item of a list.
+    fn unordered_item_prefix(&mut self) -> Result<String, Error>
+        ensures text { IfOk result (λ text. chars_of text ≡ prefix_text self.old prefix.unordered_item) }
+        ensures memory { IfErr result (λ e. e ≡ E.OutOfMemory) }
+        ensures unchanged { self.new ≡ self.old };
+
+    /// The text before the item of a list that has the number `i`.
+    fn ordered_item_prefix(&mut self, i: i64) -> Result<String, Error>
+        ensures text { IfOk result (λ text. chars_of text ≡ prefix_text self.old (prefix.ordered_item i)) }
+        ensures memory { IfErr result (λ e. e ≡ E.OutOfMemory) }
+        ensures unchanged { self.new ≡ self.old };
+
+    /// A renderer of a width of at least 1 for a block inside: without text, with the same options and annotations, and
+    /// with the decorator that the own one makes for it. It refuses only for want of memory, also on a renderer that
+    /// has failed.
+    fn new_sub_renderer(&self, width: usize) -> Result<Self, Error>
+        requires { 0 < width }
+        ensures sub { IfOk result (λ sub. is_sub_renderer self.now width sub) }
+        ensures memory { IfErr result (λ e. e ≡ E.OutOfMemory) };
+
+    /// The columns of the renderer.
+    fn width(&self) -> usize
+        ensures { result ≡ columns_of self.now };
+
+    /// Whether it has no line, and its open block, if any, is empty. It is false on a renderer that has failed.
+    fn empty(&self) -> bool
+        ensures { tells_empty self.now result };
+}

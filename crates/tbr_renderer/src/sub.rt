@@ -1,0 +1,290 @@
+//! A renderer of blocks of text.
+ghost use Rattle.std.specs.Prelude.{◌≡◌, ◌≢◌, ◌<◌, ◌≤◌, [], ◌∷◌, ◌++◌, None, Some, Ok, Err, true, false, not, ◌&&◌, ◌||◌, suc, ◌-◌, map, fold, chars, string_bytes, IsTrue, ◌↔◌, ◌⊎◌, unwrap_or, is_none, is_err, max, List, IfOk, IfErr, OnOk, MatchResult, ℕ};
+ghost use Rattle.tbr_lines.specs.declared.Error.{Error as Refusal};
+ghost use Rattle.tbr_lines.specs.declared.Error.TheVariants as E;
+ghost use Rattle.tbr_renderer.specs.Renderer.{Renderer as Model, KeepsSettings, new_renderer, has_content, text, line_padding, with_line, block_width, may_overflow};
+ghost use Rattle.tbr_renderer.specs.View.{block_seen, IsFresh, IsOpened, AreMarkers, names_of};
+ghost use Rattle.tbr_lines.specs.View.{element_of};
+ghost use Rattle.tbr_lines.specs.Copies.{equal_lists};
+ghost use Rattle.tbr_lines.specs.Elements.{items_of, SameItems, IsMerged};
+ghost use Rattle.tbr_renderer.specs.Meant.{meant, items_meant};
+
+use crate::options::RenderOptions;
+use crate::renderer::Renderer;
+use std::alloc::Global;
+use std::collections::LinkedList;
+use std::marker::Model;
+use std::mem;
+use tbr_decor::TextDecorator;
+use tbr_lines::{
+    CharWidth, Error, OutOfMemory, RenderLine, TaggedLine, TaggedLineElement, TooNarrow,
+    UnicodeColumns, WhiteSpace, WrappedBlock,
+};
+
+mod blocks;
+mod calls;
+mod colours;
+mod decorated;
+mod images;
+mod lines;
+mod strikeouts;
+mod texts;
+
+/// A renderer of a width in columns, whose text stands under lists of what its decorator annotates with.
+#[derive(Drop)]
+pub struct SubRenderer<D: TextDecorator, W: CharWidth = UnicodeColumns> {
+    alloc: Global,
+    width: usize,
+    options: RenderOptions,
+    decorator: D,
+    lines: LinkedList<RenderLine<Vec<D::Annotation>>>,
+    /// Whether a line has content.
+    has_content: bool,
+    /// The open block.
+    wrapping: Option<WrappedBlock<Vec<D::Annotation>, W>>,
+    /// Markers that wait for a line of text.
+    waiting: Vec<TaggedLineElement<Vec<D::Annotation>>>,
+    /// Whether text that comes begins a block.
+    block_ended: bool,
+    annotations: Vec<D::Annotation>,
+    modes: Vec<WhiteSpace>,
+    strikeouts: usize,
+    preformatted: usize,
+    failure: Option<Error>,
+}
+
+impl<D: TextDecorator, W: CharWidth> Model for SubRenderer<D, W> {
+    ghost use Rattle.std.specs.Global.{Vec};
+    ghost use Rattle.tbr_renderer.specs.Renderer.{Renderer};
+
+    ghost Value = { Renderer D D.Annotation (Vec D.Annotation) };
+
+    ghost use Rattle.tbr_renderer.specs.View.{renderer_of, HoldsRenderer};
+
+    ghost view = { λ r. renderer_of r };
+
+    ghost invariant = { λ r. HoldsRenderer D.Annotation.eq r };
+}
+
+impl<D: TextDecorator, W: CharWidth> SubRenderer<D, W> {
+    /// A renderer without text. It asks for a width of at least 1, and a wrap width of at least 1 if there is one. It
+    /// takes no memory.
+    pub fn new(
+        alloc: Global,
+        width: usize,
+        options: RenderOptions,
+        decorator: D,
+    ) -> SubRenderer<D, W>
+        requires width { 0 < width }
+        requires wrap_width { options.wrap_width ≢ Some 0 }
+        ensures { result ≡ new_renderer width options decorator }
+    {
+        SubRenderer {
+            alloc,
+            width,
+            options,
+            decorator,
+            lines: LinkedList::new(alloc),
+            has_content: false,
+            wrapping: None,
+            waiting: Vec::new(alloc),
+            block_ended: false,
+            annotations: Vec::new(alloc),
+            modes: Vec::new(alloc),
+            strikeouts: 0,
+            preformatted: 0,
+            failure: None,
+        }
+    }
+
+    /// What the renderer is told to do.
+    pub fn options(&self) -> &RenderOptions
+        ensures { result.now ≡ self.now.options }
+    {
+        &self.options
+    }
+
+    /// The kept refusal, if a call has refused.
+    pub fn failure(&self) -> Option<Error>
+        ensures { result ≡ self.now.failure }
+    {
+        self.failure
+    }
+
+    /// How many strikeouts are open.
+    pub fn strikeout_depth(&self) -> usize
+        ensures { result ≡ self.now.strikeouts }
+    {
+        self.strikeouts
+    }
+
+    /// How many preformatted stretches are open.
+    pub fn preformat_depth(&self) -> usize
+        ensures { result ≡ self.now.preformatted }
+    {
+        self.preformatted
+    }
+
+    /// The columns that are left behind a prefix, but `min_width` at least.
+    ///
+    /// It answers `TooNarrow` where fewer than `min_width` are left and lines may not be wider. It takes no memory, and
+    /// doesn't look at a failure.
+    pub fn width_minus(&self, prefix_len: usize, min_width: usize) -> Result<usize, TooNarrow>
+        ensures width { IfOk result (λ columns. columns ≡ max min_width (self.now.width - prefix_len)) }
+        ensures too_narrow { IsTrue (is_err result)
+            ↔ (self.now.width - prefix_len < min_width) × (self.now.options.allow_width_overflow ≡ false) }
+    {
+        let left = self.width.saturating_sub(prefix_len);
+        if left < min_width && !self.options.allow_width_overflow {
+            return Err(TooNarrow);
+        }
+        Ok(left.max(min_width))
+    }
+
+    /// Answers the kept refusal, if there is one.
+    fn refusal(&self) -> Result<(), Error>
+        ensures { MatchResult result (λ _. self.now.failure ≡ None) (λ e. self.now.failure ≡ Some e) }
+    {
+        match self.failure {
+            Some(e) => Err(e),
+            None => Ok(()),
+        }
+    }
+
+    /// Keeps a refusal.
+    fn keep(&mut self, done: Result<(), Error>) -> Result<(), Error>
+        ensures result { result ≡ done }
+        ensures ok { OnOk result (self.new ≡ self.old) }
+        ensures failed { IfErr result (λ e. self.new.failure ≡ Some e) }
+        ensures settings { KeepsSettings (meant D.meaning self.old) (meant D.meaning self.new) }
+    {
+        if let Err(e) = done {
+            self.failure = Some(e);
+        }
+        done
+    }
+
+    /// Takes the open block.
+    fn take_block(&mut self) -> Option<WrappedBlock<Vec<D::Annotation>, W>>
+        requires { self.old.failure ≡ None }
+        ensures block { block_seen result ≡ self.old.block }
+        ensures opened { IsOpened (block_width self.old) (may_overflow self.old) result }
+        ensures rest { self.new ≡ record self.old { block = None } }
+    {
+        self.wrapping.take()
+    }
+
+    /// Opens a block again.
+    fn put_block(&mut self, block: WrappedBlock<Vec<D::Annotation>, W>)
+        requires { IsFresh (block_width self.old) (may_overflow self.old) block }
+        ensures { self.new ≡ record self.old { block = block_seen (Some block) } }
+    {
+        self.wrapping = Some(block);
+    }
+
+    /// Ends a block, or begins one.
+    fn set_block_ended(&mut self, ended: bool)
+        ensures { self.new ≡ record self.old { block_ended = ended } }
+    {
+        self.block_ended = ended;
+    }
+
+    /// Whether a line has content.
+    fn has_content(&self) -> bool
+        requires { self.now.failure ≡ None }
+        ensures { result ≡ has_content self.now }
+    {
+        self.has_content
+    }
+
+    /// Lets markers wait.
+    fn add_waiting(
+        &mut self,
+        mut markers: Vec<TaggedLineElement<Vec<D::Annotation>>>,
+    ) -> Result<(), OutOfMemory>
+        requires { AreMarkers (map element_of markers.items) }
+        ensures waiting { OnOk result
+            (self.new ≡ record self.old { waiting = self.old.waiting ++ names_of (map element_of markers.items) }) }
+        ensures settings { KeepsSettings (meant D.meaning self.old) (meant D.meaning self.new) }
+    {
+        self.waiting.append(&mut markers)?;
+        Ok(())
+    }
+
+    /// Takes the markers that wait.
+    fn take_waiting(&mut self) -> Vec<TaggedLineElement<Vec<D::Annotation>>>
+        requires { self.old.failure ≡ None }
+        ensures names { names_of (map element_of result.items) ≡ self.old.waiting }
+        ensures markers { AreMarkers (map element_of result.items) }
+        ensures rest { self.new ≡ record self.old { waiting = [] } }
+    {
+        mem::replace(&mut self.waiting, Vec::new(self.alloc))
+    }
+
+    /// Adds a line of text as it is. Where memory is refused the line is lost.
+    fn push_text(&mut self, line: TaggedLine<Vec<D::Annotation>>) -> Result<(), OutOfMemory>
+        requires { IsMerged (equal_lists D.Annotation.eq) line }
+        ensures line { OnOk result
+            (self.new ≡ record self.old { lines = self.old.lines ++ text (items_of line) ∷ [] }) }
+        ensures settings { KeepsSettings (meant D.meaning self.old) (meant D.meaning self.new) }
+    {
+        let has_piece = !line.is_empty();
+        self.lines.push_back(RenderLine::Text(line))?;
+        self.has_content |= has_piece;
+        Ok(())
+    }
+
+    /// Fills a line up to the renderer's width, where lines are padded.
+    fn fill(&self, line: &mut TaggedLine<Vec<D::Annotation>>) -> Result<(), OutOfMemory>
+        ensures items { OnOk result (items_meant D.meaning (items_of line.new)
+            ≡ items_meant D.meaning (items_of line.old) ++ line_padding W.columns (meant D.meaning self.now)
+            (items_meant D.meaning (items_of line.old))) }
+        ensures merged { IsMerged (equal_lists D.Annotation.eq) line.old →
+            OnOk result (IsMerged (equal_lists D.Annotation.eq) line.new) }
+    {
+        if !self.options.pad_block_width {
+            return Ok(());
+        }
+        line.pad_to::<W>(self.width, &self.annotations)
+    }
+
+    /// Adds a line of text behind the markers that wait. It is filled, where lines are padded.
+    ///
+    /// Where memory is refused the line is lost, and markers may be.
+    fn add_line(&mut self, line: TaggedLine<Vec<D::Annotation>>) -> Result<(), OutOfMemory>
+        requires unfailed { self.old.failure ≡ None }
+        requires merged { IsMerged (equal_lists D.Annotation.eq) line }
+        ensures line { OnOk result (meant D.meaning self.new
+            ≡ with_line W.columns (meant D.meaning self.old) (items_meant D.meaning (items_of line))) }
+        ensures settings { KeepsSettings (meant D.meaning self.old) (meant D.meaning self.new) }
+    {
+        let waiting = self.take_waiting();
+        let mut whole = behind_markers(self.alloc, waiting, line)?;
+        self.fill(&mut whole)?;
+        self.push_text(whole)
+    }
+}
+
+/// A line with markers in front. It takes no memory where there are none.
+fn behind_markers<T: Eq + Drop>(
+    alloc: Global,
+    markers: Vec<TaggedLineElement<T>>,
+    line: TaggedLine<T>,
+) -> Result<TaggedLine<T>, OutOfMemory>
+    requires { IsMerged T.eq line }
+    ensures items { IfOk result (λ whole.
+        SameItems T.eq (items_of whole) (items_of (map element_of markers.items) ++ items_of line)) }
+    ensures merged { IfOk result (λ whole. IsMerged T.eq whole) }
+{
+    if markers.is_empty() {
+        return Ok(line);
+    }
+    let mut whole = TaggedLine::new(alloc);
+    for marker in markers {
+        whole.push(marker)?;
+    }
+    for element in line {
+        whole.push(element)?;
+    }
+    Ok(whole)
+}

@@ -1,0 +1,129 @@
+//! The end of runs, and the beginning of blocks.
+ghost use Rattle.std.specs.Prelude.{◌≡◌, ◌≢◌, ◌≤◌, None, Some, Ok, Err, map, fold, List, ℕ, IfOk, IfErr, OnOk};
+ghost use Rattle.tbr_lines.specs.State.{lines_left};
+ghost use Rattle.tbr_lines.specs.declared.Error.{Error as Refusal};
+ghost use Rattle.tbr_lines.specs.declared.Error.TheVariants as E;
+ghost use Rattle.tbr_renderer.specs.Renderer.{KeepsSettings, with_line, block_width};
+ghost use Rattle.tbr_renderer.specs.Meant.{meant};
+ghost use Rattle.tbr_renderer.specs.Flush.{line_meant, Flushes, FlushIsTooNarrow};
+ghost use Rattle.tbr_renderer.specs.Steps.{with_empty_line, AddsEmptyLine, block_started, StartsBlock, BlockIsAtLineStart, BreaksLine};
+
+use crate::sub::SubRenderer;
+use tbr_decor::TextDecorator;
+use tbr_lines::{CharWidth, Error, OutOfMemory, TaggedLine, WrappedBlock};
+
+impl<D: TextDecorator, W: CharWidth> SubRenderer<D, W> {
+    /// Adds the lines that a block has ended, one by one. It refuses only for want of memory.
+    fn add_lines_of(&mut self, mut block: WrappedBlock<Vec<D::Annotation>, W>) -> Result<(), Error>
+        requires unfailed { self.old.failure ≡ None }
+        requires block { block.failure ≡ None }
+        ensures lines { OnOk result (meant D.meaning self.new ≡ fold (with_line W.columns) (meant D.meaning self.old)
+            (map (line_meant W.columns D.meaning block) (lines_left block))) }
+        ensures unfailed { OnOk result (self.new.failure ≡ None) }
+        ensures memory { IfErr result (λ e. e ≡ E.OutOfMemory) }
+        ensures settings { KeepsSettings (meant D.meaning self.old) (meant D.meaning self.new) }
+    {
+        while let Some(line) = block.next_line()? {
+            self.add_line(line)?;
+        }
+        Ok(())
+    }
+
+    /// Ends the run of the open block, if there is one.
+    pub(crate) fn try_flush(&mut self) -> Result<(), Error>
+        requires { self.old.failure ≡ None }
+        ensures ok { OnOk result (Flushes W.columns (meant D.meaning self.old) (meant D.meaning self.new)) }
+        ensures unfailed { OnOk result (self.new.failure ≡ None) }
+        ensures too_narrow { result ≡ Err E.TooNarrow → FlushIsTooNarrow W.columns (meant D.meaning self.old) }
+        ensures two_columns { 2 ≤ block_width self.old → result ≢ Err E.TooNarrow }
+        ensures settings { KeepsSettings (meant D.meaning self.old) (meant D.meaning self.new) }
+    {
+        let Some(mut block) = self.take_block() else {
+            return Ok(());
+        };
+        block.flush()?;
+        let markers = block.take_trailing_fragments()?;
+        self.add_lines_of(block)?;
+        self.add_waiting(markers)?;
+        Ok(())
+    }
+
+    /// Ends the run, and adds an empty line.
+    pub(crate) fn try_add_empty_line(&mut self) -> Result<(), Error>
+        requires { self.old.failure ≡ None }
+        ensures ok { OnOk result (AddsEmptyLine W.columns (meant D.meaning self.old) (meant D.meaning self.new)) }
+        ensures too_narrow { result ≡ Err E.TooNarrow → FlushIsTooNarrow W.columns (meant D.meaning self.old) }
+        ensures two_columns { 2 ≤ block_width self.old → result ≢ Err E.TooNarrow }
+        ensures settings { KeepsSettings (meant D.meaning self.old) (meant D.meaning self.new) }
+    {
+        self.try_flush()?;
+        self.put_empty_line()?;
+        Ok(())
+    }
+
+    /// Adds an empty line, behind which no block has ended.
+    fn put_empty_line(&mut self) -> Result<(), OutOfMemory>
+        requires { self.old.failure ≡ None }
+        ensures line { OnOk result (meant D.meaning self.new ≡ with_empty_line W.columns (meant D.meaning self.old)) }
+        ensures unfailed { OnOk result (self.new.failure ≡ None) }
+        ensures settings { KeepsSettings (meant D.meaning self.old) (meant D.meaning self.new) }
+    {
+        self.add_line(TaggedLine::new(self.alloc))?;
+        self.set_block_ended(false);
+        Ok(())
+    }
+
+    /// Ends the run, and begins a block.
+    pub(crate) fn try_start_block(&mut self) -> Result<(), Error>
+        requires { self.old.failure ≡ None }
+        ensures ok { OnOk result (StartsBlock W.columns (meant D.meaning self.old) (meant D.meaning self.new)) }
+        ensures unfailed { OnOk result (self.new.failure ≡ None) }
+        ensures columns { OnOk result (block_width self.new ≡ block_width self.old) }
+        ensures too_narrow { result ≡ Err E.TooNarrow → FlushIsTooNarrow W.columns (meant D.meaning self.old) }
+        ensures two_columns { 2 ≤ block_width self.old → result ≢ Err E.TooNarrow }
+        ensures settings { KeepsSettings (meant D.meaning self.old) (meant D.meaning self.new) }
+    {
+        self.try_flush()?;
+        self.begin_block()?;
+        Ok(())
+    }
+
+    /// Begins a block, behind an empty line where any line has content.
+    fn begin_block(&mut self) -> Result<(), OutOfMemory>
+        requires { self.old.failure ≡ None }
+        ensures begun { OnOk result (meant D.meaning self.new ≡ block_started W.columns (meant D.meaning self.old)) }
+        ensures unfailed { OnOk result (self.new.failure ≡ None) }
+        ensures settings { KeepsSettings (meant D.meaning self.old) (meant D.meaning self.new) }
+    {
+        if self.has_content() {
+            return self.put_empty_line();
+        }
+        self.set_block_ended(false);
+        Ok(())
+    }
+
+    /// Whether no block is open, or its open line and word take no columns.
+    fn is_at_line_start(&self) -> bool
+        requires { self.now.failure ≡ None }
+        ensures { BlockIsAtLineStart W.columns (meant D.meaning self.now) result (meant D.meaning self.now).block }
+    {
+        match &self.wrapping {
+            Some(block) => block.at_line_start(),
+            None => true,
+        }
+    }
+
+    /// Ends the run, and adds an empty line at the beginning of a line.
+    pub(crate) fn try_break_line(&mut self) -> Result<(), Error>
+        requires { self.old.failure ≡ None }
+        ensures ok { OnOk result (BreaksLine W.columns (meant D.meaning self.old) (meant D.meaning self.new)) }
+        ensures too_narrow { result ≡ Err E.TooNarrow → FlushIsTooNarrow W.columns (meant D.meaning self.old) }
+        ensures two_columns { 2 ≤ block_width self.old → result ≢ Err E.TooNarrow }
+        ensures settings { KeepsSettings (meant D.meaning self.old) (meant D.meaning self.new) }
+    {
+        if self.is_at_line_start() {
+            return self.try_add_empty_line();
+        }
+        self.try_flush()
+    }
+}

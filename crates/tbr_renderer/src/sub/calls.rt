@@ -1,0 +1,294 @@
+//! The calls of a renderer.
+ghost use Rattle.std.specs.Prelude.{◌≡◌, ◌≢◌, ◌<◌, ◌++◌, ◌∷◌, [], suc, ◌-◌, not, None, Some, Ok, Err, OnOk, OnErr, IfErr};
+ghost use Rattle.tbr_lines.specs.declared.Error.TheVariants as E;
+ghost use Rattle.tbr_renderer.specs.Renderer.{KeepsSettings, block_width, without_last};
+ghost use Rattle.tbr_renderer.specs.Meant.{meant, tag_meant};
+ghost use Rattle.tbr_renderer.specs.Steps.{BlockIsEmpty, TellsEmpty};
+ghost use Rattle.tbr_renderer.specs.Calls.{Does, IsTooNarrow};
+ghost use Rattle.tbr_lines.specs.State.{is_some_list};
+
+use crate::renderer::Renderer;
+use crate::sub::SubRenderer;
+use crate::sub::colours::Ground;
+use crate::sub::decorated::{End, Start};
+use tbr_decor::{Colour, TextDecorator};
+use tbr_lines::{CharWidth, Error, WhiteSpace};
+
+impl<D: TextDecorator, W: CharWidth> SubRenderer<D, W> {
+    /// Pushes a mode.
+    fn push_mode(&mut self, mode: WhiteSpace) -> Result<(), Error>
+        ensures ok { OnOk result (self.new ≡ record self.old { modes = self.old.modes ++ mode ∷ [] }) }
+        ensures memory { IfErr result (λ e. e ≡ E.OutOfMemory) }
+        ensures stopped { OnErr result (KeepsSettings (meant D.meaning self.old) (meant D.meaning self.new)) }
+    {
+        self.modes.push(mode)?;
+        Ok(())
+    }
+
+    /// Takes the mode that was pushed last.
+    fn pop_mode(&mut self)
+        ensures { self.new ≡ record self.old { modes = without_last self.old.modes } }
+    {
+        let _ = self.modes.pop();
+    }
+
+    /// Whether it has no line.
+    fn has_no_line(&self) -> bool
+        ensures { result ≡ not (is_some_list self.now.lines) }
+    {
+        self.lines.is_empty()
+    }
+
+    /// Whether no block is open, or the open one is empty.
+    fn has_empty_block(&self) -> bool
+        requires { self.now.failure ≡ None }
+        ensures { BlockIsEmpty W.columns (meant D.meaning self.now) result (meant D.meaning self.now).block }
+    {
+        match &self.wrapping {
+            Some(block) => block.is_empty(),
+            None => true,
+        }
+    }
+
+    /// Puts annotations in the place of those of text that comes.
+    fn set_annotations(&mut self, annotations: Vec<D::Annotation>)
+        ensures { meant D.meaning self.new
+            ≡ record (meant D.meaning self.old) { annotations = tag_meant D.meaning annotations } }
+    {
+        self.annotations = annotations;
+    }
+
+    /// Begins a preformatted stretch.
+    fn deepen(&mut self) -> Result<(), Error>
+        ensures ok { OnOk result (self.new ≡ record self.old { preformatted = suc self.old.preformatted }) }
+        ensures memory { IfErr result (λ e. e ≡ E.OutOfMemory) }
+        ensures stopped { OnErr result (KeepsSettings (meant D.meaning self.old) (meant D.meaning self.new)) }
+    {
+        let Some(depth) = self.preformatted.checked_add(1) else {
+            return Err(Error::OutOfMemory);
+        };
+        self.preformatted = depth;
+        Ok(())
+    }
+}
+
+impl<D: TextDecorator, W: CharWidth> Renderer for SubRenderer<D, W> {
+    ghost use Rattle.tbr_renderer.specs.Renderer.{block_width};
+    ghost use Rattle.tbr_renderer.specs.Meant.{meant};
+    ghost use Rattle.tbr_renderer.specs.Steps.{TellsEmpty};
+    ghost use Rattle.tbr_decor.specs.Decoration.{decoration_of};
+    ghost use Rattle.std.specs.Prelude.{◌≡◌};
+    ghost use Rattle.tbr_renderer.specs.Decorated.{sub_renderer};
+    ghost use Rattle.tbr_renderer.specs.Calls.{Does, IsTooNarrow, StopsAtStage};
+
+    ghost does = { λ call old new.
+        Does W.columns (decoration_of D.TextDecorator) call (meant D.meaning old) (meant D.meaning new) };
+
+    ghost is_too_narrow = { λ call old.
+        IsTooNarrow W.columns (decoration_of D.TextDecorator) call (meant D.meaning old) };
+
+    ghost stops_at_stage = { λ call old new. StopsAtStage W.columns (decoration_of D.TextDecorator) call
+        (meant D.meaning old) (meant D.meaning new) };
+
+    ghost kept_refusal = { λ r. r.failure };
+
+    ghost columns_of = { λ r. r.width };
+
+    ghost block_columns = { λ r. block_width r };
+
+    ghost open_preformats = { λ r. r.preformatted };
+
+    ghost open_strikeouts = { λ r. r.strikeouts };
+
+    ghost strikes = { λ r. r.options.use_unicode_strikeout };
+
+    ghost prefix_text = { λ r prefix. D.prefix_text r.decorator prefix };
+
+    ghost is_sub_renderer = { λ r width sub.
+        meant D.meaning sub ≡ sub_renderer (decoration_of D.TextDecorator) width (meant D.meaning r) };
+
+    ghost tells_empty = { λ r empty. TellsEmpty W.columns (meant D.meaning r) empty };
+
+    fn add_empty_line(&mut self) -> Result<(), Error> {
+        self.refusal()?;
+        let done = self.try_add_empty_line();
+        self.keep(done)
+    }
+
+    fn new_line(&mut self) -> Result<(), Error> {
+        self.refusal()?;
+        let done = self.try_flush();
+        self.keep(done)
+    }
+
+    fn new_line_hard(&mut self) -> Result<(), Error> {
+        self.refusal()?;
+        let done = self.try_break_line();
+        self.keep(done)
+    }
+
+    fn start_block(&mut self) -> Result<(), Error> {
+        self.refusal()?;
+        let done = self.try_start_block();
+        self.keep(done)
+    }
+
+    fn start_table(&mut self) -> Result<(), Error> {
+        self.start_block()
+    }
+
+    fn end_block(&mut self) {
+        if self.failure.is_none() {
+            self.block_ended = true;
+        }
+    }
+
+    fn add_inline_text(&mut self, text: &str) -> Result<(), Error> {
+        self.refusal()?;
+        let done = self.try_add_text(text);
+        self.keep(done)
+    }
+
+    fn push_ws(&mut self, ws: WhiteSpace) -> Result<(), Error> {
+        self.refusal()?;
+        let done = self.push_mode(ws);
+        self.keep(done)
+    }
+
+    fn pop_ws(&mut self) {
+        if self.failure().is_none() {
+            self.pop_mode();
+        }
+    }
+
+    fn push_preformat(&mut self) -> Result<(), Error> {
+        self.refusal()?;
+        let done = self.deepen();
+        self.keep(done)
+    }
+
+    fn pop_preformat(&mut self) {
+        if self.failure.is_none() {
+            self.preformatted -= 1;
+        }
+    }
+
+    fn record_frag_start(&mut self, name: &str) -> Result<(), Error> {
+        self.refusal()?;
+        let done = self.try_add_marker(name);
+        self.keep(done)
+    }
+
+    fn start_link(&mut self, target: &str) -> Result<(), Error> {
+        self.begin(Start::Link(target))
+    }
+
+    fn end_link(&mut self) -> Result<(), Error> {
+        self.finish(End::Link)
+    }
+
+    fn start_emphasis(&mut self) -> Result<(), Error> {
+        self.begin(Start::Emphasis)
+    }
+
+    fn end_emphasis(&mut self) -> Result<(), Error> {
+        self.finish(End::Emphasis)
+    }
+
+    fn start_strong(&mut self) -> Result<(), Error> {
+        self.begin(Start::Strong)
+    }
+
+    fn end_strong(&mut self) -> Result<(), Error> {
+        self.finish(End::Strong)
+    }
+
+    fn start_code(&mut self) -> Result<(), Error> {
+        self.begin(Start::Code)
+    }
+
+    fn end_code(&mut self) -> Result<(), Error> {
+        self.finish(End::Code)
+    }
+
+    fn start_superscript(&mut self) -> Result<(), Error> {
+        self.begin(Start::Superscript)
+    }
+
+    fn end_superscript(&mut self) -> Result<(), Error> {
+        self.finish(End::Superscript)
+    }
+
+    fn start_strikeout(&mut self) -> Result<(), Error> {
+        self.refusal()?;
+        let done = self.try_start_strikeout();
+        self.keep(done)
+    }
+
+    fn end_strikeout(&mut self) -> Result<(), Error> {
+        self.refusal()?;
+        let done = self.try_end_strikeout();
+        self.keep(done)
+    }
+
+    fn add_image(&mut self, src: &str, title: &str) -> Result<(), Error> {
+        self.refusal()?;
+        let done = self.try_add_image(src, title);
+        self.keep(done)
+    }
+
+    fn push_colour(&mut self, colour: Colour) -> Result<(), Error> {
+        self.refusal()?;
+        let done = self.try_push_colour(Ground::Text, colour);
+        self.keep(done)
+    }
+
+    fn pop_colour(&mut self) {
+        if self.failure().is_none() {
+            self.take_colour(Ground::Text);
+        }
+    }
+
+    fn push_bgcolour(&mut self, colour: Colour) -> Result<(), Error> {
+        self.refusal()?;
+        let done = self.try_push_colour(Ground::Background, colour);
+        self.keep(done)
+    }
+
+    fn pop_bgcolour(&mut self) {
+        if self.failure().is_none() {
+            self.take_colour(Ground::Background);
+        }
+    }
+
+    fn header_prefix(&mut self, level: usize) -> Result<String, Error> {
+        Ok(self.decorator.header_prefix(self.alloc, level)?)
+    }
+
+    fn quote_prefix(&mut self) -> Result<String, Error> {
+        Ok(self.decorator.quote_prefix(self.alloc)?)
+    }
+
+    fn unordered_item_prefix(&mut self) -> Result<String, Error> {
+        Ok(self.decorator.unordered_item_prefix(self.alloc)?)
+    }
+
+    fn ordered_item_prefix(&mut self, i: i64) -> Result<String, Error> {
+        Ok(self.decorator.ordered_item_prefix(self.alloc, i)?)
+    }
+
+    fn new_sub_renderer(&self, width: usize) -> Result<SubRenderer<D, W>, Error> {
+        let decorator = self.decorator.make_subblock_decorator(self.alloc)?;
+        let mut sub = SubRenderer::new(self.alloc, width, self.options, decorator);
+        sub.set_annotations(self.tag()?);
+        Ok(sub)
+    }
+
+    fn width(&self) -> usize {
+        self.width
+    }
+
+    fn empty(&self) -> bool {
+        self.failure().is_none() && self.has_no_line() && self.has_empty_block()
+    }
+}

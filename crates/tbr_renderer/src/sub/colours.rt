@@ -1,0 +1,77 @@
+//! Text and backgrounds in a colour.
+ghost use Rattle.std.specs.Prelude.{◌≡◌, None, IfOk, IfErr, OnOk, OnErr};
+ghost use Rattle.std.specs.Option.{option_map};
+ghost use Rattle.tbr_lines.specs.declared.Error.TheVariants as E;
+ghost use Rattle.tbr_decor.specs.Decoration.{decoration_of};
+ghost use Rattle.tbr_renderer.specs.Meant.{meant};
+ghost use Rattle.tbr_renderer.specs.View.{ground_of};
+ghost use Rattle.tbr_renderer.specs.Decorated.{asked_for_colour, asked_to_end, coloured, uncoloured};
+ghost use Rattle.tbr_renderer.specs.Calls as call;
+ghost use Rattle.tbr_renderer.specs.Calls.{StopsAtStage};
+
+use crate::sub::SubRenderer;
+use tbr_decor::{Colour, TextDecorator};
+use tbr_lines::{CharWidth, Error, OutOfMemory};
+
+/// What is coloured.
+#[derive(Clone, Copy)]
+pub(crate) enum Ground {
+    Text,
+    Background,
+}
+
+impl<D: TextDecorator, W: CharWidth> SubRenderer<D, W> {
+    /// The decorator's annotation for a colour, if it has one.
+    fn ask_for_colour(
+        &mut self,
+        ground: Ground,
+        colour: Colour,
+    ) -> Result<Option<D::Annotation>, OutOfMemory>
+        ensures annotation { IfOk result (λ a.
+            option_map D.meaning a ≡ D.colour_annotation self.old.decorator (ground_of ground) colour) }
+        ensures asked { OnOk result (meant D.meaning self.new
+            ≡ asked_for_colour (decoration_of D.TextDecorator) (ground_of ground) colour (meant D.meaning self.old)) }
+        ensures err { OnErr result (self.new ≡ self.old) }
+    {
+        match ground {
+            Ground::Text => self.decorator.push_colour(self.alloc, colour),
+            Ground::Background => self.decorator.push_bgcolour(self.alloc, colour),
+        }
+    }
+
+    /// Adds the annotation of a colour, if it has one, to those of text that comes.
+    pub(crate) fn try_push_colour(&mut self, ground: Ground, colour: Colour) -> Result<(), Error>
+        ensures ok { OnOk result (meant D.meaning self.new
+            ≡ coloured (decoration_of D.TextDecorator) (ground_of ground) colour (meant D.meaning self.old)) }
+        ensures memory { IfErr result (λ e. e ≡ E.OutOfMemory) }
+        ensures stopped { OnErr result (StopsAtStage W.columns (decoration_of D.TextDecorator)
+            (call.push_colour (ground_of ground) colour) (meant D.meaning self.old) (meant D.meaning self.new)) }
+    {
+        if let Some(annotation) = self.ask_for_colour(ground, colour)? {
+            self.push_annotation(annotation)?;
+        }
+        Ok(())
+    }
+
+    /// Whether the decorator says that the end of a colour takes an annotation.
+    fn ask_to_end_colour(&mut self, ground: Ground) -> bool
+        ensures taken { result ≡ D.ends_colour self.old.decorator (ground_of ground) }
+        ensures asked { meant D.meaning self.new
+            ≡ asked_to_end (decoration_of D.TextDecorator) (ground_of ground) (meant D.meaning self.old) }
+    {
+        match ground {
+            Ground::Text => self.decorator.pop_colour(),
+            Ground::Background => self.decorator.pop_bgcolour(),
+        }
+    }
+
+    /// Takes the last annotation where the decorator says that the end of a colour does.
+    pub(crate) fn take_colour(&mut self, ground: Ground)
+        ensures { meant D.meaning self.new
+            ≡ uncoloured (decoration_of D.TextDecorator) (ground_of ground) (meant D.meaning self.old) }
+    {
+        if self.ask_to_end_colour(ground) {
+            self.pop_annotation();
+        }
+    }
+}

@@ -1,0 +1,185 @@
+//! Text with an annotation of its own: links, emphasis, strikeouts, images and colours.
+ghost use Rattle.std.specs.Prelude.{◌≡◌, ◌≢◌, ◌<◌, ◌≤◌, ◌++◌, ◌∷◌, [], suc, ◌-◌, true, None, Some, Err, IfOk, IfErr, OnOk, OnErr, chars, map};
+ghost use Rattle.tbr_lines.specs.View.{chars_of};
+ghost use Rattle.tbr_lines.specs.declared.Error.TheVariants as E;
+ghost use Rattle.tbr_decor.specs.Decoration.{decoration_of};
+ghost use Rattle.tbr_renderer.specs.Renderer.{KeepsSettings, block_width, with_annotation, without_annotation};
+ghost use Rattle.tbr_renderer.specs.Meant.{meant};
+ghost use Rattle.tbr_renderer.specs.View.{start_of, end_of};
+ghost use Rattle.tbr_renderer.specs.Calls as call;
+ghost use Rattle.tbr_renderer.specs.Calls.{KeepsFailure, StopsAtStage};
+ghost use Rattle.tbr_renderer.specs.Decorated.{struck_from, struck_until, asked_to_open, annotated, asked_to_close, Opens, OpenIsTooNarrow, Closes, CloseIsTooNarrow, OpensStrikeout, ClosesStrikeout};
+
+use crate::sub::SubRenderer;
+use tbr_decor::TextDecorator;
+use tbr_lines::{CharWidth, Error, OutOfMemory};
+
+/// What a decorator opens.
+#[derive(Clone, Copy)]
+pub(crate) enum Start<'a> {
+    Link(&'a str),
+    Emphasis,
+    Strong,
+    Strikeout,
+    Code,
+    Superscript,
+    /// An image by its source and title.
+    Image(&'a str, &'a str),
+}
+
+/// What a decorator closes.
+#[derive(Clone, Copy)]
+pub(crate) enum End {
+    Link,
+    Emphasis,
+    Strong,
+    Strikeout,
+    Code,
+    Superscript,
+}
+
+impl<D: TextDecorator, W: CharWidth> SubRenderer<D, W> {
+    /// The decorator's text and annotation for what is opened.
+    fn ask_to_open(&mut self, start: Start) -> Result<(String, D::Annotation), OutOfMemory>
+        ensures text { IfOk result (λ r. chars_of r.0 ≡ D.start_text self.old.decorator (start_of start.entry)) }
+        ensures annotation { IfOk result (λ r.
+            D.meaning r.1 ≡ D.annotation self.old.decorator (start_of start.entry)) }
+        ensures asked { OnOk result (meant D.meaning self.new
+            ≡ asked_to_open (decoration_of D.TextDecorator) (start_of start.entry) (meant D.meaning self.old)) }
+        ensures failure { self.new.failure ≡ self.old.failure }
+        ensures columns { block_width self.new ≡ block_width self.old }
+        ensures err { OnErr result (self.new ≡ self.old) }
+    {
+        match start {
+            Start::Link(target) => self.decorator.decorate_link_start(self.alloc, target),
+            Start::Emphasis => self.decorator.decorate_em_start(self.alloc),
+            Start::Strong => self.decorator.decorate_strong_start(self.alloc),
+            Start::Strikeout => self.decorator.decorate_strikeout_start(self.alloc),
+            Start::Code => self.decorator.decorate_code_start(self.alloc),
+            Start::Superscript => self.decorator.decorate_superscript_start(self.alloc),
+            Start::Image(src, title) => self.decorator.decorate_image(self.alloc, src, title),
+        }
+    }
+}
+
+impl<D: TextDecorator, W: CharWidth> SubRenderer<D, W> {
+    /// The decorator's text for what is closed.
+    fn ask_to_close(&mut self, end: End) -> Result<String, OutOfMemory>
+        ensures text { IfOk result (λ text. chars_of text ≡ D.end_text self.old.decorator (end_of end)) }
+        ensures asked { OnOk result (meant D.meaning self.new
+            ≡ asked_to_close (decoration_of D.TextDecorator) (end_of end) (meant D.meaning self.old)) }
+        ensures failure { self.new.failure ≡ self.old.failure }
+        ensures columns { block_width self.new ≡ block_width self.old }
+        ensures err { OnErr result (self.new ≡ self.old) }
+    {
+        match end {
+            End::Link => self.decorator.decorate_link_end(self.alloc),
+            End::Emphasis => self.decorator.decorate_em_end(self.alloc),
+            End::Strong => self.decorator.decorate_strong_end(self.alloc),
+            End::Strikeout => self.decorator.decorate_strikeout_end(self.alloc),
+            End::Code => self.decorator.decorate_code_end(self.alloc),
+            End::Superscript => self.decorator.decorate_superscript_end(self.alloc),
+        }
+    }
+
+    /// Adds an annotation to those of text that comes.
+    pub(crate) fn push_annotation(&mut self, annotation: D::Annotation) -> Result<(), OutOfMemory>
+        ensures ok { OnOk result
+            (meant D.meaning self.new ≡ with_annotation (meant D.meaning self.old) (D.meaning annotation)) }
+        ensures failure { self.new.failure ≡ self.old.failure }
+        ensures columns { block_width self.new ≡ block_width self.old }
+        ensures err { OnErr result (self.new ≡ self.old) }
+    {
+        self.annotations.push(annotation)?;
+        Ok(())
+    }
+
+    /// Takes the last annotation, if there is one.
+    pub(crate) fn pop_annotation(&mut self)
+        ensures { meant D.meaning self.new ≡ without_annotation (meant D.meaning self.old) }
+    {
+        let _ = self.annotations.pop();
+    }
+
+    /// Adds the annotation of what is opened to those of text that comes. The decorator's text is for the caller to
+    /// add.
+    fn annotate(&mut self, start: Start) -> Result<String, OutOfMemory>
+        ensures text { IfOk result (λ text. chars_of text ≡ D.start_text self.old.decorator (start_of start.entry)) }
+        ensures annotated { OnOk result (meant D.meaning self.new
+            ≡ annotated (decoration_of D.TextDecorator) (start_of start.entry) (meant D.meaning self.old)) }
+        ensures failure { self.new.failure ≡ self.old.failure }
+        ensures columns { block_width self.new ≡ block_width self.old }
+        ensures stopped { OnErr result (StopsAtStage W.columns (decoration_of D.TextDecorator)
+            (call.begin (start_of start.entry)) (meant D.meaning self.old) (meant D.meaning self.new)) }
+    {
+        let (text, annotation) = self.ask_to_open(start)?;
+        self.push_annotation(annotation)?;
+        Ok(text)
+    }
+
+    /// Adds the decorator's text for what is opened, under its annotation.
+    pub(crate) fn try_open(&mut self, start: Start) -> Result<(), Error>
+        requires { self.old.failure ≡ None }
+        ensures ok { OnOk result (Opens W.columns (decoration_of D.TextDecorator) (start_of start.entry)
+            (meant D.meaning self.old) (meant D.meaning self.new)) }
+        ensures too_narrow { result ≡ Err E.TooNarrow → OpenIsTooNarrow W.columns
+            (decoration_of D.TextDecorator) (start_of start.entry) (meant D.meaning self.old) }
+        ensures two_columns { 2 ≤ block_width self.old → result ≢ Err E.TooNarrow }
+        ensures settings { OnOk result (KeepsSettings (annotated (decoration_of D.TextDecorator)
+            (start_of start.entry) (meant D.meaning self.old)) (meant D.meaning self.new)) }
+        ensures stopped { OnErr result (StopsAtStage W.columns (decoration_of D.TextDecorator)
+            (call.begin (start_of start.entry)) (meant D.meaning self.old) (meant D.meaning self.new)) }
+    {
+        let text = self.annotate(start)?;
+        self.try_add_text(text.as_str())
+    }
+
+    /// Opens decorated text, and keeps a refusal.
+    pub(crate) fn begin(&mut self, start: Start) -> Result<(), Error>
+        ensures ok { OnOk result (Opens W.columns (decoration_of D.TextDecorator) (start_of start.entry)
+            (meant D.meaning self.old) (meant D.meaning self.new)) }
+        ensures too_narrow { self.old.failure ≡ None → result ≡ Err E.TooNarrow → OpenIsTooNarrow W.columns
+            (decoration_of D.TextDecorator) (start_of start.entry) (meant D.meaning self.old) }
+        ensures two_columns { self.old.failure ≡ None → 2 ≤ block_width self.old → result ≢ Err E.TooNarrow }
+        ensures left { self.old.failure ≡ None → OnErr result (StopsAtStage W.columns (decoration_of D.TextDecorator)
+            (call.begin (start_of start.entry)) (meant D.meaning self.old) (meant D.meaning self.new)) }
+        ensures kept { KeepsFailure (λ r. r.failure) self.old result self.new }
+    {
+        self.refusal()?;
+        let done = self.try_open(start);
+        self.keep(done)
+    }
+
+    /// Adds the decorator's text for what is closed, and then takes the last annotation.
+    pub(crate) fn try_close(&mut self, end: End) -> Result<(), Error>
+        requires { self.old.failure ≡ None }
+        ensures ok { OnOk result (Closes W.columns (decoration_of D.TextDecorator) (end_of end)
+            (meant D.meaning self.old) (meant D.meaning self.new)) }
+        ensures too_narrow { result ≡ Err E.TooNarrow → CloseIsTooNarrow W.columns
+            (decoration_of D.TextDecorator) (end_of end) (meant D.meaning self.old) }
+        ensures two_columns { 2 ≤ block_width self.old → result ≢ Err E.TooNarrow }
+        ensures stopped { OnErr result (StopsAtStage W.columns (decoration_of D.TextDecorator)
+            (call.finish (end_of end)) (meant D.meaning self.old) (meant D.meaning self.new)) }
+    {
+        let text = self.ask_to_close(end)?;
+        self.try_add_text(text.as_str())?;
+        self.pop_annotation();
+        Ok(())
+    }
+
+    /// Closes decorated text, and keeps a refusal.
+    pub(crate) fn finish(&mut self, end: End) -> Result<(), Error>
+        ensures ok { OnOk result (Closes W.columns (decoration_of D.TextDecorator) (end_of end)
+            (meant D.meaning self.old) (meant D.meaning self.new)) }
+        ensures too_narrow { self.old.failure ≡ None → result ≡ Err E.TooNarrow → CloseIsTooNarrow W.columns
+            (decoration_of D.TextDecorator) (end_of end) (meant D.meaning self.old) }
+        ensures two_columns { self.old.failure ≡ None → 2 ≤ block_width self.old → result ≢ Err E.TooNarrow }
+        ensures left { self.old.failure ≡ None → OnErr result (StopsAtStage W.columns (decoration_of D.TextDecorator)
+            (call.finish (end_of end)) (meant D.meaning self.old) (meant D.meaning self.new)) }
+        ensures kept { KeepsFailure (λ r. r.failure) self.old result self.new }
+    {
+        self.refusal()?;
+        let done = self.try_close(end);
+        self.keep(done)
+    }
+}

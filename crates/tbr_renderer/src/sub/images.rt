@@ -1,0 +1,35 @@
+//! Images.
+ghost use Rattle.std.specs.Prelude.{◌≡◌, ◌≢◌, ◌≤◌, None, Err, OnOk, OnErr, chars};
+ghost use Rattle.tbr_lines.specs.declared.Error.TheVariants as E;
+ghost use Rattle.tbr_decor.specs.Decoration.{decoration_of};
+ghost use Rattle.tbr_renderer.specs.Renderer.{block_width};
+ghost use Rattle.tbr_renderer.specs.Meant.{meant};
+ghost use Rattle.tbr_renderer.specs.Decorated.{AddsImage, ImageIsTooNarrow};
+ghost use Rattle.tbr_renderer.specs.Calls as call;
+ghost use Rattle.tbr_renderer.specs.Calls.{StopsAtStage};
+
+use crate::sub::SubRenderer;
+use crate::sub::decorated::Start;
+use tbr_decor::TextDecorator;
+use tbr_lines::{CharWidth, Error};
+
+impl<D: TextDecorator, W: CharWidth> SubRenderer<D, W> {
+    /// Adds the decorator's text for an image, if one is shown, under an annotation of its own.
+    pub(crate) fn try_add_image(&mut self, src: &str, title: &str) -> Result<(), Error>
+        requires { self.old.failure ≡ None }
+        ensures ok { OnOk result (AddsImage W.columns (decoration_of D.TextDecorator) (chars src.now)
+            (chars title.now) (meant D.meaning self.old) (meant D.meaning self.new)) }
+        ensures too_narrow { result ≡ Err E.TooNarrow → ImageIsTooNarrow W.columns
+            (decoration_of D.TextDecorator) (chars src.now) (chars title.now) (meant D.meaning self.old) }
+        ensures two_columns { 2 ≤ block_width self.old → result ≢ Err E.TooNarrow }
+        ensures stopped { OnErr result (StopsAtStage W.columns (decoration_of D.TextDecorator)
+            (call.add_image (chars src.now) (chars title.now)) (meant D.meaning self.old) (meant D.meaning self.new)) }
+    {
+        let Some(title) = self.options.img_mode.shown_title(src, title) else {
+            return Ok(());
+        };
+        self.try_open(Start::Image(src, title))?;
+        self.pop_annotation();
+        Ok(())
+    }
+}

@@ -1,0 +1,86 @@
+//! Lines that are handed out.
+ghost use Rattle.std.specs.Prelude.{◌≡◌, ◌≢◌, ◌≤◌, None, Some, Ok, Err, ◌++◌, map, IfOk, OnOk, List};
+ghost use Rattle.std.specs.List.{AllByRecursion as Each};
+ghost use Rattle.tbr_lines.specs.Copies.{equal_lists};
+ghost use Rattle.tbr_lines.specs.RenderLine.{IsMergedText};
+ghost use Rattle.tbr_lines.specs.declared.Error.{Error as Refusal};
+ghost use Rattle.tbr_lines.specs.declared.Error.TheVariants as E;
+ghost use Rattle.tbr_renderer.specs.Renderer.{Renderer as Seen, block_width};
+ghost use Rattle.tbr_renderer.specs.View.{line_seen};
+ghost use Rattle.tbr_renderer.specs.Text.{line_text, lines_text};
+ghost use Rattle.tbr_lines.specs.View.{chars_of};
+ghost use Rattle.tbr_renderer.specs.Meant.{tag_meant, map_line, meant};
+ghost use Rattle.tbr_renderer.specs.Flush.{Flushes, FlushIsTooNarrow};
+
+use crate::sub::SubRenderer;
+use std::alloc::Global;
+use std::collections::LinkedList;
+use std::mem;
+use tbr_decor::TextDecorator;
+use tbr_lines::{CharWidth, Error, OutOfMemory, RenderLine};
+
+impl<D: TextDecorator, W: CharWidth> SubRenderer<D, W> {
+    /// Ends the open line, and hands out all lines. Their pieces are the longest stretches under equal annotations.
+    ///
+    /// It refuses as `new_line` does.
+    pub fn into_lines(mut self) -> Result<LinkedList<RenderLine<Vec<D::Annotation>>>, Error>
+        ensures lines { IfOk result (λ lines. (s : Seen D D.Meaning (List D.Meaning))
+            × Flushes W.columns (meant D.meaning self) s
+            × (map (map_line (tag_meant D.meaning)) (map line_seen lines) ≡ s.lines)) }
+        ensures merged { IfOk result (λ lines. Each (IsMergedText (equal_lists D.Annotation.eq)) lines) }
+        ensures too_narrow { self.failure ≡ None → result ≡ Err E.TooNarrow →
+            FlushIsTooNarrow W.columns (meant D.meaning self) }
+        ensures two_columns { self.failure ≡ None → 2 ≤ block_width self → result ≢ Err E.TooNarrow }
+        ensures kept { (e : Refusal) → self.failure ≡ Some e → result ≡ Err e }
+    {
+        self.refusal()?;
+        self.try_flush()?;
+        Ok(self.take_lines())
+    }
+
+    /// Ends the open line, and writes all lines, each with a newline.
+    ///
+    /// It refuses as [`into_lines`](SubRenderer::into_lines) does.
+    pub fn into_string(self) -> Result<String, Error>
+        ensures text { IfOk result (λ text. (s : Seen D D.Meaning (List D.Meaning))
+            × Flushes W.columns (meant D.meaning self) s × (chars_of text ≡ lines_text s.lines)) }
+        ensures too_narrow { self.failure ≡ None → result ≡ Err E.TooNarrow →
+            FlushIsTooNarrow W.columns (meant D.meaning self) }
+        ensures two_columns { self.failure ≡ None → 2 ≤ block_width self → result ≢ Err E.TooNarrow }
+        ensures kept { (e : Refusal) → self.failure ≡ Some e → result ≡ Err e }
+    {
+        let alloc = self.alloc;
+        let lines = self.into_lines()?;
+        Ok(text_of(alloc, lines)?)
+    }
+
+    /// Takes all lines.
+    fn take_lines(&mut self) -> LinkedList<RenderLine<Vec<D::Annotation>>>
+        requires { self.old.failure ≡ None }
+        ensures lines { map line_seen result ≡ self.old.lines }
+        ensures merged { Each (IsMergedText (equal_lists D.Annotation.eq)) result }
+    {
+        self.has_content = false;
+        mem::replace(&mut self.lines, LinkedList::new(self.alloc))
+    }
+}
+
+/// The text of lines, each with a newline.
+fn text_of<T: Drop>(alloc: Global, lines: LinkedList<RenderLine<T>>) -> Result<String, OutOfMemory>
+    ensures { IfOk result (λ text. chars_of text ≡ lines_text (map line_seen lines)) }
+{
+    let mut text = String::new(alloc);
+    for line in lines {
+        push_line(&mut text, &line)?;
+    }
+    Ok(text)
+}
+
+/// Appends a line's text and a newline.
+fn push_line<T>(text: &mut String, line: &RenderLine<T>) -> Result<(), OutOfMemory>
+    ensures { OnOk result (chars_of text.new ≡ chars_of text.old ++ line_text (line_seen line.now)) }
+{
+    text.push_str(line.to_text()?.as_str())?;
+    text.push('\n')?;
+    Ok(())
+}

@@ -1,0 +1,77 @@
+//! Struck out text.
+ghost use Rattle.std.specs.Prelude.{◌≡◌, ◌≢◌, ◌<◌, ◌≤◌, true, None, Err, IfErr, OnOk, OnErr};
+ghost use Rattle.tbr_lines.specs.declared.Error.TheVariants as E;
+ghost use Rattle.tbr_decor.specs.Decoration.{decoration_of};
+ghost use Rattle.tbr_decor.specs.Start as start;
+ghost use Rattle.tbr_decor.specs.End as end;
+ghost use Rattle.tbr_renderer.specs.Renderer.{block_width};
+ghost use Rattle.tbr_renderer.specs.Meant.{meant};
+ghost use Rattle.tbr_renderer.specs.Decorated.{struck_from, struck_until, OpenIsTooNarrow, CloseIsTooNarrow, OpensStrikeout, ClosesStrikeout};
+ghost use Rattle.tbr_renderer.specs.Calls as call;
+ghost use Rattle.tbr_renderer.specs.Calls.{StopsAtStage};
+
+use crate::sub::SubRenderer;
+use crate::sub::decorated::{End, Start};
+use tbr_decor::TextDecorator;
+use tbr_lines::{CharWidth, Error};
+
+impl<D: TextDecorator, W: CharWidth> SubRenderer<D, W> {
+    /// Text that comes has a stroke more, if struck out text has any.
+    fn strike(&mut self) -> Result<(), Error>
+        ensures ok { OnOk result (meant D.meaning self.new ≡ struck_from (meant D.meaning self.old)) }
+        ensures memory { IfErr result (λ e. e ≡ E.OutOfMemory) }
+        ensures err { OnErr result (self.new ≡ self.old) }
+    {
+        if !self.options.use_unicode_strikeout {
+            return Ok(());
+        }
+        let Some(depth) = self.strikeouts.checked_add(1) else {
+            return Err(Error::OutOfMemory);
+        };
+        self.strikeouts = depth;
+        Ok(())
+    }
+
+    /// Text that comes has a stroke less, if struck out text has any.
+    fn end_strike(&mut self)
+        requires { self.old.options.use_unicode_strikeout ≡ true → 0 < self.old.strikeouts }
+        ensures ended { meant D.meaning self.new ≡ struck_until (meant D.meaning self.old) }
+        ensures failure { self.new.failure ≡ self.old.failure }
+        ensures columns { block_width self.new ≡ block_width self.old }
+    {
+        if self.options.use_unicode_strikeout {
+            self.strikeouts -= 1;
+        }
+    }
+
+    /// Opens a strikeout, behind whose own text characters have strokes.
+    pub(crate) fn try_start_strikeout(&mut self) -> Result<(), Error>
+        requires { self.old.failure ≡ None }
+        ensures ok { OnOk result (OpensStrikeout W.columns (decoration_of D.TextDecorator)
+            (meant D.meaning self.old) (meant D.meaning self.new)) }
+        ensures too_narrow { result ≡ Err E.TooNarrow → OpenIsTooNarrow W.columns
+            (decoration_of D.TextDecorator) start.strikeout (meant D.meaning self.old) }
+        ensures two_columns { 2 ≤ block_width self.old → result ≢ Err E.TooNarrow }
+        ensures stopped { OnErr result (StopsAtStage W.columns (decoration_of D.TextDecorator)
+            call.start_strikeout (meant D.meaning self.old) (meant D.meaning self.new)) }
+    {
+        self.try_open(Start::Strikeout)?;
+        self.strike()
+    }
+
+    /// Closes a strikeout, whose own text has no strokes of it.
+    pub(crate) fn try_end_strikeout(&mut self) -> Result<(), Error>
+        requires unfailed { self.old.failure ≡ None }
+        requires open { self.old.options.use_unicode_strikeout ≡ true → 0 < self.old.strikeouts }
+        ensures ok { OnOk result (ClosesStrikeout W.columns (decoration_of D.TextDecorator)
+            (meant D.meaning self.old) (meant D.meaning self.new)) }
+        ensures too_narrow { result ≡ Err E.TooNarrow → CloseIsTooNarrow W.columns
+            (decoration_of D.TextDecorator) end.strikeout (struck_until (meant D.meaning self.old)) }
+        ensures two_columns { 2 ≤ block_width self.old → result ≢ Err E.TooNarrow }
+        ensures stopped { OnErr result (StopsAtStage W.columns (decoration_of D.TextDecorator)
+            call.end_strikeout (meant D.meaning self.old) (meant D.meaning self.new)) }
+    {
+        self.end_strike();
+        self.try_close(End::Strikeout)
+    }
+}

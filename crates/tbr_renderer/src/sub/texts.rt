@@ -1,0 +1,284 @@
+//! Text that joins the open block.
+ghost use Rattle.std.specs.Prelude.{◌≡◌, ◌≢◌, ◌≤◌, ◌++◌, ◌∷◌, [], None, Some, Ok, Err, true, false, map, chars, string_bytes, List, ℕ, IfOk, IfErr, OnOk, replicate};
+ghost use Rattle.tbr_model.specs.Mapped.{map_run};
+ghost use Rattle.tbr_lines.specs.View.{chars_of};
+ghost use Rattle.tbr_lines.specs.declared.Error.TheVariants as E;
+ghost use Rattle.tbr_renderer.specs.Renderer.{KeepsSettings, block_width, may_overflow, last_mode, struck, struck_character, open_block, new_block, stroke, text_annotations, entries_under, entries_of, with_entries, is_white, ignores};
+ghost use Rattle.tbr_renderer.specs.View.{IsFresh, open_seen};
+ghost use Rattle.tbr_renderer.specs.Meant.{tag_meant, map_open, meant};
+ghost use Rattle.tbr_renderer.specs.View.{block_meant};
+ghost use Rattle.tbr_renderer.specs.Flush.{with_run, RunGoesOn, RunStops};
+ghost use Rattle.tbr_renderer.specs.Steps.{JoinsText, JoinIsTooNarrow, AddsTextBy, AddsText, TextIsTooNarrowBy, TextIsTooNarrow};
+ghost use Rattle.tbr_model.specs.Run.{marker_entry};
+
+use crate::sub::SubRenderer;
+use std::alloc::Global;
+use tbr_decor::TextDecorator;
+use tbr_lines::{CharWidth, Error, OutOfMemory, TaggedLineElement, WhiteSpace, WrappedBlock};
+
+/// The stroke through the character before it.
+const STROKE: char = '\u{336}';
+
+impl<D: TextDecorator, W: CharWidth> SubRenderer<D, W> {
+    /// The mode that was pushed last.
+    fn mode(&self) -> WhiteSpace
+        ensures { result ≡ last_mode self.now.modes }
+    {
+        match self.modes.last() {
+            Some(mode) => *mode,
+            None => WhiteSpace::Normal,
+        }
+    }
+
+    /// The columns of a block.
+    fn block_columns(&self) -> usize
+        ensures { result ≡ block_width self.now }
+    {
+        match self.options.wrap_width {
+            Some(wrap) => self.width.min(wrap),
+            None => self.width,
+        }
+    }
+
+    /// A copy of the annotations.
+    pub(crate) fn tag(&self) -> Result<Vec<D::Annotation>, OutOfMemory>
+        ensures { IfOk result (λ tag. tag_meant D.meaning tag ≡ map D.meaning self.now.annotations) }
+    {
+        Ok(self.annotations.clone()?)
+    }
+
+    /// A block without text.
+    fn new_block(&self) -> Result<WrappedBlock<Vec<D::Annotation>, W>, OutOfMemory>
+        ensures fresh { IfOk result (λ b. IsFresh (block_width self.now) (may_overflow self.now) b) }
+        ensures block { IfOk result (λ b.
+            map_open (tag_meant D.meaning) (open_seen b) ≡ new_block (meant D.meaning self.now)) }
+    {
+        Ok(WrappedBlock::new(
+            self.alloc,
+            self.block_columns(),
+            self.options.pad_block_width,
+            self.options.allow_width_overflow,
+            self.tag()?,
+        ))
+    }
+
+    /// Takes the open block, or a new one.
+    fn take_or_new_block(&mut self) -> Result<WrappedBlock<Vec<D::Annotation>, W>, OutOfMemory>
+        requires { self.old.failure ≡ None }
+        ensures fresh { IfOk result (λ b. IsFresh (block_width self.old) (may_overflow self.old) b) }
+        ensures block { IfOk result (λ b.
+            map_open (tag_meant D.meaning) (open_seen b) ≡ open_block (meant D.meaning self.old)) }
+        ensures rest { OnOk result (self.new ≡ record self.old { block = None }) }
+        ensures settings { KeepsSettings (meant D.meaning self.old) (meant D.meaning self.new) }
+    {
+        match self.take_block() {
+            Some(block) => Ok(block),
+            None => self.new_block(),
+        }
+    }
+
+    /// The annotations, and one more.
+    fn tag_with(&self, annotation: D::Annotation) -> Result<Vec<D::Annotation>, OutOfMemory>
+        ensures { IfOk result (λ tag. tag_meant D.meaning tag
+            ≡ map D.meaning self.now.annotations ++ D.meaning annotation ∷ []) }
+    {
+        let mut tag = self.tag()?;
+        tag.push(annotation)?;
+        Ok(tag)
+    }
+
+    /// Writes text into a block, in the mode that was pushed last, under these annotations.
+    fn write_under(
+        &self,
+        block: &mut WrappedBlock<Vec<D::Annotation>, W>,
+        text: &str,
+        main: &Vec<D::Annotation>,
+        continued: &Vec<D::Annotation>,
+    ) -> Result<(), Error>
+        requires fresh { IsFresh (block_width self.now) (may_overflow self.now) block.old }
+        requires main { tag_meant D.meaning main.now
+            ≡ text_annotations D.preformatted false (meant D.meaning self.now) }
+        requires continued { tag_meant D.meaning continued.now
+            ≡ text_annotations D.preformatted true (meant D.meaning self.now) }
+        ensures fresh { OnOk result (IsFresh (block_width self.now) (may_overflow self.now) block.new) }
+        ensures written { let es = entries_under D.preformatted (meant D.meaning self.now) (chars text.now) in
+            OnOk result (block_meant D.meaning block.new ≡ with_run (block_meant D.meaning block.old) es) }
+        ensures goes_on { let es = entries_under D.preformatted (meant D.meaning self.now) (chars text.now) in
+            OnOk result (RunGoesOn W.columns (block_width self.now) (may_overflow self.now)
+            ((block_meant D.meaning block.old).run ++ es)) }
+        ensures too_narrow { let es = entries_under D.preformatted (meant D.meaning self.now) (chars text.now) in
+            result ≡ Err E.TooNarrow → RunStops W.columns (block_width self.now) (may_overflow self.now)
+            ((block_meant D.meaning block.old).run ++ es) }
+        ensures two_columns { 2 ≤ block_width self.now → result ≢ Err E.TooNarrow }
+    {
+        block.add_text(text, self.mode(), main, continued)
+    }
+
+    /// Writes text without strokes into a block.
+    fn write_plain(
+        &self,
+        block: &mut WrappedBlock<Vec<D::Annotation>, W>,
+        text: &str,
+    ) -> Result<(), Error>
+        requires fresh { IsFresh (block_width self.now) (may_overflow self.now) block.old }
+        ensures fresh { OnOk result (IsFresh (block_width self.now) (may_overflow self.now) block.new) }
+        ensures written { let es = entries_under D.preformatted (meant D.meaning self.now) (chars text.now) in
+            OnOk result (block_meant D.meaning block.new ≡ with_run (block_meant D.meaning block.old) es) }
+        ensures goes_on { let es = entries_under D.preformatted (meant D.meaning self.now) (chars text.now) in
+            OnOk result (RunGoesOn W.columns (block_width self.now) (may_overflow self.now)
+            ((block_meant D.meaning block.old).run ++ es)) }
+        ensures too_narrow { let es = entries_under D.preformatted (meant D.meaning self.now) (chars text.now) in
+            result ≡ Err E.TooNarrow → RunStops W.columns (block_width self.now) (may_overflow self.now)
+            ((block_meant D.meaning block.old).run ++ es) }
+        ensures two_columns { 2 ≤ block_width self.now → result ≢ Err E.TooNarrow }
+    {
+        if self.preformatted == 0 {
+            return self.write_under(block, text, &self.annotations, &self.annotations);
+        }
+        let first = self.tag_with(self.decorator.decorate_preformat_first(self.alloc)?)?;
+        let continued = self.tag_with(self.decorator.decorate_preformat_cont(self.alloc)?)?;
+        self.write_under(block, text, &first, &continued)
+    }
+
+    /// Writes text into a block, with strokes inside strikeouts.
+    fn write(
+        &self,
+        block: &mut WrappedBlock<Vec<D::Annotation>, W>,
+        text: &str,
+    ) -> Result<(), Error>
+        requires fresh { IsFresh (block_width self.now) (may_overflow self.now) block.old }
+        ensures fresh { OnOk result (IsFresh (block_width self.now) (may_overflow self.now) block.new) }
+        ensures written { let es = entries_of W.columns D.preformatted (meant D.meaning self.now) (chars text.now) in
+            OnOk result (block_meant D.meaning block.new ≡ with_run (block_meant D.meaning block.old) es) }
+        ensures goes_on { let es = entries_of W.columns D.preformatted (meant D.meaning self.now) (chars text.now) in
+            OnOk result (RunGoesOn W.columns (block_width self.now) (may_overflow self.now)
+            ((block_meant D.meaning block.old).run ++ es)) }
+        ensures too_narrow { let es = entries_of W.columns D.preformatted (meant D.meaning self.now) (chars text.now) in
+            result ≡ Err E.TooNarrow → RunStops W.columns (block_width self.now) (may_overflow self.now)
+            ((block_meant D.meaning block.old).run ++ es) }
+        ensures two_columns { 2 ≤ block_width self.now → result ≢ Err E.TooNarrow }
+    {
+        if self.strikeouts == 0 {
+            return self.write_plain(block, text);
+        }
+        let struck = struck_text::<W>(self.alloc, text, self.strikeouts)?;
+        self.write_plain(block, struck.as_str())
+    }
+
+    /// Adds text to the open block, or to a new one.
+    fn add_to_block(&mut self, text: &str) -> Result<(), Error>
+        requires { self.old.failure ≡ None }
+        ensures ok { OnOk result (JoinsText W.columns D.preformatted (chars text.now)
+            (meant D.meaning self.old) (meant D.meaning self.new)) }
+        ensures too_narrow { result ≡ Err E.TooNarrow →
+            JoinIsTooNarrow W.columns D.preformatted (chars text.now) (meant D.meaning self.old) }
+        ensures two_columns { 2 ≤ block_width self.old → result ≢ Err E.TooNarrow }
+        ensures settings { KeepsSettings (meant D.meaning self.old) (meant D.meaning self.new) }
+    {
+        let mut block = self.take_or_new_block()?;
+        self.write(&mut block, text)?;
+        self.put_block(block);
+        Ok(())
+    }
+
+    /// Whether a text is ignored, as white space behind the end of a block is.
+    fn ignores(&self, text: &str) -> bool
+        ensures { result ≡ ignores self.now (chars text.now) }
+    {
+        self.block_ended && !self.mode().preserve_whitespace() && is_white_text(text)
+    }
+
+    /// Whether text that comes begins a block.
+    fn has_block_ended(&self) -> bool
+        ensures { result ≡ self.now.block_ended }
+    {
+        self.block_ended
+    }
+
+    /// Begins a block with text.
+    fn begin_with(&mut self, text: &str) -> Result<(), Error>
+        requires { self.old.failure ≡ None }
+        ensures ok { OnOk result (AddsTextBy W.columns D.preformatted false true (chars text.now)
+            (meant D.meaning self.old) (meant D.meaning self.new)) }
+        ensures too_narrow { result ≡ Err E.TooNarrow →
+            TextIsTooNarrowBy W.columns D.preformatted false true (chars text.now) (meant D.meaning self.old) }
+        ensures two_columns { 2 ≤ block_width self.old → result ≢ Err E.TooNarrow }
+        ensures settings { KeepsSettings (meant D.meaning self.old) (meant D.meaning self.new) }
+    {
+        self.try_start_block()?;
+        self.add_to_block(text)
+    }
+
+    /// Adds text: to the open block or a new one, or behind the end of a block to one that it begins.
+    pub(crate) fn try_add_text(&mut self, text: &str) -> Result<(), Error>
+        requires { self.old.failure ≡ None }
+        ensures ok { OnOk result (AddsText W.columns D.preformatted (chars text.now)
+            (meant D.meaning self.old) (meant D.meaning self.new)) }
+        ensures too_narrow { result ≡ Err E.TooNarrow →
+            TextIsTooNarrow W.columns D.preformatted (chars text.now) (meant D.meaning self.old) }
+        ensures two_columns { 2 ≤ block_width self.old → result ≢ Err E.TooNarrow }
+        ensures settings { KeepsSettings (meant D.meaning self.old) (meant D.meaning self.new) }
+    {
+        if self.ignores(text) {
+            return Ok(());
+        }
+        if self.has_block_ended() {
+            return self.begin_with(text);
+        }
+        self.add_to_block(text)
+    }
+
+    /// Puts a marker into the open block, or into a new one.
+    pub(crate) fn try_add_marker(&mut self, name: &str) -> Result<(), Error>
+        requires { self.old.failure ≡ None }
+        ensures ok { OnOk result
+            (meant D.meaning self.new ≡ with_entries (meant D.meaning self.old) (marker_entry name.now ∷ [])) }
+        ensures memory { IfErr result (λ e. e ≡ E.OutOfMemory) }
+        ensures settings { KeepsSettings (meant D.meaning self.old) (meant D.meaning self.new) }
+    {
+        let name = String::from_str(self.alloc, name)?;
+        let mut block = self.take_or_new_block()?;
+        block.add_element(TaggedLineElement::FragmentStart(name))?;
+        self.put_block(block);
+        Ok(())
+    }
+}
+
+/// Whether a text is of white space alone.
+fn is_white_text(text: &str) -> bool
+    ensures { result ≡ is_white (chars text.now) }
+{
+    text.chars().all(|c| c.is_whitespace())
+}
+
+/// The text with strokes, as many as `depth`, behind each character that takes columns.
+fn struck_text<W: CharWidth>(alloc: Global, text: &str, depth: usize) -> Result<String, OutOfMemory>
+    ensures { IfOk result (λ s. chars_of s ≡ struck W.columns depth (chars text.now)) }
+{
+    let mut s = String::new(alloc);
+    for c in text.chars() {
+        push_struck::<W>(&mut s, c, depth)?;
+    }
+    Ok(s)
+}
+
+/// Appends a character, with strokes behind it if it takes columns.
+fn push_struck<W: CharWidth>(s: &mut String, c: char, depth: usize) -> Result<(), OutOfMemory>
+    ensures { OnOk result (chars_of s.new ≡ chars_of s.old ++ struck_character W.columns depth c) }
+{
+    s.push(c)?;
+    if W::width(c).unwrap_or(0) == 0 {
+        return Ok(());
+    }
+    push_strokes(s, depth)
+}
+
+/// Appends strokes.
+fn push_strokes(s: &mut String, count: usize) -> Result<(), OutOfMemory>
+    ensures { OnOk result (chars_of s.new ≡ chars_of s.old ++ replicate count stroke) }
+{
+    for _ in 0..count {
+        s.push(STROKE)?;
+    }
+    Ok(())
+}

@@ -1,7 +1,0 @@
-use Rattle.std.proofs.Common.{◌≡◌, ◌++◌, replicate}
-use Rattle.tbr_lines.specs.View.{chars_of}
-use Rattle.text_block_renderer.specs.Renderer.{stroke}
-use Rattle.text_block_renderer.proofs.sub.texts.push_strokes.Given as goal
-
-abbrev pub invariant-loop : goal.invariant-loop
-invariant-loop l = chars_of l.s ≡ chars_of l.initial.s ++ replicate l.counter stroke

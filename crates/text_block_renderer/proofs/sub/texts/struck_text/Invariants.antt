@@ -1,7 +1,0 @@
-use Rattle.std.proofs.Common.{◌≡◌}
-use Rattle.tbr_lines.specs.View.{chars_of}
-use Rattle.text_block_renderer.specs.Renderer.{struck}
-use Rattle.text_block_renderer.proofs.sub.texts.struck_text.Given as goal
-
-abbrev pub invariant-loop-c : goal.invariant-loop-c
-invariant-loop-c g l = chars_of l.s ≡ struck g.W.CharWidth.columns l.fn.depth l.yielded
