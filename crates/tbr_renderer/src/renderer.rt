@@ -1,5 +1,8 @@
 //! The calls of a renderer.
-ghost use Rattle.std.specs.Prelude.{◌≡◌, ◌≢◌, ◌≤◌, ◌<◌, ℕ, Bool, true, List, Option, None, Some, Err, OnOk, OnErr, IfOk, IfErr, chars};
+ghost use Rattle.std.specs.Prelude.{◌≡◌, ◌≢◌, ◌≤◌, ◌<◌, ◌⊎◌, ℕ, Bool, true, List, length, Option, None, Some, Err, OnOk, OnErr, IfOk, IfErr, chars};
+ghost use Rattle.std.specs.List.{AllZip, AllByRecursion as Each};
+ghost use Rattle.tbr_renderer.specs.Renderer.{Line};
+ghost use Rattle.tbr_renderer.specs.Appended.{GivesFirst, texts_of, FirstToRefuse};
 ghost use Rattle.tbr_lines.specs.View.{chars_of};
 ghost use Rattle.tbr_decor.specs.Start as start;
 ghost use Rattle.tbr_decor.specs.End as end;
@@ -10,6 +13,7 @@ ghost use Rattle.tbr_renderer.specs.Calls.{Call, KeepsFailure};
 ghost use Rattle.tbr_lines.specs.declared.Error.{Error as Refusal};
 ghost use Rattle.tbr_lines.specs.declared.Error.TheVariants as E;
 
+use std::convert::AsStr;
 use tbr_decor::Colour;
 use tbr_lines::{Error, WhiteSpace};
 
@@ -18,13 +22,16 @@ use tbr_lines::{Error, WhiteSpace};
 /// A call that refuses leaves the renderer failed. It keeps that refusal, which each later call that can refuse
 /// answers, doing nothing else; a call that can't refuse does nothing then.
 pub trait Renderer {
-    // What a call that succeeds leaves, and where it answers `TooNarrow`.
-    ghost does: { Call → Self → Self → Type 0 };
+    // What its text stands under.
+    ghost Tag: { Type 0 };
 
-    ghost is_too_narrow: { Call → Self → Type 0 };
+    // What a call that succeeds leaves, and where it answers `TooNarrow`.
+    ghost does: { Call Self.Tag → Self → Self → Type 0 };
+
+    ghost is_too_narrow: { Call Self.Tag → Self → Type 0 };
 
     // At which stages a call that refuses stops.
-    ghost stops_at_stage: { Call → Self → Self → Type 0 };
+    ghost stops_at_stage: { Call Self.Tag → Self → Self → Type 0 };
 
     // The kept refusal, the columns of the renderer, and those of its blocks.
     ghost kept_refusal: { Self → Option Refusal };
@@ -39,6 +46,14 @@ pub trait Renderer {
     ghost open_strikeouts: { Self → ℕ };
 
     ghost strikes: { Self → Bool };
+
+    // The lines that it hands out where its open line is ended, and where that answers `TooNarrow`.
+    ghost hands_out: { Self → List (Line Self.Tag) → Type 0 };
+
+    ghost hands_out_too_narrow: { Self → Type 0 };
+
+    // Whether it is as another one was, but for this refusal.
+    ghost has_failed_from: { Self → Refusal → Self → Type 0 };
 
     // The text of a prefix, and a renderer for a block inside.
     ghost prefix_text: { Self → prefix.Prefix → List ℕ };
@@ -300,6 +315,66 @@ pub trait Renderer {
             result ≢ Err E.TooNarrow }
         ensures left { kept_refusal self.old ≡ None →
             OnErr result (stops_at_stage (call.add_image (chars src.now) (chars title.now)) self.old self.new) }
+        ensures kept { KeepsFailure kept_refusal self.old result self.new };
+
+    /// Ends the open line, and adds a border of the renderer's width under the annotations. Markers that wait go on
+    /// waiting. Where lines are padded the border becomes text.
+    fn add_horizontal_border(&mut self) -> Result<(), Error>
+        ensures ok { OnOk result (does (call.add_border (columns_of self.old)) self.old self.new) }
+        ensures too_narrow { kept_refusal self.old ≡ None → result ≡ Err E.TooNarrow →
+            is_too_narrow (call.add_border (columns_of self.old)) self.old }
+        ensures two_columns { kept_refusal self.old ≡ None → 2 ≤ block_columns self.old →
+            result ≢ Err E.TooNarrow }
+        ensures left { kept_refusal self.old ≡ None →
+            OnErr result (stops_at_stage (call.add_border (columns_of self.old)) self.old self.new) }
+        ensures kept { KeepsFailure kept_refusal self.old result self.new };
+
+    /// Ends the open line, and adds a border of `width` columns, as `add_horizontal_border` does.
+    fn add_horizontal_border_width(&mut self, width: usize) -> Result<(), Error>
+        ensures ok { OnOk result (does (call.add_border width) self.old self.new) }
+        ensures too_narrow { kept_refusal self.old ≡ None → result ≡ Err E.TooNarrow →
+            is_too_narrow (call.add_border width) self.old }
+        ensures two_columns { kept_refusal self.old ≡ None → 2 ≤ block_columns self.old →
+            result ≢ Err E.TooNarrow }
+        ensures left { kept_refusal self.old ≡ None →
+            OnErr result (stops_at_stage (call.add_border width) self.old self.new) }
+        ensures kept { KeepsFailure kept_refusal self.old result self.new };
+
+    /// Ends the open line, and then that of another renderer, and adds the lines of that one, each behind a prefix and
+    /// under the annotations. A border becomes text.
+    ///
+    /// One prefix is asked for a line. Where they run out, the lines that are left are dropped. A refusal of the other
+    /// renderer is passed on.
+    fn append_subrender<P: AsStr + Drop, I: Iterator<Item = P>>(
+        &mut self,
+        other: Self,
+        prefixes: I,
+    ) -> Result<(), Error>
+        requires { I.can_next prefixes }
+        ensures ok { OnOk result ((lines : List (Line Tag)) × (given : List P)
+            × hands_out other lines × GivesFirst I.next_gives (length lines) prefixes given
+            × does (call.append_subrender (texts_of P.text given) lines) self.old self.new) }
+        ensures too_narrow { kept_refusal self.old ≡ None → result ≡ Err E.TooNarrow →
+            is_too_narrow call.new_line self.old ⊎ ((m : Self) × does call.new_line self.old m
+            × hands_out_too_narrow other × has_failed_from m E.TooNarrow self.new) }
+        ensures two_columns { kept_refusal self.old ≡ None → 2 ≤ block_columns self.old →
+            kept_refusal other ≡ None → 2 ≤ block_columns other → result ≢ Err E.TooNarrow }
+        ensures left { kept_refusal self.old ≡ None →
+            OnErr result (stops_at_stage call.new_line self.old self.new) }
+        ensures kept { KeepsFailure kept_refusal self.old result self.new };
+
+    /// Ends the open line, and adds the lines of other renderers, one below another, as `append_subrender` does without
+    /// prefixes. Where borders are drawn, one of slashes stands between each two, and a plain one behind all, also
+    /// where there are none. A refusal of one of them is passed on, the first in order.
+    fn append_vert_row(&mut self, cols: Vec<Self>) -> Result<(), Error>
+        ensures ok { OnOk result ((cells : List (List (Line Tag))) × AllZip hands_out cols.items cells
+            × does (call.append_vert_row cells) self.old self.new) }
+        ensures too_narrow { kept_refusal self.old ≡ None → result ≡ Err E.TooNarrow →
+            is_too_narrow call.new_line self.old ⊎ FirstToRefuse hands_out hands_out_too_narrow cols.items }
+        ensures two_columns { kept_refusal self.old ≡ None → 2 ≤ block_columns self.old →
+            Each (λ col. (kept_refusal col ≡ None) × (2 ≤ block_columns col)) cols.items → result ≢ Err E.TooNarrow }
+        ensures left { kept_refusal self.old ≡ None →
+            OnErr result (stops_at_stage call.new_line self.old self.new) }
         ensures kept { KeepsFailure kept_refusal self.old result self.new };
 
     /// Begins text in a colour, whose annotation joins the others, if the decorator has one. It refuses only for want

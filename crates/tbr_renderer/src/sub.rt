@@ -3,10 +3,11 @@ ghost use Rattle.std.specs.Prelude.{◌≡◌, ◌≢◌, ◌<◌, ◌≤◌, []
 ghost use Rattle.tbr_lines.specs.declared.Error.{Error as Refusal};
 ghost use Rattle.tbr_lines.specs.declared.Error.TheVariants as E;
 ghost use Rattle.tbr_renderer.specs.Renderer.{Renderer as Model, KeepsSettings, new_renderer, has_content, text, line_padding, with_line, block_width, may_overflow};
-ghost use Rattle.tbr_renderer.specs.View.{block_seen, IsFresh, IsOpened, AreMarkers, names_of};
+ghost use Rattle.tbr_renderer.specs.View.{line_seen, block_seen, IsFresh, IsOpened, AreMarkers, names_of};
 ghost use Rattle.tbr_lines.specs.View.{element_of};
 ghost use Rattle.tbr_lines.specs.Copies.{equal_lists};
 ghost use Rattle.tbr_lines.specs.Elements.{items_of, SameItems, IsMerged};
+ghost use Rattle.tbr_lines.specs.RenderLine.{IsMergedText};
 ghost use Rattle.tbr_renderer.specs.Meant.{meant, items_meant};
 
 use crate::options::RenderOptions;
@@ -21,7 +22,9 @@ use tbr_lines::{
     UnicodeColumns, WhiteSpace, WrappedBlock,
 };
 
+mod appended;
 mod blocks;
+mod borders;
 mod calls;
 mod colours;
 mod decorated;
@@ -221,16 +224,15 @@ impl<D: TextDecorator, W: CharWidth> SubRenderer<D, W> {
         mem::replace(&mut self.waiting, Vec::new(self.alloc))
     }
 
-    /// Adds a line of text as it is. Where memory is refused the line is lost.
-    fn push_text(&mut self, line: TaggedLine<Vec<D::Annotation>>) -> Result<(), OutOfMemory>
-        requires { IsMerged (equal_lists D.Annotation.eq) line }
-        ensures line { OnOk result
-            (self.new ≡ record self.old { lines = self.old.lines ++ text (items_of line) ∷ [] }) }
+    /// Adds a line as it is. Where memory is refused the line is lost.
+    fn push_line(&mut self, line: RenderLine<Vec<D::Annotation>>) -> Result<(), OutOfMemory>
+        requires { IsMergedText (equal_lists D.Annotation.eq) line }
+        ensures line { OnOk result (self.new ≡ record self.old { lines = self.old.lines ++ line_seen line ∷ [] }) }
         ensures settings { KeepsSettings (meant D.meaning self.old) (meant D.meaning self.new) }
     {
-        let has_piece = !line.is_empty();
-        self.lines.push_back(RenderLine::Text(line))?;
-        self.has_content |= has_piece;
+        let has_content = line.has_content();
+        self.lines.push_back(line)?;
+        self.has_content |= has_content;
         Ok(())
     }
 
@@ -261,7 +263,7 @@ impl<D: TextDecorator, W: CharWidth> SubRenderer<D, W> {
         let waiting = self.take_waiting();
         let mut whole = behind_markers(self.alloc, waiting, line)?;
         self.fill(&mut whole)?;
-        self.push_text(whole)
+        self.push_line(RenderLine::Text(whole))
     }
 }
 

@@ -1,16 +1,20 @@
 //! The calls of a renderer.
-ghost use Rattle.std.specs.Prelude.{◌≡◌, ◌≢◌, ◌<◌, ◌++◌, ◌∷◌, [], suc, ◌-◌, not, None, Some, Ok, Err, OnOk, OnErr, IfErr};
+ghost use Rattle.std.specs.Prelude.{◌≡◌, ◌≢◌, ◌<◌, ◌++◌, ◌∷◌, [], suc, ◌-◌, not, None, Some, Ok, Err, OnOk, OnErr, IfErr, List};
 ghost use Rattle.tbr_lines.specs.declared.Error.TheVariants as E;
 ghost use Rattle.tbr_renderer.specs.Renderer.{KeepsSettings, block_width, without_last};
 ghost use Rattle.tbr_renderer.specs.Meant.{meant, tag_meant};
 ghost use Rattle.tbr_renderer.specs.Steps.{BlockIsEmpty, TellsEmpty};
 ghost use Rattle.tbr_renderer.specs.Calls.{Does, IsTooNarrow};
+ghost use Rattle.tbr_renderer.specs.Appended.{HandsOut, AppendsCells};
+ghost use Rattle.tbr_renderer.specs.Renderer.{Line};
+ghost use Rattle.std.specs.List.{AllZip};
 ghost use Rattle.tbr_lines.specs.State.{is_some_list};
 
 use crate::renderer::Renderer;
 use crate::sub::SubRenderer;
 use crate::sub::colours::Ground;
 use crate::sub::decorated::{End, Start};
+use std::convert::AsStr;
 use tbr_decor::{Colour, TextDecorator};
 use tbr_lines::{CharWidth, Error, WhiteSpace};
 
@@ -76,10 +80,24 @@ impl<D: TextDecorator, W: CharWidth> Renderer for SubRenderer<D, W> {
     ghost use Rattle.tbr_renderer.specs.Renderer.{block_width};
     ghost use Rattle.tbr_renderer.specs.Meant.{meant};
     ghost use Rattle.tbr_renderer.specs.Steps.{TellsEmpty};
+    ghost use Rattle.tbr_renderer.specs.Appended.{HandsOut};
+    ghost use Rattle.tbr_renderer.specs.Flush.{FlushIsTooNarrow};
+    ghost use Rattle.std.specs.Prelude.{None, Some};
     ghost use Rattle.tbr_decor.specs.Decoration.{decoration_of};
-    ghost use Rattle.std.specs.Prelude.{◌≡◌};
+    ghost use Rattle.std.specs.Prelude.{◌≡◌, ◌⊎◌, List};
+    ghost use Rattle.tbr_lines.specs.declared.Error.TheVariants as E;
     ghost use Rattle.tbr_renderer.specs.Decorated.{sub_renderer};
     ghost use Rattle.tbr_renderer.specs.Calls.{Does, IsTooNarrow, StopsAtStage};
+
+    ghost Tag = { List D.Meaning };
+
+    ghost hands_out = { λ r lines. HandsOut W.columns (meant D.meaning r) lines };
+
+    ghost hands_out_too_narrow = { λ r.
+        (r.failure ≡ Some E.TooNarrow) ⊎ ((r.failure ≡ None) × FlushIsTooNarrow W.columns (meant D.meaning r)) };
+
+    ghost has_failed_from = { λ old refusal new.
+        meant D.meaning new ≡ record (meant D.meaning old) { failure = Some refusal } };
 
     ghost does = { λ call old new.
         Does W.columns (decoration_of D.TextDecorator) call (meant D.meaning old) (meant D.meaning new) };
@@ -234,6 +252,36 @@ impl<D: TextDecorator, W: CharWidth> Renderer for SubRenderer<D, W> {
     fn add_image(&mut self, src: &str, title: &str) -> Result<(), Error> {
         self.refusal()?;
         let done = self.try_add_image(src, title);
+        self.keep(done)
+    }
+
+    fn add_horizontal_border(&mut self) -> Result<(), Error> {
+        self.add_horizontal_border_width(self.width)
+    }
+
+    fn add_horizontal_border_width(&mut self, width: usize) -> Result<(), Error> {
+        self.refusal()?;
+        let done = self.try_add_border(width);
+        self.keep(done)
+    }
+
+    fn append_subrender<P: AsStr + Drop, I: Iterator<Item = P>>(
+        &mut self,
+        other: SubRenderer<D, W>,
+        prefixes: I,
+    ) -> Result<(), Error> {
+        self.refusal()?;
+        let done = self.try_append_subrender(other, prefixes);
+        self.keep(done)
+    }
+
+    fn append_vert_row(&mut self, cols: Vec<SubRenderer<D, W>>) -> Result<(), Error>
+        ensures ok { OnOk result ((cells : List (List (Line (List D.Meaning))))
+            × AllZip (λ col lines. HandsOut W.columns (meant D.meaning col) lines) cols.items cells
+            × AppendsCells W.columns cells (meant D.meaning self.old) (meant D.meaning self.new)) }
+    {
+        self.refusal()?;
+        let done = self.try_append_vert_row(cols);
         self.keep(done)
     }
 

@@ -15,7 +15,7 @@ returns-clause-line g c =
     let es = map element_of c.take_waiting-waiting.result.items in
     let taken = c.take_waiting-waiting.ensures in
     let whole = items_of c.in_ok-whole.whole in
-    on_ok_weaker c.push_text.result
-    (line_added f g.W.CharWidth.columns c.args.self.now c.take_waiting-waiting.new.self c.push_text.new.self es whole (items_of c.fill.new.line) (items_of c.args.line) taken.markers taken.names taken.rest
+    on_ok_weaker c.push_line.result
+    (line_added f g.W.CharWidth.columns c.args.self.now c.take_waiting-waiting.new.self c.push_line.new.self es whole (items_of c.fill.new.line) (items_of c.args.line) taken.markers taken.names taken.rest
     (means_same_items (tag_meant f) (equal_lists g.D.Annotation.PartialEq.eq) agree whole (items_of es ++ items_of c.args.line) c.in_ok-whole.ensures.items) c.in_ok-fill.ensures.items)
-    c.push_text.ensures.line
+    c.push_line.ensures.line

@@ -1,0 +1,155 @@
+//! Lines of other renderers.
+ghost use Rattle.std.specs.Prelude.{◌≡◌, ◌≢◌, ◌≤◌, ◌++◌, ◌⊎◌, None, Some, Ok, Err, List, ℕ, length, map, fold, chars, OnOk, OnErr, IfOk, IfErr};
+ghost use Rattle.std.specs.List.{AllZip, AllByRecursion as Each};
+ghost use Rattle.std.specs.Vec.Iter.{into_iter_items};
+ghost use Rattle.tbr_lines.specs.Copies.{equal_lists};
+ghost use Rattle.tbr_lines.specs.Elements.{items_of, text_items, IsMerged};
+ghost use Rattle.tbr_lines.specs.RenderLine.{IsMergedText};
+ghost use Rattle.tbr_lines.specs.declared.Error.TheVariants as E;
+ghost use Rattle.tbr_renderer.specs.Renderer.{Line, KeepsSettings, with_line, block_width};
+ghost use Rattle.tbr_renderer.specs.View.{line_seen};
+ghost use Rattle.tbr_renderer.specs.Meant.{tag_meant, items_meant, map_line, meant};
+ghost use Rattle.tbr_renderer.specs.Flush.{Flushes, FlushIsTooNarrow};
+ghost use Rattle.tbr_renderer.specs.Appended.{GivesFirst, texts_of, as_text, prefixed, with_cell, with_cell_below, AppendsLines, AppendsCells, HandsOut, FirstToRefuse};
+
+use crate::sub::SubRenderer;
+use std::collections::LinkedList;
+use std::convert::AsStr;
+use std::vec::IntoIter;
+use tbr_decor::TextDecorator;
+use tbr_lines::{BorderSegHoriz, CharWidth, Error, OutOfMemory, RenderLine, TaggedLine, TaggedString};
+
+impl<D: TextDecorator, W: CharWidth> SubRenderer<D, W> {
+    /// A line as text: a border's cells stand under a copy of the annotations.
+    fn as_text(
+        &self,
+        line: RenderLine<Vec<D::Annotation>>,
+    ) -> Result<TaggedLine<Vec<D::Annotation>>, OutOfMemory>
+        requires { IsMergedText (equal_lists D.Annotation.eq) line }
+        ensures items { IfOk result (λ text. items_meant D.meaning (items_of text)
+            ≡ as_text (map D.meaning self.now.annotations) (map_line (tag_meant D.meaning) (line_seen line))) }
+        ensures merged { IfOk result (λ text. IsMerged (equal_lists D.Annotation.eq) text) }
+    {
+        match line {
+            RenderLine::Text(text) => Ok(text),
+            RenderLine::Line(border) => border.into_tagged_line_with(&self.tag()?),
+        }
+    }
+
+    /// A line as text behind a prefix, which stands under a copy of the annotations.
+    fn prefixed(
+        &self,
+        prefix: &str,
+        line: RenderLine<Vec<D::Annotation>>,
+    ) -> Result<TaggedLine<Vec<D::Annotation>>, OutOfMemory>
+        requires { IsMergedText (equal_lists D.Annotation.eq) line }
+        ensures items { IfOk result (λ text. items_meant D.meaning (items_of text)
+            ≡ text_items (chars prefix.now) (map D.meaning self.now.annotations)
+            ++ as_text (map D.meaning self.now.annotations) (map_line (tag_meant D.meaning) (line_seen line))) }
+        ensures merged { IfOk result (λ text. IsMerged (equal_lists D.Annotation.eq) text) }
+    {
+        let mut text = self.as_text(line)?;
+        if !prefix.is_empty() {
+            let s = String::from_str(self.alloc, prefix)?;
+            let tag = self.tag()?;
+            text.insert_front(TaggedString { s, tag })?;
+        }
+        Ok(text)
+    }
+
+    /// Adds each line behind its prefix, as long as there are both.
+    fn add_prefixed<P: AsStr + Drop, I: Iterator<Item = P>>(
+        &mut self,
+        lines: LinkedList<RenderLine<Vec<D::Annotation>>>,
+        mut prefixes: I,
+    ) -> Result<(), OutOfMemory>
+        requires unfailed { self.old.failure ≡ None }
+        requires merged { Each (IsMergedText (equal_lists D.Annotation.eq)) lines }
+        requires prefixes { I.can_next prefixes }
+        ensures lines { OnOk result ((given : List P) × GivesFirst I.next_gives (length lines) prefixes given
+            × (meant D.meaning self.new ≡ fold (with_line W.columns) (meant D.meaning self.old)
+            (prefixed (map D.meaning self.old.annotations) (texts_of P.text given)
+            (map (map_line (tag_meant D.meaning)) (map line_seen lines))))) }
+        ensures settings { KeepsSettings (meant D.meaning self.old) (meant D.meaning self.new) }
+    {
+        for line in lines {
+            let Some(prefix) = prefixes.next() else {
+                return Ok(());
+            };
+            let text = self.prefixed(prefix.as_str(), line)?;
+            self.add_line(text)?;
+        }
+        Ok(())
+    }
+
+    /// Adds each line as text.
+    fn add_cell(&mut self, lines: LinkedList<RenderLine<Vec<D::Annotation>>>) -> Result<(), OutOfMemory>
+        requires unfailed { self.old.failure ≡ None }
+        requires merged { Each (IsMergedText (equal_lists D.Annotation.eq)) lines }
+        ensures lines { OnOk result (meant D.meaning self.new ≡ with_cell W.columns (meant D.meaning self.old)
+            (map (map_line (tag_meant D.meaning)) (map line_seen lines))) }
+        ensures unfailed { OnOk result (self.new.failure ≡ None) }
+        ensures settings { KeepsSettings (meant D.meaning self.old) (meant D.meaning self.new) }
+    {
+        for line in lines {
+            let text = self.as_text(line)?;
+            self.add_line(text)?;
+        }
+        Ok(())
+    }
+
+    /// Ends the run, and then that of another renderer, whose lines it adds.
+    pub(crate) fn try_append_subrender<P: AsStr + Drop, I: Iterator<Item = P>>(
+        &mut self,
+        other: SubRenderer<D, W>,
+        prefixes: I,
+    ) -> Result<(), Error>
+        requires unfailed { self.old.failure ≡ None }
+        requires prefixes { I.can_next prefixes }
+        ensures ok { OnOk result ((lines : List (Line (List D.Meaning))) × (given : List P)
+            × HandsOut W.columns (meant D.meaning other) lines × GivesFirst I.next_gives (length lines) prefixes given
+            × AppendsLines W.columns (texts_of P.text given) lines (meant D.meaning self.old) (meant D.meaning self.new)) }
+        ensures settings { KeepsSettings (meant D.meaning self.old) (meant D.meaning self.new) }
+    {
+        self.try_flush()?;
+        let lines = other.into_lines()?;
+        self.add_prefixed(lines, prefixes)?;
+        Ok(())
+    }
+
+    /// Ends the run, and adds the lines of other renderers, one below another, with borders between them and behind.
+    pub(crate) fn try_append_vert_row(&mut self, cols: Vec<SubRenderer<D, W>>) -> Result<(), Error>
+        requires { self.old.failure ≡ None }
+        ensures ok { OnOk result ((cells : List (List (Line (List D.Meaning))))
+            × AllZip (HandsOut W.columns) (map (meant D.meaning) cols.items) cells
+            × AppendsCells W.columns cells (meant D.meaning self.old) (meant D.meaning self.new)) }
+        ensures settings { KeepsSettings (meant D.meaning self.old) (meant D.meaning self.new) }
+    {
+        self.try_flush()?;
+        let mut cols = cols.into_iter();
+        if let Some(first) = cols.next() {
+            let lines = first.into_lines()?;
+            self.add_cell(lines)?;
+            self.add_cells_below(cols)?;
+        }
+        self.add_divider(BorderSegHoriz::Horiz)?;
+        Ok(())
+    }
+
+    /// Adds the lines of each renderer below a border of slashes.
+    fn add_cells_below(&mut self, cols: IntoIter<SubRenderer<D, W>>) -> Result<(), Error>
+        requires { self.old.failure ≡ None }
+        ensures ok { OnOk result ((cells : List (List (Line (List D.Meaning))))
+            × AllZip (HandsOut W.columns) (map (meant D.meaning) (into_iter_items cols)) cells
+            × (meant D.meaning self.new ≡ fold (with_cell_below W.columns) (meant D.meaning self.old) cells)) }
+        ensures unfailed { OnOk result (self.new.failure ≡ None) }
+        ensures settings { KeepsSettings (meant D.meaning self.old) (meant D.meaning self.new) }
+    {
+        for col in cols {
+            self.add_divider(BorderSegHoriz::HorizVert)?;
+            let lines = col.into_lines()?;
+            self.add_cell(lines)?;
+        }
+        Ok(())
+    }
+}

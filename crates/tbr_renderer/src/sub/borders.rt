@@ -1,0 +1,71 @@
+//! Borders, and what becomes of them where lines are padded.
+ghost use Rattle.std.specs.Prelude.{◌≡◌, ◌≢◌, ◌≤◌, if◌then◌else◌, None, Some, Ok, Err, OnOk, IfOk};
+ghost use Rattle.tbr_lines.specs.Cell.{cell_of, horizontal};
+ghost use Rattle.tbr_lines.specs.declared.Error.TheVariants as E;
+ghost use Rattle.tbr_renderer.specs.Renderer.{KeepsSettings, block_width};
+ghost use Rattle.tbr_renderer.specs.Meant.{tag_meant, map_border, meant};
+ghost use Rattle.tbr_renderer.specs.Flush.{FlushIsTooNarrow};
+ghost use Rattle.tbr_renderer.specs.Appended.{with_border, border_of_cells, with_divider, AddsBorder};
+
+use crate::sub::SubRenderer;
+use tbr_decor::TextDecorator;
+use tbr_lines::{BorderHoriz, BorderSegHoriz, CharWidth, Error, OutOfMemory, RenderLine};
+
+impl<D: TextDecorator, W: CharWidth> SubRenderer<D, W> {
+    /// Adds a border, as text where lines are padded. Where memory is refused it is lost.
+    fn add_border(&mut self, border: BorderHoriz<Vec<D::Annotation>>) -> Result<(), OutOfMemory>
+        requires { self.old.failure ≡ None }
+        ensures border { OnOk result (meant D.meaning self.new
+            ≡ with_border W.columns (meant D.meaning self.old) (map_border (tag_meant D.meaning) border)) }
+        ensures unfailed { OnOk result (self.new.failure ≡ None) }
+        ensures settings { KeepsSettings (meant D.meaning self.old) (meant D.meaning self.new) }
+    {
+        if !self.options.pad_block_width {
+            return self.push_line(RenderLine::Line(border));
+        }
+        let mut line = border.into_tagged_line()?;
+        self.fill(&mut line)?;
+        self.push_line(RenderLine::Text(line))
+    }
+
+    /// A border of `width` cells of one kind, under a copy of the annotations.
+    fn border_of(
+        &self,
+        width: usize,
+        cell: BorderSegHoriz,
+    ) -> Result<BorderHoriz<Vec<D::Annotation>>, OutOfMemory>
+        ensures { IfOk result (λ border. map_border (tag_meant D.meaning) border
+            ≡ border_of_cells (cell_of cell) width (meant D.meaning self.now)) }
+    {
+        BorderHoriz::new_type(self.alloc, width, cell, self.tag()?)
+    }
+
+    /// Ends the run, and adds a border.
+    pub(crate) fn try_add_border(&mut self, width: usize) -> Result<(), Error>
+        requires { self.old.failure ≡ None }
+        ensures ok { OnOk result (AddsBorder W.columns width (meant D.meaning self.old) (meant D.meaning self.new)) }
+        ensures too_narrow { result ≡ Err E.TooNarrow → FlushIsTooNarrow W.columns (meant D.meaning self.old) }
+        ensures two_columns { 2 ≤ block_width self.old → result ≢ Err E.TooNarrow }
+        ensures settings { KeepsSettings (meant D.meaning self.old) (meant D.meaning self.new) }
+    {
+        self.try_flush()?;
+        let border = self.border_of(width, BorderSegHoriz::Horiz)?;
+        self.add_border(border)?;
+        Ok(())
+    }
+
+    /// Adds a border of the renderer's width and of one kind of cell, where borders are drawn.
+    pub(crate) fn add_divider(&mut self, cell: BorderSegHoriz) -> Result<(), OutOfMemory>
+        requires { self.old.failure ≡ None }
+        ensures divider { OnOk result (meant D.meaning self.new
+            ≡ with_divider W.columns (cell_of cell) (meant D.meaning self.old)) }
+        ensures unfailed { OnOk result (self.new.failure ≡ None) }
+        ensures settings { KeepsSettings (meant D.meaning self.old) (meant D.meaning self.new) }
+    {
+        if !self.options.draw_borders {
+            return Ok(());
+        }
+        let border = self.border_of(self.width, cell)?;
+        self.add_border(border)
+    }
+}
