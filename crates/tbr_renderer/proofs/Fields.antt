@@ -1,18 +1,18 @@
 -- What the fields of a renderer hold after they change.
-use Rattle.std.proofs.Common.{◌≡◌, Bool, true, false, not, ◌||◌, List, [], ◌∷◌, ◌++◌, map, refl, ap, sym, ◌∙◌, subst}
+use Rattle.std.proofs.Common.{◌≡◌, Bool, true, false, ◌||◌, List, [], ◌∷◌, ◌++◌, map, refl, ap, sym, ◌∙◌, subst}
 use Rattle.std.specs.Global.{Vec}
 use Rattle.std.specs.List.{AllByRecursion as Each, list_any}
 use Rattle.std.proofs.lemmas.List.{map-append}
 use Rattle.tbr_lines.specs.Copies.{equal_lists}
-use Rattle.tbr_lines.specs.Elements.{Element, piece, marker_element, items_of, has_piece, IsMerged}
-use Rattle.tbr_lines.specs.RenderLine.{IsMergedText}
+use Rattle.tbr_lines.specs.Elements.{Element, piece, marker_element}
+use Rattle.tbr_lines.specs.RenderLine.{IsMergedText, has_content as line_holds}
 use Rattle.tbr_lines.specs.declared.RenderLine.{RenderLine}
-use Rattle.tbr_lines.specs.declared.RenderLine.TheVariants.{Text}
+use Rattle.tbr_lines.specs.declared.RenderLine.TheVariants.{Text, Line as Rule}
 use Rattle.tbr_lines.specs.View.{element_of}
 use Rattle.tbr_lines.proofs.MappedTags.{merged_piece_has}
 use Rattle.tbr_lines.specs.declared.TaggedLineElement.{TaggedLineElement}
 use Rattle.tbr_renderer.specs.declared.sub.SubRenderer.TheInside.{Inside}
-use Rattle.tbr_renderer.specs.Renderer.{Renderer, text, line_has_content}
+use Rattle.tbr_renderer.specs.Renderer.{Renderer, line_has_content}
 use Rattle.tbr_renderer.specs.View.{line_seen, names_of, AreMarkers, renderer_of, HoldsRenderer}
 
 -- ---- markers
@@ -50,11 +50,6 @@ module _ {D W A : Type 0} (eq : A → A → Bool) (r : Inside D W A) (more : Lis
 
 -- ---- lines
 
--- what is not empty has a piece
-pub has_piece_is : (empty has : Bool) → empty ≡ not has → not empty ≡ has
-has_piece_is empty true e = ap not e
-has_piece_is empty false e = ap not e
-
 each_behind : {X : Type 0} (P : X → Type 0) (xs : List X) (x : X) → Each P xs → P x → Each P (xs ++ x ∷ [])
 each_behind P [] x h k = (k, tt)
 each_behind P (y ∷ xs) x h k = (h.0, each_behind P xs x h.1 k)
@@ -71,18 +66,23 @@ any_behind test (y ∷ xs) x = go (test y) (any_behind test xs x)
     go true e = refl
     go false e = e
 
-module _ {D W A : Type 0} (eq : A → A → Bool) (r : Inside D W A) (line : List (Element (Vec A))) (lines : List (RenderLine (Vec A))) (has_content : Bool) where
-  -- one more line of text
-  pub holds_line : HoldsRenderer eq r → IsMerged (equal_lists eq) line → lines ≡ r.lines ++ Text line ∷ [] → has_content ≡ r.has_content || has_piece line →
+-- a line has content where it is seen to have it
+content_seen : {T : Type 0} (eq : T → T → Bool) (line : RenderLine T) → IsMergedText eq line → line_holds line ≡ line_has_content (line_seen line)
+content_seen eq (Text line) merged = merged_piece_has eq line merged
+content_seen eq (Rule b) merged = refl
+
+module _ {D W A : Type 0} (eq : A → A → Bool) (r : Inside D W A) (line : RenderLine (Vec A)) (lines : List (RenderLine (Vec A))) (has_content : Bool) where
+  -- one more line
+  pub holds_line : HoldsRenderer eq r → IsMergedText (equal_lists eq) line → lines ≡ r.lines ++ line ∷ [] → has_content ≡ r.has_content || line_holds line →
       HoldsRenderer eq (record r { lines = lines; has_content = has_content })
   holds_line h merged is content = record {
     columns = h.columns;
     fresh = λ live. let f = h.fresh live in record {
       opened = f.opened;
       markers = f.markers;
-      merged = subst (λ ls. Each (IsMergedText (equal_lists eq)) ls) (sym is) (each_behind (IsMergedText (equal_lists eq)) r.lines (Text line) f.merged merged);
-      content = content ∙ ap (λ b. b || has_piece line) f.content ∙ ap (λ b. list_any line_has_content (map line_seen r.lines) || b) (merged_piece_has (equal_lists eq) line merged)
-          ∙ sym (any_behind line_has_content (map line_seen r.lines) (text (items_of line)))
-          ∙ ap (list_any line_has_content) (sym (map-append line_seen r.lines (Text line ∷ [])) ∙ ap (map line_seen) (sym is));
+      merged = subst (λ ls. Each (IsMergedText (equal_lists eq)) ls) (sym is) (each_behind (IsMergedText (equal_lists eq)) r.lines line f.merged merged);
+      content = content ∙ ap (λ b. b || line_holds line) f.content ∙ ap (λ b. list_any line_has_content (map line_seen r.lines) || b) (content_seen (equal_lists eq) line merged)
+          ∙ sym (any_behind line_has_content (map line_seen r.lines) (line_seen line))
+          ∙ ap (list_any line_has_content) (sym (map-append line_seen r.lines (line ∷ [])) ∙ ap (map line_seen) (sym is));
     };
   }

@@ -3,9 +3,11 @@ pub mod Stages
 pub mod Images
 pub mod Opened
 pub mod Meanings
+pub mod Bordering
+pub mod LineTexts
+pub mod Appending
 pub mod Fields
 pub mod Lines
-pub mod LineTexts
 pub mod Fits
 pub mod Flushing
 pub mod Texts

@@ -6,7 +6,8 @@ use Rattle.tbr_lines.specs.Border.{Border, shown, without_holes}
 use Rattle.tbr_lines.specs.Cell.{Cell, horizontal, slash}
 use Rattle.tbr_lines.specs.Elements.{text_items}
 use Rattle.tbr_renderer.specs.Renderer.{Line, text, border, Renderer, line_padding, with_line}
-use Rattle.tbr_renderer.specs.Flush.{Flushes}
+use Rattle.tbr_lines.specs.declared.Error.TheVariants.{TooNarrow}
+use Rattle.tbr_renderer.specs.Flush.{Flushes, FlushIsTooNarrow}
 
 -- ---- borders
 
@@ -36,7 +37,7 @@ GivesFirst {S} gives count it xs =
 
 -- the characters of what can be read as text
 abbrev pub texts_of : {S : Type 0} → (S → List ℕ) → List S → List (List ℕ)
-texts_of text ss = map (λ s. chars (text s)) ss
+texts_of read ss = map (λ s. chars (read s)) ss
 
 -- One refuses, and all before it hand out their lines.
 abbrev pub FirstToRefuse : {S X : Type 0} → (S → X → Type 0) → (S → Type 0) → List S → Type 0
@@ -61,6 +62,10 @@ module _ {D A : Type 0} (columns : ℕ → Option ℕ) where
   -- what a renderer that hasn't failed hands out where its open line is ended
   abbrev pub HandsOut : Renderer D A (List A) → List (Line (List A)) → Type 0
   HandsOut r lines = (r.failure ≡ None) × ((s : Renderer D A (List A)) × Flushes columns r s × (lines ≡ s.lines))
+
+  -- where it answers that it is too narrow
+  abbrev pub HoldsBack : Renderer D A (List A) → Type 0
+  HoldsBack r = (r.failure ≡ Some TooNarrow) ⊎ ((r.failure ≡ None) × FlushIsTooNarrow columns r)
 
   abbrev pub AddsBorder : ℕ → Renderer D A (List A) → Renderer D A (List A) → Type 0
   AddsBorder width r s =

@@ -1,5 +1,5 @@
 -- What the fields of a renderer mean.
-use Rattle.std.specs.Prelude.{◌≡◌, ◌<◌, ℕ, Bool, false, ⊤, Option, Some, None, List, [], ◌∷◌, ◌++◌, map, chars}
+use Rattle.std.specs.Prelude.{◌≡◌, ◌<◌, ℕ, Bool, false, ⊤, Option, Some, None, List, [], ◌∷◌, map, chars}
 use Rattle.std.specs.Option.{option_map}
 use Rattle.std.specs.List.{AllByRecursion as Each, list_any}
 use Rattle.std.specs.Global.{Vec}

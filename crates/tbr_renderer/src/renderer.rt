@@ -50,7 +50,7 @@ pub trait Renderer {
     // The lines that it hands out where its open line is ended, and where that answers `TooNarrow`.
     ghost hands_out: { Self → List (Line Self.Tag) → Type 0 };
 
-    ghost hands_out_too_narrow: { Self → Type 0 };
+    ghost holds_back: { Self → Type 0 };
 
     // Whether it is as another one was, but for this refusal.
     ghost has_failed_from: { Self → Refusal → Self → Type 0 };
@@ -356,7 +356,7 @@ pub trait Renderer {
             × does (call.append_subrender (texts_of P.text given) lines) self.old self.new) }
         ensures too_narrow { kept_refusal self.old ≡ None → result ≡ Err E.TooNarrow →
             is_too_narrow call.new_line self.old ⊎ ((m : Self) × does call.new_line self.old m
-            × hands_out_too_narrow other × has_failed_from m E.TooNarrow self.new) }
+            × holds_back other × has_failed_from m E.TooNarrow self.new) }
         ensures two_columns { kept_refusal self.old ≡ None → 2 ≤ block_columns self.old →
             kept_refusal other ≡ None → 2 ≤ block_columns other → result ≢ Err E.TooNarrow }
         ensures left { kept_refusal self.old ≡ None →
@@ -367,10 +367,10 @@ pub trait Renderer {
     /// prefixes. Where borders are drawn, one of slashes stands between each two, and a plain one behind all, also
     /// where there are none. A refusal of one of them is passed on, the first in order.
     fn append_vert_row(&mut self, cols: Vec<Self>) -> Result<(), Error>
-        ensures ok { OnOk result ((cells : List (List (Line Tag))) × AllZip hands_out cols.items cells
+        ensures ok { OnOk result ((cells : List (List (Line Tag))) × AllZip (λ col lines. hands_out col lines) cols.items cells
             × does (call.append_vert_row cells) self.old self.new) }
         ensures too_narrow { kept_refusal self.old ≡ None → result ≡ Err E.TooNarrow →
-            is_too_narrow call.new_line self.old ⊎ FirstToRefuse hands_out hands_out_too_narrow cols.items }
+            is_too_narrow call.new_line self.old ⊎ FirstToRefuse (λ col lines. hands_out col lines) (λ col. holds_back col) cols.items }
         ensures two_columns { kept_refusal self.old ≡ None → 2 ≤ block_columns self.old →
             Each (λ col. (kept_refusal col ≡ None) × (2 ≤ block_columns col)) cols.items → result ≢ Err E.TooNarrow }
         ensures left { kept_refusal self.old ≡ None →

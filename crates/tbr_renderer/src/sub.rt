@@ -159,6 +159,7 @@ impl<D: TextDecorator, W: CharWidth> SubRenderer<D, W> {
         ensures result { result ≡ done }
         ensures ok { OnOk result (self.new ≡ self.old) }
         ensures failed { IfErr result (λ e. self.new.failure ≡ Some e) }
+        ensures left { IfErr result (λ e. self.new ≡ record self.old { failure = Some e }) }
         ensures settings { KeepsSettings (meant D.meaning self.old) (meant D.meaning self.new) }
     {
         if let Err(e) = done {

@@ -10,7 +10,7 @@ ghost use Rattle.tbr_renderer.specs.Renderer.{Line, KeepsSettings, with_line, bl
 ghost use Rattle.tbr_renderer.specs.View.{line_seen};
 ghost use Rattle.tbr_renderer.specs.Meant.{tag_meant, items_meant, map_line, meant};
 ghost use Rattle.tbr_renderer.specs.Flush.{Flushes, FlushIsTooNarrow};
-ghost use Rattle.tbr_renderer.specs.Appended.{GivesFirst, texts_of, as_text, prefixed, with_cell, with_cell_below, AppendsLines, AppendsCells, HandsOut, FirstToRefuse};
+ghost use Rattle.tbr_renderer.specs.Appended.{GivesFirst, texts_of, as_text, prefixed, with_cell, with_cell_below, with_cells, AppendsLines, AppendsCells, HandsOut, HoldsBack, FirstToRefuse};
 
 use crate::sub::SubRenderer;
 use std::collections::LinkedList;
@@ -36,25 +36,24 @@ impl<D: TextDecorator, W: CharWidth> SubRenderer<D, W> {
         }
     }
 
-    /// A line as text behind a prefix, which stands under a copy of the annotations.
-    fn prefixed(
+    /// Puts a prefix in front of a text, under a copy of the annotations. An empty one takes no memory.
+    fn put_in_front(
         &self,
+        text: &mut TaggedLine<Vec<D::Annotation>>,
         prefix: &str,
-        line: RenderLine<Vec<D::Annotation>>,
-    ) -> Result<TaggedLine<Vec<D::Annotation>>, OutOfMemory>
-        requires { IsMergedText (equal_lists D.Annotation.eq) line }
-        ensures items { IfOk result (λ text. items_meant D.meaning (items_of text)
+    ) -> Result<(), OutOfMemory>
+        ensures items { OnOk result (items_meant D.meaning (items_of text.new)
             ≡ text_items (chars prefix.now) (map D.meaning self.now.annotations)
-            ++ as_text (map D.meaning self.now.annotations) (map_line (tag_meant D.meaning) (line_seen line))) }
-        ensures merged { IfOk result (λ text. IsMerged (equal_lists D.Annotation.eq) text) }
+            ++ items_meant D.meaning (items_of text.old)) }
+        ensures merged { IsMerged (equal_lists D.Annotation.eq) text.old →
+            OnOk result (IsMerged (equal_lists D.Annotation.eq) text.new) }
     {
-        let mut text = self.as_text(line)?;
-        if !prefix.is_empty() {
-            let s = String::from_str(self.alloc, prefix)?;
-            let tag = self.tag()?;
-            text.insert_front(TaggedString { s, tag })?;
+        if prefix.is_empty() {
+            return Ok(());
         }
-        Ok(text)
+        let s = String::from_str(self.alloc, prefix)?;
+        let tag = self.tag()?;
+        text.insert_front(TaggedString { s, tag })
     }
 
     /// Adds each line behind its prefix, as long as there are both.
@@ -76,7 +75,8 @@ impl<D: TextDecorator, W: CharWidth> SubRenderer<D, W> {
             let Some(prefix) = prefixes.next() else {
                 return Ok(());
             };
-            let text = self.prefixed(prefix.as_str(), line)?;
+            let mut text = self.as_text(line)?;
+            self.put_in_front(&mut text, prefix.as_str())?;
             self.add_line(text)?;
         }
         Ok(())
@@ -109,6 +109,11 @@ impl<D: TextDecorator, W: CharWidth> SubRenderer<D, W> {
         ensures ok { OnOk result ((lines : List (Line (List D.Meaning))) × (given : List P)
             × HandsOut W.columns (meant D.meaning other) lines × GivesFirst I.next_gives (length lines) prefixes given
             × AppendsLines W.columns (texts_of P.text given) lines (meant D.meaning self.old) (meant D.meaning self.new)) }
+        ensures too_narrow { result ≡ Err E.TooNarrow → FlushIsTooNarrow W.columns (meant D.meaning self.old)
+            ⊎ (Flushes W.columns (meant D.meaning self.old) (meant D.meaning self.new)
+            × HoldsBack W.columns (meant D.meaning other)) }
+        ensures two_columns { 2 ≤ block_width self.old → other.failure ≡ None → 2 ≤ block_width other →
+            result ≢ Err E.TooNarrow }
         ensures settings { KeepsSettings (meant D.meaning self.old) (meant D.meaning self.new) }
     {
         self.try_flush()?;
@@ -121,27 +126,55 @@ impl<D: TextDecorator, W: CharWidth> SubRenderer<D, W> {
     pub(crate) fn try_append_vert_row(&mut self, cols: Vec<SubRenderer<D, W>>) -> Result<(), Error>
         requires { self.old.failure ≡ None }
         ensures ok { OnOk result ((cells : List (List (Line (List D.Meaning))))
-            × AllZip (HandsOut W.columns) (map (meant D.meaning) cols.items) cells
+            × AllZip (λ col lines. HandsOut W.columns (meant D.meaning col) lines) cols.items cells
             × AppendsCells W.columns cells (meant D.meaning self.old) (meant D.meaning self.new)) }
+        ensures too_narrow { result ≡ Err E.TooNarrow → FlushIsTooNarrow W.columns (meant D.meaning self.old)
+            ⊎ FirstToRefuse (λ col lines. HandsOut W.columns (meant D.meaning col) lines)
+            (λ col. HoldsBack W.columns (meant D.meaning col)) cols.items }
+        ensures two_columns { 2 ≤ block_width self.old →
+            Each (λ col. (col.failure ≡ None) × (2 ≤ block_width col)) cols.items → result ≢ Err E.TooNarrow }
         ensures settings { KeepsSettings (meant D.meaning self.old) (meant D.meaning self.new) }
     {
         self.try_flush()?;
-        let mut cols = cols.into_iter();
-        if let Some(first) = cols.next() {
-            let lines = first.into_lines()?;
-            self.add_cell(lines)?;
-            self.add_cells_below(cols)?;
-        }
+        self.add_cells(cols)?;
         self.add_divider(BorderSegHoriz::Horiz)?;
         Ok(())
+    }
+
+    /// Adds the lines of renderers, with a border of slashes between each two.
+    fn add_cells(&mut self, cols: Vec<SubRenderer<D, W>>) -> Result<(), Error>
+        requires { self.old.failure ≡ None }
+        ensures ok { OnOk result ((cells : List (List (Line (List D.Meaning))))
+            × AllZip (λ col lines. HandsOut W.columns (meant D.meaning col) lines) cols.items cells
+            × (meant D.meaning self.new ≡ with_cells W.columns (meant D.meaning self.old) cells)) }
+        ensures too_narrow { result ≡ Err E.TooNarrow →
+            FirstToRefuse (λ col lines. HandsOut W.columns (meant D.meaning col) lines)
+            (λ col. HoldsBack W.columns (meant D.meaning col)) cols.items }
+        ensures two_columns { Each (λ col. (col.failure ≡ None) × (2 ≤ block_width col)) cols.items →
+            result ≢ Err E.TooNarrow }
+        ensures unfailed { OnOk result (self.new.failure ≡ None) }
+        ensures settings { KeepsSettings (meant D.meaning self.old) (meant D.meaning self.new) }
+    {
+        let mut cols = cols.into_iter();
+        let Some(first) = cols.next() else {
+            return Ok(());
+        };
+        let lines = first.into_lines()?;
+        self.add_cell(lines)?;
+        self.add_cells_below(cols)
     }
 
     /// Adds the lines of each renderer below a border of slashes.
     fn add_cells_below(&mut self, cols: IntoIter<SubRenderer<D, W>>) -> Result<(), Error>
         requires { self.old.failure ≡ None }
         ensures ok { OnOk result ((cells : List (List (Line (List D.Meaning))))
-            × AllZip (HandsOut W.columns) (map (meant D.meaning) (into_iter_items cols)) cells
+            × AllZip (λ col lines. HandsOut W.columns (meant D.meaning col) lines) (into_iter_items cols) cells
             × (meant D.meaning self.new ≡ fold (with_cell_below W.columns) (meant D.meaning self.old) cells)) }
+        ensures too_narrow { result ≡ Err E.TooNarrow →
+            FirstToRefuse (λ col lines. HandsOut W.columns (meant D.meaning col) lines)
+            (λ col. HoldsBack W.columns (meant D.meaning col)) (into_iter_items cols) }
+        ensures two_columns { Each (λ col. (col.failure ≡ None) × (2 ≤ block_width col)) (into_iter_items cols) →
+            result ≢ Err E.TooNarrow }
         ensures unfailed { OnOk result (self.new.failure ≡ None) }
         ensures settings { KeepsSettings (meant D.meaning self.old) (meant D.meaning self.new) }
     {

@@ -1,13 +1,16 @@
 //! The calls of a renderer.
-ghost use Rattle.std.specs.Prelude.{◌≡◌, ◌≢◌, ◌<◌, ◌++◌, ◌∷◌, [], suc, ◌-◌, not, None, Some, Ok, Err, OnOk, OnErr, IfErr, List};
+ghost use Rattle.std.specs.Prelude.{◌≡◌, ◌≢◌, ◌<◌, ◌++◌, ◌∷◌, [], suc, ◌-◌, not, None, Some, Ok, Err, OnOk, OnErr, IfErr, List, ◌⊎◌, ◌≤◌};
 ghost use Rattle.tbr_lines.specs.declared.Error.TheVariants as E;
 ghost use Rattle.tbr_renderer.specs.Renderer.{KeepsSettings, block_width, without_last};
 ghost use Rattle.tbr_renderer.specs.Meant.{meant, tag_meant};
 ghost use Rattle.tbr_renderer.specs.Steps.{BlockIsEmpty, TellsEmpty};
-ghost use Rattle.tbr_renderer.specs.Calls.{Does, IsTooNarrow};
-ghost use Rattle.tbr_renderer.specs.Appended.{HandsOut, AppendsCells};
+ghost use Rattle.tbr_renderer.specs.Calls.{Does, IsTooNarrow, StopsAtStage, KeepsFailure};
+ghost use Rattle.tbr_renderer.specs.Calls as call;
+ghost use Rattle.tbr_renderer.specs.Appended.{HandsOut, HoldsBack, FirstToRefuse, AppendsCells};
+ghost use Rattle.tbr_renderer.specs.Flush.{FlushIsTooNarrow};
 ghost use Rattle.tbr_renderer.specs.Renderer.{Line};
-ghost use Rattle.std.specs.List.{AllZip};
+ghost use Rattle.tbr_decor.specs.Decoration.{decoration_of};
+ghost use Rattle.std.specs.List.{AllZip, AllByRecursion as Each};
 ghost use Rattle.tbr_lines.specs.State.{is_some_list};
 
 use crate::renderer::Renderer;
@@ -80,12 +83,10 @@ impl<D: TextDecorator, W: CharWidth> Renderer for SubRenderer<D, W> {
     ghost use Rattle.tbr_renderer.specs.Renderer.{block_width};
     ghost use Rattle.tbr_renderer.specs.Meant.{meant};
     ghost use Rattle.tbr_renderer.specs.Steps.{TellsEmpty};
-    ghost use Rattle.tbr_renderer.specs.Appended.{HandsOut};
-    ghost use Rattle.tbr_renderer.specs.Flush.{FlushIsTooNarrow};
-    ghost use Rattle.std.specs.Prelude.{None, Some};
+    ghost use Rattle.tbr_renderer.specs.Appended.{HandsOut, HoldsBack};
+    ghost use Rattle.std.specs.Prelude.{Some};
     ghost use Rattle.tbr_decor.specs.Decoration.{decoration_of};
     ghost use Rattle.std.specs.Prelude.{◌≡◌, ◌⊎◌, List};
-    ghost use Rattle.tbr_lines.specs.declared.Error.TheVariants as E;
     ghost use Rattle.tbr_renderer.specs.Decorated.{sub_renderer};
     ghost use Rattle.tbr_renderer.specs.Calls.{Does, IsTooNarrow, StopsAtStage};
 
@@ -93,8 +94,7 @@ impl<D: TextDecorator, W: CharWidth> Renderer for SubRenderer<D, W> {
 
     ghost hands_out = { λ r lines. HandsOut W.columns (meant D.meaning r) lines };
 
-    ghost hands_out_too_narrow = { λ r.
-        (r.failure ≡ Some E.TooNarrow) ⊎ ((r.failure ≡ None) × FlushIsTooNarrow W.columns (meant D.meaning r)) };
+    ghost holds_back = { λ r. HoldsBack W.columns (meant D.meaning r) };
 
     ghost has_failed_from = { λ old refusal new.
         meant D.meaning new ≡ record (meant D.meaning old) { failure = Some refusal } };
@@ -279,6 +279,16 @@ impl<D: TextDecorator, W: CharWidth> Renderer for SubRenderer<D, W> {
         ensures ok { OnOk result ((cells : List (List (Line (List D.Meaning))))
             × AllZip (λ col lines. HandsOut W.columns (meant D.meaning col) lines) cols.items cells
             × AppendsCells W.columns cells (meant D.meaning self.old) (meant D.meaning self.new)) }
+        ensures too_narrow { self.old.failure ≡ None → result ≡ Err E.TooNarrow →
+            FlushIsTooNarrow W.columns (meant D.meaning self.old)
+            ⊎ FirstToRefuse (λ col lines. HandsOut W.columns (meant D.meaning col) lines)
+            (λ col. HoldsBack W.columns (meant D.meaning col)) cols.items }
+        ensures two_columns { self.old.failure ≡ None → 2 ≤ block_width self.old →
+            Each (λ col. (col.failure ≡ None) × (2 ≤ block_width col)) cols.items → result ≢ Err E.TooNarrow }
+        ensures left { self.old.failure ≡ None → OnErr result
+            (StopsAtStage W.columns (decoration_of D.TextDecorator) call.new_line
+            (meant D.meaning self.old) (meant D.meaning self.new)) }
+        ensures kept { KeepsFailure (λ r. r.failure) self.old result self.new }
     {
         self.refusal()?;
         let done = self.try_append_vert_row(cols);

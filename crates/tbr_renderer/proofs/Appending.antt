@@ -1,0 +1,248 @@
+-- Lines of other renderers, one after another.
+use Rattle.std.proofs.Common.{◌≡◌, inl, inr, ℕ, arith, suc, ◌<◌, Option, None, Some, Result, Ok, Err, List, [], ◌∷◌, ◌++◌, map, fold, length, refl, ap, sym, ◌∙◌, subst}
+use Rattle.std.specs.Prelude.{chars, ◌==◌, true}
+use Rattle.std.specs.Global.{Vec}
+use Rattle.std.specs.Iterator.{Yields}
+use Rattle.std.specs.Result.{IsErrAnd}
+use Rattle.std.specs.Vec.Iter.{into_iter_items, into_iter_steps}
+use Rattle.std.specs.declared.vec.IntoIter.{IntoIter}
+use Rattle.std.proofs.iter.Next.{Yields-more}
+use Rattle.std.proofs.IntoIterSteps.{All-taken}
+use Rattle.std.proofs.lemmas.Bool.{eqb-true}
+use Rattle.std.proofs.lemmas.Str.{chars-nil}
+use Rattle.std.specs.Map.Iter.{TakesFirst}
+use Rattle.std.proofs.lemmas.Map.Iter.{rest_so_far}
+use Rattle.std.proofs.lemmas.List.{map-append, map-id}
+use Rattle.std.proofs.lemmas.Grind.{fold-append}
+use Rattle.tbr_model.specs.Run.{Item}
+use Rattle.tbr_lines.specs.declared.Error.{Error}
+use Rattle.tbr_lines.specs.declared.Error.TheVariants.{TooNarrow}
+use Rattle.tbr_renderer.specs.Flush.{FlushIsTooNarrow}
+use Rattle.tbr_lines.specs.declared.RenderLine.{RenderLine}
+use Rattle.tbr_lines.specs.Elements.{text_items}
+use Rattle.tbr_renderer.specs.Meant.{tag_meant, map_line, meant}
+use Rattle.tbr_renderer.specs.Renderer.{Line, Renderer, Settings, KeepsSettings, with_line}
+use Rattle.tbr_renderer.specs.View.{line_seen}
+use Rattle.tbr_lines.specs.Cell.{slash}
+use Rattle.tbr_renderer.specs.Appended.{GivesFirst, texts_of, FirstToRefuse, as_text, prefixed, HandsOut, HoldsBack, with_divider, with_cell, with_cell_below}
+use Rattle.std.specs.List.{AllZip, AllByRecursion as Each}
+
+-- ---- prefixes
+
+prefixed-last : {T : Type 0} (tag : T) (prefixes : List (List ℕ)) (prefix : List ℕ) (lines : List (Line T)) (line : Line T) → length prefixes ≡ length lines →
+    prefixed tag (prefixes ++ prefix ∷ []) (lines ++ line ∷ []) ≡ prefixed tag prefixes lines ++ (text_items prefix tag ++ as_text tag line) ∷ []
+prefixed-last tag [] prefix [] line same = refl
+prefixed-last tag [] prefix (l ∷ lines) line same = cc
+prefixed-last tag (p ∷ prefixes) prefix [] line same = cc
+prefixed-last tag (p ∷ prefixes) prefix (l ∷ lines) line same =
+    ap (λ ts. (text_items p tag ++ as_text tag l) ∷ ts) (prefixed-last tag prefixes prefix lines line (omega (arith, same)))
+
+-- lines without a prefix are dropped
+prefixed-front : {T : Type 0} (tag : T) (prefixes : List (List ℕ)) (lines more : List (Line T)) → length prefixes ≡ length lines → prefixed tag prefixes (lines ++ more) ≡ prefixed tag prefixes lines
+prefixed-front tag [] [] more same = refl
+prefixed-front tag [] (l ∷ lines) more same = refl
+prefixed-front tag (p ∷ prefixes) [] more same = cc
+prefixed-front tag (p ∷ prefixes) (l ∷ lines) more same = ap (λ ts. (text_items p tag ++ as_text tag l) ∷ ts) (prefixed-front tag prefixes lines more (omega (arith, same)))
+
+-- an empty prefix shows nothing
+pub no_prefix : {T : Type 0} (prefix : List ℕ) (tag : T) (is : List (Item T)) → (length prefix == 0) ≡ true → is ≡ text_items (chars prefix) tag ++ is
+no_prefix [] tag is empty = ap (λ cs. text_items cs tag ++ is) (sym chars-nil)
+no_prefix (b ∷ prefix) tag is empty = let none = eqb-true (length (b ∷ prefix)) 0 empty in absurd (omega (arith, none))
+
+-- what is left where the first items were taken, and then one more
+pub lines_left : {X : Type 0} (all s xs t : List X) (x : X) (u : List X) → s ≡ all → Yields (TakesFirst (λ y. y)) s xs t → t ≡ x ∷ u → all ≡ xs ++ x ∷ u
+lines_left all s xs t x u is taken next = sym is ∙ rest_so_far (λ y. y) xs s t taken ∙ ap (λ ys. ys ++ t) (map-id xs) ∙ ap (λ ys. xs ++ ys) next
+
+length-last : {X : Type 0} (xs : List X) (x : X) → length (xs ++ x ∷ []) ≡ suc (length xs)
+length-last [] x = refl
+length-last (y ∷ xs) x = ap suc (length-last xs x)
+
+length-map : {X Y : Type 0} (f : X → Y) (xs : List X) → length (map f xs) ≡ length xs
+length-map f [] = refl
+length-map f (x ∷ xs) = ap suc (length-map f xs)
+
+module _ {D A M : Type 0} (f : A → M) (columns : ℕ → Option ℕ) (first : Renderer D A (Vec A)) where
+  -- the lines as a contract sees them, by what their annotations mean
+  abbrev pub seen : List (RenderLine (Vec A)) → List (Line (List M))
+  seen lines = map (map_line (tag_meant f)) (map line_seen lines)
+
+  seen-last : (lines : List (RenderLine (Vec A))) (line : RenderLine (Vec A)) → seen (lines ++ line ∷ []) ≡ seen lines ++ map_line (tag_meant f) (line_seen line) ∷ []
+  seen-last lines line = ap (map (map_line (tag_meant f))) (map-append line_seen lines (line ∷ [])) ∙ map-append (map_line (tag_meant f)) (map line_seen lines) (line_seen line ∷ [])
+
+  seen-append : (lines more : List (RenderLine (Vec A))) → seen (lines ++ more) ≡ seen lines ++ seen more
+  seen-append lines more = ap (map (map_line (tag_meant f))) (map-append line_seen lines more) ∙ map-append (map_line (tag_meant f)) (map line_seen lines) (map line_seen more)
+
+  pub length-seen : (lines : List (RenderLine (Vec A))) → length (seen lines) ≡ length lines
+  length-seen lines = length-map (map_line (tag_meant f)) (map line_seen lines) ∙ length-map line_seen lines
+
+  -- ---- texts that were put one by one
+
+  pub record HasPut (texts : List (List (Item (List M)))) (now : Renderer D A (Vec A)) : Type 0 where
+    pub unfailed : now.failure ≡ None
+    pub settings : KeepsSettings (meant f first) (meant f now)
+    pub lines : meant f now ≡ fold (with_line columns) (meant f first) texts
+
+  put_none : first.failure ≡ None → HasPut [] first
+  put_none live = record { unfailed = live; settings = refl; lines = refl }
+
+  put_more : (texts : List (List (Item (List M)))) (text : List (Item (List M))) (now next : Renderer D A (Vec A)) → HasPut texts now → meant f next ≡ with_line columns (meant f now) text → KeepsSettings (meant f now) (meant f next) →
+      HasPut (texts ++ text ∷ []) next
+  put_more texts text now next h is kept = record {
+    unfailed = ap (λ (r : Renderer D M (List M)). r.failure) is ∙ h.unfailed;
+    settings = kept ∙ h.settings;
+    lines = is ∙ ap (λ (r : Renderer D M (List M)). with_line columns r text) h.lines ∙ sym (fold-append (with_line columns) (meant f first) texts (text ∷ []));
+  }
+
+  -- what text stands under
+  pub under : (now : Renderer D A (Vec A)) → KeepsSettings (meant f first) (meant f now) → map f now.annotations ≡ map f first.annotations
+  under now kept = ap (λ (s : Settings D M). s.annotations) kept
+
+  -- ---- a cell
+
+  abbrev pub HasCell : List (RenderLine (Vec A)) → Renderer D A (Vec A) → Type 0
+  HasCell lines now = HasPut (map (as_text (map f first.annotations)) (seen lines)) now
+
+  pub cell_begun : first.failure ≡ None → HasCell [] first
+  cell_begun live = put_none live
+
+  pub cell_goes_on : (lines : List (RenderLine (Vec A))) (line : RenderLine (Vec A)) (text : List (Item (List M))) (now next : Renderer D A (Vec A)) → HasCell lines now →
+      text ≡ as_text (map f now.annotations) (map_line (tag_meant f) (line_seen line)) → meant f next ≡ with_line columns (meant f now) text → KeepsSettings (meant f now) (meant f next) → HasCell (lines ++ line ∷ []) next
+  cell_goes_on lines line text now next h is put kept =
+      let tag = map f first.annotations in
+      let here : text ≡ as_text tag (map_line (tag_meant f) (line_seen line)) = is ∙ ap (λ t. as_text t (map_line (tag_meant f) (line_seen line))) (under now h.settings) in
+      let all : map (as_text tag) (seen lines) ++ text ∷ [] ≡ map (as_text tag) (seen (lines ++ line ∷ [])) =
+      ap (λ t. map (as_text tag) (seen lines) ++ t ∷ []) here ∙ sym (ap (map (as_text tag)) (seen-last lines line) ∙ map-append (as_text tag) (seen lines) (map_line (tag_meant f) (line_seen line) ∷ [])) in
+      subst (λ (ts : List (List (Item (List M)))). HasPut ts next) all (put_more (map (as_text tag) (seen lines)) text now next h put kept)
+
+  -- ---- lines behind prefixes
+
+  module _ {S X : Type 0} (can : S → Type 0) (gives : S → Option X → S → Type 0) (read : X → List ℕ) (it : S) where
+    pub record HasPrefixed (lines : List (RenderLine (Vec A))) (left : S) (now : Renderer D A (Vec A)) : Type 0 where
+      pub can_go_on : can left
+      pub given : List X
+      pub yields : Yields gives it given left
+      pub as_many : length given ≡ length lines
+      pub put : HasPut (prefixed (map f first.annotations) (texts_of read given) (seen lines)) now
+
+    pub prefixed_begun : can it → first.failure ≡ None → HasPrefixed [] it first
+    prefixed_begun h live = record { can_go_on = h; given = []; yields = refl; as_many = refl; put = put_none live }
+
+    same_length : (given : List X) (lines : List (RenderLine (Vec A))) → length given ≡ length lines → length (texts_of read given) ≡ length (seen lines)
+    same_length given lines same = length-map (λ x. chars (read x)) given ∙ same ∙ sym (length-seen lines)
+
+    pub prefixed_goes_on : (lines : List (RenderLine (Vec A))) (line : RenderLine (Vec A)) (prefix : X) (text : List (Item (List M))) (left rest : S) (now next : Renderer D A (Vec A)) → (h : HasPrefixed lines left now) →
+        can rest → gives left (Some prefix) rest → text ≡ text_items (chars (read prefix)) (map f now.annotations) ++ as_text (map f now.annotations) (map_line (tag_meant f) (line_seen line)) →
+        meant f next ≡ with_line columns (meant f now) text → KeepsSettings (meant f now) (meant f next) → HasPrefixed (lines ++ line ∷ []) rest next
+    prefixed_goes_on lines line prefix text left rest now next h able came is put kept =
+        let tag = map f first.annotations in
+        let seen_line = map_line (tag_meant f) (line_seen line) in
+        let here : text ≡ text_items (chars (read prefix)) tag ++ as_text tag seen_line =
+        is ∙ ap (λ t. text_items (chars (read prefix)) t ++ as_text t seen_line) (under now h.put.settings) in
+        let all : prefixed tag (texts_of read h.given) (seen lines) ++ text ∷ [] ≡ prefixed tag (texts_of read (h.given ++ prefix ∷ [])) (seen (lines ++ line ∷ [])) =
+        ap (λ t. prefixed tag (texts_of read h.given) (seen lines) ++ t ∷ []) here
+        ∙ sym (ap (λ ps. prefixed tag ps (seen (lines ++ line ∷ []))) (map-append (λ x. chars (read x)) h.given (prefix ∷ []))
+        ∙ ap (prefixed tag (texts_of read h.given ++ chars (read prefix) ∷ [])) (seen-last lines line)
+        ∙ prefixed-last tag (texts_of read h.given) (chars (read prefix)) (seen lines) seen_line (same_length h.given lines h.as_many)) in record {
+          can_go_on = able;
+          given = h.given ++ prefix ∷ [];
+          yields = Yields-more gives it h.given left prefix rest h.yields came;
+          as_many = length-last h.given prefix ∙ ap suc h.as_many ∙ sym (length-last lines line);
+          put = subst (λ (ts : List (List (Item (List M)))). HasPut ts next) all (put_more (prefixed tag (texts_of read h.given) (seen lines)) text now next h.put put kept);
+        }
+
+    abbrev pub Prefixes : List (RenderLine (Vec A)) → Renderer D A (Vec A) → Type 0
+    Prefixes lines now =
+        (given : List X) × GivesFirst gives (length lines) it given
+        × (meant f now ≡ fold (with_line columns) (meant f first) (prefixed (map f first.annotations) (texts_of read given) (seen lines)))
+
+    pub all_prefixed : (lines : List (RenderLine (Vec A))) (left : S) (now : Renderer D A (Vec A)) → HasPrefixed lines left now → Prefixes lines now
+    all_prefixed lines left now h = (h.given, (left, h.yields, inl h.as_many), h.put.lines)
+
+    -- the prefixes ran out before a line
+    pub ran_out : (lines : List (RenderLine (Vec A))) (line : RenderLine (Vec A)) (more : List (RenderLine (Vec A))) (left end : S) (now : Renderer D A (Vec A)) → HasPrefixed lines left now → gives left None end → Prefixes (lines ++ line ∷ more) now
+    ran_out lines line more left end now h none =
+        let tag = map f first.annotations in
+        let fewer = length_behind lines line more in (
+          h.given,
+          (left, h.yields, inr (omega (arith, h.as_many, fewer), (end, none))),
+          h.put.lines ∙ ap (fold (with_line columns) (meant f first))
+          (sym (ap (prefixed tag (texts_of read h.given)) (seen-append lines (line ∷ more)) ∙ prefixed-front tag (texts_of read h.given) (seen lines) (seen (line ∷ more)) (same_length h.given lines h.as_many))),
+        )
+      where
+        length_behind : (xs : List (RenderLine (Vec A))) (x : RenderLine (Vec A)) (ys : List (RenderLine (Vec A))) → length xs < length (xs ++ x ∷ ys)
+        length_behind [] x ys = omega (arith)
+        length_behind (z ∷ xs) x ys = let h = length_behind xs x ys in omega (arith, h)
+
+-- ---- what a renderer hands out
+
+-- one that hands lines out hasn't failed
+pub unfailed : {X : Type 0} (failure : Option Error) (result : Result X Error) (x : X) → result ≡ Ok x → ((e : Error) → failure ≡ Some e → result ≡ Err e) → failure ≡ None
+unfailed None result x is kept = refl
+unfailed (Some e) result x is kept = let refused = kept e refl in cc
+
+-- one that is too narrow has failed by that, or its flush is
+pub held_back : {D M : Type 0} {X : Type 0} (columns : ℕ → Option ℕ) (r : Renderer D M (List M)) (result : Result X Error) → result ≡ Err TooNarrow → (r.failure ≡ None → result ≡ Err TooNarrow → FlushIsTooNarrow columns r) →
+    ((e : Error) → r.failure ≡ Some e → result ≡ Err e) → HoldsBack columns r
+held_back columns r result is flush kept = go r.failure refl
+  where
+    go : (o : Option Error) → r.failure ≡ o → HoldsBack columns r
+    go None none = inr (none, flush none is)
+    go (Some e) some = let refused = kept e some in let same : e ≡ TooNarrow = cc in inl (some ∙ ap (λ x. Some x) same)
+
+-- a refusal that is passed on is the one that came
+pub passed_on : {X Y : Type 0} (result : Result X Error) (inner : Result Y Error) (e f : Error) → result ≡ Err f → IsErrAnd result (λ x. x ≡ e) → inner ≡ Err e → inner ≡ Err f
+passed_on result inner e f is same came = came ∙ ap Err (sym (subst (λ (r : Result _ Error). IsErrAnd r (λ x. x ≡ e)) is same))
+
+-- ---- cells below one another
+
+-- what is left of a vector where the first items were taken
+taken_front : {X Z : Type 0} (xs : List X) (s t : IntoIter X Z) → Yields into_iter_steps s xs t → into_iter_items s ≡ xs ++ into_iter_items t
+taken_front [] s t h = ap into_iter_items h
+taken_front (x ∷ xs) s t h = h.1.0 ∙ ap (λ ys. x ∷ ys) (taken_front xs h.0 t h.2)
+
+pub cols_left : {X Z : Type 0} (first s t u : IntoIter X Z) (xs : List X) (x : X) → s ≡ first → Yields into_iter_steps s xs t → into_iter_items t ≡ x ∷ into_iter_items u → into_iter_items first ≡ xs ++ x ∷ into_iter_items u
+cols_left first s t u xs x is taken next = ap into_iter_items (sym is) ∙ taken_front xs s t taken ∙ ap (λ ys. xs ++ ys) next
+
+pub cols_taken : {X Z : Type 0} (first s t u : IntoIter X Z) (xs : List X) → s ≡ first → Yields into_iter_steps s xs t → into_iter_steps t None u → into_iter_items first ≡ xs
+cols_taken first s t u xs is taken none = ap into_iter_items (sym is) ∙ sym (All-taken s xs (u, (t, taken, none)))
+
+-- all before a place give, and one there refuses
+pub refuses_behind : {S X : Type 0} (gives : S → X → Type 0) (refuses : S → Type 0) (before : List S) (one : S) (after : List S) (xs : List X) → AllZip gives before xs → refuses one → FirstToRefuse gives refuses (before ++ one ∷ after)
+refuses_behind gives refuses [] one after xs h r = inl r
+refuses_behind gives refuses (s ∷ before) one after [] h r = absurd h
+refuses_behind gives refuses (s ∷ before) one after (x ∷ xs) h r = inr (x, h.0, refuses_behind gives refuses before one after xs h.1 r)
+
+pub each_at : {S : Type 0} (P : S → Type 0) (before : List S) (one : S) (after : List S) → Each P (before ++ one ∷ after) → P one
+each_at P [] one after h = h.0
+each_at P (s ∷ before) one after h = each_at P before one after h.1
+
+zip_last : {S X : Type 0} (R : S → X → Type 0) (ss : List S) (xs : List X) (s : S) (x : X) → AllZip R ss xs → R s x → AllZip R (ss ++ s ∷ []) (xs ++ x ∷ [])
+zip_last R [] [] s x h r = (r, tt)
+zip_last R [] (y ∷ xs) s x h r = absurd h
+zip_last R (t ∷ ss) [] s x h r = absurd h
+zip_last R (t ∷ ss) (y ∷ xs) s x h r = (h.0, zip_last R ss xs s x h.1 r)
+
+module _ {D A M : Type 0} (f : A → M) (columns : ℕ → Option ℕ) (first : Renderer D A (Vec A)) where
+  abbrev pub Hands : Renderer D A (Vec A) → List (Line (List M)) → Type 0
+  Hands col lines = HandsOut columns (meant f col) lines
+
+  pub record HasCells (cols : List (Renderer D A (Vec A))) (now : Renderer D A (Vec A)) : Type 0 where
+    pub cells : List (List (Line (List M)))
+    pub hand : AllZip Hands cols cells
+    pub unfailed : now.failure ≡ None
+    pub settings : KeepsSettings (meant f first) (meant f now)
+    pub is : meant f now ≡ fold (with_cell_below columns) (meant f first) cells
+
+  pub no_cells : first.failure ≡ None → HasCells [] first
+  no_cells live = record { cells = []; hand = tt; unfailed = live; settings = refl; is = refl }
+
+  pub cells_go_on : (cols : List (Renderer D A (Vec A))) (col : Renderer D A (Vec A)) (lines : List (Line (List M))) (now divided next : Renderer D A (Vec A)) → (h : HasCells cols now) → Hands col lines →
+      meant f divided ≡ with_divider columns slash (meant f now) → meant f next ≡ with_cell columns (meant f divided) lines → KeepsSettings (meant f now) (meant f divided) → KeepsSettings (meant f divided) (meant f next) → next.failure ≡ None →
+      HasCells (cols ++ col ∷ []) next
+  cells_go_on cols col lines now divided next h hands divides puts kept still live = record {
+    cells = h.cells ++ lines ∷ [];
+    hand = zip_last Hands cols h.cells col lines h.hand hands;
+    unfailed = live;
+    settings = still ∙ kept ∙ h.settings;
+    is = puts ∙ ap (λ (r : Renderer D M (List M)). with_cell columns r lines) (divides ∙ ap (with_divider columns slash) h.is) ∙ sym (fold-append (with_cell_below columns) (meant f first) h.cells (lines ∷ []));
+  }

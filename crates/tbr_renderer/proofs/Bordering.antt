@@ -1,0 +1,61 @@
+-- Borders under what their annotations mean.
+use Rattle.std.proofs.Common.{◌≡◌, ℕ, ◌+◌, Option, true, false, List, [], ◌∷◌, ◌++◌, map, drop, refl, ap, sym, ◌∙◌}
+use Rattle.std.specs.Prelude.{slice_range}
+use Rattle.std.specs.Global.{Vec}
+use Rattle.std.proofs.lemmas.List.{map-append}
+use Rattle.tbr_model.specs.Run.{Item}
+use Rattle.tbr_model.specs.Mapped.{map_item, map_items}
+use Rattle.tbr_lines.specs.Elements.{Element, piece, marker_element, element_items}
+use Rattle.tbr_lines.specs.Cell.{Cell, character}
+use Rattle.tbr_lines.specs.Border.{Hole, Border, drawn, shown, shown_from}
+use Rattle.tbr_renderer.specs.Meant.{map_element, map_hole, map_border, map_line, tag_meant, items_meant, meant}
+use Rattle.tbr_renderer.specs.Renderer.{Line, text, border, Renderer, line_padding}
+use Rattle.tbr_renderer.specs.Appended.{with_border, border_line}
+use Rattle.tbr_renderer.proofs.Meanings.{text_items-map}
+
+module _ {T U : Type 0} (f : T → U) where
+  element_items-map : (e : Element T) → map_items f (element_items e) ≡ element_items (map_element f e)
+  element_items-map (piece cs a) = text_items-map f cs a
+  element_items-map (marker_element name) = refl
+
+  shown_from-map : (tag : T) (cells : List Cell) (at : ℕ) (hs : List (Hole T)) → map_items f (shown_from tag cells at hs) ≡ shown_from (f tag) cells at (map (map_hole f) hs)
+  shown_from-map tag cells at [] = text_items-map f (map character (drop at cells)) tag
+  shown_from-map tag cells at (h ∷ hs) =
+      let between = slice_range cells at h.place in
+      let behind : List (Item T) = shown_from tag cells (h.place + h.width) hs in
+      map-append (map_item f) (drawn between tag) (element_items h.element ++ behind)
+      ∙ ap (λ is. is ++ map_items f (element_items h.element ++ behind)) (text_items-map f (map character between) tag)
+      ∙ ap (λ is. drawn between (f tag) ++ is)
+      (map-append (map_item f) (element_items h.element) behind
+      ∙ ap (λ is. is ++ map_items f behind) (element_items-map h.element)
+      ∙ ap (λ is. element_items (map_element f h.element) ++ is) (shown_from-map tag cells (h.place + h.width) hs))
+
+  -- a border shows the same under other tags
+  pub shown-map : (tag : T) (b : Border T) → map_items f (shown tag b) ≡ shown (f tag) (map_border f b)
+  shown-map tag b = shown_from-map tag b.cells 0 b.holes
+
+module _ {D A M : Type 0} (f : A → M) (columns : ℕ → Option ℕ) (r s : Renderer D A (Vec A)) (b : Border (Vec A)) where
+  -- a border joins the lines as it is
+  pub border_added : r.options.pad_block_width ≡ false → s ≡ record r { lines = r.lines ++ border b ∷ [] } → meant f s ≡ with_border columns (meant f r) (map_border (tag_meant f) b)
+  border_added bare is =
+      ap (meant f) is
+      ∙ ap (λ (ls : List (Line (List M))). record (meant f r) { lines = ls }) (map-append (map_line (tag_meant f)) r.lines (border b ∷ []) ∙ ap (λ (l : Line (List M)). map (map_line (tag_meant f)) r.lines ++ l ∷ []) (sym kept))
+    where
+      kept : border_line columns (meant f r) (map_border (tag_meant f) b) ≡ border (map_border (tag_meant f) b)
+      kept = rw bare refl
+
+  -- a border joins them as text that is filled
+  pub border_drawn : (is full : List (Item (Vec A))) → r.options.pad_block_width ≡ true → items_meant f is ≡ items_meant f (shown b.tag b) →
+      items_meant f full ≡ items_meant f is ++ line_padding columns (meant f r) (items_meant f is) → s ≡ record r { lines = r.lines ++ text full ∷ [] } →
+      meant f s ≡ with_border columns (meant f r) (map_border (tag_meant f) b)
+  border_drawn is full pads same fills pushed =
+      let shows : items_meant f is ≡ shown (tag_meant f b.tag) (map_border (tag_meant f) b) = same ∙ shown-map (tag_meant f) b.tag b in
+      ap (meant f) pushed
+      ∙ ap (λ (ls : List (Line (List M))). record (meant f r) { lines = ls })
+      (map-append (map_line (tag_meant f)) r.lines (text full ∷ [])
+      ∙ ap (λ (js : List (Item (List M))). map (map_line (tag_meant f)) r.lines ++ text js ∷ []) (fills ∙ ap (λ js. js ++ line_padding columns (meant f r) js) shows)
+      ∙ ap (λ (l : Line (List M)). map (map_line (tag_meant f)) r.lines ++ l ∷ []) (sym drawn_line))
+    where
+      drawn_line : border_line columns (meant f r) (map_border (tag_meant f) b) ≡
+          (let js = shown (tag_meant f b.tag) (map_border (tag_meant f) b) in text (js ++ line_padding columns (meant f r) js))
+      drawn_line = rw pads refl

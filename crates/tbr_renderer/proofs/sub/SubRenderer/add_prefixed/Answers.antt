@@ -1,0 +1,26 @@
+use Rattle.std.proofs.Common.{◌∙◌, ◌++◌, ap, sym, subst, map}
+use Rattle.std.specs.Prelude.{chars}
+use Rattle.tbr_lines.specs.Elements.{items_of, text_items}
+use Rattle.tbr_renderer.specs.Meant.{items_meant}
+use Rattle.tbr_renderer.proofs.Appending.{Prefixes, lines_left, prefixed_goes_on, ran_out}
+use Rattle.tbr_renderer.proofs.sub.SubRenderer.add_prefixed.Goals as goal
+
+pub returns-in_default-clause-lines : goal.returns-in_default-clause-lines
+returns-in_default-clause-lines g c =
+    let f = g.D.TextDecorator.meaning in
+    let it = g.I.Iterator in
+    let whole = lines_left c.args.lines c.into_iter-line-iterator.result c.loop-line.yielded c.loop-line.line-iterator c.in-Some.line c.next.new.self c.into_iter-line-iterator.ensures.into_iter_gives.0 c.loop-line.yielded_by c.in-Some.ensures.steps in
+    subst (λ lines. Prefixes f g.W.CharWidth.columns c.args.self.now it.can_next it.next_gives g.P.AsStr.text c.args.prefixes lines c.loop-line.self) (sym whole)
+    (ran_out f g.W.CharWidth.columns c.args.self.now it.can_next it.next_gives g.P.AsStr.text c.args.prefixes c.loop-line.yielded c.in-Some.line c.next.new.self c.loop-line.prefixes c.next-in-loop-line.new.self c.loop-line.self c.loop-line.invariant c.in_default.ensures.steps)
+
+pub loop-line-preserved : goal.loop-line-preserved
+loop-line-preserved g c =
+    let f = g.D.TextDecorator.meaning in
+    let it = g.I.Iterator in
+    prefixed_goes_on f g.W.CharWidth.columns c.args.self.now it.can_next it.next_gives g.P.AsStr.text c.args.prefixes c.loop-line.yielded c.in-Some.line c.in-Some-next.prefix
+    (items_meant f (items_of c.put_in_front.new.text)) c.loop-line.prefixes c.next-in-loop-line.new.self c.loop-line.self c.add_line.new.self c.loop-line.invariant
+    c.in-Some-next.ensures.goes.keeps
+    c.in-Some-next.ensures.steps
+    (c.in_ok-put_in_front.ensures.items ∙ ap (λ bs. text_items (chars bs) (map f c.loop-line.self.annotations) ++ items_meant f (items_of c.in_ok-text.text)) c.as_str.ensures
+    ∙ ap (λ is. text_items (chars (g.P.AsStr.text c.in-Some-next.prefix)) (map f c.loop-line.self.annotations) ++ is) c.in_ok-text.ensures.items)
+    c.in_ok-add_line.ensures.line c.in_ok-add_line.ensures.settings

@@ -1,0 +1,29 @@
+use Rattle.std.proofs.Common.{◌∙◌, ap, sym, map}
+use Rattle.std.proofs.lemmas.Result.{IfOk-weaker}
+use Rattle.tbr_lines.specs.Border.{shown}
+use Rattle.tbr_lines.specs.Copies.{equal_lists}
+use Rattle.tbr_lines.specs.Elements.{items_of}
+use Rattle.tbr_lines.proofs.Copies.{list_copies_equal}
+use Rattle.tbr_lines.proofs.MappedTags.{means_same_items}
+use Rattle.tbr_renderer.specs.Meant.{tag_meant, map_border, map_line}
+use Rattle.tbr_renderer.specs.Appended.{as_text}
+use Rattle.tbr_renderer.specs.View.{line_seen}
+use Rattle.tbr_renderer.proofs.Meanings.{tags_mean}
+use Rattle.tbr_renderer.proofs.Bordering.{shown-map}
+use Rattle.tbr_renderer.proofs.sub.SubRenderer.as_text.Goals as goal
+
+pub into_tagged_line_with-requires : goal.into_tagged_line_with-requires
+into_tagged_line_with-requires g c = λ v w copy. list_copies_equal g.D.Annotation.Clone.is_clone g.D.Annotation.PartialEq.eq g.met.D.TextDecorator.copies_equal v.items w.items copy.0
+
+pub returns-in_ok-tag-in-Line-clause-items : goal.returns-in_ok-tag-in-Line-clause-items
+returns-in_ok-tag-in-Line-clause-items g c =
+    let f = g.D.TextDecorator.meaning in
+    let eq = g.D.Annotation.PartialEq.eq in
+    let agree = tags_mean eq f g.met.D.TextDecorator.equal_by_meaning in
+    let border = c.in-Line.border in
+    let tag = c.in_ok-tag-in-Line.field-0 in
+    IfOk-weaker c.into_tagged_line_with.result _ _
+    (λ text same. means_same_items (tag_meant f) (equal_lists eq) agree (items_of text) (shown tag border) same
+    ∙ shown-map (tag_meant f) tag border ∙ ap (λ t. shown t (map_border (tag_meant f) border)) c.in_ok-tag-in-Line.ensures
+    ∙ ap (λ line. as_text (map f c.args.self.now.annotations) (map_line (tag_meant f) (line_seen line))) (sym c.in-Line.is))
+    c.into_tagged_line_with.ensures.items

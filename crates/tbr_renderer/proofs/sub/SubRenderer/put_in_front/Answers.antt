@@ -1,0 +1,31 @@
+use Rattle.std.proofs.Common.{◌∙◌, ◌++◌, ap, sym, map}
+use Rattle.std.specs.Prelude.{chars}
+use Rattle.std.proofs.lemmas.List.{map-append}
+use Rattle.std.proofs.lemmas.Result.{on_ok_weaker}
+use Rattle.tbr_model.specs.Mapped.{map_item}
+use Rattle.tbr_lines.specs.Copies.{equal_lists}
+use Rattle.tbr_lines.specs.Elements.{items_of, text_items}
+use Rattle.tbr_lines.specs.View.{chars_of}
+use Rattle.tbr_lines.proofs.MappedTags.{means_same_items}
+use Rattle.tbr_renderer.specs.Meant.{tag_meant, items_meant}
+use Rattle.tbr_renderer.proofs.Meanings.{tags_mean, text_items-map}
+use Rattle.tbr_renderer.proofs.Appending.{no_prefix}
+use Rattle.tbr_renderer.proofs.sub.SubRenderer.put_in_front.Goals as goal
+
+pub returns-then-is_empty-clause-items : goal.returns-then-is_empty-clause-items
+returns-then-is_empty-clause-items g c = no_prefix c.args.prefix.now _ _ (sym c.is_empty.ensures ∙ c.if-is_empty.true)
+
+pub returns-clause-items : goal.returns-clause-items
+returns-clause-items g c =
+    let f = g.D.TextDecorator.meaning in
+    let eq = g.D.Annotation.PartialEq.eq in
+    let agree = tags_mean eq f g.met.D.TextDecorator.equal_by_meaning in
+    let s = c.in_ok-s.s in
+    let tag = c.in_ok-tag.tag in
+    let line = items_of c.args.text.now in
+    on_ok_weaker c.insert_front.result
+    (λ same. means_same_items (tag_meant f) (equal_lists eq) agree (items_of c.insert_front.new.self) (text_items (chars_of s) tag ++ line) same
+    ∙ map-append (map_item (tag_meant f)) (text_items (chars_of s) tag) line
+    ∙ ap (λ is. is ++ items_meant f line) (text_items-map (tag_meant f) (chars_of s) tag
+    ∙ ap (text_items (chars_of s)) c.in_ok-tag.ensures ∙ ap (λ t. text_items (chars t) (map f c.args.self.now.annotations)) c.in_ok-s.ensures.ok))
+    c.insert_front.ensures.items

@@ -1,0 +1,27 @@
+use Rattle.std.proofs.Common.{◌≡◌, ◌∙◌, inl, inr, ap, sym, length, Err, List}
+use Rattle.std.specs.Global.{Vec}
+use Rattle.tbr_lines.specs.declared.Error.TheVariants.{TooNarrow}
+use Rattle.tbr_renderer.specs.Meant.{meant}
+use Rattle.tbr_renderer.specs.Renderer.{Line, Renderer}
+use Rattle.tbr_renderer.specs.Appended.{GivesFirst, texts_of, HandsOut, AppendsLines}
+use Rattle.tbr_renderer.proofs.Kept.{kept_ok, of_refusal}
+use Rattle.tbr_renderer.proofs.sub.calls.SubRendererRenderer.append_subrender.Goals as goal
+
+pub returns-clause-ok : goal.returns-clause-ok
+returns-clause-ok g c =
+    let f = g.D.TextDecorator.meaning in
+    let columns = g.W.CharWidth.columns in
+    kept_ok (λ (r : Renderer g.row.D.Denot g.row.D-Annotation.Denot (Vec g.row.D-Annotation.Denot)).
+      (lines : List (Line (List g.D.TextDecorator.Meaning))) × (given : List g.row.P.Denot) × HandsOut columns (meant f c.args.other) lines × GivesFirst g.I.Iterator.next_gives (length lines) c.args.prefixes given
+      × AppendsLines columns (texts_of g.P.AsStr.text given) lines (meant f c.args.self.now) (meant f r))
+    c.keep.result c.try_append_subrender-done.result c.try_append_subrender-done.new.self c.keep.new.self c.keep.ensures.result c.keep.ensures.ok c.try_append_subrender-done.ensures.ok
+
+pub returns-clause-too_narrow : goal.returns-clause-too_narrow
+returns-clause-too_narrow g c = λ live is.
+    let f = g.D.TextDecorator.meaning in
+    let tried = c.try_append_subrender-done in
+    let e : tried.result ≡ Err TooNarrow = sym c.keep.ensures.result ∙ is in
+    elim (tried.ensures.too_narrow e) [
+      | inl own ↦ inl own
+      | inr passed ↦ inr (tried.new.self, passed.0, passed.1, ap (meant f) (of_refusal _ c.keep.result TooNarrow is c.keep.ensures.left))
+    ]
