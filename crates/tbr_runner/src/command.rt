@@ -9,13 +9,13 @@ ghost use Rattle.tbr_runner.specs.Command.{call_of};
 ghost use Rattle.tbr_runner.specs.Begun.{begins, ends};
 
 use crate::command::beginning::Beginning;
+use crate::command::colour::colour;
 use crate::command::kind::Kind;
 use crate::command::layout::Layout;
-use crate::command::colour::colour;
-use tbr_script::{Image, unescape};
 use std::alloc::{AllocError, Global};
 use tbr_decor::Colour;
 use tbr_lines::Error;
+use tbr_script::{Image, unescape};
 use text_block_renderer::Renderer;
 
 pub mod beginning;

@@ -9,11 +9,11 @@ ghost use Rattle.tbr_runner.specs.Meaning.{CallDoes, CallRefuses, LineDoes, Line
 
 use crate::begun::Begun;
 use crate::command::Command;
-use tbr_script::RunError;
 use std::alloc::Global;
 use std::marker::Model;
 use tbr_decor::TextDecorator;
 use tbr_lines::CharWidth;
+use tbr_script::RunError;
 use text_block_renderer::{RenderOptions, SubRenderer};
 
 /// What a script has called so far behind its first command. A refusal drops the program.

@@ -3,8 +3,8 @@ ghost use Rattle.std.specs.Prelude.{IfSome, IfNone};
 ghost use Rattle.tbr_decor.specs.declared.colour.Colour.{Colour as Meant};
 ghost use Rattle.tbr_runner.specs.Syntax.{IsColour};
 
-use tbr_script::parse_byte;
 use tbr_decor::Colour;
+use tbr_script::parse_byte;
 
 /// The colour that three numbers are, with exactly one space between two, if they are one.
 pub fn colour(writing: &str) -> Option<Colour>

@@ -1,0 +1,70 @@
+//! Texts.
+use super::Example;
+
+pub const EXAMPLES: &[Example] = &[
+    Example {
+        name: "words are wrapped, and a long one is cut",
+        script: "new 8 plain\ntext Hello, world.  Superlongwordreally\n",
+        told: "Hello,\nworld.\nSuperlon\ngwordrea\nlly\n",
+    },
+    Example {
+        name: "two texts are one run",
+        script: "new 9 plain\ntext ab\ntext c d\n",
+        told: "abc d\n",
+    },
+    Example {
+        name: "empty lines are skipped, and a last line needs no newline",
+        script: "new 9 plain\n\ntext ab\n\n\ntext  cd",
+        told: "ab cd\n",
+    },
+    Example {
+        name: "escapes stand for characters",
+        script: "new 9 plain\ntext a\\nb\\tc\\\\d\\u{e9}\\u{6f22}",
+        told: "a b\nc\\dé漢\n",
+    },
+    Example {
+        name: "an empty text shows nothing",
+        script: "new 9 plain\ntext ",
+        told: "",
+    },
+    Example {
+        name: "a text without an argument",
+        script: "new 5 plain\ntext",
+        told: "2: line 2: not a command\n",
+    },
+    Example {
+        name: "an escape of no letter",
+        script: "new 5 plain\ntext \\x",
+        told: "2: line 2: not a command\n",
+    },
+    Example {
+        name: "an escape past the last character",
+        script: "new 5 plain\ntext \\u{110000}",
+        told: "2: line 2: not a command\n",
+    },
+    Example {
+        name: "an escape of seven digits",
+        script: "new 5 plain\ntext \\u{0000041}",
+        told: "2: line 2: not a command\n",
+    },
+    Example {
+        name: "an escape without digits",
+        script: "new 5 plain\ntext \\u{}",
+        told: "2: line 2: not a command\n",
+    },
+    Example {
+        name: "the first faulty line counts, behind empty lines too",
+        script: "new 9 plain\ntext a\n\nnonsense\nnew",
+        told: "2: line 4: not a command\n",
+    },
+    Example {
+        name: "a character that is wider than the renderer",
+        script: "new 1 plain\ntext 漢",
+        told: "1: too narrow\n",
+    },
+    Example {
+        name: "a refusal of the renderer before a faulty line",
+        script: "new 1 plain\ntext 漢 a\nnonsense",
+        told: "1: too narrow\n",
+    },
+];
