@@ -1,5 +1,7 @@
 //! Scripts, and what each of them tells: its text, or behind what was written the status and line of its refusal.
 use crate::outcome::{Slow, tells};
+use std::alloc::Global;
+use std::process::Abort;
 use std::test::Fail;
 
 mod blocks;
@@ -9,28 +11,18 @@ mod modes;
 mod texts;
 
 /// A script, and what it tells.
-pub struct Example {
-    pub name: &'static str,
-    pub script: &'static str,
-    pub told: &'static str,
+struct Example {
+    name: &'static str,
+    script: &'static str,
+    told: &'static str,
 }
 
-const EXAMPLES: &[&[Example]] = &[
-    first_command::COMMANDS,
-    first_command::OPTIONS,
-    texts::EXAMPLES,
-    blocks::EXAMPLES,
-    modes::EXAMPLES,
-    decorated::EXAMPLES,
-];
-
-#[test]
-fn scripts_tell_their_text_or_their_refusal(rt: HostRuntime) -> Result<(), Fail> {
-    let alloc = rt.alloc();
-    for example in EXAMPLES.iter().flat_map(|examples| examples.iter()) {
+/// Each script tells what is expected.
+fn all_tell(rt: &impl Abort, alloc: Global, examples: &[Example]) -> Result<(), Fail> {
+    for example in examples {
         let writer = Slow::new(alloc, usize::MAX, usize::MAX);
         let script = example.script.as_bytes();
-        tells(&rt, alloc, example.name, script, writer, example.told)?;
+        tells(rt, alloc, example.name, script, writer, example.told)?;
     }
     Ok(())
 }

@@ -1,7 +1,8 @@
 //! Blocks, lines and markers.
-use super::Example;
+use super::{Example, all_tell};
+use std::test::Fail;
 
-pub const EXAMPLES: &[Example] = &[
+const EXAMPLES: &[Example] = &[
     Example {
         name: "a block",
         script: "new 9 plain\ntext a\nblock\ntext b",
@@ -53,3 +54,8 @@ pub const EXAMPLES: &[Example] = &[
         told: "2: line 2: not a command\n",
     },
 ];
+
+#[test]
+fn blocks_lines_and_markers_are_called(rt: HostRuntime) -> Result<(), Fail> {
+    all_tell(&rt, rt.alloc(), EXAMPLES)
+}

@@ -1,7 +1,8 @@
 //! Decorated text, colours and images.
-use super::Example;
+use super::{Example, all_tell};
+use std::test::Fail;
 
-pub const EXAMPLES: &[Example] = &[
+const EXAMPLES: &[Example] = &[
     Example {
         name: "a superscript",
         script: "new 20 plain\ntext x\nsuper\ntext 2\nendsuper",
@@ -113,3 +114,8 @@ pub const EXAMPLES: &[Example] = &[
         told: "",
     },
 ];
+
+#[test]
+fn decorated_text_is_as_the_decorator_shows_it(rt: HostRuntime) -> Result<(), Fail> {
+    all_tell(&rt, rt.alloc(), EXAMPLES)
+}

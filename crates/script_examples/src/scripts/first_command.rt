@@ -1,7 +1,8 @@
 //! First commands and their options.
-use super::Example;
+use super::{Example, all_tell};
+use std::test::Fail;
 
-pub const COMMANDS: &[Example] = &[
+const COMMANDS: &[Example] = &[
     Example {
         name: "no calls give no text",
         script: "new 8 plain",
@@ -59,7 +60,7 @@ pub const COMMANDS: &[Example] = &[
     },
 ];
 
-pub const OPTIONS: &[Example] = &[
+const OPTIONS: &[Example] = &[
     Example {
         name: "lines are wrapped and padded",
         script: "new 8 plain wrap=5 pad\ntext hello world",
@@ -121,3 +122,13 @@ pub const OPTIONS: &[Example] = &[
         told: "2: line 1: not a command\n",
     },
 ];
+
+#[test]
+fn a_first_command_opens_a_renderer(rt: HostRuntime) -> Result<(), Fail> {
+    all_tell(&rt, rt.alloc(), COMMANDS)
+}
+
+#[test]
+fn options_are_heeded(rt: HostRuntime) -> Result<(), Fail> {
+    all_tell(&rt, rt.alloc(), OPTIONS)
+}

@@ -1,7 +1,8 @@
 //! Modes of white space, and preformatted stretches.
-use super::Example;
+use super::{Example, all_tell};
+use std::test::Fail;
 
-pub const EXAMPLES: &[Example] = &[
+const EXAMPLES: &[Example] = &[
     Example {
         name: "white space that is preserved is cut",
         script: "new 5 plain\nws pre\ntext        ab",
@@ -73,3 +74,8 @@ pub const EXAMPLES: &[Example] = &[
         told: "1: too narrow\n",
     },
 ];
+
+#[test]
+fn modes_hold_until_they_end(rt: HostRuntime) -> Result<(), Fail> {
+    all_tell(&rt, rt.alloc(), EXAMPLES)
+}

@@ -1,7 +1,8 @@
 //! Texts.
-use super::Example;
+use super::{Example, all_tell};
+use std::test::Fail;
 
-pub const EXAMPLES: &[Example] = &[
+const EXAMPLES: &[Example] = &[
     Example {
         name: "words are wrapped, and a long one is cut",
         script: "new 8 plain\ntext Hello, world.  Superlongwordreally\n",
@@ -68,3 +69,8 @@ pub const EXAMPLES: &[Example] = &[
         told: "1: too narrow\n",
     },
 ];
+
+#[test]
+fn texts_are_rendered_or_refused(rt: HostRuntime) -> Result<(), Fail> {
+    all_tell(&rt, rt.alloc(), EXAMPLES)
+}
