@@ -7,7 +7,6 @@ use std::test::Fail;
 mod blocks;
 mod decorated;
 mod first_command;
-mod modes;
 mod texts;
 
 /// A script, and what it tells.

@@ -2,7 +2,7 @@
 use super::{Example, all_tell};
 use std::test::Fail;
 
-const COMMANDS: &[Example] = &[
+const EXAMPLES: &[Example] = &[
     Example {
         name: "no calls give no text",
         script: "new 8 plain",
@@ -58,9 +58,6 @@ const COMMANDS: &[Example] = &[
         script: "new 5 plain\nnew 5 plain\ntext a",
         told: "2: line 2: not a command\n",
     },
-];
-
-const OPTIONS: &[Example] = &[
     Example {
         name: "lines are wrapped and padded",
         script: "new 8 plain wrap=5 pad\ntext hello world",
@@ -125,10 +122,5 @@ const OPTIONS: &[Example] = &[
 
 #[test]
 fn a_first_command_opens_a_renderer(rt: HostRuntime) -> Result<(), Fail> {
-    all_tell(&rt, rt.alloc(), COMMANDS)
-}
-
-#[test]
-fn options_are_heeded(rt: HostRuntime) -> Result<(), Fail> {
-    all_tell(&rt, rt.alloc(), OPTIONS)
+    all_tell(&rt, rt.alloc(), EXAMPLES)
 }
