@@ -1,23 +1,10 @@
 //! Renders the script on standard input as text on standard output. Arguments are ignored.
 #![tactic(auto)]
 
-mod begun;
-mod command;
-mod error;
-mod laws;
-mod opening;
-mod options;
-mod program;
-mod run;
-mod script;
-mod streams;
-#[cfg(test)]
-mod tests;
-
-use run::run;
 use std::io;
 use std::process::ExitCode;
-use streams::{StdSink, StdSource};
+use tbr_runner::run;
+use tbr_script::{StdSink, StdSource};
 
 fn main(rt: HostRuntime) -> ExitCode {
     let mut source = StdSource::new(rt.reader());

@@ -1,6 +1,0 @@
-use Rattle.blockrender.specs.Script.{lines_of}
-use Rattle.blockrender.proofs.Once.{begins_once}
-use Rattle.blockrender.proofs.laws.a_script_gives_one_thing.Goals as goal
-
-pub returns : goal.returns
-returns c = λ columns script one other normal a b. begins_once columns 1 (lines_of script) one other normal a b

@@ -1,0 +1,51 @@
+-- What lines give, one after another.
+use Rattle.std.proofs.Common.{◌≡◌, ℕ, suc, ◌+◌, ◌==◌, true, false, Option, List, [], ◌∷◌, length, Result, Err, refl, sym, subst, inl, inr, arith}
+use Rattle.std.proofs.lemmas.Bool.{false≢true, eqb-true}
+use Rattle.tbr_decor.specs.Decoration.{Decoration}
+use Rattle.text_block_renderer.specs.Calls.{Call}
+use Rattle.tbr_script.specs.declared.error.RunError.{RunError}
+use Rattle.tbr_script.specs.declared.error.RunError.TheVariants.{NotACommand}
+use Rattle.tbr_runner.specs.declared.opening.Opening.{Opening}
+use Rattle.tbr_script.specs.Script.{lines_of}
+use Rattle.tbr_runner.specs.Syntax.{IsCommand}
+use Rattle.tbr_runner.specs.Opening.{IsOpening}
+use Rattle.tbr_runner.specs.Progress.{Progress}
+use Rattle.tbr_runner.specs.Meaning.{LineDoes, LineRefuses, Ends, LinesGive, Opens, Begins}
+
+no_length : (n : ℕ) → true ≡ (suc n == 0) → ⊥
+no_length n e = let none : suc n ≡ 0 = eqb-true (suc n) 0 (sym e) in omega (arith, none)
+
+module _ {D M : Type 0} (columns : ℕ → Option ℕ) (decoration : Decoration D M) (p : Progress D M (List M)) (number : ℕ) where
+  pub no_command : (line : List ℕ) → false ≡ (length line == 0) → ((call : Call) → IsCommand line call → ⊥) → LineRefuses columns decoration p number line (NotACommand number)
+  no_command [] some none = absurd (false≢true some)
+  no_command (b ∷ bs) some none = inl (none, refl)
+
+  pub at_end : (rest : List ℕ) (outcome : Result (List ℕ) RunError) → true ≡ (length rest == 0) → Ends columns p outcome → LinesGive columns decoration p number (lines_of rest) outcome
+  at_end [] outcome none h = h
+  at_end (b ∷ bs) outcome none h = absurd (no_length (length bs) none)
+
+  pub line_done : (q : Progress D M (List M)) (rest line behind : List ℕ) (outcome : Result (List ℕ) RunError) → lines_of rest ≡ line ∷ lines_of behind →
+      LineDoes columns decoration p line q → LinesGive columns decoration q (number + 1) (lines_of behind) outcome → LinesGive columns decoration p number (lines_of rest) outcome
+  line_done q rest line behind outcome is does gives = subst (λ ls. LinesGive columns decoration p number ls outcome) (sym is) (inr (q, does, gives))
+
+  pub line_refused : (rest line behind : List ℕ) (e : RunError) → lines_of rest ≡ line ∷ lines_of behind → LineRefuses columns decoration p number line e → LinesGive columns decoration p number (lines_of rest) (Err e)
+  line_refused rest line behind e is refuses = subst (λ ls. LinesGive columns decoration p number ls (Err e)) (sym is) (inl (e, refuses, refl))
+
+-- ---- before the first command
+
+module _ (columns : ℕ → Option ℕ) (number : ℕ) where
+  pub nothing_begun : (rest : List ℕ) → true ≡ (length rest == 0) → Begins columns number (lines_of rest) (Err (NotACommand number))
+  nothing_begun [] none = refl
+  nothing_begun (b ∷ bs) none = absurd (no_length (length bs) none)
+
+  pub line_skipped : (rest line behind : List ℕ) (outcome : Result (List ℕ) RunError) → true ≡ (length line == 0) → lines_of rest ≡ line ∷ lines_of behind → Begins columns (number + 1) (lines_of behind) outcome → Begins columns number (lines_of rest) outcome
+  line_skipped rest [] behind outcome none is h = subst (λ ls. Begins columns number ls outcome) (sym is) h
+  line_skipped rest (b ∷ bs) behind outcome none is h = absurd (no_length (length bs) none)
+
+  pub no_opening : (rest line behind : List ℕ) → false ≡ (length line == 0) → lines_of rest ≡ line ∷ lines_of behind → ((opening : Opening) → IsOpening line opening → ⊥) → Begins columns number (lines_of rest) (Err (NotACommand number))
+  no_opening rest [] behind some is none = absurd (false≢true some)
+  no_opening rest (b ∷ bs) behind some is none = subst (λ ls. Begins columns number ls (Err (NotACommand number))) (sym is) (inl (none, refl))
+
+  pub opened_at : (opening : Opening) (rest line behind : List ℕ) (outcome : Result (List ℕ) RunError) → false ≡ (length line == 0) → lines_of rest ≡ line ∷ lines_of behind → IsOpening line opening → Opens columns opening (number + 1) (lines_of behind) outcome → Begins columns number (lines_of rest) outcome
+  opened_at opening rest [] behind outcome some is opens h = absurd (false≢true some)
+  opened_at opening rest (b ∷ bs) behind outcome some is opens h = subst (λ ls. Begins columns number ls outcome) (sym is) (inr (opening, opens, h))

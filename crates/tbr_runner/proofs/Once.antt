@@ -1,0 +1,105 @@
+-- A script whose text is all `Normal` gives one thing.
+use Rattle.std.proofs.Common.{◌≡◌, ℕ, ◌+◌, false, List, [], ◌∷◌, refl, sym, ap, ◌∙◌, Option, Result, Ok, Err, subst, inl, inr, encode_utf8_all}
+use Rattle.std.proofs.lemmas.Bool.{false≢true}
+use Rattle.std.specs.List.{AllByRecursion as Each}
+use Rattle.tbr_decor.specs.Decoration.{Decoration}
+use Rattle.text_block_renderer.specs.Renderer.{Renderer}
+use Rattle.text_block_renderer.specs.Text.{lines_text}
+use Rattle.text_block_renderer.specs.Calls.{Call, new_line}
+use Rattle.text_block_renderer.specs.Normal.{WrapsNormally}
+use Rattle.text_block_renderer.proofs.OneState.{call_once, call_or_not, call_normal}
+use Rattle.tbr_runner.specs.declared.begun.Begun.{Begun}
+use Rattle.tbr_script.specs.declared.error.RunError.{RunError}
+use Rattle.tbr_runner.specs.declared.opening.Decorator.{Decorator}
+use Rattle.tbr_runner.specs.declared.opening.Decorator.TheVariants.{Plain, Trivial, Rich}
+use Rattle.tbr_runner.specs.declared.opening.Opening.{Opening}
+use Rattle.tbr_runner.specs.Decorations.{plain_decoration, trivial_decoration, rich_decoration}
+use Rattle.tbr_runner.specs.Progress.{Progress}
+use Rattle.tbr_runner.specs.Normal.{IsNormalLine}
+use Rattle.tbr_runner.specs.Meaning.{CallDoes, CallRefuses, LineDoes, LineRefuses, Ends, LinesGive, opened, OpensUnder, Begins}
+use Rattle.tbr_runner.proofs.OneCommand.{command_once, opening_once}
+
+module _ {D M : Type 0} (columns : ℕ → Option ℕ) (decoration : Decoration D M) where
+  -- ---- calls
+
+  one_progress : (p q : Progress D M (List M)) → p.renderer ≡ q.renderer → p.begun ≡ q.begun → p ≡ q
+  one_progress p q r b = ap (λ (x : Renderer D M (List M)). record p { renderer = x }) r ∙ ap (λ (x : Begun). record q { begun = x }) b
+
+  does_once : (p : Progress D M (List M)) (call : Call) (x y : Progress D M (List M)) → WrapsNormally p.renderer → CallDoes columns decoration p call x → CallDoes columns decoration p call y → x ≡ y
+  does_once p call x y normal a b = one_progress x y (call_once columns decoration call p.renderer y.renderer x.renderer normal b.does a.does) (a.counts ∙ sym b.counts)
+
+  refuses_once : (p : Progress D M (List M)) (number : ℕ) (call : Call) (d e : RunError) → CallRefuses columns decoration p number call d → CallRefuses columns decoration p number call e → d ≡ e
+  refuses_once p number call d e (inl a) (inl b) = a.1 ∙ sym b.1
+  refuses_once p number call d e (inr a) (inr b) = a.2 ∙ sym b.2
+  refuses_once p number call d e (inl a) (inr b) = absurd (false≢true (sym b.0 ∙ a.0))
+  refuses_once p number call d e (inr a) (inl b) = absurd (false≢true (sym a.0 ∙ b.0))
+
+  does_or_refuses : (p : Progress D M (List M)) (number : ℕ) (call : Call) (x : Progress D M (List M)) (e : RunError) → WrapsNormally p.renderer → CallDoes columns decoration p call x → CallRefuses columns decoration p number call e → ⊥
+  does_or_refuses p number call x e normal a (inl b) = false≢true (sym a.ends ∙ b.0)
+  does_or_refuses p number call x e normal a (inr b) = call_or_not columns decoration call p.renderer x.renderer normal a.does b.1
+
+  -- ---- lines
+
+  line_does_once : (p : Progress D M (List M)) (line : List ℕ) (x y : Progress D M (List M)) → WrapsNormally p.renderer → LineDoes columns decoration p line x → LineDoes columns decoration p line y → x ≡ y
+  line_does_once p [] x y normal a b = a ∙ sym b
+  line_does_once p (c ∷ cs) x y normal a b =
+      does_once p b.0 x y normal (subst (λ call. CallDoes columns decoration p call x) (command_once (c ∷ cs) a.0 b.0 a.1 b.1) a.2) b.2
+
+  line_refuses_once : (p : Progress D M (List M)) (number : ℕ) (line : List ℕ) (d e : RunError) → LineRefuses columns decoration p number line d → LineRefuses columns decoration p number line e → d ≡ e
+  line_refuses_once p number [] d e a b = absurd a
+  line_refuses_once p number (c ∷ cs) d e (inl a) (inl b) = a.1 ∙ sym b.1
+  line_refuses_once p number (c ∷ cs) d e (inl a) (inr b) = absurd (a.0 b.0 b.1)
+  line_refuses_once p number (c ∷ cs) d e (inr a) (inl b) = absurd (b.0 a.0 a.1)
+  line_refuses_once p number (c ∷ cs) d e (inr a) (inr b) =
+      refuses_once p number b.0 d e (subst (λ call. CallRefuses columns decoration p number call d) (command_once (c ∷ cs) a.0 b.0 a.1 b.1) a.2) b.2
+
+  line_does_or_refuses : (p : Progress D M (List M)) (number : ℕ) (line : List ℕ) (x : Progress D M (List M)) (e : RunError) → WrapsNormally p.renderer → LineDoes columns decoration p line x → LineRefuses columns decoration p number line e → ⊥
+  line_does_or_refuses p number [] x e normal a b = b
+  line_does_or_refuses p number (c ∷ cs) x e normal a (inl b) = b.0 a.0 a.1
+  line_does_or_refuses p number (c ∷ cs) x e normal a (inr b) =
+      does_or_refuses p number b.0 x e normal (subst (λ call. CallDoes columns decoration p call x) (command_once (c ∷ cs) a.0 b.0 a.1 b.1) a.2) b.2
+
+  line_normal : (p : Progress D M (List M)) (line : List ℕ) (x : Progress D M (List M)) → WrapsNormally p.renderer → IsNormalLine line → LineDoes columns decoration p line x → WrapsNormally x.renderer
+  line_normal p [] x normal is a = subst (λ (q : Progress D M (List M)). WrapsNormally q.renderer) (sym a) normal
+  line_normal p (c ∷ cs) x normal is a = call_normal columns decoration a.0 p.renderer x.renderer normal (is.modes a.0 a.1) a.2.does
+
+  -- ---- the end
+
+  ends_once : (p : Progress D M (List M)) (x y : Result (List ℕ) RunError) → WrapsNormally p.renderer → Ends columns p x → Ends columns p y → x ≡ y
+  ends_once p (Ok s) (Ok t) normal a b =
+      let one : a.0 ≡ b.0 = call_once columns decoration new_line p.renderer b.0 a.0 normal b.1 a.1 in
+      ap Ok (a.2 ∙ ap (λ (r : Renderer D M (List M)). encode_utf8_all (lines_text r.lines)) one ∙ sym b.2)
+  ends_once p (Ok s) (Err e) normal a b = absurd (call_or_not columns decoration new_line p.renderer a.0 normal a.1 b.0)
+  ends_once p (Err d) (Ok t) normal a b = absurd (call_or_not columns decoration new_line p.renderer b.0 normal b.1 a.0)
+  ends_once p (Err d) (Err e) normal a b = ap Err (a.1 ∙ sym b.1)
+
+  pub lines_give_once : (p : Progress D M (List M)) (number : ℕ) (lines : List (List ℕ)) (x y : Result (List ℕ) RunError) → WrapsNormally p.renderer → Each IsNormalLine lines → LinesGive columns decoration p number lines x → LinesGive columns decoration p number lines y → x ≡ y
+  lines_give_once p number [] x y normal all a b = ends_once p x y normal a b
+  lines_give_once p number (line ∷ lines) x y normal all (inl a) (inl b) =
+      a.2 ∙ ap Err (line_refuses_once p number line a.0 b.0 a.1 b.1) ∙ sym b.2
+  lines_give_once p number (line ∷ lines) x y normal all (inl a) (inr b) = absurd (line_does_or_refuses p number line b.0 a.0 normal b.1 a.1)
+  lines_give_once p number (line ∷ lines) x y normal all (inr a) (inl b) = absurd (line_does_or_refuses p number line a.0 b.0 normal a.1 b.1)
+  lines_give_once p number (line ∷ lines) x y normal all (inr a) (inr b) =
+      lines_give_once b.0 (number + 1) lines x y (line_normal p line b.0 normal all.0 b.1) all.1
+      (subst (λ (next : Progress D M (List M)). LinesGive columns decoration next (number + 1) lines x) (line_does_once p line a.0 b.0 normal a.1 b.1) a.2) b.2
+
+-- ---- the whole
+
+module _ (columns : ℕ → Option ℕ) where
+  opens_once : (d : Decorator) (o : Opening) (number : ℕ) (lines : List (List ℕ)) (x y : Result (List ℕ) RunError) → o.options.allow_width_overflow ≡ false → Each IsNormalLine lines → OpensUnder columns d o number lines x → OpensUnder columns d o number lines y → x ≡ y
+  opens_once Plain o number lines x y narrow all a b =
+      lines_give_once columns plain_decoration (opened o (record {})) number lines x y (record { narrow = rw narrow refl; modes = tt; run = tt }) all a b
+  opens_once Trivial o number lines x y narrow all a b =
+      lines_give_once columns trivial_decoration (opened o (record {})) number lines x y (record { narrow = rw narrow refl; modes = tt; run = tt }) all a b
+  opens_once Rich o number lines x y narrow all a b =
+      lines_give_once columns rich_decoration (opened o (record {})) number lines x y (record { narrow = rw narrow refl; modes = tt; run = tt }) all a b
+
+  pub begins_once : (number : ℕ) (lines : List (List ℕ)) (x y : Result (List ℕ) RunError) → Each IsNormalLine lines → Begins columns number lines x → Begins columns number lines y → x ≡ y
+  begins_once number [] x y all a b = a ∙ sym b
+  begins_once number ([] ∷ lines) x y all a b = begins_once (number + 1) lines x y all.1 a b
+  begins_once number ((c ∷ cs) ∷ lines) x y all (inl a) (inl b) = a.1 ∙ sym b.1
+  begins_once number ((c ∷ cs) ∷ lines) x y all (inl a) (inr b) = absurd (a.0 b.0 b.1)
+  begins_once number ((c ∷ cs) ∷ lines) x y all (inr a) (inl b) = absurd (b.0 a.0 a.1)
+  begins_once number ((c ∷ cs) ∷ lines) x y all (inr a) (inr b) =
+      opens_once b.0.decorator b.0 (number + 1) lines x y (all.0.narrow b.0 b.1) all.1
+      (subst (λ (o : Opening). OpensUnder columns o.decorator o (number + 1) lines x) (opening_once (c ∷ cs) a.0 b.0 a.1 b.1) a.2) b.2

@@ -1,0 +1,34 @@
+use Rattle.std.proofs.Common.{◌≡◌, Ok, Err, arith, string_bytes}
+use Rattle.std.proofs.lemmas.Result.{err_from_is_err_and}
+use Rattle.tbr_decor.specs.Decoration.{decoration_of}
+use Rattle.tbr_runner.specs.Progress.{progress_meant}
+use Rattle.tbr_runner.proofs.LinesGive.{at_end, line_done, line_refused}
+use Rattle.tbr_runner.proofs.Results.{if_ok_then, if_err_then, if_err_is}
+use Rattle.tbr_runner.proofs.runner.render_with.Goals as goal
+
+pub returns-in_err-program-clause-refusal : goal.returns-in_err-program-clause-refusal
+returns-in_err-program-clause-refusal g c =
+    let here = progress_meant g.D.TextDecorator.meaning c.loop-rest.program in
+    let p = err_from_is_err_and c.from_residual.result c.from_residual.ensures.1 in
+    let same : c.from_residual.result ≡ Err c.in_err-program.field-0.0 = cc (p.1, p.2) in
+    if_err_is _ c.from_residual.result c.in_err-program.field-0.0 same (λ found. c.loop-rest.invariant.so_far (Err c.in_err-program.field-0.0)
+    (line_refused g.W.CharWidth.columns (decoration_of g.D.TextDecorator) here c.loop-rest.number c.loop-rest.rest.now c.split_line.result.0.now c.split_line.result.1.now c.in_err-program.field-0.0 c.split_line.ensures.lines (c.in_err-program.ensures.refused found)))
+
+pub loop-rest-preserved : goal.loop-rest-preserved
+loop-rest-preserved g c =
+    let here = progress_meant g.D.TextDecorator.meaning c.loop-rest.program in
+    let next = progress_meant g.D.TextDecorator.meaning c.in_ok-program.program in
+    record {
+      so_far = λ outcome gives. c.loop-rest.invariant.so_far outcome (line_done g.W.CharWidth.columns (decoration_of g.D.TextDecorator) here c.loop-rest.number next c.loop-rest.rest.now c.split_line.result.0.now c.split_line.result.1.now outcome c.split_line.ensures.lines c.in_ok-program.ensures.done gives);
+      bound = omega (arith, c.loop-rest.invariant.bound, c.split_line.ensures.shorter);
+    }
+
+pub returns-clause-text : goal.returns-clause-text
+returns-clause-text g c =
+    let here = progress_meant g.D.TextDecorator.meaning c.loop-rest.program in
+    if_ok_then c.finish.result (λ text ends. c.loop-rest.invariant.so_far (Ok (string_bytes text)) (at_end g.W.CharWidth.columns (decoration_of g.D.TextDecorator) here c.loop-rest.number c.loop-rest.rest.now (Ok (string_bytes text)) c.loop-rest-test.ensures ends)) c.finish.ensures.text
+
+pub returns-clause-refusal : goal.returns-clause-refusal
+returns-clause-refusal g c =
+    let here = progress_meant g.D.TextDecorator.meaning c.loop-rest.program in
+    if_err_then c.finish.result (λ e ends found. c.loop-rest.invariant.so_far (Err e) (at_end g.W.CharWidth.columns (decoration_of g.D.TextDecorator) here c.loop-rest.number c.loop-rest.rest.now (Err e) c.loop-rest-test.ensures (ends found))) c.finish.ensures.refused

@@ -1,0 +1,10 @@
+pub mod Syntax
+pub mod Form
+pub mod Options
+pub mod Opening
+pub mod Command
+pub mod Begun
+pub mod Progress
+pub mod Decorations
+pub mod Meaning
+pub mod Normal

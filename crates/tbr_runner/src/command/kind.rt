@@ -1,0 +1,82 @@
+//! What commands begin, and the commands that end it.
+ghost use Rattle.std.specs.Prelude.{◌≡◌, ◌≢◌, ◌<◌, true, None, Err, OnOk, IfSome, IfNone};
+ghost use Rattle.text_block_renderer.specs.Calls.{Call, pop_preformat, end_strikeout};
+ghost use Rattle.tbr_lines.specs.declared.Error.TheVariants as E;
+ghost use Rattle.tbr_runner.specs.Syntax.{Writes};
+ghost use Rattle.tbr_runner.specs.Form as form;
+ghost use Rattle.tbr_runner.specs.Form.{form_of};
+ghost use Rattle.tbr_runner.specs.Command.{end_of};
+
+use tbr_lines::Error;
+use text_block_renderer::Renderer;
+
+/// What one command begins and another ends.
+#[derive(Clone, Copy, Debug, PartialEq, Eq)]
+pub enum Kind {
+    /// A mode of white space.
+    Mode,
+    /// A preformatted stretch.
+    Preformat,
+    /// A link.
+    Link,
+    /// Emphasised text.
+    Emphasis,
+    /// Strong text.
+    Strong,
+    /// Struck out text.
+    Strikeout,
+    /// Code.
+    Code,
+    /// A superscript.
+    Superscript,
+    /// Text in a colour.
+    Colour,
+    /// A background in a colour.
+    Background,
+}
+
+impl Kind {
+    /// What a line ends, if it is a command that ends something.
+    pub fn ended_by(line: &str) -> Option<Kind>
+        ensures found { IfSome result (λ kind. Writes line.now (end_of kind)) }
+        ensures none { IfNone result ((call : Call) → Writes line.now call → form_of call ≢ form.ending) }
+    {
+        match line {
+            "endws" => Some(Kind::Mode),
+            "endpre" => Some(Kind::Preformat),
+            "endlink" => Some(Kind::Link),
+            "endem" => Some(Kind::Emphasis),
+            "endstrong" => Some(Kind::Strong),
+            "endstrike" => Some(Kind::Strikeout),
+            "endcode" => Some(Kind::Code),
+            "endsuper" => Some(Kind::Superscript),
+            "endcolour" => Some(Kind::Colour),
+            "endbg" => Some(Kind::Background),
+            _ => None,
+        }
+    }
+
+    /// Asks a renderer to end it.
+    pub fn end<R: Renderer>(self, renderer: &mut R) -> Result<(), Error>
+        requires live { R.kept_refusal renderer.old ≡ None }
+        requires preformats { end_of self ≡ pop_preformat → 0 < R.open_preformats renderer.old }
+        requires strikeouts { end_of self ≡ end_strikeout → R.strikes renderer.old ≡ true →
+            0 < R.open_strikeouts renderer.old }
+        ensures ok { OnOk result (R.does (end_of self) renderer.old renderer.new) }
+        ensures too_narrow { result ≡ Err E.TooNarrow → R.is_too_narrow (end_of self) renderer.old }
+    {
+        match self {
+            Kind::Mode => renderer.pop_ws(),
+            Kind::Preformat => renderer.pop_preformat(),
+            Kind::Colour => renderer.pop_colour(),
+            Kind::Background => renderer.pop_bgcolour(),
+            Kind::Link => return renderer.end_link(),
+            Kind::Emphasis => return renderer.end_emphasis(),
+            Kind::Strong => return renderer.end_strong(),
+            Kind::Strikeout => return renderer.end_strikeout(),
+            Kind::Code => return renderer.end_code(),
+            Kind::Superscript => return renderer.end_superscript(),
+        }
+        Ok(())
+    }
+}

@@ -1,0 +1,13 @@
+//! Runs a script with a renderer.
+#![tactic(auto)]
+
+pub use laws::a_script_gives_one_thing;
+pub use runner::run;
+
+mod begun;
+mod command;
+mod laws;
+mod opening;
+mod options;
+mod program;
+mod runner;

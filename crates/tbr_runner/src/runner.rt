@@ -1,0 +1,179 @@
+//! From a script to its text.
+ghost use Rattle.std.specs.Prelude.{◌≡◌, ◌≢◌, ◌<◌, ◌≤◌, ◌+◌, ◌^◌, ◌↔◌, ℕ, List, length, Option, Some, Result, true, false, Ok, Err, OnOk, IfOk, IfErr, IfSome, IsErrOf, string_bytes};
+ghost use Rattle.std.specs.Io.KnownBytes.{Appends, Keeps};
+ghost use Rattle.tbr_lines.specs.UnicodeColumns.{unicode_columns};
+ghost use Rattle.tbr_script.specs.Streams.{AppendsBeginning};
+ghost use Rattle.tbr_decor.specs.Decoration.{decoration_of};
+ghost use Rattle.tbr_script.specs.Script.{lines_of};
+ghost use Rattle.tbr_runner.specs.Progress.{progress_meant};
+ghost use Rattle.tbr_runner.specs.Meaning.{LinesGive, opened, Opens, Gives};
+ghost use Rattle.tbr_script.specs.declared.error.RunError.{RunError as Refusal};
+ghost use Rattle.tbr_script.specs.Refusal.{IsOfScript};
+
+use crate::opening::{Decorator, Opening};
+use crate::program::Program;
+use std::alloc::Global;
+use tbr_decor::{PlainDecorator, RichDecorator, TextDecorator, TrivialDecorator};
+use tbr_lines::{CharWidth, UnicodeColumns};
+use tbr_script::{RunError, Sink, Source, split_line, write_all};
+
+/// Bytes that a read asks for at most.
+const CHUNK: usize = 4096;
+
+/// Reads the whole script and writes its text.
+///
+/// The script is read to its end first, then its commands are done in order, up to the first line that is faulty or
+/// refuses. Nothing is written before the text is complete, so after a refusal of the script nothing was, and where the
+/// writer fails a beginning of the text was. `ReadFailed` comes exactly where the reader fails and `WriteFailed`
+/// exactly where the writer does. `OutOfMemory` comes only for want of memory; a reader that never ends meets it, at
+/// the latest where the script's length passes `usize`.
+pub fn run<R: Source, S: Sink>(
+    alloc: Global,
+    reader: &mut R,
+    writer: &mut S,
+) -> Result<(), RunError>
+    requires reader_works { R.failed reader.old ≡ false }
+    requires writer_works { S.failed writer.old ≡ false }
+
+    // Over a reader that tells its bytes, the text that they give is written.
+    ensures text { OnOk result (IfSome (R.remaining reader.old) (λ script. (text : List ℕ)
+        × Gives unicode_columns script (Ok text)
+        × Appends (S.contents writer.old) (S.contents writer.new) text)) }
+
+    // A refusal of the script is the one that they give, with its line.
+    ensures refusal { IfErr result (λ e. IsOfScript e →
+        IfSome (R.remaining reader.old) (λ script. Gives unicode_columns script (Err e))) }
+    ensures unwritten { IfErr result (λ e. e ≢ RunError.WriteFailed →
+        Keeps (S.contents writer.old) (S.contents writer.new)) }
+
+    // A failure of the reader or the writer is told as such, and nothing else is.
+    ensures read_failed { IsErrOf result RunError.ReadFailed ↔ (R.failed reader.new ≡ true) }
+    ensures write_failed { IsErrOf result RunError.WriteFailed ↔ (S.failed writer.new ≡ true) }
+    ensures beginning { IsErrOf result RunError.WriteFailed →
+        IfSome (R.remaining reader.old) (λ script. (text : List ℕ)
+        × Gives unicode_columns script (Ok text)
+        × AppendsBeginning (S.contents writer.old) (S.contents writer.new) text) }
+{
+    let script = read_script(alloc, reader)?;
+    let text = render::<UnicodeColumns>(alloc, &script)?;
+    write_all(writer, text.as_bytes()).map_err(|_| RunError::WriteFailed)
+}
+
+/// All bytes that the reader has left.
+fn read_script<R: Source>(alloc: Global, reader: &mut R) -> Result<Vec<u8>, RunError>
+    requires { R.failed reader.old ≡ false }
+    ensures script { IfOk result (λ script. IfSome (R.remaining reader.old) (λ bytes. script.items ≡ bytes)) }
+    ensures failed { IsErrOf result RunError.ReadFailed ↔ (R.failed reader.new ≡ true) }
+    ensures memory { IfErr result (λ e. e ≢ RunError.ReadFailed → e ≡ RunError.OutOfMemory) }
+{
+    let mut script = Vec::new(alloc);
+    let mut buffer = [0u8; CHUNK];
+    loop {
+        let Ok(count) = reader.read(&mut buffer) else {
+            return Err(RunError::ReadFailed);
+        };
+        if count == 0 {
+            return Ok(script);
+        }
+        script.extend_from_slice(&buffer[..count])?;
+    }
+}
+
+/// The text of a script.
+fn render<W: CharWidth>(alloc: Global, script: &[u8]) -> Result<String, RunError>
+    ensures text { IfOk result (λ text. Gives W.columns script.now (Ok (string_bytes text))) }
+    ensures refusal { IfErr result (λ e. e ≢ RunError.OutOfMemory → Gives W.columns script.now (Err e)) }
+    ensures of_script { IfErr result (λ e. e ≢ RunError.OutOfMemory → IsOfScript e) }
+{
+    let (opening, number, rest) = first_command(script)?;
+    match opening.decorator {
+        Decorator::Plain => {
+            render_under::<PlainDecorator, W>(alloc, opening, PlainDecorator::new(), number, rest)
+        }
+        Decorator::Trivial => {
+            render_under::<TrivialDecorator, W>(
+                alloc,
+                opening,
+                TrivialDecorator::new(),
+                number,
+                rest,
+            )
+        }
+        Decorator::Rich => {
+            render_under::<RichDecorator, W>(alloc, opening, RichDecorator::new(), number, rest)
+        }
+    }
+}
+
+/// The text of a script behind its first command, under the decorator that this names.
+fn render_under<D: TextDecorator, W: CharWidth>(
+    alloc: Global,
+    opening: Opening,
+    decorator: D,
+    number: usize,
+    script: &[u8],
+) -> Result<String, RunError>
+    requires width { 0 < opening.width }
+    requires wrap_width { opening.options.wrap_width ≢ Some 0 }
+    requires number { number + length script.now < 2 ^ 64 }
+    ensures text { IfOk result (λ text. LinesGive W.columns (decoration_of D.TextDecorator)
+        (opened opening decorator) number (lines_of script.now) (Ok (string_bytes text))) }
+    ensures refusal { IfErr result (λ e. e ≢ RunError.OutOfMemory → LinesGive W.columns (decoration_of D.TextDecorator)
+        (opened opening decorator) number (lines_of script.now) (Err e)) }
+    ensures of_script { IfErr result (λ e. e ≢ RunError.OutOfMemory → IsOfScript e) }
+{
+    let program = Program::<D, W>::new(alloc, opening.width, opening.options, decorator);
+    render_with(alloc, program, number, script)
+}
+
+/// The first command of a script, the number of the line behind it, and what follows it.
+fn first_command(script: &[u8]) -> Result<(Opening, usize, &[u8]), RunError>
+    ensures found { IfOk result (λ r. (columns : ℕ → Option ℕ) (outcome : Result (List ℕ) Refusal) →
+        Opens columns r.0 r.1 (lines_of r.2.now) outcome → Gives columns script.now outcome) }
+    ensures bound { IfOk result (λ r. r.1 + length r.2.now ≤ length script.now + 1) }
+    ensures width { IfOk result (λ r. 0 < r.0.width) }
+    ensures wrap_width { IfOk result (λ r. r.0.options.wrap_width ≢ Some 0) }
+    ensures refused { IfErr result (λ e. (columns : ℕ → Option ℕ) → Gives columns script.now (Err e)) }
+    ensures of_script { IfErr result (λ e. IsOfScript e) }
+{
+    let mut rest = script;
+    let mut number = 1;
+    while !rest.is_empty() {
+        let (line, behind) = split_line(rest);
+        if !line.is_empty() {
+            let Some(opening) = Opening::parse(line) else {
+                return Err(RunError::NotACommand(number));
+            };
+            return Ok((opening, number + 1, behind));
+        }
+        rest = behind;
+        number += 1;
+    }
+    Err(RunError::NotACommand(number))
+}
+
+/// The text of a program to which the rest of a script is told, whose first line has this number.
+fn render_with<D: TextDecorator, W: CharWidth>(
+    alloc: Global,
+    program: Program<D, W>,
+    number: usize,
+    script: &[u8],
+) -> Result<String, RunError>
+    requires { number + length script.now < 2 ^ 64 }
+    ensures text { IfOk result (λ text. LinesGive W.columns (decoration_of D.TextDecorator)
+        (progress_meant D.meaning program) number (lines_of script.now) (Ok (string_bytes text))) }
+    ensures refusal { IfErr result (λ e. e ≢ RunError.OutOfMemory → LinesGive W.columns (decoration_of D.TextDecorator)
+        (progress_meant D.meaning program) number (lines_of script.now) (Err e)) }
+    ensures of_script { IfErr result (λ e. e ≢ RunError.OutOfMemory → IsOfScript e) }
+{
+    let mut program = program;
+    let mut rest = script;
+    let mut number = number;
+    while !rest.is_empty() {
+        let (line, behind) = split_line(rest);
+        program = program.run_line(alloc, number, line)?;
+        rest = behind;
+        number += 1;
+    }
+    program.finish()
+}

@@ -1,0 +1,4 @@
+pub mod Script
+pub mod Streams
+pub mod Refusal
+pub mod Report

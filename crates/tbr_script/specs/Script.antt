@@ -1,0 +1,104 @@
+-- The language of scripts, by the bytes of a script.
+use Rattle.std.specs.Prelude.{◌≡◌, ◌≢◌, ℕ, ◌^◌, ◌<◌, ◌≤◌, ◌==◌, if◌then◌else◌, ◌⊎◌, List, [], ◌∷◌, ◌++◌, length, flat_map, codes, chars, encode_utf8, Option, Some, None}
+use Rattle.std.specs.Char.{IsScalar}
+use Rattle.std.specs.List.{AllByRecursion as Each}
+use Rattle.std.specs.Str.Parse.{IsNumeral, digits_value}
+use Rattle.std.specs.Borrow.{Bor}
+use Rattle.tbr_model.specs.Codes.{newline_character, tab_character}
+
+-- a byte in front of the first line
+abbrev pub onto_first : ℕ → List (List ℕ) → List (List ℕ)
+onto_first b [] = (b ∷ []) ∷ []
+onto_first b (line ∷ lines) = (b ∷ line) ∷ lines
+
+-- The lines of a script. A newline ends a line, and bytes behind the last newline are a line.
+abbrev pub lines_of : List ℕ → List (List ℕ)
+lines_of [] = []
+lines_of (b ∷ bs) = if b == newline_character then [] ∷ lines_of bs else onto_first b (lines_of bs)
+
+-- one or more decimal digits of a value within `usize`
+abbrev pub IsNumber : List ℕ → Type 0
+IsNumber digits = IsNumeral 10 digits × (digits_value 10 digits < 2 ^ 64)
+
+-- the same of a value up to 255
+abbrev pub IsByte : List ℕ → Type 0
+IsByte digits = IsNumeral 10 digits × (digits_value 10 digits < 2 ^ 8)
+
+-- one to six hexadecimal digits that name a character
+abbrev pub NamesCharacter : List ℕ → Type 0
+NamesCharacter digits = IsNumeral 16 digits × (length digits ≤ 6) × IsScalar (digits_value 16 digits)
+
+-- the character that a letter behind a backslash stands for: `n` for a newline, `t` for a tab, a backslash for itself
+abbrev pub character_by_letter : ℕ → Option ℕ
+character_by_letter b =
+    if b == 110 then Some newline_character
+    else (if b == 116 then Some tab_character else (if b == 92 then Some 92 else None))
+
+-- what stands behind the backslash of an escape, and the character that it stands for: a letter, or `u{..}` with its
+-- digits
+abbrev pub IsEscape : List ℕ → ℕ → Type 0
+IsEscape form c =
+    ((letter : ℕ) × (form ≡ letter ∷ []) × (character_by_letter letter ≡ Some c))
+    ⊎ ((digits : List ℕ) × (form ≡ codes "u{" ++ digits ++ codes "}") × NamesCharacter digits
+    × (c ≡ digits_value 16 digits))
+
+-- A piece of a text: a byte that stands for itself, or an escape with its character.
+pub data Piece : Type 0 where
+  itself : ℕ → Piece
+  escape : List ℕ → ℕ → Piece
+
+-- A backslash stands for nothing but the beginning of an escape.
+abbrev pub IsPiece : Piece → Type 0
+IsPiece (itself b) = b ≢ 92
+IsPiece (escape form c) = IsEscape form c
+
+-- how a piece is written
+abbrev pub written : Piece → List ℕ
+written (itself b) = b ∷ []
+written (escape form c) = 92 ∷ form
+
+-- what a piece stands for
+abbrev pub meant : Piece → List ℕ
+meant (itself b) = b ∷ []
+meant (escape form c) = encode_utf8 c
+
+-- the text that is written so
+pub record IsText (writing text : List ℕ) : Type 0 where
+  pub pieces : List Piece
+  pub each : Each IsPiece pieces
+  pub writes : flat_map written pieces ≡ writing
+  pub means : flat_map meant pieces ≡ text
+
+-- the same text by its characters
+abbrev pub AreCharacters : List ℕ → List ℕ → Type 0
+AreCharacters writing cs = (text : List ℕ) × IsText writing text × (cs ≡ chars text)
+
+-- what stands between two texts
+abbrev pub bar : List ℕ
+bar = codes " | "
+
+-- Two texts, split where a bar stands first.
+pub record AreSplitTexts (writing one other : List ℕ) : Type 0 where
+  pub before : List ℕ
+  pub behind : List ℕ
+  pub splits : writing ≡ before ++ (bar ++ behind)
+  pub first : (xs ys : List ℕ) → writing ≡ xs ++ (bar ++ ys) → length before ≤ length xs
+  pub one_is : IsText before one
+  pub other_is : IsText behind other
+
+-- an image by its source and title, as characters
+abbrev pub IsImage : List ℕ → List ℕ → List ℕ → Type 0
+IsImage writing source title =
+    (s : List ℕ) × (t : List ℕ) × AreSplitTexts writing s t × (source ≡ chars s) × (title ≡ chars t)
+
+-- ---- words
+
+-- The words of a line. Exactly one space stands between two, so a space too many makes an empty word.
+abbrev pub words_of : List ℕ → List (List ℕ)
+words_of [] = [] ∷ []
+words_of (b ∷ bs) = if b == 32 then [] ∷ words_of bs else onto_first b (words_of bs)
+
+-- the words still to come
+abbrev pub words_behind : Option (Bor (List ℕ)) → List (List ℕ)
+words_behind None = []
+words_behind (Some rest) = words_of rest.now

@@ -1,0 +1,36 @@
+//! Numbers of a script.
+ghost use Rattle.std.specs.Option.{SomeIff};
+ghost use Rattle.std.specs.Str.Parse.{digits_value};
+ghost use Rattle.tbr_script.specs.Script.{IsNumber, IsByte, NamesCharacter};
+
+/// The value of decimal digits. There is none without a digit, with anything else, and past `usize`.
+pub fn parse_number(digits: &str) -> Option<usize>
+    ensures { SomeIff result (IsNumber digits.now) (digits_value 10 digits.now) }
+{
+    // `parse` takes a plus in front, a script doesn't.
+    if digits.starts_with('+') {
+        return None;
+    }
+    digits.parse::<usize>().ok()
+}
+
+/// The same up to 255.
+pub fn parse_byte(digits: &str) -> Option<u8>
+    ensures { SomeIff result (IsByte digits.now) (digits_value 10 digits.now) }
+{
+    if digits.starts_with('+') {
+        return None;
+    }
+    digits.parse::<u8>().ok()
+}
+
+/// The character that one to six hexadecimal digits name.
+pub fn character(digits: &str) -> Option<char>
+    ensures { SomeIff result (NamesCharacter digits.now) (digits_value 16 digits.now) }
+{
+    if digits.starts_with('+') || digits.len() > 6 {
+        return None;
+    }
+    let code = u32::from_str_radix(digits, 16).ok()?;
+    char::from_u32(code)
+}

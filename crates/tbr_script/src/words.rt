@@ -1,0 +1,42 @@
+//! The words of a line.
+ghost use Rattle.std.specs.Prelude.{◌≡◌, ◌∷◌, [], MatchOption};
+ghost use Rattle.tbr_script.specs.Script.{words_of};
+
+use std::marker::Model;
+
+/// Words that are still to come. Exactly one space stands between two.
+#[derive(Drop)]
+pub struct Words<'a> {
+    rest: Option<&'a str>,
+}
+
+impl<'a> Model for Words<'a> {
+    ghost use Rattle.std.specs.Prelude.{ℕ, List};
+    ghost use Rattle.tbr_script.specs.Script.{words_behind};
+
+    ghost Value = { List (List ℕ) };
+
+    ghost view = { λ words. words_behind words.rest };
+}
+
+impl<'a> Words<'a> {
+    /// The words of a line, which has one at least.
+    pub fn of(line: &'a str) -> Words<'a>
+        ensures { result ≡ words_of line.now }
+    {
+        Words { rest: Some(line) }
+    }
+
+    /// Takes the next word, if there is one.
+    pub fn next(&mut self) -> Option<&'a str>
+        ensures { MatchOption result ((self.old ≡ []) × (self.new ≡ [])) (λ word. self.old ≡ word.now ∷ self.new) }
+    {
+        let text = self.rest?;
+        let Some((word, rest)) = text.split_once(' ') else {
+            self.rest = None;
+            return Some(text);
+        };
+        self.rest = Some(rest);
+        Some(word)
+    }
+}
