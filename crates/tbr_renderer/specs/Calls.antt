@@ -1,9 +1,11 @@
 -- The calls that change a renderer.
-use Rattle.std.specs.Prelude.{◌≡◌, ℕ, suc, ◌-◌, true, if◌then◌else◌, Option, None, Some, Result, Err, IfErr, List, [], ◌∷◌, ◌++◌, map}
+use Rattle.std.specs.Prelude.{◌≡◌, ℕ, suc, ◌-◌, true, if◌then◌else◌, Option, None, Some, Result, Err, IfErr, List, [], ◌∷◌, ◌++◌, map, flat_map}
 use Rattle.std.specs.List.{AllZip}
 use Rattle.tbr_model.specs.Hard.{IsShown, visible_glyphs, visible_entries}
 use Rattle.tbr_model.specs.declared.white_space.WhiteSpace.{WhiteSpace}
-use Rattle.tbr_model.specs.Run.{Entry, marker_entry, Item}
+use Rattle.tbr_model.specs.declared.white_space.WhiteSpace.TheVariants.{Pre}
+use Rattle.tbr_model.specs.Run.{Entry, character, marker_entry, Item, glyph, marker}
+use Rattle.tbr_model.specs.Layout.{joined}
 use Rattle.tbr_lines.specs.declared.Error.{Error}
 use Rattle.tbr_decor.specs.declared.colour.Colour.{Colour}
 use Rattle.tbr_decor.specs.Decoration.{Decoration}
@@ -13,35 +15,40 @@ use Rattle.tbr_decor.specs.Ground.{Ground}
 use Rattle.tbr_renderer.specs.Renderer.{Line, text, border, Renderer, open_run, with_entries, without_last, entries_of, ignores, IsOneOf, settings_of}
 use Rattle.tbr_renderer.specs.Flush.{Flushes, FlushIsTooNarrow}
 use Rattle.tbr_renderer.specs.Steps.{AddsEmptyLine, StartsBlock, BreaksLine, AddsText, TextIsTooNarrow}
+use Rattle.tbr_renderer.specs.Appended.{as_text, prefixed, AddsBorder, AppendsLines, AppendsCells}
 use Rattle.tbr_renderer.specs.Image.{shown_title}
 use Rattle.tbr_renderer.specs.Decorated.{struck_until, asked_to_open, asked_to_close, asked_for_colour, annotated, coloured, uncoloured, Opens, OpenIsTooNarrow, Closes, CloseIsTooNarrow, OpensStrikeout, ClosesStrikeout, AddsImage, ImageIsTooNarrow}
 
--- A call with its arguments: a text by its characters, a marker by its name, an image by its source and title.
--- Strikeouts begin and end by calls of their own.
-pub data Call : Type 0 where
-  add_empty_line : Call
-  new_line : Call
-  new_line_hard : Call
-  start_block : Call
-  start_table : Call
-  end_block : Call
-  add_inline_text : List ℕ → Call
-  push_ws : WhiteSpace → Call
-  pop_ws : Call
-  push_preformat : Call
-  pop_preformat : Call
-  record_frag_start : List ℕ → Call
-  begin : start.Start → Call
-  finish : end.End → Call
-  start_strikeout : Call
-  end_strikeout : Call
-  add_image : List ℕ → List ℕ → Call
-  push_colour : Ground → Colour → Call
-  pop_colour : Ground → Call
+-- A call with its arguments: a text by its characters, a marker by its name, an image by its source and title, and
+-- another renderer by the lines that it hands out, which stand under a `T`. Strikeouts begin and end by calls of their
+-- own.
+pub data Call (T : Type 0) : Type 0 where
+  add_empty_line : Call T
+  new_line : Call T
+  new_line_hard : Call T
+  start_block : Call T
+  start_table : Call T
+  end_block : Call T
+  add_inline_text : List ℕ → Call T
+  push_ws : WhiteSpace → Call T
+  pop_ws : Call T
+  push_preformat : Call T
+  pop_preformat : Call T
+  record_frag_start : List ℕ → Call T
+  begin : start.Start → Call T
+  finish : end.End → Call T
+  start_strikeout : Call T
+  end_strikeout : Call T
+  add_image : List ℕ → List ℕ → Call T
+  push_colour : Ground → Colour → Call T
+  pop_colour : Ground → Call T
+  add_border : ℕ → Call T
+  append_subrender : List (List ℕ) → List (Line T) → Call T
+  append_vert_row : List (List (Line T)) → Call T
 
 module _ {D A : Type 0} (columns : ℕ → Option ℕ) (decoration : Decoration D A) where
   -- what a call that succeeds leaves
-  abbrev pub Does : Call → Renderer D A (List A) → Renderer D A (List A) → Type 0
+  abbrev pub Does : Call (List A) → Renderer D A (List A) → Renderer D A (List A) → Type 0
   Does add_empty_line r s = AddsEmptyLine columns r s
   Does new_line r s = Flushes columns r s
   Does new_line_hard r s = BreaksLine columns r s
@@ -61,9 +68,12 @@ module _ {D A : Type 0} (columns : ℕ → Option ℕ) (decoration : Decoration 
   Does (add_image source title) r s = AddsImage columns decoration source title r s
   Does (push_colour g colour) r s = s ≡ coloured decoration g colour r
   Does (pop_colour g) r s = s ≡ uncoloured decoration g r
+  Does (add_border width) r s = AddsBorder columns width r s
+  Does (append_subrender prefixes lines) r s = AppendsLines columns prefixes lines r s
+  Does (append_vert_row cells) r s = AppendsCells columns cells r s
 
   -- where a call answers `TooNarrow`
-  abbrev pub IsTooNarrow : Call → Renderer D A (List A) → Type 0
+  abbrev pub IsTooNarrow : Call (List A) → Renderer D A (List A) → Type 0
   IsTooNarrow add_empty_line r = FlushIsTooNarrow columns r
   IsTooNarrow new_line r = FlushIsTooNarrow columns r
   IsTooNarrow new_line_hard r = FlushIsTooNarrow columns r
@@ -83,6 +93,9 @@ module _ {D A : Type 0} (columns : ℕ → Option ℕ) (decoration : Decoration 
   IsTooNarrow (add_image source title) r = ImageIsTooNarrow columns decoration source title r
   IsTooNarrow (push_colour g colour) r = ⊥
   IsTooNarrow (pop_colour g) r = ⊥
+  IsTooNarrow (add_border width) r = FlushIsTooNarrow columns r
+  IsTooNarrow (append_subrender prefixes lines) r = FlushIsTooNarrow columns r
+  IsTooNarrow (append_vert_row cells) r = FlushIsTooNarrow columns r
 
   -- The stages of a call. One that refuses stops at one of them, with what it is but for its text.
   abbrev pub open_stages : start.Start → Renderer D A (List A) → List (Renderer D A (List A))
@@ -95,34 +108,30 @@ module _ {D A : Type 0} (columns : ℕ → Option ℕ) (decoration : Decoration 
   image_stages source None r = r ∷ []
   image_stages source (Some title) r = open_stages (start.image source title) r
 
-  abbrev pub stages : Call → Renderer D A (List A) → List (Renderer D A (List A))
+  abbrev pub stages : Call (List A) → Renderer D A (List A) → List (Renderer D A (List A))
   stages (begin opened) r = open_stages opened r
   stages (finish closed) r = close_stages closed r
   stages start_strikeout r = open_stages start.strikeout r
   stages end_strikeout r = close_stages end.strikeout (struck_until r)
   stages (add_image source title) r = image_stages source (shown_title r.options.img_mode source title) r
   stages (push_colour g colour) r = r ∷ asked_for_colour decoration g colour r ∷ []
-  stages add_empty_line r = r ∷ []
-  stages new_line r = r ∷ []
-  stages new_line_hard r = r ∷ []
-  stages start_block r = r ∷ []
-  stages start_table r = r ∷ []
-  stages end_block r = r ∷ []
-  stages (add_inline_text cs) r = r ∷ []
-  stages (push_ws mode) r = r ∷ []
-  stages pop_ws r = r ∷ []
-  stages push_preformat r = r ∷ []
-  stages pop_preformat r = r ∷ []
-  stages (record_frag_start name) r = r ∷ []
-  stages (pop_colour g) r = r ∷ []
+  stages other r = r ∷ []
 
-  abbrev pub StopsAtStage : Call → Renderer D A (List A) → Renderer D A (List A) → Type 0
+  abbrev pub StopsAtStage : Call (List A) → Renderer D A (List A) → Renderer D A (List A) → Type 0
   StopsAtStage call r s = IsOneOf (settings_of s) (map settings_of (stages call r))
 
   -- what calls leave, one after another
-  abbrev pub Steps : List Call → Renderer D A (List A) → Renderer D A (List A) → Type 0
+  abbrev pub Steps : List (Call (List A)) → Renderer D A (List A) → Renderer D A (List A) → Type 0
   Steps [] r s = s ≡ r
   Steps (call ∷ calls) r s = (m : Renderer D A (List A)) × Does call r m × Steps calls m s
+
+  -- laid items as entries that stand for them: no annotation but their own comes into question
+  abbrev pub laid_entry : Item (List A) → Entry (List A)
+  laid_entry (glyph c tag) = character c tag tag Pre
+  laid_entry (marker name) = marker_entry name
+
+  abbrev pub laid_entries : List (Item (List A)) → List (Entry (List A))
+  laid_entries is = map laid_entry is
 
   -- the entries that a text brings to the open run
   abbrev pub text_brought : List ℕ → Renderer D A (List A) → List (Entry (List A))
@@ -134,8 +143,8 @@ module _ {D A : Type 0} (columns : ℕ → Option ℕ) (decoration : Decoration 
       let image = start.image source title in
       text_brought (decoration.start_text r.decorator image) (annotated decoration image r)
 
-  -- the entries that a call brings to it
-  abbrev pub entries_brought : Call → Renderer D A (List A) → List (Entry (List A))
+  -- the entries that a call brings: to the open run, or laid ones of other renderers to the lines
+  abbrev pub entries_brought : Call (List A) → Renderer D A (List A) → List (Entry (List A))
   entries_brought (add_inline_text cs) r = text_brought cs r
   entries_brought (record_frag_start name) r = marker_entry name ∷ []
   entries_brought (begin opened) r =
@@ -148,21 +157,13 @@ module _ {D A : Type 0} (columns : ℕ → Option ℕ) (decoration : Decoration 
       let struck = struck_until r in
       text_brought (decoration.end_text struck.decorator end.strikeout) (asked_to_close decoration end.strikeout struck)
   entries_brought (add_image source title) r = image_brought source (shown_title r.options.img_mode source title) r
-  entries_brought (push_colour g colour) r = []
-  entries_brought (pop_colour g) r = []
-  entries_brought add_empty_line r = []
-  entries_brought new_line r = []
-  entries_brought new_line_hard r = []
-  entries_brought start_block r = []
-  entries_brought start_table r = []
-  entries_brought end_block r = []
-  entries_brought (push_ws mode) r = []
-  entries_brought pop_ws r = []
-  entries_brought push_preformat r = []
-  entries_brought pop_preformat r = []
+  entries_brought (append_subrender prefixes lines) r = laid_entries (joined (prefixed r.annotations prefixes lines))
+  entries_brought (append_vert_row cells) r = laid_entries (joined (flat_map (map (as_text r.annotations)) cells))
+  entries_brought other r = []
 
   -- Calls one after another, and the entries that they bring.
-  abbrev pub Brings : List Call → Renderer D A (List A) → List (Entry (List A)) → Renderer D A (List A) → Type 0
+  abbrev pub Brings :
+      List (Call (List A)) → Renderer D A (List A) → List (Entry (List A)) → Renderer D A (List A) → Type 0
   Brings [] r es s = (s ≡ r) × (es ≡ [])
   Brings (call ∷ calls) r es s =
       (m : Renderer D A (List A)) × (rest : List (Entry (List A))) × Does call r m × Brings calls m rest s

@@ -6,5 +6,6 @@ pub mod View
 pub mod Flush
 pub mod Steps
 pub mod Image
+pub mod Appended
 pub mod Decorated
 pub mod Calls

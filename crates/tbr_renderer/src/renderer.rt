@@ -18,13 +18,16 @@ use tbr_lines::{Error, WhiteSpace};
 /// A call that refuses leaves the renderer failed. It keeps that refusal, which each later call that can refuse
 /// answers, doing nothing else; a call that can't refuse does nothing then.
 pub trait Renderer {
-    // What a call that succeeds leaves, and where it answers `TooNarrow`.
-    ghost does: { Call → Self → Self → Type 0 };
+    // What its text stands under.
+    ghost Tag: { Type 0 };
 
-    ghost is_too_narrow: { Call → Self → Type 0 };
+    // What a call that succeeds leaves, and where it answers `TooNarrow`.
+    ghost does: { Call Self.Tag → Self → Self → Type 0 };
+
+    ghost is_too_narrow: { Call Self.Tag → Self → Type 0 };
 
     // At which stages a call that refuses stops.
-    ghost stops_at_stage: { Call → Self → Self → Type 0 };
+    ghost stops_at_stage: { Call Self.Tag → Self → Self → Type 0 };
 
     // The kept refusal, the columns of the renderer, and those of its blocks.
     ghost kept_refusal: { Self → Option Refusal };

@@ -77,9 +77,11 @@ impl<D: TextDecorator, W: CharWidth> Renderer for SubRenderer<D, W> {
     ghost use Rattle.tbr_renderer.specs.Meant.{meant};
     ghost use Rattle.tbr_renderer.specs.Steps.{TellsEmpty};
     ghost use Rattle.tbr_decor.specs.Decoration.{decoration_of};
-    ghost use Rattle.std.specs.Prelude.{◌≡◌};
+    ghost use Rattle.std.specs.Prelude.{◌≡◌, List};
     ghost use Rattle.tbr_renderer.specs.Decorated.{sub_renderer};
     ghost use Rattle.tbr_renderer.specs.Calls.{Does, IsTooNarrow, StopsAtStage};
+
+    ghost Tag = { List D.Meaning };
 
     ghost does = { λ call old new.
         Does W.columns (decoration_of D.TextDecorator) call (meant D.meaning old) (meant D.meaning new) };
