@@ -1,0 +1,97 @@
+-- Borders, and the lines of other renderers: prefixed, or one renderer's below another's.
+use Rattle.std.specs.Prelude.{◌≡◌, ℕ, ◌<◌, ◌⊎◌, Option, Some, None, if◌then◌else◌, List, [], ◌∷◌, ◌++◌, map, fold, length, replicate, chars}
+use Rattle.std.specs.Iterator.{Yields}
+use Rattle.tbr_model.specs.Run.{Item}
+use Rattle.tbr_lines.specs.Border.{Border, shown, without_holes}
+use Rattle.tbr_lines.specs.Cell.{Cell, horizontal, slash}
+use Rattle.tbr_lines.specs.Elements.{text_items}
+use Rattle.tbr_renderer.specs.Renderer.{Line, text, border, Renderer, line_padding, with_line}
+use Rattle.tbr_renderer.specs.Flush.{Flushes}
+
+-- ---- borders
+
+-- a border as a line; where lines are padded it becomes text
+abbrev pub border_line : {D A : Type 0} →
+    (ℕ → Option ℕ) → Renderer D A (List A) → Border (List A) → Line (List A)
+border_line columns r b =
+    let is = shown b.tag b in
+    if r.options.pad_block_width then text (is ++ line_padding columns r is) else border b
+
+-- one border more; the markers that wait go on waiting
+abbrev pub with_border : {D A : Type 0} →
+    (ℕ → Option ℕ) → Renderer D A (List A) → Border (List A) → Renderer D A (List A)
+with_border columns r b = record r { lines = r.lines ++ border_line columns r b ∷ [] }
+
+-- a border of so many cells of one kind, under the annotations
+abbrev pub border_of_cells : {D A : Type 0} → Cell → ℕ → Renderer D A (List A) → Border (List A)
+border_of_cells cell width r = without_holes (replicate width cell) r.annotations
+
+-- ---- prefixes
+
+-- What an iterator gives when it is asked so many times, or until it has no more.
+abbrev pub GivesFirst : {S X : Type 0} → (S → Option X → S → Type 0) → ℕ → S → List X → Type 0
+GivesFirst {S} gives count it xs =
+    (left : S) × Yields gives it xs left
+    × ((length xs ≡ count) ⊎ ((length xs < count) × ((end : S) × gives left None end)))
+
+-- the characters of what can be read as text
+abbrev pub texts_of : {S : Type 0} → (S → List ℕ) → List S → List (List ℕ)
+texts_of text ss = map (λ s. chars (text s)) ss
+
+-- One refuses, and all before it hand out their lines.
+abbrev pub FirstToRefuse : {S X : Type 0} → (S → X → Type 0) → (S → Type 0) → List S → Type 0
+FirstToRefuse gives refuses [] = ⊥
+FirstToRefuse {S} {X} gives refuses (s ∷ ss) = refuses s ⊎ ((x : X) × gives s x × FirstToRefuse gives refuses ss)
+
+-- ---- lines of other renderers
+
+-- a line as text: a border's cells stand under the tag, and its holes keep theirs
+abbrev pub as_text : {T : Type 0} → T → Line T → List (Item T)
+as_text tag (text is) = is
+as_text tag (border b) = shown tag b
+
+-- each line as text behind its prefix, as long as there are both
+abbrev pub prefixed : {T : Type 0} → T → List (List ℕ) → List (Line T) → List (List (Item T))
+prefixed tag [] lines = []
+prefixed tag (prefix ∷ prefixes) [] = []
+prefixed tag (prefix ∷ prefixes) (line ∷ lines) =
+    (text_items prefix tag ++ as_text tag line) ∷ prefixed tag prefixes lines
+
+module _ {D A : Type 0} (columns : ℕ → Option ℕ) where
+  -- what a renderer that hasn't failed hands out where its open line is ended
+  abbrev pub HandsOut : Renderer D A (List A) → List (Line (List A)) → Type 0
+  HandsOut r lines = (r.failure ≡ None) × ((s : Renderer D A (List A)) × Flushes columns r s × (lines ≡ s.lines))
+
+  abbrev pub AddsBorder : ℕ → Renderer D A (List A) → Renderer D A (List A) → Type 0
+  AddsBorder width r s =
+      (m : Renderer D A (List A)) × Flushes columns r m
+      × (s ≡ with_border columns m (border_of_cells horizontal width r))
+
+  abbrev pub AppendsLines :
+      List (List ℕ) → List (Line (List A)) → Renderer D A (List A) → Renderer D A (List A) → Type 0
+  AppendsLines prefixes lines r s =
+      (m : Renderer D A (List A)) × Flushes columns r m
+      × (s ≡ fold (with_line columns) m (prefixed r.annotations prefixes lines))
+
+  -- ---- cells below one another
+
+  -- a border between them or behind, where borders are drawn
+  abbrev pub with_divider : Cell → Renderer D A (List A) → Renderer D A (List A)
+  with_divider cell r =
+      if r.options.draw_borders then with_border columns r (border_of_cells cell r.width r) else r
+
+  abbrev pub with_cell : Renderer D A (List A) → List (Line (List A)) → Renderer D A (List A)
+  with_cell r lines = fold (with_line columns) r (map (as_text r.annotations) lines)
+
+  abbrev pub with_cell_below : Renderer D A (List A) → List (Line (List A)) → Renderer D A (List A)
+  with_cell_below r lines = with_cell (with_divider slash r) lines
+
+  -- the cells, a slashed border between each two
+  abbrev pub with_cells : Renderer D A (List A) → List (List (Line (List A))) → Renderer D A (List A)
+  with_cells r [] = r
+  with_cells r (lines ∷ cells) = fold with_cell_below (with_cell r lines) cells
+
+  abbrev pub AppendsCells :
+      List (List (Line (List A))) → Renderer D A (List A) → Renderer D A (List A) → Type 0
+  AppendsCells cells r s =
+      (m : Renderer D A (List A)) × Flushes columns r m × (s ≡ with_divider horizontal (with_cells m cells))
