@@ -36,7 +36,7 @@ GivesFirst {S} gives count it xs =
 
 -- the characters of what can be read as text
 abbrev pub texts_of : {S : Type 0} → (S → List ℕ) → List S → List (List ℕ)
-texts_of text ss = map (λ s. chars (text s)) ss
+texts_of read ss = map (λ s. chars (read s)) ss
 
 -- One refuses, and all before it hand out their lines.
 abbrev pub FirstToRefuse : {S X : Type 0} → (S → X → Type 0) → (S → Type 0) → List S → Type 0
