@@ -1,4 +1,5 @@
 pub mod Moves
+pub mod Drawing
 pub mod Growing
 pub mod Settings
 pub mod Once
