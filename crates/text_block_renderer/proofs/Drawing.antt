@@ -5,7 +5,7 @@ use Rattle.std.proofs.lemmas.List.Concat.{flat_map-append}
 use Rattle.tbr_model.specs.Run.{Entry, Item, items_width}
 use Rattle.tbr_lines.specs.Border.{Border, shown}
 use Rattle.tbr_decor.specs.Decoration.{Decoration}
-use Rattle.tbr_renderer.specs.Renderer.{Line, text, border, Open, Renderer, line_padding, with_line, with_entries}
+use Rattle.tbr_renderer.specs.Renderer.{Line, text, border, Open, Renderer, line_padding, with_line}
 use Rattle.tbr_model.specs.Markers.{marker_items}
 use Rattle.tbr_renderer.specs.Flush.{block_lines, flushed, FlushesBlock}
 use Rattle.tbr_renderer.specs.Appended.{border_line, with_border}

@@ -1,5 +1,5 @@
 -- Lines only come.
-use Rattle.std.proofs.Common.{◌≡◌, ℕ, Bool, true, false, Option, Some, None, List, [], ◌∷◌, ◌++◌, fold, refl, ap, sym, ◌∙◌, append_assoc, append-nil}
+use Rattle.std.proofs.Common.{◌≡◌, ℕ, true, Option, Some, None, List, [], ◌∷◌, ◌++◌, fold, refl, ap, sym, ◌∙◌, append_assoc, append-nil}
 use Rattle.tbr_model.specs.Run.{Item}
 use Rattle.tbr_renderer.specs.Renderer.{Line, Open, Renderer, with_line}
 use Rattle.tbr_renderer.specs.Flush.{block_lines, FlushesBlock}

@@ -1,5 +1,5 @@
 -- Calls as the moves of which they consist. What holds of lists of calls is shown move by move.
-use Rattle.std.proofs.Common.{◌≡◌, ℕ, ◌-◌, ◌⊎◌, inl, inr, suc, Bool, true, false, if◌then◌else◌, Option, Some, None, List, [], ◌∷◌, ◌++◌, map, flat_map, fold, refl, ap, sym, ◌∙◌, subst, append_assoc, append-nil}
+use Rattle.std.proofs.Common.{◌≡◌, ℕ, ◌-◌, inl, inr, suc, Bool, true, false, if◌then◌else◌, Option, Some, None, List, [], ◌∷◌, ◌++◌, map, flat_map, fold, refl, ap, sym, ◌∙◌, subst, append_assoc, append-nil}
 use Rattle.std.proofs.lemmas.List.{map-append}
 use Rattle.tbr_model.specs.Layout.{joined}
 use Rattle.tbr_model.proofs.lists.Joined.{joined-append}
@@ -260,9 +260,11 @@ module _ {D A : Type 0} (columns : ℕ → Option ℕ) (draws : Bool) where
         let s : Renderer D A (List A) = fold (with_cell_below columns) n cells in
         let texts = map (as_text r.annotations) lines in
         let rest = flat_map (map (as_text r.annotations)) cells in
-        let joins = joins_lines (map (as_text q.annotations) lines) r q h in
-        (subst (λ (es : List (Entry (List A))). Path q s es) (sym (ap laid_entries (joined-append texts rest) ∙ map-append laid_entry (joined texts) (joined rest)))
-        (onward q n s (laid_entries (joined texts)) (laid_entries (joined rest)) (cell_put lines q h) (cells_below cells n joins)), joins_below cells n joins)
+        let joins = joins_lines (map (as_text q.annotations) lines) r q h in (
+          subst (λ (es : List (Entry (List A))). Path q s es) (sym (ap laid_entries (joined-append texts rest) ∙ map-append laid_entry (joined texts) (joined rest)))
+              (onward q n s (laid_entries (joined texts)) (laid_entries (joined rest)) (cell_put lines q h) (cells_below cells n joins)),
+          joins_below cells n joins,
+        )
 
     cells_appended : (cells : List (List (Line (List A)))) (s : Renderer D A (List A)) → AppendsCells columns cells r s → Path r s (laid_entries (joined (flat_map (map (as_text r.annotations)) cells)))
     cells_appended cells s h =

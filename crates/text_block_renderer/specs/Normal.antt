@@ -1,7 +1,6 @@
 -- Renderers whose text is all `Normal`.
-use Rattle.std.specs.Prelude.{◌≡◌, ℕ, Option, false, ⊤, List}
+use Rattle.std.specs.Prelude.{◌≡◌, false, ⊤, List}
 use Rattle.std.specs.List.{AllByRecursion as Each}
-use Rattle.tbr_model.specs.declared.white_space.WhiteSpace.{WhiteSpace}
 use Rattle.tbr_model.specs.declared.white_space.WhiteSpace.TheVariants.{Normal}
 use Rattle.tbr_lines.specs.State.{IsNormal}
 use Rattle.tbr_renderer.specs.Renderer.{Renderer, may_overflow, open_run}
