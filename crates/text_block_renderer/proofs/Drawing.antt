@@ -132,17 +132,22 @@ module _ {D A : Type 0} (columns : ℕ → Option ℕ) where
 
   module _ (P : Renderer D A (List A) → List (Entry (List A)) → Type 0)
       (each : (m : Move (List A)) (r s : Renderer D A (List A)) (es : List (Entry (List A))) → Makes columns false m r s → P r es → P s (es ++ brought_by m)) where
+    pub moves_on : (ms : List (Move (List A))) (r s : Renderer D A (List A)) (before : List (Entry (List A))) →
+        MakesAll columns true ms r s → WithoutDrawnBorders (λ q. P q before) r → WithoutDrawnBorders (λ q. P q (before ++ brought ms)) s
+    moves_on ms r s before makes k =
+        let (puts, lines, holds) = k in
+        let ls = flat_map not_drawn puts in
+        let less = moves_less ms r s ls makes in
+        let q : Renderer D A (List A) = on s (ls ++ flat_map not_drawn less.puts) in
+        let all : P q (before ++ brought less.path.moves) = along columns false P each less.path.moves (on r ls) q before less.path.makes holds in
+        let brought_all : P q (before ++ brought ms) = subst (λ fs. P q (before ++ fs)) less.path.brings all in
+        (puts ++ less.puts, less.came ∙ put_behind [] r.lines puts less.puts lines, subst (λ ks. P (on s ks) (before ++ brought ms)) (less_behind [] puts less.puts) brought_all)
+
     pub brings_on : (decoration : Decoration D A) (calls : List (Call (List A))) (r s : Renderer D A (List A)) (before es : List (Entry (List A))) →
         Brings columns decoration calls r es s → WithoutDrawnBorders (λ q. P q before) r → WithoutDrawnBorders (λ q. P q (before ++ es)) s
     brings_on decoration calls r s before es h k =
-        let (puts, lines, holds) = k in
-        let ls = flat_map not_drawn puts in
         let path = calls_move columns true decoration calls r s es (λ e. cc) h in
-        let less = moves_less path.moves r s ls path.makes in
-        let q : Renderer D A (List A) = on s (ls ++ flat_map not_drawn less.puts) in
-        let all : P q (before ++ brought less.path.moves) = along columns false P each less.path.moves (on r ls) q before less.path.makes holds in
-        let brought_all : P q (before ++ es) = subst (λ fs. P q (before ++ fs)) (less.path.brings ∙ path.brings) all in
-        (puts ++ less.puts, less.came ∙ put_behind [] r.lines puts less.puts lines, subst (λ ms. P (on s ms) (before ++ es)) (less_behind [] puts less.puts) brought_all)
+        subst (λ fs. WithoutDrawnBorders (λ q. P q (before ++ fs)) s) path.brings (moves_on path.moves r s before path.makes k)
 
     -- where no border becomes text
     pub brings_on_all : (decoration : Decoration D A) (calls : List (Call (List A))) (r s : Renderer D A (List A)) (before es : List (Entry (List A))) →

@@ -10,3 +10,6 @@ pub mod Standing
 pub mod Waiting
 pub mod Stretching
 pub mod Parting
+pub mod Laying
+pub mod Nesting
+pub mod Rows

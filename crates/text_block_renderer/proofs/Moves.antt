@@ -59,6 +59,13 @@ module _ {D A : Type 0} (columns : ℕ → Option ℕ) where
   no_block [] q n = n
   no_block (t ∷ ts) q n = no_block ts (with_line columns q t) n
 
+  closed : (r s : Renderer D A (List A)) (o : Option (Open (List A))) → o ≡ r.block → FlushesBlock columns r o s → s.block ≡ None
+  closed r s None e h = ap (λ (q : Renderer D A (List A)). q.block) h ∙ sym e
+  closed r s (Some b) e h = ap (λ (q : Renderer D A (List A)). q.block) h.is ∙ no_block (block_lines columns r b h.texts) (record r { block = None }) refl
+
+  pub flushed_none : (r s : Renderer D A (List A)) → Flushes columns r s → s.block ≡ None
+  flushed_none r s h = closed r s r.block refl h
+
 -- `draws` says whether a border may become text.
 module _ {D A : Type 0} (columns : ℕ → Option ℕ) (draws : Bool) where
   abbrev pub Makes : Move (List A) → Renderer D A (List A) → Renderer D A (List A) → Type 0
@@ -143,15 +150,11 @@ module _ {D A : Type 0} (columns : ℕ → Option ℕ) (draws : Bool) where
 
   -- ---- each call
 
-  closed : (r s : Renderer D A (List A)) (o : Option (Open (List A))) → o ≡ r.block → FlushesBlock columns r o s → s.block ≡ None
-  closed r s None e h = ap (λ (q : Renderer D A (List A)). q.block) h ∙ sym e
-  closed r s (Some b) e h = ap (λ (q : Renderer D A (List A)). q.block) h.is ∙ no_block columns (block_lines columns r b h.texts) (record r { block = None }) refl
-
   empty_put : (r s : Renderer D A (List A)) → r.block ≡ None → s ≡ with_empty_line columns r → Path r s []
   empty_put r s none h = onward r (with_line columns r []) s [] [] (one (line []) r (with_line columns r []) (none, refl)) (turned (with_line columns r []) (with_empty_line columns r) s refl refl refl refl refl h)
 
   empty_added : (r s : Renderer D A (List A)) → AddsEmptyLine columns r s → Path r s []
-  empty_added r s h = onward r h.0 s [] [] (one flush r h.0 h.1) (empty_put h.0 s (closed r h.0 r.block refl h.1) h.2)
+  empty_added r s h = onward r h.0 s [] [] (one flush r h.0 h.1) (empty_put h.0 s (flushed_none columns r h.0 h.1) h.2)
 
   begun : (r s : Renderer D A (List A)) → r.block ≡ None → s ≡ block_started columns r → Path r s []
   begun r s none h = go (has_content r) refl
@@ -165,7 +168,7 @@ module _ {D A : Type 0} (columns : ℕ → Option ℕ) (draws : Bool) where
           turned r (record r { block_ended = false }) s refl refl refl refl refl (h ∙ is)
 
   started : (r s : Renderer D A (List A)) → StartsBlock columns r s → Path r s []
-  started r s h = onward r h.0 s [] [] (one flush r h.0 h.1) (begun h.0 s (closed r h.0 r.block refl h.1) h.2)
+  started r s h = onward r h.0 s [] [] (one flush r h.0 h.1) (begun h.0 s (flushed_none columns r h.0 h.1) h.2)
 
   -- ---- lines of other renderers, and borders
 
@@ -198,7 +201,7 @@ module _ {D A : Type 0} (columns : ℕ → Option ℕ) (draws : Bool) where
   lines_appended : (prefixes : List (List ℕ)) (lines : List (Line (List A))) (r s : Renderer D A (List A)) → AppendsLines columns prefixes lines r s → Path r s (laid_entries (joined (prefixed r.annotations prefixes lines)))
   lines_appended prefixes lines r s h =
       let texts = prefixed r.annotations prefixes lines in
-      let put = subst (λ (q : Renderer D A (List A)). Path h.0 q (laid_entries (joined texts))) (sym h.2) (lines_put texts h.0 (closed r h.0 r.block refl h.1)) in
+      let put = subst (λ (q : Renderer D A (List A)). Path h.0 q (laid_entries (joined texts))) (sym h.2) (lines_put texts h.0 (flushed_none columns r h.0 h.1)) in
       onward r h.0 s [] (laid_entries (joined texts)) (one flush r h.0 h.1) put
 
   -- where lines are padded, a border may become text

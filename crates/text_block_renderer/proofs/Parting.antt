@@ -1,4 +1,4 @@
--- All lines that come are parts: stretches of runs, lines of text that were put, and borders.
+-- All lines that come are parts: stretches of runs, laid texts, and borders.
 use Rattle.std.proofs.Common.{◌≡◌, ℕ, true, Option, Some, None, List, [], ◌∷◌, ◌++◌, flat_map, fold, refl, ap, sym, ◌∙◌, subst, append_assoc, append-nil}
 use Rattle.std.proofs.lemmas.List.Concat.{flat_map-append}
 use Rattle.tbr_model.specs.Run.{Entry, Item}
@@ -9,7 +9,7 @@ use Rattle.tbr_renderer.specs.Renderer.{Open, Renderer, with_line, with_entries,
 use Rattle.tbr_renderer.specs.Flush.{block_lines, EndsBlock, FlushesBlock}
 use Rattle.tbr_renderer.specs.Appended.{with_border}
 use Rattle.tbr_renderer.specs.Calls.{Call, laid_entries, Brings}
-use Rattle.text_block_renderer.specs.Stretches.{Part, ended, put, ruled, entries_of_part, lines_of_part, IsPart, ComesInParts}
+use Rattle.text_block_renderer.specs.Stretches.{Part, ended, laid, ruled, entries_of_part, lines_of_part, IsPart, ComesInParts}
 use Rattle.text_block_renderer.proofs.Moves.{Move, flush, line, rule, join, turn, brought_by, brought, Makes, along, calls_move, no_block}
 use Rattle.tbr_renderer.proofs.Writing.{open_run_is}
 use Rattle.text_block_renderer.proofs.Stretching.{flush_adds}
@@ -86,7 +86,7 @@ module _ {D A : Type 0} (columns : ℕ → Option ℕ) where
   put_parts : (r q s : Renderer D A (List A)) (is : List (Item (List A))) (es : List (Entry (List A))) → q.block ≡ None → s ≡ with_line columns q is → CameInParts r q es → CameInParts r s (es ++ laid_entries is)
   put_parts r q s is es none h k =
       subst (λ (p : Renderer D A (List A)). CameInParts r p (es ++ laid_entries is)) (sym h)
-      (one_part r q (with_line columns q is) es (laid_entries is) (put q is) refl refl (record { width = k.width; options = k.options; block = none }) refl (none_open q (laid_entries is) none) k)
+      (one_part r q (with_line columns q is) es (laid_entries is) (laid q is) refl refl (record { width = k.width; options = k.options; block = none }) refl (none_open q (laid_entries is) none) k)
 
   rule_parts : (r q s : Renderer D A (List A)) (b : Border (List A)) (es : List (Entry (List A))) → q.block ≡ None → s ≡ with_border columns q b → CameInParts r q es → CameInParts r s (es ++ [])
   rule_parts r q s b es none h k =

@@ -1,5 +1,5 @@
 -- Visible characters stand once.
-use Rattle.std.proofs.Common.{◌≡◌, ℕ, inl, zero, suc, ◌&&◌, Bool, true, false, if◌then◌else◌, Option, Some, None, is_some, List, [], ◌∷◌, ◌++◌, map, fold, refl, ap, sym, ◌∙◌, subst, append_assoc, append-nil}
+use Rattle.std.proofs.Common.{◌≡◌, ℕ, inl, zero, suc, ◌&&◌, Bool, true, false, if◌then◌else◌, Option, Some, None, is_some, List, [], ◌∷◌, ◌++◌, map, flat_map, fold, refl, ap, sym, ◌∙◌, subst, append_assoc, append-nil}
 use Rattle.std.specs.List.{AllZip}
 use Rattle.tbr_model.specs.Codes.{space_character}
 use Rattle.tbr_model.specs.declared.white_space.WhiteSpace.TheVariants.{Pre}
@@ -14,12 +14,12 @@ use Rattle.tbr_lines.specs.Wrapped.{padding_of}
 use Rattle.tbr_lines.proofs.SameItems.{all_zip_append}
 use Rattle.tbr_renderer.specs.Renderer.{Line, Open, Renderer, with_line, open_run, with_entries, block_width}
 use Rattle.tbr_renderer.specs.Flush.{block_lines, FlushesBlock}
-use Rattle.tbr_renderer.specs.Appended.{border_line, with_border}
+use Rattle.tbr_renderer.specs.Appended.{border_line, with_border, HandsOut}
 use Rattle.tbr_decor.specs.Decoration.{Decoration}
 use Rattle.tbr_renderer.specs.Calls.{Call, laid_entries, Brings, text_of_lines, Shows}
-use Rattle.text_block_renderer.specs.Drawn.{WithoutDrawnBorders, DrawNone}
-use Rattle.text_block_renderer.proofs.Moves.{Move, flush, line, rule, join, turn, brought_by, Makes, no_block}
-use Rattle.text_block_renderer.proofs.Drawing.{brings_on, brings_on_all, border_stays}
+use Rattle.text_block_renderer.specs.Drawn.{Put, line_put, not_drawn, WithoutDrawnBorders, DrawNone}
+use Rattle.text_block_renderer.proofs.Moves.{Move, flush, line, rule, join, turn, brought_by, Makes, no_block, flushed_none}
+use Rattle.text_block_renderer.proofs.Drawing.{moves_on, brings_on, brings_on_all, border_stays}
 use Rattle.tbr_renderer.proofs.Writing.{open_run_is}
 use Rattle.text_block_renderer.proofs.LookingAtLines.{Looks, seen_line, seen_lines, no_text_behind}
 use Rattle.text_block_renderer.specs.MarkersStand.{items_so_far}
@@ -34,7 +34,7 @@ space_unseen columns = go (is_some (columns space_character))
     go false = refl
 
 module _ {T : Type 0} (columns : ℕ → Option ℕ) where
-  glyphs-append : (is js : List (Item T)) → visible_glyphs columns (is ++ js) ≡ visible_glyphs columns is ++ visible_glyphs columns js
+  pub glyphs-append : (is js : List (Item T)) → visible_glyphs columns (is ++ js) ≡ visible_glyphs columns is ++ visible_glyphs columns js
   glyphs-append [] js = refl
   glyphs-append (marker name ∷ is) js = glyphs-append is js
   glyphs-append (glyph c a ∷ is) js = go (is_visible columns c) (glyphs-append is js)
@@ -84,7 +84,7 @@ module _ {D A : Type 0} (columns : ℕ → Option ℕ) where
       glyphs-append columns (text_of_lines r.lines) (marker_items r.waiting) ∙ ap (λ gs. visible_glyphs columns (text_of_lines r.lines) ++ gs) (markers_unseen columns r.waiting (marker_items r.waiting) refl)
       ∙ append-nil (visible_glyphs columns (text_of_lines r.lines))
 
-  shown_line : (r : Renderer D A (List A)) (t : List (Item (List A))) → visible_glyphs columns (text_of_lines (with_line columns r t).lines) ≡ visible_glyphs columns (text_of_lines r.lines) ++ visible_glyphs columns t
+  pub shown_line : (r : Renderer D A (List A)) (t : List (Item (List A))) → visible_glyphs columns (text_of_lines (with_line columns r t).lines) ≡ visible_glyphs columns (text_of_lines r.lines) ++ visible_glyphs columns t
   shown_line r t = sym (on_lines (with_line columns r t)) ∙ seen_line (visible_glyphs columns) (at_visible columns) columns r t ∙ ap (λ gs. gs ++ visible_glyphs columns t) (on_lines r)
 
   shown_lines : (b : Open (List A)) (width : ℕ) (texts : List (List (Item (List A)))) (r : Renderer D A (List A)) →
@@ -166,3 +166,27 @@ module _ {D A : Type 0} (columns : ℕ → Option ℕ) where
   pub brings_shown_all : (decoration : Decoration D A) (calls : List (Call (List A))) (r s : Renderer D A (List A)) (before es : List (Entry (List A))) →
       DrawNone r calls → Brings columns decoration calls r es s → Shows columns r before → Shows columns s (before ++ es)
   brings_shown_all = brings_on_all columns (Shows columns) shows_move
+
+  -- ---- lines that are handed out
+
+  -- where no block is open, all that came is shown
+  all_shown : (s : Renderer D A (List A)) (es : List (Entry (List A))) → s.block ≡ None → Shows columns s es → AllZip (IsShown (λ a b. a ≡ b)) (visible_glyphs columns (text_of_lines s.lines)) (visible_entries columns es)
+  all_shown s es none k =
+      let ended : visible_entries columns k.ended ≡ visible_entries columns es =
+      ap (visible_entries columns) (sym (append-nil k.ended) ∙ ap (λ (o : Option (Open (List A))). k.ended ++ open_run o) (sym none)) ∙ k.whole in
+      subst (λ (fs : List (Entry (List A))). AllZip (IsShown (λ a b. a ≡ b)) (visible_glyphs columns (text_of_lines s.lines)) fs) ended k.shown
+
+  pub handed_out : (r : Renderer D A (List A)) (es : List (Entry (List A))) (lines : List (Line (List A))) → Shows columns r es → HandsOut columns r lines →
+      AllZip (IsShown (λ a b. a ≡ b)) (visible_glyphs columns (text_of_lines lines)) (visible_entries columns es)
+  handed_out r es lines k h =
+      let (s, flushes, is) = h.1 in
+      subst (λ (ls : List (Line (List A))). AllZip (IsShown (λ a b. a ≡ b)) (visible_glyphs columns (text_of_lines ls)) (visible_entries columns es)) (sym is)
+      (all_shown s es (flushed_none columns r s flushes) (shows_flush r s r.block es refl flushes k))
+
+  pub handed_out_less : (r : Renderer D A (List A)) (es : List (Entry (List A))) (lines : List (Line (List A))) → WithoutDrawnBorders (λ q. Shows columns q es) r → HandsOut columns r lines →
+      (puts : List (Put (List A))) × (lines ≡ map line_put puts) × AllZip (IsShown (λ a b. a ≡ b)) (visible_glyphs columns (text_of_lines (flat_map not_drawn puts))) (visible_entries columns es)
+  handed_out_less r es lines k h =
+      let (s, flushes, is) = h.1 in
+      let (puts, put, shows) = moves_on columns (Shows columns) shows_move (flush ∷ []) r s es (s, flushes, refl) k in
+      let q : Renderer D A (List A) = record s { lines = flat_map not_drawn puts } in
+      (puts, is ∙ put, all_shown q es (flushed_none columns r s flushes) (subst (λ (fs : List (Entry (List A))). Shows columns q fs) (append-nil es) shows))

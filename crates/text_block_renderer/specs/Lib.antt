@@ -12,5 +12,7 @@ pub use Rattle.tbr_renderer.specs.Appended
 pub mod Drawn
 pub mod MarkersStand
 pub mod Stretches
+pub mod Nested
+pub mod Rows
 pub mod Settings
 pub mod Normal

@@ -64,24 +64,33 @@ pub record EndsAsStretch {D A : Type 0} (columns : ℕ → Option ℕ) (r : Rend
   pub annotations : List A
   pub stands : StandsAsStretch columns (record r { annotations = annotations }) (with_run b more) s.lines
 
--- What adds lines, each with the renderer at that moment: a run that ended with these texts, a line of text that was put,
--- or a border.
+-- items as a line, padded to the renderer's width
+abbrev pub padded_line : {D A : Type 0} →
+    (ℕ → Option ℕ) → Renderer D A (List A) → List (Item (List A)) → Line (List A)
+padded_line columns r is = text (is ++ line_padding columns r is)
+
+-- laid texts as lines, the first of them behind the markers that wait
+abbrev pub lines_laid : {D A : Type 0} →
+    (ℕ → Option ℕ) → Renderer D A (List A) → List (List (Item (List A))) → List (Line (List A))
+lines_laid columns r [] = []
+lines_laid columns r (is ∷ texts) =
+    padded_line columns r (marker_items r.waiting ++ is) ∷ map (padded_line columns r) texts
+
+-- What adds lines, each with the renderer at that moment: a run that ended with these texts, a laid text, or a border.
 pub data Part (D A : Type 0) : Type 0 where
   ended : Renderer D A (List A) → Open (List A) → List (List (Item (List A))) → Part D A
-  put : Renderer D A (List A) → List (Item (List A)) → Part D A
+  laid : Renderer D A (List A) → List (Item (List A)) → Part D A
   ruled : Renderer D A (List A) → Border (List A) → Part D A
 
 -- the entries that stand there
 abbrev pub entries_of_part : {D A : Type 0} → Part D A → List (Entry (List A))
 entries_of_part (ended r b texts) = b.run
-entries_of_part (put r is) = laid_entries is
+entries_of_part (laid r is) = laid_entries is
 entries_of_part (ruled r b) = []
 
 abbrev pub lines_of_part : {D A : Type 0} → (ℕ → Option ℕ) → Part D A → List (Line (List A))
 lines_of_part columns (ended r b texts) = stretch columns r b texts
-lines_of_part columns (put r is) =
-    let line = marker_items r.waiting ++ is in
-    text (line ++ line_padding columns r line) ∷ []
+lines_of_part columns (laid r is) = lines_laid columns r (is ∷ [])
 lines_of_part columns (ruled r b) = border_line columns r b ∷ []
 
 -- The open run ended with these texts. The renderer's width and options are still those of another one.
@@ -99,15 +108,14 @@ pub record IsBetweenBlocks {D A : Type 0} (first r : Renderer D A (List A)) : Ty
   pub options : r.options ≡ first.options
   pub block : r.block ≡ None
 
--- lines of text and borders are put where no block is open
+-- laid texts and borders come where no block is open
 abbrev pub IsPart : {D A : Type 0} → (ℕ → Option ℕ) → Renderer D A (List A) → Part D A → Type 0
 IsPart columns first (ended r b texts) = HasEnded columns first r b texts
-IsPart columns first (put r is) = IsBetweenBlocks first r
+IsPart columns first (laid r is) = IsBetweenBlocks first r
 IsPart columns first (ruled r b) = IsBetweenBlocks first r
 
--- The lines that came are the stretches of the runs that ended, lines of text that were put, and borders. These runs
--- and the laid entries of these lines, one behind another, and then the open run are what there was of the open run and
--- what came.
+-- The lines that came are the stretches of the runs that ended, laid texts, and borders. These runs and the entries of
+-- these texts, one behind another, and then the open run are what there was of the open run and what came.
 pub record ComesInParts {D A : Type 0} (columns : ℕ → Option ℕ) (r : Renderer D A (List A))
     (es : List (Entry (List A))) (s : Renderer D A (List A)) : Type 0 where
   pub parts : List (Part D A)

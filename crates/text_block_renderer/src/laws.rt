@@ -1,4 +1,6 @@
 //! What follows from the steps alone, each as the contract of a function that does nothing.
+pub mod appended;
+
 ghost use Rattle.std.specs.Prelude.{◌≡◌, ℕ, Bool, false, ◌⊎◌, Option, Some, List, [], ◌++◌};
 ghost use Rattle.tbr_lines.specs.State.{IsNormal};
 ghost use Rattle.tbr_renderer.specs.Renderer.{Line, Open, Renderer, new_renderer, settings_of, may_overflow, open_run};
@@ -111,10 +113,9 @@ pub fn each_open_run_ends_as_one_stretch<D, A>()
         Brings columns decoration calls r es s → StaysOpen r b es s ⊎ EndsAsStretch columns r b es s }
 {}
 
-/// The lines that calls add are the stretches of the runs that ended, lines of text that were put, as empty ones, and
-/// borders. What the calls brought are these runs and the laid items of these lines, one behind another, and then the
-/// run that is open.
-pub fn lines_are_stretches_and_put_lines<D, A>()
+/// The lines that calls add are the stretches of the runs that ended, laid texts, as empty lines are, and borders. What
+/// the calls brought are these runs and the entries of these texts, one behind another, and then the run that is open.
+pub fn lines_are_stretches_laid_texts_and_borders<D, A>()
     ensures { (columns : ℕ → Option ℕ) (decoration : Decoration D A) (calls : List (Call (List A)))
         (r s : Renderer D A (List A)) (es : List (Entry (List A))) →
         Brings columns decoration calls r es s → ComesInParts columns r es s }
