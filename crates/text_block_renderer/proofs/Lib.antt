@@ -1,4 +1,6 @@
 pub mod Moves
+pub mod Appending
+pub mod Calling
 pub mod Drawing
 pub mod Growing
 pub mod Settings

@@ -18,7 +18,7 @@ use Rattle.tbr_renderer.specs.Appended.{border_line, with_border, HandsOut}
 use Rattle.tbr_decor.specs.Decoration.{Decoration}
 use Rattle.tbr_renderer.specs.Calls.{Call, laid_entries, Brings, text_of_lines, Shows}
 use Rattle.text_block_renderer.specs.Drawn.{Put, line_put, not_drawn, WithoutDrawnBorders, DrawNone}
-use Rattle.text_block_renderer.proofs.Moves.{Move, flush, line, rule, join, turn, brought_by, Makes, no_block, flushed_none}
+use Rattle.text_block_renderer.proofs.Moves.{Move, flush, line, rule, join, turn, brought_by, Makes, no_block, flushed_none, undrawn}
 use Rattle.text_block_renderer.proofs.Drawing.{moves_on, brings_on, brings_on_all, border_stays}
 use Rattle.tbr_renderer.proofs.Writing.{open_run_is}
 use Rattle.text_block_renderer.proofs.LookingAtLines.{Looks, seen_line, seen_lines, no_text_behind}
@@ -148,10 +148,10 @@ module _ {D A : Type 0} (columns : ℕ → Option ℕ) where
   with_none : (s : Renderer D A (List A)) (es : List (Entry (List A))) → Shows columns s es → Shows columns s (es ++ [])
   with_none s es k = subst (Shows columns s) (sym (append-nil es)) k
 
-  shows_move : (m : Move (List A)) (r s : Renderer D A (List A)) (es : List (Entry (List A))) → Makes columns false m r s → Shows columns r es → Shows columns s (es ++ brought_by m)
+  shows_move : (m : Move (List A)) (r s : Renderer D A (List A)) (es : List (Entry (List A))) → Makes columns undrawn m r s → Shows columns r es → Shows columns s (es ++ brought_by m)
   shows_move flush r s es h k = with_none s es (shows_flush r s r.block es refl h k)
-  shows_move (line is) r s es h k = shows_put r s is es h.0 h.1 k
-  shows_move (rule b) r s es h k = with_none s es (shows_rule r s b es (h.0 refl) h.2 k)
+  shows_move (line is) r s es h k = shows_put r s is es h.1 h.2 k
+  shows_move (rule b) r s es h k = with_none s es (shows_rule r s b es h.0 h.2 k)
   shows_move (join more) r s es h k = shows_more r s more es h k
   shows_move turn r s es h k = with_none s es (record {
     ended = k.ended;

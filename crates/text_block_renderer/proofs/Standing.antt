@@ -25,7 +25,7 @@ use Rattle.tbr_renderer.specs.Appended.{with_border}
 use Rattle.tbr_renderer.specs.Calls.{Call, laid_entries, Brings, text_of_lines}
 use Rattle.text_block_renderer.specs.Drawn.{WithoutDrawnBorders, DrawNone}
 use Rattle.text_block_renderer.specs.MarkersStand.{items_so_far, Stands}
-use Rattle.text_block_renderer.proofs.Moves.{Move, flush, line, rule, join, turn, SameText, brought_by, Makes, no_block}
+use Rattle.text_block_renderer.proofs.Moves.{Move, flush, line, rule, join, turn, SameText, brought_by, Makes, no_block, undrawn}
 use Rattle.text_block_renderer.proofs.Drawing.{brings_on, brings_on_all, border_stays}
 use Rattle.tbr_renderer.proofs.Writing.{open_run_is}
 use Rattle.text_block_renderer.proofs.LookingAtLines.{Looks, seen_line, seen_flushed, no_text_behind}
@@ -292,10 +292,10 @@ module _ {D A : Type 0} (columns : ℕ → Option ℕ) where
       let same : items_so_far s ≡ items_so_far r = ap (λ (ls : List (Line (List A))). text_of_lines ls ++ marker_items s.waiting) h.lines ∙ ap (λ ns. text_of_lines r.lines ++ marker_items ns) h.waiting in
       as_before r s es k.ended (same_seen r s same) (ap (λ (o : Option (Open (List A))). k.ended ++ open_run o) h.block ∙ k.whole) (stand r es k)
 
-  move_stands : (m : Move (List A)) (r s : Renderer D A (List A)) (es : List (Entry (List A))) → Makes columns false m r s → Stands columns r es → Stands columns s (es ++ brought_by m)
+  move_stands : (m : Move (List A)) (r s : Renderer D A (List A)) (es : List (Entry (List A))) → Makes columns undrawn m r s → Stands columns r es → Stands columns s (es ++ brought_by m)
   move_stands flush r s es h k = subst (Stands columns s) (sym (append-nil es)) (flush_stands r s r.block es refl h k)
-  move_stands (line is) r s es h k = put_stands r s is es h.0 h.1 k
-  move_stands (rule b) r s es h k = subst (Stands columns s) (sym (append-nil es)) (rule_stands r s b es (h.0 refl) h.2 k)
+  move_stands (line is) r s es h k = put_stands r s is es h.1 h.2 k
+  move_stands (rule b) r s es h k = subst (Stands columns s) (sym (append-nil es)) (rule_stands r s b es h.0 h.2 k)
   move_stands (join more) r s es h k = join_stands r s more es h k
   move_stands turn r s es h k = subst (Stands columns s) (sym (append-nil es)) (turn_stands r s es h k)
 

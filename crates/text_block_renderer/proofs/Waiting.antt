@@ -16,7 +16,7 @@ use Rattle.tbr_renderer.specs.Appended.{with_border}
 use Rattle.tbr_renderer.specs.Calls.{Call, Steps}
 use Rattle.text_block_renderer.specs.Drawn.{CameWithoutDrawnBorders, DrawNone}
 use Rattle.text_block_renderer.specs.MarkersStand.{items_so_far, FlushStands, first_text, WaitForText}
-use Rattle.text_block_renderer.proofs.Moves.{Move, flush, line, rule, join, turn, Makes}
+use Rattle.text_block_renderer.proofs.Moves.{Move, flush, line, rule, join, turn, Makes, undrawn}
 use Rattle.text_block_renderer.proofs.Drawing.{steps_on, steps_on_all, border_stays}
 use Rattle.text_block_renderer.proofs.LookingAtLines.{marker_items-append, seen_flushed}
 use Rattle.text_block_renderer.proofs.Standing.{StandFor, at_unspaced, stand_behind, markers_stand, run_stands, waits_behind, waits_behind_kept}
@@ -235,10 +235,10 @@ module _ {D A : Type 0} (columns : ℕ → Option ℕ) where
     wait = λ none. ([], ap (λ (q : Renderer D A (List A)). q.waiting) h ∙ sym (append-nil r.waiting));
   }
 
-  move_waits : (m : Move (List A)) (r s : Renderer D A (List A)) → Makes columns false m r s → WaitForText r s
+  move_waits : (m : Move (List A)) (r s : Renderer D A (List A)) → Makes columns undrawn m r s → WaitForText r s
   move_waits flush r s h = flush_waits r s r.block h
-  move_waits (line is) r s h = subst (λ (q : Renderer D A (List A)). WaitForText r q) (sym h.1) (line_came r is)
-  move_waits (rule b) r s h = rule_waits r s b (h.0 refl) h.2
+  move_waits (line is) r s h = subst (λ (q : Renderer D A (List A)). WaitForText r q) (sym h.2) (line_came r is)
+  move_waits (rule b) r s h = rule_waits r s b h.0 h.2
   move_waits (join es) r s h = same_wait r s (ap (λ (q : Renderer D A (List A)). q.lines) h) (ap (λ (q : Renderer D A (List A)). q.waiting) h)
   move_waits turn r s h = same_wait r s h.lines h.waiting
 

@@ -1,5 +1,5 @@
 -- The lines of a run, which stand together for good.
-use Rattle.std.specs.Prelude.{◌≡◌, ℕ, ◌≤◌, false, Option, Some, None, List, [], ◌∷◌, ◌++◌, map, flat_map, length, take}
+use Rattle.std.specs.Prelude.{◌≡◌, ℕ, ◌≤◌, false, ⊤, Option, Some, None, List, [], ◌∷◌, ◌++◌, map, flat_map, length, take}
 use Rattle.std.specs.List.{AllByRecursion as Each}
 use Rattle.tbr_model.specs.Run.{Entry, Item}
 use Rattle.tbr_model.specs.Layout.{Slot, slots_of, joined, IsLegal, placed}
@@ -10,7 +10,7 @@ use Rattle.tbr_lines.specs.Wrapped.{padding_of}
 use Rattle.tbr_renderer.specs.Renderer.{Line, text, Open, Renderer, line_padding, block_width, may_overflow, open_run}
 use Rattle.tbr_renderer.specs.Flush.{block_of_run, with_run}
 use Rattle.tbr_renderer.specs.Appended.{border_line}
-use Rattle.tbr_renderer.specs.Calls.{laid_entries}
+use Rattle.tbr_renderer.specs.Calls.{Call, add_border, append_subrender, append_vert_row, laid_entries}
 use Rattle.tbr_lines.specs.Border.{Border}
 
 -- a text of a block as a line: behind markers, and padded to the block's width and to the renderer's
@@ -122,3 +122,16 @@ pub record ComesInParts {D A : Type 0} (columns : ℕ → Option ℕ) (r : Rende
   pub are : Each (IsPart columns r) parts
   pub lines : s.lines ≡ r.lines ++ flat_map (lines_of_part columns) parts
   pub entries : open_run r.block ++ es ≡ flat_map entries_of_part parts ++ open_run s.block
+
+-- a call that appends no lines of others, and no border
+abbrev pub AppendsNothing : {T : Type 0} → Call T → Type 0
+AppendsNothing (add_border width) = ⊥
+AppendsNothing (append_subrender prefixes lines) = ⊥
+AppendsNothing (append_vert_row cells) = ⊥
+AppendsNothing other = ⊤
+
+-- a run that ended, or an empty line
+abbrev pub IsOwnPart : {D A : Type 0} → Part D A → Type 0
+IsOwnPart (ended r b texts) = ⊤
+IsOwnPart (laid r is) = is ≡ []
+IsOwnPart (ruled r b) = ⊥

@@ -2,6 +2,7 @@
 pub mod appended;
 
 ghost use Rattle.std.specs.Prelude.{◌≡◌, ℕ, Bool, false, ◌⊎◌, Option, Some, List, [], ◌++◌};
+ghost use Rattle.std.specs.List.{AllByRecursion as Each};
 ghost use Rattle.tbr_lines.specs.State.{IsNormal};
 ghost use Rattle.tbr_renderer.specs.Renderer.{Line, Open, Renderer, new_renderer, settings_of, may_overflow, open_run};
 ghost use Rattle.tbr_renderer.specs.declared.options.RenderOptions.{RenderOptions};
@@ -11,7 +12,7 @@ ghost use Rattle.text_block_renderer.specs.Normal.{WrapsNormally, PushesNormal};
 ghost use Rattle.text_block_renderer.specs.Settings.{settled};
 ghost use Rattle.text_block_renderer.specs.Drawn.{WithoutDrawnBorders, CameWithoutDrawnBorders, DrawNone};
 ghost use Rattle.text_block_renderer.specs.MarkersStand.{Stands, FlushStands, WaitForText};
-ghost use Rattle.text_block_renderer.specs.Stretches.{StandsAsStretch, StaysOpen, EndsAsStretch, ComesInParts};
+ghost use Rattle.text_block_renderer.specs.Stretches.{StandsAsStretch, StaysOpen, EndsAsStretch, ComesInParts, AppendsNothing, IsOwnPart};
 ghost use Rattle.tbr_model.specs.Run.{Entry};
 ghost use Rattle.tbr_decor.specs.Decoration.{Decoration};
 
@@ -115,8 +116,12 @@ pub fn each_open_run_ends_as_one_stretch<D, A>()
 
 /// The lines that calls add are the stretches of the runs that ended, laid texts, as empty lines are, and borders. What
 /// the calls brought are these runs and the entries of these texts, one behind another, and then the run that is open.
+/// Calls that append nothing add stretches and empty lines alone.
 pub fn lines_are_stretches_laid_texts_and_borders<D, A>()
-    ensures { (columns : ℕ → Option ℕ) (decoration : Decoration D A) (calls : List (Call (List A)))
+    ensures calls { (columns : ℕ → Option ℕ) (decoration : Decoration D A) (calls : List (Call (List A)))
         (r s : Renderer D A (List A)) (es : List (Entry (List A))) →
         Brings columns decoration calls r es s → ComesInParts columns r es s }
+    ensures own { (columns : ℕ → Option ℕ) (decoration : Decoration D A) (calls : List (Call (List A)))
+        (r s : Renderer D A (List A)) (es : List (Entry (List A))) → Each AppendsNothing calls →
+        Brings columns decoration calls r es s → (came : ComesInParts columns r es s) × Each IsOwnPart came.parts }
 {}
