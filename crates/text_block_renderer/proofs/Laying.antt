@@ -77,14 +77,14 @@ module _ {D A : Type 0} (columns : ℕ → Option ℕ) where
 
   -- ---- visible characters
 
-  shown_texts : (ts : List (List (Item (List A)))) (r : Renderer D A (List A)) → visible_glyphs columns (text_of_lines (fold (with_line columns) r ts).lines) ≡ visible_glyphs columns (text_of_lines r.lines) ++ visible_glyphs columns (joined ts)
+  pub shown_texts : (ts : List (List (Item (List A)))) (r : Renderer D A (List A)) → visible_glyphs columns (text_of_lines (fold (with_line columns) r ts).lines) ≡ visible_glyphs columns (text_of_lines r.lines) ++ visible_glyphs columns (joined ts)
   shown_texts [] r = sym (append-nil (visible_glyphs columns (text_of_lines r.lines)))
   shown_texts (t ∷ ts) r =
       let old = visible_glyphs columns (text_of_lines r.lines) in
       shown_texts ts (with_line columns r t) ∙ ap (λ gs. gs ++ visible_glyphs columns (joined ts)) (shown_line columns r t)
       ∙ append_assoc old (visible_glyphs columns t) (visible_glyphs columns (joined ts)) ∙ ap (λ gs. old ++ gs) (sym (glyphs-append columns t (joined ts)))
 
-  characters_appended : (decoration : Decoration D A) (prefixes : List (List ℕ)) (lines : List (Line (List A))) (r s : Renderer D A (List A)) → (h : Does columns decoration (append_subrender prefixes lines) r s) →
+  pub characters_appended : (decoration : Decoration D A) (prefixes : List (List ℕ)) (lines : List (Line (List A))) (r s : Renderer D A (List A)) → (h : Does columns decoration (append_subrender prefixes lines) r s) →
       visible_glyphs columns (text_of_lines s.lines) ≡ visible_glyphs columns (text_of_lines h.0.lines) ++ visible_glyphs columns (joined (prefixed r.annotations prefixes lines))
   characters_appended decoration prefixes lines r s h =
       ap (λ (q : Renderer D A (List A)). visible_glyphs columns (text_of_lines q.lines)) h.2 ∙ shown_texts (prefixed r.annotations prefixes lines) h.0

@@ -15,3 +15,4 @@ pub mod Parting
 pub mod Laying
 pub mod Nesting
 pub mod Rows
+pub mod Taking

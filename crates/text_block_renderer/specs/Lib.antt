@@ -14,5 +14,6 @@ pub mod MarkersStand
 pub mod Stretches
 pub mod Nested
 pub mod Rows
+pub mod Taken
 pub mod Settings
 pub mod Normal

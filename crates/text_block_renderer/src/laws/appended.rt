@@ -14,6 +14,7 @@ ghost use Rattle.text_block_renderer.specs.Drawn.{Put, line_put, not_drawn, With
 ghost use Rattle.text_block_renderer.specs.Stretches.{lines_laid};
 ghost use Rattle.text_block_renderer.specs.Nested.{Level, nested, IsFront, shortest, visible_behind, HandOn};
 ghost use Rattle.text_block_renderer.specs.Rows.{row_lines};
+ghost use Rattle.text_block_renderer.specs.Taken.{StandWithin, AreTakenIn};
 
 /// Behind the prefixes of blocks inside blocks, the i-th line is the i-th prefixes of all, one behind another from the
 /// outermost, and then the i-th line as text. There are as many lines as the shortest has. Renderers that hand their
@@ -66,15 +67,30 @@ pub fn a_vertical_row_is_its_cells_and_borders<D, A>()
         × Flushes columns r m × (s.lines ≡ m.lines ++ lines_laid columns m (flat_map (map (as_text r.annotations)) cells)) }
 {}
 
-/// The lines that a renderer hands out have the visible characters of all that was brought to it, once and in order. Of
-/// borders that padding made text this is not said.
+/// The lines that a renderer hands out have the visible characters of all that was brought to it, once and in order.
+/// Borders that padding made text aren't looked at.
 pub fn handed_out_lines_have_all_characters<D, A>()
-    ensures all { (columns : ℕ → Option ℕ) (r : Renderer D A (List A)) (es : List (Entry (List A)))
-        (lines : List (Line (List A))) → Shows columns r es → HandsOut columns r lines →
-        AllZip (IsShown (λ a b. a ≡ b)) (visible_glyphs columns (text_of_lines lines)) (visible_entries columns es) }
-    ensures undrawn { (columns : ℕ → Option ℕ) (r : Renderer D A (List A)) (es : List (Entry (List A)))
+    ensures lines { (columns : ℕ → Option ℕ) (r : Renderer D A (List A)) (es : List (Entry (List A)))
         (lines : List (Line (List A))) → WithoutDrawnBorders (λ q. Shows columns q es) r → HandsOut columns r lines →
         (puts : List (Put (List A))) × (lines ≡ map line_put puts)
         × AllZip (IsShown (λ a b. a ≡ b)) (visible_glyphs columns (text_of_lines (flat_map not_drawn puts)))
         (visible_entries columns es) }
+    ensures undrawn { (columns : ℕ → Option ℕ) (r : Renderer D A (List A)) (es : List (Entry (List A)))
+        (lines : List (Line (List A))) → Shows columns r es → HandsOut columns r lines →
+        AllZip (IsShown (λ a b. a ≡ b)) (visible_glyphs columns (text_of_lines lines)) (visible_entries columns es) }
+{}
+
+/// Renderers take lines from one another and hand out their own, to any depth, behind as many prefixes or as cells: then
+/// the visible characters of the first lines stand in the last, in order, and so do those of all that was brought to a
+/// renderer that handed out the first.
+pub fn nothing_visible_is_lost_to_any_depth<D, A>()
+    ensures lines { (columns : ℕ → Option ℕ) (decoration : Decoration D A) (depth : ℕ)
+        (inside outside : List (Line (List A))) → AreTakenIn columns decoration depth inside outside →
+        StandWithin (visible_glyphs columns (text_of_lines inside)) (visible_glyphs columns (text_of_lines outside)) }
+    ensures brought { (columns : ℕ → Option ℕ) (decoration : Decoration D A) (depth : ℕ) (r : Renderer D A (List A))
+        (es : List (Entry (List A))) (inside outside : List (Line (List A))) →
+        WithoutDrawnBorders (λ q. Shows columns q es) r → HandsOut columns r inside →
+        AreTakenIn columns decoration depth inside outside →
+        (shown : List (ℕ × List A)) × AllZip (IsShown (λ a b. a ≡ b)) shown (visible_entries columns es)
+        × StandWithin shown (visible_glyphs columns (text_of_lines outside)) }
 {}
