@@ -46,6 +46,14 @@ pub data Call (T : Type 0) : Type 0 where
   append_subrender : List (List ℕ) → List (Line T) → Call T
   append_vert_row : List (List (Line T)) → Call T
 
+-- laid items as entries that stand for them: no annotation but their own comes into question
+abbrev pub laid_entry : {T : Type 0} → Item T → Entry T
+laid_entry (glyph c tag) = character c tag tag Pre
+laid_entry (marker name) = marker_entry name
+
+abbrev pub laid_entries : {T : Type 0} → List (Item T) → List (Entry T)
+laid_entries is = map laid_entry is
+
 module _ {D A : Type 0} (columns : ℕ → Option ℕ) (decoration : Decoration D A) where
   -- what a call that succeeds leaves
   abbrev pub Does : Call (List A) → Renderer D A (List A) → Renderer D A (List A) → Type 0
@@ -124,14 +132,6 @@ module _ {D A : Type 0} (columns : ℕ → Option ℕ) (decoration : Decoration 
   abbrev pub Steps : List (Call (List A)) → Renderer D A (List A) → Renderer D A (List A) → Type 0
   Steps [] r s = s ≡ r
   Steps (call ∷ calls) r s = (m : Renderer D A (List A)) × Does call r m × Steps calls m s
-
-  -- laid items as entries that stand for them: no annotation but their own comes into question
-  abbrev pub laid_entry : Item (List A) → Entry (List A)
-  laid_entry (glyph c tag) = character c tag tag Pre
-  laid_entry (marker name) = marker_entry name
-
-  abbrev pub laid_entries : List (Item (List A)) → List (Entry (List A))
-  laid_entries is = map laid_entry is
 
   -- the entries that a text brings to the open run
   abbrev pub text_brought : List ℕ → Renderer D A (List A) → List (Entry (List A))

@@ -5,7 +5,8 @@ use Rattle.tbr_renderer.specs.Renderer.{Line, Open, Renderer, with_line}
 use Rattle.tbr_renderer.specs.Flush.{block_lines, FlushesBlock}
 use Rattle.tbr_decor.specs.Decoration.{Decoration}
 use Rattle.tbr_renderer.specs.Calls.{Call, Steps}
-use Rattle.text_block_renderer.proofs.Moves.{Move, flush, empty_line, join, turn, Makes, MakesAll, through, steps_move}
+use Rattle.text_block_renderer.proofs.Moves.{Move, flush, line, rule, join, turn, Makes, MakesAll, through, any}
+use Rattle.text_block_renderer.proofs.Calling.{calls_move, steps_bring}
 
 abbrev pub Grows : {D A : Type 0} → Renderer D A (List A) → Renderer D A (List A) → Type 0
 Grows {D} {A} r s = (more : List (Line (List A))) × (s.lines ≡ r.lines ++ more)
@@ -31,14 +32,18 @@ module _ {D A : Type 0} (columns : ℕ → Option ℕ) where
       let g = lines_grow (block_lines columns r b h.texts) (record r { block = None }) in
       (g.0, ap (λ (q : Renderer D A (List A)). q.lines) h.is ∙ g.1)
 
-  move_grows : (m : Move (List A)) (r s : Renderer D A (List A)) → Makes columns m r s → Grows r s
+  move_grows : (m : Move (List A)) (r s : Renderer D A (List A)) → Makes columns any m r s → Grows r s
   move_grows flush r s h = flush_grows r s r.block h
-  move_grows empty_line r s h = (_, ap (λ (q : Renderer D A (List A)). q.lines) h.1)
+  move_grows (line is) r s h = (_, ap (λ (q : Renderer D A (List A)). q.lines) h.2)
+  move_grows (rule b) r s h = (_, ap (λ (q : Renderer D A (List A)). q.lines) h.2)
   move_grows (join es) r s h = stays r s (ap (λ (q : Renderer D A (List A)). q.lines) h)
   move_grows turn r s h = stays r s h.lines
 
-  pub moves_grow : (ms : List (Move (List A))) (r s : Renderer D A (List A)) → MakesAll columns ms r s → Grows r s
-  moves_grow = through columns Grows (λ r s e. stays r s (ap (λ (q : Renderer D A (List A)). q.lines) e)) grows_on move_grows
+  pub moves_grow : (ms : List (Move (List A))) (r s : Renderer D A (List A)) → MakesAll columns any ms r s → Grows r s
+  moves_grow = through columns any Grows (λ r s e. stays r s (ap (λ (q : Renderer D A (List A)). q.lines) e)) grows_on move_grows
 
-  pub steps_grow : (decoration : Decoration D A) (calls : List Call) (r s : Renderer D A (List A)) → Steps columns decoration calls r s → Grows r s
-  steps_grow decoration calls r s h = let (ms, makes) = steps_move columns decoration calls r s h in moves_grow ms r s makes
+  pub steps_grow : (decoration : Decoration D A) (calls : List (Call (List A))) (r s : Renderer D A (List A)) → Steps columns decoration calls r s → Grows r s
+  steps_grow decoration calls r s h =
+      let (es, brings) = steps_bring columns decoration calls r s h in
+      let path = calls_move columns any decoration calls r s es tt brings in
+      moves_grow path.moves r s path.makes

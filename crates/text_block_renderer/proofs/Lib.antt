@@ -1,4 +1,7 @@
 pub mod Moves
+pub mod Appending
+pub mod Calling
+pub mod Drawing
 pub mod Growing
 pub mod Settings
 pub mod Once
@@ -9,3 +12,7 @@ pub mod Standing
 pub mod Waiting
 pub mod Stretching
 pub mod Parting
+pub mod Laying
+pub mod Nesting
+pub mod Rows
+pub mod Taking

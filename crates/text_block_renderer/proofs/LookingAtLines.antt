@@ -4,6 +4,7 @@ use Rattle.std.proofs.lemmas.List.{map-append}
 use Rattle.tbr_model.specs.Run.{Item, marker, items_width}
 use Rattle.tbr_model.specs.Layout.{joined}
 use Rattle.tbr_model.specs.Markers.{marker_items}
+use Rattle.tbr_lines.specs.Border.{Border}
 use Rattle.tbr_lines.specs.Elements.{text_items}
 use Rattle.tbr_lines.specs.Padding.{spaces}
 use Rattle.tbr_lines.specs.Wrapped.{padding_of}
@@ -16,6 +17,10 @@ pub text_of_lines-append : {T : Type 0} (ls ms : List (Line T)) → text_of_line
 text_of_lines-append [] ms = refl
 text_of_lines-append (text is ∷ ls) ms = ap (λ js. is ++ js) (text_of_lines-append ls ms) ∙ sym (append_assoc is (text_of_lines ls) (text_of_lines ms))
 text_of_lines-append (border b ∷ ls) ms = text_of_lines-append ls ms
+
+-- a border is no text
+pub no_text_behind : {T : Type 0} (ls : List (Line T)) (b : Border T) → text_of_lines (ls ++ border b ∷ []) ≡ text_of_lines ls
+no_text_behind ls b = text_of_lines-append ls (border b ∷ []) ∙ append-nil (text_of_lines ls)
 
 pub marker_items-append : {T : Type 0} (ms ns : List (List ℕ)) → (let is : List (Item T) = marker_items (ms ++ ns) in is) ≡ marker_items ms ++ marker_items ns
 marker_items-append {T} ms ns = map-append (λ n. let i : Item T = marker n in i) ms ns

@@ -1,6 +1,5 @@
 -- Where all text is `Normal`, a call leaves one state, or is too narrow, and not both.
-use Rattle.std.proofs.Common.{◌≡◌, ℕ, zero, suc, ◌-◌, Bool, true, false, Option, Some, None, List, [], ◌∷◌, ◌++◌, fold, take, length, ◌⊎◌, inl, inr, refl, ap, sym, ◌∙◌, subst}
-use Rattle.std.proofs.lemmas.Bool.{false≢true}
+use Rattle.std.proofs.Common.{◌≡◌, ℕ, zero, suc, ◌-◌, Bool, true, false, if◌then◌else◌, Option, Some, None, List, [], ◌∷◌, ◌++◌, map, fold, take, length, inl, inr, refl, ap, sym, ◌∙◌, subst}
 use Rattle.std.specs.List.{AllByRecursion as Each}
 use Rattle.tbr_model.specs.declared.white_space.WhiteSpace.{WhiteSpace}
 use Rattle.tbr_model.specs.declared.white_space.WhiteSpace.TheVariants.{Normal}
@@ -18,10 +17,12 @@ use Rattle.tbr_decor.specs.Ground.{Ground}
 use Rattle.tbr_decor.specs.Decoration.{Decoration}
 use Rattle.tbr_renderer.specs.Image.{shown_title}
 use Rattle.tbr_renderer.specs.Decorated.{struck_from, struck_until, asked_to_close, annotated, coloured, uncoloured, Opens, OpenIsTooNarrow, Closes, CloseIsTooNarrow, AddsImageBy, ImageIsTooNarrowBy}
-use Rattle.tbr_renderer.specs.Renderer.{Open, Renderer, Settings, settings_of, without_annotation, has_content, with_line, with_entries, without_last, last_mode, struck, text_annotations, entries_of, ignores, least, overflows, may_overflow, open_run}
+use Rattle.tbr_renderer.specs.Renderer.{Line, Open, Renderer, Settings, settings_of, without_annotation, has_content, with_line, with_entries, last_mode, struck, text_annotations, entries_of, ignores, least, overflows, may_overflow, open_run}
 use Rattle.tbr_renderer.specs.Flush.{block_lines, Flushes, FlushesBlock, BlockIsTooNarrow, FlushIsTooNarrow}
 use Rattle.tbr_renderer.specs.Steps.{with_empty_line, AddsEmptyLine, block_started, StartsBlock, BlockIsAtLineStart, BreaksLineAt, BreaksLine, JoinsText, AddsText, AddsTextBy, JoinIsTooNarrow, TextIsTooNarrow, TextIsTooNarrowBy}
-use Rattle.tbr_renderer.specs.Calls.{Call, add_empty_line, new_line, new_line_hard, start_block, start_table, end_block, add_inline_text, push_ws, pop_ws, push_preformat, pop_preformat, record_frag_start, begin, finish, start_strikeout, end_strikeout, add_image, push_colour, pop_colour, Does, IsTooNarrow}
+use Rattle.tbr_renderer.specs.Calls.{Call, add_empty_line, new_line, new_line_hard, start_block, start_table, end_block, add_inline_text, push_ws, pop_ws, push_preformat, pop_preformat, record_frag_start, begin, finish, start_strikeout, end_strikeout, add_image, push_colour, pop_colour, add_border, append_subrender, append_vert_row, Does, IsTooNarrow}
+use Rattle.tbr_renderer.specs.Appended.{with_border, border_of_cells, as_text, prefixed, with_divider, with_cell, with_cell_below, with_cells}
+use Rattle.tbr_lines.specs.Cell.{Cell, horizontal, slash}
 use Rattle.text_block_renderer.specs.Settings.{settled, settled_by_image}
 use Rattle.text_block_renderer.specs.Normal.{WrapsNormally, PushesNormal}
 use Rattle.text_block_renderer.proofs.Once.{flushes_once}
@@ -69,6 +70,24 @@ module _ {D A : Type 0} (columns : ℕ → Option ℕ) where
 
   started_none : (r s : Renderer D A (List A)) → StartsBlock columns r s → s.block ≡ None
   started_none r s h = ap (λ (q : Renderer D A (List A)). q.block) h.2 ∙ begun_block h.0 ∙ flushed_none r h.0 h.1
+
+  -- lines of other renderers and borders open no block
+  divided_block : (cell : Cell) (r : Renderer D A (List A)) → (let s = with_divider columns cell r in s.block) ≡ r.block
+  divided_block cell r = go r.options.draw_borders
+    where
+      go : (drawn : Bool) → (let s = if drawn then with_border columns r (border_of_cells cell r.width r) else r in s.block) ≡ r.block
+      go true = refl
+      go false = refl
+
+  below_block : (cells : List (List (Line (List A)))) (r : Renderer D A (List A)) → (let s = fold (with_cell_below columns) r cells in s.block) ≡ r.block
+  below_block [] r = refl
+  below_block (lines ∷ cells) r =
+      let q = with_divider columns slash r in
+      below_block cells (with_cell columns q lines) ∙ lines_no_block (map (as_text q.annotations) lines) q ∙ divided_block slash r
+
+  cells_block : (cells : List (List (Line (List A)))) (r : Renderer D A (List A)) → (let s = with_cells columns r cells in s.block) ≡ r.block
+  cells_block [] r = refl
+  cells_block (lines ∷ cells) r = below_block cells (with_cell columns r lines) ∙ lines_no_block (map (as_text r.annotations) lines) r
 
   normal_none : (s : Renderer D A (List A)) → s.block ≡ None → IsNormal (open_run s.block)
   normal_none s e = subst (λ (o : Option (Open (List A))). IsNormal (open_run o)) (sym e) tt
@@ -267,7 +286,7 @@ module _ {D A : Type 0} (columns : ℕ → Option ℕ) where
   -- ---- calls
 
   module _ (decoration : Decoration D A) where
-    pub call_once : (call : Call) (r s t : Renderer D A (List A)) → WrapsNormally r → Does columns decoration call r s → Does columns decoration call r t → t ≡ s
+    pub call_once : (call : Call (List A)) (r s t : Renderer D A (List A)) → WrapsNormally r → Does columns decoration call r s → Does columns decoration call r t → t ≡ s
     call_once add_empty_line r s t normal h k = empty_once r s t normal h k
     call_once new_line r s t normal h k = flush_once r s t normal h k
     call_once new_line_hard r s t normal h k = breaks_once r s t normal h k
@@ -287,8 +306,16 @@ module _ {D A : Type 0} (columns : ℕ → Option ℕ) where
     call_once (add_image source title) r s t normal h k = image_once decoration source (shown_title r.options.img_mode source title) r s t normal h k
     call_once (push_colour g colour) r s t normal h k = k ∙ sym h
     call_once (pop_colour g) r s t normal h k = k ∙ sym h
+    call_once (add_border width) r s t normal h k =
+        let b = border_of_cells horizontal width r in
+        k.2 ∙ ap (λ m. with_border columns m b) (flush_once r h.0 k.0 normal h.1 k.1) ∙ sym h.2
+    call_once (append_subrender prefixes lines) r s t normal h k =
+        let texts = prefixed r.annotations prefixes lines in
+        k.2 ∙ ap (λ m. fold (with_line columns) m texts) (flush_once r h.0 k.0 normal h.1 k.1) ∙ sym h.2
+    call_once (append_vert_row cells) r s t normal h k =
+        k.2 ∙ ap (λ m. with_divider columns horizontal (with_cells columns m cells)) (flush_once r h.0 k.0 normal h.1 k.1) ∙ sym h.2
 
-    pub call_or_not : (call : Call) (r s : Renderer D A (List A)) → WrapsNormally r → Does columns decoration call r s → IsTooNarrow columns decoration call r → ⊥
+    pub call_or_not : (call : Call (List A)) (r s : Renderer D A (List A)) → WrapsNormally r → Does columns decoration call r s → IsTooNarrow columns decoration call r → ⊥
     call_or_not add_empty_line r s normal h k = flush_or_not r h.0 normal h.1 k
     call_or_not new_line r s normal h k = flush_or_not r s normal h k
     call_or_not new_line_hard r s normal h k = break_or_not r s h.0 normal h.2 k
@@ -308,8 +335,11 @@ module _ {D A : Type 0} (columns : ℕ → Option ℕ) where
     call_or_not (add_image source title) r s normal h k = image_or_not decoration source (shown_title r.options.img_mode source title) r s normal h k
     call_or_not (push_colour g colour) r s normal h k = k
     call_or_not (pop_colour g) r s normal h k = k
+    call_or_not (add_border width) r s normal h k = flush_or_not r h.0 normal h.1 k
+    call_or_not (append_subrender prefixes lines) r s normal h k = flush_or_not r h.0 normal h.1 k
+    call_or_not (append_vert_row cells) r s normal h k = flush_or_not r h.0 normal h.1 k
 
-    run_behind : (call : Call) (r s : Renderer D A (List A)) → WrapsNormally r → Does columns decoration call r s → IsNormal (open_run s.block)
+    run_behind : (call : Call (List A)) (r s : Renderer D A (List A)) → WrapsNormally r → Does columns decoration call r s → IsNormal (open_run s.block)
     run_behind add_empty_line r s normal h = normal_none s (ap (λ (q : Renderer D A (List A)). q.block) h.2 ∙ flushed_none r h.0 h.1)
     run_behind new_line r s normal h = normal_none s (flushed_none r s h)
     run_behind new_line_hard r s normal h = normal_none s (broken_none r s h.0 h.2)
@@ -334,8 +364,13 @@ module _ {D A : Type 0} (columns : ℕ → Option ℕ) where
     run_behind (pop_colour g) r s normal h =
         let behind = uncoloured_normal decoration g r normal in
         subst (λ (q : Renderer D A (List A)). IsNormal (open_run q.block)) (sym h) behind.run
+    run_behind (add_border width) r s normal h = normal_none s (ap (λ (q : Renderer D A (List A)). q.block) h.2 ∙ flushed_none r h.0 h.1)
+    run_behind (append_subrender prefixes lines) r s normal h =
+        normal_none s (ap (λ (q : Renderer D A (List A)). q.block) h.2 ∙ lines_no_block (prefixed r.annotations prefixes lines) h.0 ∙ flushed_none r h.0 h.1)
+    run_behind (append_vert_row cells) r s normal h =
+        normal_none s (ap (λ (q : Renderer D A (List A)). q.block) h.2 ∙ divided_block horizontal (with_cells columns h.0 cells) ∙ cells_block cells h.0 ∙ flushed_none r h.0 h.1)
 
-    settled_normal : (call : Call) (r : Renderer D A (List A)) → PushesNormal call → WrapsNormally r → WrapsNormally (settled decoration call r)
+    settled_normal : (call : Call (List A)) (r : Renderer D A (List A)) → PushesNormal call → WrapsNormally r → WrapsNormally (settled decoration call r)
     settled_normal (push_ws mode) r is h = record { narrow = h.narrow; modes = each_append (λ m. m ≡ Normal) r.modes (mode ∷ []) h.modes (is, tt); run = h.run }
     settled_normal pop_ws r is h = record { narrow = h.narrow; modes = each_taken (λ m. m ≡ Normal) (length r.modes - 1) r.modes h.modes; run = h.run }
     settled_normal push_preformat r is h = record { narrow = h.narrow; modes = h.modes; run = h.run }
@@ -357,7 +392,10 @@ module _ {D A : Type 0} (columns : ℕ → Option ℕ) where
     settled_normal (add_image source title) r is h = settled_image_normal decoration source (shown_title r.options.img_mode source title) r h
     settled_normal (push_colour g colour) r is h = coloured_normal decoration g colour r h
     settled_normal (pop_colour g) r is h = uncoloured_normal decoration g r h
+    settled_normal (add_border width) r is h = h
+    settled_normal (append_subrender prefixes lines) r is h = h
+    settled_normal (append_vert_row cells) r is h = h
 
-    pub call_normal : (call : Call) (r s : Renderer D A (List A)) → WrapsNormally r → PushesNormal call → Does columns decoration call r s → WrapsNormally s
+    pub call_normal : (call : Call (List A)) (r s : Renderer D A (List A)) → WrapsNormally r → PushesNormal call → Does columns decoration call r s → WrapsNormally s
     call_normal call r s normal is h =
         alike (settled decoration call r) s (call_changes columns decoration call r s h) (run_behind call r s normal h) (settled_normal call r is normal)

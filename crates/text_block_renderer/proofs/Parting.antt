@@ -1,23 +1,47 @@
--- All lines that come are parts: stretches of runs, and empty lines.
+-- All lines that come are parts: stretches of runs, laid texts, and borders.
 use Rattle.std.proofs.Common.{◌≡◌, ℕ, Option, Some, None, List, [], ◌∷◌, ◌++◌, flat_map, fold, refl, ap, sym, ◌∙◌, subst, append_assoc, append-nil}
 use Rattle.std.proofs.lemmas.List.Concat.{flat_map-append}
 use Rattle.tbr_model.specs.Run.{Entry, Item}
-use Rattle.tbr_model.specs.Markers.{marker_items}
 use Rattle.tbr_model.proofs.lists.Each.{each_append}
+use Rattle.tbr_lines.specs.Border.{Border}
 use Rattle.tbr_decor.specs.Decoration.{Decoration}
-use Rattle.tbr_renderer.specs.Renderer.{text, Open, Renderer, line_padding, with_line, with_entries, open_run}
+use Rattle.tbr_renderer.specs.Renderer.{Open, Renderer, with_line, with_entries, open_run}
 use Rattle.tbr_renderer.specs.Flush.{block_lines, EndsBlock, FlushesBlock}
-use Rattle.tbr_renderer.specs.Steps.{with_empty_line}
-use Rattle.tbr_renderer.specs.Calls.{Call, Brings}
-use Rattle.text_block_renderer.specs.Stretches.{Part, ended, empty, run_of_part, lines_of_part, IsPart, ComesInParts}
-use Rattle.text_block_renderer.proofs.Moves.{Move, flush, empty_line, join, turn, brought_by, brought, Makes, along, calls_move, no_block}
+use Rattle.tbr_renderer.specs.Appended.{with_border}
+use Rattle.tbr_renderer.specs.Calls.{Call, laid_entries, Brings}
+use Rattle.text_block_renderer.specs.Stretches.{Part, ended, laid, ruled, entries_of_part, lines_of_part, IsPart, ComesInParts, AppendsNothing, IsOwnPart}
+use Rattle.std.specs.Prelude.{⊤}
+use Rattle.std.specs.List.{AllByRecursion as Each}
+use Rattle.text_block_renderer.proofs.Moves.{Move, flush, line, rule, join, turn, brought_by, Kind, any, undrawn, own, Fits, MayLay, MayRule, Makes, along, no_block}
+use Rattle.text_block_renderer.proofs.Calling.{calls_move}
 use Rattle.tbr_renderer.proofs.Writing.{open_run_is}
 use Rattle.text_block_renderer.proofs.Stretching.{flush_adds}
 
 flat_map_one : {X Y : Type 0} (f : X → List Y) (xs : List X) (x : X) → flat_map f (xs ++ x ∷ []) ≡ flat_map f xs ++ f x
 flat_map_one f xs x = flat_map-append f xs (x ∷ []) ∙ ap (λ ys. flat_map f xs ++ ys) (append-nil (f x))
 
-module _ {D A : Type 0} (columns : ℕ → Option ℕ) where
+-- parts of calls that append nothing
+abbrev IsOfKind : {D A : Type 0} → Kind → Part D A → Type 0
+IsOfKind any part = ⊤
+IsOfKind undrawn part = ⊤
+IsOfKind own part = IsOwnPart part
+
+laid_kind : {D A : Type 0} (kind : Kind) (q : Renderer D A (List A)) (is : List (Item (List A))) → MayLay kind is → IsOfKind kind (laid q is)
+laid_kind any q is h = tt
+laid_kind undrawn q is h = tt
+laid_kind own q is h = h
+
+ruled_kind : {D A : Type 0} (kind : Kind) (q : Renderer D A (List A)) (b : Border (List A)) → MayRule kind q → IsOfKind kind (ruled q b)
+ruled_kind any q b h = tt
+ruled_kind undrawn q b h = tt
+ruled_kind own q b h = h
+
+ended_kind : {D A : Type 0} (kind : Kind) (q : Renderer D A (List A)) (b : Open (List A)) (texts : List (List (Item (List A)))) → IsOfKind kind (ended q b texts)
+ended_kind any q b texts = tt
+ended_kind undrawn q b texts = tt
+ended_kind own q b texts = tt
+
+module _ {D A : Type 0} (columns : ℕ → Option ℕ) (kind : Kind) where
   width_kept : (ts : List (List (Item (List A)))) (q : Renderer D A (List A)) → (fold (with_line columns) q ts).width ≡ q.width
   width_kept [] q = refl
   width_kept (t ∷ ts) q = width_kept ts (with_line columns q t)
@@ -31,11 +55,12 @@ module _ {D A : Type 0} (columns : ℕ → Option ℕ) where
     width : q.width ≡ r.width
     options : q.options ≡ r.options
     parts : ComesInParts columns r es q
+    kinds : Each (IsOfKind kind) parts.parts
 
-  -- one part more, and no entries
-  one_part : (r q s : Renderer D A (List A)) (es : List (Entry (List A))) (part : Part D A) → s.width ≡ q.width → s.options ≡ q.options → IsPart columns r part → s.lines ≡ q.lines ++ lines_of_part columns part → open_run q.block ≡ run_of_part part ++ open_run s.block →
-      CameInParts r q es → CameInParts r s es
-  one_part r q s es part width options is lines run h = record {
+  -- one part more
+  one_part : (r q s : Renderer D A (List A)) (es more : List (Entry (List A))) (part : Part D A) → s.width ≡ q.width → s.options ≡ q.options → IsPart columns r part → IsOfKind kind part → s.lines ≡ q.lines ++ lines_of_part columns part →
+      open_run q.block ++ more ≡ entries_of_part part ++ open_run s.block → CameInParts r q es → CameInParts r s (es ++ more)
+  one_part r q s es more part width options is of_kind lines run h = record {
     width = width ∙ h.width;
     options = options ∙ h.options;
     parts = record {
@@ -43,9 +68,11 @@ module _ {D A : Type 0} (columns : ℕ → Option ℕ) where
       are = each_append (IsPart columns r) h.parts.parts (part ∷ []) h.parts.are (is, tt);
       lines = lines ∙ ap (λ ls. ls ++ lines_of_part columns part) h.parts.lines ∙ append_assoc r.lines (flat_map (lines_of_part columns) h.parts.parts) (lines_of_part columns part)
           ∙ ap (λ ls. r.lines ++ ls) (sym (flat_map_one (lines_of_part columns) h.parts.parts part));
-      runs = h.parts.runs ∙ ap (λ run. flat_map run_of_part h.parts.parts ++ run) run ∙ sym (append_assoc (flat_map run_of_part h.parts.parts) (run_of_part part) (open_run s.block))
-          ∙ ap (λ run. run ++ open_run s.block) (sym (flat_map_one run_of_part h.parts.parts part));
+      entries = sym (append_assoc (open_run r.block) es more) ∙ ap (λ fs. fs ++ more) h.parts.entries ∙ append_assoc (flat_map entries_of_part h.parts.parts) (open_run q.block) more
+          ∙ ap (λ fs. flat_map entries_of_part h.parts.parts ++ fs) run ∙ sym (append_assoc (flat_map entries_of_part h.parts.parts) (entries_of_part part) (open_run s.block))
+          ∙ ap (λ fs. fs ++ open_run s.block) (sym (flat_map_one entries_of_part h.parts.parts part));
     };
+    kinds = each_append (IsOfKind kind) h.parts.parts (part ∷ []) h.kinds (of_kind, tt);
   }
 
   -- no part more
@@ -57,51 +84,70 @@ module _ {D A : Type 0} (columns : ℕ → Option ℕ) where
       parts = h.parts.parts;
       are = h.parts.are;
       lines = lines ∙ h.parts.lines;
-      runs = sym (append_assoc (open_run r.block) es more) ∙ ap (λ run. run ++ more) h.parts.runs ∙ append_assoc (flat_map run_of_part h.parts.parts) (open_run q.block) more
-          ∙ ap (λ run. flat_map run_of_part h.parts.parts ++ run) (sym run);
+      entries = sym (append_assoc (open_run r.block) es more) ∙ ap (λ run. run ++ more) h.parts.entries ∙ append_assoc (flat_map entries_of_part h.parts.parts) (open_run q.block) more
+          ∙ ap (λ run. flat_map entries_of_part h.parts.parts ++ run) (sym run);
     };
+    kinds = h.kinds;
   }
 
-  ended_part : (r q s : Renderer D A (List A)) (b : Open (List A)) (es : List (Entry (List A))) → q.block ≡ Some b → EndsBlock columns q b s → CameInParts r q es → CameInParts r s es
+  ended_part : (r q s : Renderer D A (List A)) (b : Open (List A)) (es : List (Entry (List A))) → q.block ≡ Some b → EndsBlock columns q b s → CameInParts r q es → CameInParts r s (es ++ [])
   ended_part r q s b es open_block_is h k =
       let texts : List (List (Item (List A))) = block_lines columns q b h.texts in
       let closed : Renderer D A (List A) = record q { block = None } in
-      one_part r q s es (ended q b h.texts)
+      one_part r q s es [] (ended q b h.texts)
       (ap (λ (p : Renderer D A (List A)). p.width) h.is ∙ width_kept texts closed)
       (ap (λ (p : Renderer D A (List A)). p.options) h.is ∙ options_kept texts closed)
       (record { width = k.width; options = k.options; block = open_block_is; names = h.names; ends = h.ends })
+      (ended_kind kind q b h.texts)
       (flush_adds columns q s b h)
-      (ap open_run open_block_is ∙ sym (append-nil b.run) ∙ ap (λ o. b.run ++ open_run o) (sym (ap (λ (p : Renderer D A (List A)). p.block) h.is ∙ no_block columns texts closed refl)))
+      (append-nil (open_run q.block) ∙ ap open_run open_block_is ∙ sym (append-nil b.run) ∙ ap (λ o. b.run ++ open_run o) (sym (ap (λ (p : Renderer D A (List A)). p.block) h.is ∙ no_block columns texts closed refl)))
       k
 
-  flush_parts : (r q s : Renderer D A (List A)) (o : Option (Open (List A))) (es : List (Entry (List A))) → q.block ≡ o → FlushesBlock columns q o s → CameInParts r q es → CameInParts r s es
-  flush_parts r q s None es e h k = subst (λ (p : Renderer D A (List A)). CameInParts r p es) (sym h) k
+  flush_parts : (r q s : Renderer D A (List A)) (o : Option (Open (List A))) (es : List (Entry (List A))) → q.block ≡ o → FlushesBlock columns q o s → CameInParts r q es → CameInParts r s (es ++ [])
+  flush_parts r q s None es e h k = subst (λ (p : Renderer D A (List A)). CameInParts r p (es ++ [])) (sym h) (subst (CameInParts r q) (sym (append-nil es)) k)
   flush_parts r q s (Some b) es e h k = ended_part r q s b es e h k
 
-  empty_parts : (r q s : Renderer D A (List A)) (es : List (Entry (List A))) → q.block ≡ None → s ≡ with_empty_line columns q → CameInParts r q es → CameInParts r s es
-  empty_parts r q s es none h k =
-      subst (λ (p : Renderer D A (List A)). CameInParts r p es) (sym h)
-      (one_part r q (with_empty_line columns q) es (empty q) refl refl none
-      (ap (λ is. q.lines ++ text (is ++ line_padding columns q is) ∷ []) (append-nil (marker_items q.waiting))) refl k)
+  -- where no block is open, the open run is none
+  none_open : (q : Renderer D A (List A)) (es : List (Entry (List A))) → q.block ≡ None → open_run q.block ++ es ≡ es ++ open_run q.block
+  none_open q es none = ap (λ o. open_run o ++ es) none ∙ sym (append-nil es) ∙ ap (λ o. es ++ open_run o) (sym none)
+
+  put_parts : (r q s : Renderer D A (List A)) (is : List (Item (List A))) (es : List (Entry (List A))) → MayLay kind is → q.block ≡ None → s ≡ with_line columns q is → CameInParts r q es → CameInParts r s (es ++ laid_entries is)
+  put_parts r q s is es may none h k =
+      subst (λ (p : Renderer D A (List A)). CameInParts r p (es ++ laid_entries is)) (sym h)
+      (one_part r q (with_line columns q is) es (laid_entries is) (laid q is) refl refl (record { width = k.width; options = k.options; block = none }) (laid_kind kind q is may) refl (none_open q (laid_entries is) none) k)
+
+  rule_parts : (r q s : Renderer D A (List A)) (b : Border (List A)) (es : List (Entry (List A))) → MayRule kind q → q.block ≡ None → s ≡ with_border columns q b → CameInParts r q es → CameInParts r s (es ++ [])
+  rule_parts r q s b es may none h k =
+      subst (λ (p : Renderer D A (List A)). CameInParts r p (es ++ [])) (sym h)
+      (one_part r q (with_border columns q b) es [] (ruled q b) refl refl (record { width = k.width; options = k.options; block = none }) (ruled_kind kind q b may) refl (none_open q [] none) k)
 
   join_parts : (r q s : Renderer D A (List A)) (es more : List (Entry (List A))) → s ≡ with_entries q more → CameInParts r q es → CameInParts r s (es ++ more)
   join_parts r q s es more h k =
       subst (λ (p : Renderer D A (List A)). CameInParts r p (es ++ more)) (sym h)
       (no_part r q (with_entries q more) es more refl refl refl (ap (λ run. run ++ more) (open_run_is q)) k)
 
-  move_parts : (r : Renderer D A (List A)) (m : Move (List A)) (q s : Renderer D A (List A)) (es : List (Entry (List A))) → Makes columns m q s → CameInParts r q es → CameInParts r s (es ++ brought_by m)
-  move_parts r flush q s es h k = subst (CameInParts r s) (sym (append-nil es)) (flush_parts r q s q.block es refl h k)
-  move_parts r empty_line q s es h k = subst (CameInParts r s) (sym (append-nil es)) (empty_parts r q s es h.0 h.1 k)
+  move_parts : (r : Renderer D A (List A)) (m : Move (List A)) (q s : Renderer D A (List A)) (es : List (Entry (List A))) → Makes columns kind m q s → CameInParts r q es → CameInParts r s (es ++ brought_by m)
+  move_parts r flush q s es h k = flush_parts r q s q.block es refl h k
+  move_parts r (line is) q s es h k = put_parts r q s is es h.0 h.1 h.2 k
+  move_parts r (rule b) q s es h k = rule_parts r q s b es h.0 h.1 h.2 k
   move_parts r (join more) q s es h k = join_parts r q s es more h k
   move_parts r turn q s es h k = no_part r q s es [] h.width h.options h.lines (ap open_run h.block ∙ sym (append-nil (open_run q.block))) k
 
-  pub brings_parts : (decoration : Decoration D A) (calls : List Call) (r s : Renderer D A (List A)) (es : List (Entry (List A))) → Brings columns decoration calls r es s → ComesInParts columns r es s
-  brings_parts decoration calls r s es h =
-      let path = calls_move columns decoration calls r s es h in
+  came_in_parts : (decoration : Decoration D A) (calls : List (Call (List A))) (r s : Renderer D A (List A)) (es : List (Entry (List A))) → Fits kind r calls → Brings columns decoration calls r es s → CameInParts r s es
+  came_in_parts decoration calls r s es fits h =
+      let path = calls_move columns kind decoration calls r s es fits h in
       let none_yet : CameInParts r r [] = record {
         width = refl;
         options = refl;
-        parts = record { parts = []; are = tt; lines = sym (append-nil r.lines); runs = append-nil (open_run r.block) };
+        parts = record { parts = []; are = tt; lines = sym (append-nil r.lines); entries = append-nil (open_run r.block) };
+        kinds = tt;
       } in
-      let all : CameInParts r s (brought path.moves) = along columns (CameInParts r) (move_parts r) path.moves r s [] path.makes none_yet in
-      subst (λ (fs : List (Entry (List A))). ComesInParts columns r fs s) path.brings all.parts
+      subst (λ (fs : List (Entry (List A))). CameInParts r s fs) path.brings (along columns kind (CameInParts r) (move_parts r) path.moves r s [] path.makes none_yet)
+
+module _ {D A : Type 0} (columns : ℕ → Option ℕ) where
+  pub brings_parts : (decoration : Decoration D A) (calls : List (Call (List A))) (r s : Renderer D A (List A)) (es : List (Entry (List A))) → Brings columns decoration calls r es s → ComesInParts columns r es s
+  brings_parts decoration calls r s es h = let came = came_in_parts columns any decoration calls r s es tt h in came.parts
+
+  pub brings_own_parts : (decoration : Decoration D A) (calls : List (Call (List A))) (r s : Renderer D A (List A)) (es : List (Entry (List A))) → Each AppendsNothing calls → Brings columns decoration calls r es s →
+      (came : ComesInParts columns r es s) × Each IsOwnPart came.parts
+  brings_own_parts decoration calls r s es own_calls h = let came = came_in_parts columns own decoration calls r s es own_calls h in (came.parts, came.kinds)

@@ -1,5 +1,5 @@
 -- A call changes no settings but its own.
-use Rattle.std.proofs.Common.{◌≡◌, ℕ, suc, ◌-◌, if◌then◌else◌, Bool, true, false, Option, Some, None, List, [], ◌∷◌, fold, refl, ap, sym, ◌∙◌}
+use Rattle.std.proofs.Common.{◌≡◌, ℕ, suc, ◌-◌, if◌then◌else◌, Bool, true, false, Option, Some, None, List, [], ◌∷◌, map, fold, refl, ap, sym, ◌∙◌}
 use Rattle.tbr_model.specs.Run.{Item}
 use Rattle.tbr_decor.specs.Start as start
 use Rattle.tbr_decor.specs.End as end
@@ -10,10 +10,13 @@ use Rattle.tbr_decor.specs.Decoration.{Decoration}
 use Rattle.tbr_lines.specs.declared.Error.{Error}
 use Rattle.tbr_renderer.specs.Image.{shown_title}
 use Rattle.tbr_renderer.specs.Decorated.{struck_from, struck_until, asked_to_close, annotated, coloured, uncoloured, Closes, AddsImageBy}
-use Rattle.tbr_renderer.specs.Renderer.{Open, Renderer, Settings, settings_of, has_content, with_line, without_last, without_annotation, ignores}
+use Rattle.tbr_renderer.specs.Renderer.{Line, Open, Renderer, Settings, settings_of, has_content, with_line, without_last, without_annotation, ignores}
 use Rattle.tbr_renderer.specs.Flush.{block_lines, Flushes, FlushesBlock}
-use Rattle.tbr_renderer.specs.Steps.{AddsEmptyLine, with_empty_line, block_started, StartsBlock, BreaksLineAt, AddsText, AddsTextBy}
-use Rattle.tbr_renderer.specs.Calls.{Call, add_empty_line, new_line, new_line_hard, start_block, start_table, end_block, add_inline_text, push_ws, pop_ws, push_preformat, pop_preformat, record_frag_start, begin, finish, start_strikeout, end_strikeout, add_image, push_colour, pop_colour, Does}
+use Rattle.tbr_renderer.specs.Steps.{AddsEmptyLine, block_started, StartsBlock, BreaksLineAt, AddsText, AddsTextBy}
+use Rattle.tbr_renderer.specs.Calls.{Call, add_empty_line, new_line, new_line_hard, start_block, start_table, end_block, add_inline_text, push_ws, pop_ws, push_preformat, pop_preformat, record_frag_start, begin, finish, start_strikeout, end_strikeout, add_image, push_colour, pop_colour, add_border, append_subrender, append_vert_row, Does}
+use Rattle.tbr_renderer.specs.Appended.{with_border, border_of_cells, as_text, prefixed, with_divider, with_cell, with_cell_below, with_cells, AppendsCells}
+use Rattle.tbr_lines.specs.Border.{Border}
+use Rattle.tbr_lines.specs.Cell.{Cell, horizontal, slash}
 use Rattle.text_block_renderer.specs.Settings.{settled, settled_by_image}
 
 -- the settings, and the kept refusal
@@ -48,6 +51,35 @@ module _ {D A : Type 0} (columns : ℕ → Option ℕ) where
 
   pub started_alike : (r s : Renderer D A (List A)) → StartsBlock columns r s → steady s ≡ steady r
   started_alike r s h = ap (λ (q : Renderer D A (List A)). steady q) h.2 ∙ begun h.0 ∙ flushed_alike r h.0 h.1
+
+  border_added : (r m s : Renderer D A (List A)) (b : Border (List A)) → Flushes columns r m → s ≡ with_border columns m b → steady s ≡ steady r
+  border_added r m s b h is = ap (λ (q : Renderer D A (List A)). steady q) is ∙ flushed_alike r m h
+
+  lines_appended : (r m s : Renderer D A (List A)) (texts : List (List (Item (List A)))) → Flushes columns r m → s ≡ fold (with_line columns) m texts → steady s ≡ steady r
+  lines_appended r m s texts h is = ap (λ (q : Renderer D A (List A)). steady q) is ∙ lines_added texts m ∙ flushed_alike r m h
+
+  divided : (cell : Cell) (r : Renderer D A (List A)) → steady (with_divider columns cell r) ≡ steady r
+  divided cell r = go r.options.draw_borders
+    where
+      go : (drawn : Bool) → (let s = if drawn then with_border columns r (border_of_cells cell r.width r) else r in steady s) ≡ steady r
+      go true = refl
+      go false = refl
+
+  cell_added : (r : Renderer D A (List A)) (lines : List (Line (List A))) → steady (with_cell columns r lines) ≡ steady r
+  cell_added r lines = lines_added (map (as_text r.annotations) lines) r
+
+  cells_below : (cells : List (List (Line (List A)))) (r : Renderer D A (List A)) → steady (fold (with_cell_below columns) r cells) ≡ steady r
+  cells_below [] r = refl
+  cells_below (lines ∷ cells) r =
+      cells_below cells (with_cell_below columns r lines) ∙ cell_added (with_divider columns slash r) lines ∙ divided slash r
+
+  cells_added : (cells : List (List (Line (List A)))) (r : Renderer D A (List A)) → steady (with_cells columns r cells) ≡ steady r
+  cells_added [] r = refl
+  cells_added (lines ∷ cells) r = cells_below cells (with_cell columns r lines) ∙ cell_added r lines
+
+  cells_appended : (cells : List (List (Line (List A)))) (r s : Renderer D A (List A)) → AppendsCells columns cells r s → steady s ≡ steady r
+  cells_appended cells r s h =
+      ap (λ (q : Renderer D A (List A)). steady q) h.2 ∙ divided horizontal (with_cells columns h.0 cells) ∙ cells_added cells h.0 ∙ flushed_alike r h.0 h.1
 
   broken : (r s : Renderer D A (List A)) (at : Bool) → BreaksLineAt columns at r s → steady s ≡ steady r
   broken r s true h = empty_added r s h
@@ -92,7 +124,7 @@ module _ {D A : Type 0} (columns : ℕ → Option ℕ) where
             go true e = rw e refl
             go false e = rw e refl
 
-    pub call_settings : (call : Call) (r s : Renderer D A (List A)) → Does columns decoration call r s → steady s ≡ steady (settled decoration call r)
+    pub call_settings : (call : Call (List A)) (r s : Renderer D A (List A)) → Does columns decoration call r s → steady s ≡ steady (settled decoration call r)
     call_settings add_empty_line r s h = empty_added r s h
     call_settings new_line r s h = flushed_alike r s h
     call_settings new_line_hard r s h = broken r s h.0 h.2
@@ -114,32 +146,19 @@ module _ {D A : Type 0} (columns : ℕ → Option ℕ) where
     call_settings (add_image source title) r s h = image_alike source (shown_title r.options.img_mode source title) r s h
     call_settings (push_colour g colour) r s h = ap (λ (q : Renderer D A (List A)). steady q) h
     call_settings (pop_colour g) r s h = ap (λ (q : Renderer D A (List A)). steady q) h
+    call_settings (add_border width) r s h = border_added r h.0 s (border_of_cells horizontal width r) h.1 h.2
+    call_settings (append_subrender prefixes lines) r s h = lines_appended r h.0 s (prefixed r.annotations prefixes lines) h.1 h.2
+    call_settings (append_vert_row cells) r s h = cells_appended cells r s h
 
-    pub call_changes : (call : Call) (r s : Renderer D A (List A)) → Does columns decoration call r s → settings_of s ≡ settings_of (settled decoration call r)
+    pub call_changes : (call : Call (List A)) (r s : Renderer D A (List A)) → Does columns decoration call r s → settings_of s ≡ settings_of (settled decoration call r)
     call_changes call r s h = ap (λ (x : Steady D A). x.settings) (call_settings call r s h)
 
     -- ---- the kept refusal, and the preformatted stretches that are open
 
-    abbrev pub preformats_behind : Call → ℕ → ℕ
+    abbrev pub preformats_behind : Call (List A) → ℕ → ℕ
     preformats_behind push_preformat n = suc n
     preformats_behind pop_preformat n = n - 1
-    preformats_behind add_empty_line n = n
-    preformats_behind new_line n = n
-    preformats_behind new_line_hard n = n
-    preformats_behind start_block n = n
-    preformats_behind start_table n = n
-    preformats_behind end_block n = n
-    preformats_behind (add_inline_text cs) n = n
-    preformats_behind (push_ws mode) n = n
-    preformats_behind pop_ws n = n
-    preformats_behind (record_frag_start name) n = n
-    preformats_behind (begin opened) n = n
-    preformats_behind (finish closed) n = n
-    preformats_behind start_strikeout n = n
-    preformats_behind end_strikeout n = n
-    preformats_behind (add_image source title) n = n
-    preformats_behind (push_colour g colour) n = n
-    preformats_behind (pop_colour g) n = n
+    preformats_behind other n = n
 
     -- neither is changed
     Beside : Renderer D A (List A) → Renderer D A (List A) → Type 0
@@ -170,7 +189,7 @@ module _ {D A : Type 0} (columns : ℕ → Option ℕ) where
     image_beside source None r = (refl, refl)
     image_beside source (Some title) r = (refl, refl)
 
-    settled_beside : (call : Call) (r : Renderer D A (List A)) → (let s = settled decoration call r in (s.failure ≡ r.failure) × (s.preformatted ≡ preformats_behind call r.preformatted))
+    settled_beside : (call : Call (List A)) (r : Renderer D A (List A)) → (let s = settled decoration call r in (s.failure ≡ r.failure) × (s.preformatted ≡ preformats_behind call r.preformatted))
     unfolding Beside
     settled_beside (push_ws mode) r = (refl, refl)
     settled_beside pop_ws r = (refl, refl)
@@ -191,8 +210,11 @@ module _ {D A : Type 0} (columns : ℕ → Option ℕ) where
     settled_beside (add_image source title) r = image_beside source (shown_title r.options.img_mode source title) r
     settled_beside (push_colour g colour) r = coloured_beside g colour r (decoration.colour_annotation r.decorator g colour) refl
     settled_beside (pop_colour g) r = uncoloured_beside g r (decoration.ends_colour r.decorator g) refl
+    settled_beside (add_border width) r = (refl, refl)
+    settled_beside (append_subrender prefixes lines) r = (refl, refl)
+    settled_beside (append_vert_row cells) r = (refl, refl)
 
-    pub call_beside : (call : Call) (r s : Renderer D A (List A)) → Does columns decoration call r s → (s.failure ≡ r.failure) × (s.preformatted ≡ preformats_behind call r.preformatted)
+    pub call_beside : (call : Call (List A)) (r s : Renderer D A (List A)) → Does columns decoration call r s → (s.failure ≡ r.failure) × (s.preformatted ≡ preformats_behind call r.preformatted)
     call_beside call r s h =
         let e = call_settings call r s h in
         let behind = settled_beside call r in

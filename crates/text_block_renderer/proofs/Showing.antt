@@ -1,23 +1,27 @@
 -- Visible characters stand once.
-use Rattle.std.proofs.Common.{◌≡◌, ℕ, zero, suc, ◌&&◌, Bool, true, false, if◌then◌else◌, Option, Some, None, is_some, List, [], ◌∷◌, ◌++◌, map, fold, refl, ap, sym, ◌∙◌, subst, append_assoc, append-nil}
+use Rattle.std.proofs.Common.{◌≡◌, ℕ, inl, zero, suc, ◌&&◌, Bool, true, false, if◌then◌else◌, Option, Some, None, is_some, List, [], ◌∷◌, ◌++◌, map, flat_map, fold, refl, ap, sym, ◌∙◌, subst, append_assoc, append-nil}
 use Rattle.std.specs.List.{AllZip}
 use Rattle.tbr_model.specs.Codes.{space_character}
+use Rattle.tbr_model.specs.declared.white_space.WhiteSpace.TheVariants.{Pre}
 use Rattle.tbr_model.specs.Run.{Entry, character, marker_entry, Item, glyph, marker}
 use Rattle.tbr_model.specs.Layout.{joined}
 use Rattle.tbr_model.specs.Markers.{marker_items}
 use Rattle.tbr_model.specs.Hard.{is_visible, IsShown, visible_glyphs, visible_entries}
+use Rattle.tbr_lines.specs.Border.{Border}
 use Rattle.tbr_lines.specs.Elements.{text_items}
 use Rattle.tbr_lines.specs.Padding.{spaces}
 use Rattle.tbr_lines.specs.Wrapped.{padding_of}
 use Rattle.tbr_lines.proofs.SameItems.{all_zip_append}
 use Rattle.tbr_renderer.specs.Renderer.{Line, Open, Renderer, with_line, open_run, with_entries, block_width}
 use Rattle.tbr_renderer.specs.Flush.{block_lines, FlushesBlock}
-use Rattle.tbr_renderer.specs.Steps.{with_empty_line}
+use Rattle.tbr_renderer.specs.Appended.{border_line, with_border, HandsOut}
 use Rattle.tbr_decor.specs.Decoration.{Decoration}
-use Rattle.tbr_renderer.specs.Calls.{Call, Brings, text_of_lines, Shows}
-use Rattle.text_block_renderer.proofs.Moves.{Move, flush, empty_line, join, turn, brought_by, Makes, along, calls_move, no_block}
+use Rattle.tbr_renderer.specs.Calls.{Call, laid_entries, Brings, text_of_lines, Shows}
+use Rattle.text_block_renderer.specs.Drawn.{Put, line_put, not_drawn, WithoutDrawnBorders, DrawNone}
+use Rattle.text_block_renderer.proofs.Moves.{Move, flush, line, rule, join, turn, brought_by, Makes, no_block, flushed_none, undrawn}
+use Rattle.text_block_renderer.proofs.Drawing.{moves_on, brings_on, brings_on_all, border_stays}
 use Rattle.tbr_renderer.proofs.Writing.{open_run_is}
-use Rattle.text_block_renderer.proofs.LookingAtLines.{Looks, seen_line, seen_lines}
+use Rattle.text_block_renderer.proofs.LookingAtLines.{Looks, seen_line, seen_lines, no_text_behind}
 use Rattle.text_block_renderer.specs.MarkersStand.{items_so_far}
 
 -- ---- items and entries
@@ -30,7 +34,7 @@ space_unseen columns = go (is_some (columns space_character))
     go false = refl
 
 module _ {T : Type 0} (columns : ℕ → Option ℕ) where
-  glyphs-append : (is js : List (Item T)) → visible_glyphs columns (is ++ js) ≡ visible_glyphs columns is ++ visible_glyphs columns js
+  pub glyphs-append : (is js : List (Item T)) → visible_glyphs columns (is ++ js) ≡ visible_glyphs columns is ++ visible_glyphs columns js
   glyphs-append [] js = refl
   glyphs-append (marker name ∷ is) js = glyphs-append is js
   glyphs-append (glyph c a ∷ is) js = go (is_visible columns c) (glyphs-append is js)
@@ -61,6 +65,17 @@ module _ {T : Type 0} (columns : ℕ → Option ℕ) where
   at_visible : Looks (visible_glyphs {A = T} columns)
   at_visible = record { append = glyphs-append; nothing = refl; spaces_unseen = spaces_unseen }
 
+  -- laid items stand for themselves
+  laid_shown : (is : List (Item T)) → AllZip (IsShown (λ a b. a ≡ b)) (visible_glyphs columns is) (visible_entries columns (laid_entries is))
+  laid_shown [] = tt
+  laid_shown (marker name ∷ is) = laid_shown is
+  laid_shown (glyph c a ∷ is) = go (is_visible columns c) (laid_shown is)
+    where
+      go : (v : Bool) → AllZip (IsShown (λ a b. a ≡ b)) (visible_glyphs columns is) (visible_entries columns (laid_entries is)) →
+          AllZip (IsShown (λ a b. a ≡ b)) (if v then (c, a) ∷ visible_glyphs columns is else visible_glyphs columns is) (if v then character c a a Pre ∷ visible_entries columns (laid_entries is) else visible_entries columns (laid_entries is))
+      go true rest = ((refl, inl refl), rest)
+      go false rest = rest
+
 -- ---- lines
 
 module _ {D A : Type 0} (columns : ℕ → Option ℕ) where
@@ -69,7 +84,7 @@ module _ {D A : Type 0} (columns : ℕ → Option ℕ) where
       glyphs-append columns (text_of_lines r.lines) (marker_items r.waiting) ∙ ap (λ gs. visible_glyphs columns (text_of_lines r.lines) ++ gs) (markers_unseen columns r.waiting (marker_items r.waiting) refl)
       ∙ append-nil (visible_glyphs columns (text_of_lines r.lines))
 
-  shown_line : (r : Renderer D A (List A)) (t : List (Item (List A))) → visible_glyphs columns (text_of_lines (with_line columns r t).lines) ≡ visible_glyphs columns (text_of_lines r.lines) ++ visible_glyphs columns t
+  pub shown_line : (r : Renderer D A (List A)) (t : List (Item (List A))) → visible_glyphs columns (text_of_lines (with_line columns r t).lines) ≡ visible_glyphs columns (text_of_lines r.lines) ++ visible_glyphs columns t
   shown_line r t = sym (on_lines (with_line columns r t)) ∙ seen_line (visible_glyphs columns) (at_visible columns) columns r t ∙ ap (λ gs. gs ++ visible_glyphs columns t) (on_lines r)
 
   shown_lines : (b : Open (List A)) (width : ℕ) (texts : List (List (Item (List A)))) (r : Renderer D A (List A)) →
@@ -95,12 +110,32 @@ module _ {D A : Type 0} (columns : ℕ → Option ℕ) where
       ∙ ap (λ (p : Option (Open (List A))). visible_entries columns (k.ended ++ open_run p)) e ∙ k.whole in
       subst (λ (q : Renderer D A (List A)). Shows columns q es) (sym h.is) (record { ended = k.ended ++ b.run; shown = both; whole = whole })
 
-  shows_empty : (r s : Renderer D A (List A)) (es : List (Entry (List A))) → s ≡ with_empty_line columns r → Shows columns r es → Shows columns s es
-  shows_empty r s es e k = subst (λ (q : Renderer D A (List A)). Shows columns q es) (sym e) (record {
-    ended = k.ended;
-    shown = subst (λ (gs : List (ℕ × List A)). AllZip (IsShown (λ x y. x ≡ y)) gs (visible_entries columns k.ended)) (sym (shown_line r [] ∙ append-nil (visible_glyphs columns (text_of_lines r.lines)))) k.shown;
-    whole = k.whole;
-  })
+  -- laid items, put as a line where no block is open
+  shows_put : (r s : Renderer D A (List A)) (is : List (Item (List A))) (es : List (Entry (List A))) → r.block ≡ None → s ≡ with_line columns r is → Shows columns r es → Shows columns s (es ++ laid_entries is)
+  shows_put r s is es none e k =
+      let more : List (Entry (List A)) = laid_entries is in
+      let both : AllZip (IsShown (λ x y. x ≡ y)) (visible_glyphs columns (text_of_lines r.lines) ++ visible_glyphs columns is) (visible_entries columns (k.ended ++ more)) =
+      subst (λ (fs : List (Entry (List A))). AllZip (IsShown (λ x y. x ≡ y)) (visible_glyphs columns (text_of_lines r.lines) ++ visible_glyphs columns is) fs) (sym (entries-append columns k.ended more))
+      (all_zip_append (IsShown (λ x y. x ≡ y)) (visible_glyphs columns (text_of_lines r.lines)) (visible_glyphs columns is) (visible_entries columns k.ended) (visible_entries columns more) k.shown (laid_shown columns is)) in
+      let nothing : k.ended ++ open_run r.block ≡ k.ended = ap (λ (o : Option (Open (List A))). k.ended ++ open_run o) none ∙ append-nil k.ended in
+      let whole : visible_entries columns ((k.ended ++ more) ++ open_run r.block) ≡ visible_entries columns (es ++ more) =
+      ap (λ (o : Option (Open (List A))). visible_entries columns ((k.ended ++ more) ++ open_run o)) none ∙ ap (visible_entries columns) (append-nil (k.ended ++ more)) ∙ entries-append columns k.ended more
+      ∙ ap (λ fs. fs ++ visible_entries columns more) (ap (visible_entries columns) (sym nothing) ∙ k.whole) ∙ sym (entries-append columns es more) in
+      subst (λ (q : Renderer D A (List A)). Shows columns q (es ++ more)) (sym e) (record {
+        ended = k.ended ++ more;
+        shown = subst (λ (gs : List (ℕ × List A)). AllZip (IsShown (λ x y. x ≡ y)) gs (visible_entries columns (k.ended ++ more))) (sym (shown_line r is)) both;
+        whole = whole;
+      })
+
+  -- a border that stays one
+  shows_rule : (r s : Renderer D A (List A)) (b : Border (List A)) (es : List (Entry (List A))) → r.options.pad_block_width ≡ false → s ≡ with_border columns r b → Shows columns r es → Shows columns s es
+  shows_rule r s b es unpadded e k =
+      let same : text_of_lines (r.lines ++ border_line columns r b ∷ []) ≡ text_of_lines r.lines = ap (λ l. text_of_lines (r.lines ++ l ∷ [])) (border_stays columns r b unpadded) ∙ no_text_behind r.lines b in
+      subst (λ (q : Renderer D A (List A)). Shows columns q es) (sym e) (record {
+        ended = k.ended;
+        shown = subst (λ is. AllZip (IsShown (λ x y. x ≡ y)) (visible_glyphs columns is) (visible_entries columns k.ended)) (sym same) k.shown;
+        whole = k.whole;
+      })
 
   shows_more : (r s : Renderer D A (List A)) (more es : List (Entry (List A))) → s ≡ with_entries r more → Shows columns r es → Shows columns s (es ++ more)
   shows_more r s more es e k = subst (λ (q : Renderer D A (List A)). Shows columns q (es ++ more)) (sym e) (record {
@@ -113,9 +148,10 @@ module _ {D A : Type 0} (columns : ℕ → Option ℕ) where
   with_none : (s : Renderer D A (List A)) (es : List (Entry (List A))) → Shows columns s es → Shows columns s (es ++ [])
   with_none s es k = subst (Shows columns s) (sym (append-nil es)) k
 
-  shows_move : (m : Move (List A)) (r s : Renderer D A (List A)) (es : List (Entry (List A))) → Makes columns m r s → Shows columns r es → Shows columns s (es ++ brought_by m)
+  shows_move : (m : Move (List A)) (r s : Renderer D A (List A)) (es : List (Entry (List A))) → Makes columns undrawn m r s → Shows columns r es → Shows columns s (es ++ brought_by m)
   shows_move flush r s es h k = with_none s es (shows_flush r s r.block es refl h k)
-  shows_move empty_line r s es h k = with_none s es (shows_empty r s es h.1 k)
+  shows_move (line is) r s es h k = shows_put r s is es h.1 h.2 k
+  shows_move (rule b) r s es h k = with_none s es (shows_rule r s b es h.0 h.2 k)
   shows_move (join more) r s es h k = shows_more r s more es h k
   shows_move turn r s es h k = with_none s es (record {
     ended = k.ended;
@@ -123,8 +159,34 @@ module _ {D A : Type 0} (columns : ℕ → Option ℕ) where
     whole = ap (λ (o : Option (Open (List A))). visible_entries columns (k.ended ++ open_run o)) h.block ∙ k.whole;
   })
 
-  pub brings_shown : (decoration : Decoration D A) (calls : List Call) (r s : Renderer D A (List A)) (before es : List (Entry (List A))) →
-      Brings columns decoration calls r es s → Shows columns r before → Shows columns s (before ++ es)
-  brings_shown decoration calls r s before es h k =
-      let path = calls_move columns decoration calls r s es h in
-      subst (λ (fs : List (Entry (List A))). Shows columns s (before ++ fs)) path.brings (along columns (Shows columns) shows_move path.moves r s before path.makes k)
+  pub brings_shown : (decoration : Decoration D A) (calls : List (Call (List A))) (r s : Renderer D A (List A)) (before es : List (Entry (List A))) →
+      Brings columns decoration calls r es s → WithoutDrawnBorders (λ q. Shows columns q before) r → WithoutDrawnBorders (λ q. Shows columns q (before ++ es)) s
+  brings_shown = brings_on columns (Shows columns) shows_move
+
+  pub brings_shown_all : (decoration : Decoration D A) (calls : List (Call (List A))) (r s : Renderer D A (List A)) (before es : List (Entry (List A))) →
+      DrawNone r calls → Brings columns decoration calls r es s → Shows columns r before → Shows columns s (before ++ es)
+  brings_shown_all = brings_on_all columns (Shows columns) shows_move
+
+  -- ---- lines that are handed out
+
+  -- where no block is open, all that came is shown
+  all_shown : (s : Renderer D A (List A)) (es : List (Entry (List A))) → s.block ≡ None → Shows columns s es → AllZip (IsShown (λ a b. a ≡ b)) (visible_glyphs columns (text_of_lines s.lines)) (visible_entries columns es)
+  all_shown s es none k =
+      let ended : visible_entries columns k.ended ≡ visible_entries columns es =
+      ap (visible_entries columns) (sym (append-nil k.ended) ∙ ap (λ (o : Option (Open (List A))). k.ended ++ open_run o) (sym none)) ∙ k.whole in
+      subst (λ (fs : List (Entry (List A))). AllZip (IsShown (λ a b. a ≡ b)) (visible_glyphs columns (text_of_lines s.lines)) fs) ended k.shown
+
+  pub handed_out : (r : Renderer D A (List A)) (es : List (Entry (List A))) (lines : List (Line (List A))) → Shows columns r es → HandsOut columns r lines →
+      AllZip (IsShown (λ a b. a ≡ b)) (visible_glyphs columns (text_of_lines lines)) (visible_entries columns es)
+  handed_out r es lines k h =
+      let (s, flushes, is) = h.1 in
+      subst (λ (ls : List (Line (List A))). AllZip (IsShown (λ a b. a ≡ b)) (visible_glyphs columns (text_of_lines ls)) (visible_entries columns es)) (sym is)
+      (all_shown s es (flushed_none columns r s flushes) (shows_flush r s r.block es refl flushes k))
+
+  pub handed_out_less : (r : Renderer D A (List A)) (es : List (Entry (List A))) (lines : List (Line (List A))) → WithoutDrawnBorders (λ q. Shows columns q es) r → HandsOut columns r lines →
+      (puts : List (Put (List A))) × (lines ≡ map line_put puts) × AllZip (IsShown (λ a b. a ≡ b)) (visible_glyphs columns (text_of_lines (flat_map not_drawn puts))) (visible_entries columns es)
+  handed_out_less r es lines k h =
+      let (s, flushes, is) = h.1 in
+      let (puts, put, shows) = moves_on columns (Shows columns) shows_move (flush ∷ []) r s es (s, flushes, refl) k in
+      let q : Renderer D A (List A) = record s { lines = flat_map not_drawn puts } in
+      (puts, is ∙ put, all_shown q es (flushed_none columns r s flushes) (subst (λ (fs : List (Entry (List A))). Shows columns q fs) (append-nil es) shows))

@@ -1,5 +1,5 @@
 -- What was brought stands in the lines of text, or waits.
-use Rattle.std.proofs.Common.{◌≡◌, ℕ, zero, suc, Bool, true, false, not, if◌then◌else◌, Option, Some, None, List, [], ◌∷◌, ◌++◌, filter, fold, refl, ap, sym, ◌∙◌, subst, append_assoc, append-nil}
+use Rattle.std.proofs.Common.{◌≡◌, ℕ, inl, zero, suc, Bool, true, false, not, if◌then◌else◌, Option, Some, None, List, [], ◌∷◌, ◌++◌, filter, fold, refl, ap, sym, ◌∙◌, subst, append_assoc, append-nil}
 use Rattle.std.specs.List.{AllZip}
 use Rattle.std.proofs.lemmas.List.Elements.{filter-append}
 use Rattle.std.proofs.lemmas.List.Concat.{flat_map-append}
@@ -8,24 +8,27 @@ use Rattle.tbr_model.specs.Run.{Entry, character, marker_entry, Item, glyph, mar
 use Rattle.tbr_model.specs.Layout.{joined}
 use Rattle.tbr_model.specs.Markers.{names_in_items, names_in_run, marker_items, marker_run, marked_behind, names_behind}
 use Rattle.tbr_model.specs.Hard.{HasMode, is_visible}
-use Rattle.tbr_model.specs.declared.white_space.WhiteSpace.TheVariants.{Normal}
+use Rattle.tbr_model.specs.declared.white_space.WhiteSpace.TheVariants.{Normal, Pre}
 use Rattle.tbr_model.specs.Shown.{without_spaces, is_visible_or_marker, is_entry_to_show, ShowsEntry}
 use Rattle.tbr_model.specs.Rule.{is_space_item}
 use Rattle.tbr_model.proofs.lists.Each.{each_front, each_back}
+use Rattle.tbr_lines.specs.Border.{Border}
 use Rattle.tbr_lines.specs.Elements.{text_items}
 use Rattle.tbr_lines.specs.Padding.{spaces}
 use Rattle.tbr_lines.specs.State.{State, IsNormal, AreLastOf, EndsRun}
 use Rattle.tbr_lines.proofs.SameItems.{all_zip_append}
 use Rattle.tbr_decor.specs.Decoration.{Decoration}
-use Rattle.tbr_renderer.specs.Renderer.{Line, Open, Renderer, new_renderer, open_block, open_run, with_entries, block_width, may_overflow}
+use Rattle.tbr_renderer.specs.Renderer.{Line, Open, Renderer, new_renderer, open_block, open_run, with_line, with_entries, block_width, may_overflow}
 use Rattle.tbr_renderer.specs.declared.options.RenderOptions.{RenderOptions}
 use Rattle.tbr_renderer.specs.Flush.{block_of_run, block_lines, flushed, FlushesBlock}
-use Rattle.tbr_renderer.specs.Steps.{with_empty_line}
-use Rattle.tbr_renderer.specs.Calls.{Call, Brings, text_of_lines}
+use Rattle.tbr_renderer.specs.Appended.{with_border}
+use Rattle.tbr_renderer.specs.Calls.{Call, laid_entries, Brings, text_of_lines}
+use Rattle.text_block_renderer.specs.Drawn.{WithoutDrawnBorders, DrawNone}
 use Rattle.text_block_renderer.specs.MarkersStand.{items_so_far, Stands}
-use Rattle.text_block_renderer.proofs.Moves.{Move, flush, empty_line, join, turn, SameText, brought_by, Makes, along, calls_move, no_block}
+use Rattle.text_block_renderer.proofs.Moves.{Move, flush, line, rule, join, turn, SameText, brought_by, Makes, no_block, undrawn}
+use Rattle.text_block_renderer.proofs.Drawing.{brings_on, brings_on_all, border_stays}
 use Rattle.tbr_renderer.proofs.Writing.{open_run_is}
-use Rattle.text_block_renderer.proofs.LookingAtLines.{Looks, seen_line, seen_flushed}
+use Rattle.text_block_renderer.proofs.LookingAtLines.{Looks, seen_line, seen_flushed, no_text_behind}
 use Rattle.text_block_renderer.proofs.Showing.{space_unseen}
 
 -- ---- three ways to look at items
@@ -122,6 +125,32 @@ module _ {T : Type 0} (columns : ℕ → Option ℕ) where
         names = ap (λ ns. name ∷ ns) rest.names;
         kept = λ normal. ap (λ (is : List (Item T)). marker name ∷ is) (rest.kept normal.1);
       }
+
+  -- laid items stand for themselves
+  pub laid_stand : (is : List (Item T)) → StandFor columns is (laid_entries is)
+  laid_stand [] = nothing_stands
+  laid_stand (marker name ∷ is) =
+      let rest = laid_stand is in record {
+        order = (refl, rest.order);
+        names = ap (λ ns. name ∷ ns) rest.names;
+        kept = λ normal. ap (λ (js : List (Item T)). marker name ∷ js) (rest.kept normal.1);
+      }
+  laid_stand (glyph c a ∷ is) =
+      let rest = laid_stand is in record {
+        order = go (is_visible columns c) rest.order;
+        names = rest.names;
+        kept = λ normal. absurd (let no : Pre ≡ Normal = normal.0 in cc);
+      }
+    where
+      seen : List (Item T)
+      seen = filter (is_visible_or_marker columns) is
+
+      came : List (Entry T)
+      came = filter (is_entry_to_show columns) (laid_entries is)
+
+      go : (v : Bool) → AllZip (ShowsEntry (λ a b. a ≡ b)) seen came → AllZip (ShowsEntry (λ a b. a ≡ b)) (if v then glyph c a ∷ seen else seen) (if v then character c a a Pre ∷ came else came)
+      go true rest = ((refl, inl refl), rest)
+      go false rest = rest
 
   -- the lines of a run, and the markers that stand on none of them
   pub run_stands : (s : State T) (texts : List (List (Item T))) (names : List (List ℕ)) → s.lines ≡ [] → EndsRun columns s texts names → StandFor columns (joined texts ++ marker_items names) s.run
@@ -235,10 +264,22 @@ module _ {D A : Type 0} (columns : ℕ → Option ℕ) where
       ap (λ (run : List (Entry (List A))). (k.ended ++ b.run) ++ run) nothing ∙ append-nil (k.ended ++ b.run) ∙ ap (λ (p : Option (Open (List A))). k.ended ++ open_run p) e ∙ k.whole in
       subst (λ (q : Renderer D A (List A)). Stands columns q es) (sym h.is) (stands after es (k.ended ++ b.run) whole all)
 
-  empty_stands : (r s : Renderer D A (List A)) (es : List (Entry (List A))) → s ≡ with_empty_line columns r → Stands columns r es → Stands columns s es
-  empty_stands r s es e k =
-      subst (λ (q : Renderer D A (List A)). Stands columns q es) (sym e)
-      (as_before r (with_empty_line columns r) es k.ended (λ Y look looks. seen_line look looks columns r []) k.whole (stand r es k))
+  put_stands : (r s : Renderer D A (List A)) (is : List (Item (List A))) (es : List (Entry (List A))) → r.block ≡ None → s ≡ with_line columns r is → Stands columns r es → Stands columns s (es ++ laid_entries is)
+  put_stands r s is es none e k =
+      let more : List (Entry (List A)) = laid_entries is in
+      let after : Renderer D A (List A) = with_line columns r is in
+      let all : StandFor columns (items_so_far after) (k.ended ++ more) =
+      stand_behind columns (items_so_far r) is (items_so_far after) k.ended more (λ Y look looks. seen_line look looks columns r is) (stand r es k) (laid_stand columns is) in
+      let nothing : k.ended ≡ es = sym (append-nil k.ended) ∙ ap (λ (o : Option (Open (List A))). k.ended ++ open_run o) (sym none) ∙ k.whole in
+      let whole : (k.ended ++ more) ++ open_run r.block ≡ es ++ more =
+      ap (λ (o : Option (Open (List A))). (k.ended ++ more) ++ open_run o) none ∙ append-nil (k.ended ++ more) ∙ ap (λ fs. fs ++ more) nothing in
+      subst (λ (q : Renderer D A (List A)). Stands columns q (es ++ more)) (sym e) (stands after (es ++ more) (k.ended ++ more) whole all)
+
+  rule_stands : (r s : Renderer D A (List A)) (b : Border (List A)) (es : List (Entry (List A))) → r.options.pad_block_width ≡ false → s ≡ with_border columns r b → Stands columns r es → Stands columns s es
+  rule_stands r s b es unpadded e k =
+      let same : items_so_far (with_border columns r b) ≡ items_so_far r =
+      ap (λ l. text_of_lines (r.lines ++ l ∷ []) ++ marker_items r.waiting) (border_stays columns r b unpadded) ∙ ap (λ is. is ++ marker_items r.waiting) (no_text_behind r.lines b) in
+      subst (λ (q : Renderer D A (List A)). Stands columns q es) (sym e) (as_before r (with_border columns r b) es k.ended (same_seen r (with_border columns r b) same) k.whole (stand r es k))
 
   join_stands : (r s : Renderer D A (List A)) (more es : List (Entry (List A))) → s ≡ with_entries r more → Stands columns r es → Stands columns s (es ++ more)
   join_stands r s more es e k =
@@ -251,14 +292,17 @@ module _ {D A : Type 0} (columns : ℕ → Option ℕ) where
       let same : items_so_far s ≡ items_so_far r = ap (λ (ls : List (Line (List A))). text_of_lines ls ++ marker_items s.waiting) h.lines ∙ ap (λ ns. text_of_lines r.lines ++ marker_items ns) h.waiting in
       as_before r s es k.ended (same_seen r s same) (ap (λ (o : Option (Open (List A))). k.ended ++ open_run o) h.block ∙ k.whole) (stand r es k)
 
-  move_stands : (m : Move (List A)) (r s : Renderer D A (List A)) (es : List (Entry (List A))) → Makes columns m r s → Stands columns r es → Stands columns s (es ++ brought_by m)
+  move_stands : (m : Move (List A)) (r s : Renderer D A (List A)) (es : List (Entry (List A))) → Makes columns undrawn m r s → Stands columns r es → Stands columns s (es ++ brought_by m)
   move_stands flush r s es h k = subst (Stands columns s) (sym (append-nil es)) (flush_stands r s r.block es refl h k)
-  move_stands empty_line r s es h k = subst (Stands columns s) (sym (append-nil es)) (empty_stands r s es h.1 k)
+  move_stands (line is) r s es h k = put_stands r s is es h.1 h.2 k
+  move_stands (rule b) r s es h k = subst (Stands columns s) (sym (append-nil es)) (rule_stands r s b es h.0 h.2 k)
   move_stands (join more) r s es h k = join_stands r s more es h k
   move_stands turn r s es h k = subst (Stands columns s) (sym (append-nil es)) (turn_stands r s es h k)
 
-  pub brings_stands : (decoration : Decoration D A) (calls : List Call) (r s : Renderer D A (List A)) (before es : List (Entry (List A))) →
-      Brings columns decoration calls r es s → Stands columns r before → Stands columns s (before ++ es)
-  brings_stands decoration calls r s before es h k =
-      let path = calls_move columns decoration calls r s es h in
-      subst (λ (fs : List (Entry (List A))). Stands columns s (before ++ fs)) path.brings (along columns (Stands columns) move_stands path.moves r s before path.makes k)
+  pub brings_stands : (decoration : Decoration D A) (calls : List (Call (List A))) (r s : Renderer D A (List A)) (before es : List (Entry (List A))) →
+      Brings columns decoration calls r es s → WithoutDrawnBorders (λ q. Stands columns q before) r → WithoutDrawnBorders (λ q. Stands columns q (before ++ es)) s
+  brings_stands = brings_on columns (Stands columns) move_stands
+
+  pub brings_stands_all : (decoration : Decoration D A) (calls : List (Call (List A))) (r s : Renderer D A (List A)) (before es : List (Entry (List A))) →
+      DrawNone r calls → Brings columns decoration calls r es s → Stands columns r before → Stands columns s (before ++ es)
+  brings_stands_all = brings_on_all columns (Stands columns) move_stands

@@ -20,7 +20,8 @@ use Rattle.tbr_renderer.specs.Renderer.{Line, Open, Renderer, new_block, least, 
 use Rattle.tbr_renderer.specs.Flush.{block_of_run, block_lines, with_run, EndsBlock, FlushesBlock, Flushes}
 use Rattle.tbr_renderer.specs.Calls.{Call, Steps, Brings}
 use Rattle.text_block_renderer.specs.Stretches.{line_of_text, stretch, items_on, NoneIsAhead, StandsAsStretch, StaysOpen, EndsAsStretch}
-use Rattle.text_block_renderer.proofs.Moves.{Move, flush, empty_line, join, turn, SameText, brought, MakesAll, calls_move}
+use Rattle.text_block_renderer.proofs.Moves.{Move, flush, line, rule, join, turn, SameText, brought, MakesAll, any}
+use Rattle.text_block_renderer.proofs.Calling.{calls_move}
 use Rattle.text_block_renderer.proofs.Growing.{moves_grow, steps_grow}
 
 -- ---- items of lines
@@ -177,7 +178,7 @@ module _ {D A : Type 0} (columns : ℕ → Option ℕ) where
   flush_stands : (r q s : Renderer D A (List A)) (b : Open (List A)) → r.block ≡ Some b → Flushes columns r q → (more : List (Line (List A))) × (s.lines ≡ q.lines ++ more) → StandsAsStretch columns r b s.lines
   flush_stands r q s b open_block_is h grows = as_stretch r q s b (subst (λ (o : Option (Open (List A))). FlushesBlock columns r o q) open_block_is h) grows
 
-  pub stands_for_good : (decoration : Decoration D A) (calls : List Call) (r q s : Renderer D A (List A)) (b : Open (List A)) → r.block ≡ Some b → Flushes columns r q → Steps columns decoration calls q s → StandsAsStretch columns r b s.lines
+  pub stands_for_good : (decoration : Decoration D A) (calls : List (Call (List A))) (r q s : Renderer D A (List A)) (b : Open (List A)) → r.block ≡ Some b → Flushes columns r q → Steps columns decoration calls q s → StandsAsStretch columns r b s.lines
   stands_for_good decoration calls r q s b open_block_is h steps = flush_stands r q s b open_block_is h (steps_grow columns decoration calls q s steps)
 
   -- ---- an open run
@@ -207,7 +208,7 @@ module _ {D A : Type 0} (columns : ℕ → Option ℕ) where
     options = h.options ∙ since.options;
   }
 
-  run_ends : (ms : List (Move (List A))) (r q s : Renderer D A (List A)) (b : Open (List A)) (es : List (Entry (List A))) → Since r b es q → MakesAll columns ms q s → StaysOpen r b (es ++ brought ms) s ⊎ EndsAsStretch columns r b (es ++ brought ms) s
+  run_ends : (ms : List (Move (List A))) (r q s : Renderer D A (List A)) (b : Open (List A)) (es : List (Entry (List A))) → Since r b es q → MakesAll columns any ms q s → StaysOpen r b (es ++ brought ms) s ⊎ EndsAsStretch columns r b (es ++ brought ms) s
   run_ends [] r q s b es since h =
       inl (subst (λ (p : Renderer D A (List A)). StaysOpen r b (es ++ []) p) (sym h) (subst (λ (fs : List (Entry (List A))). StaysOpen r b fs q) (sym (append-nil es)) since.text))
   run_ends (flush ∷ ms) r q s b es since h = inr (record {
@@ -218,15 +219,16 @@ module _ {D A : Type 0} (columns : ℕ → Option ℕ) where
     stands = as_before (record r { annotations = q.annotations }) q (with_run b es) s.lines since.text.lines since.width since.options refl since.text.waiting
         (flush_stands q h.0 s (with_run b es) since.text.block h.1 (moves_grow columns ms h.0 s h.2));
   })
-  run_ends (empty_line ∷ ms) r q s b es since h = absurd (let no : Some (with_run b es) ≡ None = sym since.text.block ∙ h.1.0 in cc)
+  run_ends (line is ∷ ms) r q s b es since h = absurd (let no : Some (with_run b es) ≡ None = sym since.text.block ∙ h.1.1 in cc)
+  run_ends (rule c ∷ ms) r q s b es since h = absurd (let no : Some (with_run b es) ≡ None = sym since.text.block ∙ h.1.1 in cc)
   run_ends (join more ∷ ms) r q s b es since h =
       subst (λ (fs : List (Entry (List A))). StaysOpen r b fs s ⊎ EndsAsStretch columns r b fs s) (append_assoc es more (brought ms))
       (run_ends ms r h.0 s b (es ++ more) (joined_more r q h.0 b es more since h.1) h.2)
   run_ends (turn ∷ ms) r q s b es since h = run_ends ms r h.0 s b es (turned r q h.0 b es since h.1) h.2
 
-  pub brings_end : (decoration : Decoration D A) (calls : List Call) (r s : Renderer D A (List A)) (b : Open (List A)) (es : List (Entry (List A))) → r.block ≡ Some b → Brings columns decoration calls r es s → StaysOpen r b es s ⊎ EndsAsStretch columns r b es s
+  pub brings_end : (decoration : Decoration D A) (calls : List (Call (List A))) (r s : Renderer D A (List A)) (b : Open (List A)) (es : List (Entry (List A))) → r.block ≡ Some b → Brings columns decoration calls r es s → StaysOpen r b es s ⊎ EndsAsStretch columns r b es s
   brings_end decoration calls r s b es open_block_is h =
-      let path = calls_move columns decoration calls r s es h in
+      let path = calls_move columns any decoration calls r s es tt h in
       let none_yet : Since r b [] r = record {
         text = record { lines = refl; block = open_block_is ∙ ap (λ (run : List (Entry (List A))). Some (record b { run = run })) (sym (append-nil b.run)); waiting = refl };
         width = refl;

@@ -6,15 +6,18 @@ use Rattle.tbr_model.specs.Markers.{names_in_items, names_in_run, marker_items, 
 use Rattle.tbr_model.specs.Hard.{is_visible}
 use Rattle.tbr_model.specs.Shown.{without_spaces}
 use Rattle.tbr_model.proofs.words.Items.{no_character_no_width, has_character-append}
+use Rattle.tbr_lines.specs.Border.{Border}
 use Rattle.tbr_lines.specs.State.{IsNormal}
 use Rattle.tbr_lines.specs.Wrapped.{HasBestLines}
 use Rattle.tbr_decor.specs.Decoration.{Decoration}
 use Rattle.tbr_renderer.specs.Renderer.{Line, text, border, Open, Renderer, with_line, block_width, may_overflow, open_run, line_padding}
 use Rattle.tbr_renderer.specs.Flush.{block_of_run, block_lines, flushed, FlushesBlock, Flushes, EndsBlock}
-use Rattle.tbr_renderer.specs.Steps.{with_empty_line}
+use Rattle.tbr_renderer.specs.Appended.{with_border}
 use Rattle.tbr_renderer.specs.Calls.{Call, Steps}
+use Rattle.text_block_renderer.specs.Drawn.{CameWithoutDrawnBorders, DrawNone}
 use Rattle.text_block_renderer.specs.MarkersStand.{items_so_far, FlushStands, first_text, WaitForText}
-use Rattle.text_block_renderer.proofs.Moves.{Move, flush, empty_line, join, turn, Makes, through, steps_move}
+use Rattle.text_block_renderer.proofs.Moves.{Move, flush, line, rule, join, turn, Makes, undrawn}
+use Rattle.text_block_renderer.proofs.Drawing.{steps_on, steps_on_all, border_stays}
 use Rattle.text_block_renderer.proofs.LookingAtLines.{marker_items-append, seen_flushed}
 use Rattle.text_block_renderer.proofs.Standing.{StandFor, at_unspaced, stand_behind, markers_stand, run_stands, waits_behind, waits_behind_kept}
 
@@ -223,15 +226,27 @@ module _ {D A : Type 0} (columns : ℕ → Option ℕ) where
       (wait_on r closed after (same_wait r closed refl refl) (lines_came (block_lines columns r b h.texts) closed))
       (no_line_came after (record after { waiting = after.waiting ++ h.names }) h.names refl refl))
 
-  move_waits : (m : Move (List A)) (r s : Renderer D A (List A)) → Makes columns m r s → WaitForText r s
+  -- a border that stays one is no text
+  rule_waits : (r s : Renderer D A (List A)) (b : Border (List A)) → r.options.pad_block_width ≡ false → s ≡ with_border columns r b → WaitForText r s
+  rule_waits r s b unpadded h = record {
+    more = border b ∷ [];
+    lines = ap (λ (q : Renderer D A (List A)). q.lines) h ∙ ap (λ l. r.lines ++ l ∷ []) (border_stays columns r b unpadded);
+    stand = λ is first. cc;
+    wait = λ none. ([], ap (λ (q : Renderer D A (List A)). q.waiting) h ∙ sym (append-nil r.waiting));
+  }
+
+  move_waits : (m : Move (List A)) (r s : Renderer D A (List A)) → Makes columns undrawn m r s → WaitForText r s
   move_waits flush r s h = flush_waits r s r.block h
-  move_waits empty_line r s h =
-      subst (λ (q : Renderer D A (List A)). WaitForText r q) (sym h.1)
-      (wait_on r (with_line columns r []) (with_empty_line columns r) (line_came r []) (same_wait (with_line columns r []) (with_empty_line columns r) refl refl))
+  move_waits (line is) r s h = subst (λ (q : Renderer D A (List A)). WaitForText r q) (sym h.2) (line_came r is)
+  move_waits (rule b) r s h = rule_waits r s b h.0 h.2
   move_waits (join es) r s h = same_wait r s (ap (λ (q : Renderer D A (List A)). q.lines) h) (ap (λ (q : Renderer D A (List A)). q.waiting) h)
   move_waits turn r s h = same_wait r s h.lines h.waiting
 
-  pub steps_wait : (decoration : Decoration D A) (calls : List Call) (r s : Renderer D A (List A)) → Steps columns decoration calls r s → WaitForText r s
-  steps_wait decoration calls r s h =
-      let (ms, makes) = steps_move columns decoration calls r s h in
-      through columns WaitForText (λ r s e. same_wait r s (ap (λ (q : Renderer D A (List A)). q.lines) e) (ap (λ (q : Renderer D A (List A)). q.waiting) e)) wait_on move_waits ms r s makes
+  on_one : (r s : Renderer D A (List A)) → s ≡ r → WaitForText r s
+  on_one r s e = same_wait r s (ap (λ (q : Renderer D A (List A)). q.lines) e) (ap (λ (q : Renderer D A (List A)). q.waiting) e)
+
+  pub steps_wait : (decoration : Decoration D A) (calls : List (Call (List A))) (r s : Renderer D A (List A)) → Steps columns decoration calls r s → CameWithoutDrawnBorders WaitForText r s
+  steps_wait = steps_on columns WaitForText on_one wait_on move_waits
+
+  pub steps_wait_all : (decoration : Decoration D A) (calls : List (Call (List A))) (r s : Renderer D A (List A)) → DrawNone r calls → Steps columns decoration calls r s → WaitForText r s
+  steps_wait_all = steps_on_all columns WaitForText on_one wait_on move_waits

@@ -8,7 +8,12 @@ pub use Rattle.tbr_renderer.specs.Renderer
 pub use Rattle.tbr_renderer.specs.Steps
 pub use Rattle.tbr_renderer.specs.Text
 pub use Rattle.tbr_renderer.specs.View
+pub use Rattle.tbr_renderer.specs.Appended
+pub mod Drawn
 pub mod MarkersStand
 pub mod Stretches
+pub mod Nested
+pub mod Rows
+pub mod Taken
 pub mod Settings
 pub mod Normal

@@ -6,7 +6,7 @@ use Rattle.tbr_decor.specs.Decoration.{Decoration}
 use Rattle.tbr_renderer.specs.Renderer.{Renderer, without_last, without_annotation}
 use Rattle.tbr_renderer.specs.Image.{shown_title}
 use Rattle.tbr_renderer.specs.Decorated.{struck_from, struck_until, asked_to_close, annotated, coloured, uncoloured}
-use Rattle.tbr_renderer.specs.Calls.{Call, add_empty_line, new_line, new_line_hard, start_block, start_table, end_block, add_inline_text, push_ws, pop_ws, push_preformat, pop_preformat, record_frag_start, begin, finish, start_strikeout, end_strikeout, add_image, push_colour, pop_colour}
+use Rattle.tbr_renderer.specs.Calls.{Call, push_ws, pop_ws, push_preformat, pop_preformat, begin, finish, start_strikeout, end_strikeout, add_image, push_colour, pop_colour}
 
 module _ {D A : Type 0} (decoration : Decoration D A) where
   abbrev pub settled_by_image : List ℕ → Option (List ℕ) → Renderer D A (List A) → Renderer D A (List A)
@@ -14,7 +14,7 @@ module _ {D A : Type 0} (decoration : Decoration D A) where
   settled_by_image source (Some title) r = without_annotation (annotated decoration (start.image source title) r)
 
   -- the renderer with the settings that a call leaves, and else as it was
-  abbrev pub settled : Call → Renderer D A (List A) → Renderer D A (List A)
+  abbrev pub settled : Call (List A) → Renderer D A (List A) → Renderer D A (List A)
   settled (push_ws mode) r = record r { modes = r.modes ++ mode ∷ [] }
   settled pop_ws r = record r { modes = without_last r.modes }
   settled push_preformat r = record r { preformatted = suc r.preformatted }
@@ -26,11 +26,4 @@ module _ {D A : Type 0} (decoration : Decoration D A) where
   settled (add_image source title) r = settled_by_image source (shown_title r.options.img_mode source title) r
   settled (push_colour g colour) r = coloured decoration g colour r
   settled (pop_colour g) r = uncoloured decoration g r
-  settled add_empty_line r = r
-  settled new_line r = r
-  settled new_line_hard r = r
-  settled start_block r = r
-  settled start_table r = r
-  settled end_block r = r
-  settled (add_inline_text cs) r = r
-  settled (record_frag_start name) r = r
+  settled other r = r

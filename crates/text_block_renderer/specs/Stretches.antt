@@ -1,5 +1,5 @@
 -- The lines of a run, which stand together for good.
-use Rattle.std.specs.Prelude.{◌≡◌, ℕ, ◌≤◌, false, Option, Some, None, List, [], ◌∷◌, ◌++◌, map, flat_map, length, take}
+use Rattle.std.specs.Prelude.{◌≡◌, ℕ, ◌≤◌, false, ⊤, Option, Some, None, List, [], ◌∷◌, ◌++◌, map, flat_map, length, take}
 use Rattle.std.specs.List.{AllByRecursion as Each}
 use Rattle.tbr_model.specs.Run.{Entry, Item}
 use Rattle.tbr_model.specs.Layout.{Slot, slots_of, joined, IsLegal, placed}
@@ -9,6 +9,9 @@ use Rattle.tbr_lines.specs.State.{IsNormal, EndsRun}
 use Rattle.tbr_lines.specs.Wrapped.{padding_of}
 use Rattle.tbr_renderer.specs.Renderer.{Line, text, Open, Renderer, line_padding, block_width, may_overflow, open_run}
 use Rattle.tbr_renderer.specs.Flush.{block_of_run, with_run}
+use Rattle.tbr_renderer.specs.Appended.{border_line}
+use Rattle.tbr_renderer.specs.Calls.{Call, add_border, append_subrender, append_vert_row, laid_entries}
+use Rattle.tbr_lines.specs.Border.{Border}
 
 -- a text of a block as a line: behind markers, and padded to the block's width and to the renderer's
 abbrev pub line_of_text : {D A : Type 0} → (ℕ → Option ℕ) → Renderer D A (List A) → Open (List A) → List (List ℕ)
@@ -61,20 +64,34 @@ pub record EndsAsStretch {D A : Type 0} (columns : ℕ → Option ℕ) (r : Rend
   pub annotations : List A
   pub stands : StandsAsStretch columns (record r { annotations = annotations }) (with_run b more) s.lines
 
--- What adds lines: a run that ended with these texts, or an empty line; each with the renderer at that moment.
+-- items as a line, padded to the renderer's width
+abbrev pub padded_line : {D A : Type 0} →
+    (ℕ → Option ℕ) → Renderer D A (List A) → List (Item (List A)) → Line (List A)
+padded_line columns r is = text (is ++ line_padding columns r is)
+
+-- laid texts as lines, the first of them behind the markers that wait
+abbrev pub lines_laid : {D A : Type 0} →
+    (ℕ → Option ℕ) → Renderer D A (List A) → List (List (Item (List A))) → List (Line (List A))
+lines_laid columns r [] = []
+lines_laid columns r (is ∷ texts) =
+    padded_line columns r (marker_items r.waiting ++ is) ∷ map (padded_line columns r) texts
+
+-- What adds lines, each with the renderer at that moment: a run that ended with these texts, a laid text, or a border.
 pub data Part (D A : Type 0) : Type 0 where
   ended : Renderer D A (List A) → Open (List A) → List (List (Item (List A))) → Part D A
-  empty : Renderer D A (List A) → Part D A
+  laid : Renderer D A (List A) → List (Item (List A)) → Part D A
+  ruled : Renderer D A (List A) → Border (List A) → Part D A
 
-abbrev pub run_of_part : {D A : Type 0} → Part D A → List (Entry (List A))
-run_of_part (ended r b texts) = b.run
-run_of_part (empty r) = []
+-- the entries that stand there
+abbrev pub entries_of_part : {D A : Type 0} → Part D A → List (Entry (List A))
+entries_of_part (ended r b texts) = b.run
+entries_of_part (laid r is) = laid_entries is
+entries_of_part (ruled r b) = []
 
 abbrev pub lines_of_part : {D A : Type 0} → (ℕ → Option ℕ) → Part D A → List (Line (List A))
 lines_of_part columns (ended r b texts) = stretch columns r b texts
-lines_of_part columns (empty r) =
-    let line = marker_items r.waiting in
-    text (line ++ line_padding columns r line) ∷ []
+lines_of_part columns (laid r is) = lines_laid columns r (is ∷ [])
+lines_of_part columns (ruled r b) = border_line columns r b ∷ []
 
 -- The open run ended with these texts. The renderer's width and options are still those of another one.
 pub record HasEnded {D A : Type 0} (columns : ℕ → Option ℕ) (first r : Renderer D A (List A)) (b : Open (List A))
@@ -85,16 +102,36 @@ pub record HasEnded {D A : Type 0} (columns : ℕ → Option ℕ) (first r : Ren
   pub names : List (List ℕ)
   pub ends : EndsRun columns (block_of_run (block_width r) (may_overflow r) b.run) texts names
 
--- an empty line comes where no block is open
+-- No block is open. The renderer's width and options are still those of another one.
+pub record IsBetweenBlocks {D A : Type 0} (first r : Renderer D A (List A)) : Type 0 where
+  pub width : r.width ≡ first.width
+  pub options : r.options ≡ first.options
+  pub block : r.block ≡ None
+
+-- laid texts and borders come where no block is open
 abbrev pub IsPart : {D A : Type 0} → (ℕ → Option ℕ) → Renderer D A (List A) → Part D A → Type 0
 IsPart columns first (ended r b texts) = HasEnded columns first r b texts
-IsPart columns first (empty r) = r.block ≡ None
+IsPart columns first (laid r is) = IsBetweenBlocks first r
+IsPart columns first (ruled r b) = IsBetweenBlocks first r
 
--- The lines that came are the stretches of the runs that ended, and empty lines. These runs, one behind another, and
--- then the open one are what there was of the open run and what came.
+-- The lines that came are the stretches of the runs that ended, laid texts, and borders. These runs and the entries of
+-- these texts, one behind another, and then the open run are what there was of the open run and what came.
 pub record ComesInParts {D A : Type 0} (columns : ℕ → Option ℕ) (r : Renderer D A (List A))
     (es : List (Entry (List A))) (s : Renderer D A (List A)) : Type 0 where
   pub parts : List (Part D A)
   pub are : Each (IsPart columns r) parts
   pub lines : s.lines ≡ r.lines ++ flat_map (lines_of_part columns) parts
-  pub runs : open_run r.block ++ es ≡ flat_map run_of_part parts ++ open_run s.block
+  pub entries : open_run r.block ++ es ≡ flat_map entries_of_part parts ++ open_run s.block
+
+-- a call that appends no lines of others, and no border
+abbrev pub AppendsNothing : {T : Type 0} → Call T → Type 0
+AppendsNothing (add_border width) = ⊥
+AppendsNothing (append_subrender prefixes lines) = ⊥
+AppendsNothing (append_vert_row cells) = ⊥
+AppendsNothing other = ⊤
+
+-- a run that ended, or an empty line
+abbrev pub IsOwnPart : {D A : Type 0} → Part D A → Type 0
+IsOwnPart (ended r b texts) = ⊤
+IsOwnPart (laid r is) = is ≡ []
+IsOwnPart (ruled r b) = ⊥

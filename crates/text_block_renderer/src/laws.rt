@@ -1,5 +1,8 @@
 //! What follows from the steps alone, each as the contract of a function that does nothing.
+pub mod appended;
+
 ghost use Rattle.std.specs.Prelude.{◌≡◌, ℕ, Bool, false, ◌⊎◌, Option, Some, List, [], ◌++◌};
+ghost use Rattle.std.specs.List.{AllByRecursion as Each};
 ghost use Rattle.tbr_lines.specs.State.{IsNormal};
 ghost use Rattle.tbr_renderer.specs.Renderer.{Line, Open, Renderer, new_renderer, settings_of, may_overflow, open_run};
 ghost use Rattle.tbr_renderer.specs.declared.options.RenderOptions.{RenderOptions};
@@ -7,21 +10,22 @@ ghost use Rattle.tbr_renderer.specs.Flush.{Flushes};
 ghost use Rattle.tbr_renderer.specs.Calls.{Call, Does, IsTooNarrow, Steps, Brings, Shows};
 ghost use Rattle.text_block_renderer.specs.Normal.{WrapsNormally, PushesNormal};
 ghost use Rattle.text_block_renderer.specs.Settings.{settled};
+ghost use Rattle.text_block_renderer.specs.Drawn.{WithoutDrawnBorders, CameWithoutDrawnBorders, DrawNone};
 ghost use Rattle.text_block_renderer.specs.MarkersStand.{Stands, FlushStands, WaitForText};
-ghost use Rattle.text_block_renderer.specs.Stretches.{StandsAsStretch, StaysOpen, EndsAsStretch, ComesInParts};
+ghost use Rattle.text_block_renderer.specs.Stretches.{StandsAsStretch, StaysOpen, EndsAsStretch, ComesInParts, AppendsNothing, IsOwnPart};
 ghost use Rattle.tbr_model.specs.Run.{Entry};
 ghost use Rattle.tbr_decor.specs.Decoration.{Decoration};
 
 /// No call takes a line back.
 pub fn no_call_takes_a_line_back<D, A>()
-    ensures { (columns : ℕ → Option ℕ) (decoration : Decoration D A) (calls : List Call)
+    ensures { (columns : ℕ → Option ℕ) (decoration : Decoration D A) (calls : List (Call (List A)))
         (r s : Renderer D A (List A)) → Steps columns decoration calls r s →
         (more : List (Line (List A))) × (s.lines ≡ r.lines ++ more) }
 {}
 
 /// A call changes the settings that it is there to change, and no others.
 pub fn a_call_changes_its_own_settings_alone<D, A>()
-    ensures { (columns : ℕ → Option ℕ) (decoration : Decoration D A) (call : Call) (r s : Renderer D A (List A)) →
+    ensures { (columns : ℕ → Option ℕ) (decoration : Decoration D A) (call : Call (List A)) (r s : Renderer D A (List A)) →
         Does columns decoration call r s → settings_of s ≡ settings_of (settled decoration call r) }
 {}
 
@@ -34,36 +38,43 @@ pub fn a_normal_flush_leaves_one_state<D, A>()
 
 /// A call leaves one state only, where all text is `Normal` and no line may be wider than its block.
 pub fn a_normal_call_leaves_one_state<D, A>()
-    ensures { (columns : ℕ → Option ℕ) (decoration : Decoration D A) (call : Call) (r s t : Renderer D A (List A)) →
+    ensures { (columns : ℕ → Option ℕ) (decoration : Decoration D A) (call : Call (List A)) (r s t : Renderer D A (List A)) →
         WrapsNormally r → Does columns decoration call r s → Does columns decoration call r t → t ≡ s }
 {}
 
 /// Where a call may answer `TooNarrow` there, it leaves nothing.
 pub fn a_normal_call_is_too_narrow_or_not<D, A>()
-    ensures { (columns : ℕ → Option ℕ) (decoration : Decoration D A) (call : Call) (r s : Renderer D A (List A)) →
+    ensures { (columns : ℕ → Option ℕ) (decoration : Decoration D A) (call : Call (List A)) (r s : Renderer D A (List A)) →
         WrapsNormally r → Does columns decoration call r s → IsTooNarrow columns decoration call r → ⊥ }
 {}
 
 /// Calls that push no mode but `Normal` keep all text `Normal`.
 pub fn normal_calls_keep_text_normal<D, A>()
-    ensures { (columns : ℕ → Option ℕ) (decoration : Decoration D A) (call : Call) (r s : Renderer D A (List A)) →
+    ensures { (columns : ℕ → Option ℕ) (decoration : Decoration D A) (call : Call (List A)) (r s : Renderer D A (List A)) →
         WrapsNormally r → PushesNormal call → Does columns decoration call r s → WrapsNormally s }
 {}
 
 /// After any calls the visible characters of what they brought stand in the lines of text, but for those of the open
-/// run, once and in order, each under an annotation of its call.
+/// run, once and in order, each under an annotation of its call. Borders that padding made text aren't looked at.
 pub fn visible_characters_stand_once<D, A>()
-    ensures { (columns : ℕ → Option ℕ) (decoration : Decoration D A) (calls : List Call)
-        (r s : Renderer D A (List A)) (before es : List (Entry (List A))) →
+    ensures calls { (columns : ℕ → Option ℕ) (decoration : Decoration D A) (calls : List (Call (List A)))
+        (r s : Renderer D A (List A)) (before es : List (Entry (List A))) → Brings columns decoration calls r es s →
+        WithoutDrawnBorders (λ q. Shows columns q before) r → WithoutDrawnBorders (λ q. Shows columns q (before ++ es)) s }
+    ensures undrawn { (columns : ℕ → Option ℕ) (decoration : Decoration D A) (calls : List (Call (List A)))
+        (r s : Renderer D A (List A)) (before es : List (Entry (List A))) → DrawNone r calls →
         Brings columns decoration calls r es s → Shows columns r before → Shows columns s (before ++ es) }
 {}
 
 /// After any calls what they brought stands in the lines of text, or is a marker that waits, but for the open run: the
 /// visible characters and the markers once and in order, and in `Normal` all kept characters and markers. No marker
-/// waits that has a visible character behind it. To a new renderer nothing was brought.
+/// waits that has a visible character behind it. To a new renderer nothing was brought. Borders that padding made text
+/// aren't looked at.
 pub fn what_was_brought_stands<D, A>()
-    ensures calls { (columns : ℕ → Option ℕ) (decoration : Decoration D A) (calls : List Call)
-        (r s : Renderer D A (List A)) (before es : List (Entry (List A))) →
+    ensures calls { (columns : ℕ → Option ℕ) (decoration : Decoration D A) (calls : List (Call (List A)))
+        (r s : Renderer D A (List A)) (before es : List (Entry (List A))) → Brings columns decoration calls r es s →
+        WithoutDrawnBorders (λ q. Stands columns q before) r → WithoutDrawnBorders (λ q. Stands columns q (before ++ es)) s }
+    ensures undrawn { (columns : ℕ → Option ℕ) (decoration : Decoration D A) (calls : List (Call (List A)))
+        (r s : Renderer D A (List A)) (before es : List (Entry (List A))) → DrawNone r calls →
         Brings columns decoration calls r es s → Stands columns r before → Stands columns s (before ++ es) }
     ensures new { (columns : ℕ → Option ℕ) (width : ℕ) (options : RenderOptions) (decorator : D) →
         Stands columns (new_renderer {D = D} {A = A} width options decorator) [] }
@@ -77,17 +88,20 @@ pub fn what_a_flush_makes_stand<D, A>()
         Flushes columns r s → FlushStands columns (open_run r.block) r s }
 {}
 
-/// Markers that wait begin the next line of text, whatever calls come, and until then they wait.
+/// Markers that wait begin the next line of text, whatever calls come, and until then they wait. A border that padding
+/// made text is no such line.
 pub fn waiting_markers_begin_the_next_text<D, A>()
-    ensures { (columns : ℕ → Option ℕ) (decoration : Decoration D A) (calls : List Call)
-        (r s : Renderer D A (List A)) → Steps columns decoration calls r s → WaitForText r s }
+    ensures calls { (columns : ℕ → Option ℕ) (decoration : Decoration D A) (calls : List (Call (List A)))
+        (r s : Renderer D A (List A)) → Steps columns decoration calls r s → CameWithoutDrawnBorders WaitForText r s }
+    ensures undrawn { (columns : ℕ → Option ℕ) (decoration : Decoration D A) (calls : List (Call (List A)))
+        (r s : Renderer D A (List A)) → DrawNone r calls → Steps columns decoration calls r s → WaitForText r s }
 {}
 
 /// The lines of a run stand together for good, where a flush put them: the first behind the markers that waited, and
 /// each with its padding. After any number of lines no legal layout of a `Normal` run that may not overflow has placed
 /// more of it.
 pub fn a_run_is_one_stretch<D, A>()
-    ensures { (columns : ℕ → Option ℕ) (decoration : Decoration D A) (calls : List Call)
+    ensures { (columns : ℕ → Option ℕ) (decoration : Decoration D A) (calls : List (Call (List A)))
         (r q s : Renderer D A (List A)) (b : Open (List A)) → r.block ≡ Some b → Flushes columns r q →
         Steps columns decoration calls q s → StandsAsStretch columns r b s.lines }
 {}
@@ -95,15 +109,19 @@ pub fn a_run_is_one_stretch<D, A>()
 /// Whatever calls come, the run of an open block goes on, or it ends as one stretch of the lines: with the first of the
 /// entries that came, and behind all lines that there were.
 pub fn each_open_run_ends_as_one_stretch<D, A>()
-    ensures { (columns : ℕ → Option ℕ) (decoration : Decoration D A) (calls : List Call)
+    ensures { (columns : ℕ → Option ℕ) (decoration : Decoration D A) (calls : List (Call (List A)))
         (r s : Renderer D A (List A)) (b : Open (List A)) (es : List (Entry (List A))) → r.block ≡ Some b →
         Brings columns decoration calls r es s → StaysOpen r b es s ⊎ EndsAsStretch columns r b es s }
 {}
 
-/// The lines that calls add are the stretches of the runs that ended, and empty lines. What the calls brought to the
-/// open run are these runs, one behind another, and then the run that is open.
-pub fn lines_are_stretches_and_empty_lines<D, A>()
-    ensures { (columns : ℕ → Option ℕ) (decoration : Decoration D A) (calls : List Call)
+/// The lines that calls add are the stretches of the runs that ended, laid texts, as empty lines are, and borders. What
+/// the calls brought are these runs and the entries of these texts, one behind another, and then the run that is open.
+/// Calls that append nothing add stretches and empty lines alone.
+pub fn lines_are_stretches_laid_texts_and_borders<D, A>()
+    ensures calls { (columns : ℕ → Option ℕ) (decoration : Decoration D A) (calls : List (Call (List A)))
         (r s : Renderer D A (List A)) (es : List (Entry (List A))) →
         Brings columns decoration calls r es s → ComesInParts columns r es s }
+    ensures own { (columns : ℕ → Option ℕ) (decoration : Decoration D A) (calls : List (Call (List A)))
+        (r s : Renderer D A (List A)) (es : List (Entry (List A))) → Each AppendsNothing calls →
+        Brings columns decoration calls r es s → (came : ComesInParts columns r es s) × Each IsOwnPart came.parts }
 {}

@@ -1,0 +1,119 @@
+-- Lines of other renderers, and borders, as moves.
+use Rattle.std.proofs.Common.{◌≡◌, ℕ, Bool, true, false, if◌then◌else◌, Option, Some, None, List, [], ◌∷◌, ◌++◌, map, flat_map, fold, refl, ap, sym, ◌∙◌, subst, append-nil}
+use Rattle.std.proofs.lemmas.List.{map-append}
+use Rattle.tbr_model.specs.Run.{Entry, Item}
+use Rattle.tbr_model.specs.Layout.{joined}
+use Rattle.tbr_model.proofs.lists.Joined.{joined-append}
+use Rattle.tbr_lines.specs.Border.{Border}
+use Rattle.tbr_lines.specs.Cell.{Cell, horizontal, slash}
+use Rattle.tbr_renderer.specs.Renderer.{Line, Open, Renderer, with_line}
+use Rattle.tbr_renderer.specs.Flush.{block_lines, FlushesBlock}
+use Rattle.tbr_renderer.specs.Appended.{with_border, border_of_cells, as_text, prefixed, AddsBorder, AppendsLines, with_divider, with_cell, with_cell_below, with_cells, AppendsCells}
+use Rattle.tbr_renderer.specs.Calls.{laid_entry, laid_entries}
+use Rattle.text_block_renderer.proofs.Moves.{flush, line, rule, Kind, MayLay, MayRule, Path, onward, one, stays, flushed_none}
+
+module _ {D A : Type 0} (columns : ℕ → Option ℕ) (kind : Kind) where
+  -- `q` is where lines join those of `r`
+  record Joins (r q : Renderer D A (List A)) : Type 0 where
+    block : q.block ≡ None
+    annotations : q.annotations ≡ r.annotations
+    options : q.options ≡ r.options
+
+  joins_line : (r q : Renderer D A (List A)) (is : List (Item (List A))) → Joins r q → Joins r (with_line columns q is)
+  joins_line r q is h = record { block = h.block; annotations = h.annotations; options = h.options }
+
+  joins_lines : (ts : List (List (Item (List A)))) (r q : Renderer D A (List A)) → Joins r q → Joins r (fold (with_line columns) q ts)
+  joins_lines [] r q h = h
+  joins_lines (t ∷ ts) r q h = joins_lines ts r (with_line columns q t) (joins_line r q t h)
+
+  joins_flushed : (r s : Renderer D A (List A)) (o : Option (Open (List A))) → o ≡ r.block → FlushesBlock columns r o s → Joins r s
+  joins_flushed r s None e h = subst (λ (q : Renderer D A (List A)). Joins r q) (sym h) (record { block = sym e; annotations = refl; options = refl })
+  joins_flushed r s (Some b) e h =
+      let after = joins_lines (block_lines columns r b h.texts) r (record r { block = None }) (record { block = refl; annotations = refl; options = refl }) in
+      subst (λ (q : Renderer D A (List A)). Joins r q) (sym h.is) (record { block = after.block; annotations = after.annotations; options = after.options })
+
+  lines_put : (ts : List (List (Item (List A)))) (q : Renderer D A (List A)) → ((is : List (Item (List A))) → MayLay kind is) → q.block ≡ None → Path columns kind q (fold (with_line columns) q ts) (laid_entries (joined ts))
+  lines_put [] q may none = stays columns kind q q refl
+  lines_put (t ∷ ts) q may none =
+      let r : Renderer D A (List A) = with_line columns q t in
+      subst (λ (es : List (Entry (List A))). Path columns kind q (fold (with_line columns) r ts) es) (sym (map-append laid_entry t (joined ts)))
+      (onward columns kind q r (fold (with_line columns) r ts) (laid_entries t) (laid_entries (joined ts)) (one columns kind (line t) q r (may t, none, refl)) (lines_put ts r may none))
+
+  pub lines_appended : (prefixes : List (List ℕ)) (lines : List (Line (List A))) (r s : Renderer D A (List A)) → ((is : List (Item (List A))) → MayLay kind is) → AppendsLines columns prefixes lines r s → Path columns kind r s (laid_entries (joined (prefixed r.annotations prefixes lines)))
+  lines_appended prefixes lines r s may h =
+      let texts = prefixed r.annotations prefixes lines in
+      let put = subst (λ (q : Renderer D A (List A)). Path columns kind h.0 q (laid_entries (joined texts))) (sym h.2) (lines_put texts h.0 may (flushed_none columns r h.0 h.1)) in
+      onward columns kind r h.0 s [] (laid_entries (joined texts)) (one columns kind flush r h.0 h.1) put
+
+  pub border_added : (width : ℕ) (r s : Renderer D A (List A)) → ((q : Renderer D A (List A)) → q.options ≡ r.options → MayRule kind q) → AddsBorder columns width r s → Path columns kind r s []
+  border_added width r s may h =
+      let joins = joins_flushed r h.0 r.block refl h.1 in
+      onward columns kind r h.0 s [] [] (one columns kind flush r h.0 h.1)
+      (one columns kind (rule (border_of_cells horizontal width r)) h.0 s (may h.0 joins.options, joins.block, h.2))
+
+  module _ (r : Renderer D A (List A)) (may_lay : (is : List (Item (List A))) → MayLay kind is) (may_rule : (q : Renderer D A (List A)) → q.options ≡ r.options → MayRule kind q) where
+    -- `q` was brought from `r`, and joins its lines
+    record Divided (q s : Renderer D A (List A)) : Type 0 where
+      path : Path columns kind q s []
+      joins : Joins r s
+
+    divided : (cell : Cell) (q : Renderer D A (List A)) → Joins r q → Divided q (with_divider columns cell q)
+    divided cell q h = go q.options.draw_borders
+      where
+        b : Border (List A)
+        b = border_of_cells cell q.width q
+
+        go : (drawn : Bool) → Divided q (if drawn then with_border columns q b else q)
+        go false = record { path = stays columns kind q q refl; joins = h }
+        go true = record {
+          path = one columns kind (rule b) q (with_border columns q b) (may_rule q h.options, h.block, refl);
+          joins = record { block = h.block; annotations = h.annotations; options = h.options };
+        }
+
+    cell_put : (lines : List (Line (List A))) (q : Renderer D A (List A)) → Joins r q → Path columns kind q (with_cell columns q lines) (laid_entries (joined (map (as_text r.annotations) lines)))
+    cell_put lines q h =
+        subst (λ (tag : List A). Path columns kind q (with_cell columns q lines) (laid_entries (joined (map (as_text tag) lines)))) h.annotations
+        (lines_put (map (as_text q.annotations) lines) q may_lay h.block)
+
+    cells_below : (cells : List (List (Line (List A)))) (q : Renderer D A (List A)) → Joins r q → Path columns kind q (fold (with_cell_below columns) q cells) (laid_entries (joined (flat_map (map (as_text r.annotations)) cells)))
+    cells_below [] q h = stays columns kind q q refl
+    cells_below (lines ∷ cells) q h =
+        let d = divided slash q h in
+        let p : Renderer D A (List A) = with_divider columns slash q in
+        let n : Renderer D A (List A) = with_cell columns p lines in
+        let s : Renderer D A (List A) = fold (with_cell_below columns) n cells in
+        let texts = map (as_text r.annotations) lines in
+        let rest = flat_map (map (as_text r.annotations)) cells in
+        let joins = joins_lines (map (as_text p.annotations) lines) r p d.joins in
+        subst (λ (es : List (Entry (List A))). Path columns kind q s es) (sym (ap laid_entries (joined-append texts rest) ∙ map-append laid_entry (joined texts) (joined rest)))
+        (onward columns kind q p s [] (laid_entries (joined texts) ++ laid_entries (joined rest)) d.path
+        (onward columns kind p n s (laid_entries (joined texts)) (laid_entries (joined rest)) (cell_put lines p d.joins) (cells_below cells n joins)))
+
+    joins_below : (cells : List (List (Line (List A)))) (q : Renderer D A (List A)) → Joins r q → Joins r (fold (with_cell_below columns) q cells)
+    joins_below [] q h = h
+    joins_below (lines ∷ cells) q h =
+        let d = divided slash q h in
+        let p : Renderer D A (List A) = with_divider columns slash q in
+        joins_below cells (with_cell columns p lines) (joins_lines (map (as_text p.annotations) lines) r p d.joins)
+
+    cells_put : (cells : List (List (Line (List A)))) (q : Renderer D A (List A)) → Joins r q → Path columns kind q (with_cells columns q cells) (laid_entries (joined (flat_map (map (as_text r.annotations)) cells))) × Joins r (with_cells columns q cells)
+    cells_put [] q h = (stays columns kind q q refl, h)
+    cells_put (lines ∷ cells) q h =
+        let n : Renderer D A (List A) = with_cell columns q lines in
+        let s : Renderer D A (List A) = fold (with_cell_below columns) n cells in
+        let texts = map (as_text r.annotations) lines in
+        let rest = flat_map (map (as_text r.annotations)) cells in
+        let joins = joins_lines (map (as_text q.annotations) lines) r q h in (
+          subst (λ (es : List (Entry (List A))). Path columns kind q s es) (sym (ap laid_entries (joined-append texts rest) ∙ map-append laid_entry (joined texts) (joined rest)))
+              (onward columns kind q n s (laid_entries (joined texts)) (laid_entries (joined rest)) (cell_put lines q h) (cells_below cells n joins)),
+          joins_below cells n joins,
+        )
+
+    pub cells_appended : (cells : List (List (Line (List A)))) (s : Renderer D A (List A)) → AppendsCells columns cells r s → Path columns kind r s (laid_entries (joined (flat_map (map (as_text r.annotations)) cells)))
+    cells_appended cells s h =
+        let es = laid_entries (joined (flat_map (map (as_text r.annotations)) cells)) in
+        let p : Renderer D A (List A) = with_cells columns h.0 cells in
+        let (path, joins) = cells_put cells h.0 (joins_flushed r h.0 r.block refl h.1) in
+        let d = divided horizontal p joins in
+        let last = subst (λ (q : Renderer D A (List A)). Path columns kind p q []) (sym h.2) d.path in
+        onward columns kind r h.0 s [] es (one columns kind flush r h.0 h.1) (subst (λ (fs : List (Entry (List A))). Path columns kind h.0 s fs) (append-nil es) (onward columns kind h.0 p s es [] path last))

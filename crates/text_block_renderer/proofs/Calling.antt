@@ -1,0 +1,195 @@
+-- Calls as the moves of which they consist.
+use Rattle.std.proofs.Common.{◌≡◌, ℕ, ◌-◌, inl, inr, suc, Bool, true, false, if◌then◌else◌, Option, Some, None, List, [], ◌∷◌, ◌++◌, fold, refl, ap, sym, ◌∙◌, subst, append-nil}
+use Rattle.tbr_model.specs.Run.{Entry, marker_entry, Item}
+use Rattle.tbr_decor.specs.Decoration.{Decoration}
+use Rattle.tbr_decor.specs.declared.colour.Colour.{Colour}
+use Rattle.tbr_decor.specs.Start as start
+use Rattle.tbr_decor.specs.Start.{Start}
+use Rattle.tbr_decor.specs.End as end
+use Rattle.tbr_decor.specs.End.{End}
+use Rattle.tbr_decor.specs.Ground.{Ground}
+use Rattle.tbr_renderer.specs.declared.options.RenderOptions.{RenderOptions}
+use Rattle.tbr_renderer.specs.Renderer.{Open, Renderer, has_content, with_line, without_last, without_annotation, entries_of, ignores}
+use Rattle.tbr_renderer.specs.Flush.{block_lines, FlushesBlock}
+use Rattle.tbr_renderer.specs.Steps.{AddsEmptyLine, with_empty_line, block_started, StartsBlock, BreaksLineAt, AddsText, AddsTextBy}
+use Rattle.tbr_renderer.specs.Image.{shown_title}
+use Rattle.tbr_renderer.specs.Decorated.{struck_from, struck_until, asked_to_close, annotated, coloured, uncoloured, Opens, Closes, AddsImageBy}
+use Rattle.tbr_renderer.specs.Calls.{Call, add_empty_line, new_line, new_line_hard, start_block, start_table, end_block, add_inline_text, push_ws, pop_ws, push_preformat, pop_preformat, record_frag_start, begin, finish, start_strikeout, end_strikeout, add_image, push_colour, pop_colour, add_border, append_subrender, append_vert_row, Does, Steps, text_brought, image_brought, entries_brought, Brings}
+use Rattle.text_block_renderer.specs.Drawn.{AddsNoBorder}
+use Rattle.text_block_renderer.specs.Stretches.{AppendsNothing}
+use Rattle.text_block_renderer.proofs.Moves.{flush, line, join, SameText, Kind, any, undrawn, own, Fits, MayLay, MayRule, Path, onward, one, stays, turned, turned_by, path_options, flushed_none}
+use Rattle.text_block_renderer.proofs.Appending.{lines_appended, border_added, cells_appended}
+
+-- ---- kinds
+
+may_lay_nothing : (T : Type 0) (kind : Kind) → MayLay {T = T} kind []
+may_lay_nothing T any = tt
+may_lay_nothing T undrawn = tt
+may_lay_nothing T own = refl
+
+module _ {D A : Type 0} where
+  -- a call that appends something
+  may_lay : (kind : Kind) (c : Call (List A)) (r : Renderer D A (List A)) → (AppendsNothing c → ⊥) → Fits kind r (c ∷ []) → (is : List (Item (List A))) → MayLay kind is
+  may_lay any c r appends h is = tt
+  may_lay undrawn c r appends h is = tt
+  may_lay own c r appends h is = absurd (appends h.0)
+
+  -- and one that adds a border
+  may_rule : (kind : Kind) (c : Call (List A)) (r : Renderer D A (List A)) → (AddsNoBorder c → ⊥) → (AppendsNothing c → ⊥) → Fits kind r (c ∷ []) → (q : Renderer D A (List A)) → q.options ≡ r.options → MayRule kind q
+  may_rule any c r adds appends h q e = tt
+  may_rule undrawn c r adds appends (inl h) q e = ap (λ (o : RenderOptions). o.pad_block_width) e ∙ h
+  may_rule undrawn c r adds appends (inr h) q e = absurd (adds h.0)
+  may_rule own c r adds appends h q e = absurd (appends h.0)
+
+  fits_first : (kind : Kind) (c : Call (List A)) (cs : List (Call (List A))) (r : Renderer D A (List A)) → Fits kind r (c ∷ cs) → Fits kind r (c ∷ [])
+  fits_first any c cs r h = tt
+  fits_first undrawn c cs r (inl h) = inl h
+  fits_first undrawn c cs r (inr h) = inr (h.0, tt)
+  fits_first own c cs r h = (h.0, tt)
+
+  fits_others : (kind : Kind) (c : Call (List A)) (cs : List (Call (List A))) (r m : Renderer D A (List A)) → m.options ≡ r.options → Fits kind r (c ∷ cs) → Fits kind m cs
+  fits_others any c cs r m e h = tt
+  fits_others undrawn c cs r m e (inl h) = inl (ap (λ (o : RenderOptions). o.pad_block_width) e ∙ h)
+  fits_others undrawn c cs r m e (inr h) = inr h.1
+  fits_others own c cs r m e h = h.1
+
+-- ---- calls
+
+module _ {D A : Type 0} (columns : ℕ → Option ℕ) (kind : Kind) where
+  empty_put : (r s : Renderer D A (List A)) → r.block ≡ None → s ≡ with_empty_line columns r → Path columns kind r s []
+  empty_put r s none h = onward columns kind r (with_line columns r []) s [] [] (one columns kind (line []) r (with_line columns r []) (may_lay_nothing (List A) kind, none, refl)) (turned columns kind (with_line columns r []) (with_empty_line columns r) s refl refl refl refl refl h)
+
+  empty_added : (r s : Renderer D A (List A)) → AddsEmptyLine columns r s → Path columns kind r s []
+  empty_added r s h = onward columns kind r h.0 s [] [] (one columns kind flush r h.0 h.1) (empty_put h.0 s (flushed_none columns r h.0 h.1) h.2)
+
+  begun : (r s : Renderer D A (List A)) → r.block ≡ None → s ≡ block_started columns r → Path columns kind r s []
+  begun r s none h = go (has_content r) refl
+    where
+      go : (b : Bool) → has_content r ≡ b → Path columns kind r s []
+      go true e =
+          let is : block_started columns r ≡ with_empty_line columns r = rw e refl in
+          empty_put r s none (h ∙ is)
+      go false e =
+          let is : block_started columns r ≡ record r { block_ended = false } = rw e refl in
+          turned columns kind r (record r { block_ended = false }) s refl refl refl refl refl (h ∙ is)
+
+  started : (r s : Renderer D A (List A)) → StartsBlock columns r s → Path columns kind r s []
+  started r s h = onward columns kind r h.0 s [] [] (one columns kind flush r h.0 h.1) (begun h.0 s (flushed_none columns r h.0 h.1) h.2)
+
+  broken : (r s : Renderer D A (List A)) (at : Bool) → BreaksLineAt columns at r s → Path columns kind r s []
+  broken r s true h = empty_added r s h
+  broken r s false h = one columns kind flush r s h
+
+  module _ (preformatted : D → Bool → A) where
+    entries_kept : (cs : List ℕ) (texts : List (List (Item (List A)))) (r : Renderer D A (List A)) → entries_of columns preformatted (fold (with_line columns) r texts) cs ≡ entries_of columns preformatted r cs
+    entries_kept cs [] r = refl
+    entries_kept cs (t ∷ ts) r = entries_kept cs ts (with_line columns r t)
+
+    entries_flushed : (cs : List ℕ) (r s : Renderer D A (List A)) (o : Option (Open (List A))) → FlushesBlock columns r o s → entries_of columns preformatted s cs ≡ entries_of columns preformatted r cs
+    entries_flushed cs r s None h = ap (λ (q : Renderer D A (List A)). entries_of columns preformatted q cs) h
+    entries_flushed cs r s (Some b) h = ap (λ (q : Renderer D A (List A)). entries_of columns preformatted q cs) h.is ∙ entries_kept cs (block_lines columns r b h.texts) (record r { block = None })
+
+    entries_started : (cs : List ℕ) (r s : Renderer D A (List A)) → StartsBlock columns r s → entries_of columns preformatted s cs ≡ entries_of columns preformatted r cs
+    entries_started cs r s h = ap (λ (q : Renderer D A (List A)). entries_of columns preformatted q cs) h.2 ∙ go (has_content h.0) refl ∙ entries_flushed cs r h.0 r.block h.1
+      where
+        go : (b : Bool) → has_content h.0 ≡ b → entries_of columns preformatted (block_started columns h.0) cs ≡ entries_of columns preformatted h.0 cs
+        go true e = rw e refl
+        go false e = rw e refl
+
+    text_added : (ignored ended : Bool) (cs : List ℕ) (r s : Renderer D A (List A)) → AddsTextBy columns preformatted ignored ended cs r s →
+        Path columns kind r s (if ignored then [] else entries_of columns preformatted r cs)
+    text_added true ended cs r s h = stays columns kind r s h
+    text_added false false cs r s h = one columns kind (join (entries_of columns preformatted r cs)) r s h.1
+    text_added false true cs r s h =
+        subst (λ (es : List (Entry (List A))). Path columns kind r s es) (entries_started cs r h.0 h.1)
+        (onward columns kind r h.0 s [] (entries_of columns preformatted h.0 cs) (started r h.0 h.1) (one columns kind (join (entries_of columns preformatted h.0 cs)) h.0 s h.2.1))
+
+  -- ---- decorated text
+
+  module _ (decoration : Decoration D A) where
+    struck_from_same : (r : Renderer D A (List A)) (b : Bool) → r.options.use_unicode_strikeout ≡ b → SameText r (struck_from r)
+    struck_from_same r true e = rw e (record { lines = refl; block = refl; waiting = refl; width = refl; options = refl })
+    struck_from_same r false e = rw e (record { lines = refl; block = refl; waiting = refl; width = refl; options = refl })
+
+    struck_until_same : (r : Renderer D A (List A)) (b : Bool) → r.options.use_unicode_strikeout ≡ b → SameText r (struck_until r)
+    struck_until_same r true e = rw e (record { lines = refl; block = refl; waiting = refl; width = refl; options = refl })
+    struck_until_same r false e = rw e (record { lines = refl; block = refl; waiting = refl; width = refl; options = refl })
+
+    coloured_same : (g : Ground) (colour : Colour) (r : Renderer D A (List A)) (o : Option A) → decoration.colour_annotation r.decorator g colour ≡ o → SameText r (coloured decoration g colour r)
+    coloured_same g colour r None e = rw e (record { lines = refl; block = refl; waiting = refl; width = refl; options = refl })
+    coloured_same g colour r (Some a) e = rw e (record { lines = refl; block = refl; waiting = refl; width = refl; options = refl })
+
+    uncoloured_same : (g : Ground) (r : Renderer D A (List A)) (b : Bool) → decoration.ends_colour r.decorator g ≡ b → SameText r (uncoloured decoration g r)
+    uncoloured_same g r true e = rw e (record { lines = refl; block = refl; waiting = refl; width = refl; options = refl })
+    uncoloured_same g r false e = rw e (record { lines = refl; block = refl; waiting = refl; width = refl; options = refl })
+
+    added : (cs : List ℕ) (r s : Renderer D A (List A)) → AddsText columns decoration.preformatted cs r s → Path columns kind r s (text_brought columns decoration cs r)
+    added cs r s h = text_added decoration.preformatted (ignores r cs) r.block_ended cs r s h
+
+    opens : (opened : Start) (r s : Renderer D A (List A)) → Opens columns decoration opened r s → Path columns kind r s (text_brought columns decoration (decoration.start_text r.decorator opened) (annotated decoration opened r))
+    opens opened r s h =
+        let q = annotated decoration opened r in
+        let cs = decoration.start_text r.decorator opened in
+        onward columns kind r q s [] (text_brought columns decoration cs q) (turned columns kind r q q refl refl refl refl refl refl) (added cs q s h)
+
+    -- moves, and then a turn
+    turned_then : (r m s : Renderer D A (List A)) (es : List (Entry (List A))) → Path columns kind r m es → Path columns kind m s [] → Path columns kind r s es
+    turned_then r m s es p q = subst (λ (fs : List (Entry (List A))). Path columns kind r s fs) (append-nil es) (onward columns kind r m s es [] p q)
+
+    closes : (closed : End) (r s : Renderer D A (List A)) → Closes columns decoration closed r s → Path columns kind r s (text_brought columns decoration (decoration.end_text r.decorator closed) (asked_to_close decoration closed r))
+    closes closed r s h =
+        let q = asked_to_close decoration closed r in
+        let cs = decoration.end_text r.decorator closed in
+        let es = text_brought columns decoration cs q in
+        onward columns kind r q s [] es (turned columns kind r q q refl refl refl refl refl refl) (turned_then q h.0 s es (added cs q h.0 h.1) (turned columns kind h.0 (without_annotation h.0) s refl refl refl refl refl h.2))
+
+    image_added : (source : List ℕ) (title : Option (List ℕ)) (r s : Renderer D A (List A)) → AddsImageBy columns decoration source title r s → Path columns kind r s (image_brought columns decoration source title r)
+    image_added source None r s h = stays columns kind r s h
+    image_added source (Some title) r s h =
+        let image = start.image source title in
+        turned_then r h.0 s (text_brought columns decoration (decoration.start_text r.decorator image) (annotated decoration image r)) (opens image r h.0 h.1) (turned columns kind h.0 (without_annotation h.0) s refl refl refl refl refl h.2)
+
+    call_moves : (c : Call (List A)) (r s : Renderer D A (List A)) → Fits kind r (c ∷ []) → Does columns decoration c r s → Path columns kind r s (entries_brought columns decoration c r)
+    call_moves add_empty_line r s fits h = empty_added r s h
+    call_moves new_line r s fits h = one columns kind flush r s h
+    call_moves new_line_hard r s fits h = broken r s h.0 h.2
+    call_moves start_block r s fits h = started r s h
+    call_moves start_table r s fits h = started r s h
+    call_moves end_block r s fits h = turned columns kind r (record r { block_ended = true }) s refl refl refl refl refl h
+    call_moves (add_inline_text cs) r s fits h = text_added decoration.preformatted (ignores r cs) r.block_ended cs r s h
+    call_moves (push_ws mode) r s fits h = turned columns kind r (record r { modes = r.modes ++ mode ∷ [] }) s refl refl refl refl refl h
+    call_moves pop_ws r s fits h = turned columns kind r (record r { modes = without_last r.modes }) s refl refl refl refl refl h
+    call_moves push_preformat r s fits h = turned columns kind r (record r { preformatted = suc r.preformatted }) s refl refl refl refl refl h
+    call_moves pop_preformat r s fits h = turned columns kind r (record r { preformatted = r.preformatted - 1 }) s refl refl refl refl refl h
+    call_moves (record_frag_start name) r s fits h = one columns kind (join (marker_entry name ∷ [])) r s h
+    call_moves (begin opened) r s fits h = opens opened r s h
+    call_moves (finish closed) r s fits h = closes closed r s h
+    call_moves start_strikeout r s fits h =
+        let es = text_brought columns decoration (decoration.start_text r.decorator start.strikeout) (annotated decoration start.strikeout r) in
+        turned_then r h.0 s es (opens start.strikeout r h.0 h.1) (turned_by columns kind h.0 (struck_from h.0) s (struck_from_same h.0 h.0.options.use_unicode_strikeout refl) h.2)
+    call_moves end_strikeout r s fits h =
+        let q = struck_until r in
+        let es = text_brought columns decoration (decoration.end_text q.decorator end.strikeout) (asked_to_close decoration end.strikeout q) in
+        onward columns kind r q s [] es (turned_by columns kind r q q (struck_until_same r r.options.use_unicode_strikeout refl) refl) (closes end.strikeout q s h)
+    call_moves (add_image source title) r s fits h = image_added source (shown_title r.options.img_mode source title) r s h
+    call_moves (push_colour g colour) r s fits h = turned_by columns kind r (coloured decoration g colour r) s (coloured_same g colour r (decoration.colour_annotation r.decorator g colour) refl) h
+    call_moves (pop_colour g) r s fits h = turned_by columns kind r (uncoloured decoration g r) s (uncoloured_same g r (decoration.ends_colour r.decorator g) refl) h
+    call_moves (add_border width) r s fits h = border_added columns kind width r s (may_rule kind (add_border width) r (λ no. no) (λ no. no) fits) h
+    call_moves (append_subrender prefixes lines) r s fits h = lines_appended columns kind prefixes lines r s (may_lay kind (append_subrender prefixes lines) r (λ no. no) fits) h
+    call_moves (append_vert_row cells) r s fits h = cells_appended columns kind r (may_lay kind (append_vert_row cells) r (λ no. no) fits) (may_rule kind (append_vert_row cells) r (λ no. no) (λ no. no) fits) cells s h
+
+    pub calls_move : (calls : List (Call (List A))) (r s : Renderer D A (List A)) (es : List (Entry (List A))) → Fits kind r calls → Brings columns decoration calls r es s → Path columns kind r s es
+    calls_move [] r s es fits h = subst (λ (fs : List (Entry (List A))). Path columns kind r s fs) (sym h.1) (stays columns kind r s h.0)
+    calls_move (c ∷ cs) r s es fits h =
+        let (m, rest, does, brings, is) = h in
+        let path = call_moves c r m (fits_first kind c cs r fits) does in
+        subst (λ (fs : List (Entry (List A))). Path columns kind r s fs) (sym is)
+        (onward columns kind r m s (entries_brought columns decoration c r) rest path (calls_move cs m s rest (fits_others kind c cs r m (path_options columns kind r m (entries_brought columns decoration c r) path) fits) brings))
+
+module _ {D A : Type 0} (columns : ℕ → Option ℕ) (decoration : Decoration D A) where
+  pub steps_bring : (calls : List (Call (List A))) (r s : Renderer D A (List A)) → Steps columns decoration calls r s → (es : List (Entry (List A))) × Brings columns decoration calls r es s
+  steps_bring [] r s h = ([], (h, refl))
+  steps_bring (c ∷ cs) r s h =
+      let (m, does, steps) = h in
+      let (rest, brings) = steps_bring cs m s steps in
+      (entries_brought columns decoration c r ++ rest, (m, rest, does, brings, refl))

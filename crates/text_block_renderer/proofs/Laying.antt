@@ -1,0 +1,101 @@
+-- The lines of laid texts, and the visible characters there.
+use Rattle.std.proofs.Common.{◌≡◌, ℕ, false, Option, List, [], ◌∷◌, ◌++◌, map, flat_map, fold, length, refl, ap, sym, ◌∙◌, append_assoc, append-nil}
+use Rattle.std.specs.List.{AllByRecursion as Each, zip}
+use Rattle.tbr_model.specs.Run.{Item}
+use Rattle.tbr_model.specs.Layout.{joined}
+use Rattle.tbr_model.specs.Markers.{marker_items}
+use Rattle.tbr_model.specs.Hard.{IsSpaces, is_visible, visible_glyphs}
+use Rattle.tbr_lines.specs.Elements.{text_items}
+use Rattle.tbr_decor.specs.Decoration.{Decoration}
+use Rattle.tbr_renderer.specs.Renderer.{Line, text, Renderer, with_line}
+use Rattle.tbr_renderer.specs.Flush.{Flushes}
+use Rattle.tbr_renderer.specs.Appended.{as_text, prefixed}
+use Rattle.tbr_renderer.specs.Calls.{append_subrender, Does, text_of_lines}
+use Rattle.text_block_renderer.specs.Stretches.{padded_line, lines_laid}
+use Rattle.text_block_renderer.specs.Nested.{visible_behind}
+use Rattle.text_block_renderer.proofs.Showing.{space_unseen, glyphs-append, shown_line}
+
+-- ---- behind prefixes
+
+module _ {T : Type 0} (columns : ℕ → Option ℕ) where
+  shown_behind : (tag : T) (prefixes : List (List ℕ)) (lines : List (Line T)) → visible_glyphs columns (joined (prefixed tag prefixes lines)) ≡ flat_map (visible_behind columns tag) (zip prefixes lines)
+  shown_behind tag [] lines = refl
+  shown_behind tag (p ∷ ps) [] = refl
+  shown_behind tag (p ∷ ps) (l ∷ ls) =
+      glyphs-append columns (text_items p tag ++ as_text tag l) (joined (prefixed tag ps ls))
+      ∙ ap (λ gs. gs ++ visible_glyphs columns (joined (prefixed tag ps ls))) (glyphs-append columns (text_items p tag) (as_text tag l))
+      ∙ ap (λ gs. visible_behind columns tag (p, l) ++ gs) (shown_behind tag ps ls)
+
+  unseen_spaces : (tag : T) (cs : List ℕ) → IsSpaces cs → visible_glyphs columns (text_items cs tag) ≡ []
+  unseen_spaces tag [] h = refl
+  unseen_spaces tag (c ∷ cs) h =
+      let unseen : is_visible columns c ≡ false = ap (is_visible columns) h.0 ∙ space_unseen columns in rw unseen (unseen_spaces tag cs h.1)
+
+  shown_indented : (tag : T) (prefixes : List (List ℕ)) (lines : List (Line T)) → length lines ≡ length prefixes → Each IsSpaces prefixes →
+      visible_glyphs columns (joined (prefixed tag prefixes lines)) ≡ visible_glyphs columns (joined (map (as_text tag) lines))
+  shown_indented tag [] [] same h = refl
+  shown_indented tag [] (l ∷ ls) same h = cc
+  shown_indented tag (p ∷ ps) [] same h = refl
+  shown_indented tag (p ∷ ps) (l ∷ ls) same h =
+      glyphs-append columns (text_items p tag ++ as_text tag l) (joined (prefixed tag ps ls))
+      ∙ ap (λ gs. gs ++ visible_glyphs columns (joined (prefixed tag ps ls))) (glyphs-append columns (text_items p tag) (as_text tag l) ∙ ap (λ gs. gs ++ visible_glyphs columns (as_text tag l)) (unseen_spaces tag p h.0))
+      ∙ ap (λ gs. visible_glyphs columns (as_text tag l) ++ gs) (shown_indented tag ps ls (let e : length ls ≡ length ps = cc in e) h.1)
+      ∙ sym (glyphs-append columns (as_text tag l) (joined (map (as_text tag) ls)))
+
+-- ---- lines
+
+module _ {D A : Type 0} (columns : ℕ → Option ℕ) where
+  -- where no marker waits
+  unmarked_lines : (ts : List (List (Item (List A)))) (r : Renderer D A (List A)) → r.waiting ≡ [] → (fold (with_line columns) r ts).lines ≡ r.lines ++ map (padded_line columns r) ts
+  unmarked_lines [] r none = sym (append-nil r.lines)
+  unmarked_lines (t ∷ ts) r none =
+      unmarked_lines ts (with_line columns r t) refl
+      ∙ append_assoc r.lines (padded_line columns r (marker_items r.waiting ++ t) ∷ []) (map (padded_line columns r) ts)
+      ∙ ap (λ ns. r.lines ++ padded_line columns r (marker_items ns ++ t) ∷ map (padded_line columns r) ts) none
+
+  pub laid_lines : (ts : List (List (Item (List A)))) (r : Renderer D A (List A)) → (fold (with_line columns) r ts).lines ≡ r.lines ++ lines_laid columns r ts
+  laid_lines [] r = sym (append-nil r.lines)
+  laid_lines (t ∷ ts) r =
+      unmarked_lines ts (with_line columns r t) refl
+      ∙ append_assoc r.lines (padded_line columns r (marker_items r.waiting ++ t) ∷ []) (map (padded_line columns r) ts)
+
+  -- where lines aren't padded
+  unpadded_line : (r : Renderer D A (List A)) (is : List (Item (List A))) → r.options.pad_block_width ≡ false → padded_line columns r is ≡ text is
+  unpadded_line r is e = let whole : is ++ [] ≡ is = append-nil is in rw e (ap text whole)
+
+  unpadded_lines : (r : Renderer D A (List A)) (ts : List (List (Item (List A)))) → r.options.pad_block_width ≡ false → map (padded_line columns r) ts ≡ map text ts
+  unpadded_lines r [] e = refl
+  unpadded_lines r (t ∷ ts) e = ap (λ l. l ∷ map (padded_line columns r) ts) (unpadded_line r t e) ∙ ap (λ ls. text t ∷ ls) (unpadded_lines r ts e)
+
+  pub plain_lines : (ts : List (List (Item (List A)))) (r : Renderer D A (List A)) → r.options.pad_block_width ≡ false → r.waiting ≡ [] → (fold (with_line columns) r ts).lines ≡ r.lines ++ map text ts
+  plain_lines ts r e none = unmarked_lines ts r none ∙ ap (λ ls. r.lines ++ ls) (unpadded_lines r ts e)
+
+  pub appended_behind : (decoration : Decoration D A) (prefixes : List (List ℕ)) (lines : List (Line (List A))) (r s : Renderer D A (List A)) → Does columns decoration (append_subrender prefixes lines) r s →
+      (m : Renderer D A (List A)) × Flushes columns r m × (s.lines ≡ m.lines ++ lines_laid columns m (prefixed r.annotations prefixes lines))
+  appended_behind decoration prefixes lines r s h =
+      (h.0, h.1, ap (λ (q : Renderer D A (List A)). q.lines) h.2 ∙ laid_lines (prefixed r.annotations prefixes lines) h.0)
+
+  -- ---- visible characters
+
+  pub shown_texts : (ts : List (List (Item (List A)))) (r : Renderer D A (List A)) → visible_glyphs columns (text_of_lines (fold (with_line columns) r ts).lines) ≡ visible_glyphs columns (text_of_lines r.lines) ++ visible_glyphs columns (joined ts)
+  shown_texts [] r = sym (append-nil (visible_glyphs columns (text_of_lines r.lines)))
+  shown_texts (t ∷ ts) r =
+      let old = visible_glyphs columns (text_of_lines r.lines) in
+      shown_texts ts (with_line columns r t) ∙ ap (λ gs. gs ++ visible_glyphs columns (joined ts)) (shown_line columns r t)
+      ∙ append_assoc old (visible_glyphs columns t) (visible_glyphs columns (joined ts)) ∙ ap (λ gs. old ++ gs) (sym (glyphs-append columns t (joined ts)))
+
+  pub characters_appended : (decoration : Decoration D A) (prefixes : List (List ℕ)) (lines : List (Line (List A))) (r s : Renderer D A (List A)) → (h : Does columns decoration (append_subrender prefixes lines) r s) →
+      visible_glyphs columns (text_of_lines s.lines) ≡ visible_glyphs columns (text_of_lines h.0.lines) ++ visible_glyphs columns (joined (prefixed r.annotations prefixes lines))
+  characters_appended decoration prefixes lines r s h =
+      ap (λ (q : Renderer D A (List A)). visible_glyphs columns (text_of_lines q.lines)) h.2 ∙ shown_texts (prefixed r.annotations prefixes lines) h.0
+
+  pub characters_behind : (decoration : Decoration D A) (prefixes : List (List ℕ)) (lines : List (Line (List A))) (r s : Renderer D A (List A)) → Does columns decoration (append_subrender prefixes lines) r s →
+      (m : Renderer D A (List A)) × Flushes columns r m × (visible_glyphs columns (text_of_lines s.lines) ≡ visible_glyphs columns (text_of_lines m.lines) ++ flat_map (visible_behind columns r.annotations) (zip prefixes lines))
+  characters_behind decoration prefixes lines r s h =
+      (h.0, h.1, characters_appended decoration prefixes lines r s h ∙ ap (λ gs. visible_glyphs columns (text_of_lines h.0.lines) ++ gs) (shown_behind columns r.annotations prefixes lines))
+
+  pub characters_indented : (decoration : Decoration D A) (prefixes : List (List ℕ)) (lines : List (Line (List A))) (r s : Renderer D A (List A)) → Does columns decoration (append_subrender prefixes lines) r s →
+      length lines ≡ length prefixes → Each IsSpaces prefixes → (m : Renderer D A (List A)) × Flushes columns r m
+      × (visible_glyphs columns (text_of_lines s.lines) ≡ visible_glyphs columns (text_of_lines m.lines) ++ visible_glyphs columns (joined (map (as_text r.annotations) lines)))
+  characters_indented decoration prefixes lines r s h same spaces =
+      (h.0, h.1, characters_appended decoration prefixes lines r s h ∙ ap (λ gs. visible_glyphs columns (text_of_lines h.0.lines) ++ gs) (shown_indented columns r.annotations prefixes lines same spaces))

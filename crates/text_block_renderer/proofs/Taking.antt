@@ -1,0 +1,195 @@
+-- Visible characters of lines that renderers take from one another.
+use Rattle.std.proofs.Common.{◌≡◌, ℕ, zero, suc, ◌≤◌, inl, inr, Bool, true, false, if◌then◌else◌, Option, List, [], ◌∷◌, ◌++◌, map, flat_map, fold, length, refl, ap, sym, ◌∙◌, subst, arith, append-nil}
+use Rattle.std.specs.List.{AllZip}
+use Rattle.std.proofs.lemmas.Grind.{fold-append}
+use Rattle.tbr_model.specs.Run.{Entry, Item}
+use Rattle.tbr_model.specs.Layout.{joined}
+use Rattle.tbr_model.specs.Hard.{IsShown, visible_glyphs, visible_entries}
+use Rattle.tbr_lines.specs.Border.{shown}
+use Rattle.tbr_lines.specs.Padding.{spaces}
+use Rattle.tbr_lines.specs.Elements.{text_items}
+use Rattle.tbr_lines.specs.Cell.{Cell, horizontal, slash}
+use Rattle.tbr_decor.specs.Decoration.{Decoration}
+use Rattle.tbr_renderer.specs.Renderer.{Line, text, border, Renderer}
+use Rattle.tbr_renderer.specs.Appended.{border_of_cells, with_border, as_text, prefixed, with_divider, with_cell, with_cell_below, with_cells, HandsOut}
+use Rattle.tbr_renderer.specs.Calls.{Call, add_empty_line, new_line, new_line_hard, start_block, start_table, end_block, add_inline_text, push_ws, pop_ws, push_preformat, pop_preformat, record_frag_start, begin, finish, start_strikeout, end_strikeout, add_image, push_colour, pop_colour, add_border, append_subrender, append_vert_row, Does, Steps, text_of_lines, Shows}
+use Rattle.text_block_renderer.specs.Drawn.{Put, as_it_is, drawn, line_put, not_drawn, WithoutDrawnBorders}
+use Rattle.text_block_renderer.specs.Taken.{StandWithin, Takes, AreTakenIn}
+use Rattle.text_block_renderer.proofs.Growing.{Grows, steps_grow}
+use Rattle.text_block_renderer.proofs.LookingAtLines.{text_of_lines-append}
+use Rattle.text_block_renderer.proofs.Showing.{glyphs-append, handed_out_less}
+use Rattle.text_block_renderer.proofs.Laying.{shown_texts, characters_appended}
+
+-- ---- lists within lists
+
+module _ {X : Type 0} where
+  within_behind : (front xs ys : List X) → StandWithin xs ys → StandWithin xs (front ++ ys)
+  within_behind [] xs ys h = h
+  within_behind (f ∷ front) [] ys h = tt
+  within_behind (f ∷ front) (x ∷ xs) ys h = inr (within_behind front (x ∷ xs) ys h)
+
+  within_both : (xs ys us vs : List X) → StandWithin xs us → StandWithin ys vs → StandWithin (xs ++ ys) (us ++ vs)
+  within_both [] ys us vs h k = within_behind us ys vs k
+  within_both (x ∷ xs) ys [] vs h k = elim h [ ]
+  within_both (x ∷ xs) ys (u ∷ us) vs (inl h) k = inl (h.0, within_both xs ys us vs h.1 k)
+  within_both (x ∷ xs) ys (u ∷ us) vs (inr h) k = inr (within_both (x ∷ xs) ys us vs h k)
+
+  within_itself : (xs : List X) → StandWithin xs xs
+  within_itself [] = tt
+  within_itself (x ∷ xs) = inl (refl, within_itself xs)
+
+  within_more : (xs ys more : List X) → StandWithin xs ys → StandWithin xs (ys ++ more)
+  within_more xs ys more h = subst (λ zs. StandWithin zs (ys ++ more)) (append-nil xs) (within_both xs [] ys more h tt)
+
+  within_on : (xs ys zs : List X) → StandWithin xs ys → StandWithin ys zs → StandWithin xs zs
+  within_on [] ys zs h k = tt
+  within_on (x ∷ xs) [] zs h k = elim h [ ]
+  within_on (x ∷ xs) (y ∷ ys) [] h k = elim k [ ]
+  within_on (x ∷ xs) (y ∷ ys) (z ∷ zs) h (inr k) = inr (within_on (x ∷ xs) (y ∷ ys) zs h k)
+  within_on (x ∷ xs) (y ∷ ys) (z ∷ zs) (inl h) (inl k) = inl (h.0 ∙ k.0, within_on xs ys zs h.1 k.1)
+  within_on (x ∷ xs) (y ∷ ys) (z ∷ zs) (inr h) (inl k) = inr (within_on (x ∷ xs) ys zs h k.1)
+
+-- ---- lines as text
+
+abbrev seen : {T : Type 0} → (ℕ → Option ℕ) → List (Line T) → List (ℕ × T)
+seen columns lines = visible_glyphs columns (text_of_lines lines)
+
+module _ {T : Type 0} (columns : ℕ → Option ℕ) where
+  -- one line of text or a border, and then lines
+  first_within : (tag : T) (line : Line T) (lines : List (Line T)) (front rest : List (Item T)) → StandWithin (visible_glyphs columns (text_of_lines lines)) (visible_glyphs columns rest) →
+      StandWithin (visible_glyphs columns (text_of_lines (line ∷ lines))) (visible_glyphs columns ((front ++ as_text tag line) ++ rest))
+  first_within tag (text is) lines front rest h =
+      let behind = within_behind (visible_glyphs columns front) (visible_glyphs columns is) (visible_glyphs columns is) (within_itself (visible_glyphs columns is)) in
+      let both = within_both (visible_glyphs columns is) (visible_glyphs columns (text_of_lines lines)) (visible_glyphs columns front ++ visible_glyphs columns is) (visible_glyphs columns rest) behind h in
+      subst (λ gs. StandWithin gs (visible_glyphs columns ((front ++ is) ++ rest))) (sym (glyphs-append columns is (text_of_lines lines)))
+      (subst (StandWithin (visible_glyphs columns is ++ visible_glyphs columns (text_of_lines lines))) (sym (glyphs-append columns (front ++ is) rest ∙ ap (λ gs. gs ++ visible_glyphs columns rest) (glyphs-append columns front is))) both)
+  first_within tag (border b) lines front rest h =
+      let all = front ++ as_text tag (border b) in
+      subst (StandWithin (visible_glyphs columns (text_of_lines lines))) (sym (glyphs-append columns all rest))
+      (within_behind (visible_glyphs columns all) (visible_glyphs columns (text_of_lines lines)) (visible_glyphs columns rest) h)
+
+  texts_within : (tag : T) (lines : List (Line T)) → StandWithin (visible_glyphs columns (text_of_lines lines)) (visible_glyphs columns (joined (map (as_text tag) lines)))
+  texts_within tag [] = tt
+  texts_within tag (line ∷ lines) = first_within tag line lines [] (joined (map (as_text tag) lines)) (texts_within tag lines)
+
+  prefixed_within : (tag : T) (prefixes : List (List ℕ)) (lines : List (Line T)) → length lines ≤ length prefixes → StandWithin (visible_glyphs columns (text_of_lines lines)) (visible_glyphs columns (joined (prefixed tag prefixes lines)))
+  prefixed_within tag [] [] h = tt
+  prefixed_within tag [] (line ∷ lines) h = absurd (omega (arith, h))
+  prefixed_within tag (p ∷ ps) [] h = tt
+  prefixed_within tag (p ∷ ps) (line ∷ lines) h =
+      let fewer : length lines ≤ length ps = omega (arith, h) in
+      first_within tag line lines (text_items p tag) (joined (prefixed tag ps lines)) (prefixed_within tag ps lines fewer)
+
+  -- the others among borders drawn as text
+  undrawn_within : (puts : List (Put T)) → StandWithin (seen columns (flat_map not_drawn puts)) (seen columns (map line_put puts))
+  undrawn_within [] = tt
+  undrawn_within (as_it_is (text is) ∷ puts) =
+      let here = visible_glyphs columns is in
+      subst (λ gs. StandWithin gs (seen columns (text is ∷ map line_put puts))) (sym (glyphs-append columns is (text_of_lines (flat_map not_drawn puts))))
+      (subst (StandWithin (here ++ seen columns (flat_map not_drawn puts))) (sym (glyphs-append columns is (text_of_lines (map line_put puts))))
+      (within_both here (seen columns (flat_map not_drawn puts)) here (seen columns (map line_put puts)) (within_itself here) (undrawn_within puts)))
+  undrawn_within (as_it_is (border b) ∷ puts) = undrawn_within puts
+  undrawn_within (drawn b n tag ∷ puts) =
+      let all = shown b.tag b ++ text_items (spaces n) tag in
+      subst (StandWithin (seen columns (flat_map not_drawn puts))) (sym (glyphs-append columns all (text_of_lines (map line_put puts))))
+      (within_behind (visible_glyphs columns all) (seen columns (flat_map not_drawn puts)) (seen columns (map line_put puts)) (undrawn_within puts))
+
+-- ---- calls
+
+module _ {D A : Type 0} (columns : ℕ → Option ℕ) where
+  -- more lines lose none
+  still_within : (gs : List (ℕ × List A)) (r s : Renderer D A (List A)) → Grows r s → StandWithin gs (seen columns r.lines) → StandWithin gs (seen columns s.lines)
+  still_within gs r s grows h =
+      let whole : seen columns s.lines ≡ seen columns r.lines ++ seen columns grows.0 = ap (seen columns) grows.1 ∙ ap (visible_glyphs columns) (text_of_lines-append r.lines grows.0) ∙ glyphs-append columns (text_of_lines r.lines) (text_of_lines grows.0) in
+      subst (StandWithin gs) (sym whole) (within_more gs (seen columns r.lines) (seen columns grows.0) h)
+
+  divider_keeps : (gs : List (ℕ × List A)) (cell : Cell) (r : Renderer D A (List A)) → StandWithin gs (seen columns r.lines) → StandWithin gs (seen columns (with_divider columns cell r).lines)
+  divider_keeps gs cell r h = go r.options.draw_borders
+    where
+      b : Renderer D A (List A)
+      b = with_border columns r (border_of_cells cell r.width r)
+
+      go : (drawn : Bool) → StandWithin gs (let s = if drawn then b else r in seen columns s.lines)
+      go true = still_within gs r (with_border columns r (border_of_cells cell r.width r)) (_, refl) h
+      go false = h
+
+  cell_shown : (lines : List (Line (List A))) (r : Renderer D A (List A)) → seen columns (with_cell columns r lines).lines ≡ seen columns r.lines ++ visible_glyphs columns (joined (map (as_text r.annotations) lines))
+  cell_shown lines r = shown_texts columns (map (as_text r.annotations) lines) r
+
+  cell_keeps : (gs : List (ℕ × List A)) (lines : List (Line (List A))) (r : Renderer D A (List A)) → StandWithin gs (seen columns r.lines) → StandWithin gs (seen columns (with_cell columns r lines).lines)
+  cell_keeps gs lines r h = subst (StandWithin gs) (sym (cell_shown lines r)) (within_more gs (seen columns r.lines) (visible_glyphs columns (joined (map (as_text r.annotations) lines))) h)
+
+  cells_keep : (gs : List (ℕ × List A)) (cells : List (List (Line (List A)))) (r : Renderer D A (List A)) → StandWithin gs (seen columns r.lines) → StandWithin gs (seen columns (fold (with_cell_below columns) r cells).lines)
+  cells_keep gs [] r h = h
+  cells_keep gs (lines ∷ cells) r h = cells_keep gs cells (with_cell_below columns r lines) (cell_keeps gs lines (with_divider columns slash r) (divider_keeps gs slash r h))
+
+  cell_within : (lines : List (Line (List A))) (r : Renderer D A (List A)) → StandWithin (seen columns lines) (seen columns (with_cell columns r lines).lines)
+  cell_within lines r =
+      subst (StandWithin (seen columns lines)) (sym (cell_shown lines r))
+      (within_behind (seen columns r.lines) (seen columns lines) (visible_glyphs columns (joined (map (as_text r.annotations) lines))) (texts_within columns r.annotations lines))
+
+  row_within : (front back : List (List (Line (List A)))) (lines : List (Line (List A))) (r : Renderer D A (List A)) → StandWithin (seen columns lines) (seen columns (with_cells columns r (front ++ lines ∷ back)).lines)
+  row_within [] back lines r = cells_keep (seen columns lines) back (with_cell columns r lines) (cell_within lines r)
+  row_within (first ∷ front) back lines r =
+      let q : Renderer D A (List A) = with_cell columns r first in
+      let p : Renderer D A (List A) = fold (with_cell_below columns) q front in
+      subst (λ (s : Renderer D A (List A)). StandWithin (seen columns lines) (seen columns s.lines)) (sym (fold-append (with_cell_below columns) q front (lines ∷ back)))
+      (cells_keep (seen columns lines) back (with_cell_below columns p lines) (cell_within lines (with_divider columns slash p)))
+
+  module _ (decoration : Decoration D A) where
+    taken_within : (c : Call (List A)) (r s : Renderer D A (List A)) (lines : List (Line (List A))) → Takes lines c → Does columns decoration c r s → StandWithin (seen columns lines) (seen columns s.lines)
+    taken_within (append_subrender prefixes taken) r s lines t h =
+        let tag = r.annotations in
+        let all : StandWithin (seen columns taken) (visible_glyphs columns (joined (prefixed tag prefixes taken))) = prefixed_within columns tag prefixes taken (subst (λ (ls : List (Line (List A))). length ls ≤ length prefixes) (sym t.0) t.1) in
+        subst (λ (ls : List (Line (List A))). StandWithin (seen columns ls) (seen columns s.lines)) t.0
+        (subst (StandWithin (seen columns taken)) (sym (characters_appended columns decoration prefixes taken r s h))
+        (within_behind (seen columns h.0.lines) (seen columns taken) (visible_glyphs columns (joined (prefixed tag prefixes taken))) all))
+    taken_within (append_vert_row cells) r s lines t h =
+        let (front, back, is) = t in
+        let row = divider_keeps (seen columns lines) horizontal (with_cells columns h.0 (front ++ lines ∷ back)) (row_within front back lines h.0) in
+        subst (λ (q : Renderer D A (List A)). StandWithin (seen columns lines) (seen columns q.lines)) (sym (h.2 ∙ ap (λ cs. with_divider columns horizontal (with_cells columns h.0 cs)) is)) row
+    taken_within add_empty_line r s lines t h = elim t [ ]
+    taken_within new_line r s lines t h = elim t [ ]
+    taken_within new_line_hard r s lines t h = elim t [ ]
+    taken_within start_block r s lines t h = elim t [ ]
+    taken_within start_table r s lines t h = elim t [ ]
+    taken_within end_block r s lines t h = elim t [ ]
+    taken_within (add_inline_text cs) r s lines t h = elim t [ ]
+    taken_within (push_ws mode) r s lines t h = elim t [ ]
+    taken_within pop_ws r s lines t h = elim t [ ]
+    taken_within push_preformat r s lines t h = elim t [ ]
+    taken_within pop_preformat r s lines t h = elim t [ ]
+    taken_within (record_frag_start name) r s lines t h = elim t [ ]
+    taken_within (begin opened) r s lines t h = elim t [ ]
+    taken_within (finish closed) r s lines t h = elim t [ ]
+    taken_within start_strikeout r s lines t h = elim t [ ]
+    taken_within end_strikeout r s lines t h = elim t [ ]
+    taken_within (add_image source title) r s lines t h = elim t [ ]
+    taken_within (push_colour g colour) r s lines t h = elim t [ ]
+    taken_within (pop_colour g) r s lines t h = elim t [ ]
+    taken_within (add_border width) r s lines t h = elim t [ ]
+
+    steps_within : (before : List (Call (List A))) (c : Call (List A)) (behind : List (Call (List A))) (r s : Renderer D A (List A)) (lines : List (Line (List A))) → Takes lines c → Steps columns decoration (before ++ c ∷ behind) r s → StandWithin (seen columns lines) (seen columns s.lines)
+    steps_within [] c behind r s lines t h = still_within (seen columns lines) h.0 s (steps_grow columns decoration behind h.0 s h.2) (taken_within c r h.0 lines t h.1)
+    steps_within (d ∷ before) c behind r s lines t h = steps_within before c behind h.0 s lines t h.2
+
+    handed_within : (gs : List (ℕ × List A)) (r : Renderer D A (List A)) (lines : List (Line (List A))) → HandsOut columns r lines → StandWithin gs (seen columns r.lines) → StandWithin gs (seen columns lines)
+    handed_within gs r lines h k =
+        let (s, flushes, is) = h.1 in
+        subst (λ (ls : List (Line (List A))). StandWithin gs (seen columns ls)) (sym is) (still_within gs r s (steps_grow columns decoration (new_line ∷ []) r s (s, flushes, refl)) k)
+
+    pub all_within : (depth : ℕ) (inside outside : List (Line (List A))) → AreTakenIn columns decoration depth inside outside → StandWithin (seen columns inside) (seen columns outside)
+    all_within zero inside outside h = subst (λ (ls : List (Line (List A))). StandWithin (seen columns inside) (seen columns ls)) (sym h) (within_itself (seen columns inside))
+    all_within (suc depth) inside outside h =
+        let (between, taken, others) = h in
+        let here = handed_within (seen columns inside) taken.last between taken.gives (steps_within taken.before taken.call taken.behind taken.first taken.last inside taken.takes taken.steps) in
+        within_on (seen columns inside) (seen columns between) (seen columns outside) here (all_within depth between outside others)
+
+    pub brought_within : (depth : ℕ) (r : Renderer D A (List A)) (es : List (Entry (List A))) (inside outside : List (Line (List A))) →
+        WithoutDrawnBorders (λ q. Shows columns q es) r → HandsOut columns r inside → AreTakenIn columns decoration depth inside outside →
+        (shown : List (ℕ × List A)) × AllZip (IsShown (λ a b. a ≡ b)) shown (visible_entries columns es) × StandWithin shown (visible_glyphs columns (text_of_lines outside))
+    brought_within depth r es inside outside shows gives h =
+        let (puts, is, shown) = handed_out_less columns r es inside shows gives in
+        let undrawn = seen columns (flat_map not_drawn puts) in
+        let here : StandWithin undrawn (seen columns inside) = subst (λ (ls : List (Line (List A))). StandWithin undrawn (seen columns ls)) (sym is) (undrawn_within columns puts) in
+        (undrawn, shown, within_on undrawn (seen columns inside) (seen columns outside) here (all_within depth inside outside h))

@@ -1,0 +1,5 @@
+use Rattle.text_block_renderer.proofs.Laying.{characters_behind, characters_indented}
+use Rattle.text_block_renderer.proofs.laws.appended.appended_characters_stand.Goals as goal
+
+pub returns : goal.returns
+returns g c = record { prefixed = characters_behind; indented = characters_indented }

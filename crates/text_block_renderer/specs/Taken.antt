@@ -1,0 +1,38 @@
+-- Lines that renderers hand out and others take.
+use Rattle.std.specs.Prelude.{◌≡◌, ℕ, zero, suc, ◌≤◌, ◌⊎◌, ⊤, Option, List, [], ◌∷◌, ◌++◌, length}
+use Rattle.tbr_decor.specs.Decoration.{Decoration}
+use Rattle.tbr_renderer.specs.Renderer.{Line, Renderer}
+use Rattle.tbr_renderer.specs.Appended.{HandsOut}
+use Rattle.tbr_renderer.specs.Calls.{Call, append_subrender, append_vert_row, Steps}
+
+-- They stand there in order, with others between.
+abbrev pub StandWithin : {X : Type 0} → List X → List X → Type 0
+StandWithin [] ys = ⊤
+StandWithin (x ∷ xs) [] = ⊥
+StandWithin (x ∷ xs) (y ∷ ys) = ((x ≡ y) × StandWithin xs ys) ⊎ StandWithin (x ∷ xs) ys
+
+-- a call that takes the lines, behind as many prefixes or as a cell
+abbrev pub Takes : {T : Type 0} → List (Line T) → Call T → Type 0
+Takes lines (append_subrender prefixes taken) = (taken ≡ lines) × (length lines ≤ length prefixes)
+Takes {T} lines (append_vert_row cells) = (front back : List (List (Line T))) × (cells ≡ front ++ lines ∷ back)
+Takes lines other = ⊥
+
+-- A renderer takes the lines at one of its calls, and hands out its own behind the last.
+pub record TakesIn {D A : Type 0} (columns : ℕ → Option ℕ) (decoration : Decoration D A)
+    (inside outside : List (Line (List A))) : Type 0 where
+  pub first : Renderer D A (List A)
+  pub last : Renderer D A (List A)
+  pub before : List (Call (List A))
+  pub call : Call (List A)
+  pub behind : List (Call (List A))
+  pub steps : Steps columns decoration (before ++ call ∷ behind) first last
+  pub takes : Takes inside call
+  pub gives : HandsOut columns last outside
+
+-- so many renderers do, one after another
+abbrev pub AreTakenIn : {D A : Type 0} →
+    (ℕ → Option ℕ) → Decoration D A → ℕ → List (Line (List A)) → List (Line (List A)) → Type 0
+AreTakenIn columns decoration zero inside outside = outside ≡ inside
+AreTakenIn {D} {A} columns decoration (suc depth) inside outside =
+    (between : List (Line (List A))) × TakesIn columns decoration inside between
+    × AreTakenIn columns decoration depth between outside

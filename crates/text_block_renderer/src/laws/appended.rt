@@ -1,0 +1,96 @@
+//! What follows for the lines of other renderers, and for borders.
+ghost use Rattle.std.specs.Prelude.{◌≡◌, ℕ, Bool, true, false, Option, Some, List, [], ◌∷◌, ◌++◌, map, flat_map, length};
+ghost use Rattle.std.specs.List.{AllZip, AllByRecursion as Each, slice_get, zip};
+ghost use Rattle.tbr_model.specs.Run.{Entry, Item};
+ghost use Rattle.tbr_model.specs.Layout.{joined};
+ghost use Rattle.tbr_model.specs.Hard.{IsShown, IsSpaces, visible_glyphs, visible_entries};
+ghost use Rattle.tbr_lines.specs.Elements.{text_items};
+ghost use Rattle.tbr_decor.specs.Decoration.{Decoration};
+ghost use Rattle.tbr_renderer.specs.Renderer.{Line, text, Renderer};
+ghost use Rattle.tbr_renderer.specs.Flush.{Flushes};
+ghost use Rattle.tbr_renderer.specs.Appended.{as_text, prefixed, HandsOut};
+ghost use Rattle.tbr_renderer.specs.Calls.{append_subrender, append_vert_row, Does, text_of_lines, Shows};
+ghost use Rattle.text_block_renderer.specs.Drawn.{Put, line_put, not_drawn, WithoutDrawnBorders};
+ghost use Rattle.text_block_renderer.specs.Stretches.{lines_laid};
+ghost use Rattle.text_block_renderer.specs.Nested.{Level, nested, IsFront, shortest, visible_behind, HandOn};
+ghost use Rattle.text_block_renderer.specs.Rows.{row_lines};
+ghost use Rattle.text_block_renderer.specs.Taken.{StandWithin, AreTakenIn};
+
+/// Behind the prefixes of blocks inside blocks, the i-th line is the i-th prefixes of all, one behind another from the
+/// outermost, and then the i-th line as text. There are as many lines as the shortest has. Renderers that hand their
+/// lines on to one another give these lines, where lines aren't padded.
+pub fn nested_blocks_are_their_prefixes_and_lines<T, D, A>()
+    ensures line { (levels : List (Level T)) (innermost : Level T) (lines : List (Line T)) (i : ℕ) (front : List (Item T))
+        (line : Line T) → IsFront i (levels ++ innermost ∷ []) front → slice_get lines i ≡ Some line →
+        slice_get (nested (levels ++ innermost ∷ []) lines) i ≡ Some (text (front ++ as_text innermost.tag line)) }
+    ensures count { (levels : List (Level T)) (lines : List (Line T)) →
+        length (nested levels lines) ≡ shortest levels (length lines) }
+    ensures calls { (columns : ℕ → Option ℕ) (decoration : Decoration D A) (levels : List (Level (List A)))
+        (inside lines : List (Line (List A))) →
+        HandOn columns decoration levels inside lines → lines ≡ nested levels inside }
+{}
+
+/// Lines that are appended come behind those that there are and behind the open run: the first behind the markers that
+/// wait, and each padded.
+pub fn appended_lines_come_behind_the_others<D, A>()
+    ensures { (columns : ℕ → Option ℕ) (decoration : Decoration D A) (prefixes : List (List ℕ))
+        (lines : List (Line (List A))) (r s : Renderer D A (List A)) →
+        Does columns decoration (append_subrender prefixes lines) r s → (m : Renderer D A (List A))
+        × Flushes columns r m × (s.lines ≡ m.lines ++ lines_laid columns m (prefixed r.annotations prefixes lines)) }
+{}
+
+/// The visible characters of lines that are appended stand behind those of the prefixes, line by line and in order. None
+/// is lost where there are as many prefixes, and behind spaces there are no others.
+pub fn appended_characters_stand<D, A>()
+    ensures prefixed { (columns : ℕ → Option ℕ) (decoration : Decoration D A) (prefixes : List (List ℕ))
+        (lines : List (Line (List A))) (r s : Renderer D A (List A)) →
+        Does columns decoration (append_subrender prefixes lines) r s →
+        (m : Renderer D A (List A)) × Flushes columns r m
+        × (visible_glyphs columns (text_of_lines s.lines) ≡ visible_glyphs columns (text_of_lines m.lines)
+        ++ flat_map (visible_behind columns r.annotations) (zip prefixes lines)) }
+    ensures indented { (columns : ℕ → Option ℕ) (decoration : Decoration D A) (prefixes : List (List ℕ))
+        (lines : List (Line (List A))) (r s : Renderer D A (List A)) →
+        Does columns decoration (append_subrender prefixes lines) r s →
+        length lines ≡ length prefixes → Each IsSpaces prefixes → (m : Renderer D A (List A)) × Flushes columns r m
+        × (visible_glyphs columns (text_of_lines s.lines) ≡ visible_glyphs columns (text_of_lines m.lines)
+        ++ visible_glyphs columns (joined (map (as_text r.annotations) lines))) }
+{}
+
+/// A vertical row is its cells with slashed borders between and a plain one behind, where lines aren't padded and no
+/// marker waits. Where borders aren't drawn, it is its cells alone.
+pub fn a_vertical_row_is_its_cells_and_borders<D, A>()
+    ensures drawn { (columns : ℕ → Option ℕ) (decoration : Decoration D A) (cells : List (List (Line (List A))))
+        (r s : Renderer D A (List A)) → Does columns decoration (append_vert_row cells) r s → r.options.draw_borders ≡ true → r.options.pad_block_width ≡ false →
+        (m : Renderer D A (List A)) × Flushes columns r m × (m.waiting ≡ [] → s.lines ≡ m.lines ++ row_lines r cells) }
+    ensures undrawn { (columns : ℕ → Option ℕ) (decoration : Decoration D A) (cells : List (List (Line (List A))))
+        (r s : Renderer D A (List A)) → Does columns decoration (append_vert_row cells) r s → r.options.draw_borders ≡ false → (m : Renderer D A (List A))
+        × Flushes columns r m × (s.lines ≡ m.lines ++ lines_laid columns m (flat_map (map (as_text r.annotations)) cells)) }
+{}
+
+/// The lines that a renderer hands out have the visible characters of all that was brought to it, once and in order.
+/// Borders that padding made text aren't looked at.
+pub fn handed_out_lines_have_all_characters<D, A>()
+    ensures lines { (columns : ℕ → Option ℕ) (r : Renderer D A (List A)) (es : List (Entry (List A)))
+        (lines : List (Line (List A))) → WithoutDrawnBorders (λ q. Shows columns q es) r → HandsOut columns r lines →
+        (puts : List (Put (List A))) × (lines ≡ map line_put puts)
+        × AllZip (IsShown (λ a b. a ≡ b)) (visible_glyphs columns (text_of_lines (flat_map not_drawn puts)))
+        (visible_entries columns es) }
+    ensures undrawn { (columns : ℕ → Option ℕ) (r : Renderer D A (List A)) (es : List (Entry (List A)))
+        (lines : List (Line (List A))) → Shows columns r es → HandsOut columns r lines →
+        AllZip (IsShown (λ a b. a ≡ b)) (visible_glyphs columns (text_of_lines lines)) (visible_entries columns es) }
+{}
+
+/// Renderers take lines from one another and hand out their own, to any depth, behind as many prefixes or as cells: then
+/// the visible characters of the first lines stand in the last, in order, and so do those of all that was brought to a
+/// renderer that handed out the first.
+pub fn nothing_visible_is_lost_to_any_depth<D, A>()
+    ensures lines { (columns : ℕ → Option ℕ) (decoration : Decoration D A) (depth : ℕ)
+        (inside outside : List (Line (List A))) → AreTakenIn columns decoration depth inside outside →
+        StandWithin (visible_glyphs columns (text_of_lines inside)) (visible_glyphs columns (text_of_lines outside)) }
+    ensures brought { (columns : ℕ → Option ℕ) (decoration : Decoration D A) (depth : ℕ) (r : Renderer D A (List A))
+        (es : List (Entry (List A))) (inside outside : List (Line (List A))) →
+        WithoutDrawnBorders (λ q. Shows columns q es) r → HandsOut columns r inside →
+        AreTakenIn columns decoration depth inside outside →
+        (shown : List (ℕ × List A)) × AllZip (IsShown (λ a b. a ≡ b)) shown (visible_entries columns es)
+        × StandWithin shown (visible_glyphs columns (text_of_lines outside)) }
+{}
