@@ -11,7 +11,7 @@ use Rattle.tbr_decor.specs.Ground.{Ground}
 use Rattle.tbr_decor.specs.declared.colour.Colour.{Colour}
 use Rattle.tbr_decor.specs.Decoration.{Decoration}
 use Rattle.text_block_renderer.specs.Renderer.{Renderer, Settings, settings_of}
-use Rattle.text_block_renderer.specs.declared.options.RenderOptions.{RenderOptions}
+use Rattle.text_block_renderer.specs.declared.RenderOptions.{RenderOptions}
 use Rattle.text_block_renderer.specs.Image.{shown_title}
 use Rattle.text_block_renderer.specs.Decorated.{coloured, uncoloured}
 use Rattle.text_block_renderer.specs.Settings.{settled, settled_by_image}

@@ -10,8 +10,8 @@ use Rattle.tbr_decor.specs.Ground as ground
 use Rattle.tbr_decor.specs.declared.colour.Colour.{Colour}
 use Rattle.tbr_model.specs.declared.white_space.WhiteSpace.TheVariants.{Normal, Pre, PreWrap}
 use Rattle.text_block_renderer.specs.Options.{default_options}
-use Rattle.text_block_renderer.specs.declared.options.RenderOptions.{RenderOptions}
-use Rattle.text_block_renderer.specs.declared.options.ImageRenderMode.TheVariants.{IgnoreEmpty, ShowAlways, Replace, Filename}
+use Rattle.text_block_renderer.specs.declared.RenderOptions.{RenderOptions}
+use Rattle.text_block_renderer.specs.declared.ImageRenderMode.TheVariants.{IgnoreEmpty, ShowAlways, Replace, Filename}
 use Rattle.text_block_renderer.specs.Calls.{Call, add_empty_line, new_line, new_line_hard, start_block, start_table, end_block, add_inline_text, push_ws, pop_ws, push_preformat, pop_preformat, record_frag_start, begin, finish, start_strikeout, end_strikeout, add_image, push_colour, pop_colour}
 use Rattle.tbr_runner.specs.declared.options.Setting.{Setting}
 use Rattle.tbr_runner.specs.declared.options.Setting.TheVariants.{Wrap, Overflow, Pad, NoBorders, NoStrike, Images}

@@ -1,8 +1,8 @@
 -- The settings that words are.
 use Rattle.std.proofs.Common.{◌≡◌, ◌≢◌, ℕ, List, [], ◌∷◌, Some, codes, subst, arith}
 use Rattle.std.specs.List.{AllZip}
-use Rattle.text_block_renderer.specs.declared.options.RenderOptions.{RenderOptions}
-use Rattle.text_block_renderer.specs.declared.options.ImageRenderMode.TheVariants.{IgnoreEmpty, ShowAlways, Replace, Filename}
+use Rattle.text_block_renderer.specs.declared.RenderOptions.{RenderOptions}
+use Rattle.text_block_renderer.specs.declared.ImageRenderMode.TheVariants.{IgnoreEmpty, ShowAlways, Replace, Filename}
 use Rattle.tbr_runner.specs.declared.options.Setting.{Setting}
 use Rattle.tbr_runner.specs.declared.options.Setting.TheVariants.{Wrap, Overflow, Pad, NoBorders, NoStrike, Images}
 use Rattle.tbr_runner.specs.Options.{IsWrap, IsSetting, with_setting}

@@ -3,9 +3,9 @@ use Rattle.std.specs.Prelude.{◌≡◌, ℕ, ◌<◌, true, false, List, ◌++�
 use Rattle.std.specs.List.{AllZip}
 use Rattle.std.specs.Str.Parse.{digits_value}
 use Rattle.text_block_renderer.specs.Options.{default_options}
-use Rattle.text_block_renderer.specs.declared.options.RenderOptions.{RenderOptions}
-use Rattle.text_block_renderer.specs.declared.options.ImageRenderMode.{ImageRenderMode}
-use Rattle.text_block_renderer.specs.declared.options.ImageRenderMode.TheVariants.{IgnoreEmpty, ShowAlways, Replace, Filename}
+use Rattle.text_block_renderer.specs.declared.RenderOptions.{RenderOptions}
+use Rattle.text_block_renderer.specs.declared.ImageRenderMode.{ImageRenderMode}
+use Rattle.text_block_renderer.specs.declared.ImageRenderMode.TheVariants.{IgnoreEmpty, ShowAlways, Replace, Filename}
 use Rattle.tbr_script.specs.Script.{IsNumber}
 use Rattle.tbr_runner.specs.declared.options.Setting.{Setting}
 use Rattle.tbr_runner.specs.declared.options.Setting.TheVariants.{Wrap, Overflow, Pad, NoBorders, NoStrike, Images}

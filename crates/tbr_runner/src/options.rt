@@ -3,7 +3,7 @@ ghost use Rattle.std.specs.Prelude.{◌≡◌, ◌≢◌, ℕ, Some, IfSome, IfN
 ghost use Rattle.tbr_runner.specs.Options.{IsSetting, IsWrap, with_setting, AreOptions};
 ghost use Rattle.tbr_runner.specs.declared.options.Setting.{Setting as Meant};
 ghost use Rattle.tbr_runner.specs.declared.options.Setting.TheVariants as setting;
-ghost use Rattle.text_block_renderer.specs.declared.options.RenderOptions.{RenderOptions as Options};
+ghost use Rattle.text_block_renderer.specs.declared.RenderOptions.{RenderOptions as Options};
 
 use tbr_script::{Words, parse_number};
 use text_block_renderer::{ImageRenderMode, RenderOptions};

@@ -1,6 +1,6 @@
 use Rattle.std.proofs.Common.{◌≢◌, [], ◌∷◌, Some, fold, sym, subst}
 use Rattle.std.specs.List.{AllZip}
-use Rattle.text_block_renderer.specs.declared.options.RenderOptions.{RenderOptions}
+use Rattle.text_block_renderer.specs.declared.RenderOptions.{RenderOptions}
 use Rattle.tbr_runner.specs.Options.{IsSetting, with_setting, AreOptions}
 use Rattle.tbr_runner.proofs.OptionWords.{first_setting, wrap_width_kept}
 use Rattle.tbr_runner.proofs.options.parse_options.Goals as goal

@@ -1,6 +1,6 @@
 use Rattle.std.proofs.Common.{◌≢◌, List, Some, fold, length}
 use Rattle.std.specs.List.{AllZip}
-use Rattle.text_block_renderer.specs.declared.options.RenderOptions.{RenderOptions}
+use Rattle.text_block_renderer.specs.declared.RenderOptions.{RenderOptions}
 use Rattle.tbr_runner.specs.declared.options.Setting.{Setting}
 use Rattle.tbr_runner.specs.Options.{IsSetting, with_setting, AreOptions}
 use Rattle.tbr_runner.proofs.options.parse_options.Given as goal
