@@ -1,10 +1,10 @@
 -- Lines of other renderers, and borders, as moves.
-use Rattle.std.proofs.Common.{◌≡◌, ℕ, Bool, true, false, if◌then◌else◌, Option, Some, None, List, [], ◌∷◌, ◌++◌, map, flat_map, fold, refl, ap, sym, ◌∙◌, subst, append-nil}
+use Rattle.std.proofs.Common.{◌≡◌, ℕ, Bool, true, false, if◌then◌else◌, Option, Some, None, List, [], ◌∷◌, ◌++◌, map, flat_map, fold, replicate, refl, ap, sym, ◌∙◌, subst, append-nil}
 use Rattle.std.proofs.lemmas.List.{map-append}
 use Rattle.tbr_model.specs.Run.{Entry, Item}
 use Rattle.tbr_model.specs.Layout.{joined}
 use Rattle.tbr_model.proofs.lists.Joined.{joined-append}
-use Rattle.tbr_lines.specs.Border.{Border}
+use Rattle.tbr_lines.specs.Border.{without_holes}
 use Rattle.tbr_lines.specs.Cell.{Cell, horizontal, slash}
 use Rattle.tbr_renderer.specs.Renderer.{Line, Open, Renderer, with_line}
 use Rattle.tbr_renderer.specs.Flush.{block_lines, FlushesBlock}
@@ -49,7 +49,8 @@ module _ {D A : Type 0} (columns : ℕ → Option ℕ) (kind : Kind) where
   border_added width r s may h =
       let joins = joins_flushed r h.0 r.block refl h.1 in
       onward columns kind r h.0 s [] [] (one columns kind flush r h.0 h.1)
-      (one columns kind (rule (border_of_cells horizontal width r)) h.0 s (may h.0 joins.options, joins.block, h.2))
+      (one columns kind (rule (replicate width horizontal)) h.0 s
+      (may h.0 joins.options, joins.block, h.2 ∙ ap (λ tag. with_border columns h.0 (without_holes (replicate width horizontal) tag)) (sym joins.annotations)))
 
   module _ (r : Renderer D A (List A)) (may_lay : (is : List (Item (List A))) → MayLay kind is) (may_rule : (q : Renderer D A (List A)) → q.options ≡ r.options → MayRule kind q) where
     -- `q` was brought from `r`, and joins its lines
@@ -60,13 +61,10 @@ module _ {D A : Type 0} (columns : ℕ → Option ℕ) (kind : Kind) where
     divided : (cell : Cell) (q : Renderer D A (List A)) → Joins r q → Divided q (with_divider columns cell q)
     divided cell q h = go q.options.draw_borders
       where
-        b : Border (List A)
-        b = border_of_cells cell q.width q
-
-        go : (drawn : Bool) → Divided q (if drawn then with_border columns q b else q)
+        go : (drawn : Bool) → Divided q (if drawn then with_border columns q (border_of_cells cell q.width q) else q)
         go false = record { path = stays columns kind q q refl; joins = h }
         go true = record {
-          path = one columns kind (rule b) q (with_border columns q b) (may_rule q h.options, h.block, refl);
+          path = one columns kind (rule (replicate q.width cell)) q (with_border columns q (border_of_cells cell q.width q)) (may_rule q h.options, h.block, refl);
           joins = record { block = h.block; annotations = h.annotations; options = h.options };
         }
 

@@ -3,7 +3,8 @@ use Rattle.std.proofs.Common.{◌≡◌, ℕ, ◌-◌, Bool, true, false, Option
 use Rattle.std.proofs.lemmas.List.{map-append}
 use Rattle.std.proofs.lemmas.List.Concat.{flat_map-append}
 use Rattle.tbr_model.specs.Run.{Entry, Item, items_width}
-use Rattle.tbr_lines.specs.Border.{Border, shown}
+use Rattle.tbr_lines.specs.Border.{Border, shown, without_holes}
+use Rattle.tbr_lines.specs.Cell.{Cell}
 use Rattle.tbr_decor.specs.Decoration.{Decoration}
 use Rattle.tbr_renderer.specs.Renderer.{Line, text, border, Open, Renderer, line_padding, with_line}
 use Rattle.tbr_model.specs.Markers.{marker_items}
@@ -97,18 +98,20 @@ module _ {D A : Type 0} (columns : ℕ → Option ℕ) where
       as_they_are r s ls alike.more [] (ap (λ (q : Renderer D A (List A)). q.lines) h.is ∙ alike.lines)
       (one columns undrawn flush (on r ls) (on s (ls ++ alike.more)) (subst (λ (p : Option (Open (List A))). FlushesBlock columns (on r ls) p (on s (ls ++ alike.more))) e flushes))
 
-  rule_less : (r s : Renderer D A (List A)) (ls : List (Line (List A))) (b : Border (List A)) (pads : Bool) → r.options.pad_block_width ≡ pads → r.block ≡ None → s ≡ with_border columns r b → Less r s ls []
-  rule_less r s ls b true e none h =
+  rule_less : (r s : Renderer D A (List A)) (ls : List (Line (List A))) (cells : List Cell) (pads : Bool) → r.options.pad_block_width ≡ pads → r.block ≡ None → s ≡ with_border columns r (without_holes cells r.annotations) → Less r s ls []
+  rule_less r s ls cells true e none h =
+      let b = without_holes cells r.annotations in
       let n : ℕ = r.width - items_width columns (shown b.tag b) in
-      let put : border_line columns r b ≡ line_put (drawn b n r.annotations) = rw e refl in record {
-        puts = drawn b n r.annotations ∷ [];
+      let put : border_line columns r b ≡ line_put (drawn cells n r.annotations) = rw e refl in record {
+        puts = drawn cells n r.annotations ∷ [];
         came = ap (λ (q : Renderer D A (List A)). q.lines) h ∙ ap (λ l. r.lines ++ l ∷ []) put;
         path = stays columns undrawn (on r ls) (on s (ls ++ [])) (ap (λ (q : Renderer D A (List A)). on q (ls ++ [])) h ∙ ap (on r) (append-nil ls));
       }
-  rule_less r s ls b false e none h =
+  rule_less r s ls cells false e none h =
+      let b = without_holes cells r.annotations in
       let put = border_stays r b e in
       as_they_are r s ls (border b ∷ []) [] (ap (λ (q : Renderer D A (List A)). q.lines) h ∙ ap (λ l. r.lines ++ l ∷ []) put)
-      (one columns undrawn (rule b) (on r ls) (on s (ls ++ border b ∷ []))
+      (one columns undrawn (rule cells) (on r ls) (on s (ls ++ border b ∷ []))
       (e, none, ap (λ (q : Renderer D A (List A)). on q (ls ++ border b ∷ [])) h ∙ ap (λ l. on r (ls ++ l ∷ [])) (sym put)))
 
   move_less : (m : Move (List A)) (r s : Renderer D A (List A)) (ls : List (Line (List A))) → Makes columns any m r s → Less r s ls (brought_by m)
@@ -117,7 +120,7 @@ module _ {D A : Type 0} (columns : ℕ → Option ℕ) where
       let marked = line_laid r is in
       as_they_are r s ls (marked ∷ []) (brought_by (line is)) (ap (λ (q : Renderer D A (List A)). q.lines) h.2)
       (one columns undrawn (line is) (on r ls) (on s (ls ++ marked ∷ [])) (tt, h.1, ap (λ (q : Renderer D A (List A)). on q (ls ++ marked ∷ [])) h.2))
-  move_less (rule b) r s ls h = rule_less r s ls b r.options.pad_block_width refl h.1 h.2
+  move_less (rule cells) r s ls h = rule_less r s ls cells r.options.pad_block_width refl h.1 h.2
   move_less (join es) r s ls h =
       no_line r s ls es (ap (λ (q : Renderer D A (List A)). q.lines) h) (one columns undrawn (join es) (on r ls) (on s ls) (ap (λ (q : Renderer D A (List A)). on q ls) h))
   move_less turn r s ls h =

@@ -35,7 +35,7 @@ module _ {D A : Type 0} (columns : ℕ → Option ℕ) where
   move_grows : (m : Move (List A)) (r s : Renderer D A (List A)) → Makes columns any m r s → Grows r s
   move_grows flush r s h = flush_grows r s r.block h
   move_grows (line is) r s h = (_, ap (λ (q : Renderer D A (List A)). q.lines) h.2)
-  move_grows (rule b) r s h = (_, ap (λ (q : Renderer D A (List A)). q.lines) h.2)
+  move_grows (rule cells) r s h = (_, ap (λ (q : Renderer D A (List A)). q.lines) h.2)
   move_grows (join es) r s h = stays r s (ap (λ (q : Renderer D A (List A)). q.lines) h)
   move_grows turn r s h = stays r s h.lines
 

@@ -3,7 +3,8 @@ use Rattle.std.proofs.Common.{◌≡◌, ℕ, false, Option, Some, None, List, [
 use Rattle.std.specs.Prelude.{⊤}
 use Rattle.std.specs.List.{AllByRecursion as Each}
 use Rattle.tbr_model.specs.Run.{Entry, Item}
-use Rattle.tbr_lines.specs.Border.{Border}
+use Rattle.tbr_lines.specs.Border.{without_holes}
+use Rattle.tbr_lines.specs.Cell.{Cell}
 use Rattle.tbr_renderer.specs.Renderer.{Open, Renderer, with_line, with_entries}
 use Rattle.tbr_renderer.specs.Flush.{block_lines, Flushes, FlushesBlock}
 use Rattle.tbr_renderer.specs.Appended.{with_border}
@@ -15,7 +16,7 @@ use Rattle.text_block_renderer.specs.Stretches.{AppendsNothing}
 pub data Move (T : Type 0) : Type 0 where
   flush : Move T
   line : List (Item T) → Move T
-  rule : Border T → Move T
+  rule : List Cell → Move T
   join : List (Entry T) → Move T
   turn : Move T
 
@@ -30,7 +31,7 @@ pub record SameText {D A : Type 0} (r s : Renderer D A (List A)) : Type 0 where
 abbrev pub brought_by : {T : Type 0} → Move T → List (Entry T)
 brought_by flush = []
 brought_by (line is) = laid_entries is
-brought_by (rule b) = []
+brought_by (rule cells) = []
 brought_by (join es) = es
 brought_by turn = []
 
@@ -85,7 +86,7 @@ module _ {D A : Type 0} (columns : ℕ → Option ℕ) (kind : Kind) where
   abbrev pub Makes : Move (List A) → Renderer D A (List A) → Renderer D A (List A) → Type 0
   Makes flush r s = Flushes columns r s
   Makes (line is) r s = MayLay kind is × (r.block ≡ None) × (s ≡ with_line columns r is)
-  Makes (rule b) r s = MayRule kind r × (r.block ≡ None) × (s ≡ with_border columns r b)
+  Makes (rule cells) r s = MayRule kind r × (r.block ≡ None) × (s ≡ with_border columns r (without_holes cells r.annotations))
   Makes (join es) r s = s ≡ with_entries r es
   Makes turn r s = SameText r s
 
@@ -154,7 +155,7 @@ module _ {D A : Type 0} (columns : ℕ → Option ℕ) (kind : Kind) where
   move_options : (m : Move (List A)) (r s : Renderer D A (List A)) → Makes m r s → s.options ≡ r.options
   move_options flush r s h = flush_options r s r.block h
   move_options (line is) r s h = ap (λ (q : Renderer D A (List A)). q.options) h.2
-  move_options (rule b) r s h = ap (λ (q : Renderer D A (List A)). q.options) h.2
+  move_options (rule cells) r s h = ap (λ (q : Renderer D A (List A)). q.options) h.2
   move_options (join es) r s h = ap (λ (q : Renderer D A (List A)). q.options) h
   move_options turn r s h = h.options
 

@@ -3,7 +3,8 @@ use Rattle.std.proofs.Common.{◌≡◌, ℕ, Option, Some, None, List, [], ◌�
 use Rattle.std.proofs.lemmas.List.Concat.{flat_map-append}
 use Rattle.tbr_model.specs.Run.{Entry, Item}
 use Rattle.tbr_model.proofs.lists.Each.{each_append}
-use Rattle.tbr_lines.specs.Border.{Border}
+use Rattle.tbr_lines.specs.Border.{without_holes}
+use Rattle.tbr_lines.specs.Cell.{Cell}
 use Rattle.tbr_decor.specs.Decoration.{Decoration}
 use Rattle.tbr_renderer.specs.Renderer.{Open, Renderer, with_line, with_entries, open_run}
 use Rattle.tbr_renderer.specs.Flush.{block_lines, EndsBlock, FlushesBlock}
@@ -31,10 +32,10 @@ laid_kind any q is h = tt
 laid_kind undrawn q is h = tt
 laid_kind own q is h = h
 
-ruled_kind : {D A : Type 0} (kind : Kind) (q : Renderer D A (List A)) (b : Border (List A)) → MayRule kind q → IsOfKind kind (ruled q b)
-ruled_kind any q b h = tt
-ruled_kind undrawn q b h = tt
-ruled_kind own q b h = h
+ruled_kind : {D A : Type 0} (kind : Kind) (q : Renderer D A (List A)) (cells : List Cell) → MayRule kind q → IsOfKind kind (ruled q cells)
+ruled_kind any q cells h = tt
+ruled_kind undrawn q cells h = tt
+ruled_kind own q cells h = h
 
 ended_kind : {D A : Type 0} (kind : Kind) (q : Renderer D A (List A)) (b : Open (List A)) (texts : List (List (Item (List A)))) → IsOfKind kind (ended q b texts)
 ended_kind any q b texts = tt
@@ -116,10 +117,10 @@ module _ {D A : Type 0} (columns : ℕ → Option ℕ) (kind : Kind) where
       subst (λ (p : Renderer D A (List A)). CameInParts r p (es ++ laid_entries is)) (sym h)
       (one_part r q (with_line columns q is) es (laid_entries is) (laid q is) refl refl (record { width = k.width; options = k.options; block = none }) (laid_kind kind q is may) refl (none_open q (laid_entries is) none) k)
 
-  rule_parts : (r q s : Renderer D A (List A)) (b : Border (List A)) (es : List (Entry (List A))) → MayRule kind q → q.block ≡ None → s ≡ with_border columns q b → CameInParts r q es → CameInParts r s (es ++ [])
-  rule_parts r q s b es may none h k =
+  rule_parts : (r q s : Renderer D A (List A)) (cells : List Cell) (es : List (Entry (List A))) → MayRule kind q → q.block ≡ None → s ≡ with_border columns q (without_holes cells q.annotations) → CameInParts r q es → CameInParts r s (es ++ [])
+  rule_parts r q s cells es may none h k =
       subst (λ (p : Renderer D A (List A)). CameInParts r p (es ++ [])) (sym h)
-      (one_part r q (with_border columns q b) es [] (ruled q b) refl refl (record { width = k.width; options = k.options; block = none }) (ruled_kind kind q b may) refl (none_open q [] none) k)
+      (one_part r q (with_border columns q (without_holes cells q.annotations)) es [] (ruled q cells) refl refl (record { width = k.width; options = k.options; block = none }) (ruled_kind kind q cells may) refl (none_open q [] none) k)
 
   join_parts : (r q s : Renderer D A (List A)) (es more : List (Entry (List A))) → s ≡ with_entries q more → CameInParts r q es → CameInParts r s (es ++ more)
   join_parts r q s es more h k =
@@ -129,7 +130,7 @@ module _ {D A : Type 0} (columns : ℕ → Option ℕ) (kind : Kind) where
   move_parts : (r : Renderer D A (List A)) (m : Move (List A)) (q s : Renderer D A (List A)) (es : List (Entry (List A))) → Makes columns kind m q s → CameInParts r q es → CameInParts r s (es ++ brought_by m)
   move_parts r flush q s es h k = flush_parts r q s q.block es refl h k
   move_parts r (line is) q s es h k = put_parts r q s is es h.0 h.1 h.2 k
-  move_parts r (rule b) q s es h k = rule_parts r q s b es h.0 h.1 h.2 k
+  move_parts r (rule cells) q s es h k = rule_parts r q s cells es h.0 h.1 h.2 k
   move_parts r (join more) q s es h k = join_parts r q s es more h k
   move_parts r turn q s es h k = no_part r q s es [] h.width h.options h.lines (ap open_run h.block ∙ sym (append-nil (open_run q.block))) k
 

@@ -7,7 +7,7 @@ use Rattle.tbr_model.specs.Run.{Entry, character, marker_entry, Item, glyph, mar
 use Rattle.tbr_model.specs.Layout.{joined}
 use Rattle.tbr_model.specs.Markers.{marker_items}
 use Rattle.tbr_model.specs.Hard.{is_visible, IsShown, visible_glyphs, visible_entries}
-use Rattle.tbr_lines.specs.Border.{Border}
+use Rattle.tbr_lines.specs.Border.{Border, without_holes}
 use Rattle.tbr_lines.specs.Elements.{text_items}
 use Rattle.tbr_lines.specs.Padding.{spaces}
 use Rattle.tbr_lines.specs.Wrapped.{padding_of}
@@ -151,7 +151,7 @@ module _ {D A : Type 0} (columns : ℕ → Option ℕ) where
   shows_move : (m : Move (List A)) (r s : Renderer D A (List A)) (es : List (Entry (List A))) → Makes columns undrawn m r s → Shows columns r es → Shows columns s (es ++ brought_by m)
   shows_move flush r s es h k = with_none s es (shows_flush r s r.block es refl h k)
   shows_move (line is) r s es h k = shows_put r s is es h.1 h.2 k
-  shows_move (rule b) r s es h k = with_none s es (shows_rule r s b es h.0 h.2 k)
+  shows_move (rule cells) r s es h k = with_none s es (shows_rule r s (without_holes cells r.annotations) es h.0 h.2 k)
   shows_move (join more) r s es h k = shows_more r s more es h k
   shows_move turn r s es h k = with_none s es (record {
     ended = k.ended;

@@ -12,7 +12,7 @@ use Rattle.tbr_model.specs.declared.white_space.WhiteSpace.TheVariants.{Normal, 
 use Rattle.tbr_model.specs.Shown.{without_spaces, is_visible_or_marker, is_entry_to_show, ShowsEntry}
 use Rattle.tbr_model.specs.Rule.{is_space_item}
 use Rattle.tbr_model.proofs.lists.Each.{each_front, each_back}
-use Rattle.tbr_lines.specs.Border.{Border}
+use Rattle.tbr_lines.specs.Border.{Border, without_holes}
 use Rattle.tbr_lines.specs.Elements.{text_items}
 use Rattle.tbr_lines.specs.Padding.{spaces}
 use Rattle.tbr_lines.specs.State.{State, IsNormal, AreLastOf, EndsRun}
@@ -295,7 +295,7 @@ module _ {D A : Type 0} (columns : ℕ → Option ℕ) where
   move_stands : (m : Move (List A)) (r s : Renderer D A (List A)) (es : List (Entry (List A))) → Makes columns undrawn m r s → Stands columns r es → Stands columns s (es ++ brought_by m)
   move_stands flush r s es h k = subst (Stands columns s) (sym (append-nil es)) (flush_stands r s r.block es refl h k)
   move_stands (line is) r s es h k = put_stands r s is es h.1 h.2 k
-  move_stands (rule b) r s es h k = subst (Stands columns s) (sym (append-nil es)) (rule_stands r s b es h.0 h.2 k)
+  move_stands (rule cells) r s es h k = subst (Stands columns s) (sym (append-nil es)) (rule_stands r s (without_holes cells r.annotations) es h.0 h.2 k)
   move_stands (join more) r s es h k = join_stands r s more es h k
   move_stands turn r s es h k = subst (Stands columns s) (sym (append-nil es)) (turn_stands r s es h k)
 

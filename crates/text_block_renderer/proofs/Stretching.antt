@@ -220,7 +220,7 @@ module _ {D A : Type 0} (columns : ℕ → Option ℕ) where
         (flush_stands q h.0 s (with_run b es) since.text.block h.1 (moves_grow columns ms h.0 s h.2));
   })
   run_ends (line is ∷ ms) r q s b es since h = absurd (let no : Some (with_run b es) ≡ None = sym since.text.block ∙ h.1.1 in cc)
-  run_ends (rule c ∷ ms) r q s b es since h = absurd (let no : Some (with_run b es) ≡ None = sym since.text.block ∙ h.1.1 in cc)
+  run_ends (rule cells ∷ ms) r q s b es since h = absurd (let no : Some (with_run b es) ≡ None = sym since.text.block ∙ h.1.1 in cc)
   run_ends (join more ∷ ms) r q s b es since h =
       subst (λ (fs : List (Entry (List A))). StaysOpen r b fs s ⊎ EndsAsStretch columns r b fs s) (append_assoc es more (brought ms))
       (run_ends ms r h.0 s b (es ++ more) (joined_more r q h.0 b es more since h.1) h.2)

@@ -5,7 +5,7 @@ use Rattle.std.proofs.lemmas.Grind.{fold-append}
 use Rattle.tbr_model.specs.Run.{Entry, Item}
 use Rattle.tbr_model.specs.Layout.{joined}
 use Rattle.tbr_model.specs.Hard.{IsShown, visible_glyphs, visible_entries}
-use Rattle.tbr_lines.specs.Border.{shown}
+use Rattle.tbr_lines.specs.Border.{shown, without_holes}
 use Rattle.tbr_lines.specs.Padding.{spaces}
 use Rattle.tbr_lines.specs.Elements.{text_items}
 use Rattle.tbr_lines.specs.Cell.{Cell, horizontal, slash}
@@ -89,8 +89,8 @@ module _ {T : Type 0} (columns : ℕ → Option ℕ) where
       (subst (StandWithin (here ++ seen columns (flat_map not_drawn puts))) (sym (glyphs-append columns is (text_of_lines (map line_put puts))))
       (within_both here (seen columns (flat_map not_drawn puts)) here (seen columns (map line_put puts)) (within_itself here) (undrawn_within puts)))
   undrawn_within (as_it_is (border b) ∷ puts) = undrawn_within puts
-  undrawn_within (drawn b n tag ∷ puts) =
-      let all = shown b.tag b ++ text_items (spaces n) tag in
+  undrawn_within (drawn cells n tag ∷ puts) =
+      let all = shown tag (without_holes cells tag) ++ text_items (spaces n) tag in
       subst (StandWithin (seen columns (flat_map not_drawn puts))) (sym (glyphs-append columns all (text_of_lines (map line_put puts))))
       (within_behind (visible_glyphs columns all) (seen columns (flat_map not_drawn puts)) (seen columns (map line_put puts)) (undrawn_within puts))
 

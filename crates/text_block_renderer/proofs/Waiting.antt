@@ -6,7 +6,7 @@ use Rattle.tbr_model.specs.Markers.{names_in_items, names_in_run, marker_items, 
 use Rattle.tbr_model.specs.Hard.{is_visible}
 use Rattle.tbr_model.specs.Shown.{without_spaces}
 use Rattle.tbr_model.proofs.words.Items.{no_character_no_width, has_character-append}
-use Rattle.tbr_lines.specs.Border.{Border}
+use Rattle.tbr_lines.specs.Border.{Border, without_holes}
 use Rattle.tbr_lines.specs.State.{IsNormal}
 use Rattle.tbr_lines.specs.Wrapped.{HasBestLines}
 use Rattle.tbr_decor.specs.Decoration.{Decoration}
@@ -238,7 +238,7 @@ module _ {D A : Type 0} (columns : ℕ → Option ℕ) where
   move_waits : (m : Move (List A)) (r s : Renderer D A (List A)) → Makes columns undrawn m r s → WaitForText r s
   move_waits flush r s h = flush_waits r s r.block h
   move_waits (line is) r s h = subst (λ (q : Renderer D A (List A)). WaitForText r q) (sym h.2) (line_came r is)
-  move_waits (rule b) r s h = rule_waits r s b h.0 h.2
+  move_waits (rule cells) r s h = rule_waits r s (without_holes cells r.annotations) h.0 h.2
   move_waits (join es) r s h = same_wait r s (ap (λ (q : Renderer D A (List A)). q.lines) h) (ap (λ (q : Renderer D A (List A)). q.waiting) h)
   move_waits turn r s h = same_wait r s h.lines h.waiting
 

@@ -1,24 +1,25 @@
 -- Lines less the borders that padding made text.
 use Rattle.std.specs.Prelude.{◌≡◌, ℕ, false, ⊤, ◌⊎◌, List, [], ◌∷◌, ◌++◌, map, flat_map}
 use Rattle.std.specs.List.{AllByRecursion as Each}
-use Rattle.tbr_lines.specs.Border.{Border, shown}
+use Rattle.tbr_lines.specs.Border.{shown, without_holes}
+use Rattle.tbr_lines.specs.Cell.{Cell}
 use Rattle.tbr_lines.specs.Elements.{text_items}
 use Rattle.tbr_lines.specs.Padding.{spaces}
 use Rattle.tbr_renderer.specs.Renderer.{Line, text, Renderer}
 use Rattle.tbr_renderer.specs.Calls.{Call, add_border, append_vert_row}
 
--- A line as it is, or a border that was drawn as text, with so many spaces behind it under a tag.
+-- A line as it is, or a border that was drawn as text: cells under a tag, with so many spaces behind them.
 pub data Put (T : Type 0) : Type 0 where
   as_it_is : Line T → Put T
-  drawn : Border T → ℕ → T → Put T
+  drawn : List Cell → ℕ → T → Put T
 
 abbrev pub line_put : {T : Type 0} → Put T → Line T
 line_put (as_it_is line) = line
-line_put (drawn b n tag) = text (shown b.tag b ++ text_items (spaces n) tag)
+line_put (drawn cells n tag) = text (shown tag (without_holes cells tag) ++ text_items (spaces n) tag)
 
 abbrev pub not_drawn : {T : Type 0} → Put T → List (Line T)
 not_drawn (as_it_is line) = line ∷ []
-not_drawn (drawn b n tag) = []
+not_drawn (drawn cells n tag) = []
 
 -- It holds of the renderer with its lines less those that are borders drawn as text.
 abbrev pub WithoutDrawnBorders : {D A : Type 0} → (Renderer D A (List A) → Type 0) → Renderer D A (List A) → Type 0

@@ -11,7 +11,8 @@ use Rattle.tbr_renderer.specs.Renderer.{Line, text, Open, Renderer, line_padding
 use Rattle.tbr_renderer.specs.Flush.{block_of_run, with_run}
 use Rattle.tbr_renderer.specs.Appended.{border_line}
 use Rattle.tbr_renderer.specs.Calls.{Call, add_border, append_subrender, append_vert_row, laid_entries}
-use Rattle.tbr_lines.specs.Border.{Border}
+use Rattle.tbr_lines.specs.Border.{without_holes}
+use Rattle.tbr_lines.specs.Cell.{Cell}
 
 -- a text of a block as a line: behind markers, and padded to the block's width and to the renderer's
 abbrev pub line_of_text : {D A : Type 0} → (ℕ → Option ℕ) → Renderer D A (List A) → Open (List A) → List (List ℕ)
@@ -76,22 +77,23 @@ lines_laid columns r [] = []
 lines_laid columns r (is ∷ texts) =
     padded_line columns r (marker_items r.waiting ++ is) ∷ map (padded_line columns r) texts
 
--- What adds lines, each with the renderer at that moment: a run that ended with these texts, a laid text, or a border.
+-- What adds lines, each with the renderer at that moment: a run that ended with these texts, a laid text, or a border
+-- of these cells.
 pub data Part (D A : Type 0) : Type 0 where
   ended : Renderer D A (List A) → Open (List A) → List (List (Item (List A))) → Part D A
   laid : Renderer D A (List A) → List (Item (List A)) → Part D A
-  ruled : Renderer D A (List A) → Border (List A) → Part D A
+  ruled : Renderer D A (List A) → List Cell → Part D A
 
 -- the entries that stand there
 abbrev pub entries_of_part : {D A : Type 0} → Part D A → List (Entry (List A))
 entries_of_part (ended r b texts) = b.run
 entries_of_part (laid r is) = laid_entries is
-entries_of_part (ruled r b) = []
+entries_of_part (ruled r cells) = []
 
 abbrev pub lines_of_part : {D A : Type 0} → (ℕ → Option ℕ) → Part D A → List (Line (List A))
 lines_of_part columns (ended r b texts) = stretch columns r b texts
 lines_of_part columns (laid r is) = lines_laid columns r (is ∷ [])
-lines_of_part columns (ruled r b) = border_line columns r b ∷ []
+lines_of_part columns (ruled r cells) = border_line columns r (without_holes cells r.annotations) ∷ []
 
 -- The open run ended with these texts. The renderer's width and options are still those of another one.
 pub record HasEnded {D A : Type 0} (columns : ℕ → Option ℕ) (first r : Renderer D A (List A)) (b : Open (List A))
@@ -112,7 +114,7 @@ pub record IsBetweenBlocks {D A : Type 0} (first r : Renderer D A (List A)) : Ty
 abbrev pub IsPart : {D A : Type 0} → (ℕ → Option ℕ) → Renderer D A (List A) → Part D A → Type 0
 IsPart columns first (ended r b texts) = HasEnded columns first r b texts
 IsPart columns first (laid r is) = IsBetweenBlocks first r
-IsPart columns first (ruled r b) = IsBetweenBlocks first r
+IsPart columns first (ruled r cells) = IsBetweenBlocks first r
 
 -- The lines that came are the stretches of the runs that ended, laid texts, and borders. These runs and the entries of
 -- these texts, one behind another, and then the open run are what there was of the open run and what came.
@@ -134,4 +136,4 @@ AppendsNothing other = ⊤
 abbrev pub IsOwnPart : {D A : Type 0} → Part D A → Type 0
 IsOwnPart (ended r b texts) = ⊤
 IsOwnPart (laid r is) = is ≡ []
-IsOwnPart (ruled r b) = ⊥
+IsOwnPart (ruled r cells) = ⊥

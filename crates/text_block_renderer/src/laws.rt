@@ -1,7 +1,7 @@
 //! What follows from the steps alone, each as the contract of a function that does nothing.
 pub mod appended;
 
-ghost use Rattle.std.specs.Prelude.{◌≡◌, ℕ, Bool, false, ◌⊎◌, Option, Some, List, [], ◌++◌};
+ghost use Rattle.std.specs.Prelude.{◌≡◌, ℕ, false, ◌⊎◌, Option, Some, List, [], ◌++◌};
 ghost use Rattle.std.specs.List.{AllByRecursion as Each};
 ghost use Rattle.tbr_lines.specs.State.{IsNormal};
 ghost use Rattle.tbr_renderer.specs.Renderer.{Line, Open, Renderer, new_renderer, settings_of, may_overflow, open_run};
@@ -25,7 +25,8 @@ pub fn no_call_takes_a_line_back<D, A>()
 
 /// A call changes the settings that it is there to change, and no others.
 pub fn a_call_changes_its_own_settings_alone<D, A>()
-    ensures { (columns : ℕ → Option ℕ) (decoration : Decoration D A) (call : Call (List A)) (r s : Renderer D A (List A)) →
+    ensures { (columns : ℕ → Option ℕ) (decoration : Decoration D A) (call : Call (List A))
+        (r s : Renderer D A (List A)) →
         Does columns decoration call r s → settings_of s ≡ settings_of (settled decoration call r) }
 {}
 
@@ -38,19 +39,22 @@ pub fn a_normal_flush_leaves_one_state<D, A>()
 
 /// A call leaves one state only, where all text is `Normal` and no line may be wider than its block.
 pub fn a_normal_call_leaves_one_state<D, A>()
-    ensures { (columns : ℕ → Option ℕ) (decoration : Decoration D A) (call : Call (List A)) (r s t : Renderer D A (List A)) →
+    ensures { (columns : ℕ → Option ℕ) (decoration : Decoration D A) (call : Call (List A))
+        (r s t : Renderer D A (List A)) →
         WrapsNormally r → Does columns decoration call r s → Does columns decoration call r t → t ≡ s }
 {}
 
 /// Where a call may answer `TooNarrow` there, it leaves nothing.
 pub fn a_normal_call_is_too_narrow_or_not<D, A>()
-    ensures { (columns : ℕ → Option ℕ) (decoration : Decoration D A) (call : Call (List A)) (r s : Renderer D A (List A)) →
+    ensures { (columns : ℕ → Option ℕ) (decoration : Decoration D A) (call : Call (List A))
+        (r s : Renderer D A (List A)) →
         WrapsNormally r → Does columns decoration call r s → IsTooNarrow columns decoration call r → ⊥ }
 {}
 
 /// Calls that push no mode but `Normal` keep all text `Normal`.
 pub fn normal_calls_keep_text_normal<D, A>()
-    ensures { (columns : ℕ → Option ℕ) (decoration : Decoration D A) (call : Call (List A)) (r s : Renderer D A (List A)) →
+    ensures { (columns : ℕ → Option ℕ) (decoration : Decoration D A) (call : Call (List A))
+        (r s : Renderer D A (List A)) →
         WrapsNormally r → PushesNormal call → Does columns decoration call r s → WrapsNormally s }
 {}
 
@@ -59,7 +63,8 @@ pub fn normal_calls_keep_text_normal<D, A>()
 pub fn visible_characters_stand_once<D, A>()
     ensures calls { (columns : ℕ → Option ℕ) (decoration : Decoration D A) (calls : List (Call (List A)))
         (r s : Renderer D A (List A)) (before es : List (Entry (List A))) → Brings columns decoration calls r es s →
-        WithoutDrawnBorders (λ q. Shows columns q before) r → WithoutDrawnBorders (λ q. Shows columns q (before ++ es)) s }
+        WithoutDrawnBorders (λ q. Shows columns q before) r →
+        WithoutDrawnBorders (λ q. Shows columns q (before ++ es)) s }
     ensures undrawn { (columns : ℕ → Option ℕ) (decoration : Decoration D A) (calls : List (Call (List A)))
         (r s : Renderer D A (List A)) (before es : List (Entry (List A))) → DrawNone r calls →
         Brings columns decoration calls r es s → Shows columns r before → Shows columns s (before ++ es) }
@@ -72,7 +77,8 @@ pub fn visible_characters_stand_once<D, A>()
 pub fn what_was_brought_stands<D, A>()
     ensures calls { (columns : ℕ → Option ℕ) (decoration : Decoration D A) (calls : List (Call (List A)))
         (r s : Renderer D A (List A)) (before es : List (Entry (List A))) → Brings columns decoration calls r es s →
-        WithoutDrawnBorders (λ q. Stands columns q before) r → WithoutDrawnBorders (λ q. Stands columns q (before ++ es)) s }
+        WithoutDrawnBorders (λ q. Stands columns q before) r →
+        WithoutDrawnBorders (λ q. Stands columns q (before ++ es)) s }
     ensures undrawn { (columns : ℕ → Option ℕ) (decoration : Decoration D A) (calls : List (Call (List A)))
         (r s : Renderer D A (List A)) (before es : List (Entry (List A))) → DrawNone r calls →
         Brings columns decoration calls r es s → Stands columns r before → Stands columns s (before ++ es) }

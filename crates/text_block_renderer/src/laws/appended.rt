@@ -1,10 +1,9 @@
 //! What follows for the lines of other renderers, and for borders.
-ghost use Rattle.std.specs.Prelude.{◌≡◌, ℕ, Bool, true, false, Option, Some, List, [], ◌∷◌, ◌++◌, map, flat_map, length};
+ghost use Rattle.std.specs.Prelude.{◌≡◌, ℕ, true, false, Option, Some, List, [], ◌∷◌, ◌++◌, map, flat_map, length};
 ghost use Rattle.std.specs.List.{AllZip, AllByRecursion as Each, slice_get, zip};
 ghost use Rattle.tbr_model.specs.Run.{Entry, Item};
 ghost use Rattle.tbr_model.specs.Layout.{joined};
 ghost use Rattle.tbr_model.specs.Hard.{IsShown, IsSpaces, visible_glyphs, visible_entries};
-ghost use Rattle.tbr_lines.specs.Elements.{text_items};
 ghost use Rattle.tbr_decor.specs.Decoration.{Decoration};
 ghost use Rattle.tbr_renderer.specs.Renderer.{Line, text, Renderer};
 ghost use Rattle.tbr_renderer.specs.Flush.{Flushes};
@@ -20,8 +19,9 @@ ghost use Rattle.text_block_renderer.specs.Taken.{StandWithin, AreTakenIn};
 /// outermost, and then the i-th line as text. There are as many lines as the shortest has. Renderers that hand their
 /// lines on to one another give these lines, where lines aren't padded.
 pub fn nested_blocks_are_their_prefixes_and_lines<T, D, A>()
-    ensures line { (levels : List (Level T)) (innermost : Level T) (lines : List (Line T)) (i : ℕ) (front : List (Item T))
-        (line : Line T) → IsFront i (levels ++ innermost ∷ []) front → slice_get lines i ≡ Some line →
+    ensures line { (levels : List (Level T)) (innermost : Level T) (lines : List (Line T)) (i : ℕ)
+        (front : List (Item T)) (line : Line T) → IsFront i (levels ++ innermost ∷ []) front →
+        slice_get lines i ≡ Some line →
         slice_get (nested (levels ++ innermost ∷ []) lines) i ≡ Some (text (front ++ as_text innermost.tag line)) }
     ensures count { (levels : List (Level T)) (lines : List (Line T)) →
         length (nested levels lines) ≡ shortest levels (length lines) }
@@ -39,8 +39,8 @@ pub fn appended_lines_come_behind_the_others<D, A>()
         × Flushes columns r m × (s.lines ≡ m.lines ++ lines_laid columns m (prefixed r.annotations prefixes lines)) }
 {}
 
-/// The visible characters of lines that are appended stand behind those of the prefixes, line by line and in order. None
-/// is lost where there are as many prefixes, and behind spaces there are no others.
+/// The visible characters of lines that are appended stand behind those of the prefixes, line by line and in order.
+/// Behind as many prefixes none is lost, and behind spaces there are no others.
 pub fn appended_characters_stand<D, A>()
     ensures prefixed { (columns : ℕ → Option ℕ) (decoration : Decoration D A) (prefixes : List (List ℕ))
         (lines : List (Line (List A))) (r s : Renderer D A (List A)) →
@@ -60,11 +60,13 @@ pub fn appended_characters_stand<D, A>()
 /// marker waits. Where borders aren't drawn, it is its cells alone.
 pub fn a_vertical_row_is_its_cells_and_borders<D, A>()
     ensures drawn { (columns : ℕ → Option ℕ) (decoration : Decoration D A) (cells : List (List (Line (List A))))
-        (r s : Renderer D A (List A)) → Does columns decoration (append_vert_row cells) r s → r.options.draw_borders ≡ true → r.options.pad_block_width ≡ false →
+        (r s : Renderer D A (List A)) → Does columns decoration (append_vert_row cells) r s →
+        r.options.draw_borders ≡ true → r.options.pad_block_width ≡ false →
         (m : Renderer D A (List A)) × Flushes columns r m × (m.waiting ≡ [] → s.lines ≡ m.lines ++ row_lines r cells) }
     ensures undrawn { (columns : ℕ → Option ℕ) (decoration : Decoration D A) (cells : List (List (Line (List A))))
-        (r s : Renderer D A (List A)) → Does columns decoration (append_vert_row cells) r s → r.options.draw_borders ≡ false → (m : Renderer D A (List A))
-        × Flushes columns r m × (s.lines ≡ m.lines ++ lines_laid columns m (flat_map (map (as_text r.annotations)) cells)) }
+        (r s : Renderer D A (List A)) → Does columns decoration (append_vert_row cells) r s →
+        r.options.draw_borders ≡ false → (m : Renderer D A (List A)) × Flushes columns r m
+        × (s.lines ≡ m.lines ++ lines_laid columns m (flat_map (map (as_text r.annotations)) cells)) }
 {}
 
 /// The lines that a renderer hands out have the visible characters of all that was brought to it, once and in order.
@@ -80,9 +82,9 @@ pub fn handed_out_lines_have_all_characters<D, A>()
         AllZip (IsShown (λ a b. a ≡ b)) (visible_glyphs columns (text_of_lines lines)) (visible_entries columns es) }
 {}
 
-/// Renderers take lines from one another and hand out their own, to any depth, behind as many prefixes or as cells: then
-/// the visible characters of the first lines stand in the last, in order, and so do those of all that was brought to a
-/// renderer that handed out the first.
+/// Renderers take lines from one another, behind as many prefixes or as cells, and hand out their own, to any depth.
+/// Then the visible characters of the first lines stand in the last, in order, and so do those of all that was brought
+/// to a renderer that handed out the first.
 pub fn nothing_visible_is_lost_to_any_depth<D, A>()
     ensures lines { (columns : ℕ → Option ℕ) (decoration : Decoration D A) (depth : ℕ)
         (inside outside : List (Line (List A))) → AreTakenIn columns decoration depth inside outside →
