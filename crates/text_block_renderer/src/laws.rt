@@ -3,6 +3,7 @@ pub mod appended;
 
 ghost use Rattle.std.specs.Prelude.{◌≡◌, ℕ, false, ◌⊎◌, Option, Some, List, [], ◌++◌};
 ghost use Rattle.std.specs.List.{AllByRecursion as Each};
+ghost use Rattle.tbr_lines.specs.Cell.{Cell};
 ghost use Rattle.tbr_lines.specs.State.{IsNormal};
 ghost use Rattle.tbr_renderer.specs.Renderer.{Line, Open, Renderer, new_renderer, settings_of, may_overflow, open_run};
 ghost use Rattle.tbr_renderer.specs.declared.options.RenderOptions.{RenderOptions};
@@ -10,7 +11,7 @@ ghost use Rattle.tbr_renderer.specs.Flush.{Flushes};
 ghost use Rattle.tbr_renderer.specs.Calls.{Call, Does, IsTooNarrow, Steps, Brings, Shows};
 ghost use Rattle.text_block_renderer.specs.Normal.{WrapsNormally, PushesNormal};
 ghost use Rattle.text_block_renderer.specs.Settings.{settled};
-ghost use Rattle.text_block_renderer.specs.Drawn.{WithoutDrawnBorders, CameWithoutDrawnBorders, DrawNone};
+ghost use Rattle.text_block_renderer.specs.Drawn.{WithoutDrawnBorders, CameWithoutDrawnBorders, borders_drawn, DrawNone};
 ghost use Rattle.text_block_renderer.specs.MarkersStand.{Stands, FlushStands, WaitForText};
 ghost use Rattle.text_block_renderer.specs.Stretches.{StandsAsStretch, StaysOpen, EndsAsStretch, ComesInParts, AppendsNothing, IsOwnPart};
 ghost use Rattle.tbr_model.specs.Run.{Entry};
@@ -62,9 +63,9 @@ pub fn normal_calls_keep_text_normal<D, A>()
 /// run, once and in order, each under an annotation of its call. Borders that padding made text aren't looked at.
 pub fn visible_characters_stand_once<D, A>()
     ensures calls { (columns : ℕ → Option ℕ) (decoration : Decoration D A) (calls : List (Call (List A)))
-        (r s : Renderer D A (List A)) (before es : List (Entry (List A))) → Brings columns decoration calls r es s →
-        WithoutDrawnBorders (λ q. Shows columns q before) r →
-        WithoutDrawnBorders (λ q. Shows columns q (before ++ es)) s }
+        (r s : Renderer D A (List A)) (borders : List (List Cell)) (before es : List (Entry (List A))) →
+        Brings columns decoration calls r es s → WithoutDrawnBorders borders (λ q. Shows columns q before) r →
+        WithoutDrawnBorders (borders ++ borders_drawn r calls) (λ q. Shows columns q (before ++ es)) s }
     ensures undrawn { (columns : ℕ → Option ℕ) (decoration : Decoration D A) (calls : List (Call (List A)))
         (r s : Renderer D A (List A)) (before es : List (Entry (List A))) → DrawNone r calls →
         Brings columns decoration calls r es s → Shows columns r before → Shows columns s (before ++ es) }
@@ -76,9 +77,9 @@ pub fn visible_characters_stand_once<D, A>()
 /// aren't looked at.
 pub fn what_was_brought_stands<D, A>()
     ensures calls { (columns : ℕ → Option ℕ) (decoration : Decoration D A) (calls : List (Call (List A)))
-        (r s : Renderer D A (List A)) (before es : List (Entry (List A))) → Brings columns decoration calls r es s →
-        WithoutDrawnBorders (λ q. Stands columns q before) r →
-        WithoutDrawnBorders (λ q. Stands columns q (before ++ es)) s }
+        (r s : Renderer D A (List A)) (borders : List (List Cell)) (before es : List (Entry (List A))) →
+        Brings columns decoration calls r es s → WithoutDrawnBorders borders (λ q. Stands columns q before) r →
+        WithoutDrawnBorders (borders ++ borders_drawn r calls) (λ q. Stands columns q (before ++ es)) s }
     ensures undrawn { (columns : ℕ → Option ℕ) (decoration : Decoration D A) (calls : List (Call (List A)))
         (r s : Renderer D A (List A)) (before es : List (Entry (List A))) → DrawNone r calls →
         Brings columns decoration calls r es s → Stands columns r before → Stands columns s (before ++ es) }
@@ -98,7 +99,8 @@ pub fn what_a_flush_makes_stand<D, A>()
 /// made text is no such line.
 pub fn waiting_markers_begin_the_next_text<D, A>()
     ensures calls { (columns : ℕ → Option ℕ) (decoration : Decoration D A) (calls : List (Call (List A)))
-        (r s : Renderer D A (List A)) → Steps columns decoration calls r s → CameWithoutDrawnBorders WaitForText r s }
+        (r s : Renderer D A (List A)) → Steps columns decoration calls r s →
+        CameWithoutDrawnBorders (borders_drawn r calls) WaitForText r s }
     ensures undrawn { (columns : ℕ → Option ℕ) (decoration : Decoration D A) (calls : List (Call (List A)))
         (r s : Renderer D A (List A)) → DrawNone r calls → Steps columns decoration calls r s → WaitForText r s }
 {}
