@@ -1,36 +1,71 @@
 -- Lines of other renderers, and borders, as moves.
-use Rattle.std.proofs.Common.{◌≡◌, ℕ, Bool, true, false, if◌then◌else◌, Option, Some, None, List, [], ◌∷◌, ◌++◌, map, flat_map, fold, replicate, refl, ap, sym, ◌∙◌, subst, append-nil}
+use Rattle.std.proofs.Common.{◌≡◌, ℕ, Bool, true, false, if◌then◌else◌, Option, Some, None, List, [], ◌∷◌, ◌++◌, map, flat_map, fold, length, replicate, ◌-◌, suc, refl, ap, sym, ◌∙◌, subst, arith, append-nil}
 use Rattle.std.proofs.lemmas.List.{map-append}
 use Rattle.tbr_model.specs.Run.{Entry, Item}
 use Rattle.tbr_model.specs.Layout.{joined}
 use Rattle.tbr_model.proofs.lists.Joined.{joined-append}
 use Rattle.tbr_lines.specs.Border.{without_holes}
 use Rattle.tbr_lines.specs.Cell.{Cell, horizontal, slash}
+use Rattle.tbr_renderer.specs.declared.options.RenderOptions.{RenderOptions}
+use Rattle.text_block_renderer.specs.Drawn.{row_borders}
 use Rattle.tbr_renderer.specs.Renderer.{Line, Open, Renderer, with_line}
 use Rattle.tbr_renderer.specs.Flush.{block_lines, FlushesBlock}
 use Rattle.tbr_renderer.specs.Appended.{with_border, border_of_cells, as_text, prefixed, AddsBorder, AppendsLines, with_divider, with_cell, with_cell_below, with_cells, AppendsCells}
 use Rattle.tbr_renderer.specs.Calls.{laid_entry, laid_entries}
-use Rattle.text_block_renderer.proofs.Moves.{flush, line, rule, Kind, MayLay, MayRule, Path, onward, one, stays, flushed_none}
+use Rattle.text_block_renderer.proofs.Moves.{flush, line, rule, Kind, MayLay, MayRule, Course, Path, onward, one, stays, flushed_none}
+
+-- ---- borders of rows
+
+-- a border of this cell, where borders are drawn
+abbrev one_border : Bool → ℕ → Cell → List (List Cell)
+one_border draws width cell = if draws then replicate width cell ∷ [] else []
+
+-- one for each cell of the row, and one for each but the first
+abbrev slashes_for : {X : Type 0} → Bool → ℕ → List X → List (List Cell)
+slashes_for draws width cells = flat_map (λ c. one_border draws width slash) cells
+
+abbrev slashes_between : {X : Type 0} → Bool → ℕ → List X → List (List Cell)
+slashes_between draws width [] = []
+slashes_between draws width (c ∷ cells) = slashes_for draws width cells
+
+no_slashes : {X : Type 0} (width : ℕ) (cells : List X) → slashes_for false width cells ≡ []
+no_slashes width [] = refl
+no_slashes width (c ∷ cells) = no_slashes width cells
+
+all_slashes : {X : Type 0} (width : ℕ) (cells : List X) → slashes_for true width cells ≡ replicate (length cells) (replicate width slash)
+all_slashes width [] = refl
+all_slashes width (c ∷ cells) = ap (λ bs. replicate width slash ∷ bs) (all_slashes width cells)
+
+row_is : {X : Type 0} (draws : Bool) (width : ℕ) (cells : List X) → slashes_between draws width cells ++ one_border draws width horizontal ≡ (if draws then row_borders width (length cells) else [])
+row_is false width [] = refl
+row_is false width (c ∷ cells) = append-nil (slashes_for false width cells) ∙ no_slashes width cells
+row_is true width [] = refl
+row_is true width (c ∷ cells) =
+    let count : length cells ≡ suc (length cells) - 1 = omega arith in
+    ap (λ bs. bs ++ replicate width horizontal ∷ []) (all_slashes width cells ∙ ap (λ n. replicate n (replicate width slash)) count)
+
+-- ---- paths
 
 module _ {D A : Type 0} (columns : ℕ → Option ℕ) (kind : Kind) where
   -- `q` is where lines join those of `r`
   record Joins (r q : Renderer D A (List A)) : Type 0 where
     block : q.block ≡ None
+    width : q.width ≡ r.width
     annotations : q.annotations ≡ r.annotations
     options : q.options ≡ r.options
 
   joins_line : (r q : Renderer D A (List A)) (is : List (Item (List A))) → Joins r q → Joins r (with_line columns q is)
-  joins_line r q is h = record { block = h.block; annotations = h.annotations; options = h.options }
+  joins_line r q is h = record { block = h.block; width = h.width; annotations = h.annotations; options = h.options }
 
   joins_lines : (ts : List (List (Item (List A)))) (r q : Renderer D A (List A)) → Joins r q → Joins r (fold (with_line columns) q ts)
   joins_lines [] r q h = h
   joins_lines (t ∷ ts) r q h = joins_lines ts r (with_line columns q t) (joins_line r q t h)
 
   joins_flushed : (r s : Renderer D A (List A)) (o : Option (Open (List A))) → o ≡ r.block → FlushesBlock columns r o s → Joins r s
-  joins_flushed r s None e h = subst (λ (q : Renderer D A (List A)). Joins r q) (sym h) (record { block = sym e; annotations = refl; options = refl })
+  joins_flushed r s None e h = subst (λ (q : Renderer D A (List A)). Joins r q) (sym h) (record { block = sym e; width = refl; annotations = refl; options = refl })
   joins_flushed r s (Some b) e h =
-      let after = joins_lines (block_lines columns r b h.texts) r (record r { block = None }) (record { block = refl; annotations = refl; options = refl }) in
-      subst (λ (q : Renderer D A (List A)). Joins r q) (sym h.is) (record { block = after.block; annotations = after.annotations; options = after.options })
+      let after = joins_lines (block_lines columns r b h.texts) r (record r { block = None }) (record { block = refl; width = refl; annotations = refl; options = refl }) in
+      subst (λ (q : Renderer D A (List A)). Joins r q) (sym h.is) (record { block = after.block; width = after.width; annotations = after.annotations; options = after.options })
 
   lines_put : (ts : List (List (Item (List A)))) (q : Renderer D A (List A)) → ((is : List (Item (List A))) → MayLay kind is) → q.block ≡ None → Path columns kind q (fold (with_line columns) q ts) (laid_entries (joined ts))
   lines_put [] q may none = stays columns kind q q refl
@@ -45,7 +80,7 @@ module _ {D A : Type 0} (columns : ℕ → Option ℕ) (kind : Kind) where
       let put = subst (λ (q : Renderer D A (List A)). Path columns kind h.0 q (laid_entries (joined texts))) (sym h.2) (lines_put texts h.0 may (flushed_none columns r h.0 h.1)) in
       onward columns kind r h.0 s [] (laid_entries (joined texts)) (one columns kind flush r h.0 h.1) put
 
-  pub border_added : (width : ℕ) (r s : Renderer D A (List A)) → ((q : Renderer D A (List A)) → q.options ≡ r.options → MayRule kind q) → AddsBorder columns width r s → Path columns kind r s []
+  pub border_added : (width : ℕ) (r s : Renderer D A (List A)) → ((q : Renderer D A (List A)) → q.options ≡ r.options → MayRule kind q) → AddsBorder columns width r s → Course columns kind r s [] (replicate width horizontal ∷ [])
   border_added width r s may h =
       let joins = joins_flushed r h.0 r.block refl h.1 in
       onward columns kind r h.0 s [] [] (one columns kind flush r h.0 h.1)
@@ -53,19 +88,27 @@ module _ {D A : Type 0} (columns : ℕ → Option ℕ) (kind : Kind) where
       (may h.0 joins.options, joins.block, h.2 ∙ ap (λ tag. with_border columns h.0 (without_holes (replicate width horizontal) tag)) (sym joins.annotations)))
 
   module _ (r : Renderer D A (List A)) (may_lay : (is : List (Item (List A))) → MayLay kind is) (may_rule : (q : Renderer D A (List A)) → q.options ≡ r.options → MayRule kind q) where
-    -- `q` was brought from `r`, and joins its lines
-    record Divided (q s : Renderer D A (List A)) : Type 0 where
-      path : Path columns kind q s []
+    abbrev divider : Cell → List (List Cell)
+    divider cell = one_border r.options.draw_borders r.width cell
+
+    abbrev slashes : List (List (Line (List A))) → List (List Cell)
+    slashes cells = slashes_for r.options.draw_borders r.width cells
+
+    -- `q` leads to `s` by a border, and `s` joins the lines of `r`
+    record Divided (q s : Renderer D A (List A)) (bs : List (List Cell)) : Type 0 where
+      path : Course columns kind q s [] bs
       joins : Joins r s
 
-    divided : (cell : Cell) (q : Renderer D A (List A)) → Joins r q → Divided q (with_divider columns cell q)
-    divided cell q h = go q.options.draw_borders
+    divided : (cell : Cell) (q : Renderer D A (List A)) → Joins r q → Divided q (with_divider columns cell q) (divider cell)
+    divided cell q h =
+        subst (λ (o : RenderOptions). Divided q (with_divider columns cell q) (if o.draw_borders then replicate r.width cell ∷ [] else [])) h.options
+        (subst (λ width. Divided q (with_divider columns cell q) (if q.options.draw_borders then replicate width cell ∷ [] else [])) h.width (go q.options.draw_borders))
       where
-        go : (drawn : Bool) → Divided q (if drawn then with_border columns q (border_of_cells cell q.width q) else q)
+        go : (drawn : Bool) → Divided q (if drawn then with_border columns q (border_of_cells cell q.width q) else q) (if drawn then replicate q.width cell ∷ [] else [])
         go false = record { path = stays columns kind q q refl; joins = h }
         go true = record {
           path = one columns kind (rule (replicate q.width cell)) q (with_border columns q (border_of_cells cell q.width q)) (may_rule q h.options, h.block, refl);
-          joins = record { block = h.block; annotations = h.annotations; options = h.options };
+          joins = record { block = h.block; width = h.width; annotations = h.annotations; options = h.options };
         }
 
     cell_put : (lines : List (Line (List A))) (q : Renderer D A (List A)) → Joins r q → Path columns kind q (with_cell columns q lines) (laid_entries (joined (map (as_text r.annotations) lines)))
@@ -73,7 +116,7 @@ module _ {D A : Type 0} (columns : ℕ → Option ℕ) (kind : Kind) where
         subst (λ (tag : List A). Path columns kind q (with_cell columns q lines) (laid_entries (joined (map (as_text tag) lines)))) h.annotations
         (lines_put (map (as_text q.annotations) lines) q may_lay h.block)
 
-    cells_below : (cells : List (List (Line (List A)))) (q : Renderer D A (List A)) → Joins r q → Path columns kind q (fold (with_cell_below columns) q cells) (laid_entries (joined (flat_map (map (as_text r.annotations)) cells)))
+    cells_below : (cells : List (List (Line (List A)))) (q : Renderer D A (List A)) → Joins r q → Course columns kind q (fold (with_cell_below columns) q cells) (laid_entries (joined (flat_map (map (as_text r.annotations)) cells))) (slashes cells)
     cells_below [] q h = stays columns kind q q refl
     cells_below (lines ∷ cells) q h =
         let d = divided slash q h in
@@ -83,7 +126,7 @@ module _ {D A : Type 0} (columns : ℕ → Option ℕ) (kind : Kind) where
         let texts = map (as_text r.annotations) lines in
         let rest = flat_map (map (as_text r.annotations)) cells in
         let joins = joins_lines (map (as_text p.annotations) lines) r p d.joins in
-        subst (λ (es : List (Entry (List A))). Path columns kind q s es) (sym (ap laid_entries (joined-append texts rest) ∙ map-append laid_entry (joined texts) (joined rest)))
+        subst (λ (es : List (Entry (List A))). Course columns kind q s es (slashes (lines ∷ cells))) (sym (ap laid_entries (joined-append texts rest) ∙ map-append laid_entry (joined texts) (joined rest)))
         (onward columns kind q p s [] (laid_entries (joined texts) ++ laid_entries (joined rest)) d.path
         (onward columns kind p n s (laid_entries (joined texts)) (laid_entries (joined rest)) (cell_put lines p d.joins) (cells_below cells n joins)))
 
@@ -94,7 +137,11 @@ module _ {D A : Type 0} (columns : ℕ → Option ℕ) (kind : Kind) where
         let p : Renderer D A (List A) = with_divider columns slash q in
         joins_below cells (with_cell columns p lines) (joins_lines (map (as_text p.annotations) lines) r p d.joins)
 
-    cells_put : (cells : List (List (Line (List A)))) (q : Renderer D A (List A)) → Joins r q → Path columns kind q (with_cells columns q cells) (laid_entries (joined (flat_map (map (as_text r.annotations)) cells))) × Joins r (with_cells columns q cells)
+    abbrev between : List (List (Line (List A))) → List (List Cell)
+    between cells = slashes_between r.options.draw_borders r.width cells
+
+    cells_put : (cells : List (List (Line (List A)))) (q : Renderer D A (List A)) → Joins r q → Course columns kind q (with_cells columns q cells) (laid_entries (joined (flat_map (map (as_text r.annotations)) cells))) (between cells)
+        × Joins r (with_cells columns q cells)
     cells_put [] q h = (stays columns kind q q refl, h)
     cells_put (lines ∷ cells) q h =
         let n : Renderer D A (List A) = with_cell columns q lines in
@@ -102,16 +149,18 @@ module _ {D A : Type 0} (columns : ℕ → Option ℕ) (kind : Kind) where
         let texts = map (as_text r.annotations) lines in
         let rest = flat_map (map (as_text r.annotations)) cells in
         let joins = joins_lines (map (as_text q.annotations) lines) r q h in (
-          subst (λ (es : List (Entry (List A))). Path columns kind q s es) (sym (ap laid_entries (joined-append texts rest) ∙ map-append laid_entry (joined texts) (joined rest)))
+          subst (λ (es : List (Entry (List A))). Course columns kind q s es (slashes cells)) (sym (ap laid_entries (joined-append texts rest) ∙ map-append laid_entry (joined texts) (joined rest)))
               (onward columns kind q n s (laid_entries (joined texts)) (laid_entries (joined rest)) (cell_put lines q h) (cells_below cells n joins)),
           joins_below cells n joins,
         )
 
-    pub cells_appended : (cells : List (List (Line (List A)))) (s : Renderer D A (List A)) → AppendsCells columns cells r s → Path columns kind r s (laid_entries (joined (flat_map (map (as_text r.annotations)) cells)))
+    pub cells_appended : (cells : List (List (Line (List A)))) (s : Renderer D A (List A)) → AppendsCells columns cells r s →
+        Course columns kind r s (laid_entries (joined (flat_map (map (as_text r.annotations)) cells))) (if r.options.draw_borders then row_borders r.width (length cells) else [])
     cells_appended cells s h =
         let es = laid_entries (joined (flat_map (map (as_text r.annotations)) cells)) in
         let p : Renderer D A (List A) = with_cells columns h.0 cells in
         let (path, joins) = cells_put cells h.0 (joins_flushed r h.0 r.block refl h.1) in
         let d = divided horizontal p joins in
-        let last = subst (λ (q : Renderer D A (List A)). Path columns kind p q []) (sym h.2) d.path in
-        onward columns kind r h.0 s [] es (one columns kind flush r h.0 h.1) (subst (λ (fs : List (Entry (List A))). Path columns kind h.0 s fs) (append-nil es) (onward columns kind h.0 p s es [] path last))
+        let last = subst (λ (q : Renderer D A (List A)). Course columns kind p q [] (divider horizontal)) (sym h.2) d.path in
+        subst (Course columns kind r s es) (row_is r.options.draw_borders r.width cells)
+        (onward columns kind r h.0 s [] es (one columns kind flush r h.0 h.1) (subst (λ (fs : List (Entry (List A))). Course columns kind h.0 s fs (between cells ++ divider horizontal)) (append-nil es) (onward columns kind h.0 p s es [] path last)))

@@ -1,6 +1,7 @@
 -- Calls as the moves of which they consist.
-use Rattle.std.proofs.Common.{◌≡◌, ℕ, ◌-◌, inl, inr, suc, Bool, true, false, if◌then◌else◌, Option, Some, None, List, [], ◌∷◌, ◌++◌, fold, refl, ap, sym, ◌∙◌, subst, append-nil}
+use Rattle.std.proofs.Common.{◌≡◌, ℕ, ◌-◌, inl, inr, suc, Bool, true, false, if◌then◌else◌, Option, Some, None, List, [], ◌∷◌, ◌++◌, flat_map, fold, refl, ap, sym, ◌∙◌, subst, append-nil}
 use Rattle.tbr_model.specs.Run.{Entry, marker_entry, Item}
+use Rattle.tbr_lines.specs.Cell.{Cell}
 use Rattle.tbr_decor.specs.Decoration.{Decoration}
 use Rattle.tbr_decor.specs.declared.colour.Colour.{Colour}
 use Rattle.tbr_decor.specs.Start as start
@@ -15,9 +16,9 @@ use Rattle.tbr_renderer.specs.Steps.{AddsEmptyLine, with_empty_line, block_start
 use Rattle.tbr_renderer.specs.Image.{shown_title}
 use Rattle.tbr_renderer.specs.Decorated.{struck_from, struck_until, asked_to_close, annotated, coloured, uncoloured, Opens, Closes, AddsImageBy}
 use Rattle.tbr_renderer.specs.Calls.{Call, add_empty_line, new_line, new_line_hard, start_block, start_table, end_block, add_inline_text, push_ws, pop_ws, push_preformat, pop_preformat, record_frag_start, begin, finish, start_strikeout, end_strikeout, add_image, push_colour, pop_colour, add_border, append_subrender, append_vert_row, Does, Steps, text_brought, image_brought, entries_brought, Brings}
-use Rattle.text_block_renderer.specs.Drawn.{AddsNoBorder}
+use Rattle.text_block_renderer.specs.Drawn.{borders_added, AddsNoBorder}
 use Rattle.text_block_renderer.specs.Stretches.{AppendsNothing}
-use Rattle.text_block_renderer.proofs.Moves.{flush, line, join, SameText, Kind, any, undrawn, own, Fits, MayLay, MayRule, Path, onward, one, stays, turned, turned_by, path_options, flushed_none}
+use Rattle.text_block_renderer.proofs.Moves.{flush, line, join, SameText, Kind, any, undrawn, own, Fits, MayLay, MayRule, Course, Path, onward, one, stays, turned, turned_by, path_width, path_options, flushed_none}
 use Rattle.text_block_renderer.proofs.Appending.{lines_appended, border_added, cells_appended}
 
 -- ---- kinds
@@ -149,7 +150,7 @@ module _ {D A : Type 0} (columns : ℕ → Option ℕ) (kind : Kind) where
         let image = start.image source title in
         turned_then r h.0 s (text_brought columns decoration (decoration.start_text r.decorator image) (annotated decoration image r)) (opens image r h.0 h.1) (turned columns kind h.0 (without_annotation h.0) s refl refl refl refl refl h.2)
 
-    call_moves : (c : Call (List A)) (r s : Renderer D A (List A)) → Fits kind r (c ∷ []) → Does columns decoration c r s → Path columns kind r s (entries_brought columns decoration c r)
+    call_moves : (c : Call (List A)) (r s : Renderer D A (List A)) → Fits kind r (c ∷ []) → Does columns decoration c r s → Course columns kind r s (entries_brought columns decoration c r) (borders_added r.width r.options c)
     call_moves add_empty_line r s fits h = empty_added r s h
     call_moves new_line r s fits h = one columns kind flush r s h
     call_moves new_line_hard r s fits h = broken r s h.0 h.2
@@ -178,13 +179,24 @@ module _ {D A : Type 0} (columns : ℕ → Option ℕ) (kind : Kind) where
     call_moves (append_subrender prefixes lines) r s fits h = lines_appended columns kind prefixes lines r s (may_lay kind (append_subrender prefixes lines) r (λ no. no) fits) h
     call_moves (append_vert_row cells) r s fits h = cells_appended columns kind r (may_lay kind (append_vert_row cells) r (λ no. no) fits) (may_rule kind (append_vert_row cells) r (λ no. no) (λ no. no) fits) cells s h
 
-    pub calls_move : (calls : List (Call (List A))) (r s : Renderer D A (List A)) (es : List (Entry (List A))) → Fits kind r calls → Brings columns decoration calls r es s → Path columns kind r s es
+    -- the borders of calls
+    abbrev borders_of : Renderer D A (List A) → List (Call (List A)) → List (List Cell)
+    borders_of r calls = flat_map (borders_added r.width r.options) calls
+
+    same_borders : (r m : Renderer D A (List A)) (calls : List (Call (List A))) → m.width ≡ r.width → m.options ≡ r.options → borders_of m calls ≡ borders_of r calls
+    same_borders r m calls width options = ap (λ w. flat_map (borders_added w m.options) calls) width ∙ ap (λ (o : RenderOptions). flat_map (borders_added r.width o) calls) options
+
+    pub calls_move : (calls : List (Call (List A))) (r s : Renderer D A (List A)) (es : List (Entry (List A))) → Fits kind r calls → Brings columns decoration calls r es s → Course columns kind r s es (borders_of r calls)
     calls_move [] r s es fits h = subst (λ (fs : List (Entry (List A))). Path columns kind r s fs) (sym h.1) (stays columns kind r s h.0)
     calls_move (c ∷ cs) r s es fits h =
         let (m, rest, does, brings, is) = h in
+        let first = entries_brought columns decoration c r in
+        let added = borders_added r.width r.options c in
         let path = call_moves c r m (fits_first kind c cs r fits) does in
-        subst (λ (fs : List (Entry (List A))). Path columns kind r s fs) (sym is)
-        (onward columns kind r m s (entries_brought columns decoration c r) rest path (calls_move cs m s rest (fits_others kind c cs r m (path_options columns kind r m (entries_brought columns decoration c r) path) fits) brings))
+        let options = path_options columns kind r m first added path in
+        let others = calls_move cs m s rest (fits_others kind c cs r m options fits) brings in
+        subst (λ (fs : List (Entry (List A))). Course columns kind r s fs (borders_of r (c ∷ cs))) (sym is)
+        (subst (λ bs. Course columns kind r s (first ++ rest) (added ++ bs)) (same_borders r m cs (path_width columns kind r m first added path) options) (onward columns kind r m s first rest path others))
 
 module _ {D A : Type 0} (columns : ℕ → Option ℕ) (decoration : Decoration D A) where
   pub steps_bring : (calls : List (Call (List A))) (r s : Renderer D A (List A)) → Steps columns decoration calls r s → (es : List (Entry (List A))) × Brings columns decoration calls r es s

@@ -1,36 +1,57 @@
 -- What holds of moves of which no border becomes text, holds of all moves on the lines less the borders drawn as text.
-use Rattle.std.proofs.Common.{◌≡◌, ℕ, ◌-◌, Bool, true, false, Option, Some, None, List, [], ◌∷◌, ◌++◌, map, flat_map, fold, refl, ap, sym, ◌∙◌, subst, append_assoc, append-nil}
+use Rattle.std.proofs.Common.{◌≡◌, ℕ, ◌-◌, if◌then◌else◌, Bool, true, false, Option, Some, None, List, [], ◌∷◌, ◌++◌, map, flat_map, fold, refl, ap, sym, ◌∙◌, subst, append_assoc, append-nil}
 use Rattle.std.proofs.lemmas.List.{map-append}
 use Rattle.std.proofs.lemmas.List.Concat.{flat_map-append}
 use Rattle.tbr_model.specs.Run.{Entry, Item, items_width}
 use Rattle.tbr_lines.specs.Border.{Border, shown, without_holes}
 use Rattle.tbr_lines.specs.Cell.{Cell}
 use Rattle.tbr_decor.specs.Decoration.{Decoration}
+use Rattle.tbr_renderer.specs.declared.options.RenderOptions.{RenderOptions}
 use Rattle.tbr_renderer.specs.Renderer.{Line, text, border, Open, Renderer, line_padding, with_line}
 use Rattle.tbr_model.specs.Markers.{marker_items}
 use Rattle.tbr_renderer.specs.Flush.{block_lines, flushed, FlushesBlock}
 use Rattle.tbr_renderer.specs.Appended.{border_line, with_border}
 use Rattle.tbr_renderer.specs.Calls.{Call, Steps, Brings}
-use Rattle.text_block_renderer.specs.Drawn.{Put, as_it_is, drawn, line_put, not_drawn, WithoutDrawnBorders, CameWithoutDrawnBorders, DrawNone}
-use Rattle.text_block_renderer.proofs.Moves.{Move, flush, line, rule, join, turn, brought_by, brought, Makes, MakesAll, Path, onward, one, stays, along, through, any, undrawn}
+use Rattle.text_block_renderer.specs.Drawn.{as_it_is, drawn, line_put, not_drawn, cells_drawn, AreDrawnAmong, WithoutDrawnBorders, CameWithoutDrawnBorders, borders_drawn, DrawNone}
+use Rattle.text_block_renderer.proofs.Moves.{Move, flush, line, rule, join, turn, brought_by, brought, brought-append, ruled_by, ruled, Makes, MakesAll, makes-append, move_options, along, through, any, undrawn}
 use Rattle.text_block_renderer.proofs.Calling.{calls_move, steps_bring}
 
 module _ {T : Type 0} where
-  put_as_they_are : (ls : List (Line T)) → map line_put (map as_it_is ls) ≡ ls
+  put_as_they_are : (ls : List (Line T)) → ls ≡ map line_put (map as_it_is ls)
   put_as_they_are [] = refl
   put_as_they_are (l ∷ ls) = ap (λ ms. l ∷ ms) (put_as_they_are ls)
 
-  none_drawn : (ls : List (Line T)) → flat_map not_drawn (map as_it_is ls) ≡ ls
+  none_drawn : (ls : List (Line T)) → [] ≡ flat_map cells_drawn (map as_it_is ls)
   none_drawn [] = refl
-  none_drawn (l ∷ ls) = ap (λ ms. l ∷ ms) (none_drawn ls)
+  none_drawn (l ∷ ls) = none_drawn ls
+
+  all_others : (ls : List (Line T)) → ls ≡ flat_map not_drawn (map as_it_is ls)
+  all_others [] = refl
+  all_others (l ∷ ls) = ap (λ ms. l ∷ ms) (all_others ls)
+
+  none_among : (ls : List (Line T)) → AreDrawnAmong [] ls ls
+  none_among ls = (map as_it_is ls, put_as_they_are ls, none_drawn ls, all_others ls)
 
   -- more lines behind lines
-  put_behind : (front all : List (Line T)) (puts more : List (Put T)) → all ≡ front ++ map line_put puts → all ++ map line_put more ≡ front ++ map line_put (puts ++ more)
-  put_behind front all puts more e =
-      ap (λ ls. ls ++ map line_put more) e ∙ append_assoc front (map line_put puts) (map line_put more) ∙ ap (λ ls. front ++ ls) (sym (map-append line_put puts more))
+  among_both : (bs cs : List (List Cell)) (ls ms ks ns : List (Line T)) → AreDrawnAmong bs ls ks → AreDrawnAmong cs ms ns → AreDrawnAmong (bs ++ cs) (ls ++ ms) (ks ++ ns)
+  among_both bs cs ls ms ks ns g h = (
+    g.0 ++ h.0,
+    ap (λ us. us ++ ms) g.1 ∙ ap (λ us. map line_put g.0 ++ us) h.1 ∙ sym (map-append line_put g.0 h.0),
+    ap (λ us. us ++ cs) g.2 ∙ ap (λ us. flat_map cells_drawn g.0 ++ us) h.2 ∙ sym (flat_map-append cells_drawn g.0 h.0),
+    ap (λ us. us ++ ns) g.3 ∙ ap (λ us. flat_map not_drawn g.0 ++ us) h.3 ∙ sym (flat_map-append not_drawn g.0 h.0),
+  )
 
-  less_behind : (front : List (Line T)) (puts more : List (Put T)) → (front ++ flat_map not_drawn puts) ++ flat_map not_drawn more ≡ front ++ flat_map not_drawn (puts ++ more)
-  less_behind front puts more = append_assoc front (flat_map not_drawn puts) (flat_map not_drawn more) ∙ ap (λ ls. front ++ ls) (sym (flat_map-append not_drawn puts more))
+-- borders, where they are drawn
+abbrev pub if_drawn : Bool → List (List Cell) → List (List Cell)
+if_drawn pads bs = if pads then bs else []
+
+if_drawn-append : (pads : Bool) (bs cs : List (List Cell)) → if_drawn pads bs ++ if_drawn pads cs ≡ if_drawn pads (bs ++ cs)
+if_drawn-append true bs cs = refl
+if_drawn-append false bs cs = refl
+
+pub if_none_drawn : (pads : Bool) → if_drawn pads [] ≡ []
+if_none_drawn true = refl
+if_none_drawn false = refl
 
 module _ {D A : Type 0} (columns : ℕ → Option ℕ) where
   pub border_stays : (r : Renderer D A (List A)) (b : Border (List A)) → r.options.pad_block_width ≡ false → border_line columns r b ≡ border b
@@ -43,31 +64,55 @@ module _ {D A : Type 0} (columns : ℕ → Option ℕ) where
   abbrev on : Renderer D A (List A) → List (Line (List A)) → Renderer D A (List A)
   on r ls = record r { lines = ls }
 
-  -- Moves lead from one renderer to the other, where lines that came stand behind other lines, but for borders drawn as text.
-  record Less (r s : Renderer D A (List A)) (ls : List (Line (List A))) (es : List (Entry (List A))) : Type 0 where
-    puts : List (Put (List A))
-    came : s.lines ≡ r.lines ++ map line_put puts
-    path : Path columns undrawn (on r ls) (on s (ls ++ flat_map not_drawn puts)) es
+  -- Moves lead from one renderer to the other, where lines that came stand behind other lines, but for the borders drawn as text.
+  record Less (r s : Renderer D A (List A)) (ls : List (Line (List A))) (es : List (Entry (List A))) (bs : List (List Cell)) : Type 0 where
+    more : List (Line (List A))
+    rest : List (Line (List A))
+    came : s.lines ≡ r.lines ++ more
+    among : AreDrawnAmong bs more rest
+    moves : List (Move (List A))
+    makes : MakesAll columns undrawn moves (on r ls) (on s (ls ++ rest))
+    brings : brought moves ≡ es
 
-  less_on : (r q s : Renderer D A (List A)) (ls : List (Line (List A))) (es fs : List (Entry (List A))) → (g : Less r q ls es) → Less q s (ls ++ flat_map not_drawn g.puts) fs → Less r s ls (es ++ fs)
-  less_on r q s ls es fs g h = record {
-    puts = g.puts ++ h.puts;
-    came = h.came ∙ put_behind r.lines q.lines g.puts h.puts g.came;
-    path = subst (λ ms. Path columns undrawn (on r ls) (on s ms) (es ++ fs)) (less_behind ls g.puts h.puts)
-        (onward columns undrawn (on r ls) (on q (ls ++ flat_map not_drawn g.puts)) (on s ((ls ++ flat_map not_drawn g.puts) ++ flat_map not_drawn h.puts)) es fs g.path h.path);
+  less_on : (r q s : Renderer D A (List A)) (ls : List (Line (List A))) (es fs : List (Entry (List A))) (bs cs : List (List Cell)) → (g : Less r q ls es bs) → Less q s (ls ++ g.rest) fs cs → Less r s ls (es ++ fs) (bs ++ cs)
+  less_on r q s ls es fs bs cs g h = record {
+    more = g.more ++ h.more;
+    rest = g.rest ++ h.rest;
+    came = h.came ∙ ap (λ ms. ms ++ h.more) g.came ∙ append_assoc r.lines g.more h.more;
+    among = among_both bs cs g.more h.more g.rest h.rest g.among h.among;
+    moves = g.moves ++ h.moves;
+    makes = subst (λ ms. MakesAll columns undrawn (g.moves ++ h.moves) (on r ls) (on s ms)) (append_assoc ls g.rest h.rest)
+        (makes-append columns undrawn g.moves h.moves (on r ls) (on q (ls ++ g.rest)) (on s ((ls ++ g.rest) ++ h.rest)) g.makes h.makes);
+    brings = brought-append g.moves h.moves ∙ ap (λ gs. gs ++ brought h.moves) g.brings ∙ ap (λ gs. es ++ gs) h.brings;
   }
 
   -- the lines that came are as they are
-  as_they_are : (r s : Renderer D A (List A)) (ls more : List (Line (List A))) (es : List (Entry (List A))) → s.lines ≡ r.lines ++ more → Path columns undrawn (on r ls) (on s (ls ++ more)) es → Less r s ls es
-  as_they_are r s ls more es lines path = record {
-    puts = map as_it_is more;
-    came = lines ∙ ap (λ ms. r.lines ++ ms) (sym (put_as_they_are more));
-    path = subst (λ ms. Path columns undrawn (on r ls) (on s (ls ++ ms)) es) (sym (none_drawn more)) path;
+  as_they_are : (m : Move (List A)) (r s : Renderer D A (List A)) (ls more : List (Line (List A))) → s.lines ≡ r.lines ++ more → Makes columns undrawn m (on r ls) (on s (ls ++ more)) → Less r s ls (brought_by m) []
+  as_they_are m r s ls more lines makes = record {
+    more = more;
+    rest = more;
+    came = lines;
+    among = none_among more;
+    moves = m ∷ [];
+    makes = (on s (ls ++ more), makes, refl);
+    brings = append-nil (brought_by m);
   }
 
-  no_line : (r s : Renderer D A (List A)) (ls : List (Line (List A))) (es : List (Entry (List A))) → s.lines ≡ r.lines → Path columns undrawn (on r ls) (on s ls) es → Less r s ls es
-  no_line r s ls es lines path =
-      as_they_are r s ls [] es (lines ∙ sym (append-nil r.lines)) (subst (λ ms. Path columns undrawn (on r ls) (on s ms) es) (sym (append-nil ls)) path)
+  no_line : (m : Move (List A)) (r s : Renderer D A (List A)) (ls : List (Line (List A))) → s.lines ≡ r.lines → Makes columns undrawn m (on r ls) (on s ls) → Less r s ls (brought_by m) []
+  no_line m r s ls lines makes =
+      as_they_are m r s ls [] (lines ∙ sym (append-nil r.lines)) (subst (λ ms. Makes columns undrawn m (on r ls) (on s ms)) (sym (append-nil ls)) makes)
+
+  -- no move is left
+  nothing : (r s : Renderer D A (List A)) (ls more : List (Line (List A))) (bs : List (List Cell)) → s.lines ≡ r.lines ++ more → AreDrawnAmong bs more [] → on s ls ≡ on r ls → Less r s ls [] bs
+  nothing r s ls more bs came among same = record {
+    more = more;
+    rest = [];
+    came = came;
+    among = among;
+    moves = [];
+    makes = ap (on s) (append-nil ls) ∙ same;
+    brings = refl;
+  }
 
   -- ---- each move
 
@@ -87,71 +132,76 @@ module _ {D A : Type 0} (columns : ℕ → Option ℕ) where
         others = rest.others ∙ ap (on (fold (with_line columns) (with_line columns r t) ts)) (append_assoc ls (marked ∷ []) rest.more);
       }
 
-  flush_less : (r s : Renderer D A (List A)) (ls : List (Line (List A))) (o : Option (Open (List A))) → o ≡ r.block → FlushesBlock columns r o s → Less r s ls []
+  flush_less : (r s : Renderer D A (List A)) (ls : List (Line (List A))) (o : Option (Open (List A))) → o ≡ r.block → FlushesBlock columns r o s → Less r s ls [] []
   flush_less r s ls None e h =
-      no_line r s ls [] (ap (λ (q : Renderer D A (List A)). q.lines) h) (stays columns undrawn (on r ls) (on s ls) (ap (λ (q : Renderer D A (List A)). on q ls) h))
+      nothing r s ls [] [] (ap (λ (q : Renderer D A (List A)). q.lines) h ∙ sym (append-nil r.lines)) (none_among []) (ap (λ (q : Renderer D A (List A)). on q ls) h)
   flush_less r s ls (Some b) e h =
       let alike = come_alike (block_lines columns r b h.texts) (record r { block = None }) ls in
       let same : on s (ls ++ alike.more) ≡ flushed columns (on r ls) (block_lines columns r b h.texts) h.names =
       ap (λ (q : Renderer D A (List A)). on q (ls ++ alike.more)) h.is ∙ sym (ap (λ (q : Renderer D A (List A)). record q { waiting = q.waiting ++ h.names }) alike.others) in
       let flushes : FlushesBlock columns (on r ls) (Some b) (on s (ls ++ alike.more)) = record { texts = h.texts; names = h.names; fits = h.fits; ends = h.ends; is = same } in
-      as_they_are r s ls alike.more [] (ap (λ (q : Renderer D A (List A)). q.lines) h.is ∙ alike.lines)
-      (one columns undrawn flush (on r ls) (on s (ls ++ alike.more)) (subst (λ (p : Option (Open (List A))). FlushesBlock columns (on r ls) p (on s (ls ++ alike.more))) e flushes))
+      as_they_are flush r s ls alike.more (ap (λ (q : Renderer D A (List A)). q.lines) h.is ∙ alike.lines)
+      (subst (λ (p : Option (Open (List A))). FlushesBlock columns (on r ls) p (on s (ls ++ alike.more))) e flushes)
 
-  rule_less : (r s : Renderer D A (List A)) (ls : List (Line (List A))) (cells : List Cell) (pads : Bool) → r.options.pad_block_width ≡ pads → r.block ≡ None → s ≡ with_border columns r (without_holes cells r.annotations) → Less r s ls []
+  rule_less : (r s : Renderer D A (List A)) (ls : List (Line (List A))) (cells : List Cell) (pads : Bool) → r.options.pad_block_width ≡ pads → r.block ≡ None → s ≡ with_border columns r (without_holes cells r.annotations) → Less r s ls [] (if_drawn pads (cells ∷ []))
   rule_less r s ls cells true e none h =
       let b = without_holes cells r.annotations in
-      let n : ℕ = r.width - items_width columns (shown b.tag b) in
-      let put : border_line columns r b ≡ line_put (drawn cells n r.annotations) = rw e refl in record {
-        puts = drawn cells n r.annotations ∷ [];
-        came = ap (λ (q : Renderer D A (List A)). q.lines) h ∙ ap (λ l. r.lines ++ l ∷ []) put;
-        path = stays columns undrawn (on r ls) (on s (ls ++ [])) (ap (λ (q : Renderer D A (List A)). on q (ls ++ [])) h ∙ ap (on r) (append-nil ls));
-      }
+      let put = drawn cells (r.width - items_width columns (shown b.tag b)) r.annotations in
+      let line_is : border_line columns r b ≡ line_put put = rw e refl in
+      nothing r s ls (line_put put ∷ []) (cells ∷ []) (ap (λ (q : Renderer D A (List A)). q.lines) h ∙ ap (λ l. r.lines ++ l ∷ []) line_is)
+      (put ∷ [], refl, refl, refl) (ap (λ (q : Renderer D A (List A)). on q ls) h)
   rule_less r s ls cells false e none h =
       let b = without_holes cells r.annotations in
-      let put = border_stays r b e in
-      as_they_are r s ls (border b ∷ []) [] (ap (λ (q : Renderer D A (List A)). q.lines) h ∙ ap (λ l. r.lines ++ l ∷ []) put)
-      (one columns undrawn (rule cells) (on r ls) (on s (ls ++ border b ∷ []))
-      (e, none, ap (λ (q : Renderer D A (List A)). on q (ls ++ border b ∷ [])) h ∙ ap (λ l. on r (ls ++ l ∷ [])) (sym put)))
+      let line_is = border_stays r b e in
+      as_they_are (rule cells) r s ls (border b ∷ []) (ap (λ (q : Renderer D A (List A)). q.lines) h ∙ ap (λ l. r.lines ++ l ∷ []) line_is)
+      (e, none, ap (λ (q : Renderer D A (List A)). on q (ls ++ border b ∷ [])) h ∙ ap (λ l. on r (ls ++ l ∷ [])) (sym line_is))
 
-  move_less : (m : Move (List A)) (r s : Renderer D A (List A)) (ls : List (Line (List A))) → Makes columns any m r s → Less r s ls (brought_by m)
-  move_less flush r s ls h = flush_less r s ls r.block refl h
-  move_less (line is) r s ls h =
+  -- where lines are padded or not
+  with_none : (r s : Renderer D A (List A)) (ls : List (Line (List A))) (es : List (Entry (List A))) (pads : Bool) → Less r s ls es [] → Less r s ls es (if_drawn pads [])
+  with_none r s ls es pads h = subst (Less r s ls es) (sym (if_none_drawn pads)) h
+
+  move_less : (m : Move (List A)) (r s : Renderer D A (List A)) (ls : List (Line (List A))) (pads : Bool) → r.options.pad_block_width ≡ pads → Makes columns any m r s → Less r s ls (brought_by m) (if_drawn pads (ruled_by m))
+  move_less flush r s ls pads e h = with_none r s ls [] pads (flush_less r s ls r.block refl h)
+  move_less (line is) r s ls pads e h =
       let marked = line_laid r is in
-      as_they_are r s ls (marked ∷ []) (brought_by (line is)) (ap (λ (q : Renderer D A (List A)). q.lines) h.2)
-      (one columns undrawn (line is) (on r ls) (on s (ls ++ marked ∷ [])) (tt, h.1, ap (λ (q : Renderer D A (List A)). on q (ls ++ marked ∷ [])) h.2))
-  move_less (rule cells) r s ls h = rule_less r s ls cells r.options.pad_block_width refl h.1 h.2
-  move_less (join es) r s ls h =
-      no_line r s ls es (ap (λ (q : Renderer D A (List A)). q.lines) h) (one columns undrawn (join es) (on r ls) (on s ls) (ap (λ (q : Renderer D A (List A)). on q ls) h))
-  move_less turn r s ls h =
-      no_line r s ls [] h.lines (one columns undrawn turn (on r ls) (on s ls) (record { lines = refl; block = h.block; waiting = h.waiting; width = h.width; options = h.options }))
+      with_none r s ls (brought_by (line is)) pads
+      (as_they_are (line is) r s ls (marked ∷ []) (ap (λ (q : Renderer D A (List A)). q.lines) h.2) (tt, h.1, ap (λ (q : Renderer D A (List A)). on q (ls ++ marked ∷ [])) h.2))
+  move_less (rule cells) r s ls pads e h = rule_less r s ls cells pads e h.1 h.2
+  move_less (join es) r s ls pads e h =
+      with_none r s ls es pads (no_line (join es) r s ls (ap (λ (q : Renderer D A (List A)). q.lines) h) (ap (λ (q : Renderer D A (List A)). on q ls) h))
+  move_less turn r s ls pads e h =
+      with_none r s ls [] pads (no_line turn r s ls h.lines (record { lines = refl; block = h.block; waiting = h.waiting; width = h.width; options = h.options }))
 
-  moves_less : (ms : List (Move (List A))) (r s : Renderer D A (List A)) (ls : List (Line (List A))) → MakesAll columns any ms r s → Less r s ls (brought ms)
-  moves_less [] r s ls h = no_line r s ls [] (ap (λ (q : Renderer D A (List A)). q.lines) h) (stays columns undrawn (on r ls) (on s ls) (ap (λ (q : Renderer D A (List A)). on q ls) h))
-  moves_less (m ∷ ms) r s ls h =
-      let first = move_less m r h.0 ls h.1 in
-      less_on r h.0 s ls (brought_by m) (brought ms) first (moves_less ms h.0 s (ls ++ flat_map not_drawn first.puts) h.2)
+  moves_less : (ms : List (Move (List A))) (r s : Renderer D A (List A)) (ls : List (Line (List A))) (pads : Bool) → r.options.pad_block_width ≡ pads → MakesAll columns any ms r s → Less r s ls (brought ms) (if_drawn pads (ruled ms))
+  moves_less [] r s ls pads e h =
+      with_none r s ls [] pads (nothing r s ls [] [] (ap (λ (q : Renderer D A (List A)). q.lines) h ∙ sym (append-nil r.lines)) (none_among []) (ap (λ (q : Renderer D A (List A)). on q ls) h))
+  moves_less (m ∷ ms) r s ls pads e h =
+      let first = move_less m r h.0 ls pads e h.1 in
+      let still = ap (λ (o : RenderOptions). o.pad_block_width) (move_options columns any m r h.0 h.1) ∙ e in
+      let others = moves_less ms h.0 s (ls ++ first.rest) pads still h.2 in
+      subst (Less r s ls (brought_by m ++ brought ms)) (if_drawn-append pads (ruled_by m) (ruled ms)) (less_on r h.0 s ls (brought_by m) (brought ms) (if_drawn pads (ruled_by m)) (if_drawn pads (ruled ms)) first others)
 
   -- ---- calls
 
   module _ (P : Renderer D A (List A) → List (Entry (List A)) → Type 0)
       (each : (m : Move (List A)) (r s : Renderer D A (List A)) (es : List (Entry (List A))) → Makes columns undrawn m r s → P r es → P s (es ++ brought_by m)) where
-    pub moves_on : (ms : List (Move (List A))) (r s : Renderer D A (List A)) (before : List (Entry (List A))) →
-        MakesAll columns any ms r s → WithoutDrawnBorders (λ q. P q before) r → WithoutDrawnBorders (λ q. P q (before ++ brought ms)) s
-    moves_on ms r s before makes k =
-        let (puts, lines, holds) = k in
-        let ls = flat_map not_drawn puts in
-        let less = moves_less ms r s ls makes in
-        let q : Renderer D A (List A) = on s (ls ++ flat_map not_drawn less.puts) in
-        let all : P q (before ++ brought less.path.moves) = along columns undrawn P each less.path.moves (on r ls) q before less.path.makes holds in
-        let brought_all : P q (before ++ brought ms) = subst (λ fs. P q (before ++ fs)) less.path.brings all in
-        (puts ++ less.puts, less.came ∙ put_behind [] r.lines puts less.puts lines, subst (λ ks. P (on s ks) (before ++ brought ms)) (less_behind [] puts less.puts) brought_all)
+    pub moves_on : (ms : List (Move (List A))) (r s : Renderer D A (List A)) (borders : List (List Cell)) (before : List (Entry (List A))) →
+        MakesAll columns any ms r s → WithoutDrawnBorders borders (λ q. P q before) r → WithoutDrawnBorders (borders ++ if_drawn r.options.pad_block_width (ruled ms)) (λ q. P q (before ++ brought ms)) s
+    moves_on ms r s borders before makes k =
+        let (ls, among, holds) = k in
+        let bs = if_drawn r.options.pad_block_width (ruled ms) in
+        let less = moves_less ms r s ls r.options.pad_block_width refl makes in
+        let q : Renderer D A (List A) = on s (ls ++ less.rest) in
+        let all : P q (before ++ brought less.moves) = along columns undrawn P each less.moves (on r ls) q before less.makes holds in
+        let drawn_all = among_both borders bs r.lines less.more ls less.rest among less.among in
+        (ls ++ less.rest, subst (λ ms. AreDrawnAmong (borders ++ bs) ms (ls ++ less.rest)) (sym less.came) drawn_all, subst (λ fs. P q (before ++ fs)) less.brings all)
 
-    pub brings_on : (decoration : Decoration D A) (calls : List (Call (List A))) (r s : Renderer D A (List A)) (before es : List (Entry (List A))) →
-        Brings columns decoration calls r es s → WithoutDrawnBorders (λ q. P q before) r → WithoutDrawnBorders (λ q. P q (before ++ es)) s
-    brings_on decoration calls r s before es h k =
+    pub brings_on : (decoration : Decoration D A) (calls : List (Call (List A))) (r s : Renderer D A (List A)) (borders : List (List Cell)) (before es : List (Entry (List A))) →
+        Brings columns decoration calls r es s → WithoutDrawnBorders borders (λ q. P q before) r → WithoutDrawnBorders (borders ++ borders_drawn r calls) (λ q. P q (before ++ es)) s
+    brings_on decoration calls r s borders before es h k =
         let path = calls_move columns any decoration calls r s es tt h in
-        subst (λ fs. WithoutDrawnBorders (λ q. P q (before ++ fs)) s) path.brings (moves_on path.moves r s before path.makes k)
+        subst (λ bs. WithoutDrawnBorders (borders ++ if_drawn r.options.pad_block_width bs) (λ q. P q (before ++ es)) s) path.rules
+        (subst (λ fs. WithoutDrawnBorders (borders ++ if_drawn r.options.pad_block_width (ruled path.moves)) (λ q. P q (before ++ fs)) s) path.brings (moves_on path.moves r s borders before path.makes k))
 
     -- where no border becomes text
     pub brings_on_all : (decoration : Decoration D A) (calls : List (Call (List A))) (r s : Renderer D A (List A)) (before es : List (Entry (List A))) →
@@ -163,12 +213,13 @@ module _ {D A : Type 0} (columns : ℕ → Option ℕ) where
   module _ (R : Renderer D A (List A) → Renderer D A (List A) → Type 0)
       (same : (r s : Renderer D A (List A)) → s ≡ r → R r s) (on_from : (r q s : Renderer D A (List A)) → R r q → R q s → R r s)
       (each : (m : Move (List A)) (r s : Renderer D A (List A)) → Makes columns undrawn m r s → R r s) where
-    pub steps_on : (decoration : Decoration D A) (calls : List (Call (List A))) (r s : Renderer D A (List A)) → Steps columns decoration calls r s → CameWithoutDrawnBorders R r s
+    pub steps_on : (decoration : Decoration D A) (calls : List (Call (List A))) (r s : Renderer D A (List A)) → Steps columns decoration calls r s → CameWithoutDrawnBorders (borders_drawn r calls) R r s
     steps_on decoration calls r s h =
         let (es, brings) = steps_bring columns decoration calls r s h in
         let path = calls_move columns any decoration calls r s es tt brings in
-        let less = moves_less path.moves r s r.lines path.makes in
-        (less.puts, less.came, through columns undrawn R same on_from each less.path.moves r (on s (r.lines ++ flat_map not_drawn less.puts)) less.path.makes)
+        let less = moves_less path.moves r s r.lines r.options.pad_block_width refl path.makes in
+        let among = subst (λ bs. AreDrawnAmong (if_drawn r.options.pad_block_width bs) less.more less.rest) path.rules less.among in
+        (less.more, less.rest, less.came, among, through columns undrawn R same on_from each less.moves r (on s (r.lines ++ less.rest)) less.makes)
 
     pub steps_on_all : (decoration : Decoration D A) (calls : List (Call (List A))) (r s : Renderer D A (List A)) → DrawNone r calls → Steps columns decoration calls r s → R r s
     steps_on_all decoration calls r s none h =

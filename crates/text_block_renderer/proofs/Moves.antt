@@ -5,6 +5,7 @@ use Rattle.std.specs.List.{AllByRecursion as Each}
 use Rattle.tbr_model.specs.Run.{Entry, Item}
 use Rattle.tbr_lines.specs.Border.{without_holes}
 use Rattle.tbr_lines.specs.Cell.{Cell}
+use Rattle.tbr_renderer.specs.declared.options.RenderOptions.{RenderOptions}
 use Rattle.tbr_renderer.specs.Renderer.{Open, Renderer, with_line, with_entries}
 use Rattle.tbr_renderer.specs.Flush.{block_lines, Flushes, FlushesBlock}
 use Rattle.tbr_renderer.specs.Appended.{with_border}
@@ -39,7 +40,23 @@ abbrev pub brought : {T : Type 0} → List (Move T) → List (Entry T)
 brought [] = []
 brought (m ∷ ms) = brought_by m ++ brought ms
 
-brought-append : {T : Type 0} (ms ns : List (Move T)) → brought (ms ++ ns) ≡ brought ms ++ brought ns
+-- the borders that moves put
+abbrev pub ruled_by : {T : Type 0} → Move T → List (List Cell)
+ruled_by flush = []
+ruled_by (line is) = []
+ruled_by (rule cells) = cells ∷ []
+ruled_by (join es) = []
+ruled_by turn = []
+
+abbrev pub ruled : {T : Type 0} → List (Move T) → List (List Cell)
+ruled [] = []
+ruled (m ∷ ms) = ruled_by m ++ ruled ms
+
+ruled-append : {T : Type 0} (ms ns : List (Move T)) → ruled (ms ++ ns) ≡ ruled ms ++ ruled ns
+ruled-append [] ns = refl
+ruled-append (m ∷ ms) ns = ap (λ bs. ruled_by m ++ bs) (ruled-append ms ns) ∙ sym (append_assoc (ruled_by m) (ruled ms) (ruled ns))
+
+pub brought-append : {T : Type 0} (ms ns : List (Move T)) → brought (ms ++ ns) ≡ brought ms ++ brought ns
 brought-append [] ns = refl
 brought-append (m ∷ ms) ns = ap (λ es. brought_by m ++ es) (brought-append ms ns) ∙ sym (append_assoc (brought_by m) (brought ms) (brought ns))
 
@@ -94,25 +111,31 @@ module _ {D A : Type 0} (columns : ℕ → Option ℕ) (kind : Kind) where
   MakesAll [] r s = s ≡ r
   MakesAll (m ∷ ms) r s = (q : Renderer D A (List A)) × Makes m r q × MakesAll ms q s
 
-  -- some moves lead from one renderer to the other, and bring these entries
-  pub record Path (r s : Renderer D A (List A)) (es : List (Entry (List A))) : Type 0 where
+  -- some moves lead from one renderer to the other, bring these entries, and put these borders
+  pub record Course (r s : Renderer D A (List A)) (es : List (Entry (List A))) (bs : List (List Cell)) : Type 0 where
     pub moves : List (Move (List A))
     pub makes : MakesAll moves r s
     pub brings : brought moves ≡ es
+    pub rules : ruled moves ≡ bs
 
-  makes-append : (ms ns : List (Move (List A))) (r q s : Renderer D A (List A)) → MakesAll ms r q → MakesAll ns q s → MakesAll (ms ++ ns) r s
+  -- and no border
+  abbrev pub Path : Renderer D A (List A) → Renderer D A (List A) → List (Entry (List A)) → Type 0
+  Path r s es = Course r s es []
+
+  pub makes-append : (ms ns : List (Move (List A))) (r q s : Renderer D A (List A)) → MakesAll ms r q → MakesAll ns q s → MakesAll (ms ++ ns) r s
   makes-append [] ns r q s h k = subst (λ (p : Renderer D A (List A)). MakesAll ns p s) h k
   makes-append (m ∷ ms) ns r q s h k = (h.0, h.1, makes-append ms ns h.0 q s h.2 k)
 
-  pub onward : (r q s : Renderer D A (List A)) (es fs : List (Entry (List A))) → Path r q es → Path q s fs → Path r s (es ++ fs)
-  onward r q s es fs p k = record {
+  pub onward : (r q s : Renderer D A (List A)) (es fs : List (Entry (List A))) {bs cs : List (List Cell)} → Course r q es bs → Course q s fs cs → Course r s (es ++ fs) (bs ++ cs)
+  onward r q s es fs {bs} {cs} p k = record {
     moves = p.moves ++ k.moves;
     makes = makes-append p.moves k.moves r q s p.makes k.makes;
     brings = brought-append p.moves k.moves ∙ ap (λ gs. gs ++ brought k.moves) p.brings ∙ ap (λ gs. es ++ gs) k.brings;
+    rules = ruled-append p.moves k.moves ∙ ap (λ ds. ds ++ ruled k.moves) p.rules ∙ ap (λ ds. bs ++ ds) k.rules;
   }
 
-  pub one : (m : Move (List A)) (r s : Renderer D A (List A)) → Makes m r s → Path r s (brought_by m)
-  one m r s h = record { moves = m ∷ []; makes = (s, h, refl); brings = append-nil (brought_by m) }
+  pub one : (m : Move (List A)) (r s : Renderer D A (List A)) → Makes m r s → Course r s (brought_by m) (ruled_by m)
+  one m r s h = record { moves = m ∷ []; makes = (s, h, refl); brings = append-nil (brought_by m); rules = append-nil (ruled_by m) }
 
   -- `q` is `r` but for what isn't text
   pub turned_by : (r q s : Renderer D A (List A)) → SameText r q → s ≡ q → Path r s []
@@ -122,7 +145,7 @@ module _ {D A : Type 0} (columns : ℕ → Option ℕ) (kind : Kind) where
   turned r q s lines block waiting width options is = turned_by r q s (record { lines = lines; block = block; waiting = waiting; width = width; options = options }) is
 
   pub stays : (r s : Renderer D A (List A)) → s ≡ r → Path r s []
-  stays r s h = record { moves = []; makes = h; brings = refl }
+  stays r s h = record { moves = []; makes = h; brings = refl; rules = refl }
 
   -- What each move keeps, moves one after another keep.
   pub along : (P : Renderer D A (List A) → List (Entry (List A)) → Type 0) →
@@ -142,23 +165,35 @@ module _ {D A : Type 0} (columns : ℕ → Option ℕ) (kind : Kind) where
   through R same on each [] r s h = same r s h
   through R same on each (m ∷ ms) r s h = on r h.0 s (each m r h.0 h.1) (through R same on each ms h.0 s h.2)
 
-  -- ---- options
+  -- ---- width and options
 
-  options_of_lines : (ts : List (List (Item (List A)))) (q : Renderer D A (List A)) → (fold (with_line columns) q ts).options ≡ q.options
-  options_of_lines [] q = refl
-  options_of_lines (t ∷ ts) q = options_of_lines ts (with_line columns q t)
+  abbrev frame : Renderer D A (List A) → ℕ × RenderOptions
+  frame r = (r.width, r.options)
 
-  flush_options : (r s : Renderer D A (List A)) (o : Option (Open (List A))) → FlushesBlock columns r o s → s.options ≡ r.options
-  flush_options r s None h = ap (λ (q : Renderer D A (List A)). q.options) h
-  flush_options r s (Some b) h = ap (λ (q : Renderer D A (List A)). q.options) h.is ∙ options_of_lines (block_lines columns r b h.texts) (record r { block = None })
+  frame_of_lines : (ts : List (List (Item (List A)))) (q : Renderer D A (List A)) → frame (fold (with_line columns) q ts) ≡ frame q
+  frame_of_lines [] q = refl
+  frame_of_lines (t ∷ ts) q = frame_of_lines ts (with_line columns q t)
 
-  move_options : (m : Move (List A)) (r s : Renderer D A (List A)) → Makes m r s → s.options ≡ r.options
-  move_options flush r s h = flush_options r s r.block h
-  move_options (line is) r s h = ap (λ (q : Renderer D A (List A)). q.options) h.2
-  move_options (rule cells) r s h = ap (λ (q : Renderer D A (List A)). q.options) h.2
-  move_options (join es) r s h = ap (λ (q : Renderer D A (List A)). q.options) h
-  move_options turn r s h = h.options
+  flush_frame : (r s : Renderer D A (List A)) (o : Option (Open (List A))) → FlushesBlock columns r o s → frame s ≡ frame r
+  flush_frame r s None h = ap (λ (q : Renderer D A (List A)). frame q) h
+  flush_frame r s (Some b) h = ap (λ (q : Renderer D A (List A)). frame q) h.is ∙ frame_of_lines (block_lines columns r b h.texts) (record r { block = None })
 
-  pub path_options : (r s : Renderer D A (List A)) (es : List (Entry (List A))) → Path r s es → s.options ≡ r.options
-  path_options r s es path =
-      through (λ p q. q.options ≡ p.options) (λ p q e. ap (λ (t : Renderer D A (List A)). t.options) e) (λ p q t g h. h ∙ g) move_options path.moves r s path.makes
+  move_frame : (m : Move (List A)) (r s : Renderer D A (List A)) → Makes m r s → frame s ≡ frame r
+  move_frame flush r s h = flush_frame r s r.block h
+  move_frame (line is) r s h = ap (λ (q : Renderer D A (List A)). frame q) h.2
+  move_frame (rule cells) r s h = ap (λ (q : Renderer D A (List A)). frame q) h.2
+  move_frame (join es) r s h = ap (λ (q : Renderer D A (List A)). frame q) h
+  move_frame turn r s h = ap (λ w. (w, s.options)) h.width ∙ ap (λ o. (r.width, o)) h.options
+
+  pub move_options : (m : Move (List A)) (r s : Renderer D A (List A)) → Makes m r s → s.options ≡ r.options
+  move_options m r s h = ap (λ (f : ℕ × RenderOptions). f.1) (move_frame m r s h)
+
+  path_frame : (r s : Renderer D A (List A)) (es : List (Entry (List A))) (bs : List (List Cell)) → Course r s es bs → frame s ≡ frame r
+  path_frame r s es bs path =
+      through (λ p q. frame q ≡ frame p) (λ p q e. ap (λ (t : Renderer D A (List A)). frame t) e) (λ p q t g h. h ∙ g) move_frame path.moves r s path.makes
+
+  pub path_width : (r s : Renderer D A (List A)) (es : List (Entry (List A))) (bs : List (List Cell)) → Course r s es bs → s.width ≡ r.width
+  path_width r s es bs path = ap (λ (f : ℕ × RenderOptions). f.0) (path_frame r s es bs path)
+
+  pub path_options : (r s : Renderer D A (List A)) (es : List (Entry (List A))) (bs : List (List Cell)) → Course r s es bs → s.options ≡ r.options
+  path_options r s es bs path = ap (λ (f : ℕ × RenderOptions). f.1) (path_frame r s es bs path)

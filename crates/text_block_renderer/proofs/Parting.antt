@@ -10,10 +10,12 @@ use Rattle.tbr_renderer.specs.Renderer.{Open, Renderer, with_line, with_entries,
 use Rattle.tbr_renderer.specs.Flush.{block_lines, EndsBlock, FlushesBlock}
 use Rattle.tbr_renderer.specs.Appended.{with_border}
 use Rattle.tbr_renderer.specs.Calls.{Call, laid_entries, Brings}
-use Rattle.text_block_renderer.specs.Stretches.{Part, ended, laid, ruled, entries_of_part, lines_of_part, IsPart, ComesInParts, AppendsNothing, IsOwnPart}
+use Rattle.text_block_renderer.specs.Drawn.{borders_added}
+use Rattle.text_block_renderer.specs.Stretches.{Part, ended, laid, ruled, entries_of_part, borders_of_part, lines_of_part, IsPart, ComesInParts, AppendsNothing, IsOwnPart}
 use Rattle.std.specs.Prelude.{⊤}
 use Rattle.std.specs.List.{AllByRecursion as Each}
-use Rattle.text_block_renderer.proofs.Moves.{Move, flush, line, rule, join, turn, brought_by, Kind, any, undrawn, own, Fits, MayLay, MayRule, Makes, along, no_block}
+use Rattle.text_block_renderer.proofs.Moves as moves
+use Rattle.text_block_renderer.proofs.Moves.{Move, flush, line, rule, join, turn, brought_by, brought, ruled_by, Kind, any, undrawn, own, Fits, MayLay, MayRule, Makes, MakesAll, no_block}
 use Rattle.text_block_renderer.proofs.Calling.{calls_move}
 use Rattle.tbr_renderer.proofs.Writing.{open_run_is}
 use Rattle.text_block_renderer.proofs.Stretching.{flush_adds}
@@ -52,16 +54,17 @@ module _ {D A : Type 0} (columns : ℕ → Option ℕ) (kind : Kind) where
   options_kept (t ∷ ts) q = options_kept ts (with_line columns q t)
 
   -- What came in parts, to a renderer of which width and options are the same.
-  record CameInParts (r : Renderer D A (List A)) (q : Renderer D A (List A)) (es : List (Entry (List A))) : Type 0 where
+  record CameInParts (r : Renderer D A (List A)) (q : Renderer D A (List A)) (es : List (Entry (List A))) (bs : List (List Cell)) : Type 0 where
     width : q.width ≡ r.width
     options : q.options ≡ r.options
     parts : ComesInParts columns r es q
     kinds : Each (IsOfKind kind) parts.parts
+    borders : flat_map borders_of_part parts.parts ≡ bs
 
   -- one part more
-  one_part : (r q s : Renderer D A (List A)) (es more : List (Entry (List A))) (part : Part D A) → s.width ≡ q.width → s.options ≡ q.options → IsPart columns r part → IsOfKind kind part → s.lines ≡ q.lines ++ lines_of_part columns part →
-      open_run q.block ++ more ≡ entries_of_part part ++ open_run s.block → CameInParts r q es → CameInParts r s (es ++ more)
-  one_part r q s es more part width options is of_kind lines run h = record {
+  one_part : (r q s : Renderer D A (List A)) (es more : List (Entry (List A))) (bs : List (List Cell)) (part : Part D A) → s.width ≡ q.width → s.options ≡ q.options → IsPart columns r part → IsOfKind kind part → s.lines ≡ q.lines ++ lines_of_part columns part →
+      open_run q.block ++ more ≡ entries_of_part part ++ open_run s.block → CameInParts r q es bs → CameInParts r s (es ++ more) (bs ++ borders_of_part part)
+  one_part r q s es more bs part width options is of_kind lines run h = record {
     width = width ∙ h.width;
     options = options ∙ h.options;
     parts = record {
@@ -74,11 +77,12 @@ module _ {D A : Type 0} (columns : ℕ → Option ℕ) (kind : Kind) where
           ∙ ap (λ fs. fs ++ open_run s.block) (sym (flat_map_one entries_of_part h.parts.parts part));
     };
     kinds = each_append (IsOfKind kind) h.parts.parts (part ∷ []) h.kinds (of_kind, tt);
+    borders = flat_map_one borders_of_part h.parts.parts part ∙ ap (λ cs. cs ++ borders_of_part part) h.borders;
   }
 
   -- no part more
-  no_part : (r q s : Renderer D A (List A)) (es more : List (Entry (List A))) → s.width ≡ q.width → s.options ≡ q.options → s.lines ≡ q.lines → open_run s.block ≡ open_run q.block ++ more → CameInParts r q es → CameInParts r s (es ++ more)
-  no_part r q s es more width options lines run h = record {
+  no_part : (r q s : Renderer D A (List A)) (es more : List (Entry (List A))) (bs : List (List Cell)) → s.width ≡ q.width → s.options ≡ q.options → s.lines ≡ q.lines → open_run s.block ≡ open_run q.block ++ more → CameInParts r q es bs → CameInParts r s (es ++ more) (bs ++ [])
+  no_part r q s es more bs width options lines run h = record {
     width = width ∙ h.width;
     options = options ∙ h.options;
     parts = record {
@@ -89,13 +93,14 @@ module _ {D A : Type 0} (columns : ℕ → Option ℕ) (kind : Kind) where
           ∙ ap (λ run. flat_map entries_of_part h.parts.parts ++ run) (sym run);
     };
     kinds = h.kinds;
+    borders = h.borders ∙ sym (append-nil bs);
   }
 
-  ended_part : (r q s : Renderer D A (List A)) (b : Open (List A)) (es : List (Entry (List A))) → q.block ≡ Some b → EndsBlock columns q b s → CameInParts r q es → CameInParts r s (es ++ [])
-  ended_part r q s b es open_block_is h k =
+  ended_part : (r q s : Renderer D A (List A)) (b : Open (List A)) (es : List (Entry (List A))) (bs : List (List Cell)) → q.block ≡ Some b → EndsBlock columns q b s → CameInParts r q es bs → CameInParts r s (es ++ []) (bs ++ [])
+  ended_part r q s b es bs open_block_is h k =
       let texts : List (List (Item (List A))) = block_lines columns q b h.texts in
       let closed : Renderer D A (List A) = record q { block = None } in
-      one_part r q s es [] (ended q b h.texts)
+      one_part r q s es [] bs (ended q b h.texts)
       (ap (λ (p : Renderer D A (List A)). p.width) h.is ∙ width_kept texts closed)
       (ap (λ (p : Renderer D A (List A)). p.options) h.is ∙ options_kept texts closed)
       (record { width = k.width; options = k.options; block = open_block_is; names = h.names; ends = h.ends })
@@ -104,50 +109,61 @@ module _ {D A : Type 0} (columns : ℕ → Option ℕ) (kind : Kind) where
       (append-nil (open_run q.block) ∙ ap open_run open_block_is ∙ sym (append-nil b.run) ∙ ap (λ o. b.run ++ open_run o) (sym (ap (λ (p : Renderer D A (List A)). p.block) h.is ∙ no_block columns texts closed refl)))
       k
 
-  flush_parts : (r q s : Renderer D A (List A)) (o : Option (Open (List A))) (es : List (Entry (List A))) → q.block ≡ o → FlushesBlock columns q o s → CameInParts r q es → CameInParts r s (es ++ [])
-  flush_parts r q s None es e h k = subst (λ (p : Renderer D A (List A)). CameInParts r p (es ++ [])) (sym h) (subst (CameInParts r q) (sym (append-nil es)) k)
-  flush_parts r q s (Some b) es e h k = ended_part r q s b es e h k
+  flush_parts : (r q s : Renderer D A (List A)) (o : Option (Open (List A))) (es : List (Entry (List A))) (bs : List (List Cell)) → q.block ≡ o → FlushesBlock columns q o s → CameInParts r q es bs → CameInParts r s (es ++ []) (bs ++ [])
+  flush_parts r q s None es bs e h k =
+      subst (λ (p : Renderer D A (List A)). CameInParts r p (es ++ []) (bs ++ [])) (sym h) (subst (λ cs. CameInParts r q (es ++ []) cs) (sym (append-nil bs)) (subst (λ fs. CameInParts r q fs bs) (sym (append-nil es)) k))
+  flush_parts r q s (Some b) es bs e h k = ended_part r q s b es bs e h k
 
   -- where no block is open, the open run is none
   none_open : (q : Renderer D A (List A)) (es : List (Entry (List A))) → q.block ≡ None → open_run q.block ++ es ≡ es ++ open_run q.block
   none_open q es none = ap (λ o. open_run o ++ es) none ∙ sym (append-nil es) ∙ ap (λ o. es ++ open_run o) (sym none)
 
-  put_parts : (r q s : Renderer D A (List A)) (is : List (Item (List A))) (es : List (Entry (List A))) → MayLay kind is → q.block ≡ None → s ≡ with_line columns q is → CameInParts r q es → CameInParts r s (es ++ laid_entries is)
-  put_parts r q s is es may none h k =
-      subst (λ (p : Renderer D A (List A)). CameInParts r p (es ++ laid_entries is)) (sym h)
-      (one_part r q (with_line columns q is) es (laid_entries is) (laid q is) refl refl (record { width = k.width; options = k.options; block = none }) (laid_kind kind q is may) refl (none_open q (laid_entries is) none) k)
+  put_parts : (r q s : Renderer D A (List A)) (is : List (Item (List A))) (es : List (Entry (List A))) (bs : List (List Cell)) → MayLay kind is → q.block ≡ None → s ≡ with_line columns q is → CameInParts r q es bs → CameInParts r s (es ++ laid_entries is) (bs ++ [])
+  put_parts r q s is es bs may none h k =
+      subst (λ (p : Renderer D A (List A)). CameInParts r p (es ++ laid_entries is) (bs ++ [])) (sym h)
+      (one_part r q (with_line columns q is) es (laid_entries is) bs (laid q is) refl refl (record { width = k.width; options = k.options; block = none }) (laid_kind kind q is may) refl (none_open q (laid_entries is) none) k)
 
-  rule_parts : (r q s : Renderer D A (List A)) (cells : List Cell) (es : List (Entry (List A))) → MayRule kind q → q.block ≡ None → s ≡ with_border columns q (without_holes cells q.annotations) → CameInParts r q es → CameInParts r s (es ++ [])
-  rule_parts r q s cells es may none h k =
-      subst (λ (p : Renderer D A (List A)). CameInParts r p (es ++ [])) (sym h)
-      (one_part r q (with_border columns q (without_holes cells q.annotations)) es [] (ruled q cells) refl refl (record { width = k.width; options = k.options; block = none }) (ruled_kind kind q cells may) refl (none_open q [] none) k)
+  rule_parts : (r q s : Renderer D A (List A)) (cells : List Cell) (es : List (Entry (List A))) (bs : List (List Cell)) → MayRule kind q → q.block ≡ None → s ≡ with_border columns q (without_holes cells q.annotations) → CameInParts r q es bs → CameInParts r s (es ++ []) (bs ++ cells ∷ [])
+  rule_parts r q s cells es bs may none h k =
+      subst (λ (p : Renderer D A (List A)). CameInParts r p (es ++ []) (bs ++ cells ∷ [])) (sym h)
+      (one_part r q (with_border columns q (without_holes cells q.annotations)) es [] bs (ruled q cells) refl refl (record { width = k.width; options = k.options; block = none }) (ruled_kind kind q cells may) refl (none_open q [] none) k)
 
-  join_parts : (r q s : Renderer D A (List A)) (es more : List (Entry (List A))) → s ≡ with_entries q more → CameInParts r q es → CameInParts r s (es ++ more)
-  join_parts r q s es more h k =
-      subst (λ (p : Renderer D A (List A)). CameInParts r p (es ++ more)) (sym h)
-      (no_part r q (with_entries q more) es more refl refl refl (ap (λ run. run ++ more) (open_run_is q)) k)
+  join_parts : (r q s : Renderer D A (List A)) (es more : List (Entry (List A))) (bs : List (List Cell)) → s ≡ with_entries q more → CameInParts r q es bs → CameInParts r s (es ++ more) (bs ++ [])
+  join_parts r q s es more bs h k =
+      subst (λ (p : Renderer D A (List A)). CameInParts r p (es ++ more) (bs ++ [])) (sym h)
+      (no_part r q (with_entries q more) es more bs refl refl refl (ap (λ run. run ++ more) (open_run_is q)) k)
 
-  move_parts : (r : Renderer D A (List A)) (m : Move (List A)) (q s : Renderer D A (List A)) (es : List (Entry (List A))) → Makes columns kind m q s → CameInParts r q es → CameInParts r s (es ++ brought_by m)
-  move_parts r flush q s es h k = flush_parts r q s q.block es refl h k
-  move_parts r (line is) q s es h k = put_parts r q s is es h.0 h.1 h.2 k
-  move_parts r (rule cells) q s es h k = rule_parts r q s cells es h.0 h.1 h.2 k
-  move_parts r (join more) q s es h k = join_parts r q s es more h k
-  move_parts r turn q s es h k = no_part r q s es [] h.width h.options h.lines (ap open_run h.block ∙ sym (append-nil (open_run q.block))) k
+  move_parts : (r : Renderer D A (List A)) (m : Move (List A)) (q s : Renderer D A (List A)) (es : List (Entry (List A))) (bs : List (List Cell)) → Makes columns kind m q s → CameInParts r q es bs → CameInParts r s (es ++ brought_by m) (bs ++ ruled_by m)
+  move_parts r flush q s es bs h k = flush_parts r q s q.block es bs refl h k
+  move_parts r (line is) q s es bs h k = put_parts r q s is es bs h.0 h.1 h.2 k
+  move_parts r (rule cells) q s es bs h k = rule_parts r q s cells es bs h.0 h.1 h.2 k
+  move_parts r (join more) q s es bs h k = join_parts r q s es more bs h k
+  move_parts r turn q s es bs h k = no_part r q s es [] bs h.width h.options h.lines (ap open_run h.block ∙ sym (append-nil (open_run q.block))) k
 
-  came_in_parts : (decoration : Decoration D A) (calls : List (Call (List A))) (r s : Renderer D A (List A)) (es : List (Entry (List A))) → Fits kind r calls → Brings columns decoration calls r es s → CameInParts r s es
+  moves_parts : (r : Renderer D A (List A)) (ms : List (Move (List A))) (q s : Renderer D A (List A)) (es : List (Entry (List A))) (bs : List (List Cell)) → MakesAll columns kind ms q s → CameInParts r q es bs → CameInParts r s (es ++ brought ms) (bs ++ moves.ruled ms)
+  moves_parts r [] q s es bs h k =
+      subst (λ (p : Renderer D A (List A)). CameInParts r p (es ++ []) (bs ++ [])) (sym h) (subst (λ cs. CameInParts r q (es ++ []) cs) (sym (append-nil bs)) (subst (λ fs. CameInParts r q fs bs) (sym (append-nil es)) k))
+  moves_parts r (m ∷ ms) q s es bs h k =
+      subst (λ fs. CameInParts r s fs (bs ++ moves.ruled (m ∷ ms))) (append_assoc es (brought_by m) (brought ms))
+      (subst (λ cs. CameInParts r s ((es ++ brought_by m) ++ brought ms) cs) (append_assoc bs (ruled_by m) (moves.ruled ms))
+      (moves_parts r ms h.0 s (es ++ brought_by m) (bs ++ ruled_by m) h.2 (move_parts r m q h.0 es bs h.1 k)))
+
+  came_in_parts : (decoration : Decoration D A) (calls : List (Call (List A))) (r s : Renderer D A (List A)) (es : List (Entry (List A))) → Fits kind r calls → Brings columns decoration calls r es s → CameInParts r s es (flat_map (borders_added r.width r.options) calls)
   came_in_parts decoration calls r s es fits h =
       let path = calls_move columns kind decoration calls r s es fits h in
-      let none_yet : CameInParts r r [] = record {
+      let none_yet : CameInParts r r [] [] = record {
         width = refl;
         options = refl;
         parts = record { parts = []; are = tt; lines = sym (append-nil r.lines); entries = append-nil (open_run r.block) };
         kinds = tt;
+        borders = refl;
       } in
-      subst (λ (fs : List (Entry (List A))). CameInParts r s fs) path.brings (along columns kind (CameInParts r) (move_parts r) path.moves r s [] path.makes none_yet)
+      subst (λ bs. CameInParts r s es bs) path.rules (subst (λ fs. CameInParts r s fs (moves.ruled path.moves)) path.brings (moves_parts r path.moves r s [] [] path.makes none_yet))
 
 module _ {D A : Type 0} (columns : ℕ → Option ℕ) where
-  pub brings_parts : (decoration : Decoration D A) (calls : List (Call (List A))) (r s : Renderer D A (List A)) (es : List (Entry (List A))) → Brings columns decoration calls r es s → ComesInParts columns r es s
-  brings_parts decoration calls r s es h = let came = came_in_parts columns any decoration calls r s es tt h in came.parts
+  pub brings_parts : (decoration : Decoration D A) (calls : List (Call (List A))) (r s : Renderer D A (List A)) (es : List (Entry (List A))) → Brings columns decoration calls r es s →
+      (came : ComesInParts columns r es s) × (flat_map borders_of_part came.parts ≡ flat_map (borders_added r.width r.options) calls)
+  brings_parts decoration calls r s es h = let came = came_in_parts columns any decoration calls r s es tt h in (came.parts, came.borders)
 
   pub brings_own_parts : (decoration : Decoration D A) (calls : List (Call (List A))) (r s : Renderer D A (List A)) (es : List (Entry (List A))) → Each AppendsNothing calls → Brings columns decoration calls r es s →
       (came : ComesInParts columns r es s) × Each IsOwnPart came.parts

@@ -1,5 +1,5 @@
 -- Visible characters stand once.
-use Rattle.std.proofs.Common.{◌≡◌, ℕ, inl, zero, suc, ◌&&◌, Bool, true, false, if◌then◌else◌, Option, Some, None, is_some, List, [], ◌∷◌, ◌++◌, map, flat_map, fold, refl, ap, sym, ◌∙◌, subst, append_assoc, append-nil}
+use Rattle.std.proofs.Common.{◌≡◌, ℕ, inl, zero, suc, ◌&&◌, Bool, true, false, if◌then◌else◌, Option, Some, None, is_some, List, [], ◌∷◌, ◌++◌, map, fold, refl, ap, sym, ◌∙◌, subst, append_assoc, append-nil}
 use Rattle.std.specs.List.{AllZip}
 use Rattle.tbr_model.specs.Codes.{space_character}
 use Rattle.tbr_model.specs.declared.white_space.WhiteSpace.TheVariants.{Pre}
@@ -8,6 +8,7 @@ use Rattle.tbr_model.specs.Layout.{joined}
 use Rattle.tbr_model.specs.Markers.{marker_items}
 use Rattle.tbr_model.specs.Hard.{is_visible, IsShown, visible_glyphs, visible_entries}
 use Rattle.tbr_lines.specs.Border.{Border, without_holes}
+use Rattle.tbr_lines.specs.Cell.{Cell}
 use Rattle.tbr_lines.specs.Elements.{text_items}
 use Rattle.tbr_lines.specs.Padding.{spaces}
 use Rattle.tbr_lines.specs.Wrapped.{padding_of}
@@ -17,9 +18,9 @@ use Rattle.tbr_renderer.specs.Flush.{block_lines, FlushesBlock}
 use Rattle.tbr_renderer.specs.Appended.{border_line, with_border, HandsOut}
 use Rattle.tbr_decor.specs.Decoration.{Decoration}
 use Rattle.tbr_renderer.specs.Calls.{Call, laid_entries, Brings, text_of_lines, Shows}
-use Rattle.text_block_renderer.specs.Drawn.{Put, line_put, not_drawn, WithoutDrawnBorders, DrawNone}
+use Rattle.text_block_renderer.specs.Drawn.{AreDrawnAmong, WithoutDrawnBorders, borders_drawn, DrawNone}
 use Rattle.text_block_renderer.proofs.Moves.{Move, flush, line, rule, join, turn, brought_by, Makes, no_block, flushed_none, undrawn}
-use Rattle.text_block_renderer.proofs.Drawing.{moves_on, brings_on, brings_on_all, border_stays}
+use Rattle.text_block_renderer.proofs.Drawing.{if_drawn, if_none_drawn, moves_on, brings_on, brings_on_all, border_stays}
 use Rattle.tbr_renderer.proofs.Writing.{open_run_is}
 use Rattle.text_block_renderer.proofs.LookingAtLines.{Looks, seen_line, seen_lines, no_text_behind}
 use Rattle.text_block_renderer.specs.MarkersStand.{items_so_far}
@@ -159,8 +160,8 @@ module _ {D A : Type 0} (columns : ℕ → Option ℕ) where
     whole = ap (λ (o : Option (Open (List A))). visible_entries columns (k.ended ++ open_run o)) h.block ∙ k.whole;
   })
 
-  pub brings_shown : (decoration : Decoration D A) (calls : List (Call (List A))) (r s : Renderer D A (List A)) (before es : List (Entry (List A))) →
-      Brings columns decoration calls r es s → WithoutDrawnBorders (λ q. Shows columns q before) r → WithoutDrawnBorders (λ q. Shows columns q (before ++ es)) s
+  pub brings_shown : (decoration : Decoration D A) (calls : List (Call (List A))) (r s : Renderer D A (List A)) (borders : List (List Cell)) (before es : List (Entry (List A))) →
+      Brings columns decoration calls r es s → WithoutDrawnBorders borders (λ q. Shows columns q before) r → WithoutDrawnBorders (borders ++ borders_drawn r calls) (λ q. Shows columns q (before ++ es)) s
   brings_shown = brings_on columns (Shows columns) shows_move
 
   pub brings_shown_all : (decoration : Decoration D A) (calls : List (Call (List A))) (r s : Renderer D A (List A)) (before es : List (Entry (List A))) →
@@ -183,10 +184,12 @@ module _ {D A : Type 0} (columns : ℕ → Option ℕ) where
       subst (λ (ls : List (Line (List A))). AllZip (IsShown (λ a b. a ≡ b)) (visible_glyphs columns (text_of_lines ls)) (visible_entries columns es)) (sym is)
       (all_shown s es (flushed_none columns r s flushes) (shows_flush r s r.block es refl flushes k))
 
-  pub handed_out_less : (r : Renderer D A (List A)) (es : List (Entry (List A))) (lines : List (Line (List A))) → WithoutDrawnBorders (λ q. Shows columns q es) r → HandsOut columns r lines →
-      (puts : List (Put (List A))) × (lines ≡ map line_put puts) × AllZip (IsShown (λ a b. a ≡ b)) (visible_glyphs columns (text_of_lines (flat_map not_drawn puts))) (visible_entries columns es)
-  handed_out_less r es lines k h =
+  pub handed_out_less : (r : Renderer D A (List A)) (borders : List (List Cell)) (es : List (Entry (List A))) (lines : List (Line (List A))) → WithoutDrawnBorders borders (λ q. Shows columns q es) r → HandsOut columns r lines →
+      (rest : List (Line (List A))) × AreDrawnAmong borders lines rest × AllZip (IsShown (λ a b. a ≡ b)) (visible_glyphs columns (text_of_lines rest)) (visible_entries columns es)
+  handed_out_less r borders es lines k h =
       let (s, flushes, is) = h.1 in
-      let (puts, put, shows) = moves_on columns (Shows columns) shows_move (flush ∷ []) r s es (s, flushes, refl) k in
-      let q : Renderer D A (List A) = record s { lines = flat_map not_drawn puts } in
-      (puts, is ∙ put, all_shown q es (flushed_none columns r s flushes) (subst (λ (fs : List (Entry (List A))). Shows columns q fs) (append-nil es) shows))
+      let none : borders ++ if_drawn r.options.pad_block_width [] ≡ borders = ap (λ bs. borders ++ bs) (if_none_drawn r.options.pad_block_width) ∙ append-nil borders in
+      let (rest, among, shows) = moves_on columns (Shows columns) shows_move (flush ∷ []) r s borders es (s, flushes, refl) k in
+      let q : Renderer D A (List A) = record s { lines = rest } in
+      let here : AreDrawnAmong borders lines rest = subst (λ ls. AreDrawnAmong borders ls rest) (sym is) (subst (λ bs. AreDrawnAmong bs s.lines rest) none among) in
+      (rest, here, all_shown q es (flushed_none columns r s flushes) (subst (λ (fs : List (Entry (List A))). Shows columns q fs) (append-nil es) shows))

@@ -13,6 +13,7 @@ use Rattle.tbr_model.specs.Shown.{without_spaces, is_visible_or_marker, is_entry
 use Rattle.tbr_model.specs.Rule.{is_space_item}
 use Rattle.tbr_model.proofs.lists.Each.{each_front, each_back}
 use Rattle.tbr_lines.specs.Border.{Border, without_holes}
+use Rattle.tbr_lines.specs.Cell.{Cell}
 use Rattle.tbr_lines.specs.Elements.{text_items}
 use Rattle.tbr_lines.specs.Padding.{spaces}
 use Rattle.tbr_lines.specs.State.{State, IsNormal, AreLastOf, EndsRun}
@@ -23,7 +24,7 @@ use Rattle.tbr_renderer.specs.declared.options.RenderOptions.{RenderOptions}
 use Rattle.tbr_renderer.specs.Flush.{block_of_run, block_lines, flushed, FlushesBlock}
 use Rattle.tbr_renderer.specs.Appended.{with_border}
 use Rattle.tbr_renderer.specs.Calls.{Call, laid_entries, Brings, text_of_lines}
-use Rattle.text_block_renderer.specs.Drawn.{WithoutDrawnBorders, DrawNone}
+use Rattle.text_block_renderer.specs.Drawn.{WithoutDrawnBorders, borders_drawn, DrawNone}
 use Rattle.text_block_renderer.specs.MarkersStand.{items_so_far, Stands}
 use Rattle.text_block_renderer.proofs.Moves.{Move, flush, line, rule, join, turn, SameText, brought_by, Makes, no_block, undrawn}
 use Rattle.text_block_renderer.proofs.Drawing.{brings_on, brings_on_all, border_stays}
@@ -299,8 +300,8 @@ module _ {D A : Type 0} (columns : ℕ → Option ℕ) where
   move_stands (join more) r s es h k = join_stands r s more es h k
   move_stands turn r s es h k = subst (Stands columns s) (sym (append-nil es)) (turn_stands r s es h k)
 
-  pub brings_stands : (decoration : Decoration D A) (calls : List (Call (List A))) (r s : Renderer D A (List A)) (before es : List (Entry (List A))) →
-      Brings columns decoration calls r es s → WithoutDrawnBorders (λ q. Stands columns q before) r → WithoutDrawnBorders (λ q. Stands columns q (before ++ es)) s
+  pub brings_stands : (decoration : Decoration D A) (calls : List (Call (List A))) (r s : Renderer D A (List A)) (borders : List (List Cell)) (before es : List (Entry (List A))) →
+      Brings columns decoration calls r es s → WithoutDrawnBorders borders (λ q. Stands columns q before) r → WithoutDrawnBorders (borders ++ borders_drawn r calls) (λ q. Stands columns q (before ++ es)) s
   brings_stands = brings_on columns (Stands columns) move_stands
 
   pub brings_stands_all : (decoration : Decoration D A) (calls : List (Call (List A))) (r s : Renderer D A (List A)) (before es : List (Entry (List A))) →

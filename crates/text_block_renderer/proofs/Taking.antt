@@ -185,11 +185,13 @@ module _ {D A : Type 0} (columns : ℕ → Option ℕ) where
         let here = handed_within (seen columns inside) taken.last between taken.gives (steps_within taken.before taken.call taken.behind taken.first taken.last inside taken.takes taken.steps) in
         within_on (seen columns inside) (seen columns between) (seen columns outside) here (all_within depth between outside others)
 
-    pub brought_within : (depth : ℕ) (r : Renderer D A (List A)) (es : List (Entry (List A))) (inside outside : List (Line (List A))) →
-        WithoutDrawnBorders (λ q. Shows columns q es) r → HandsOut columns r inside → AreTakenIn columns decoration depth inside outside →
+    pub brought_within : (depth : ℕ) (r : Renderer D A (List A)) (borders : List (List Cell)) (es : List (Entry (List A))) (inside outside : List (Line (List A))) →
+        WithoutDrawnBorders borders (λ q. Shows columns q es) r → HandsOut columns r inside → AreTakenIn columns decoration depth inside outside →
         (shown : List (ℕ × List A)) × AllZip (IsShown (λ a b. a ≡ b)) shown (visible_entries columns es) × StandWithin shown (visible_glyphs columns (text_of_lines outside))
-    brought_within depth r es inside outside shows gives h =
-        let (puts, is, shown) = handed_out_less columns r es inside shows gives in
-        let undrawn = seen columns (flat_map not_drawn puts) in
-        let here : StandWithin undrawn (seen columns inside) = subst (λ (ls : List (Line (List A))). StandWithin undrawn (seen columns ls)) (sym is) (undrawn_within columns puts) in
-        (undrawn, shown, within_on undrawn (seen columns inside) (seen columns outside) here (all_within depth inside outside h))
+    brought_within depth r borders es inside outside shows gives h =
+        let (rest, among, shown) = handed_out_less columns r borders es inside shows gives in
+        let (puts, is, drawn_are, others) = among in
+        let here : StandWithin (seen columns rest) (seen columns inside) =
+        subst (λ (ls : List (Line (List A))). StandWithin (seen columns ls) (seen columns inside)) (sym others)
+        (subst (λ (ls : List (Line (List A))). StandWithin (seen columns (flat_map not_drawn puts)) (seen columns ls)) (sym is) (undrawn_within columns puts)) in
+        (seen columns rest, shown, within_on (seen columns rest) (seen columns inside) (seen columns outside) here (all_within depth inside outside h))

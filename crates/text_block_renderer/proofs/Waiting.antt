@@ -14,7 +14,7 @@ use Rattle.tbr_renderer.specs.Renderer.{Line, text, border, Open, Renderer, with
 use Rattle.tbr_renderer.specs.Flush.{block_of_run, block_lines, flushed, FlushesBlock, Flushes, EndsBlock}
 use Rattle.tbr_renderer.specs.Appended.{with_border}
 use Rattle.tbr_renderer.specs.Calls.{Call, Steps}
-use Rattle.text_block_renderer.specs.Drawn.{CameWithoutDrawnBorders, DrawNone}
+use Rattle.text_block_renderer.specs.Drawn.{CameWithoutDrawnBorders, borders_drawn, DrawNone}
 use Rattle.text_block_renderer.specs.MarkersStand.{items_so_far, FlushStands, first_text, WaitForText}
 use Rattle.text_block_renderer.proofs.Moves.{Move, flush, line, rule, join, turn, Makes, undrawn}
 use Rattle.text_block_renderer.proofs.Drawing.{steps_on, steps_on_all, border_stays}
@@ -245,7 +245,7 @@ module _ {D A : Type 0} (columns : ℕ → Option ℕ) where
   on_one : (r s : Renderer D A (List A)) → s ≡ r → WaitForText r s
   on_one r s e = same_wait r s (ap (λ (q : Renderer D A (List A)). q.lines) e) (ap (λ (q : Renderer D A (List A)). q.waiting) e)
 
-  pub steps_wait : (decoration : Decoration D A) (calls : List (Call (List A))) (r s : Renderer D A (List A)) → Steps columns decoration calls r s → CameWithoutDrawnBorders WaitForText r s
+  pub steps_wait : (decoration : Decoration D A) (calls : List (Call (List A))) (r s : Renderer D A (List A)) → Steps columns decoration calls r s → CameWithoutDrawnBorders (borders_drawn r calls) WaitForText r s
   steps_wait = steps_on columns WaitForText on_one wait_on move_waits
 
   pub steps_wait_all : (decoration : Decoration D A) (calls : List (Call (List A))) (r s : Renderer D A (List A)) → DrawNone r calls → Steps columns decoration calls r s → WaitForText r s

@@ -90,6 +90,12 @@ entries_of_part (ended r b texts) = b.run
 entries_of_part (laid r is) = laid_entries is
 entries_of_part (ruled r cells) = []
 
+-- the border that stands there
+abbrev pub borders_of_part : {D A : Type 0} → Part D A → List (List Cell)
+borders_of_part (ended r b texts) = []
+borders_of_part (laid r is) = []
+borders_of_part (ruled r cells) = cells ∷ []
+
 abbrev pub lines_of_part : {D A : Type 0} → (ℕ → Option ℕ) → Part D A → List (Line (List A))
 lines_of_part columns (ended r b texts) = stretch columns r b texts
 lines_of_part columns (laid r is) = lines_laid columns r (is ∷ [])

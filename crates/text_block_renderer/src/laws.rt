@@ -1,8 +1,9 @@
 //! What follows from the steps alone, each as the contract of a function that does nothing.
 pub mod appended;
 
-ghost use Rattle.std.specs.Prelude.{◌≡◌, ℕ, false, ◌⊎◌, Option, Some, List, [], ◌++◌};
+ghost use Rattle.std.specs.Prelude.{◌≡◌, ℕ, false, ◌⊎◌, Option, Some, List, [], ◌++◌, flat_map};
 ghost use Rattle.std.specs.List.{AllByRecursion as Each};
+ghost use Rattle.tbr_lines.specs.Cell.{Cell};
 ghost use Rattle.tbr_lines.specs.State.{IsNormal};
 ghost use Rattle.tbr_renderer.specs.Renderer.{Line, Open, Renderer, new_renderer, settings_of, may_overflow, open_run};
 ghost use Rattle.tbr_renderer.specs.declared.options.RenderOptions.{RenderOptions};
@@ -10,9 +11,10 @@ ghost use Rattle.tbr_renderer.specs.Flush.{Flushes};
 ghost use Rattle.tbr_renderer.specs.Calls.{Call, Does, IsTooNarrow, Steps, Brings, Shows};
 ghost use Rattle.text_block_renderer.specs.Normal.{WrapsNormally, PushesNormal};
 ghost use Rattle.text_block_renderer.specs.Settings.{settled};
-ghost use Rattle.text_block_renderer.specs.Drawn.{WithoutDrawnBorders, CameWithoutDrawnBorders, DrawNone};
+ghost use Rattle.text_block_renderer.specs.Drawn.{WithoutDrawnBorders, CameWithoutDrawnBorders, borders_added, borders_drawn, DrawNone};
 ghost use Rattle.text_block_renderer.specs.MarkersStand.{Stands, FlushStands, WaitForText};
-ghost use Rattle.text_block_renderer.specs.Stretches.{StandsAsStretch, StaysOpen, EndsAsStretch, ComesInParts, AppendsNothing, IsOwnPart};
+ghost use Rattle.text_block_renderer.specs.Stretches.{StandsAsStretch, StaysOpen, EndsAsStretch};
+ghost use Rattle.text_block_renderer.specs.Stretches.{ComesInParts, borders_of_part, AppendsNothing, IsOwnPart};
 ghost use Rattle.tbr_model.specs.Run.{Entry};
 ghost use Rattle.tbr_decor.specs.Decoration.{Decoration};
 
@@ -62,9 +64,9 @@ pub fn normal_calls_keep_text_normal<D, A>()
 /// run, once and in order, each under an annotation of its call. Borders that padding made text aren't looked at.
 pub fn visible_characters_stand_once<D, A>()
     ensures calls { (columns : ℕ → Option ℕ) (decoration : Decoration D A) (calls : List (Call (List A)))
-        (r s : Renderer D A (List A)) (before es : List (Entry (List A))) → Brings columns decoration calls r es s →
-        WithoutDrawnBorders (λ q. Shows columns q before) r →
-        WithoutDrawnBorders (λ q. Shows columns q (before ++ es)) s }
+        (r s : Renderer D A (List A)) (borders : List (List Cell)) (before es : List (Entry (List A))) →
+        Brings columns decoration calls r es s → WithoutDrawnBorders borders (λ q. Shows columns q before) r →
+        WithoutDrawnBorders (borders ++ borders_drawn r calls) (λ q. Shows columns q (before ++ es)) s }
     ensures undrawn { (columns : ℕ → Option ℕ) (decoration : Decoration D A) (calls : List (Call (List A)))
         (r s : Renderer D A (List A)) (before es : List (Entry (List A))) → DrawNone r calls →
         Brings columns decoration calls r es s → Shows columns r before → Shows columns s (before ++ es) }
@@ -76,9 +78,9 @@ pub fn visible_characters_stand_once<D, A>()
 /// aren't looked at.
 pub fn what_was_brought_stands<D, A>()
     ensures calls { (columns : ℕ → Option ℕ) (decoration : Decoration D A) (calls : List (Call (List A)))
-        (r s : Renderer D A (List A)) (before es : List (Entry (List A))) → Brings columns decoration calls r es s →
-        WithoutDrawnBorders (λ q. Stands columns q before) r →
-        WithoutDrawnBorders (λ q. Stands columns q (before ++ es)) s }
+        (r s : Renderer D A (List A)) (borders : List (List Cell)) (before es : List (Entry (List A))) →
+        Brings columns decoration calls r es s → WithoutDrawnBorders borders (λ q. Stands columns q before) r →
+        WithoutDrawnBorders (borders ++ borders_drawn r calls) (λ q. Stands columns q (before ++ es)) s }
     ensures undrawn { (columns : ℕ → Option ℕ) (decoration : Decoration D A) (calls : List (Call (List A)))
         (r s : Renderer D A (List A)) (before es : List (Entry (List A))) → DrawNone r calls →
         Brings columns decoration calls r es s → Stands columns r before → Stands columns s (before ++ es) }
@@ -98,7 +100,8 @@ pub fn what_a_flush_makes_stand<D, A>()
 /// made text is no such line.
 pub fn waiting_markers_begin_the_next_text<D, A>()
     ensures calls { (columns : ℕ → Option ℕ) (decoration : Decoration D A) (calls : List (Call (List A)))
-        (r s : Renderer D A (List A)) → Steps columns decoration calls r s → CameWithoutDrawnBorders WaitForText r s }
+        (r s : Renderer D A (List A)) → Steps columns decoration calls r s →
+        CameWithoutDrawnBorders (borders_drawn r calls) WaitForText r s }
     ensures undrawn { (columns : ℕ → Option ℕ) (decoration : Decoration D A) (calls : List (Call (List A)))
         (r s : Renderer D A (List A)) → DrawNone r calls → Steps columns decoration calls r s → WaitForText r s }
 {}
@@ -120,13 +123,14 @@ pub fn each_open_run_ends_as_one_stretch<D, A>()
         Brings columns decoration calls r es s → StaysOpen r b es s ⊎ EndsAsStretch columns r b es s }
 {}
 
-/// The lines that calls add are the stretches of the runs that ended, laid texts, as empty lines are, and borders. What
-/// the calls brought are these runs and the entries of these texts, one behind another, and then the run that is open.
-/// Calls that append nothing add stretches and empty lines alone.
+/// The lines that calls add are the stretches of the runs that ended, laid texts, as empty lines are, and the borders
+/// of the calls. What the calls brought are these runs and the entries of these texts, one behind another, and then the
+/// run that is open. Calls that append nothing add stretches and empty lines alone.
 pub fn lines_are_stretches_laid_texts_and_borders<D, A>()
     ensures calls { (columns : ℕ → Option ℕ) (decoration : Decoration D A) (calls : List (Call (List A)))
         (r s : Renderer D A (List A)) (es : List (Entry (List A))) →
-        Brings columns decoration calls r es s → ComesInParts columns r es s }
+        Brings columns decoration calls r es s → (came : ComesInParts columns r es s)
+        × (flat_map borders_of_part came.parts ≡ flat_map (borders_added r.width r.options) calls) }
     ensures own { (columns : ℕ → Option ℕ) (decoration : Decoration D A) (calls : List (Call (List A)))
         (r s : Renderer D A (List A)) (es : List (Entry (List A))) → Each AppendsNothing calls →
         Brings columns decoration calls r es s → (came : ComesInParts columns r es s) × Each IsOwnPart came.parts }

@@ -4,12 +4,13 @@ ghost use Rattle.std.specs.List.{AllZip, AllByRecursion as Each, slice_get, zip}
 ghost use Rattle.tbr_model.specs.Run.{Entry, Item};
 ghost use Rattle.tbr_model.specs.Layout.{joined};
 ghost use Rattle.tbr_model.specs.Hard.{IsShown, IsSpaces, visible_glyphs, visible_entries};
+ghost use Rattle.tbr_lines.specs.Cell.{Cell};
 ghost use Rattle.tbr_decor.specs.Decoration.{Decoration};
 ghost use Rattle.tbr_renderer.specs.Renderer.{Line, text, Renderer};
 ghost use Rattle.tbr_renderer.specs.Flush.{Flushes};
 ghost use Rattle.tbr_renderer.specs.Appended.{as_text, prefixed, HandsOut};
 ghost use Rattle.tbr_renderer.specs.Calls.{append_subrender, append_vert_row, Does, text_of_lines, Shows};
-ghost use Rattle.text_block_renderer.specs.Drawn.{Put, line_put, not_drawn, WithoutDrawnBorders};
+ghost use Rattle.text_block_renderer.specs.Drawn.{AreDrawnAmong, WithoutDrawnBorders};
 ghost use Rattle.text_block_renderer.specs.Stretches.{lines_laid};
 ghost use Rattle.text_block_renderer.specs.Nested.{Level, nested, IsFront, shortest, visible_behind, HandOn};
 ghost use Rattle.text_block_renderer.specs.Rows.{row_lines};
@@ -72,11 +73,11 @@ pub fn a_vertical_row_is_its_cells_and_borders<D, A>()
 /// The lines that a renderer hands out have the visible characters of all that was brought to it, once and in order.
 /// Borders that padding made text aren't looked at.
 pub fn handed_out_lines_have_all_characters<D, A>()
-    ensures lines { (columns : ℕ → Option ℕ) (r : Renderer D A (List A)) (es : List (Entry (List A)))
-        (lines : List (Line (List A))) → WithoutDrawnBorders (λ q. Shows columns q es) r → HandsOut columns r lines →
-        (puts : List (Put (List A))) × (lines ≡ map line_put puts)
-        × AllZip (IsShown (λ a b. a ≡ b)) (visible_glyphs columns (text_of_lines (flat_map not_drawn puts)))
-        (visible_entries columns es) }
+    ensures lines { (columns : ℕ → Option ℕ) (r : Renderer D A (List A)) (borders : List (List Cell))
+        (es : List (Entry (List A))) (lines : List (Line (List A))) →
+        WithoutDrawnBorders borders (λ q. Shows columns q es) r → HandsOut columns r lines →
+        (rest : List (Line (List A))) × AreDrawnAmong borders lines rest
+        × AllZip (IsShown (λ a b. a ≡ b)) (visible_glyphs columns (text_of_lines rest)) (visible_entries columns es) }
     ensures undrawn { (columns : ℕ → Option ℕ) (r : Renderer D A (List A)) (es : List (Entry (List A)))
         (lines : List (Line (List A))) → Shows columns r es → HandsOut columns r lines →
         AllZip (IsShown (λ a b. a ≡ b)) (visible_glyphs columns (text_of_lines lines)) (visible_entries columns es) }
@@ -90,8 +91,8 @@ pub fn nothing_visible_is_lost_to_any_depth<D, A>()
         (inside outside : List (Line (List A))) → AreTakenIn columns decoration depth inside outside →
         StandWithin (visible_glyphs columns (text_of_lines inside)) (visible_glyphs columns (text_of_lines outside)) }
     ensures brought { (columns : ℕ → Option ℕ) (decoration : Decoration D A) (depth : ℕ) (r : Renderer D A (List A))
-        (es : List (Entry (List A))) (inside outside : List (Line (List A))) →
-        WithoutDrawnBorders (λ q. Shows columns q es) r → HandsOut columns r inside →
+        (borders : List (List Cell)) (es : List (Entry (List A))) (inside outside : List (Line (List A))) →
+        WithoutDrawnBorders borders (λ q. Shows columns q es) r → HandsOut columns r inside →
         AreTakenIn columns decoration depth inside outside →
         (shown : List (ℕ × List A)) × AllZip (IsShown (λ a b. a ≡ b)) shown (visible_entries columns es)
         × StandWithin shown (visible_glyphs columns (text_of_lines outside)) }
