@@ -1,0 +1,4 @@
+pub mod Cells
+pub mod Borders
+pub mod Texts
+pub mod Gaps
