@@ -1,10 +1,11 @@
 -- The lines of a row.
-use Rattle.std.specs.Prelude.{ℕ, suc, zero, ◌+◌, max, Option, None, Some, List, [], ◌∷◌, ◌++◌, map, fold, drop}
+use Rattle.std.specs.Prelude.{ℕ, Bool, suc, zero, ◌+◌, max, Option, None, Some, List, [], ◌∷◌, ◌++◌, map, fold, drop}
+use Rattle.std.specs.List.{AllZip}
 use Rattle.tbr_model.specs.Run.{Item}
 use Rattle.tbr_border.specs.declared.render_line.RenderLine.{RenderLine}
 use Rattle.tbr_border.specs.declared.render_line.RenderLine.TheVariants.{Text, Line}
 use Rattle.tbr_border.specs.Border.{Border, shown, lines_above}
-use Rattle.tbr_tagged.specs.Elements.{items_of, text_items}
+use Rattle.tbr_tagged.specs.Elements.{Element, items_of, text_items, SameItems}
 use Rattle.tbr_tagged.specs.Padding.{spaces}
 use Rattle.tbr_rows.specs.declared.column.Column.{Column}
 use Rattle.tbr_rows.specs.Cells.{cell_height}
@@ -58,3 +59,7 @@ line_text separator a cs i = row_text separator (map (cell_text a i) cs)
 
 abbrev pub line_texts : {A : Type 0} → Item A → A → List (Column A) → ℕ → List (List (Item A))
 line_texts separator a cs height = map (line_text separator a cs) (numbers_below height)
+
+-- lines show these texts, in order
+abbrev pub HaveTexts : {A : Type 0} → (A → A → Bool) → List (List (Element A)) → List (List (Item A)) → Type 0
+HaveTexts eq lines texts = AllZip (λ line text. SameItems eq (items_of line) text) lines texts

@@ -5,6 +5,7 @@ pub use line_set::LineSet;
 
 mod borders;
 mod column;
+mod gaps;
 mod line_set;
 mod seating;
 mod texts;

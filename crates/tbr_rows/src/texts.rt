@@ -1,6 +1,6 @@
 //! The lines of a row.
 ghost use Rattle.std.specs.Prelude.{◌≡◌, ◌++◌, map, length, IfOk, OnOk};
-ghost use Rattle.std.specs.List.{AllZip};
+ghost use Rattle.std.specs.List.{AllByRecursion as Each};
 ghost use Rattle.tbr_model.specs.Run.{glyph};
 ghost use Rattle.tbr_tagged.specs.Copies.{CopiesAreEqual};
 ghost use Rattle.tbr_tagged.specs.Elements.{items_of, text_items, SameItems, IsMerged};
@@ -11,6 +11,27 @@ use crate::column::Column;
 use std::alloc::Global;
 use tbr_border::{BorderHoriz, RenderLine};
 use tbr_tagged::{OutOfMemory, TaggedLine, TaggedString, spaces};
+
+/// The lines of a row: as many as asked for. They are taken out of its cells.
+pub(crate) fn lines_of<T: Eq + Clone + Drop>(
+    alloc: Global,
+    columns: &mut Vec<Column<T>>,
+    height: usize,
+    separator: char,
+    tag: &T,
+) -> Result<Vec<TaggedLine<T>>, OutOfMemory>
+    requires { CopiesAreEqual T.is_clone T.eq }
+    ensures items { IfOk result (λ lines. model.HaveTexts T.eq lines.items
+        (model.line_texts (glyph separator tag.now) tag.now columns.old.items height)) }
+    ensures merged { IfOk result (λ lines. Each (IsMerged T.eq) lines.items) }
+    ensures rest { OnOk result (columns.new.items ≡ map (model.dropped height) columns.old.items) }
+{
+    let mut lines = Vec::with_capacity(alloc, height)?;
+    for _ in 0..height {
+        lines.push(line_of(alloc, columns, separator, tag)?)?;
+    }
+    Ok(lines)
+}
 
 /// One line of a row: the first line of each cell, which it takes out, or its filler, with a separator between two
 /// cells.
@@ -66,9 +87,22 @@ fn push_first<T: Eq + Clone + Drop>(
     ensures rest { OnOk result (column.new ≡ model.dropped 1 column.old) }
 {
     match column.cell.lines.pop_front() {
-        Some(RenderLine::Text(text)) => push_line(line, text),
-        Some(RenderLine::Line(border)) => push_line(line, border.into_tagged_line_with(tag)?),
+        Some(first) => push_line(line, text_in_row(first, tag)?),
         None => push_filler(alloc, line, column, tag),
+    }
+}
+
+/// A line as it stands in a row: a border's cells are drawn under a copy of the tag.
+fn text_in_row<T: Eq + Clone + Drop>(
+    line: RenderLine<T>,
+    tag: &T,
+) -> Result<TaggedLine<T>, OutOfMemory>
+    requires { CopiesAreEqual T.is_clone T.eq }
+    ensures { IfOk result (λ text. SameItems T.eq (items_of text) (model.text_in_row tag.now line)) }
+{
+    match line {
+        RenderLine::Text(text) => Ok(text),
+        RenderLine::Line(border) => border.into_tagged_line_with(tag),
     }
 }
 

@@ -1,4 +1,8 @@
-use Rattle.std.proofs.Common.{ap, subst, sym, map-id, ◌∙◌, ◌++◌, map}
+use Rattle.std.proofs.Common.{ap, subst, sym, map-id, ◌∙◌, ◌++◌, map, refl, length}
+use Rattle.std.specs.Vec.Iter.{into_iter_items}
+use Rattle.std.proofs.lemmas.List.{length-map}
+use Rattle.std.proofs.lemmas.Iterator.Adapters.{YieldsList-from_vec}
+use Rattle.tbr_tagged.specs.View.{element_of}
 use Rattle.std.proofs.lemmas.Iterator.Consumers.{YieldsList-end}
 use Rattle.tbr_tagged.specs.Elements.{items_of, SameItems}
 use Rattle.tbr_rows.proofs.RowTexts.{behind_nothing, one_more}
@@ -14,4 +18,10 @@ loop-element-preserved g c = record {
 }
 
 pub returns-clause-items : goal.returns-clause-items
-returns-clause-items g c = ?
+returns-clause-items g c =
+    let walk = c.into_iter-element-iterator.result in
+    let given = c.into_iter-element-iterator.ensures.into_iter_gives in
+    let list = YieldsList-from_vec (into_iter_items walk) refl (given.1 ∙ ap length (sym given.0) ∙ length-map (into_iter_items walk) element_of) in
+    let end = YieldsList-end list c.loop-element.yielded c.loop-element.element-iterator c.loop-element.yielded_by c.next.result c.next.new.self c.in-None.is c.next.ensures.steps in
+    let all = ap (map element_of) (sym (map-id c.loop-element.yielded) ∙ end.0) ∙ given.0 in
+    subst (λ es. SameItems g.T.PartialEq.eq (items_of c.loop-element.line) (items_of c.args.line.now ++ items_of es)) all c.loop-element.invariant.items
