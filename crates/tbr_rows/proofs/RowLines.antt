@@ -43,3 +43,8 @@ one_more_line {A} eq separator a cs now i lines line h e k =
     let next : suc i ≡ i + 1 = omega arith in
     let more : line_texts separator a cs i ++ text ∷ [] ≡ line_texts separator a cs (i + 1) = sym (map_push (line_text separator a cs) (numbers_below i) i) ∙ ap (line_texts separator a cs) next in
     subst (HaveTexts eq (lines ++ line ∷ [])) more (all_zip_append (λ (es : List (Element A)) (is : List (Item A)). SameItems eq (items_of es) is) lines (line ∷ []) (line_texts separator a cs i) (text ∷ []) h (one, tt))
+
+-- at first nothing is taken out
+pub dropped_none : {A : Type 0} (cs : List (Column A)) → cs ≡ map (dropped 0) cs
+dropped_none [] = refl
+dropped_none {A} (c ∷ cs) = ap (λ (ds : List (Column A)). c ∷ ds) (dropped_none cs)

@@ -27,15 +27,15 @@ pub(crate) fn hang<T: Eq + Clone + Drop, W: CharWidth>(
     ensures rest { IfOk result (λ rest. rest ≡ model.overhang draws (map model.cell_in columns.items)) }
 {
     let mut rest = LinkedList::new(alloc);
-    for Column { cell, .. } in columns {
-        hang_cell::<T, W>(alloc, cell, next, &mut rest, draws, tag)?;
+    for column in columns {
+        hang_cell::<T, W>(alloc, column, next, &mut rest, draws, tag)?;
     }
     Ok(rest)
 }
 
 fn hang_cell<T: Eq + Clone + Drop, W: CharWidth>(
     alloc: Global,
-    mut cell: LineSet<T>,
+    column: Column<T>,
     next: &mut BorderHoriz<T>,
     rest: &mut LinkedList<LineSet<T>>,
     draws: bool,
@@ -43,9 +43,10 @@ fn hang_cell<T: Eq + Clone + Drop, W: CharWidth>(
 ) -> Result<(), OutOfMemory>
     requires { CopiesAreEqual T.is_clone T.eq }
     ensures gap { OnOk result
-        (FillsGapIf (model.has_gap draws cell) W.columns T.eq tag.now cell next.old next.new) }
-    ensures rest { OnOk result (rest.new ≡ rest.old ++ model.overhang_of draws cell) }
+        (FillsGapIf (model.has_gap draws column.cell) W.columns T.eq tag.now column.cell next.old next.new) }
+    ensures rest { OnOk result (rest.new ≡ rest.old ++ model.overhang_of draws column.cell) }
 {
+    let mut cell = column.cell;
     if cell.span <= 1 {
         return Ok(());
     }
