@@ -2,3 +2,5 @@ pub mod Places
 pub mod RowTexts
 pub mod RowLines
 pub mod FilledGaps
+pub mod Fits
+pub mod Seats

@@ -1,9 +1,13 @@
 -- The cells of a row, and where they stand.
-use Rattle.std.specs.Prelude.{◌≡◌, ℕ, ◌+◌, ◌-◌, ◌/◌, ◌≤◌, nat_lt, nat_le, ◌==◌, ◌&&◌, ◌||◌, max, Bool, true, false, ⊤, if◌then◌else◌, Option, None, Some, List, [], ◌∷◌, ◌++◌, fold, length, drop, get_or, map, take}
+use Rattle.std.specs.Prelude.{◌≡◌, ℕ, ◌+◌, ◌-◌, ◌/◌, ◌≤◌, nat_lt, nat_le, ◌==◌, ◌&&◌, ◌||◌, max, Bool, true, false, ⊤, if◌then◌else◌, Option, None, Some, is_none, List, [], ◌∷◌, ◌++◌, fold, length, drop, get_or, map, take}
 use Rattle.std.specs.Option.{option_map}
 use Rattle.std.specs.List.{list_all, list_any}
 use Rattle.tbr_border.specs.declared.render_line.RenderLine.{RenderLine}
 use Rattle.tbr_rows.specs.declared.line_set.LineSet.{LineSet as Cell}
+
+abbrev pub first_line : {A : Type 0} → List (RenderLine A) → Option (RenderLine A)
+first_line [] = None
+first_line (l ∷ ls) = Some l
 
 abbrev pub empty_cell : {A : Type 0} → ℕ → ℕ → Cell A
 empty_cell place width = record { place = place; width = width; span = 1; lines = [] }
@@ -77,3 +81,42 @@ abbrev pub seated : {A : Type 0} → List (Cell A) → List (Cell A) → List (C
 seated hanging cells =
     let s = fold seat (record { seated = []; waiting = hanging }) cells in
     append_all s.seated s.waiting
+
+-- ---- whether they can
+
+-- Where a cell of the row stands, and whether nothing is in it.
+pub record Spot : Type 0 where
+  pub place : ℕ
+  pub width : ℕ
+  pub is_blank : Bool
+
+-- a cell stands where another one would, as wide, and nothing is in it
+abbrev pub is_left_for : {A : Type 0} → Cell A → Spot → Bool
+is_left_for h s = (h.place == s.place) && ((h.width == s.width) && s.is_blank)
+
+-- a cell ends before the separator in front of another one
+abbrev pub ends_before : {A : Type 0} → Cell A → Spot → Bool
+ends_before h s = nat_le (s.place + s.width + 1) h.place
+
+-- For each overhanging cell either one of the row is left for it, or all of them end before it.
+abbrev pub row_fits : {A : Type 0} → List (Cell A) → List Spot → Bool
+row_fits hanging spots = list_all (λ h. list_any (is_left_for h) spots || list_all (ends_before h) spots) hanging
+
+abbrev pub spot_of : {A : Type 0} → Cell A → Spot
+spot_of c = record { place = c.place; width = c.width; is_blank = is_none (first_line c.lines) }
+
+-- Overhanging cells behind all others, from a column on, with empty ones between where columns are free.
+abbrev pub appended : {A : Type 0} → ℕ → List (Cell A) → List (Cell A)
+appended at [] = []
+appended at (h ∷ hs) =
+    (if nat_lt at h.place then empty_cell at (h.place - at - 1) ∷ [] else []) ++ h ∷ appended (end_of h + 1) hs
+
+-- The cells of a row from a column on, in which each overhanging cell has its place: no cell with lines goes, no other
+-- one moves, and none stands in front of another.
+abbrev pub with_hanging : {A : Type 0} → ℕ → List (Cell A) → List (Cell A) → Option (List (Cell A))
+with_hanging at hs [] = Some (appended at hs)
+with_hanging at [] (c ∷ cs) = Some (c ∷ cs)
+with_hanging at (h ∷ hs) (c ∷ cs) =
+    if is_left_for h (spot_of c) then option_map (λ r. h ∷ r) (with_hanging (end_of h + 1) hs cs)
+    else if ends_before h (spot_of c) then option_map (λ r. c ∷ r) (with_hanging (end_of c + 1) (h ∷ hs) cs)
+    else None

@@ -6,6 +6,7 @@ use Rattle.tbr_border.specs.Border.{Border, span_end, with_span, shown}
 use Rattle.tbr_tagged.specs.Elements.{Element, piece, items_of, SameItems, SameElements, IsMerged}
 use Rattle.tbr_tagged.specs.Padding.{spaces}
 use Rattle.tbr_rows.specs.declared.line_set.LineSet.{LineSet as Cell}
+use Rattle.tbr_rows.specs.Cells.{first_line}
 use Rattle.tbr_rows.specs.declared.column.Column.{Column}
 
 -- whether a line of a cell stands in the border below its row
@@ -19,10 +20,6 @@ with_element columns place b e = with_span columns (max place (span_end b.holes)
 -- and several, one behind another
 abbrev pub with_elements : {A : Type 0} → (ℕ → Option ℕ) → ℕ → Border A → List (Element A) → Border A
 with_elements columns place b es = fold (with_element columns place) b es
-
-abbrev pub first_line : {A : Type 0} → List (RenderLine A) → Option (RenderLine A)
-first_line [] = None
-first_line (l ∷ ls) = Some l
 
 -- The elements of a cell's first line: those of a text, or of a border as text under its own tag. Where there is no line
 -- they are one piece of spaces.

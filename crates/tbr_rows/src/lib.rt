@@ -6,6 +6,7 @@ pub use line_set::LineSet;
 mod borders;
 mod column;
 mod gaps;
+pub mod laws;
 mod line_set;
 mod seating;
 mod texts;
