@@ -1,12 +1,12 @@
 -- Cells among which overhanging ones have taken their places.
 use Rattle.std.proofs.Common.{◌≡◌, ◌==◌, if◌then◌else◌, ℕ, suc, ◌+◌, ◌-◌, ◌<◌, ◌≤◌, Bool, true, false, Option, Some, None, List, [], ◌∷◌, ◌++◌, map, fold, drop, get_or, refl, ap, sym, ◌∙◌, subst, arith, append_assoc, append-nil}
-use Rattle.std.specs.Prelude.{nat_lt}
+use Rattle.std.specs.Prelude.{nat_lt, is_some}
 use Rattle.std.specs.Option.{option_map}
 use Rattle.std.proofs.lemmas.Bool.{eqb-true, eq-eqb, ne_eqb, leb-true, ltb-true, ltb-false, both_ways}
 use Rattle.std.proofs.lemmas.Option.{same_Some}
 use Rattle.tbr_rows.specs.declared.line_set.LineSet.{LineSet as Cell}
-use Rattle.tbr_rows.specs.Cells.{end_of, row_width, next_place, empty_cell, AreSideBySide, AreApart, spot_of, is_left_for, ends_before, with_hanging, appended, Seating, seat, seated, append_cell, append_all}
-use Rattle.tbr_rows.proofs.Fits.{left_is}
+use Rattle.tbr_rows.specs.Cells.{end_of, row_width, next_place, empty_cell, AreSideBySide, AreApart, spot_of, is_left_for, ends_before, row_fits, with_hanging, appended, Seating, seat, seated, append_cell, append_all}
+use Rattle.tbr_rows.proofs.Fits.{left_is, found_exactly}
 
 some_of_map : {X Y : Type 0} (f : X → Y) (o : Option X) (y : Y) → option_map f o ≡ Some y → (x : X) × (o ≡ Some x) × (f x ≡ y)
 some_of_map f None y e = absurd (let no : None ≡ Some y = e in cc)
@@ -110,3 +110,24 @@ seats_are {A} done at (h ∷ hs) (c ∷ cs) r here e =
         let same : h.place ≡ c.place = eqb-true h.place c.place stands in
         absurd (let no : ⊥ = omega (arith, ends, same) in no)
     go false false p left before stands taken kept k = absurd (let no : None ≡ Some r = k in cc)
+
+some_is : {X : Type 0} (o : Option X) → is_some o ≡ true → (x : X) × (o ≡ Some x)
+some_is None e = absurd (let no : false ≡ true = e in cc)
+some_is (Some x) e = (x, refl)
+
+-- the cells of a row that fits
+pub seats_of_row : {A : Type 0} (hs cs : List (Cell A)) → AreSideBySide 0 cs → AreApart 0 hs → row_fits hs (map spot_of cs) ≡ true →
+    (with_hanging 0 hs cs ≡ Some (seated hs cs)) × AreSideBySide 0 (seated hs cs)
+seats_of_row {A} hs cs s a fits =
+    let r = some_is (with_hanging 0 hs cs) (found_exactly 0 hs cs s a ∙ fits) in
+    let is : seated hs cs ≡ r.0 = seats_are [] 0 hs cs r.0 refl r.1 in
+    (r.1 ∙ ap (λ (t : List (Cell A)). Some t) (sym is), subst (AreSideBySide 0) (sym is) (stand_side_by_side 0 hs cs r.0 s a r.1))
+
+-- one more cell behind the others
+pub side_by_side_push : {A : Type 0} (cs : List (Cell A)) (c : Cell A) → AreSideBySide 0 cs → c.place ≡ next_place cs → AreSideBySide 0 (cs ++ c ∷ [])
+side_by_side_push [] c s e = (e, tt)
+side_by_side_push {A} (d ∷ cs) c s e = go 0 d cs s e
+  where
+    go : (at : ℕ) (d : Cell A) (cs : List (Cell A)) → AreSideBySide at (d ∷ cs) → c.place ≡ row_width (d ∷ cs) + 1 → AreSideBySide at (d ∷ (cs ++ c ∷ []))
+    go at d [] s e = (s.0, (e, tt))
+    go at d (f ∷ cs) s e = (s.0, go (end_of d + 1) f cs s.1 e)

@@ -1,4 +1,5 @@
 pub mod Cells
+pub mod Filled
 pub mod Borders
 pub mod Texts
 pub mod Gaps

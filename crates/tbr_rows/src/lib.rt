@@ -1,12 +1,16 @@
 //! Rows of cells side by side: their places, their lines, and the borders above and below them.
 #![tactic(auto)]
 
+pub use columns::Columns;
 pub use line_set::LineSet;
+pub use overhang::Overhang;
 
 mod borders;
 mod column;
+mod columns;
 mod gaps;
 pub mod laws;
 mod line_set;
+mod overhang;
 mod seating;
 mod texts;
