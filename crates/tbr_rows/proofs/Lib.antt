@@ -4,3 +4,5 @@ pub mod RowLines
 pub mod FilledGaps
 pub mod Fits
 pub mod Seats
+pub mod Left
+pub mod WholeRow

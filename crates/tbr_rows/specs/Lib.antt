@@ -3,3 +3,4 @@ pub mod Filled
 pub mod Borders
 pub mod Texts
 pub mod Gaps
+pub mod Rows

@@ -4,6 +4,7 @@
 pub use columns::Columns;
 pub use line_set::LineSet;
 pub use overhang::Overhang;
+pub use row::{Row, RowStyle};
 
 mod borders;
 mod column;
@@ -12,5 +13,6 @@ mod gaps;
 pub mod laws;
 mod line_set;
 mod overhang;
+mod row;
 mod seating;
 mod texts;
