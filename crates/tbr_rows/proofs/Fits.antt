@@ -8,7 +8,7 @@ use Rattle.tbr_rows.specs.declared.line_set.LineSet.{LineSet as Cell}
 use Rattle.tbr_rows.specs.Cells.{end_of, AreSideBySide, AreApart, Spot, spot_of, is_left_for, ends_before, row_fits, with_hanging}
 
 -- whether a cell finds its place among others
-abbrev finds : {A : Type 0} → List Spot → Cell A → Bool
+abbrev pub finds : {A : Type 0} → List Spot → Cell A → Bool
 finds spots h = list_any (is_left_for h) spots || list_all (ends_before h) spots
 
 pub left_is : {A : Type 0} (h c : Cell A) → is_left_for h (spot_of c) ≡ true → (h.place ≡ c.place) × (h.width ≡ c.width)
@@ -16,25 +16,25 @@ left_is h c e =
     let both = and_parts _ _ e in
     (eqb-true h.place c.place both.0, eqb-true h.width c.width (and_parts _ _ both.1).0)
 
-elsewhere : {A : Type 0} (h c : Cell A) → (h.place ≡ c.place → ⊥) → is_left_for h (spot_of c) ≡ false
-elsewhere h c n = rw (ne_eqb h.place c.place n) refl
+pub elsewhere : {A : Type 0} (h : Cell A) (s : Spot) → (h.place ≡ s.place → ⊥) → is_left_for h s ≡ false
+elsewhere h s n = rw (ne_eqb h.place s.place n) refl
 
 -- a cell in front of a place isn't found behind it
 none_behind : {A : Type 0} (h : Cell A) (at : ℕ) (cs : List (Cell A)) → h.place < at → AreSideBySide at cs → list_any (is_left_for h) (map spot_of cs) ≡ false
 none_behind h at [] before s = refl
 none_behind h at (c ∷ cs) before s =
-    rw (elsewhere h c (λ e. let no : ⊥ = omega (arith, before, e, s.0) in no)) (none_behind h (end_of c + 1) cs (omega (arith, before, s.0)) s.1)
+    rw (elsewhere h (spot_of c) (λ e. let no : ⊥ = omega (arith, before, e, s.0) in no)) (none_behind h (end_of c + 1) cs (omega (arith, before, s.0)) s.1)
 
 -- cells behind a place need not look at one that ends before it
-past : {A : Type 0} (c : Cell A) (spots : List Spot) (at : ℕ) (hs : List (Cell A)) → end_of c + 1 ≤ at → AreApart at hs → row_fits hs (spot_of c ∷ spots) ≡ row_fits hs spots
-past c spots at [] behind a = refl
-past c spots at (h ∷ hs) behind a =
-    let other = elsewhere h c (λ e. let no : ⊥ = omega (arith, behind, a.0, e) in no) in
-    let ends = le-leb (c.place + c.width + 1) h.place (omega (arith, behind, a.0)) in
-    let rest = past c spots (end_of h + 1) hs (omega (arith, behind, a.0)) a.1 in
+pub past : {A : Type 0} (s : Spot) (spots : List Spot) (at : ℕ) (hs : List (Cell A)) → s.place + s.width + 1 ≤ at → AreApart at hs → row_fits hs (s ∷ spots) ≡ row_fits hs spots
+past s spots at [] behind a = refl
+past s spots at (h ∷ hs) behind a =
+    let other = elsewhere h s (λ e. let no : ⊥ = omega (arith, behind, a.0, e) in no) in
+    let ends = le-leb (s.place + s.width + 1) h.place (omega (arith, behind, a.0)) in
+    let rest = past s spots (end_of h + 1) hs (omega (arith, behind, a.0)) a.1 in
     rw (other, ends, rest) refl
 
-all_found : {A : Type 0} (hs : List (Cell A)) → true ≡ row_fits hs []
+pub all_found : {A : Type 0} (hs : List (Cell A)) → true ≡ row_fits hs []
 all_found [] = refl
 all_found (h ∷ hs) = all_found hs
 
@@ -61,12 +61,12 @@ found_exactly {A} at (h ∷ hs) (c ∷ cs) s a =
         let same : end_of c + 1 ≡ end_of h + 1 = omega (arith, is.0, is.1) in
         some_mapped (λ r. h ∷ r) (with_hanging (end_of h + 1) hs cs)
         ∙ taken (subst (λ n. AreSideBySide n cs) same s.1)
-        ∙ sym (past c spots (end_of h + 1) hs (omega (arith, same)) a.1)
+        ∙ sym (past (spot_of c) spots (end_of h + 1) hs (omega (arith, same)) a.1)
     go false true left before taken kept =
         let ends : end_of c + 1 ≤ h.place = leb-true _ _ before in
         some_mapped (λ r. c ∷ r) (with_hanging (end_of c + 1) (h ∷ hs) cs)
         ∙ kept (ends, a.1)
-        ∙ ap (λ b. finds spots h && b) (sym (past c spots (end_of h + 1) hs (omega (arith, ends)) a.1))
+        ∙ ap (λ b. finds spots h && b) (sym (past (spot_of c) spots (end_of h + 1) hs (omega (arith, ends)) a.1))
     go false false left before taken kept =
         let short : h.place < end_of c + 1 = leb-false _ _ before in
         rw (none_behind h (end_of c + 1) cs short s.1) refl

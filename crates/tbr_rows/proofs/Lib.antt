@@ -6,3 +6,4 @@ pub mod Fits
 pub mod Seats
 pub mod Left
 pub mod WholeRow
+pub mod Fitted

@@ -105,6 +105,19 @@ row_fits hanging spots = list_all (λ h. list_any (is_left_for h) spots || list_
 abbrev pub spot_of : {A : Type 0} → Cell A → Spot
 spot_of c = record { place = c.place; width = c.width; is_blank = is_none (first_line c.lines) }
 
+-- a cell's width, and whether nothing is in it
+abbrev pub look : {A : Type 0} → Cell A → ℕ × Bool
+look c = (c.width, is_none (first_line c.lines))
+
+-- the same place, and nothing in it where nothing is in the other one
+abbrev pub IsAsFree : Spot → Spot → Type 0
+IsAsFree s t = (t.place ≡ s.place) × (t.width ≡ s.width) × (s.is_blank ≡ true → t.is_blank ≡ true)
+
+-- where cells of these widths stand side by side, from a column on, and whether they are blank
+abbrev pub spots_from : ℕ → List (ℕ × Bool) → List Spot
+spots_from at [] = []
+spots_from at (w ∷ ws) = record { place = at; width = w.0; is_blank = w.1 } ∷ spots_from (at + w.0 + 1) ws
+
 -- Overhanging cells behind all others, from a column on, with empty ones between where columns are free.
 abbrev pub appended : {A : Type 0} → ℕ → List (Cell A) → List (Cell A)
 appended at [] = []

@@ -4,3 +4,4 @@ pub mod Borders
 pub mod Texts
 pub mod Gaps
 pub mod Rows
+pub mod Fitting

@@ -2,6 +2,7 @@
 #![tactic(auto)]
 
 pub use columns::Columns;
+pub use fitting::Fitting;
 pub use line_set::LineSet;
 pub use overhang::Overhang;
 pub use row::{Row, RowStyle};
@@ -9,6 +10,7 @@ pub use row::{Row, RowStyle};
 mod borders;
 mod column;
 mod columns;
+mod fitting;
 mod gaps;
 pub mod laws;
 mod line_set;

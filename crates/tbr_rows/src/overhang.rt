@@ -1,8 +1,10 @@
 //! The cells that overhang from the rows before.
 ghost use Rattle.std.specs.Prelude.{◌≡◌, [], map, true, Some, IfOk};
+ghost use Rattle.tbr_rows.specs.Fitting.{fitting_of};
 ghost use Rattle.tbr_rows.specs.Cells.{AreSideBySide, AreApart, row_fits, spot_of, with_hanging};
 
 use crate::columns::Columns;
+use crate::fitting::Fitting;
 use crate::line_set::LineSet;
 use crate::seating::seated;
 use std::alloc::Global;
@@ -23,7 +25,8 @@ impl<T> Model for Overhang<T> {
 
     ghost Value = { List (LineSet T) };
 
-    ghost use Rattle.tbr_rows.specs.Cells.{AreApart};
+    ghost use Rattle.tbr_rows.specs.Fitting.{fitting_of};
+ghost use Rattle.tbr_rows.specs.Cells.{AreApart};
 
     ghost view = { λ o. o.cells };
 
@@ -38,6 +41,14 @@ impl<T: Drop> Overhang<T> {
         Overhang {
             cells: LinkedList::new(alloc),
         }
+    }
+
+    /// Begins to ask whether a row has a place for each of these cells. It takes no memory.
+    pub fn fitting(&self) -> Fitting<'_, T>
+        ensures start { result ≡ fitting_of self.now }
+        ensures apart { AreApart 0 self.now }
+    {
+        Fitting::of(self.cells.iter())
     }
 
     /// These cells.
