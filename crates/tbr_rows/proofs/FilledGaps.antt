@@ -1,5 +1,5 @@
 -- Gaps in the border below a row, filled cell by cell.
-use Rattle.std.proofs.Common.{◌≡◌, ℕ, Bool, Option, List, [], ◌∷◌, ◌++◌, refl, ap, sym, ◌∙◌, subst, append-nil}
+use Rattle.std.proofs.Common.{◌≡◌, ℕ, Bool, Option, List, [], ◌∷◌, ◌++◌, refl, ap, ◌∙◌, subst, append-nil}
 use Rattle.std.proofs.lemmas.List.Concat.{flat_map-append}
 use Rattle.tbr_border.specs.Border.{Border}
 use Rattle.tbr_rows.specs.declared.line_set.LineSet.{LineSet as Cell}

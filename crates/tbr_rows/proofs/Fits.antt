@@ -1,9 +1,9 @@
 -- Whether overhanging cells find their places.
-use Rattle.std.proofs.Common.{◌≡◌, if◌then◌else◌, ℕ, suc, ◌+◌, ◌-◌, ◌<◌, ◌≤◌, Bool, true, false, ◌&&◌, ◌||◌, ◌==◌, Option, Some, None, List, [], ◌∷◌, map, refl, ap, sym, ◌∙◌, subst, arith}
+use Rattle.std.proofs.Common.{◌≡◌, if◌then◌else◌, ℕ, ◌+◌, ◌<◌, ◌≤◌, Bool, true, false, ◌&&◌, ◌||◌, Option, Some, None, List, [], ◌∷◌, map, refl, ap, sym, ◌∙◌, subst, arith}
 use Rattle.std.specs.Prelude.{is_some}
 use Rattle.std.specs.Option.{option_map}
 use Rattle.std.specs.List.{list_all, list_any}
-use Rattle.std.proofs.lemmas.Bool.{eqb-true, ne_eqb, leb-true, leb-false, le-leb, lt-leb, and_parts}
+use Rattle.std.proofs.lemmas.Bool.{eqb-true, ne_eqb, leb-true, leb-false, le-leb, and_parts}
 use Rattle.tbr_rows.specs.declared.line_set.LineSet.{LineSet as Cell}
 use Rattle.tbr_rows.specs.Cells.{end_of, AreSideBySide, AreApart, Spot, spot_of, is_left_for, ends_before, row_fits, with_hanging}
 
@@ -51,6 +51,7 @@ found_exactly {A} at (h ∷ hs) (c ∷ cs) s a =
   where
     spots : List Spot
     spots = map spot_of cs
+
     go : (l e : Bool) → is_left_for h (spot_of c) ≡ l → ends_before h (spot_of c) ≡ e →
         (AreSideBySide (end_of h + 1) cs → is_some (with_hanging (end_of h + 1) hs cs) ≡ row_fits hs spots) →
         (AreApart (end_of c + 1) (h ∷ hs) → is_some (with_hanging (end_of c + 1) (h ∷ hs) cs) ≡ row_fits (h ∷ hs) spots) →

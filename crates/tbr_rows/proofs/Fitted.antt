@@ -1,11 +1,11 @@
 -- Whether a row fits, told cell by cell.
-use Rattle.std.proofs.Common.{◌≡◌, if◌then◌else◌, ℕ, suc, ◌+◌, ◌<◌, ◌≤◌, Bool, true, false, ◌&&◌, ◌||◌, ◌==◌, List, [], ◌∷◌, map, fold, refl, ap, sym, ◌∙◌, subst, arith, inl, inr}
+use Rattle.std.proofs.Common.{◌≡◌, if◌then◌else◌, ℕ, ◌+◌, ◌<◌, ◌≤◌, Bool, true, false, ◌&&◌, ◌||◌, ◌==◌, List, [], ◌∷◌, map, refl, ap, sym, ◌∙◌, subst, arith, inl, inr}
 use Rattle.std.specs.Prelude.{nat_le}
 use Rattle.std.specs.List.{list_all, list_any, AllZip}
-use Rattle.std.proofs.lemmas.Bool.{eqb-true, eq-eqb, leb-true, leb-false, le-leb, lt-leb, and_parts, and_from, or_cases}
+use Rattle.std.proofs.lemmas.Bool.{eqb-true, leb-true, leb-false, le-leb, lt-leb, and_parts, and_from, or_cases}
 use Rattle.tbr_rows.specs.declared.line_set.LineSet.{LineSet as Cell}
 use Rattle.tbr_rows.specs.Cells.{end_of, AreSideBySide, AreApart, Spot, spot_of, spots_from, look, is_left_for, ends_before, row_fits, IsAsFree}
-use Rattle.tbr_rows.specs.Fitting.{Fitting, taken, moved, fit_step, fit_all, fitting_of}
+use Rattle.tbr_rows.specs.Fitting.{Fitting, moved, fit_step, fit_all, fitting_of}
 use Rattle.tbr_rows.proofs.Fits.{elsewhere, past, all_found, finds}
 
 pub spots_side_by_side : {A : Type 0} (at : ℕ) (cs : List (Cell A)) → AreSideBySide at cs → map spot_of cs ≡ spots_from at (map look cs)
@@ -38,6 +38,7 @@ lost_step {A} (h ∷ hs) at width b = go (h.place == at)
         step : (e : Bool) → (let f : Fitting A = if e then record { waiting = k ∷ ks; at = at + width + 1; fits = false } else record { waiting = k ∷ ks; at = at; fits = false } in f.fits) ≡ false
         step true = refl
         step false = refl
+
     go : (p : Bool) → (let t : Fitting A = if p then record { waiting = hs; at = at; fits = false && (h.width == width && b) } else record { waiting = h ∷ hs; at = at; fits = false } in (moved t.waiting t.at t.fits width).fits) ≡ false
     go true = after hs
     go false = after (h ∷ hs)
@@ -67,16 +68,22 @@ fit_from {A} at (h ∷ hs) (w ∷ ws) a = go (h.place == at) (h.width == w.0 && 
   where
     spot : Spot
     spot = record { place = at; width = w.0; is_blank = w.1 }
+
     spots : List Spot
     spots = spots_from (at + w.0 + 1) ws
+
     any : Bool
     any = list_any (is_left_for h) spots
+
     all : Bool
     all = list_all (ends_before h) spots
+
     e : Bool
     e = ends_before h spot
+
     waits : Fitting A
     waits = record { waiting = h ∷ hs; at = at; fits = true }
+
     go : (p q : Bool) → (h.place == at) ≡ p → (h.width == w.0 && w.1) ≡ q →
         ((ks : List (Cell A)) → AreApart (at + w.0 + 1) ks → (let f : Fitting A = record { waiting = ks; at = at + w.0 + 1; fits = true } in (fit_all f ws).fits) ≡ row_fits ks spots) →
         (fit_all (let t : Fitting A = if p then record { waiting = hs; at = at; fits = q } else waits in moved t.waiting t.at t.fits w.0) ws).fits

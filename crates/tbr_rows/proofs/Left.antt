@@ -1,13 +1,12 @@
 -- What is left of cells side by side stands apart.
-use Rattle.std.proofs.Common.{◌≡◌, if◌then◌else◌, ℕ, ◌+◌, ◌-◌, ◌≤◌, Bool, true, false, Option, Some, None, List, [], ◌∷◌, ◌++◌, map, drop, refl, arith}
+use Rattle.std.proofs.Common.{if◌then◌else◌, ℕ, ◌+◌, ◌-◌, ◌≤◌, Bool, true, false, Option, Some, None, List, [], ◌∷◌, ◌++◌, map, drop, arith}
 use Rattle.std.specs.Prelude.{nat_lt}
 use Rattle.tbr_border.specs.Border.{Border}
 use Rattle.tbr_border.specs.declared.render_line.RenderLine.{RenderLine}
 use Rattle.tbr_rows.specs.declared.line_set.LineSet.{LineSet as Cell}
-use Rattle.tbr_rows.specs.declared.column.Column.{Column}
 use Rattle.tbr_rows.specs.Cells.{end_of, AreSideBySide, AreApart}
 use Rattle.tbr_rows.specs.Borders.{without_first_border, with_last_border_apart, whole_column}
-use Rattle.tbr_rows.specs.Gaps.{overhang_of, overhang}
+use Rattle.tbr_rows.specs.Gaps.{overhang}
 use Rattle.tbr_rows.specs.Rows.{cells_under, columns_shown, cells_left}
 
 under : {A : Type 0} (at : ℕ) (cs : List (Cell A)) → AreSideBySide at cs → AreSideBySide at (map without_first_border cs)
@@ -35,6 +34,7 @@ overhang_apart {A} draws from at (c ∷ cs) before s =
   where
     rest : List (RenderLine A)
     rest = drop (if draws then 1 else 0) c.lines
+
     go : (b : Bool) → AreApart (end_of c + 1) (overhang draws cs) → AreApart from (overhang draws cs) → AreApart from ((if b then record c { span = c.span - 1; lines = rest } ∷ [] else []) ++ overhang draws cs)
     go true behind all = (omega (arith, before, s.0), behind)
     go false behind all = all

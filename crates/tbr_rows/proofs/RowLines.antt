@@ -1,7 +1,6 @@
 -- The lines of a row, one after another.
 use Rattle.std.proofs.Common.{◌≡◌, ℕ, suc, ◌+◌, Bool, List, [], ◌∷◌, ◌++◌, map, drop, refl, ap, sym, ◌∙◌, subst, arith}
 use Rattle.std.specs.List.{AllByRecursion as Each}
-use Rattle.std.specs.Cmp.{IsEquivalence}
 use Rattle.std.proofs.lemmas.List.{drop-drop, map_push}
 use Rattle.tbr_model.specs.Run.{Item}
 use Rattle.tbr_border.specs.declared.render_line.RenderLine.{RenderLine}

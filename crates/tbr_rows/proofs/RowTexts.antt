@@ -1,9 +1,9 @@
 -- Lines of a row, built text by text.
-use Rattle.std.proofs.Common.{◌≡◌, ℕ, zero, suc, ◌+◌, ◌<◌, ◌≤◌, Bool, true, List, [], ◌∷◌, ◌++◌, map, take, drop, set, get_or, length, refl, ap, sym, ◌∙◌, subst, arith, append_assoc, append-nil, drop-cons}
+use Rattle.std.proofs.Common.{◌≡◌, ℕ, suc, ◌+◌, ◌<◌, Bool, true, List, [], ◌∷◌, ◌++◌, map, take, drop, set, get_or, length, refl, ap, sym, ◌∙◌, subst, arith, append_assoc, append-nil, drop-cons}
 use Rattle.std.specs.Cmp.{IsEquivalence}
 use Rattle.std.proofs.lemmas.List.{map-append, map_push, take_more, length-take-le, set_at, length-map, get_or_at}
 use Rattle.std.proofs.lemmas.List.Concat.{flat_map-append}
-use Rattle.tbr_model.specs.Run.{Item, glyph}
+use Rattle.tbr_model.specs.Run.{Item}
 use Rattle.tbr_tagged.specs.declared.element.TaggedLineElement.{TaggedLineElement}
 use Rattle.tbr_tagged.specs.Elements.{Element, element_items, items_of, text_items, SameItems}
 use Rattle.tbr_tagged.specs.View.{element_of}

@@ -1,8 +1,8 @@
 -- Cells among which overhanging ones have taken their places.
-use Rattle.std.proofs.Common.{◌≡◌, ◌==◌, if◌then◌else◌, ℕ, suc, ◌+◌, ◌-◌, ◌<◌, ◌≤◌, Bool, true, false, Option, Some, None, List, [], ◌∷◌, ◌++◌, map, fold, drop, get_or, refl, ap, sym, ◌∙◌, subst, arith, append_assoc, append-nil}
+use Rattle.std.proofs.Common.{◌≡◌, ◌==◌, if◌then◌else◌, ℕ, ◌+◌, ◌-◌, ◌<◌, ◌≤◌, Bool, true, false, Option, Some, None, List, [], ◌∷◌, ◌++◌, map, fold, refl, ap, sym, ◌∙◌, subst, arith, append_assoc, append-nil}
 use Rattle.std.specs.Prelude.{nat_lt, is_some}
 use Rattle.std.specs.Option.{option_map}
-use Rattle.std.proofs.lemmas.Bool.{eqb-true, eq-eqb, ne_eqb, leb-true, ltb-true, ltb-false, both_ways}
+use Rattle.std.proofs.lemmas.Bool.{eqb-true, eq-eqb, leb-true, ltb-true, ltb-false, both_ways}
 use Rattle.std.proofs.lemmas.Option.{same_Some}
 use Rattle.tbr_rows.specs.declared.line_set.LineSet.{LineSet as Cell}
 use Rattle.tbr_rows.specs.Cells.{end_of, row_width, next_place, empty_cell, AreSideBySide, AreApart, spot_of, is_left_for, ends_before, row_fits, with_hanging, appended, Seating, seat, seated, append_cell, append_all}
@@ -20,6 +20,7 @@ appended_side_by_side {A} at (h ∷ hs) a = go (nat_lt at h.place) refl (appende
   where
     rest : List (Cell A)
     rest = appended (end_of h + 1) hs
+
     go : (b : Bool) → nat_lt at h.place ≡ b → AreSideBySide (end_of h + 1) rest → AreSideBySide at ((if b then empty_cell at (h.place - at - 1) ∷ [] else []) ++ h ∷ rest)
     go true e more =
         let free : at < h.place = ltb-true at h.place e in
@@ -66,10 +67,13 @@ append_all_is {A} cs (h ∷ hs) = append_all_is (append_cell cs h) hs ∙ go (na
   where
     at : ℕ
     at = next_place cs
+
     gap : Cell A
     gap = empty_cell at (h.place - at - 1)
+
     rest : List (Cell A)
     rest = appended (end_of h + 1) hs
+
     go : (b : Bool) → (let done : List (Cell A) = (if b then cs ++ gap ∷ [] else cs) ++ h ∷ [] in done ++ appended (next_place done) hs) ≡ cs ++ ((if b then gap ∷ [] else []) ++ h ∷ rest)
     go true = ap (λ n. ((cs ++ gap ∷ []) ++ h ∷ []) ++ appended n hs) (place_push (cs ++ gap ∷ []) h) ∙ append_assoc (cs ++ gap ∷ []) (h ∷ []) rest ∙ append_assoc cs (gap ∷ []) (h ∷ rest)
     go false = ap (λ n. (cs ++ h ∷ []) ++ appended n hs) (place_push cs h) ∙ append_assoc cs (h ∷ []) rest
@@ -77,7 +81,6 @@ append_all_is {A} cs (h ∷ hs) = append_all_is (append_cell cs h) hs ∙ go (na
 none_wait : {A : Type 0} (done cs : List (Cell A)) → fold seat (record { seated = done; waiting = [] }) cs ≡ record { seated = done ++ cs; waiting = [] }
 none_wait {A} done [] = ap (λ (ds : List (Cell A)). let s : Seating A = record { seated = ds; waiting = [] } in s) (sym (append-nil done))
 none_wait {A} done (c ∷ cs) = none_wait (done ++ c ∷ []) cs ∙ ap (λ (ds : List (Cell A)). let s : Seating A = record { seated = ds; waiting = [] } in s) (append_assoc done (c ∷ []) cs)
-
 
 -- Cells in their places are those that the code finds, cell by cell.
 pub seats_are : {A : Type 0} (done : List (Cell A)) (at : ℕ) (hs cs r : List (Cell A)) → at ≡ next_place done → with_hanging at hs cs ≡ Some r →
@@ -92,6 +95,7 @@ seats_are {A} done at (h ∷ hs) (c ∷ cs) r here e =
   where
     built : Seating A → List (Cell A)
     built s = append_all (fold seat s cs).seated (fold seat s cs).waiting
+
     go : (l b p : Bool) → is_left_for h (spot_of c) ≡ l → ends_before h (spot_of c) ≡ b → (h.place == c.place) ≡ p →
         ((t : List (Cell A)) → with_hanging (end_of h + 1) hs cs ≡ Some t → built (record { seated = done ++ h ∷ []; waiting = hs }) ≡ (done ++ h ∷ []) ++ t) →
         ((t : List (Cell A)) → with_hanging (end_of c + 1) (h ∷ hs) cs ≡ Some t → built (record { seated = done ++ c ∷ []; waiting = h ∷ hs }) ≡ (done ++ c ∷ []) ++ t) →

@@ -1,5 +1,5 @@
 -- The borders above and below a row: joined at its separators, and merged with the borders of its cells.
-use Rattle.std.specs.Prelude.{ℕ, ◌-◌, Bool, true, false, not, if◌then◌else◌, Option, None, Some, is_some, List, [], ◌∷◌, ◌++◌, map, fold, take, drop, length}
+use Rattle.std.specs.Prelude.{ℕ, ◌-◌, Bool, false, if◌then◌else◌, Option, None, Some, is_some, List, [], ◌∷◌, fold, take, drop, length}
 use Rattle.tbr_border.specs.declared.render_line.RenderLine.{RenderLine}
 use Rattle.tbr_border.specs.declared.render_line.RenderLine.TheVariants.{Text, Line}
 use Rattle.std.specs.Borrow.{Bor}

@@ -1,5 +1,5 @@
 -- Whether a row fits, found out cell by cell.
-use Rattle.std.specs.Prelude.{ℕ, ◌+◌, ◌==◌, ◌&&◌, nat_le, Bool, true, false, if◌then◌else◌, Option, None, Some, List, [], ◌∷◌, ◌++◌, fold}
+use Rattle.std.specs.Prelude.{ℕ, ◌+◌, ◌==◌, ◌&&◌, nat_le, Bool, true, false, if◌then◌else◌, Option, None, Some, List, [], ◌∷◌, fold}
 use Rattle.std.specs.Borrow.{Bor}
 use Rattle.tbr_rows.specs.declared.line_set.LineSet.{LineSet as Cell}
 

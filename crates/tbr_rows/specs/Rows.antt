@@ -1,10 +1,9 @@
 -- Rows: what a list of cells comes to between a border above and one below.
-use Rattle.std.specs.Prelude.{◌≡◌, ℕ, Bool, true, false, if◌then◌else◌, is_some, Option, None, Some, List, [], map, fold, replicate}
-use Rattle.tbr_model.specs.Run.{Item, glyph}
+use Rattle.std.specs.Prelude.{◌≡◌, ℕ, Bool, true, if◌then◌else◌, Option, None, Some, List, [], map, fold, replicate}
+use Rattle.tbr_model.specs.Run.{glyph}
 use Rattle.tbr_model.specs.Codes.{space_character}
-use Rattle.tbr_border.specs.Cell.{horizontal, above, below}
+use Rattle.tbr_border.specs.Cell.{horizontal, above}
 use Rattle.tbr_border.specs.Border.{Border}
-use Rattle.tbr_tagged.specs.Elements.{Element}
 use Rattle.tbr_rows.specs.declared.line_set.LineSet.{LineSet as Cell}
 use Rattle.tbr_rows.specs.declared.column.Column.{Column}
 use Rattle.tbr_rows.specs.declared.row.Row.{Row}
@@ -82,7 +81,7 @@ pub record IsRow {A : Type 0} (columns : ℕ → Option ℕ) (eq : A → A → B
   pub plain_is : IsPlain eq a (row_width cells) plain
   pub full : Border A
   pub gaps : FillsGaps style.draws_borders columns eq a (cells_left (row_height shown) shown)
-    (next_merged style.collapses (cells_under style.collapses top cells) (next_under top cells plain)) full
+      (next_merged style.collapses (cells_under style.collapses top cells) (next_under top cells plain)) full
   pub lower : row.next ≡ drawn_in style full
   -- what overhangs
   pub rest : row.overhang ≡ overhang style.draws_borders (cells_left (row_height shown) shown)

@@ -1,5 +1,5 @@
 -- The lines of a row.
-use Rattle.std.specs.Prelude.{ℕ, Bool, suc, zero, ◌+◌, max, Option, None, Some, List, [], ◌∷◌, ◌++◌, map, fold, drop}
+use Rattle.std.specs.Prelude.{ℕ, Bool, suc, zero, max, Option, None, Some, List, [], ◌∷◌, ◌++◌, map, fold, drop}
 use Rattle.std.specs.List.{AllZip}
 use Rattle.tbr_model.specs.Run.{Item}
 use Rattle.tbr_border.specs.declared.render_line.RenderLine.{RenderLine}

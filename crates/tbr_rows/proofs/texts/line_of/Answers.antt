@@ -1,6 +1,5 @@
-use Rattle.std.proofs.Common.{set, ◌≡◌, ◌<◌, length, get_or, subst, ap, ◌∙◌, arith, map, take, drop, ◌++◌}
+use Rattle.std.proofs.Common.{set, ◌≡◌, ◌<◌, length, get_or, ap, ◌∙◌, arith}
 use Rattle.tbr_model.specs.Run.{glyph}
-use Rattle.tbr_rows.specs.Texts.{dropped}
 use Rattle.tbr_rows.proofs.RowTexts.{read_dropped, one_more_dropped, one_more_cell}
 use Rattle.tbr_rows.proofs.texts.line_of.Goals as goal
 

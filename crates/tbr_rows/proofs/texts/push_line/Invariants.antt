@@ -1,4 +1,4 @@
-use Rattle.std.proofs.Common.{◌≡◌, ◌++◌, map}
+use Rattle.std.proofs.Common.{◌++◌, map}
 use Rattle.tbr_tagged.specs.Elements.{items_of, SameItems, IsMerged}
 use Rattle.tbr_tagged.specs.View.{element_of}
 use Rattle.tbr_rows.proofs.texts.push_line.Given as goal

@@ -1,4 +1,4 @@
-use Rattle.std.proofs.Common.{◌≡◌, sym, ◌++◌, subst, zero, arith}
+use Rattle.std.proofs.Common.{◌≡◌, ◌++◌, subst, arith}
 use Rattle.tbr_model.specs.Run.{glyph}
 use Rattle.tbr_tagged.specs.Elements.{items_of, SameItems}
 use Rattle.tbr_rows.specs.Texts.{separator_before}

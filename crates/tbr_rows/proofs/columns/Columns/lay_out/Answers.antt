@@ -1,7 +1,5 @@
 use Rattle.std.proofs.Common.{ap, ◌∙◌}
 use Rattle.tbr_rows.specs.Cells.{row_width}
-use Rattle.tbr_rows.specs.Rows.{cells_under, columns_shown}
-use Rattle.tbr_rows.specs.Rows as rows
 use Rattle.tbr_rows.specs.Texts.{row_height}
 use Rattle.tbr_rows.proofs.WholeRow.{is_row, is_apart}
 use Rattle.tbr_rows.proofs.columns.Columns.lay_out.Goals as goal

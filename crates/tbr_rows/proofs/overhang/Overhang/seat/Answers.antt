@@ -1,4 +1,4 @@
-use Rattle.std.proofs.Common.{◌≡◌, map, true, Some, ap, sym, ◌∙◌, subst}
+use Rattle.std.proofs.Common.{◌≡◌, map, Some, ap, sym, ◌∙◌, subst}
 use Rattle.std.proofs.lemmas.Result.{IfOk-weaker}
 use Rattle.tbr_rows.specs.Cells.{AreSideBySide, row_fits, spot_of, with_hanging, seated}
 use Rattle.tbr_rows.proofs.Seats.{seats_of_row}
