@@ -7,3 +7,5 @@ pub mod Seats
 pub mod Left
 pub mod WholeRow
 pub mod Fitted
+pub mod AllLines
+pub mod Standing

@@ -5,3 +5,4 @@ pub mod Texts
 pub mod Gaps
 pub mod Rows
 pub mod Fitting
+pub mod Shown

@@ -1,9 +1,17 @@
 //! Laws of rows, each as the contract of a function that does nothing.
-ghost use Rattle.std.specs.Prelude.{◌≡◌, ℕ, List, map, is_some, Some, Bool, true};
+ghost use Rattle.std.specs.Prelude.{◌≡◌, ℕ, List, map, is_some, Some, Bool, true, ◌≤◌, ◌++◌, ◌∷◌, Option};
 ghost use Rattle.tbr_rows.specs.declared.line_set.LineSet.{LineSet as Cell};
-ghost use Rattle.std.specs.List.{AllZip};
+ghost use Rattle.std.specs.List.{AllZip, AllByRecursion as Each};
+ghost use Rattle.tbr_rows.specs.Shown.{part_of, later_of, Meeting, meeting, met, merged_first, merged_last, parts_of, parts_and_merged, AreItsRows, texts_in, FillsCell};
+ghost use Rattle.tbr_rows.specs.Rows.{cells_under, columns_shown};
+ghost use Rattle.tbr_rows.specs.Gaps.{cell_in};
+ghost use Rattle.tbr_rows.specs.Texts.{row_height, line_text};
+ghost use Rattle.tbr_rows.specs.declared.column.Column.{Column};
+ghost use Rattle.tbr_border.specs.Border.{Border};
+ghost use Rattle.tbr_model.specs.Layout.{joined};
+ghost use Rattle.tbr_model.specs.Run.{Item, item_width, items_width};
 ghost use Rattle.tbr_rows.specs.Fitting.{fitting_of, fit_all};
-ghost use Rattle.tbr_rows.specs.Cells.{AreSideBySide, AreApart, with_hanging, row_fits, spot_of, spots_from, Spot, look, IsAsFree};
+ghost use Rattle.tbr_rows.specs.Cells.{AreSideBySide, AreApart, with_hanging, row_fits, spot_of, spots_from, Spot, look, cell_height, IsAsFree};
 
 /// Overhanging cells find their places exactly where the row fits.
 #[tactic(auto, using(crate::proofs::Fits::found_exactly))]
@@ -37,4 +45,58 @@ pub fn cells_stand_where_their_widths_say<T>()
 pub fn a_row_with_fewer_lines_fits_too<T>()
     ensures { (hanging : List (Cell T)) (spots others : List Spot) → AllZip IsAsFree spots others →
         row_fits hanging spots ≡ true → row_fits hanging others ≡ true }
+{}
+
+/// What a row shows of a cell, with the line in the border below it, and what it leaves to later rows are the cell's
+/// lines.
+#[tactic(auto, using(crate::proofs::AllLines::part_and_later))]
+pub fn a_row_loses_no_line<T>()
+    ensures { (draws : Bool) (height : ℕ) (cell : Cell T) → cell_height cell ≤ height →
+        part_of draws height cell ++ later_of draws height cell ≡ cell.lines }
+{}
+
+/// A row is as high as each of its cells asks.
+#[tactic(auto, using(crate::proofs::AllLines::row_is_high_enough))]
+pub fn a_row_is_high_enough<T>()
+    ensures { (columns : List (Column T)) → Each (λ c. cell_height c.cell ≤ row_height columns) columns }
+{}
+
+/// What a row merges of a cell's lines and what is left are its lines.
+#[tactic(auto, using(crate::proofs::AllLines::merged_and_left))]
+pub fn merging_takes_borders_alone<T>()
+    ensures { (m : Meeting) (cell : Cell T) →
+        merged_first m cell ++ (met m cell).lines ++ merged_last m cell ≡ cell.lines }
+{}
+
+/// Over all its rows a cell's lines are those that are shown and the borders that are merged, in order.
+#[tactic(auto, using(crate::proofs::AllLines::all_rows))]
+pub fn a_spanning_cell_is_shown_whole<T>()
+    ensures { (draws : Bool) (rows : List Meeting) (cell : Cell T) → AreItsRows draws rows cell →
+        parts_and_merged draws rows cell ≡ cell.lines }
+{}
+
+/// Over all its rows a cell shows its texts, once and in order.
+#[tactic(auto, using(crate::proofs::AllLines::all_texts))]
+pub fn a_spanning_cell_shows_its_texts_once<T>()
+    ensures { (draws : Bool) (rows : List Meeting) (cell : Cell T) → AreItsRows draws rows cell →
+        texts_in (joined (parts_of draws rows cell)) ≡ texts_in cell.lines }
+{}
+
+/// The cells that a row shows are its cells without what it merges.
+#[tactic(auto, using(crate::proofs::AllLines::cells_meet))]
+pub fn a_row_shows_its_cells<T>()
+    ensures { (collapses : Bool) (top : Option (Border T)) (height : ℕ) (cells : List (Cell T)) →
+        map cell_in (columns_shown collapses (cells_under collapses top cells))
+        ≡ map (met (meeting collapses top height)) cells }
+{}
+
+/// In each line of a row a cell's text begins at the cell's place, where the texts before it fill their cells.
+#[tactic(auto, using(crate::proofs::Standing::stands_at))]
+pub fn cells_stand_in_their_columns<T>()
+    ensures { (columns : ℕ → Option ℕ) (separator : Item T) (tag : T) (i : ℕ)
+        (front : List (Column T)) (column : Column T) (rest : List (Column T)) → item_width columns separator ≡ 1 →
+        Each (FillsCell columns tag i) front → AreSideBySide 0 (map cell_in (front ++ column ∷ rest)) →
+        (before : List (Item T))
+        × (line_text separator tag (front ++ column ∷ rest) i ≡ before ++ line_text separator tag (column ∷ rest) i)
+        × (items_width columns before ≡ column.cell.place) }
 {}
