@@ -1,10 +1,13 @@
 -- Whether a row fits, told cell by cell.
-use Rattle.std.proofs.Common.{◌≡◌, if◌then◌else◌, ℕ, ◌+◌, ◌<◌, ◌≤◌, Bool, true, false, ◌&&◌, ◌||◌, ◌==◌, List, [], ◌∷◌, map, refl, ap, sym, ◌∙◌, subst, arith, inl, inr}
-use Rattle.std.specs.Prelude.{nat_le}
+use Rattle.std.proofs.Common.{◌≡◌, if◌then◌else◌, ℕ, ◌+◌, ◌<◌, ◌≤◌, Bool, true, false, ◌&&◌, ◌||◌, ◌==◌, List, [], ◌∷◌, map, refl, ap, sym, ◌∙◌, subst, arith, inl, inr, take, length, get_or, ◌++◌}
+use Rattle.std.specs.Prelude.{nat_le, is_none}
 use Rattle.std.specs.List.{list_all, list_any, AllZip}
-use Rattle.std.proofs.lemmas.Bool.{eqb-true, leb-true, leb-false, le-leb, lt-leb, and_parts, and_from, or_cases}
+use Rattle.std.proofs.lemmas.Bool.{ne_eqb, eqb-true, leb-true, leb-false, le-leb, lt-leb, and_parts, and_from, or_cases}
 use Rattle.tbr_rows.specs.declared.line_set.LineSet.{LineSet as Cell}
-use Rattle.tbr_rows.specs.Cells.{end_of, AreSideBySide, AreApart, Spot, spot_of, spots_from, look, is_left_for, ends_before, row_fits, IsAsFree}
+use Rattle.tbr_rows.specs.Cells.{end_of, AreSideBySide, AreApart, Spot, spot_of, spots_from, look, first_line, is_left_for, ends_before, row_fits, IsAsFree}
+use Rattle.tbr_border.specs.declared.render_line.RenderLine.{RenderLine}
+use Rattle.std.proofs.lemmas.List.{map_more}
+use Rattle.std.proofs.lemmas.List.Sums.{fold-append}
 use Rattle.tbr_rows.specs.Fitting.{Fitting, moved, fit_step, fit_all, fitting_of}
 use Rattle.tbr_rows.proofs.Fits.{elsewhere, past, all_found, finds}
 
@@ -162,3 +165,20 @@ fits_with_fewer_lines (h ∷ hs) spots others z e =
       | inr r ↦ or_right (list_any (is_left_for h) others) (list_all (ends_before h) others) (all_too h spots others z r)
     ] in
     and_from (finds others h) (row_fits hs others) one (fits_with_fewer_lines hs spots others z parts.1)
+
+-- ---- the cells of a row, told one after another
+
+no_line : {A : Type 0} (ls : List (RenderLine A)) → (length ls == 0) ≡ is_none (first_line ls)
+no_line [] = refl
+no_line (l ∷ ls) = ne_eqb (length (l ∷ ls)) 0 (λ e. let no : ⊥ = omega (arith, e) in no)
+
+pub fit_more : {A : Type 0} (f : Fitting A) (xs : List (Cell A)) (i : ℕ) (c : Cell A) → i < length xs → c ≡ get_or xs i c →
+    fit_step (fit_all f (map look (take i xs))) c.width (length c.lines == 0) ≡ fit_all f (map look (take (i + 1) xs))
+fit_more {A} f xs i c below is =
+    let so_far : List (ℕ × Bool) = map look (take i xs) in
+    let more : map look (take (i + 1) xs) ≡ so_far ++ look c ∷ [] = map_more look xs i c below ∙ ap (λ (d : Cell A). so_far ++ look d ∷ []) (sym is) in
+    ap (fit_step (fit_all f so_far) c.width) (no_line c.lines)
+    ∙ sym (ap (fit_all f) more ∙ fold-append (λ (g : Fitting A) (w : ℕ × Bool). fit_step g w.0 w.1) f so_far (look c ∷ []))
+
+pub all_told : {A : Type 0} (hanging cs : List (Cell A)) → AreApart 0 hanging → AreSideBySide 0 cs → (fit_all (fitting_of hanging) (map look cs)).fits ≡ row_fits hanging (map spot_of cs)
+all_told hanging cs a s = fitted_exactly hanging (map look cs) a ∙ ap (row_fits hanging) (sym (spots_are cs s))

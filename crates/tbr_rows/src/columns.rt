@@ -1,12 +1,13 @@
 //! The cells that come with a row.
-ghost use Rattle.std.specs.Prelude.{◌≡◌, ◌++◌, ◌∷◌, [], List, IfOk, OnOk, OnErr};
+ghost use Rattle.std.specs.Prelude.{◌≡◌, ◌++◌, ◌∷◌, [], List, map, IfOk, OnOk, OnErr};
 ghost use Rattle.std.specs.List.{AllZip};
 ghost use Rattle.tbr_border.specs.declared.render_line.RenderLine.{RenderLine as Line};
 ghost use Rattle.tbr_tagged.specs.Copies.{CopiesAreEqual};
-ghost use Rattle.tbr_rows.specs.Cells.{next_place};
+ghost use Rattle.tbr_rows.specs.Cells.{next_place, row_fits, spot_of};
 ghost use Rattle.tbr_rows.specs.Filled as model;
 
 use crate::line_set::{LineSet, next_place};
+use crate::overhang::Overhang;
 use std::alloc::Global;
 use std::collections::LinkedList;
 use std::marker::Model;
@@ -72,6 +73,19 @@ impl<T: Eq + Clone + Drop> Columns<T> {
             lines,
         })?;
         Ok(())
+    }
+}
+
+impl<T: Drop> Columns<T> {
+    /// Whether a row of these cells has a place for each cell that overhangs. It takes no memory.
+    pub fn fits(&self, hanging: &Overhang<T>) -> bool
+        ensures { result ≡ row_fits hanging.now (map spot_of self.now) }
+    {
+        let mut fitting = hanging.fitting();
+        for cell in &self.cells {
+            fitting.add(cell.width, cell.lines.is_empty());
+        }
+        fitting.fits()
     }
 }
 
