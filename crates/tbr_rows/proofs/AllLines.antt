@@ -1,9 +1,9 @@
 -- Rows lose no line of a cell.
-use Rattle.std.proofs.Common.{◌≡◌, if◌then◌else◌, ℕ, zero, suc, ◌+◌, ◌-◌, ◌<◌, ◌≤◌, ◌&&◌, Bool, true, false, Option, None, Some, List, [], ◌∷◌, ◌++◌, map, take, drop, length, fold, max, ◌/◌, refl, ap, sym, ◌∙◌, subst, arith, append_assoc, append-nil, drop-cons}
-use Rattle.std.specs.Prelude.{nat_lt, nat_le, is_some, flat_map}
+use Rattle.std.proofs.Common.{◌≡◌, if◌then◌else◌, ℕ, ◌-◌, ◌≤◌, ◌&&◌, Bool, true, false, Option, None, Some, List, [], ◌∷◌, ◌++◌, map, take, drop, length, fold, max, ◌/◌, refl, ap, sym, ◌∙◌, subst, arith, append_assoc, append-nil}
+use Rattle.std.specs.Prelude.{nat_lt, is_some, flat_map}
 use Rattle.std.specs.List.{AllByRecursion as Each}
-use Rattle.std.proofs.lemmas.Bool.{ltb-false, leb-true, lt-leb, le-leb}
-use Rattle.std.proofs.lemmas.List.{take-append-drop, take_all, drop_all, length-drop}
+use Rattle.std.proofs.lemmas.Bool.{ltb-false, le-leb}
+use Rattle.std.proofs.lemmas.List.{take-append-drop, take_all, length-drop}
 use Rattle.tbr_model.specs.Layout.{joined}
 use Rattle.tbr_border.specs.declared.render_line.RenderLine.{RenderLine}
 use Rattle.tbr_border.specs.declared.render_line.RenderLine.TheVariants.{Text, Line}
@@ -11,9 +11,9 @@ use Rattle.tbr_border.specs.Border.{Border, has_holes}
 use Rattle.tbr_rows.specs.declared.line_set.LineSet.{LineSet as Cell}
 use Rattle.tbr_rows.specs.declared.column.Column.{Column}
 use Rattle.tbr_rows.specs.Cells.{cell_height}
-use Rattle.tbr_rows.specs.Borders.{border_in, first_border, last_border, behind_border, before_border, without_first_border, with_last_border_apart}
+use Rattle.tbr_rows.specs.Borders.{first_border, last_border, behind_border, before_border, without_first_border, with_last_border_apart}
 use Rattle.tbr_rows.specs.Texts.{row_height}
-use Rattle.tbr_rows.specs.Gaps.{has_gap, overhang_of, cell_in}
+use Rattle.tbr_rows.specs.Gaps.{cell_in}
 use Rattle.tbr_rows.specs.Shown.{part_of, later_of, as_lines, Meeting, met, merged_first, merged_last, behind, parts_of, parts_and_merged, meeting, AreItsRows, texts_in}
 use Rattle.tbr_rows.specs.Rows.{cells_under, columns_shown}
 
@@ -23,8 +23,10 @@ part_and_later {A} draws height c high = go (nat_lt 1 c.span) draws refl
   where
     ls : List (RenderLine A)
     ls = c.lines
+
     rest : List (RenderLine A)
     rest = drop height ls
+
     go : (s d : Bool) → nat_lt 1 c.span ≡ s →
         (take height ls ++ (if d && s then take 1 rest else [])) ++ (let cs : List (Cell A) = if s then record c { span = c.span - 1; lines = drop (if d then 1 else 0) rest } ∷ [] else [] in flat_map (λ (k : Cell A). k.lines) cs) ≡ ls
     go true true spans =
@@ -129,6 +131,7 @@ no_text_last {A} m c = go m.last
   where
     under : Cell A
     under = if m.first then without_first_border c else c
+
     go : (l : Bool) → texts_in (if l then as_lines (last_border under.lines) else []) ≡ []
     go true = no_text (last_border under.lines)
     go false = refl

@@ -12,6 +12,13 @@ first_line (l ∷ ls) = Some l
 abbrev pub empty_cell : {A : Type 0} → ℕ → ℕ → Cell A
 empty_cell place width = record { place = place; width = width; span = 1; lines = [] }
 
+-- where a cell begins, and what it has still to show
+abbrev pub place_of : {A : Type 0} → Cell A → ℕ
+place_of c = c.place
+
+abbrev pub lines_of : {A : Type 0} → Cell A → List (RenderLine A)
+lines_of c = c.lines
+
 -- the column behind a cell, where a separator stands
 abbrev pub end_of : {A : Type 0} → Cell A → ℕ
 end_of c = c.place + c.width

@@ -1,16 +1,15 @@
 -- What rows show of a cell.
-use Rattle.std.specs.Prelude.{◌≡◌, ℕ, ◌+◌, ◌-◌, ◌≤◌, Bool, true, false, if◌then◌else◌, ◌&&◌, is_some, Option, None, Some, List, [], ◌∷◌, ◌++◌, map, flat_map, take, drop}
-use Rattle.tbr_model.specs.Run.{Item, items_width}
-use Rattle.tbr_model.specs.Layout.{joined}
+use Rattle.std.specs.Prelude.{◌≡◌, ℕ, ◌-◌, ◌≤◌, Bool, if◌then◌else◌, ◌&&◌, is_some, Option, None, Some, List, [], ◌∷◌, ◌++◌, flat_map, take, drop}
+use Rattle.tbr_model.specs.Run.{items_width}
 use Rattle.tbr_border.specs.declared.render_line.RenderLine.{RenderLine}
 use Rattle.tbr_border.specs.declared.render_line.RenderLine.TheVariants.{Text, Line}
 use Rattle.tbr_border.specs.Border.{Border}
 use Rattle.tbr_rows.specs.declared.line_set.LineSet.{LineSet as Cell}
 use Rattle.tbr_rows.specs.declared.column.Column.{Column}
 use Rattle.tbr_rows.specs.Cells.{cell_height}
-use Rattle.tbr_rows.specs.Borders.{first_border, last_border, without_first_border, with_last_border_apart, whole_column}
-use Rattle.tbr_rows.specs.Texts.{dropped, cell_text}
-use Rattle.tbr_rows.specs.Gaps.{has_gap, cell_in, overhang_of}
+use Rattle.tbr_rows.specs.Borders.{first_border, last_border, without_first_border, with_last_border_apart}
+use Rattle.tbr_rows.specs.Texts.{cell_text}
+use Rattle.tbr_rows.specs.Gaps.{has_gap, overhang_of}
 
 -- the lines that a row of a height shows of a cell, with the one in the border below it
 abbrev pub part_of : {A : Type 0} → Bool → ℕ → Cell A → List (RenderLine A)

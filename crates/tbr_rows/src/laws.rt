@@ -11,7 +11,7 @@ ghost use Rattle.tbr_border.specs.Border.{Border};
 ghost use Rattle.tbr_model.specs.Layout.{joined};
 ghost use Rattle.tbr_model.specs.Run.{Item, item_width, items_width};
 ghost use Rattle.tbr_rows.specs.Fitting.{fitting_of, fit_all};
-ghost use Rattle.tbr_rows.specs.Cells.{AreSideBySide, AreApart, with_hanging, row_fits, spot_of, spots_from, Spot, look, cell_height, IsAsFree};
+ghost use Rattle.tbr_rows.specs.Cells.{AreSideBySide, AreApart, with_hanging, row_fits, spot_of, spots_from, Spot, look, cell_height, place_of, lines_of, IsAsFree};
 
 /// Overhanging cells find their places exactly where the row fits.
 #[tactic(auto, using(crate::proofs::Fits::found_exactly))]
@@ -52,34 +52,34 @@ pub fn a_row_with_fewer_lines_fits_too<T>()
 #[tactic(auto, using(crate::proofs::AllLines::part_and_later))]
 pub fn a_row_loses_no_line<T>()
     ensures { (draws : Bool) (height : ℕ) (cell : Cell T) → cell_height cell ≤ height →
-        part_of draws height cell ++ later_of draws height cell ≡ cell.lines }
+        part_of draws height cell ++ later_of draws height cell ≡ lines_of cell }
 {}
 
 /// A row is as high as each of its cells asks.
 #[tactic(auto, using(crate::proofs::AllLines::row_is_high_enough))]
 pub fn a_row_is_high_enough<T>()
-    ensures { (columns : List (Column T)) → Each (λ c. cell_height c.cell ≤ row_height columns) columns }
+    ensures { (columns : List (Column T)) → Each (λ c. cell_height (cell_in c) ≤ row_height columns) columns }
 {}
 
 /// What a row merges of a cell's lines and what is left are its lines.
 #[tactic(auto, using(crate::proofs::AllLines::merged_and_left))]
 pub fn merging_takes_borders_alone<T>()
     ensures { (m : Meeting) (cell : Cell T) →
-        merged_first m cell ++ (met m cell).lines ++ merged_last m cell ≡ cell.lines }
+        merged_first m cell ++ lines_of (met m cell) ++ merged_last m cell ≡ lines_of cell }
 {}
 
 /// Over all its rows a cell's lines are those that are shown and the borders that are merged, in order.
 #[tactic(auto, using(crate::proofs::AllLines::all_rows))]
 pub fn a_spanning_cell_is_shown_whole<T>()
     ensures { (draws : Bool) (rows : List Meeting) (cell : Cell T) → AreItsRows draws rows cell →
-        parts_and_merged draws rows cell ≡ cell.lines }
+        parts_and_merged draws rows cell ≡ lines_of cell }
 {}
 
 /// Over all its rows a cell shows its texts, once and in order.
 #[tactic(auto, using(crate::proofs::AllLines::all_texts))]
 pub fn a_spanning_cell_shows_its_texts_once<T>()
     ensures { (draws : Bool) (rows : List Meeting) (cell : Cell T) → AreItsRows draws rows cell →
-        texts_in (joined (parts_of draws rows cell)) ≡ texts_in cell.lines }
+        texts_in (joined (parts_of draws rows cell)) ≡ texts_in (lines_of cell) }
 {}
 
 /// The cells that a row shows are its cells without what it merges.
@@ -98,5 +98,5 @@ pub fn cells_stand_in_their_columns<T>()
         Each (FillsCell columns tag i) front → AreSideBySide 0 (map cell_in (front ++ column ∷ rest)) →
         (before : List (Item T))
         × (line_text separator tag (front ++ column ∷ rest) i ≡ before ++ line_text separator tag (column ∷ rest) i)
-        × (items_width columns before ≡ column.cell.place) }
+        × (items_width columns before ≡ place_of (cell_in column)) }
 {}

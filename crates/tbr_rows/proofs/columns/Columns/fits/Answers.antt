@@ -1,8 +1,8 @@
-use Rattle.std.proofs.Common.{◌≡◌, map, take, length, ap, sym, ◌∙◌, subst}
+use Rattle.std.proofs.Common.{map, length, ap, ◌∙◌}
 use Rattle.std.specs.Prelude.{◌==◌}
 use Rattle.std.proofs.lemmas.List.{take_all}
 use Rattle.tbr_rows.specs.Cells.{look, row_fits, spot_of}
-use Rattle.tbr_rows.specs.Fitting.{Fitting, fitting_of, fit_step, fit_all}
+use Rattle.tbr_rows.specs.Fitting.{fitting_of, fit_step, fit_all}
 use Rattle.tbr_rows.proofs.Fitted.{fit_more, all_told}
 use Rattle.tbr_rows.proofs.columns.Columns.fits.Goals as goal
 
