@@ -23,6 +23,8 @@ mod preserved;
 #[cfg(test)]
 mod renderers;
 #[cfg(test)]
+mod rows;
+#[cfg(test)]
 mod short_texts;
 #[cfg(test)]
 mod steps;

@@ -1,0 +1,73 @@
+-- Whether overhanging cells find their places.
+use Rattle.std.proofs.Common.{◌≡◌, if◌then◌else◌, ℕ, ◌+◌, ◌<◌, ◌≤◌, Bool, true, false, ◌&&◌, ◌||◌, Option, Some, None, List, [], ◌∷◌, map, refl, ap, sym, ◌∙◌, subst, arith}
+use Rattle.std.specs.Prelude.{is_some}
+use Rattle.std.specs.Option.{option_map}
+use Rattle.std.specs.List.{list_all, list_any}
+use Rattle.std.proofs.lemmas.Bool.{eqb-true, ne_eqb, leb-true, leb-false, le-leb, and_parts}
+use Rattle.tbr_rows.specs.declared.line_set.LineSet.{LineSet as Cell}
+use Rattle.tbr_rows.specs.Cells.{end_of, AreSideBySide, AreApart, Spot, spot_of, is_left_for, ends_before, row_fits, with_hanging}
+
+-- whether a cell finds its place among others
+abbrev pub finds : {A : Type 0} → List Spot → Cell A → Bool
+finds spots h = list_any (is_left_for h) spots || list_all (ends_before h) spots
+
+pub left_is : {A : Type 0} (h c : Cell A) → is_left_for h (spot_of c) ≡ true → (h.place ≡ c.place) × (h.width ≡ c.width)
+left_is h c e =
+    let both = and_parts _ _ e in
+    (eqb-true h.place c.place both.0, eqb-true h.width c.width (and_parts _ _ both.1).0)
+
+pub elsewhere : {A : Type 0} (h : Cell A) (s : Spot) → (h.place ≡ s.place → ⊥) → is_left_for h s ≡ false
+elsewhere h s n = rw (ne_eqb h.place s.place n) refl
+
+-- a cell in front of a place isn't found behind it
+none_behind : {A : Type 0} (h : Cell A) (at : ℕ) (cs : List (Cell A)) → h.place < at → AreSideBySide at cs → list_any (is_left_for h) (map spot_of cs) ≡ false
+none_behind h at [] before s = refl
+none_behind h at (c ∷ cs) before s =
+    rw (elsewhere h (spot_of c) (λ e. let no : ⊥ = omega (arith, before, e, s.0) in no)) (none_behind h (end_of c + 1) cs (omega (arith, before, s.0)) s.1)
+
+-- cells behind a place need not look at one that ends before it
+pub past : {A : Type 0} (s : Spot) (spots : List Spot) (at : ℕ) (hs : List (Cell A)) → s.place + s.width + 1 ≤ at → AreApart at hs → row_fits hs (s ∷ spots) ≡ row_fits hs spots
+past s spots at [] behind a = refl
+past s spots at (h ∷ hs) behind a =
+    let other = elsewhere h s (λ e. let no : ⊥ = omega (arith, behind, a.0, e) in no) in
+    let ends = le-leb (s.place + s.width + 1) h.place (omega (arith, behind, a.0)) in
+    let rest = past s spots (end_of h + 1) hs (omega (arith, behind, a.0)) a.1 in
+    rw (other, ends, rest) refl
+
+pub all_found : {A : Type 0} (hs : List (Cell A)) → true ≡ row_fits hs []
+all_found [] = refl
+all_found (h ∷ hs) = all_found hs
+
+some_mapped : {X Y : Type 0} (f : X → Y) (o : Option X) → is_some (option_map f o) ≡ is_some o
+some_mapped f None = refl
+some_mapped f (Some x) = refl
+
+-- Overhanging cells have their places exactly where the row fits.
+pub found_exactly : {A : Type 0} (at : ℕ) (hs cs : List (Cell A)) → AreSideBySide at cs → AreApart at hs → is_some (with_hanging at hs cs) ≡ row_fits hs (map spot_of cs)
+found_exactly at hs [] s a = all_found hs
+found_exactly at [] (c ∷ cs) s a = refl
+found_exactly {A} at (h ∷ hs) (c ∷ cs) s a =
+    go (is_left_for h (spot_of c)) (ends_before h (spot_of c)) refl refl (λ t. found_exactly (end_of h + 1) hs cs t a.1) (λ b. found_exactly (end_of c + 1) (h ∷ hs) cs s.1 b)
+  where
+    spots : List Spot
+    spots = map spot_of cs
+
+    go : (l e : Bool) → is_left_for h (spot_of c) ≡ l → ends_before h (spot_of c) ≡ e →
+        (AreSideBySide (end_of h + 1) cs → is_some (with_hanging (end_of h + 1) hs cs) ≡ row_fits hs spots) →
+        (AreApart (end_of c + 1) (h ∷ hs) → is_some (with_hanging (end_of c + 1) (h ∷ hs) cs) ≡ row_fits (h ∷ hs) spots) →
+        is_some (if l then option_map (λ r. h ∷ r) (with_hanging (end_of h + 1) hs cs) else if e then option_map (λ r. c ∷ r) (with_hanging (end_of c + 1) (h ∷ hs) cs) else None)
+        ≡ (((l || list_any (is_left_for h) spots) || (e && list_all (ends_before h) spots)) && row_fits hs (spot_of c ∷ spots))
+    go true e left before taken kept =
+        let is = left_is h c left in
+        let same : end_of c + 1 ≡ end_of h + 1 = omega (arith, is.0, is.1) in
+        some_mapped (λ r. h ∷ r) (with_hanging (end_of h + 1) hs cs)
+        ∙ taken (subst (λ n. AreSideBySide n cs) same s.1)
+        ∙ sym (past (spot_of c) spots (end_of h + 1) hs (omega (arith, same)) a.1)
+    go false true left before taken kept =
+        let ends : end_of c + 1 ≤ h.place = leb-true _ _ before in
+        some_mapped (λ r. c ∷ r) (with_hanging (end_of c + 1) (h ∷ hs) cs)
+        ∙ kept (ends, a.1)
+        ∙ ap (λ b. finds spots h && b) (sym (past (spot_of c) spots (end_of h + 1) hs (omega (arith, ends)) a.1))
+    go false false left before taken kept =
+        let short : h.place < end_of c + 1 = leb-false _ _ before in
+        rw (none_behind h (end_of c + 1) cs short s.1) refl

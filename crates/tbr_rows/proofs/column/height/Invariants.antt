@@ -1,0 +1,6 @@
+use Rattle.std.proofs.Common.{◌≡◌, take}
+use Rattle.tbr_rows.specs.Texts.{row_height}
+use Rattle.tbr_rows.proofs.column.height.Given as goal
+
+abbrev pub invariant-loop-column : goal.invariant-loop-column
+invariant-loop-column g l = l.height ≡ row_height (take l.column-index l.columns)

@@ -1,0 +1,7 @@
+use Rattle.std.proofs.Common.{◌≡◌, map}
+use Rattle.tbr_tagged.specs.View.{element_of}
+use Rattle.tbr_rows.specs.Gaps.{with_elements}
+use Rattle.tbr_rows.proofs.gaps.add_text.Given as goal
+
+abbrev pub invariant-loop-element : goal.invariant-loop-element
+invariant-loop-element g l = l.border ≡ with_elements g.W.CharWidth.columns l.place l.initial.border (map element_of l.yielded)

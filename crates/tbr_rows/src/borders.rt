@@ -1,0 +1,119 @@
+//! The borders above and below a row.
+ghost use Rattle.std.specs.Prelude.{◌≡◌, map, fold, IfOk, OnOk};
+ghost use Rattle.tbr_border.specs.Cell.{above as top};
+ghost use Rattle.tbr_rows.specs.Cells.{separators};
+ghost use Rattle.tbr_rows.specs.Borders as model;
+
+use crate::column::Column;
+use crate::line_set::{LineSet, row_width};
+use std::alloc::Global;
+use std::collections::LinkedList;
+use tbr_border::{BorderHoriz, RenderLine};
+use tbr_tagged::OutOfMemory;
+
+/// Joins the separators of a row to the border above it and to the one below, and stretches the one above to the row's
+/// width.
+pub(crate) fn join<T>(
+    above: &mut BorderHoriz<T>,
+    next: &mut BorderHoriz<T>,
+    cells: &[LineSet<T>],
+) -> Result<(), OutOfMemory>
+    ensures above { OnOk result (above.new ≡ model.above_row cells.now above.old) }
+    ensures next { OnOk result (next.new ≡ model.joined_at_each top next.old (separators cells.now)) }
+{
+    for cell in &cells[..cells.len().saturating_sub(1)] {
+        let end = cell.end()?;
+        above.join_below(end)?;
+        next.join_above(end)?;
+    }
+    above.stretch_to(row_width(cells)?)
+}
+
+/// Merges the first borders of cells into the border above their row, and takes them out.
+pub(crate) fn merge_first<T: Drop>(
+    alloc: Global,
+    above: &mut BorderHoriz<T>,
+    cells: Vec<LineSet<T>>,
+) -> Result<Vec<LineSet<T>>, OutOfMemory>
+    ensures above { OnOk result (above.new ≡ fold model.merged_below above.old cells.items) }
+    ensures cells { IfOk result (λ rest. rest.items ≡ map model.without_first_border cells.items) }
+{
+    let mut rest = Vec::with_capacity(alloc, cells.len())?;
+    for mut cell in cells {
+        if let Some(border) = take_first(&mut cell.lines) {
+            above.merge_from_below(&border, cell.place)?;
+        }
+        rest.push(cell)?;
+    }
+    Ok(rest)
+}
+
+/// Merges the last borders of cells into the border below their row, and takes them out of the lines.
+pub(crate) fn merge_last<T: Drop>(
+    alloc: Global,
+    next: &mut BorderHoriz<T>,
+    cells: Vec<LineSet<T>>,
+) -> Result<Vec<Column<T>>, OutOfMemory>
+    ensures next { OnOk result (next.new ≡ fold model.merged_above next.old cells.items) }
+    ensures columns { IfOk result (λ columns. columns.items ≡ map model.with_last_border_apart cells.items) }
+{
+    let mut columns = Vec::with_capacity(alloc, cells.len())?;
+    for mut cell in cells {
+        let bottom = take_last(&mut cell.lines);
+        if let Some(border) = &bottom {
+            next.merge_from_above(border, cell.place)?;
+        }
+        columns.push(Column { cell, bottom })?;
+    }
+    Ok(columns)
+}
+
+/// Cells of which no border is merged.
+pub(crate) fn whole<T: Drop>(
+    alloc: Global,
+    cells: Vec<LineSet<T>>,
+) -> Result<Vec<Column<T>>, OutOfMemory>
+    ensures { IfOk result (λ columns. columns.items ≡ map model.whole_column cells.items) }
+{
+    let mut columns = Vec::with_capacity(alloc, cells.len())?;
+    for cell in cells {
+        columns.push(Column { cell, bottom: None })?;
+    }
+    Ok(columns)
+}
+
+/// Takes the first line, if it is a border without holes.
+fn take_first<T: Drop>(lines: &mut LinkedList<RenderLine<T>>) -> Option<BorderHoriz<T>>
+    ensures border { result ≡ model.first_border lines.old }
+    ensures rest { lines.new ≡ model.behind_border lines.old }
+{
+    if is_mergeable(lines.front())
+        && let Some(RenderLine::Line(border)) = lines.pop_front()
+    {
+        return Some(border);
+    }
+    None
+}
+
+/// Takes the last line, if it is a border without holes.
+fn take_last<T: Drop>(lines: &mut LinkedList<RenderLine<T>>) -> Option<BorderHoriz<T>>
+    ensures border { result ≡ model.last_border lines.old }
+    ensures rest { lines.new ≡ model.before_border lines.old }
+{
+    if is_mergeable(lines.back())
+        && let Some(RenderLine::Line(border)) = lines.pop_back()
+    {
+        return Some(border);
+    }
+    None
+}
+
+/// Whether a line is a border without holes.
+fn is_mergeable<T>(line: Option<&RenderLine<T>>) -> bool
+    ensures { result ≡ model.is_mergeable line.entry }
+{
+    match line {
+        Some(RenderLine::Line(border)) => !border.has_holes(),
+        _ => false,
+    }
+}

@@ -1,0 +1,130 @@
+//! The cells that come with a row.
+ghost use Rattle.std.specs.Prelude.{◌≡◌, ◌++◌, ◌∷◌, [], List, map, IfOk, OnOk, OnErr};
+ghost use Rattle.std.specs.List.{AllZip};
+ghost use Rattle.tbr_border.specs.declared.render_line.RenderLine.{RenderLine as Line};
+ghost use Rattle.tbr_tagged.specs.Copies.{CopiesAreEqual};
+ghost use Rattle.tbr_rows.specs.Cells.{next_place, row_fits, spot_of};
+ghost use Rattle.tbr_rows.specs.Filled as model;
+
+use crate::line_set::{LineSet, next_place};
+use crate::overhang::Overhang;
+use std::alloc::Global;
+use std::collections::LinkedList;
+use std::marker::Model;
+use tbr_border::RenderLine;
+use tbr_model::CharWidth;
+use tbr_tagged::{CellAlign, OutOfMemory};
+
+/// The cells that come with a row, side by side. A contract sees their list.
+#[derive(Drop)]
+pub struct Columns<T> {
+    pub(crate) cells: Vec<LineSet<T>>,
+}
+
+impl<T> Model for Columns<T> {
+    ghost use Rattle.std.specs.Prelude.{List};
+    ghost use Rattle.tbr_rows.specs.declared.line_set.LineSet.{LineSet};
+
+    ghost Value = { List (LineSet T) };
+
+    ghost use Rattle.tbr_rows.specs.Cells.{AreSideBySide};
+
+    ghost view = { λ c. c.cells.items };
+
+    ghost invariant = { λ c. AreSideBySide 0 c.cells.items };
+}
+
+impl<T: Eq + Clone + Drop> Columns<T> {
+    /// No cells. It takes no memory.
+    pub fn new(alloc: Global) -> Columns<T>
+        ensures { result ≡ [] }
+    {
+        Columns {
+            cells: Vec::new(alloc),
+        }
+    }
+
+    /// Adds a cell of a width in columns behind the others and a separator. It spans `span` rows. Each of its lines is
+    /// filled up to its width: a text with spaces under copies of the tag, as the alignment says, and a border with
+    /// `─`.
+    ///
+    /// Where memory is refused, or a place passes `usize`, the cell and its lines are dropped.
+    pub fn push<W: CharWidth>(
+        &mut self,
+        width: usize,
+        span: usize,
+        align: CellAlign,
+        lines: LinkedList<RenderLine<T>>,
+        tag: &T,
+    ) -> Result<(), OutOfMemory>
+        requires { CopiesAreEqual T.is_clone T.eq }
+        ensures ok { OnOk result ((filled : List (Line T))
+            × AllZip (model.FillsLine W.columns T.eq align width tag.now) lines filled
+            × (self.new ≡ self.old ++ model.cell_behind self.old width span filled ∷ [])) }
+        ensures err { OnErr result (self.new ≡ self.old) }
+    {
+        let alloc = *self.cells.allocator();
+        let place = next_place(&self.cells)?;
+        let lines = filled::<T, W>(alloc, lines, width, align, tag)?;
+        self.cells.push(LineSet {
+            place,
+            width,
+            span,
+            lines,
+        })?;
+        Ok(())
+    }
+}
+
+impl<T: Drop> Columns<T> {
+    /// Whether a row of these cells has a place for each cell that overhangs. It takes no memory.
+    pub fn fits(&self, hanging: &Overhang<T>) -> bool
+        ensures { result ≡ row_fits hanging.now (map spot_of self.now) }
+    {
+        let mut fitting = hanging.fitting();
+        for cell in &self.cells {
+            fitting.add(cell.width, cell.lines.is_empty());
+        }
+        fitting.fits()
+    }
+}
+
+/// Lines, each filled up to a width.
+fn filled<T: Eq + Clone + Drop, W: CharWidth>(
+    alloc: Global,
+    lines: LinkedList<RenderLine<T>>,
+    width: usize,
+    align: CellAlign,
+    tag: &T,
+) -> Result<LinkedList<RenderLine<T>>, OutOfMemory>
+    requires { CopiesAreEqual T.is_clone T.eq }
+    ensures { IfOk result (λ done. AllZip (model.FillsLine W.columns T.eq align width tag.now) lines done) }
+{
+    let mut done = LinkedList::new(alloc);
+    for line in lines {
+        done.push_back(fill::<T, W>(line, width, align, tag)?)?;
+    }
+    Ok(done)
+}
+
+/// A line, filled up to a width.
+fn fill<T: Eq + Clone + Drop, W: CharWidth>(
+    line: RenderLine<T>,
+    width: usize,
+    align: CellAlign,
+    tag: &T,
+) -> Result<RenderLine<T>, OutOfMemory>
+    requires { CopiesAreEqual T.is_clone T.eq }
+    ensures { IfOk result (λ done. model.FillsLine W.columns T.eq align width tag.now line done) }
+{
+    match line {
+        RenderLine::Text(mut text) => {
+            text.pad_aligned::<W>(width, align, tag)?;
+            Ok(RenderLine::Text(text))
+        }
+        RenderLine::Line(mut border) => {
+            border.stretch_to(width)?;
+            Ok(RenderLine::Line(border))
+        }
+    }
+}

@@ -1,0 +1,91 @@
+//! What stands of spanning cells in the border below their row, and what overhangs.
+ghost use Rattle.std.specs.Prelude.{◌≡◌, ◌++◌, ◌∷◌, map, IfOk, OnOk, true};
+ghost use Rattle.tbr_tagged.specs.Copies.{CopiesAreEqual};
+ghost use Rattle.tbr_rows.specs.Gaps as model;
+ghost use Rattle.tbr_rows.specs.Gaps.{FillsGapIf, FillsGaps};
+
+use crate::column::Column;
+use crate::line_set::LineSet;
+use std::alloc::Global;
+use std::collections::LinkedList;
+use tbr_border::{BorderHoriz, RenderLine};
+use tbr_model::CharWidth;
+use tbr_tagged::{OutOfMemory, TaggedLine, spaces};
+
+/// Ends a row: of each spanning cell its first line comes in front of the border below, where borders are drawn, and
+/// the rest overhangs.
+pub(crate) fn hang<T: Eq + Clone + Drop, W: CharWidth>(
+    alloc: Global,
+    columns: Vec<Column<T>>,
+    next: &mut BorderHoriz<T>,
+    draws: bool,
+    tag: &T,
+) -> Result<LinkedList<LineSet<T>>, OutOfMemory>
+    requires { CopiesAreEqual T.is_clone T.eq }
+    ensures gaps { OnOk result
+        (FillsGaps draws W.columns T.eq tag.now (map model.cell_in columns.items) next.old next.new) }
+    ensures rest { IfOk result (λ rest. rest ≡ model.overhang draws (map model.cell_in columns.items)) }
+{
+    let mut rest = LinkedList::new(alloc);
+    for column in columns {
+        hang_cell::<T, W>(alloc, column, next, &mut rest, draws, tag)?;
+    }
+    Ok(rest)
+}
+
+fn hang_cell<T: Eq + Clone + Drop, W: CharWidth>(
+    alloc: Global,
+    column: Column<T>,
+    next: &mut BorderHoriz<T>,
+    rest: &mut LinkedList<LineSet<T>>,
+    draws: bool,
+    tag: &T,
+) -> Result<(), OutOfMemory>
+    requires { CopiesAreEqual T.is_clone T.eq }
+    ensures gap { OnOk result
+        (FillsGapIf (model.has_gap draws column.cell) W.columns T.eq tag.now column.cell next.old next.new) }
+    ensures rest { OnOk result (rest.new ≡ rest.old ++ model.overhang_of draws column.cell) }
+{
+    let mut cell = column.cell;
+    if cell.span <= 1 {
+        return Ok(());
+    }
+    if draws {
+        let text = gap_text(alloc, cell.lines.pop_front(), cell.width, tag)?;
+        add_text::<T, W>(next, cell.place, text)?;
+    }
+    cell.span -= 1;
+    rest.push_back(cell)?;
+    Ok(())
+}
+
+/// What stands of a cell in the border below its row: a line, or, where it has none left, spaces.
+fn gap_text<T: Eq + Clone + Drop>(
+    alloc: Global,
+    line: Option<RenderLine<T>>,
+    width: usize,
+    tag: &T,
+) -> Result<TaggedLine<T>, OutOfMemory>
+    requires { CopiesAreEqual T.is_clone T.eq }
+    ensures { IfOk result (λ text. model.IsGapText T.eq tag.now width line text) }
+{
+    match line {
+        Some(line) => line.into_tagged_line(),
+        None => TaggedLine::from_string(alloc, spaces(alloc, width)?, tag),
+    }
+}
+
+/// Puts a text in front of a border, from a place on, or behind what stands there.
+fn add_text<T: Drop, W: CharWidth>(
+    border: &mut BorderHoriz<T>,
+    place: usize,
+    text: TaggedLine<T>,
+) -> Result<(), OutOfMemory>
+    ensures { OnOk result (border.new ≡ model.with_elements W.columns place border.old text) }
+{
+    for element in text {
+        let free = place.max(border.span_end());
+        border.add_text_span::<W>(free, element)?;
+    }
+    Ok(())
+}

@@ -1,0 +1,102 @@
+//! Laws of rows, each as the contract of a function that does nothing.
+ghost use Rattle.std.specs.Prelude.{◌≡◌, ℕ, List, map, is_some, Some, Bool, true, ◌≤◌, ◌++◌, ◌∷◌, Option};
+ghost use Rattle.tbr_rows.specs.declared.line_set.LineSet.{LineSet as Cell};
+ghost use Rattle.std.specs.List.{AllZip, AllByRecursion as Each};
+ghost use Rattle.tbr_rows.specs.Shown.{part_of, later_of, Meeting, meeting, met, merged_first, merged_last, parts_of, parts_and_merged, AreItsRows, texts_in, FillsCell};
+ghost use Rattle.tbr_rows.specs.Rows.{cells_under, columns_shown};
+ghost use Rattle.tbr_rows.specs.Gaps.{cell_in};
+ghost use Rattle.tbr_rows.specs.Texts.{row_height, line_text};
+ghost use Rattle.tbr_rows.specs.declared.column.Column.{Column};
+ghost use Rattle.tbr_border.specs.Border.{Border};
+ghost use Rattle.tbr_model.specs.Layout.{joined};
+ghost use Rattle.tbr_model.specs.Run.{Item, item_width, items_width};
+ghost use Rattle.tbr_rows.specs.Fitting.{fitting_of, fit_all};
+ghost use Rattle.tbr_rows.specs.Cells.{AreSideBySide, AreApart, with_hanging, row_fits, spot_of, spots_from, Spot, look, cell_height, place_of, lines_of, IsAsFree};
+
+/// Overhanging cells find their places exactly where the row fits.
+#[tactic(auto, using(crate::proofs::Fits::found_exactly))]
+pub fn places_are_found_where_the_row_fits<T>()
+    ensures { (at : ℕ) (hanging cells : List (Cell T)) → AreSideBySide at cells → AreApart at hanging →
+        is_some (with_hanging at hanging cells) ≡ row_fits hanging (map spot_of cells) }
+{}
+
+/// The cells of a row in which overhanging ones have their places stand side by side.
+#[tactic(auto, using(crate::proofs::Seats::stand_side_by_side))]
+pub fn cells_with_overhanging_ones_stand_side_by_side<T>()
+    ensures { (at : ℕ) (hanging cells row : List (Cell T)) → AreSideBySide at cells → AreApart at hanging →
+        with_hanging at hanging cells ≡ Some row → AreSideBySide at row }
+{}
+
+/// Told cell by cell, a row fits exactly where by the rule it does.
+#[tactic(auto, using(crate::proofs::Fitted::fitted_exactly))]
+pub fn cells_told_one_by_one_fit_where_the_row_does<T>()
+    ensures { (hanging : List (Cell T)) (cells : List (ℕ × Bool)) → AreApart 0 hanging →
+        (fit_all (fitting_of hanging) cells).fits ≡ row_fits hanging (spots_from 0 cells) }
+{}
+
+/// Cells side by side stand where their widths say.
+#[tactic(auto, using(crate::proofs::Fitted::spots_are))]
+pub fn cells_stand_where_their_widths_say<T>()
+    ensures { (cells : List (Cell T)) → AreSideBySide 0 cells → map spot_of cells ≡ spots_from 0 (map look cells) }
+{}
+
+/// A row that fits still does where fewer of its cells have lines.
+#[tactic(auto, using(crate::proofs::Fitted::fits_with_fewer_lines))]
+pub fn a_row_with_fewer_lines_fits_too<T>()
+    ensures { (hanging : List (Cell T)) (spots others : List Spot) → AllZip IsAsFree spots others →
+        row_fits hanging spots ≡ true → row_fits hanging others ≡ true }
+{}
+
+/// What a row shows of a cell, with the line in the border below it, and what it leaves to later rows are the cell's
+/// lines.
+#[tactic(auto, using(crate::proofs::AllLines::part_and_later))]
+pub fn a_row_loses_no_line<T>()
+    ensures { (draws : Bool) (height : ℕ) (cell : Cell T) → cell_height cell ≤ height →
+        part_of draws height cell ++ later_of draws height cell ≡ lines_of cell }
+{}
+
+/// A row is as high as each of its cells asks.
+#[tactic(auto, using(crate::proofs::AllLines::row_is_high_enough))]
+pub fn a_row_is_high_enough<T>()
+    ensures { (columns : List (Column T)) → Each (λ c. cell_height (cell_in c) ≤ row_height columns) columns }
+{}
+
+/// What a row merges of a cell's lines and what is left are its lines.
+#[tactic(auto, using(crate::proofs::AllLines::merged_and_left))]
+pub fn merging_takes_borders_alone<T>()
+    ensures { (m : Meeting) (cell : Cell T) →
+        merged_first m cell ++ lines_of (met m cell) ++ merged_last m cell ≡ lines_of cell }
+{}
+
+/// Over all its rows a cell's lines are those that are shown and the borders that are merged, in order.
+#[tactic(auto, using(crate::proofs::AllLines::all_rows))]
+pub fn a_spanning_cell_is_shown_whole<T>()
+    ensures { (draws : Bool) (rows : List Meeting) (cell : Cell T) → AreItsRows draws rows cell →
+        parts_and_merged draws rows cell ≡ lines_of cell }
+{}
+
+/// Over all its rows a cell shows its texts, once and in order.
+#[tactic(auto, using(crate::proofs::AllLines::all_texts))]
+pub fn a_spanning_cell_shows_its_texts_once<T>()
+    ensures { (draws : Bool) (rows : List Meeting) (cell : Cell T) → AreItsRows draws rows cell →
+        texts_in (joined (parts_of draws rows cell)) ≡ texts_in (lines_of cell) }
+{}
+
+/// The cells that a row shows are its cells without what it merges.
+#[tactic(auto, using(crate::proofs::AllLines::cells_meet))]
+pub fn a_row_shows_its_cells<T>()
+    ensures { (collapses : Bool) (top : Option (Border T)) (height : ℕ) (cells : List (Cell T)) →
+        map cell_in (columns_shown collapses (cells_under collapses top cells))
+        ≡ map (met (meeting collapses top height)) cells }
+{}
+
+/// In each line of a row a cell's text begins at the cell's place, where the texts before it fill their cells.
+#[tactic(auto, using(crate::proofs::Standing::stands_at))]
+pub fn cells_stand_in_their_columns<T>()
+    ensures { (columns : ℕ → Option ℕ) (separator : Item T) (tag : T) (i : ℕ)
+        (front : List (Column T)) (column : Column T) (rest : List (Column T)) → item_width columns separator ≡ 1 →
+        Each (FillsCell columns tag i) front → AreSideBySide 0 (map cell_in (front ++ column ∷ rest)) →
+        (before : List (Item T))
+        × (line_text separator tag (front ++ column ∷ rest) i ≡ before ++ line_text separator tag (column ∷ rest) i)
+        × (items_width columns before ≡ place_of (cell_in column)) }
+{}

@@ -1,0 +1,74 @@
+//! The cells of a row.
+ghost use Rattle.std.specs.Prelude.{◌≡◌, IfOk, length};
+ghost use Rattle.tbr_rows.specs.Cells as model;
+
+use std::alloc::Global;
+use std::collections::LinkedList;
+use tbr_border::RenderLine;
+use tbr_tagged::OutOfMemory;
+
+/// A cell of a row: the column at which it begins, how many columns it takes, how many rows it still spans, and the
+/// lines that it has still to show.
+#[derive(Drop)]
+pub struct LineSet<T> {
+    pub(crate) place: usize,
+    pub(crate) width: usize,
+    pub(crate) span: usize,
+    pub(crate) lines: LinkedList<RenderLine<T>>,
+}
+
+impl<T> LineSet<T> {
+    /// A cell without lines, in one row.
+    pub(crate) fn empty(alloc: Global, place: usize, width: usize) -> LineSet<T>
+        ensures { result ≡ model.empty_cell place width }
+    {
+        LineSet {
+            place,
+            width,
+            span: 1,
+            lines: LinkedList::new(alloc),
+        }
+    }
+
+    /// The column behind the cell. It refuses where that passes `usize`.
+    pub(crate) fn end(&self) -> Result<usize, OutOfMemory>
+        ensures { IfOk result (λ end. end ≡ model.end_of self.now) }
+    {
+        self.place.checked_add(self.width).ok_or(OutOfMemory)
+    }
+
+    /// How many lines the cell asks of its row: as many as it has, or, where it spans more rows, its share of them,
+    /// rounded down.
+    pub(crate) fn height(&self) -> usize
+        ensures { result ≡ model.cell_height self.now }
+    {
+        if self.span <= 1 {
+            self.lines.len()
+        } else {
+            self.lines.len() / self.span
+        }
+    }
+}
+
+/// How many columns cells side by side take. It refuses where that passes `usize`.
+pub(crate) fn row_width<T>(cells: &[LineSet<T>]) -> Result<usize, OutOfMemory>
+    ensures { IfOk result (λ width. width ≡ model.row_width cells.now) }
+{
+    match cells.last() {
+        Some(cell) => cell.end(),
+        None => Ok(0),
+    }
+}
+
+/// The place of a cell behind these. It refuses where that passes `usize`.
+pub(crate) fn next_place<T>(cells: &[LineSet<T>]) -> Result<usize, OutOfMemory>
+    ensures { IfOk result (λ place. place ≡ model.next_place cells.now) }
+{
+    if cells.is_empty() {
+        return Ok(0);
+    }
+    let Some(place) = row_width(cells)?.checked_add(1) else {
+        return Err(OutOfMemory);
+    };
+    Ok(place)
+}

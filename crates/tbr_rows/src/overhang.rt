@@ -1,0 +1,74 @@
+//! The cells that overhang from the rows before.
+ghost use Rattle.std.specs.Prelude.{◌≡◌, [], map, true, Some, IfOk};
+ghost use Rattle.tbr_rows.specs.Fitting.{fitting_of};
+ghost use Rattle.tbr_rows.specs.Cells.{AreSideBySide, AreApart, row_fits, spot_of, with_hanging};
+
+use crate::columns::Columns;
+use crate::fitting::Fitting;
+use crate::line_set::LineSet;
+use crate::seating::seated;
+use std::alloc::Global;
+use std::collections::LinkedList;
+use std::marker::Model;
+use tbr_tagged::OutOfMemory;
+
+/// The cells that overhang from the rows before, in order. It is what has to be kept between two rows. A contract sees
+/// their list.
+#[derive(Drop)]
+pub struct Overhang<T> {
+    cells: LinkedList<LineSet<T>>,
+}
+
+impl<T> Model for Overhang<T> {
+    ghost use Rattle.std.specs.Prelude.{List};
+    ghost use Rattle.tbr_rows.specs.declared.line_set.LineSet.{LineSet};
+
+    ghost Value = { List (LineSet T) };
+
+    ghost use Rattle.tbr_rows.specs.Fitting.{fitting_of};
+    ghost use Rattle.tbr_rows.specs.Cells.{AreApart};
+
+    ghost view = { λ o. o.cells };
+
+    ghost invariant = { λ o. AreApart 0 o.cells };
+}
+
+impl<T: Drop> Overhang<T> {
+    /// No cells. It takes no memory.
+    pub fn new(alloc: Global) -> Overhang<T>
+        ensures { result ≡ [] }
+    {
+        Overhang {
+            cells: LinkedList::new(alloc),
+        }
+    }
+
+    /// Begins to ask whether a row has a place for each of these cells. It takes no memory.
+    pub fn fitting(&self) -> Fitting<'_, T>
+        ensures start { result ≡ fitting_of self.now }
+        ensures apart { AreApart 0 self.now }
+    {
+        Fitting::of(self.cells.iter())
+    }
+
+    /// These cells.
+    pub(crate) fn of(cells: LinkedList<LineSet<T>>) -> Overhang<T>
+        requires { AreApart 0 cells }
+        ensures { result ≡ cells }
+    {
+        Overhang { cells }
+    }
+
+    /// The cells of a row, among which these take their places.
+    pub(crate) fn seat(
+        self,
+        alloc: Global,
+        columns: Columns<T>,
+    ) -> Result<Vec<LineSet<T>>, OutOfMemory>
+        requires { row_fits self (map spot_of columns) ≡ true }
+        ensures cells { IfOk result (λ cells. with_hanging 0 self columns ≡ Some cells.items) }
+        ensures side_by_side { IfOk result (λ cells. AreSideBySide 0 cells.items) }
+    {
+        seated(alloc, columns.cells, self.cells)
+    }
+}

@@ -1,0 +1,148 @@
+//! Rows.
+ghost use Rattle.std.specs.Prelude.{◌≡◌, ℕ, map, true, Some, IfOk, OnOk, IfSome};
+ghost use Rattle.std.specs.List.{AllByRecursion as Each};
+ghost use Rattle.tbr_tagged.specs.Copies.{CopiesAreEqual};
+ghost use Rattle.tbr_tagged.specs.Elements.{IsMerged};
+ghost use Rattle.tbr_rows.specs.Cells.{row_fits, spot_of};
+ghost use Rattle.tbr_rows.specs.Rows as model;
+ghost use Rattle.tbr_rows.specs.Rows.{IsRow, IsPlain};
+
+use crate::borders::{join, merge_first, merge_last, whole};
+use crate::column::{Column, height};
+use crate::columns::Columns;
+use crate::gaps::hang;
+use crate::line_set::{LineSet, row_width};
+use crate::overhang::Overhang;
+use crate::texts::lines_of;
+use std::alloc::Global;
+use tbr_border::BorderHoriz;
+use tbr_model::CharWidth;
+use tbr_tagged::{OutOfMemory, TaggedLine};
+
+/// How a row is drawn.
+#[derive(Clone, Copy, PartialEq, Eq, Debug)]
+pub struct RowStyle {
+    /// Whether cells are parted by `│` and a border stands below the row. Else spaces part them.
+    pub draws_borders: bool,
+    /// Whether the first and the last borders of cells are merged into the borders above and below the row.
+    pub collapses: bool,
+}
+
+impl RowStyle {
+    /// What parts two cells.
+    fn separator(self) -> char
+        ensures { result ≡ model.separator_in self }
+    {
+        if self.draws_borders { '│' } else { ' ' }
+    }
+
+    /// A border, if borders are drawn.
+    fn drawn<T: Drop>(self, border: BorderHoriz<T>) -> Option<BorderHoriz<T>>
+        ensures { result ≡ model.drawn_in self border }
+    {
+        if self.draws_borders {
+            Some(border)
+        } else {
+            None
+        }
+    }
+}
+
+/// A row that is laid out.
+#[derive(Drop)]
+pub struct Row<T> {
+    /// The border above it, joined and merged.
+    pub above: Option<BorderHoriz<T>>,
+    /// Its lines.
+    pub lines: Vec<TaggedLine<T>>,
+    /// The border below it, where borders are drawn.
+    pub next: Option<BorderHoriz<T>>,
+    /// The cells that overhang into the rows after it.
+    pub overhang: Overhang<T>,
+}
+
+impl<T: Eq + Clone + Drop> Columns<T> {
+    /// Lays out a row of these cells and of those that overhang, under a border, if there is one. What is drawn stands
+    /// under copies of the tag.
+    ///
+    /// It refuses only where memory is refused, or where a place passes `usize`.
+    pub fn lay_out<W: CharWidth>(
+        self,
+        alloc: Global,
+        hanging: Overhang<T>,
+        above: Option<BorderHoriz<T>>,
+        style: RowStyle,
+        tag: &T,
+    ) -> Result<Row<T>, OutOfMemory>
+        requires copies { CopiesAreEqual T.is_clone T.eq }
+        requires fits { row_fits hanging (map spot_of self) ≡ true }
+        ensures row { IfOk result (λ row. IsRow W.columns T.eq style tag.now hanging self above row) }
+        ensures merged { IfOk result (λ row. Each (IsMerged T.eq) row.lines.items) }
+    {
+        let cells = hanging.seat(alloc, self)?;
+        let mut next = plain(alloc, row_width(&cells)?, tag)?;
+        let (above, cells) = meet_above(alloc, above, &mut next, cells, style.collapses)?;
+        let mut columns = meet_next(alloc, &mut next, cells, style.collapses)?;
+        let height = height(&columns);
+        let lines = lines_of(alloc, &mut columns, height, style.separator(), tag)?;
+        let rest = hang::<T, W>(alloc, columns, &mut next, style.draws_borders, tag)?;
+        Ok(Row {
+            above,
+            lines,
+            next: style.drawn(next),
+            overhang: Overhang::of(rest),
+        })
+    }
+}
+
+/// A border under a copy of a tag.
+fn plain<T: Eq + Clone + Drop>(
+    alloc: Global,
+    width: usize,
+    tag: &T,
+) -> Result<BorderHoriz<T>, OutOfMemory>
+    requires { CopiesAreEqual T.is_clone T.eq }
+    ensures { IfOk result (λ border. IsPlain T.eq tag.now width border) }
+{
+    BorderHoriz::new(alloc, width, tag.clone()?)
+}
+
+/// Joins a row to the border above it, if there is one, and merges with it what collapses.
+fn meet_above<T: Drop>(
+    alloc: Global,
+    above: Option<BorderHoriz<T>>,
+    next: &mut BorderHoriz<T>,
+    cells: Vec<LineSet<T>>,
+    collapses: bool,
+) -> Result<(Option<BorderHoriz<T>>, Vec<LineSet<T>>), OutOfMemory>
+    ensures above { IfOk result (λ r. r.0 ≡ model.border_above collapses cells.items above) }
+    ensures cells { IfOk result (λ r. r.1.items ≡ model.cells_under collapses above cells.items) }
+    ensures next { OnOk result (next.new ≡ model.next_under above cells.items next.old) }
+{
+    let Some(mut border) = above else {
+        return Ok((None, cells));
+    };
+    join(&mut border, next, &cells)?;
+    if !collapses {
+        return Ok((Some(border), cells));
+    }
+    let cells = merge_first(alloc, &mut border, cells)?;
+    Ok((Some(border), cells))
+}
+
+/// Merges with the border below a row what collapses.
+fn meet_next<T: Drop>(
+    alloc: Global,
+    next: &mut BorderHoriz<T>,
+    cells: Vec<LineSet<T>>,
+    collapses: bool,
+) -> Result<Vec<Column<T>>, OutOfMemory>
+    ensures columns { IfOk result (λ columns. columns.items ≡ model.columns_shown collapses cells.items) }
+    ensures next { OnOk result (next.new ≡ model.next_merged collapses cells.items next.old) }
+{
+    if collapses {
+        merge_last(alloc, next, cells)
+    } else {
+        whole(alloc, cells)
+    }
+}

@@ -1,0 +1,152 @@
+//! The lines of a row.
+ghost use Rattle.std.specs.Prelude.{◌≡◌, ◌++◌, map, length, IfOk, OnOk};
+ghost use Rattle.std.specs.List.{AllByRecursion as Each};
+ghost use Rattle.tbr_model.specs.Run.{glyph};
+ghost use Rattle.tbr_tagged.specs.Copies.{CopiesAreEqual};
+ghost use Rattle.tbr_tagged.specs.Elements.{items_of, text_items, SameItems, IsMerged};
+ghost use Rattle.tbr_tagged.specs.View.{chars_of};
+ghost use Rattle.tbr_rows.specs.Texts as model;
+
+use crate::column::Column;
+use std::alloc::Global;
+use tbr_border::{BorderHoriz, RenderLine};
+use tbr_tagged::{OutOfMemory, TaggedLine, TaggedString, spaces};
+
+/// The lines of a row: as many as asked for. They are taken out of its cells.
+pub(crate) fn lines_of<T: Eq + Clone + Drop>(
+    alloc: Global,
+    columns: &mut Vec<Column<T>>,
+    height: usize,
+    separator: char,
+    tag: &T,
+) -> Result<Vec<TaggedLine<T>>, OutOfMemory>
+    requires { CopiesAreEqual T.is_clone T.eq }
+    ensures items { IfOk result (λ lines. model.HaveTexts T.eq lines.items
+        (model.line_texts (glyph separator tag.now) tag.now columns.old.items height)) }
+    ensures merged { IfOk result (λ lines. Each (IsMerged T.eq) lines.items) }
+    ensures rest { OnOk result (columns.new.items ≡ map (model.dropped height) columns.old.items) }
+{
+    let mut lines = Vec::with_capacity(alloc, height)?;
+    for _ in 0..height {
+        lines.push(line_of(alloc, columns, separator, tag)?)?;
+    }
+    Ok(lines)
+}
+
+/// One line of a row: the first line of each cell, which it takes out, or its filler, with a separator between two
+/// cells.
+fn line_of<T: Eq + Clone + Drop>(
+    alloc: Global,
+    columns: &mut Vec<Column<T>>,
+    separator: char,
+    tag: &T,
+) -> Result<TaggedLine<T>, OutOfMemory>
+    requires { CopiesAreEqual T.is_clone T.eq }
+    ensures items { IfOk result (λ line. SameItems T.eq (items_of line)
+        (model.line_text (glyph separator tag.now) tag.now columns.old.items 0)) }
+    ensures merged { IfOk result (λ line. IsMerged T.eq line) }
+    ensures rest { OnOk result (columns.new.items ≡ map (model.dropped 1) columns.old.items) }
+{
+    let mut line = TaggedLine::new(alloc);
+    for i in 0..columns.len() {
+        push_separator(&mut line, i, separator, tag)?;
+        push_first(alloc, &mut line, &mut columns[i], tag)?;
+    }
+    Ok(line)
+}
+
+/// Appends the separator in front of a cell, but for the first one.
+fn push_separator<T: Eq + Clone>(
+    line: &mut TaggedLine<T>,
+    cell: usize,
+    separator: char,
+    tag: &T,
+) -> Result<(), OutOfMemory>
+    requires { CopiesAreEqual T.is_clone T.eq }
+    ensures items { OnOk result (SameItems T.eq (items_of line.new)
+        (items_of line.old ++ model.separator_before (glyph separator tag.now) cell)) }
+    ensures merged { IsMerged T.eq line.old → OnOk result (IsMerged T.eq line.new) }
+{
+    if cell > 0 {
+        line.push_char(separator, tag)?;
+    }
+    Ok(())
+}
+
+/// Appends a cell's first line, which it takes out, or its filler.
+fn push_first<T: Eq + Clone + Drop>(
+    alloc: Global,
+    line: &mut TaggedLine<T>,
+    column: &mut Column<T>,
+    tag: &T,
+) -> Result<(), OutOfMemory>
+    requires { CopiesAreEqual T.is_clone T.eq }
+    ensures items { OnOk result
+        (SameItems T.eq (items_of line.new) (items_of line.old ++ model.cell_text tag.now 0 column.old)) }
+    ensures merged { IsMerged T.eq line.old → OnOk result (IsMerged T.eq line.new) }
+    ensures rest { OnOk result (column.new ≡ model.dropped 1 column.old) }
+{
+    match column.cell.lines.pop_front() {
+        Some(first) => push_line(line, text_in_row(first, tag)?),
+        None => push_filler(alloc, line, column, tag),
+    }
+}
+
+/// A line as it stands in a row: a border's cells are drawn under a copy of the tag.
+fn text_in_row<T: Eq + Clone + Drop>(
+    line: RenderLine<T>,
+    tag: &T,
+) -> Result<TaggedLine<T>, OutOfMemory>
+    requires { CopiesAreEqual T.is_clone T.eq }
+    ensures { IfOk result (λ text. SameItems T.eq (items_of text) (model.text_in_row tag.now line)) }
+{
+    match line {
+        RenderLine::Text(text) => Ok(text),
+        RenderLine::Line(border) => border.into_tagged_line_with(tag),
+    }
+}
+
+/// Appends what stands where a cell has no line.
+fn push_filler<T: Eq + Clone + Drop>(
+    alloc: Global,
+    line: &mut TaggedLine<T>,
+    column: &Column<T>,
+    tag: &T,
+) -> Result<(), OutOfMemory>
+    requires { CopiesAreEqual T.is_clone T.eq }
+    ensures items { OnOk result (SameItems T.eq (items_of line.new) (items_of line.old
+        ++ text_items (model.filler_above column.now.cell.width column.now.bottom) tag.now)) }
+    ensures merged { IsMerged T.eq line.old → OnOk result (IsMerged T.eq line.new) }
+{
+    let s = filler(alloc, column.cell.width, &column.bottom)?;
+    let tag = tag.clone()?;
+    line.push_str(TaggedString { s, tag })
+}
+
+/// The vertical lines above a cell's merged border, or spaces.
+fn filler<T>(
+    alloc: Global,
+    width: usize,
+    bottom: &Option<BorderHoriz<T>>,
+) -> Result<String, OutOfMemory>
+    ensures { IfOk result (λ text. chars_of text ≡ model.filler_above width bottom.now) }
+{
+    match bottom {
+        Some(border) => border.to_vertical_lines_above(),
+        None => spaces(alloc, width),
+    }
+}
+
+/// Appends a line to another.
+fn push_line<T: Eq + Drop>(
+    line: &mut TaggedLine<T>,
+    other: TaggedLine<T>,
+) -> Result<(), OutOfMemory>
+    ensures items { OnOk result (SameItems T.eq (items_of line.new) (items_of line.old ++ items_of other)) }
+    ensures merged { IsMerged T.eq line.old → OnOk result (IsMerged T.eq line.new) }
+{
+    for element in other {
+        line.push(element)?;
+    }
+    Ok(())
+}
