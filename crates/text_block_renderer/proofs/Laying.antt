@@ -1,5 +1,5 @@
 -- The lines of laid texts, and the visible characters there.
-use Rattle.std.proofs.Common.{◌≡◌, ℕ, false, Option, List, [], ◌∷◌, ◌++◌, map, flat_map, fold, length, refl, ap, sym, ◌∙◌, append_assoc, append-nil}
+use Rattle.std.proofs.Common.{◌≡◌, ◌≤◌, ℕ, false, Option, List, [], ◌∷◌, ◌++◌, map, flat_map, fold, length, refl, ap, sym, arith, ◌∙◌, append_assoc, append-nil}
 use Rattle.std.specs.List.{AllByRecursion as Each, zip}
 use Rattle.tbr_model.specs.Run.{Item}
 use Rattle.tbr_model.specs.Layout.{joined}
@@ -31,15 +31,15 @@ module _ {T : Type 0} (columns : ℕ → Option ℕ) where
   unseen_spaces tag (c ∷ cs) h =
       let unseen : is_visible columns c ≡ false = ap (is_visible columns) h.0 ∙ space_unseen columns in rw unseen (unseen_spaces tag cs h.1)
 
-  shown_indented : (tag : T) (prefixes : List (List ℕ)) (lines : List (Line T)) → length lines ≡ length prefixes → Each IsSpaces prefixes →
+  shown_indented : (tag : T) (prefixes : List (List ℕ)) (lines : List (Line T)) → length lines ≤ length prefixes → Each IsSpaces prefixes →
       visible_glyphs columns (joined (prefixed tag prefixes lines)) ≡ visible_glyphs columns (joined (map (as_text tag) lines))
-  shown_indented tag [] [] same h = refl
-  shown_indented tag [] (l ∷ ls) same h = cc
-  shown_indented tag (p ∷ ps) [] same h = refl
-  shown_indented tag (p ∷ ps) (l ∷ ls) same h =
+  shown_indented tag [] [] fewer h = refl
+  shown_indented tag [] (l ∷ ls) fewer h = absurd (omega (arith, fewer))
+  shown_indented tag (p ∷ ps) [] fewer h = refl
+  shown_indented tag (p ∷ ps) (l ∷ ls) fewer h =
       glyphs-append columns (text_items p tag ++ as_text tag l) (joined (prefixed tag ps ls))
       ∙ ap (λ gs. gs ++ visible_glyphs columns (joined (prefixed tag ps ls))) (glyphs-append columns (text_items p tag) (as_text tag l) ∙ ap (λ gs. gs ++ visible_glyphs columns (as_text tag l)) (unseen_spaces tag p h.0))
-      ∙ ap (λ gs. visible_glyphs columns (as_text tag l) ++ gs) (shown_indented tag ps ls (let e : length ls ≡ length ps = cc in e) h.1)
+      ∙ ap (λ gs. visible_glyphs columns (as_text tag l) ++ gs) (shown_indented tag ps ls (let e : length ls ≤ length ps = omega (arith, fewer) in e) h.1)
       ∙ sym (glyphs-append columns (as_text tag l) (joined (map (as_text tag) ls)))
 
 -- ---- lines
@@ -95,7 +95,7 @@ module _ {D A : Type 0} (columns : ℕ → Option ℕ) where
       (h.0, h.1, characters_appended decoration prefixes lines r s h ∙ ap (λ gs. visible_glyphs columns (text_of_lines h.0.lines) ++ gs) (shown_behind columns r.annotations prefixes lines))
 
   pub characters_indented : (decoration : Decoration D A) (prefixes : List (List ℕ)) (lines : List (Line (List A))) (r s : Renderer D A (List A)) → Does columns decoration (append_subrender prefixes lines) r s →
-      length lines ≡ length prefixes → Each IsSpaces prefixes → (m : Renderer D A (List A)) × Flushes columns r m
+      length lines ≤ length prefixes → Each IsSpaces prefixes → (m : Renderer D A (List A)) × Flushes columns r m
       × (visible_glyphs columns (text_of_lines s.lines) ≡ visible_glyphs columns (text_of_lines m.lines) ++ visible_glyphs columns (joined (map (as_text r.annotations) lines)))
-  characters_indented decoration prefixes lines r s h same spaces =
-      (h.0, h.1, characters_appended decoration prefixes lines r s h ∙ ap (λ gs. visible_glyphs columns (text_of_lines h.0.lines) ++ gs) (shown_indented columns r.annotations prefixes lines same spaces))
+  characters_indented decoration prefixes lines r s h fewer spaces =
+      (h.0, h.1, characters_appended decoration prefixes lines r s h ∙ ap (λ gs. visible_glyphs columns (text_of_lines h.0.lines) ++ gs) (shown_indented columns r.annotations prefixes lines fewer spaces))

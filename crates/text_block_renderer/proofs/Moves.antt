@@ -87,6 +87,9 @@ MayRule own r = ⊥
 
 -- ---- paths
 
+abbrev pub frame : {D A : Type 0} → Renderer D A (List A) → ℕ × RenderOptions
+frame r = (r.width, r.options)
+
 module _ {D A : Type 0} (columns : ℕ → Option ℕ) where
   pub no_block : (ts : List (List (Item (List A)))) (q : Renderer D A (List A)) → q.block ≡ None → (fold (with_line columns) q ts).block ≡ None
   no_block [] q n = n
@@ -98,6 +101,14 @@ module _ {D A : Type 0} (columns : ℕ → Option ℕ) where
 
   pub flushed_none : (r s : Renderer D A (List A)) → Flushes columns r s → s.block ≡ None
   flushed_none r s h = closed r s r.block refl h
+
+  frame_of_lines : (ts : List (List (Item (List A)))) (q : Renderer D A (List A)) → frame (fold (with_line columns) q ts) ≡ frame q
+  frame_of_lines [] q = refl
+  frame_of_lines (t ∷ ts) q = frame_of_lines ts (with_line columns q t)
+
+  pub flush_frame : (r s : Renderer D A (List A)) (o : Option (Open (List A))) → FlushesBlock columns r o s → frame s ≡ frame r
+  flush_frame r s None h = ap (λ (q : Renderer D A (List A)). frame q) h
+  flush_frame r s (Some b) h = ap (λ (q : Renderer D A (List A)). frame q) h.is ∙ frame_of_lines (block_lines columns r b h.texts) (record r { block = None })
 
 module _ {D A : Type 0} (columns : ℕ → Option ℕ) (kind : Kind) where
   abbrev pub Makes : Move (List A) → Renderer D A (List A) → Renderer D A (List A) → Type 0
@@ -167,19 +178,8 @@ module _ {D A : Type 0} (columns : ℕ → Option ℕ) (kind : Kind) where
 
   -- ---- width and options
 
-  abbrev frame : Renderer D A (List A) → ℕ × RenderOptions
-  frame r = (r.width, r.options)
-
-  frame_of_lines : (ts : List (List (Item (List A)))) (q : Renderer D A (List A)) → frame (fold (with_line columns) q ts) ≡ frame q
-  frame_of_lines [] q = refl
-  frame_of_lines (t ∷ ts) q = frame_of_lines ts (with_line columns q t)
-
-  flush_frame : (r s : Renderer D A (List A)) (o : Option (Open (List A))) → FlushesBlock columns r o s → frame s ≡ frame r
-  flush_frame r s None h = ap (λ (q : Renderer D A (List A)). frame q) h
-  flush_frame r s (Some b) h = ap (λ (q : Renderer D A (List A)). frame q) h.is ∙ frame_of_lines (block_lines columns r b h.texts) (record r { block = None })
-
   move_frame : (m : Move (List A)) (r s : Renderer D A (List A)) → Makes m r s → frame s ≡ frame r
-  move_frame flush r s h = flush_frame r s r.block h
+  move_frame flush r s h = flush_frame columns r s r.block h
   move_frame (line is) r s h = ap (λ (q : Renderer D A (List A)). frame q) h.2
   move_frame (rule cells) r s h = ap (λ (q : Renderer D A (List A)). frame q) h.2
   move_frame (join es) r s h = ap (λ (q : Renderer D A (List A)). frame q) h

@@ -18,13 +18,14 @@ use Rattle.tbr_decor.specs.Decoration.{Decoration}
 use Rattle.tbr_renderer.specs.Image.{shown_title}
 use Rattle.tbr_renderer.specs.Decorated.{struck_from, struck_until, asked_to_close, annotated, coloured, uncoloured, Opens, OpenIsTooNarrow, Closes, CloseIsTooNarrow, AddsImageBy, ImageIsTooNarrowBy}
 use Rattle.tbr_renderer.specs.Renderer.{Line, Open, Renderer, Settings, settings_of, without_annotation, has_content, with_line, with_entries, last_mode, struck, text_annotations, entries_of, ignores, least, overflows, may_overflow, open_run}
-use Rattle.tbr_renderer.specs.Flush.{block_lines, Flushes, FlushesBlock, BlockIsTooNarrow, FlushIsTooNarrow}
+use Rattle.tbr_renderer.specs.Flush.{Flushes, FlushesBlock, BlockIsTooNarrow, FlushIsTooNarrow}
 use Rattle.tbr_renderer.specs.Steps.{with_empty_line, AddsEmptyLine, block_started, StartsBlock, BlockIsAtLineStart, BreaksLineAt, BreaksLine, JoinsText, AddsText, AddsTextBy, JoinIsTooNarrow, TextIsTooNarrow, TextIsTooNarrowBy}
 use Rattle.tbr_renderer.specs.Calls.{Call, add_empty_line, new_line, new_line_hard, start_block, start_table, end_block, add_inline_text, push_ws, pop_ws, push_preformat, pop_preformat, record_frag_start, begin, finish, start_strikeout, end_strikeout, add_image, push_colour, pop_colour, add_border, append_subrender, append_vert_row, Does, IsTooNarrow}
 use Rattle.tbr_renderer.specs.Appended.{with_border, border_of_cells, as_text, prefixed, with_divider, with_cell, with_cell_below, with_cells}
 use Rattle.tbr_lines.specs.Cell.{Cell, horizontal, slash}
 use Rattle.text_block_renderer.specs.Settings.{settled, settled_by_image}
 use Rattle.text_block_renderer.specs.Normal.{WrapsNormally, PushesNormal}
+use Rattle.text_block_renderer.proofs.Moves.{flushed_none}
 use Rattle.text_block_renderer.proofs.Once.{flushes_once}
 use Rattle.text_block_renderer.proofs.Settings.{Steady, started_alike, call_changes}
 
@@ -54,10 +55,6 @@ module _ {D A : Type 0} (columns : ℕ → Option ℕ) where
   lines_no_block [] r = refl
   lines_no_block (t ∷ ts) r = lines_no_block ts (with_line columns r t)
 
-  none_open : (r s : Renderer D A (List A)) (o : Option (Open (List A))) → r.block ≡ o → FlushesBlock columns r o s → s.block ≡ None
-  none_open r s None e h = ap (λ (q : Renderer D A (List A)). q.block) h ∙ e
-  none_open r s (Some b) e h = ap (λ (q : Renderer D A (List A)). q.block) h.is ∙ lines_no_block (block_lines columns r b h.texts) (record r { block = None })
-
   begun_block : (r : Renderer D A (List A)) → (let s = block_started columns r in s.block) ≡ r.block
   begun_block r = go (has_content r) refl
     where
@@ -65,11 +62,8 @@ module _ {D A : Type 0} (columns : ℕ → Option ℕ) where
       go true e = rw e refl
       go false e = rw e refl
 
-  flushed_none : (r s : Renderer D A (List A)) → Flushes columns r s → s.block ≡ None
-  flushed_none r s h = none_open r s r.block refl h
-
   started_none : (r s : Renderer D A (List A)) → StartsBlock columns r s → s.block ≡ None
-  started_none r s h = ap (λ (q : Renderer D A (List A)). q.block) h.2 ∙ begun_block h.0 ∙ flushed_none r h.0 h.1
+  started_none r s h = ap (λ (q : Renderer D A (List A)). q.block) h.2 ∙ begun_block h.0 ∙ flushed_none columns r h.0 h.1
 
   -- lines of other renderers and borders open no block
   divided_block : (cell : Cell) (r : Renderer D A (List A)) → (let s = with_divider columns cell r in s.block) ≡ r.block
@@ -186,8 +180,8 @@ module _ {D A : Type 0} (columns : ℕ → Option ℕ) where
         subst (λ (q : Renderer D A (List A)). IsNormal (open_run q.block)) (sym h.2.1) (run_with h.0 (entries_of columns preformatted h.0 cs) (joined_normal h.0 cs begun))
 
   broken_none : (r s : Renderer D A (List A)) (at : Bool) → BreaksLineAt columns at r s → s.block ≡ None
-  broken_none r s true h = ap (λ (q : Renderer D A (List A)). q.block) h.2 ∙ flushed_none r h.0 h.1
-  broken_none r s false h = flushed_none r s h
+  broken_none r s true h = ap (λ (q : Renderer D A (List A)). q.block) h.2 ∙ flushed_none columns r h.0 h.1
+  broken_none r s false h = flushed_none columns r s h
 
   -- ---- decorated text
 
@@ -340,8 +334,8 @@ module _ {D A : Type 0} (columns : ℕ → Option ℕ) where
     call_or_not (append_vert_row cells) r s normal h k = flush_or_not r h.0 normal h.1 k
 
     run_behind : (call : Call (List A)) (r s : Renderer D A (List A)) → WrapsNormally r → Does columns decoration call r s → IsNormal (open_run s.block)
-    run_behind add_empty_line r s normal h = normal_none s (ap (λ (q : Renderer D A (List A)). q.block) h.2 ∙ flushed_none r h.0 h.1)
-    run_behind new_line r s normal h = normal_none s (flushed_none r s h)
+    run_behind add_empty_line r s normal h = normal_none s (ap (λ (q : Renderer D A (List A)). q.block) h.2 ∙ flushed_none columns r h.0 h.1)
+    run_behind new_line r s normal h = normal_none s (flushed_none columns r s h)
     run_behind new_line_hard r s normal h = normal_none s (broken_none r s h.0 h.2)
     run_behind start_block r s normal h = normal_none s (started_none r s h)
     run_behind start_table r s normal h = normal_none s (started_none r s h)
@@ -364,11 +358,11 @@ module _ {D A : Type 0} (columns : ℕ → Option ℕ) where
     run_behind (pop_colour g) r s normal h =
         let behind = uncoloured_normal decoration g r normal in
         subst (λ (q : Renderer D A (List A)). IsNormal (open_run q.block)) (sym h) behind.run
-    run_behind (add_border width) r s normal h = normal_none s (ap (λ (q : Renderer D A (List A)). q.block) h.2 ∙ flushed_none r h.0 h.1)
+    run_behind (add_border width) r s normal h = normal_none s (ap (λ (q : Renderer D A (List A)). q.block) h.2 ∙ flushed_none columns r h.0 h.1)
     run_behind (append_subrender prefixes lines) r s normal h =
-        normal_none s (ap (λ (q : Renderer D A (List A)). q.block) h.2 ∙ lines_no_block (prefixed r.annotations prefixes lines) h.0 ∙ flushed_none r h.0 h.1)
+        normal_none s (ap (λ (q : Renderer D A (List A)). q.block) h.2 ∙ lines_no_block (prefixed r.annotations prefixes lines) h.0 ∙ flushed_none columns r h.0 h.1)
     run_behind (append_vert_row cells) r s normal h =
-        normal_none s (ap (λ (q : Renderer D A (List A)). q.block) h.2 ∙ divided_block horizontal (with_cells columns h.0 cells) ∙ cells_block cells h.0 ∙ flushed_none r h.0 h.1)
+        normal_none s (ap (λ (q : Renderer D A (List A)). q.block) h.2 ∙ divided_block horizontal (with_cells columns h.0 cells) ∙ cells_block cells h.0 ∙ flushed_none columns r h.0 h.1)
 
     settled_normal : (call : Call (List A)) (r : Renderer D A (List A)) → PushesNormal call → WrapsNormally r → WrapsNormally (settled decoration call r)
     settled_normal (push_ws mode) r is h = record { narrow = h.narrow; modes = each_append (λ m. m ≡ Normal) r.modes (mode ∷ []) h.modes (is, tt); run = h.run }

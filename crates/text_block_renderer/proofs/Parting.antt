@@ -1,10 +1,11 @@
 -- All lines that come are parts: stretches of runs, laid texts, and borders.
-use Rattle.std.proofs.Common.{◌≡◌, ℕ, Option, Some, None, List, [], ◌∷◌, ◌++◌, flat_map, fold, refl, ap, sym, ◌∙◌, subst, append_assoc, append-nil}
+use Rattle.std.proofs.Common.{◌≡◌, ℕ, Option, Some, None, List, [], ◌∷◌, ◌++◌, flat_map, refl, ap, sym, ◌∙◌, subst, append_assoc, append-nil}
 use Rattle.std.proofs.lemmas.List.Concat.{flat_map-append}
 use Rattle.tbr_model.specs.Run.{Entry, Item}
 use Rattle.tbr_model.proofs.lists.Each.{each_append}
 use Rattle.tbr_lines.specs.Border.{without_holes}
 use Rattle.tbr_lines.specs.Cell.{Cell}
+use Rattle.tbr_renderer.specs.declared.options.RenderOptions.{RenderOptions}
 use Rattle.tbr_decor.specs.Decoration.{Decoration}
 use Rattle.tbr_renderer.specs.Renderer.{Open, Renderer, with_line, with_entries, open_run}
 use Rattle.tbr_renderer.specs.Flush.{block_lines, EndsBlock, FlushesBlock}
@@ -15,7 +16,7 @@ use Rattle.text_block_renderer.specs.Stretches.{Part, ended, laid, ruled, entrie
 use Rattle.std.specs.Prelude.{⊤}
 use Rattle.std.specs.List.{AllByRecursion as Each}
 use Rattle.text_block_renderer.proofs.Moves as moves
-use Rattle.text_block_renderer.proofs.Moves.{Move, flush, line, rule, join, turn, brought_by, brought, ruled_by, Kind, any, undrawn, own, Fits, MayLay, MayRule, Makes, MakesAll, no_block}
+use Rattle.text_block_renderer.proofs.Moves.{Move, flush, line, rule, join, turn, brought_by, brought, ruled_by, Kind, any, undrawn, own, Fits, MayLay, MayRule, Makes, MakesAll, no_block, flush_frame}
 use Rattle.text_block_renderer.proofs.Calling.{calls_move}
 use Rattle.tbr_renderer.proofs.Writing.{open_run_is}
 use Rattle.text_block_renderer.proofs.Stretching.{flush_adds}
@@ -45,14 +46,6 @@ ended_kind undrawn q b texts = tt
 ended_kind own q b texts = tt
 
 module _ {D A : Type 0} (columns : ℕ → Option ℕ) (kind : Kind) where
-  width_kept : (ts : List (List (Item (List A)))) (q : Renderer D A (List A)) → (fold (with_line columns) q ts).width ≡ q.width
-  width_kept [] q = refl
-  width_kept (t ∷ ts) q = width_kept ts (with_line columns q t)
-
-  options_kept : (ts : List (List (Item (List A)))) (q : Renderer D A (List A)) → (fold (with_line columns) q ts).options ≡ q.options
-  options_kept [] q = refl
-  options_kept (t ∷ ts) q = options_kept ts (with_line columns q t)
-
   -- What came in parts, to a renderer of which width and options are the same.
   record CameInParts (r : Renderer D A (List A)) (q : Renderer D A (List A)) (es : List (Entry (List A))) (bs : List (List Cell)) : Type 0 where
     width : q.width ≡ r.width
@@ -100,9 +93,10 @@ module _ {D A : Type 0} (columns : ℕ → Option ℕ) (kind : Kind) where
   ended_part r q s b es bs open_block_is h k =
       let texts : List (List (Item (List A))) = block_lines columns q b h.texts in
       let closed : Renderer D A (List A) = record q { block = None } in
+      let same = flush_frame columns q s (Some b) h in
       one_part r q s es [] bs (ended q b h.texts)
-      (ap (λ (p : Renderer D A (List A)). p.width) h.is ∙ width_kept texts closed)
-      (ap (λ (p : Renderer D A (List A)). p.options) h.is ∙ options_kept texts closed)
+      (ap (λ (f : ℕ × RenderOptions). f.0) same)
+      (ap (λ (f : ℕ × RenderOptions). f.1) same)
       (record { width = k.width; options = k.options; block = open_block_is; names = h.names; ends = h.ends })
       (ended_kind kind q b h.texts)
       (flush_adds columns q s b h)

@@ -12,8 +12,9 @@ use Rattle.tbr_renderer.specs.Appended.{with_border, border_of_cells, as_text, w
 use Rattle.tbr_renderer.specs.Calls.{append_vert_row, Does}
 use Rattle.text_block_renderer.specs.Stretches.{lines_laid}
 use Rattle.text_block_renderer.specs.Rows.{cell_lines, row_lines}
-use Rattle.text_block_renderer.proofs.Settings.{Steady, flushed_alike}
+use Rattle.text_block_renderer.proofs.Settings.{Steady, lines_added, flushed_alike}
 use Rattle.text_block_renderer.proofs.Drawing.{border_stays}
+use Rattle.text_block_renderer.proofs.Waiting.{none_wait}
 use Rattle.text_block_renderer.proofs.Laying.{laid_lines, plain_lines}
 
 module _ {D A : Type 0} (columns : ℕ → Option ℕ) where
@@ -24,12 +25,7 @@ module _ {D A : Type 0} (columns : ℕ → Option ℕ) where
   divider_undrawn cell q e = ap (λ (d : Bool). if d then with_border columns q (border_of_cells cell q.width q) else q) e
 
   settings_laid : (ts : List (List (Item (List A)))) (r : Renderer D A (List A)) → settings_of (fold (with_line columns) r ts) ≡ settings_of r
-  settings_laid [] r = refl
-  settings_laid (t ∷ ts) r = settings_laid ts (with_line columns r t)
-
-  waiting_laid : (ts : List (List (Item (List A)))) (r : Renderer D A (List A)) → r.waiting ≡ [] → (fold (with_line columns) r ts).waiting ≡ []
-  waiting_laid [] r none = none
-  waiting_laid (t ∷ ts) r none = waiting_laid ts (with_line columns r t) refl
+  settings_laid ts r = ap (λ (x : Steady D A). x.settings) (lines_added columns ts r)
 
   module _ (r : Renderer D A (List A)) where
     -- the lines so far, of a renderer that is as `r` but for them
@@ -47,7 +43,7 @@ module _ {D A : Type 0} (columns : ℕ → Option ℕ) where
       cell_so_far lines q ls h =
           let texts = map (as_text q.annotations) lines in record {
             settings = settings_laid texts q ∙ h.settings;
-            waiting = waiting_laid texts q h.waiting;
+            waiting = none_wait columns q texts h.waiting;
             lines = plain_lines columns texts q (ap (λ (x : Settings D A). x.options.pad_block_width) h.settings ∙ unpadded) h.waiting ∙ ap (λ ms. ms ++ map text texts) h.lines
                 ∙ ap (λ ms. ls ++ ms) (texts_of_cell q.annotations lines (ap (λ (x : Settings D A). x.annotations) h.settings));
           }

@@ -28,7 +28,7 @@ abbrev pub steady : {D A : Type 0} → Renderer D A (List A) → Steady D A
 steady r = record { settings = settings_of r; failure = r.failure }
 
 module _ {D A : Type 0} (columns : ℕ → Option ℕ) where
-  lines_added : (texts : List (List (Item (List A)))) (r : Renderer D A (List A)) → steady (fold (with_line columns) r texts) ≡ steady r
+  pub lines_added : (texts : List (List (Item (List A)))) (r : Renderer D A (List A)) → steady (fold (with_line columns) r texts) ≡ steady r
   lines_added [] r = refl
   lines_added (t ∷ ts) r = lines_added ts (with_line columns r t)
 

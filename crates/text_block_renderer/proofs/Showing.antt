@@ -13,9 +13,10 @@ use Rattle.tbr_lines.specs.Elements.{text_items}
 use Rattle.tbr_lines.specs.Padding.{spaces}
 use Rattle.tbr_lines.specs.Wrapped.{padding_of}
 use Rattle.tbr_lines.proofs.SameItems.{all_zip_append}
-use Rattle.tbr_renderer.specs.Renderer.{Line, Open, Renderer, with_line, open_run, with_entries, block_width}
+use Rattle.tbr_renderer.specs.Renderer.{Line, Open, Renderer, new_renderer, with_line, open_run, with_entries, block_width}
 use Rattle.tbr_renderer.specs.Flush.{block_lines, FlushesBlock}
 use Rattle.tbr_renderer.specs.Appended.{border_line, with_border, HandsOut}
+use Rattle.tbr_renderer.specs.declared.options.RenderOptions.{RenderOptions}
 use Rattle.tbr_decor.specs.Decoration.{Decoration}
 use Rattle.tbr_renderer.specs.Calls.{Call, laid_entries, Brings, text_of_lines, Shows}
 use Rattle.text_block_renderer.specs.Drawn.{AreDrawnAmong, WithoutDrawnBorders, borders_drawn, DrawNone}
@@ -163,6 +164,12 @@ module _ {D A : Type 0} (columns : ℕ → Option ℕ) where
   pub brings_shown : (decoration : Decoration D A) (calls : List (Call (List A))) (r s : Renderer D A (List A)) (borders : List (List Cell)) (before es : List (Entry (List A))) →
       Brings columns decoration calls r es s → WithoutDrawnBorders borders (λ q. Shows columns q before) r → WithoutDrawnBorders (borders ++ borders_drawn r calls) (λ q. Shows columns q (before ++ es)) s
   brings_shown = brings_on columns (Shows columns) shows_move
+
+  pub new_brings_shown : (decoration : Decoration D A) (width : ℕ) (options : RenderOptions) (decorator : D) (calls : List (Call (List A))) (s : Renderer D A (List A)) (es : List (Entry (List A))) →
+      (let r : Renderer D A (List A) = new_renderer width options decorator in Brings columns decoration calls r es s → WithoutDrawnBorders (borders_drawn r calls) (λ q. Shows columns q es) s)
+  new_brings_shown decoration width options decorator calls s es h =
+      let nothing : Shows columns (new_renderer {D = D} width options decorator) [] = record { ended = []; shown = tt; whole = refl } in
+      brings_shown decoration calls (new_renderer width options decorator) s [] [] es h ([], ([], refl, refl, refl), nothing)
 
   pub brings_shown_all : (decoration : Decoration D A) (calls : List (Call (List A))) (r s : Renderer D A (List A)) (before es : List (Entry (List A))) →
       DrawNone r calls → Brings columns decoration calls r es s → Shows columns r before → Shows columns s (before ++ es)

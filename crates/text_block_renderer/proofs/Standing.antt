@@ -304,6 +304,11 @@ module _ {D A : Type 0} (columns : ℕ → Option ℕ) where
       Brings columns decoration calls r es s → WithoutDrawnBorders borders (λ q. Stands columns q before) r → WithoutDrawnBorders (borders ++ borders_drawn r calls) (λ q. Stands columns q (before ++ es)) s
   brings_stands = brings_on columns (Stands columns) move_stands
 
+  pub new_brings_stands : (decoration : Decoration D A) (width : ℕ) (options : RenderOptions) (decorator : D) (calls : List (Call (List A))) (s : Renderer D A (List A)) (es : List (Entry (List A))) →
+      (let r : Renderer D A (List A) = new_renderer width options decorator in Brings columns decoration calls r es s → WithoutDrawnBorders (borders_drawn r calls) (λ q. Stands columns q es) s)
+  new_brings_stands decoration width options decorator calls s es h =
+      brings_stands decoration calls (new_renderer width options decorator) s [] [] es h ([], ([], refl, refl, refl), new_stands width options decorator)
+
   pub brings_stands_all : (decoration : Decoration D A) (calls : List (Call (List A))) (r s : Renderer D A (List A)) (before es : List (Entry (List A))) →
       DrawNone r calls → Brings columns decoration calls r es s → Stands columns r before → Stands columns s (before ++ es)
   brings_stands_all = brings_on_all columns (Stands columns) move_stands

@@ -71,7 +71,7 @@ names_of_marker_run test run old [] e = ap (fold (marked_behind test) old) e ∙
 names_of_marker_run test run old (name ∷ names) e = ap (fold (marked_behind test) old) e ∙ names_of_marker_run test (marker_run names) (old ++ name ∷ []) names refl ∙ append_assoc old (name ∷ []) names
 
 module _ {D A : Type 0} (columns : ℕ → Option ℕ) where
-  none_wait : (q : Renderer D A (List A)) (ts : List (List (Item (List A)))) → q.waiting ≡ [] → (fold (with_line columns) q ts).waiting ≡ []
+  pub none_wait : (q : Renderer D A (List A)) (ts : List (List (Item (List A)))) → q.waiting ≡ [] → (fold (with_line columns) q ts).waiting ≡ []
   none_wait q [] e = e
   none_wait q (t ∷ ts) e = none_wait (with_line columns q t) ts refl
 

@@ -61,12 +61,17 @@ pub fn normal_calls_keep_text_normal<D, A>()
 {}
 
 /// After any calls the visible characters of what they brought stand in the lines of text, but for those of the open
-/// run, once and in order, each under an annotation of its call. Borders that padding made text aren't looked at.
+/// run, once and in order, each under an annotation of its call. Borders that padding made text aren't looked at. To a
+/// new renderer nothing was brought.
 pub fn visible_characters_stand_once<D, A>()
     ensures calls { (columns : ℕ → Option ℕ) (decoration : Decoration D A) (calls : List (Call (List A)))
         (r s : Renderer D A (List A)) (borders : List (List Cell)) (before es : List (Entry (List A))) →
         Brings columns decoration calls r es s → WithoutDrawnBorders borders (λ q. Shows columns q before) r →
         WithoutDrawnBorders (borders ++ borders_drawn r calls) (λ q. Shows columns q (before ++ es)) s }
+    ensures from_new { (columns : ℕ → Option ℕ) (decoration : Decoration D A) (width : ℕ) (options : RenderOptions)
+        (decorator : D) (calls : List (Call (List A))) (s : Renderer D A (List A)) (es : List (Entry (List A))) →
+        let r = new_renderer {D = D} {A = A} width options decorator in Brings columns decoration calls r es s →
+        WithoutDrawnBorders (borders_drawn r calls) (λ q. Shows columns q es) s }
     ensures undrawn { (columns : ℕ → Option ℕ) (decoration : Decoration D A) (calls : List (Call (List A)))
         (r s : Renderer D A (List A)) (before es : List (Entry (List A))) → DrawNone r calls →
         Brings columns decoration calls r es s → Shows columns r before → Shows columns s (before ++ es) }
@@ -81,6 +86,10 @@ pub fn what_was_brought_stands<D, A>()
         (r s : Renderer D A (List A)) (borders : List (List Cell)) (before es : List (Entry (List A))) →
         Brings columns decoration calls r es s → WithoutDrawnBorders borders (λ q. Stands columns q before) r →
         WithoutDrawnBorders (borders ++ borders_drawn r calls) (λ q. Stands columns q (before ++ es)) s }
+    ensures from_new { (columns : ℕ → Option ℕ) (decoration : Decoration D A) (width : ℕ) (options : RenderOptions)
+        (decorator : D) (calls : List (Call (List A))) (s : Renderer D A (List A)) (es : List (Entry (List A))) →
+        let r = new_renderer {D = D} {A = A} width options decorator in Brings columns decoration calls r es s →
+        WithoutDrawnBorders (borders_drawn r calls) (λ q. Stands columns q es) s }
     ensures undrawn { (columns : ℕ → Option ℕ) (decoration : Decoration D A) (calls : List (Call (List A)))
         (r s : Renderer D A (List A)) (before es : List (Entry (List A))) → DrawNone r calls →
         Brings columns decoration calls r es s → Stands columns r before → Stands columns s (before ++ es) }

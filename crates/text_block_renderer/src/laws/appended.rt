@@ -1,5 +1,5 @@
 //! What follows for the lines of other renderers, and for borders.
-ghost use Rattle.std.specs.Prelude.{◌≡◌, ℕ, true, false, Option, Some, List, [], ◌∷◌, ◌++◌, map, flat_map, length};
+ghost use Rattle.std.specs.Prelude.{◌≡◌, ◌≤◌, ℕ, true, false, Option, Some, List, [], ◌∷◌, ◌++◌, map, flat_map, length};
 ghost use Rattle.std.specs.List.{AllZip, AllByRecursion as Each, slice_get, zip};
 ghost use Rattle.tbr_model.specs.Run.{Entry, Item};
 ghost use Rattle.tbr_model.specs.Layout.{joined};
@@ -52,7 +52,7 @@ pub fn appended_characters_stand<D, A>()
     ensures indented { (columns : ℕ → Option ℕ) (decoration : Decoration D A) (prefixes : List (List ℕ))
         (lines : List (Line (List A))) (r s : Renderer D A (List A)) →
         Does columns decoration (append_subrender prefixes lines) r s →
-        length lines ≡ length prefixes → Each IsSpaces prefixes → (m : Renderer D A (List A)) × Flushes columns r m
+        length lines ≤ length prefixes → Each IsSpaces prefixes → (m : Renderer D A (List A)) × Flushes columns r m
         × (visible_glyphs columns (text_of_lines s.lines) ≡ visible_glyphs columns (text_of_lines m.lines)
         ++ visible_glyphs columns (joined (map (as_text r.annotations) lines))) }
 {}
