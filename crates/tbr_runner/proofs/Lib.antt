@@ -1,7 +1,6 @@
 pub mod Colours
 pub mod OptionWords
 pub mod OpeningWords
-pub mod Forms
 pub mod Commands
 pub mod Live
 pub mod LinesGive

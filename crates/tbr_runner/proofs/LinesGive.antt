@@ -2,7 +2,7 @@
 use Rattle.std.proofs.Common.{◌≡◌, ℕ, suc, ◌+◌, ◌==◌, true, false, Option, List, [], ◌∷◌, length, Result, Err, refl, sym, subst, inl, inr, arith}
 use Rattle.std.proofs.lemmas.Bool.{false≢true, eqb-true}
 use Rattle.tbr_decor.specs.Decoration.{Decoration}
-use Rattle.text_block_renderer.specs.Calls.{Call}
+use Rattle.tbr_runner.specs.Request.{Request}
 use Rattle.tbr_script.specs.declared.error.RunError.{RunError}
 use Rattle.tbr_script.specs.declared.error.RunError.TheVariants.{NotACommand}
 use Rattle.tbr_runner.specs.declared.opening.Opening.{Opening}
@@ -16,7 +16,7 @@ no_length : (n : ℕ) → true ≡ (suc n == 0) → ⊥
 no_length n e = let none : suc n ≡ 0 = eqb-true (suc n) 0 (sym e) in omega (arith, none)
 
 module _ {D M : Type 0} (columns : ℕ → Option ℕ) (decoration : Decoration D M) (p : Progress D M (List M)) (number : ℕ) where
-  pub no_command : (line : List ℕ) → false ≡ (length line == 0) → ((call : Call) → IsCommand line call → ⊥) → LineRefuses columns decoration p number line (NotACommand number)
+  pub no_command : (line : List ℕ) → false ≡ (length line == 0) → ((request : Request) → IsCommand line request → ⊥) → LineRefuses columns decoration p number line (NotACommand number)
   no_command [] some none = absurd (false≢true some)
   no_command (b ∷ bs) some none = inl (none, refl)
 

@@ -1,12 +1,8 @@
 -- A program that goes on.
-use Rattle.std.proofs.Common.{◌≡◌, ◌<◌, ℕ, zero, suc, ◌-◌, ◌==◌, Bool, true, false, Option, None, Some, List, refl, ap, sym, ◌∙◌, subst, arith}
+use Rattle.std.proofs.Common.{◌≡◌, ◌<◌, ℕ, zero, suc, ◌-◌, ◌==◌, Bool, true, false, Option, None, Some, List, refl, ap, sym, ◌∙◌, subst, arith, chars}
 use Rattle.std.proofs.lemmas.Bool.{false≢true}
 use Rattle.std.specs.Global.{Vec}
-use Rattle.tbr_decor.specs.Start as start
-use Rattle.tbr_decor.specs.End as end
 use Rattle.tbr_decor.specs.Ground as ground
-use Rattle.tbr_decor.specs.Start.{Start}
-use Rattle.tbr_decor.specs.End.{End}
 use Rattle.tbr_decor.specs.Ground.{Ground}
 use Rattle.tbr_decor.specs.declared.colour.Colour.{Colour}
 use Rattle.tbr_decor.specs.Decoration.{Decoration}
@@ -16,59 +12,75 @@ use Rattle.text_block_renderer.specs.Image.{shown_title}
 use Rattle.text_block_renderer.specs.Decorated.{coloured, uncoloured}
 use Rattle.text_block_renderer.specs.Settings.{settled, settled_by_image}
 use Rattle.text_block_renderer.specs.Meant.{meant}
-use Rattle.text_block_renderer.specs.Calls.{Call, pop_preformat, begin, finish, start_strikeout, end_strikeout, add_image, push_colour, pop_colour, Does}
+use Rattle.text_block_renderer.specs.Calls.{Call, start_strikeout, end_strikeout, add_image, push_colour, pop_colour, Does}
 use Rattle.text_block_renderer.proofs.Settings.{preformats_behind, call_beside, call_changes}
 use Rattle.tbr_runner.specs.declared.begun.Begun.{Begun}
-use Rattle.tbr_runner.specs.Begun.{ends_nothing, more, less, opens, closes, in_colour, counted}
+use Rattle.tbr_runner.specs.declared.request.layout.Layout.TheVariants.{StartBlock, EndBlock, StartTable, NewLine, HardNewLine, EmptyLine}
+use Rattle.tbr_runner.specs.declared.request.beginning.Beginning.{Beginning}
+use Rattle.tbr_runner.specs.declared.request.beginning.Beginning.TheVariants as beginning
+use Rattle.tbr_runner.specs.declared.request.kind.Kind.{Kind}
+use Rattle.tbr_runner.specs.declared.request.kind.Kind.TheVariants as kind
+use Rattle.tbr_runner.specs.Request.{Request, layout, begin, end, text, fragment, link, image, colour, border, call_of}
+use Rattle.tbr_runner.specs.Begun.{ends_nothing, counted}
 use Rattle.tbr_runner.specs.Progress.{IsLive}
 
 -- ---- what is counted
 
-module _ (begun : Begun) where
-  -- the counts that a renderer keeps too are as they were
-  abbrev Beside : Begun → Type 0
-  Beside next = (next.preformats ≡ begun.preformats) × (next.strikeouts ≡ begun.strikeouts)
+positive : (n : ℕ) → (n == 0) ≡ false → 0 < n
+positive zero e = absurd (false≢true (sym e))
+positive (suc n) e = omega arith
 
-  by_start : (opened : Start) → Beside (more begun (opens opened))
-  by_start (start.link target) = (refl, refl)
-  by_start start.emphasis = (refl, refl)
-  by_start start.strong = (refl, refl)
-  by_start start.strikeout = (refl, refl)
-  by_start start.code = (refl, refl)
-  by_start start.superscript = (refl, refl)
-  by_start (start.image source title) = (refl, refl)
+module _ (begun : Begun) (request : Request) (some : ends_nothing begun request ≡ false) where
+  pub some_preformats : request ≡ end kind.Preformat → 0 < begun.preformats
+  some_preformats is = positive begun.preformats (subst (λ r. ends_nothing begun r ≡ false) is some)
 
-  by_end : (closed : End) → Beside (less begun (closes closed))
-  by_end end.link = (refl, refl)
-  by_end end.emphasis = (refl, refl)
-  by_end end.strong = (refl, refl)
-  by_end end.strikeout = (refl, refl)
-  by_end end.code = (refl, refl)
-  by_end end.superscript = (refl, refl)
-
-  by_colour : (g : Ground) → Beside (more begun (Some (in_colour g))) × Beside (less begun (Some (in_colour g)))
-  by_colour ground.text = ((refl, refl), (refl, refl))
-  by_colour ground.background = ((refl, refl), (refl, refl))
-
-  positive : (n : ℕ) → (n == 0) ≡ false → 0 < n
-  positive zero e = absurd (false≢true (sym e))
-  positive (suc n) e = omega arith
-
-  pub some_preformats : (call : Call) → ends_nothing begun call ≡ false → call ≡ pop_preformat → 0 < begun.preformats
-  some_preformats call e is = positive begun.preformats (subst (λ c. ends_nothing begun c ≡ false) is e)
-
-  pub some_strikeouts : (call : Call) → ends_nothing begun call ≡ false → call ≡ end_strikeout → 0 < begun.strikeouts
-  some_strikeouts call e is = positive begun.strikeouts (subst (λ c. ends_nothing begun c ≡ false) is e)
+  pub some_strikeouts : request ≡ end kind.Strikeout → 0 < begun.strikeouts
+  some_strikeouts is = positive begun.strikeouts (subst (λ r. ends_nothing begun r ≡ false) is some)
 
 -- ---- what the renderer keeps
 
 module _ {D M : Type 0} (columns : ℕ → Option ℕ) (decoration : Decoration D M) where
-  counted_preformats : (call : Call) (begun : Begun) → preformats_behind columns decoration call begun.preformats ≡ (counted begun call).preformats
-  counted_preformats (begin opened) begun = sym (by_start begun opened).0
-  counted_preformats (finish closed) begun = sym (by_end begun closed).0
-  counted_preformats (push_colour g colour) begun = sym (by_colour begun g).0.0
-  counted_preformats (pop_colour g) begun = sym (by_colour begun g).1.0
-  counted_preformats call begun = refl
+  abbrev Preformats : ℕ → Request → Begun → Type 0
+  Preformats width request begun = preformats_behind columns decoration (call_of width request) begun.preformats ≡ (counted begun request).preformats
+
+  begun_preformats : (width : ℕ) (what : Beginning) (begun : Begun) → Preformats width (begin what) begun
+  begun_preformats width (beginning.Mode mode) begun = refl
+  begun_preformats width beginning.Preformat begun = refl
+  begun_preformats width beginning.Emphasis begun = refl
+  begun_preformats width beginning.Strong begun = refl
+  begun_preformats width beginning.Strikeout begun = refl
+  begun_preformats width beginning.Code begun = refl
+  begun_preformats width beginning.Superscript begun = refl
+
+  ended_preformats : (width : ℕ) (what : Kind) (begun : Begun) → Preformats width (end what) begun
+  ended_preformats width kind.Mode begun = refl
+  ended_preformats width kind.Preformat begun = refl
+  ended_preformats width kind.Link begun = refl
+  ended_preformats width kind.Emphasis begun = refl
+  ended_preformats width kind.Strong begun = refl
+  ended_preformats width kind.Strikeout begun = refl
+  ended_preformats width kind.Code begun = refl
+  ended_preformats width kind.Superscript begun = refl
+  ended_preformats width kind.Colour begun = refl
+  ended_preformats width kind.Background begun = refl
+
+  counted_preformats : (width : ℕ) (request : Request) (begun : Begun) → Preformats width request begun
+  counted_preformats width (begin what) begun = begun_preformats width what begun
+  counted_preformats width (end what) begun = ended_preformats width what begun
+  counted_preformats width (layout StartBlock) begun = refl
+  counted_preformats width (layout EndBlock) begun = refl
+  counted_preformats width (layout StartTable) begun = refl
+  counted_preformats width (layout NewLine) begun = refl
+  counted_preformats width (layout HardNewLine) begun = refl
+  counted_preformats width (layout EmptyLine) begun = refl
+  counted_preformats width (text t) begun = refl
+  counted_preformats width (fragment t) begun = refl
+  counted_preformats width (link t) begun = refl
+  counted_preformats width (image s t) begun = refl
+  counted_preformats width (colour ground.text c) begun = refl
+  counted_preformats width (colour ground.background c) begun = refl
+  counted_preformats width (border None) begun = refl
+  counted_preformats width (border (Some n)) begun = refl
 
   -- the options are as they were, and so are the strikeouts
   Unstruck : Renderer D M (List M) → Renderer D M (List M) → Type 0
@@ -79,17 +91,17 @@ module _ {D M : Type 0} (columns : ℕ → Option ℕ) (decoration : Decoration 
   unstruck_by_image source None r = (refl, refl)
   unstruck_by_image source (Some title) r = (refl, refl)
 
-  unstruck_by_colour : (g : Ground) (colour : Colour) (r : Renderer D M (List M)) (o : Option M) → decoration.colour_annotation r.decorator g colour ≡ o → Unstruck r (coloured decoration g colour r)
+  unstruck_by_colour : (g : Ground) (c : Colour) (r : Renderer D M (List M)) (o : Option M) → decoration.colour_annotation r.decorator g c ≡ o → Unstruck r (coloured decoration g c r)
   unfolding Unstruck
-  unstruck_by_colour g colour r None e = rw e (refl, refl)
-  unstruck_by_colour g colour r (Some a) e = rw e (refl, refl)
+  unstruck_by_colour g c r None e = rw e (refl, refl)
+  unstruck_by_colour g c r (Some a) e = rw e (refl, refl)
 
   unstruck_by_end : (g : Ground) (r : Renderer D M (List M)) (b : Bool) → decoration.ends_colour r.decorator g ≡ b → Unstruck r (uncoloured decoration g r)
   unfolding Unstruck
   unstruck_by_end g r true e = rw e (refl, refl)
   unstruck_by_end g r false e = rw e (refl, refl)
 
-  settled_options : (call : Call) (r : Renderer D M (List M)) → (settled decoration call r).options ≡ r.options
+  settled_options : (call : Call (List M)) (r : Renderer D M (List M)) → (settled decoration call r).options ≡ r.options
   unfolding Unstruck
   settled_options start_strikeout r = go r.options.use_unicode_strikeout refl
     where
@@ -102,32 +114,67 @@ module _ {D M : Type 0} (columns : ℕ → Option ℕ) (decoration : Decoration 
       go true e = rw e refl
       go false e = rw e refl
   settled_options (add_image source title) r = (unstruck_by_image source (shown_title r.options.img_mode source title) r).0
-  settled_options (push_colour g colour) r = (unstruck_by_colour g colour r (decoration.colour_annotation r.decorator g colour) refl).0
+  settled_options (push_colour g c) r = (unstruck_by_colour g c r (decoration.colour_annotation r.decorator g c) refl).0
   settled_options (pop_colour g) r = (unstruck_by_end g r (decoration.ends_colour r.decorator g) refl).0
   settled_options call r = refl
 
-  -- where struck out text has strokes, the strikeouts are those that were counted
-  settled_strikeouts : (call : Call) (r : Renderer D M (List M)) (begun : Begun) → r.options.use_unicode_strikeout ≡ true → r.strikeouts ≡ begun.strikeouts → (settled decoration call r).strikeouts ≡ (counted begun call).strikeouts
-  unfolding Unstruck
-  settled_strikeouts start_strikeout r begun on e = rw on (ap suc e)
-  settled_strikeouts end_strikeout r begun on e = rw on (ap (λ n. n - 1) e)
-  settled_strikeouts (begin opened) r begun on e = e ∙ sym (by_start begun opened).1
-  settled_strikeouts (finish closed) r begun on e = e ∙ sym (by_end begun closed).1
-  settled_strikeouts (add_image source title) r begun on e = (unstruck_by_image source (shown_title r.options.img_mode source title) r).1 ∙ e
-  settled_strikeouts (push_colour g colour) r begun on e = (unstruck_by_colour g colour r (decoration.colour_annotation r.decorator g colour) refl).1 ∙ e ∙ sym (by_colour begun g).0.1
-  settled_strikeouts (pop_colour g) r begun on e = (unstruck_by_end g r (decoration.ends_colour r.decorator g) refl).1 ∙ e ∙ sym (by_colour begun g).1.1
-  settled_strikeouts call r begun on e = e
+  -- Where struck out text has strokes, the strikeouts are those that were counted.
+  abbrev Strikeouts : Renderer D M (List M) → Begun → Request → Type 0
+  Strikeouts r begun request =
+      r.options.use_unicode_strikeout ≡ true → r.strikeouts ≡ begun.strikeouts → (settled decoration (call_of r.width request) r).strikeouts ≡ (counted begun request).strikeouts
 
-pub still_live : {D A M : Type 0} (columns : ℕ → Option ℕ) (decoration : Decoration D M) (meaning : A → M) (call : Call) (r s : Renderer D A (Vec A)) (begun next : Begun) →
-    IsLive r begun → next ≡ counted begun call → Does columns decoration call (meant meaning r) (meant meaning s) → IsLive s next
-still_live {D} {A} {M} columns decoration meaning call r s begun next live is does =
+  begun_strikeouts : (r : Renderer D M (List M)) (begun : Begun) (what : Beginning) → Strikeouts r begun (begin what)
+  begun_strikeouts r begun beginning.Strikeout on e = rw on (ap suc e)
+  begun_strikeouts r begun (beginning.Mode mode) on e = e
+  begun_strikeouts r begun beginning.Preformat on e = e
+  begun_strikeouts r begun beginning.Emphasis on e = e
+  begun_strikeouts r begun beginning.Strong on e = e
+  begun_strikeouts r begun beginning.Code on e = e
+  begun_strikeouts r begun beginning.Superscript on e = e
+
+  ended_strikeouts : (r : Renderer D M (List M)) (begun : Begun) (what : Kind) → Strikeouts r begun (end what)
+  unfolding Unstruck
+  ended_strikeouts r begun kind.Strikeout on e = rw on (ap (λ n. n - 1) e)
+  ended_strikeouts r begun kind.Mode on e = e
+  ended_strikeouts r begun kind.Preformat on e = e
+  ended_strikeouts r begun kind.Link on e = e
+  ended_strikeouts r begun kind.Emphasis on e = e
+  ended_strikeouts r begun kind.Strong on e = e
+  ended_strikeouts r begun kind.Code on e = e
+  ended_strikeouts r begun kind.Superscript on e = e
+  ended_strikeouts r begun kind.Colour on e = (unstruck_by_end ground.text r (decoration.ends_colour r.decorator ground.text) refl).1 ∙ e
+  ended_strikeouts r begun kind.Background on e = (unstruck_by_end ground.background r (decoration.ends_colour r.decorator ground.background) refl).1 ∙ e
+
+  counted_strikeouts : (r : Renderer D M (List M)) (begun : Begun) (request : Request) → Strikeouts r begun request
+  unfolding Unstruck
+  counted_strikeouts r begun (begin what) on e = begun_strikeouts r begun what on e
+  counted_strikeouts r begun (end what) on e = ended_strikeouts r begun what on e
+  counted_strikeouts r begun (image s t) on e = (unstruck_by_image (chars s) (shown_title r.options.img_mode (chars s) (chars t)) r).1 ∙ e
+  counted_strikeouts r begun (colour ground.text c) on e = (unstruck_by_colour ground.text c r (decoration.colour_annotation r.decorator ground.text c) refl).1 ∙ e
+  counted_strikeouts r begun (colour ground.background c) on e = (unstruck_by_colour ground.background c r (decoration.colour_annotation r.decorator ground.background c) refl).1 ∙ e
+  counted_strikeouts r begun (layout StartBlock) on e = e
+  counted_strikeouts r begun (layout EndBlock) on e = e
+  counted_strikeouts r begun (layout StartTable) on e = e
+  counted_strikeouts r begun (layout NewLine) on e = e
+  counted_strikeouts r begun (layout HardNewLine) on e = e
+  counted_strikeouts r begun (layout EmptyLine) on e = e
+  counted_strikeouts r begun (text t) on e = e
+  counted_strikeouts r begun (fragment t) on e = e
+  counted_strikeouts r begun (link t) on e = e
+  counted_strikeouts r begun (border None) on e = e
+  counted_strikeouts r begun (border (Some n)) on e = e
+
+pub still_live : {D A M : Type 0} (columns : ℕ → Option ℕ) (decoration : Decoration D M) (meaning : A → M) (request : Request) (r s : Renderer D A (Vec A)) (begun next : Begun) →
+    IsLive r begun → next ≡ counted begun request → Does columns decoration (call_of r.width request) (meant meaning r) (meant meaning s) → IsLive s next
+still_live {D} {A} {M} columns decoration meaning request r s begun next live is does =
     let before = meant meaning r in
+    let call = call_of r.width request in
     let behind = call_beside columns decoration call before (meant meaning s) does in
     let settings : settings_of (meant meaning s) ≡ settings_of (settled decoration call before) = call_changes columns decoration call before (meant meaning s) does in
     let options = ap (λ (x : Settings D M). x.options) settings ∙ settled_options columns decoration call before in (
       behind.0 ∙ live.0,
-      behind.1 ∙ ap (λ n. preformats_behind columns decoration call n) live.1 ∙ counted_preformats columns decoration call begun ∙ ap (λ (b : Begun). b.preformats) (sym is),
+      behind.1 ∙ ap (λ n. preformats_behind columns decoration call n) live.1 ∙ counted_preformats columns decoration r.width request begun ∙ ap (λ (b : Begun). b.preformats) (sym is),
       λ on.
           let before_on = sym (ap (λ (x : RenderOptions). x.use_unicode_strikeout) options) ∙ on in
-          ap (λ (x : Settings D M). x.strikeouts) settings ∙ settled_strikeouts columns decoration call before begun before_on (live.2 before_on) ∙ ap (λ (b : Begun). b.strikeouts) (sym is),
+          ap (λ (x : Settings D M). x.strikeouts) settings ∙ counted_strikeouts columns decoration before begun request before_on (live.2 before_on) ∙ ap (λ (b : Begun). b.strikeouts) (sym is),
     )

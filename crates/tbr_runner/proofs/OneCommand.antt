@@ -1,31 +1,35 @@
 -- A line is one command.
-use Rattle.std.proofs.Common.{◌≡◌, ℕ, ◌==◌, ◌&&◌, Bool, true, false, if◌then◌else◌, List, [], ◌∷◌, ◌++◌, flat_map, fold, refl, sym, ap, ◌∙◌, codes, chars, Option, Some, None, subst}
+use Rattle.std.proofs.Common.{◌≡◌, ℕ, ◌==◌, ◌&&◌, Bool, true, false, if◌then◌else◌, List, [], ◌∷◌, ◌++◌, ◌⊎◌, inl, inr, flat_map, fold, refl, sym, ap, ◌∙◌, codes, Option, Some, None, subst}
 use Rattle.std.specs.Prelude.{encode_utf8}
 use Rattle.std.specs.List.{AllByRecursion as Each, AllZip}
 use Rattle.std.specs.Str.Parse.{digits_value}
 use Rattle.std.proofs.lemmas.List.{append_cancel_left}
-use Rattle.tbr_decor.specs.Start as start
-use Rattle.tbr_decor.specs.End as end
 use Rattle.tbr_decor.specs.Ground as ground
 use Rattle.tbr_decor.specs.declared.colour.Colour.{Colour}
 use Rattle.tbr_model.specs.declared.white_space.WhiteSpace.TheVariants.{Normal, Pre, PreWrap}
 use Rattle.text_block_renderer.specs.Options.{default_options}
 use Rattle.text_block_renderer.specs.declared.RenderOptions.{RenderOptions}
 use Rattle.text_block_renderer.specs.declared.ImageRenderMode.TheVariants.{IgnoreEmpty, ShowAlways, Replace, Filename}
-use Rattle.text_block_renderer.specs.Calls.{Call, add_empty_line, new_line, new_line_hard, start_block, start_table, end_block, add_inline_text, push_ws, pop_ws, push_preformat, pop_preformat, record_frag_start, begin, finish, start_strikeout, end_strikeout, add_image, push_colour, pop_colour}
+use Rattle.tbr_runner.specs.declared.request.layout.Layout.{Layout}
+use Rattle.tbr_runner.specs.declared.request.layout.Layout.TheVariants.{StartBlock, EndBlock, StartTable, NewLine, HardNewLine, EmptyLine}
+use Rattle.tbr_runner.specs.declared.request.beginning.Beginning.{Beginning}
+use Rattle.tbr_runner.specs.declared.request.beginning.Beginning.TheVariants as beginning
+use Rattle.tbr_runner.specs.declared.request.kind.Kind.{Kind}
+use Rattle.tbr_runner.specs.declared.request.kind.Kind.TheVariants as kind
+use Rattle.tbr_runner.specs.Request.{Request, layout, begin, end, text, fragment, link, image, colour, border}
 use Rattle.tbr_runner.specs.declared.options.Setting.{Setting}
 use Rattle.tbr_runner.specs.declared.options.Setting.TheVariants.{Wrap, Overflow, Pad, NoBorders, NoStrike, Images}
 use Rattle.tbr_runner.specs.declared.opening.Decorator.{Decorator}
 use Rattle.tbr_runner.specs.declared.opening.Decorator.TheVariants.{Plain, Trivial, Rich}
 use Rattle.tbr_runner.specs.declared.opening.Opening.{Opening}
 use Rattle.tbr_script.specs.Script.{Piece, itself, escape, IsPiece, written, meant, IsText, AreSplitTexts}
-use Rattle.tbr_runner.specs.Syntax.{IsColour, Writes, IsCommand}
+use Rattle.tbr_runner.specs.Syntax.{layout_name, beginning_name, ending_name, IsAlone, HasArgument, IsColour, AreColumns, IsCommand}
 use Rattle.tbr_runner.specs.Options.{IsWrap, IsSetting, with_setting, AreOptions}
 use Rattle.tbr_runner.specs.Opening.{name_of, AsksFor, IsOpening}
 use Rattle.tbr_script.proofs.Texts.{one_escape}
 use Rattle.tbr_script.proofs.Bars.{one_split}
 use Rattle.tbr_runner.proofs.Colours.{colour_once}
-use Rattle.tbr_runner.proofs.Commands.{Word, text_word, marker_word, link_word, image_word, colour_word, ground_word, written_as, word_once}
+use Rattle.tbr_runner.proofs.Commands.{Word, text_word, marker_word, link_word, image_word, colour_word, ground_word, border_word, written_as, word_once}
 
 -- ---- texts
 
@@ -55,113 +59,157 @@ same [] (y ∷ ys) = false
 same (x ∷ xs) [] = false
 same (x ∷ xs) (y ∷ ys) = (x == y) && same xs ys
 
--- the call without an argument that a line is
-read : List ℕ → Option Call
+-- the request without an argument that a line is
+read : List ℕ → Option Request
 read line =
-    if same line (codes "block") then Some start_block
-    else if same line (codes "endblock") then Some end_block
-    else if same line (codes "table") then Some start_table
-    else if same line (codes "line") then Some new_line
-    else if same line (codes "hardline") then Some new_line_hard
-    else if same line (codes "empty") then Some add_empty_line
-    else if same line (codes "ws normal") then Some (push_ws Normal)
-    else if same line (codes "ws pre") then Some (push_ws Pre)
-    else if same line (codes "ws prewrap") then Some (push_ws PreWrap)
-    else if same line (codes "pre") then Some push_preformat
-    else if same line (codes "em") then Some (begin start.emphasis)
-    else if same line (codes "strong") then Some (begin start.strong)
-    else if same line (codes "strike") then Some start_strikeout
-    else if same line (codes "code") then Some (begin start.code)
-    else if same line (codes "super") then Some (begin start.superscript)
-    else if same line (codes "endws") then Some pop_ws
-    else if same line (codes "endpre") then Some pop_preformat
-    else if same line (codes "endlink") then Some (finish end.link)
-    else if same line (codes "endem") then Some (finish end.emphasis)
-    else if same line (codes "endstrong") then Some (finish end.strong)
-    else if same line (codes "endstrike") then Some end_strikeout
-    else if same line (codes "endcode") then Some (finish end.code)
-    else if same line (codes "endsuper") then Some (finish end.superscript)
-    else if same line (codes "endcolour") then Some (pop_colour ground.text)
-    else if same line (codes "endbg") then Some (pop_colour ground.background)
+    if same line (codes "block") then Some (layout StartBlock)
+    else if same line (codes "endblock") then Some (layout EndBlock)
+    else if same line (codes "table") then Some (layout StartTable)
+    else if same line (codes "line") then Some (layout NewLine)
+    else if same line (codes "hardline") then Some (layout HardNewLine)
+    else if same line (codes "empty") then Some (layout EmptyLine)
+    else if same line (codes "ws normal") then Some (begin (beginning.Mode Normal))
+    else if same line (codes "ws pre") then Some (begin (beginning.Mode Pre))
+    else if same line (codes "ws prewrap") then Some (begin (beginning.Mode PreWrap))
+    else if same line (codes "pre") then Some (begin beginning.Preformat)
+    else if same line (codes "em") then Some (begin beginning.Emphasis)
+    else if same line (codes "strong") then Some (begin beginning.Strong)
+    else if same line (codes "strike") then Some (begin beginning.Strikeout)
+    else if same line (codes "code") then Some (begin beginning.Code)
+    else if same line (codes "super") then Some (begin beginning.Superscript)
+    else if same line (codes "endws") then Some (end kind.Mode)
+    else if same line (codes "endpre") then Some (end kind.Preformat)
+    else if same line (codes "endlink") then Some (end kind.Link)
+    else if same line (codes "endem") then Some (end kind.Emphasis)
+    else if same line (codes "endstrong") then Some (end kind.Strong)
+    else if same line (codes "endstrike") then Some (end kind.Strikeout)
+    else if same line (codes "endcode") then Some (end kind.Code)
+    else if same line (codes "endsuper") then Some (end kind.Superscript)
+    else if same line (codes "endcolour") then Some (end kind.Colour)
+    else if same line (codes "endbg") then Some (end kind.Background)
+    else if same line (codes "border") then Some (border None)
     else None
 
--- what call a word with its argument is
-Argued : Word → List ℕ → Call → Type 0
-Argued text_word bs call = (t : List ℕ) × IsText bs t × (call ≡ add_inline_text (chars t))
-Argued marker_word bs call = (t : List ℕ) × IsText bs t × (call ≡ record_frag_start t)
-Argued link_word bs call = (t : List ℕ) × IsText bs t × (call ≡ begin (start.link (chars t)))
-Argued image_word bs call = (s : List ℕ) × (t : List ℕ) × AreSplitTexts bs s t × (call ≡ add_image (chars s) (chars t))
-Argued colour_word bs call = (c : Colour) × IsColour bs c × (call ≡ push_colour ground.text c)
-Argued ground_word bs call = (c : Colour) × IsColour bs c × (call ≡ push_colour ground.background c)
+is_layout : (line : List ℕ) (what : Layout) → line ≡ layout_name what → read line ≡ Some (layout what)
+unfolding read same
+is_layout line StartBlock e = ap read e
+is_layout line EndBlock e = ap read e
+is_layout line StartTable e = ap read e
+is_layout line NewLine e = ap read e
+is_layout line HardNewLine e = ap read e
+is_layout line EmptyLine e = ap read e
 
--- a call is read so, or it has an argument
-data IsRead (line : List ℕ) (call : Call) : Type 0 where
-  whole : read line ≡ Some call → IsRead line call
-  argued : (w : Word) → (bs : List ℕ) → line ≡ written_as w ++ 32 ∷ bs → Argued w bs call → IsRead line call
+is_beginning : (line : List ℕ) (what : Beginning) → line ≡ beginning_name what → read line ≡ Some (begin what)
+unfolding read same
+is_beginning line (beginning.Mode Normal) e = ap read e
+is_beginning line (beginning.Mode Pre) e = ap read e
+is_beginning line (beginning.Mode PreWrap) e = ap read e
+is_beginning line beginning.Preformat e = ap read e
+is_beginning line beginning.Emphasis e = ap read e
+is_beginning line beginning.Strong e = ap read e
+is_beginning line beginning.Strikeout e = ap read e
+is_beginning line beginning.Code e = ap read e
+is_beginning line beginning.Superscript e = ap read e
 
-is_read : (line : List ℕ) (call : Call) → Writes line call → IsRead line call
-unfolding read same Argued
-is_read line (push_ws Normal) w = whole (ap read w)
-is_read line (push_ws Pre) w = whole (ap read w)
-is_read line (push_ws PreWrap) w = whole (ap read w)
-is_read line (add_inline_text cs) w = argued text_word w.0 w.1 (w.2.0, w.2.1, ap add_inline_text w.2.2)
-is_read line (record_frag_start n) w = argued marker_word w.0 w.1 (n, w.2, refl)
-is_read line (begin (start.link target)) w = argued link_word w.0 w.1 (w.2.0, w.2.1, ap (λ cs. begin (start.link cs)) w.2.2)
-is_read line (begin start.emphasis) w = whole (ap read w)
-is_read line (begin start.strong) w = whole (ap read w)
-is_read line (begin start.code) w = whole (ap read w)
-is_read line (begin start.superscript) w = whole (ap read w)
-is_read line (begin start.strikeout) w = absurd w
-is_read line (begin (start.image source title)) w = absurd w
-is_read line (finish end.link) w = whole (ap read w)
-is_read line (finish end.emphasis) w = whole (ap read w)
-is_read line (finish end.strong) w = whole (ap read w)
-is_read line (finish end.code) w = whole (ap read w)
-is_read line (finish end.superscript) w = whole (ap read w)
-is_read line (finish end.strikeout) w = absurd w
-is_read line (add_image source title) w =
-    argued image_word w.0 w.1 (w.2.0, w.2.1, w.2.2, ap (λ s. add_image s title) w.2.3 ∙ ap (add_image (chars w.2.0)) w.2.4)
-is_read line (push_colour ground.text colour) w = argued colour_word w.0 w.1 (colour, w.2, refl)
-is_read line (push_colour ground.background colour) w = argued ground_word w.0 w.1 (colour, w.2, refl)
-is_read line (pop_colour ground.text) w = whole (ap read w)
-is_read line (pop_colour ground.background) w = whole (ap read w)
-is_read line call w = whole (ap read w)
+is_ending : (line : List ℕ) (what : Kind) → line ≡ ending_name what → read line ≡ Some (end what)
+unfolding read same
+is_ending line kind.Mode e = ap read e
+is_ending line kind.Preformat e = ap read e
+is_ending line kind.Link e = ap read e
+is_ending line kind.Emphasis e = ap read e
+is_ending line kind.Strong e = ap read e
+is_ending line kind.Strikeout e = ap read e
+is_ending line kind.Code e = ap read e
+is_ending line kind.Superscript e = ap read e
+is_ending line kind.Colour e = ap read e
+is_ending line kind.Background e = ap read e
+
+is_read : (line : List ℕ) (request : Request) → IsAlone line request → read line ≡ Some request
+unfolding read same
+is_read line (layout what) k = is_layout line what k
+is_read line (begin what) k = is_beginning line what k
+is_read line (end what) k = is_ending line what k
+is_read line (border None) k = ap read k
+is_read line (border (Some n)) k = absurd k
+is_read line (text t) k = absurd k
+is_read line (fragment t) k = absurd k
+is_read line (link t) k = absurd k
+is_read line (image s t) k = absurd k
+is_read line (colour g c) k = absurd k
+
+-- what request a word with its argument is
+Argued : Word → List ℕ → Request → Type 0
+Argued text_word bs request = (t : List ℕ) × IsText bs t × (request ≡ text t)
+Argued marker_word bs request = (t : List ℕ) × IsText bs t × (request ≡ fragment t)
+Argued link_word bs request = (t : List ℕ) × IsText bs t × (request ≡ link t)
+Argued image_word bs request = (s : List ℕ) × (t : List ℕ) × AreSplitTexts bs s t × (request ≡ image s t)
+Argued colour_word bs request = (c : Colour) × IsColour bs c × (request ≡ colour ground.text c)
+Argued ground_word bs request = (c : Colour) × IsColour bs c × (request ≡ colour ground.background c)
+Argued border_word bs request = (n : ℕ) × AreColumns bs n × (request ≡ border (Some n))
+
+record IsArgued (line : List ℕ) (request : Request) : Type 0 where
+  word : Word
+  behind : List ℕ
+  is : line ≡ written_as word ++ 32 ∷ behind
+  argued : Argued word behind request
+
+is_argued : (line : List ℕ) (request : Request) → HasArgument line request → IsArgued line request
+unfolding Argued
+is_argued line (text t) k = record { word = text_word; behind = k.0; is = k.1; argued = (t, k.2, refl) }
+is_argued line (fragment t) k = record { word = marker_word; behind = k.0; is = k.1; argued = (t, k.2, refl) }
+is_argued line (link t) k = record { word = link_word; behind = k.0; is = k.1; argued = (t, k.2, refl) }
+is_argued line (image s t) k = record { word = image_word; behind = k.0; is = k.1; argued = (s, t, k.2, refl) }
+is_argued line (colour ground.text c) k = record { word = colour_word; behind = k.0; is = k.1; argued = (c, k.2, refl) }
+is_argued line (colour ground.background c) k = record { word = ground_word; behind = k.0; is = k.1; argued = (c, k.2, refl) }
+is_argued line (border (Some n)) k = record { word = border_word; behind = k.0; is = k.1; argued = (n, k.2, refl) }
+is_argued line (border None) k = absurd k
+is_argued line (layout what) k = absurd k
+is_argued line (begin what) k = absurd k
+is_argued line (end what) k = absurd k
 
 -- a line with an argument isn't read
-not_read : (line bs : List ℕ) (call : Call) (w : Word) → line ≡ written_as w ++ 32 ∷ bs → read line ≡ Some call → ⊥
+not_read : (line bs : List ℕ) (request : Request) (w : Word) → line ≡ written_as w ++ 32 ∷ bs → read line ≡ Some request → ⊥
 unfolding read same
-not_read line bs call text_word is e = let none : read line ≡ None = ap read is in cc
-not_read line bs call marker_word is e = let none : read line ≡ None = ap read is in cc
-not_read line bs call link_word is e = let none : read line ≡ None = ap read is in cc
-not_read line bs call image_word is e = let none : read line ≡ None = ap read is in cc
-not_read line bs call colour_word is e = let none : read line ≡ None = ap read is in cc
-not_read line bs call ground_word is e = let none : read line ≡ None = ap read is in cc
+not_read line bs request text_word is e = let none : read line ≡ None = ap read is in cc
+not_read line bs request marker_word is e = let none : read line ≡ None = ap read is in cc
+not_read line bs request link_word is e = let none : read line ≡ None = ap read is in cc
+not_read line bs request image_word is e = let none : read line ≡ None = ap read is in cc
+not_read line bs request colour_word is e = let none : read line ≡ None = ap read is in cc
+not_read line bs request ground_word is e = let none : read line ≡ None = ap read is in cc
+not_read line bs request border_word is e = let none : read line ≡ None = ap read is in cc
 
-argued_once : (bs : List ℕ) (w : Word) (c d : Call) → Argued w bs c → Argued w bs d → c ≡ d
+argued_once : (bs : List ℕ) (w : Word) (c d : Request) → Argued w bs c → Argued w bs d → c ≡ d
 unfolding Argued
-argued_once bs text_word c d a b = a.2 ∙ ap (λ s. add_inline_text (chars s)) (text_once bs a.0 b.0 a.1 b.1) ∙ sym b.2
-argued_once bs marker_word c d a b = a.2 ∙ ap record_frag_start (text_once bs a.0 b.0 a.1 b.1) ∙ sym b.2
-argued_once bs link_word c d a b = a.2 ∙ ap (λ s. begin (start.link (chars s))) (text_once bs a.0 b.0 a.1 b.1) ∙ sym b.2
+argued_once bs text_word c d a b = a.2 ∙ ap text (text_once bs a.0 b.0 a.1 b.1) ∙ sym b.2
+argued_once bs marker_word c d a b = a.2 ∙ ap fragment (text_once bs a.0 b.0 a.1 b.1) ∙ sym b.2
+argued_once bs link_word c d a b = a.2 ∙ ap link (text_once bs a.0 b.0 a.1 b.1) ∙ sym b.2
 argued_once bs image_word c d a b =
     let one = one_split bs a.0 a.1 b.0 b.1 a.2 b.2 in
     let source = text_once b.2.before a.0 b.0 (subst (λ x. IsText x a.0) one.0 a.2.one_is) b.2.one_is in
     let title = text_once b.2.behind a.1 b.1 (subst (λ x. IsText x a.1) one.1 a.2.other_is) b.2.other_is in
-    a.3 ∙ ap (λ s. add_image (chars s) (chars a.1)) source ∙ ap (λ t. add_image (chars b.0) (chars t)) title ∙ sym b.3
-argued_once bs colour_word c d a b = a.2 ∙ ap (push_colour ground.text) (colour_once bs a.0 b.0 a.1 b.1) ∙ sym b.2
-argued_once bs ground_word c d a b = a.2 ∙ ap (push_colour ground.background) (colour_once bs a.0 b.0 a.1 b.1) ∙ sym b.2
+    a.3 ∙ ap (λ s. image s a.1) source ∙ ap (image b.0) title ∙ sym b.3
+argued_once bs colour_word c d a b = a.2 ∙ ap (colour ground.text) (colour_once bs a.0 b.0 a.1 b.1) ∙ sym b.2
+argued_once bs ground_word c d a b = a.2 ∙ ap (colour ground.background) (colour_once bs a.0 b.0 a.1 b.1) ∙ sym b.2
+argued_once bs border_word c d a b = a.2 ∙ ap (λ n. border (Some n)) (a.1.1 ∙ sym b.1.1) ∙ sym b.2
 
-read_once : (line : List ℕ) (c d : Call) → IsRead line c → IsRead line d → c ≡ d
-read_once line c d (whole a) (whole b) = cc
-read_once line c d (whole a) (argued w bs e k) = absurd (not_read line bs c w e a)
-read_once line c d (argued w bs e k) (whole b) = absurd (not_read line bs d w e b)
-read_once line c d (argued v xs e k) (argued w ys f l) =
-    let word = word_once v w xs ys (sym e ∙ f) in
-    let there : written_as w ++ 32 ∷ xs ≡ written_as w ++ 32 ∷ ys = ap (λ x. written_as x ++ 32 ∷ xs) (sym word) ∙ sym e ∙ f in
-    let rest : xs ≡ ys = cc (append_cancel_left (written_as w) (32 ∷ xs) (32 ∷ ys) there) in
-    argued_once ys w c d (subst (λ bs. Argued w bs c) rest (subst (λ x. Argued x xs c) word k)) l
+with_argument_once : (line : List ℕ) (c d : Request) → IsArgued line c → IsArgued line d → c ≡ d
+with_argument_once line c d a b =
+    let word = word_once a.word b.word a.behind b.behind (sym a.is ∙ b.is) in
+    let there : written_as b.word ++ 32 ∷ a.behind ≡ written_as b.word ++ 32 ∷ b.behind = ap (λ x. written_as x ++ 32 ∷ a.behind) (sym word) ∙ sym a.is ∙ b.is in
+    let rest : a.behind ≡ b.behind = cc (append_cancel_left (written_as b.word) (32 ∷ a.behind) (32 ∷ b.behind) there) in
+    argued_once b.behind b.word c d (subst (λ bs. Argued b.word bs c) rest (subst (λ x. Argued x a.behind c) word a.argued)) b.argued
 
-pub command_once : (line : List ℕ) (c d : Call) → IsCommand line c → IsCommand line d → c ≡ d
-command_once line c d a b = read_once line c d (is_read line c a.writes) (is_read line d b.writes)
+not_both : (line : List ℕ) (c d : Request) → IsAlone line c → HasArgument line d → ⊥
+not_both line c d a b = let k = is_argued line d b in not_read line k.behind c k.word k.is (is_read line c a)
+
+request_once : (line : List ℕ) (c d : Request) → IsAlone line c ⊎ HasArgument line c → IsAlone line d ⊎ HasArgument line d → c ≡ d
+request_once line c d (inl a) (inl b) = cc (is_read line c a, is_read line d b)
+request_once line c d (inl a) (inr b) = absurd (not_both line c d a b)
+request_once line c d (inr a) (inl b) = absurd (not_both line d c b a)
+request_once line c d (inr a) (inr b) = with_argument_once line c d (is_argued line c a) (is_argued line d b)
+
+pub command_once : (line : List ℕ) (c d : Request) → IsCommand line c → IsCommand line d → c ≡ d
+command_once line c d a b = request_once line c d a.writes b.writes
 
 -- ---- first commands
 

@@ -1,8 +1,7 @@
+pub mod Request
 pub mod Syntax
-pub mod Form
 pub mod Options
 pub mod Opening
-pub mod Command
 pub mod Begun
 pub mod Progress
 pub mod Decorations

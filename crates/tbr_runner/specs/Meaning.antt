@@ -4,13 +4,14 @@ use Rattle.tbr_decor.specs.Decoration.{Decoration}
 use Rattle.text_block_renderer.specs.Renderer.{Renderer, new_renderer}
 use Rattle.text_block_renderer.specs.Text.{lines_text}
 use Rattle.text_block_renderer.specs.Flush.{Flushes, FlushIsTooNarrow}
-use Rattle.text_block_renderer.specs.Calls.{Call, Does, IsTooNarrow}
+use Rattle.text_block_renderer.specs.Calls.{Does, IsTooNarrow}
 use Rattle.tbr_script.specs.declared.error.RunError.{RunError}
 use Rattle.tbr_script.specs.declared.error.RunError.TheVariants.{TooNarrow, NotACommand, NothingToEnd}
 use Rattle.tbr_runner.specs.declared.opening.Decorator.{Decorator}
 use Rattle.tbr_runner.specs.declared.opening.Decorator.TheVariants.{Plain, Trivial, Rich}
 use Rattle.tbr_runner.specs.declared.opening.Opening.{Opening}
 use Rattle.tbr_script.specs.Script.{lines_of}
+use Rattle.tbr_runner.specs.Request.{Request, call_of}
 use Rattle.tbr_runner.specs.Syntax.{IsCommand}
 use Rattle.tbr_runner.specs.Opening.{IsOpening}
 use Rattle.tbr_runner.specs.Begun.{nothing_begun, ends_nothing, counted}
@@ -28,29 +29,30 @@ Ends {D} {M} columns p outcome =
     (λ e. FlushIsTooNarrow columns p.renderer × (e ≡ TooNarrow))
 
 module _ {D M : Type 0} (columns : ℕ → Option ℕ) (decoration : Decoration D M) where
-  -- Where a call leads.
-  pub record CallDoes (p : Progress D M (List M)) (call : Call) (next : Progress D M (List M)) : Type 0 where
-    pub ends : ends_nothing p.begun call ≡ false
-    pub does : Does columns decoration call p.renderer next.renderer
-    pub counts : next.begun ≡ counted p.begun call
+  -- Where a request leads.
+  pub record RequestDoes (p : Progress D M (List M)) (request : Request) (next : Progress D M (List M)) : Type 0 where
+    pub ends : ends_nothing p.begun request ≡ false
+    pub does : Does columns decoration (call_of p.renderer.width request) p.renderer next.renderer
+    pub counts : next.begun ≡ counted p.begun request
 
-  -- With what a call refuses on the line of this number: it ends nothing, or the renderer is too narrow.
-  abbrev pub CallRefuses : Progress D M (List M) → ℕ → Call → RunError → Type 0
-  CallRefuses p number call e =
-      ((ends_nothing p.begun call ≡ true) × (e ≡ NothingToEnd number))
-      ⊎ ((ends_nothing p.begun call ≡ false) × IsTooNarrow columns decoration call p.renderer × (e ≡ TooNarrow))
+  -- With what a request is refused on the line of this number: it ends nothing, or the renderer is too narrow.
+  abbrev pub RequestRefuses : Progress D M (List M) → ℕ → Request → RunError → Type 0
+  RequestRefuses p number request e =
+      ((ends_nothing p.begun request ≡ true) × (e ≡ NothingToEnd number))
+      ⊎ ((ends_nothing p.begun request ≡ false)
+      × IsTooNarrow columns decoration (call_of p.renderer.width request) p.renderer × (e ≡ TooNarrow))
 
   -- Where a line leads. An empty line is skipped.
   abbrev pub LineDoes : Progress D M (List M) → List ℕ → Progress D M (List M) → Type 0
   LineDoes p [] next = next ≡ p
-  LineDoes p (b ∷ bs) next = (call : Call) × IsCommand (b ∷ bs) call × CallDoes p call next
+  LineDoes p (b ∷ bs) next = (request : Request) × IsCommand (b ∷ bs) request × RequestDoes p request next
 
-  -- With what the line of this number is refused: it is no command, or its call refuses.
+  -- With what the line of this number is refused: it is no command, or its request is refused.
   abbrev pub LineRefuses : Progress D M (List M) → ℕ → List ℕ → RunError → Type 0
   LineRefuses p number [] e = ⊥
   LineRefuses p number (b ∷ bs) e =
-      (((call : Call) → IsCommand (b ∷ bs) call → ⊥) × (e ≡ NotACommand number))
-      ⊎ ((call : Call) × IsCommand (b ∷ bs) call × CallRefuses p number call e)
+      (((request : Request) → IsCommand (b ∷ bs) request → ⊥) × (e ≡ NotACommand number))
+      ⊎ ((request : Request) × IsCommand (b ∷ bs) request × RequestRefuses p number request e)
 
   -- What lines give that follow here, the first of them with this number.
   abbrev pub LinesGive : Progress D M (List M) → ℕ → List (List ℕ) → Result (List ℕ) RunError → Type 0

@@ -1,10 +1,10 @@
 //! What a script has begun and not ended yet.
 ghost use Rattle.std.specs.Prelude.{◌≡◌, IfSome};
 ghost use Rattle.tbr_runner.specs.Begun.{nothing_begun, count, with_count, ends_nothing, more, less, counted};
-ghost use Rattle.tbr_runner.specs.Command.{call_of};
+ghost use Rattle.tbr_runner.specs.Request.{request_of};
 
-use crate::command::Command;
-use crate::command::kind::Kind;
+use crate::request::Request;
+use crate::request::kind::Kind;
 
 /// How much more often commands came than those that end what they begin.
 #[derive(Clone, Copy, Debug, PartialEq, Eq)]
@@ -86,11 +86,11 @@ impl Begun {
         }
     }
 
-    /// Whether a command ends what wasn't begun.
-    pub fn lacks(&self, command: &Command) -> bool
-        ensures { result ≡ ends_nothing self.now (call_of command.now) }
+    /// Whether a request ends what wasn't begun, or was ended already.
+    pub fn lacks(&self, request: &Request) -> bool
+        ensures { result ≡ ends_nothing self.now (request_of request.now) }
     {
-        match command.ends() {
+        match request.ends() {
             Some(kind) => self.count(kind) == 0,
             None => false,
         }
@@ -116,10 +116,10 @@ impl Begun {
         self
     }
 
-    /// The counts behind a command. `None` where one passes `usize`.
-    pub fn behind(self, command: &Command) -> Option<Begun>
-        ensures { IfSome result (λ begun. begun ≡ counted self (call_of command.now)) }
+    /// The counts behind a request. `None` where one passes `usize`.
+    pub fn behind(self, request: &Request) -> Option<Begun>
+        ensures { IfSome result (λ begun. begun ≡ counted self (request_of request.now)) }
     {
-        Some(self.more(command.begins())?.less(command.ends()))
+        Some(self.more(request.begins())?.less(request.ends()))
     }
 }

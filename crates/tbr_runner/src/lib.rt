@@ -5,9 +5,9 @@ pub use laws::a_script_gives_one_thing;
 pub use runner::run;
 
 mod begun;
-mod command;
 mod laws;
 mod opening;
 mod options;
 mod program;
+mod request;
 mod runner;

@@ -3,12 +3,12 @@ ghost use Rattle.std.specs.Prelude.{◌≡◌, ◌≢◌, ◌<◌, Some, Ok, Err
 ghost use Rattle.tbr_decor.specs.Decoration.{decoration_of};
 ghost use Rattle.text_block_renderer.specs.Renderer.{new_renderer};
 ghost use Rattle.tbr_runner.specs.Begun.{nothing_begun};
-ghost use Rattle.tbr_runner.specs.Command.{call_of};
+ghost use Rattle.tbr_runner.specs.Request.{request_of};
 ghost use Rattle.tbr_runner.specs.Progress.{progress_meant};
-ghost use Rattle.tbr_runner.specs.Meaning.{CallDoes, CallRefuses, LineDoes, LineRefuses, Ends};
+ghost use Rattle.tbr_runner.specs.Meaning.{RequestDoes, RequestRefuses, LineDoes, LineRefuses, Ends};
 
 use crate::begun::Begun;
-use crate::command::Command;
+use crate::request::Request;
 use std::alloc::Global;
 use std::marker::Model;
 use tbr_decor::TextDecorator;
@@ -66,28 +66,28 @@ impl<D: TextDecorator, W: CharWidth> Program<D, W> {
         if line.is_empty() {
             return Ok(self);
         }
-        match Command::parse(alloc, line)? {
-            Some(command) => self.call(number, &command),
+        match Request::parse(alloc, line)? {
+            Some(request) => self.call(number, &request),
             None => Err(RunError::NotACommand(number)),
         }
     }
 
-    /// Does what a command asks for, on the line of this number.
-    fn call(self, number: usize, command: &Command) -> Result<Program<D, W>, RunError>
-        ensures done { IfOk result (λ next. CallDoes W.columns (decoration_of D.TextDecorator)
-            (progress_meant D.meaning self) (call_of command.now) (progress_meant D.meaning next)) }
+    /// Does what a request asks for, on the line of this number.
+    fn call(self, number: usize, request: &Request) -> Result<Program<D, W>, RunError>
+        ensures done { IfOk result (λ next. RequestDoes W.columns (decoration_of D.TextDecorator)
+            (progress_meant D.meaning self) (request_of request.now) (progress_meant D.meaning next)) }
         ensures refused { IfErr result (λ e. e ≢ RunError.OutOfMemory →
-            CallRefuses W.columns (decoration_of D.TextDecorator) (progress_meant D.meaning self) number
-            (call_of command.now) e) }
+            RequestRefuses W.columns (decoration_of D.TextDecorator) (progress_meant D.meaning self) number
+            (request_of request.now) e) }
     {
-        if self.begun.lacks(command) {
+        if self.begun.lacks(request) {
             return Err(RunError::NothingToEnd(number));
         }
-        let Some(begun) = self.begun.behind(command) else {
+        let Some(begun) = self.begun.behind(request) else {
             return Err(RunError::OutOfMemory);
         };
         let mut renderer = self.renderer;
-        command.call(&mut renderer)?;
+        request.call(&mut renderer)?;
         Ok(Program { renderer, begun })
     }
 

@@ -1,11 +1,10 @@
 //! What commands begin, and the commands that end it.
 ghost use Rattle.std.specs.Prelude.{◌≡◌, ◌≢◌, ◌<◌, true, None, Err, OnOk, IfSome, IfNone};
-ghost use Rattle.text_block_renderer.specs.Calls.{Call, pop_preformat, end_strikeout};
 ghost use Rattle.tbr_lines.specs.declared.Error.TheVariants as E;
-ghost use Rattle.tbr_runner.specs.Syntax.{Writes};
-ghost use Rattle.tbr_runner.specs.Form as form;
-ghost use Rattle.tbr_runner.specs.Form.{form_of};
-ghost use Rattle.tbr_runner.specs.Command.{end_of};
+ghost use Rattle.tbr_runner.specs.declared.request.kind.Kind.{Kind as Meant};
+ghost use Rattle.tbr_runner.specs.declared.request.kind.Kind.TheVariants as kind;
+ghost use Rattle.tbr_runner.specs.Request.{end_of};
+ghost use Rattle.tbr_runner.specs.Syntax.{ending_name};
 
 use tbr_lines::Error;
 use text_block_renderer::Renderer;
@@ -38,8 +37,8 @@ pub enum Kind {
 impl Kind {
     /// What a line ends, if it is a command that ends something.
     pub fn ended_by(line: &str) -> Option<Kind>
-        ensures found { IfSome result (λ kind. Writes line.now (end_of kind)) }
-        ensures none { IfNone result ((call : Call) → Writes line.now call → form_of call ≢ form.ending) }
+        ensures found { IfSome result (λ kind. line.now ≡ ending_name kind) }
+        ensures none { IfNone result ((kind : Meant) → line.now ≢ ending_name kind) }
     {
         match line {
             "endws" => Some(Kind::Mode),
@@ -59,8 +58,8 @@ impl Kind {
     /// Asks a renderer to end it.
     pub fn end<R: Renderer>(self, renderer: &mut R) -> Result<(), Error>
         requires live { R.kept_refusal renderer.old ≡ None }
-        requires preformats { end_of self ≡ pop_preformat → 0 < R.open_preformats renderer.old }
-        requires strikeouts { end_of self ≡ end_strikeout → R.strikes renderer.old ≡ true →
+        requires preformats { self ≡ kind.Preformat → 0 < R.open_preformats renderer.old }
+        requires strikeouts { self ≡ kind.Strikeout → R.strikes renderer.old ≡ true →
             0 < R.open_strikeouts renderer.old }
         ensures ok { OnOk result (R.does (end_of self) renderer.old renderer.new) }
         ensures too_narrow { result ≡ Err E.TooNarrow → R.is_too_narrow (end_of self) renderer.old }

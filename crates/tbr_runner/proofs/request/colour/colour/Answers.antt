@@ -1,5 +1,5 @@
 use Rattle.tbr_runner.proofs.Colours.{no_first, no_second, red_is, green_is, blue_is}
-use Rattle.tbr_runner.proofs.command.colour.colour.Goals as goal
+use Rattle.tbr_runner.proofs.request.colour.colour.Goals as goal
 
 pub returns-in_err-red-clause-none : goal.returns-in_err-red-clause-none
 returns-in_err-red-clause-none c =

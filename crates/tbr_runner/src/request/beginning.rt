@@ -1,14 +1,12 @@
 //! Commands without an argument that begin something.
-ghost use Rattle.std.specs.Prelude.{◌≡◌, ◌≢◌, None, Some, Err, OnOk, IfSome, IfNone};
-ghost use Rattle.text_block_renderer.specs.Calls.{Call};
+ghost use Rattle.std.specs.Prelude.{◌≡◌, ◌≢◌, None, Err, OnOk, IfSome, IfNone};
 ghost use Rattle.tbr_lines.specs.declared.Error.TheVariants as E;
-ghost use Rattle.tbr_runner.specs.Syntax.{Writes};
-ghost use Rattle.tbr_runner.specs.Form as form;
-ghost use Rattle.tbr_runner.specs.Form.{form_of};
-ghost use Rattle.tbr_runner.specs.Command.{begun_by};
-ghost use Rattle.tbr_runner.specs.Begun.{begins};
+ghost use Rattle.tbr_runner.specs.declared.request.beginning.Beginning.{Beginning as Meant};
+ghost use Rattle.tbr_runner.specs.Request.{begun_by};
+ghost use Rattle.tbr_runner.specs.Syntax.{beginning_name};
+ghost use Rattle.tbr_runner.specs.Begun.{kind_of};
 
-use crate::command::kind::Kind;
+use crate::request::kind::Kind;
 use tbr_lines::{Error, WhiteSpace};
 use text_block_renderer::Renderer;
 
@@ -34,8 +32,8 @@ pub enum Beginning {
 impl Beginning {
     /// The command of this kind that a line is, if it is one.
     pub fn named(line: &str) -> Option<Beginning>
-        ensures found { IfSome result (λ beginning. Writes line.now (begun_by beginning)) }
-        ensures none { IfNone result ((call : Call) → Writes line.now call → form_of call ≢ form.beginning) }
+        ensures found { IfSome result (λ beginning. line.now ≡ beginning_name beginning) }
+        ensures none { IfNone result ((beginning : Meant) → line.now ≢ beginning_name beginning) }
     {
         match line {
             "ws normal" => Some(Beginning::Mode(WhiteSpace::Normal)),
@@ -53,7 +51,7 @@ impl Beginning {
 
     /// What it begins.
     pub fn kind(self) -> Kind
-        ensures { begins (begun_by self) ≡ Some result }
+        ensures { result ≡ kind_of self }
     {
         match self {
             Beginning::Mode(_) => Kind::Mode,

@@ -1,11 +1,9 @@
 //! Commands that end lines.
 ghost use Rattle.std.specs.Prelude.{◌≡◌, ◌≢◌, None, Err, OnOk, IfSome, IfNone};
-ghost use Rattle.text_block_renderer.specs.Calls.{Call};
 ghost use Rattle.tbr_lines.specs.declared.Error.TheVariants as E;
-ghost use Rattle.tbr_runner.specs.Syntax.{Writes};
-ghost use Rattle.tbr_runner.specs.Form as form;
-ghost use Rattle.tbr_runner.specs.Form.{form_of};
-ghost use Rattle.tbr_runner.specs.Command.{laid_out};
+ghost use Rattle.tbr_runner.specs.declared.request.layout.Layout.{Layout as Meant};
+ghost use Rattle.tbr_runner.specs.Request.{laid_out};
+ghost use Rattle.tbr_runner.specs.Syntax.{layout_name};
 
 use tbr_lines::Error;
 use text_block_renderer::Renderer;
@@ -30,8 +28,8 @@ pub enum Layout {
 impl Layout {
     /// The command of this kind that a line is, if it is one.
     pub fn named(line: &str) -> Option<Layout>
-        ensures found { IfSome result (λ layout. Writes line.now (laid_out layout)) }
-        ensures none { IfNone result ((call : Call) → Writes line.now call → form_of call ≢ form.layout) }
+        ensures found { IfSome result (λ layout. line.now ≡ layout_name layout) }
+        ensures none { IfNone result ((layout : Meant) → line.now ≢ layout_name layout) }
     {
         match line {
             "block" => Some(Layout::StartBlock),
