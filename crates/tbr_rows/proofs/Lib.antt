@@ -9,3 +9,4 @@ pub mod WholeRow
 pub mod Fitted
 pub mod AllLines
 pub mod Standing
+pub mod Filling

@@ -8,7 +8,7 @@ use Rattle.tbr_rows.specs.Texts.{cell_text, line_text}
 use Rattle.tbr_rows.specs.Gaps.{cell_in}
 use Rattle.tbr_rows.specs.Shown.{FillsCell}
 
-width_append : {A : Type 0} (columns : ℕ → Option ℕ) (is js : List (Item A)) → items_width columns (is ++ js) ≡ items_width columns is + items_width columns js
+pub width_append : {A : Type 0} (columns : ℕ → Option ℕ) (is js : List (Item A)) → items_width columns (is ++ js) ≡ items_width columns is + items_width columns js
 width_append columns [] js = omega arith
 width_append columns (i ∷ is) js = omega (arith, width_append columns is js)
 

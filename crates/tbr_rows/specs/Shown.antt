@@ -1,5 +1,8 @@
 -- What rows show of a cell.
-use Rattle.std.specs.Prelude.{◌≡◌, ℕ, ◌-◌, ◌≤◌, Bool, if◌then◌else◌, ◌&&◌, is_some, Option, None, Some, List, [], ◌∷◌, ◌++◌, flat_map, take, drop}
+use Rattle.std.specs.Prelude.{◌≡◌, ℕ, ◌-◌, ◌≤◌, Bool, if◌then◌else◌, ◌&&◌, is_some, Option, None, Some, List, [], ◌∷◌, ◌++◌, flat_map, take, drop, length, ⊤, IsTrue}
+use Rattle.std.specs.List.{AllByRecursion as Each}
+use Rattle.tbr_model.specs.Width.{takes_one_column}
+use Rattle.tbr_tagged.specs.Elements.{line_width}
 use Rattle.tbr_model.specs.Run.{items_width}
 use Rattle.tbr_border.specs.declared.render_line.RenderLine.{RenderLine}
 use Rattle.tbr_border.specs.declared.render_line.RenderLine.TheVariants.{Text, Line}
@@ -8,7 +11,7 @@ use Rattle.tbr_rows.specs.declared.line_set.LineSet.{LineSet as Cell}
 use Rattle.tbr_rows.specs.declared.column.Column.{Column}
 use Rattle.tbr_rows.specs.Cells.{cell_height}
 use Rattle.tbr_rows.specs.Borders.{first_border, last_border, without_first_border, with_last_border_apart}
-use Rattle.tbr_rows.specs.Texts.{cell_text}
+use Rattle.tbr_rows.specs.Texts.{cell_text, text_in_row}
 use Rattle.tbr_rows.specs.Gaps.{has_gap, overhang_of}
 
 -- the lines that a row of a height shows of a cell, with the one in the border below it
@@ -85,3 +88,24 @@ texts_in (Line b ∷ ls) = texts_in ls
 -- what a row's line shows of a cell takes the cell's columns
 abbrev pub FillsCell : {A : Type 0} → (ℕ → Option ℕ) → A → ℕ → Column A → Type 0
 FillsCell columns a i c = items_width columns (cell_text a i c) ≡ c.cell.width
+
+-- the space and what borders are drawn with take one column
+abbrev pub DrawsInOne : (ℕ → Option ℕ) → Type 0
+DrawsInOne columns = (c : ℕ) → IsTrue (takes_one_column c) → columns c ≡ Some 1
+
+-- a text that is no wider than its cell, or a border that is no longer, with nothing in front of it
+abbrev pub LineFits : {A : Type 0} → (ℕ → Option ℕ) → ℕ → RenderLine A → Type 0
+LineFits columns width (Text es) = line_width columns es ≤ width
+LineFits columns width (Line b) = (length b.cells ≤ width) × (b.holes ≡ [])
+
+-- a line takes so many columns in a row
+abbrev pub TakesColumns : {A : Type 0} → (ℕ → Option ℕ) → A → ℕ → RenderLine A → Type 0
+TakesColumns columns a width l = items_width columns (text_in_row a l) ≡ width
+
+-- what stands below the lines of a cell takes its columns
+abbrev pub FillsBelow : {A : Type 0} → ℕ → Option (Border A) → Type 0
+FillsBelow width None = ⊤
+FillsBelow width (Some b) = length b.cells ≡ width
+
+abbrev pub LinesFillCell : {A : Type 0} → (ℕ → Option ℕ) → A → Column A → Type 0
+LinesFillCell columns a c = FillsBelow c.cell.width c.bottom × Each (TakesColumns columns a c.cell.width) c.cell.lines

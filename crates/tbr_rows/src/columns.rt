@@ -16,7 +16,7 @@ use tbr_model::CharWidth;
 use tbr_tagged::{CellAlign, OutOfMemory};
 
 /// The cells that come with a row, side by side. A contract sees their list.
-#[derive(Drop)]
+#[derive(Debug, Drop)]
 pub struct Columns<T> {
     pub(crate) cells: Vec<LineSet<T>>,
 }

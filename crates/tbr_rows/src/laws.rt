@@ -2,9 +2,12 @@
 ghost use Rattle.std.specs.Prelude.{◌≡◌, ℕ, List, map, is_some, Some, Bool, true, ◌≤◌, ◌++◌, ◌∷◌, Option};
 ghost use Rattle.tbr_rows.specs.declared.line_set.LineSet.{LineSet as Cell};
 ghost use Rattle.std.specs.List.{AllZip, AllByRecursion as Each};
-ghost use Rattle.tbr_rows.specs.Shown.{part_of, later_of, Meeting, meeting, met, merged_first, merged_last, parts_of, parts_and_merged, AreItsRows, texts_in, FillsCell};
+ghost use Rattle.tbr_rows.specs.Shown.{part_of, later_of, Meeting, meeting, met, merged_first, merged_last, parts_of, parts_and_merged, AreItsRows, texts_in, FillsCell, LinesFillCell, DrawsInOne, LineFits, TakesColumns};
 ghost use Rattle.tbr_rows.specs.Rows.{cells_under, columns_shown};
 ghost use Rattle.tbr_rows.specs.Gaps.{cell_in};
+ghost use Rattle.tbr_rows.specs.Filled.{FillsLine};
+ghost use Rattle.tbr_tagged.specs.declared.padding.CellAlign.{CellAlign};
+ghost use Rattle.tbr_border.specs.declared.render_line.RenderLine.{RenderLine};
 ghost use Rattle.tbr_rows.specs.Texts.{row_height, line_text};
 ghost use Rattle.tbr_rows.specs.declared.column.Column.{Column};
 ghost use Rattle.tbr_border.specs.Border.{Border};
@@ -99,4 +102,15 @@ pub fn cells_stand_in_their_columns<T>()
         (before : List (Item T))
         × (line_text separator tag (front ++ column ∷ rest) i ≡ before ++ line_text separator tag (column ∷ rest) i)
         × (items_width columns before ≡ place_of (cell_in column)) }
+{}
+
+/// A line that fits its cell takes the cell's columns once it is filled, and so do the lines of a row of what such a
+/// cell shows, and what stands below them.
+#[tactic(auto, using(crate::proofs::Filling::filled_line, crate::proofs::Filling::cell_fills))]
+pub fn lines_that_fit_take_their_columns<T>()
+    ensures line { (columns : ℕ → Option ℕ) (eq : T → T → Bool) (align : CellAlign) (width : ℕ) (padding tag : T)
+        (line done : RenderLine T) → DrawsInOne columns → LineFits columns width line →
+        FillsLine columns eq align width padding line done → TakesColumns columns tag width done }
+    ensures cell { (columns : ℕ → Option ℕ) (tag : T) (i : ℕ) (column : Column T) → DrawsInOne columns →
+        LinesFillCell columns tag column → FillsCell columns tag i column }
 {}

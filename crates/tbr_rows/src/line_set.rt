@@ -4,12 +4,13 @@ ghost use Rattle.tbr_rows.specs.Cells as model;
 
 use std::alloc::Global;
 use std::collections::LinkedList;
+use std::fmt;
 use tbr_border::RenderLine;
 use tbr_tagged::OutOfMemory;
 
 /// A cell of a row: the column at which it begins, how many columns it takes, how many rows it still spans, and the
 /// lines that it has still to show.
-#[derive(Drop)]
+#[derive(Debug, Drop)]
 pub struct LineSet<T> {
     pub(crate) place: usize,
     pub(crate) width: usize,
@@ -47,6 +48,20 @@ impl<T> LineSet<T> {
         } else {
             self.lines.len() / self.span
         }
+    }
+}
+
+/// Where the cell stands and how many rows it spans, and then each of its lines between `<` and `>`.
+impl<T> fmt::Display for LineSet<T> {
+    fn fmt<W: fmt::Write>(&self, f: &mut fmt::Formatter<W>) -> fmt::Result {
+        write!(f, "{}+{} over {}:", self.place, self.width, self.span)?;
+        for line in &self.lines {
+            let Ok(text) = line.to_text() else {
+                return Err(fmt::Error);
+            };
+            write!(f, " <{}>", text.as_str())?;
+        }
+        Ok(())
     }
 }
 

@@ -9,12 +9,13 @@ use crate::line_set::LineSet;
 use crate::seating::seated;
 use std::alloc::Global;
 use std::collections::LinkedList;
+use std::fmt;
 use std::marker::Model;
 use tbr_tagged::OutOfMemory;
 
 /// The cells that overhang from the rows before, in order. It is what has to be kept between two rows. A contract sees
 /// their list.
-#[derive(Drop)]
+#[derive(Debug, Drop)]
 pub struct Overhang<T> {
     cells: LinkedList<LineSet<T>>,
 }
@@ -31,6 +32,16 @@ impl<T> Model for Overhang<T> {
     ghost view = { λ o. o.cells };
 
     ghost invariant = { λ o. AreApart 0 o.cells };
+}
+
+/// Each cell on a line of its own.
+impl<T> fmt::Display for Overhang<T> {
+    fn fmt<W: fmt::Write>(&self, f: &mut fmt::Formatter<W>) -> fmt::Result {
+        for cell in &self.cells {
+            writeln!(f, "{cell}")?;
+        }
+        Ok(())
+    }
 }
 
 impl<T: Drop> Overhang<T> {

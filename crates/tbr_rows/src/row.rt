@@ -49,7 +49,7 @@ impl RowStyle {
 }
 
 /// A row that is laid out.
-#[derive(Drop)]
+#[derive(Debug, Drop)]
 pub struct Row<T> {
     /// The border above it, joined and merged.
     pub above: Option<BorderHoriz<T>>,

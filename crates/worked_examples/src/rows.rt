@@ -313,6 +313,19 @@ fn rows_that_do_not_fit_are_told(rt: HostRuntime) {
     is_refused(&rt, alloc, single(1, &["x"]));
 }
 
+/// What overhangs of a row of one cell of three lines, which spans two rows.
+fn overhanging(alloc: Global) -> Result<String, OutOfMemory> {
+    let mut table = Table::under(alloc, 0)?;
+    let cells = columns(alloc, &[spanning(1, 2, &["A", "B", "C"])])?;
+    let _ = table.append(cells, DRAWN)?;
+    Ok(format!(in alloc; "{}", table.overhang)?)
+}
+
+#[test]
+fn overhanging_cells_are_displayed(rt: HostRuntime) {
+    shows(&rt, overhanging(rt.alloc()), "0+1 over 1: <C>\n");
+}
+
 /// A collapsing row of a table within a table, and of a cell of two lines.
 fn nested(alloc: Global) -> Result<String, OutOfMemory> {
     let mut inner = Table::under(alloc, 3)?;

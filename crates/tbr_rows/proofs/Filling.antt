@@ -1,0 +1,109 @@
+-- What stands in a row of a cell takes the cell's columns.
+use Rattle.std.proofs.Common.{◌≡◌, if◌then◌else◌, ℕ, zero, suc, ◌+◌, ◌-◌, ◌≤◌, Bool, true, false, Option, None, Some, unwrap_or, List, [], ◌∷◌, ◌++◌, map, drop, length, refl, ap, sym, ◌∙◌, subst, arith}
+use Rattle.std.specs.Prelude.{IsTrue, replicate}
+use Rattle.std.specs.List.{AllByRecursion as Each, AllZip}
+use Rattle.tbr_model.specs.Run.{Item, items_width}
+use Rattle.tbr_model.specs.Width.{takes_one_column}
+use Rattle.tbr_border.specs.declared.render_line.RenderLine.{RenderLine}
+use Rattle.tbr_border.specs.declared.render_line.RenderLine.TheVariants.{Text, Line}
+use Rattle.tbr_border.specs.Cell.{Cell as Segment, slash, arms, horizontal, character, is_among, line_above}
+use Rattle.tbr_border.specs.Border.{Border, stretched, shown}
+use Rattle.tbr_tagged.specs.declared.padding.CellAlign.{CellAlign}
+use Rattle.tbr_tagged.specs.Elements.{items_of, line_width, text_items}
+use Rattle.tbr_tagged.specs.Padding.{spaces, columns_in_front, columns_missing}
+use Rattle.tbr_tagged.proofs.SameItems.{same_width}
+use Rattle.tbr_tagged.proofs.PaddedLines.{front_within}
+use Rattle.std.proofs.lemmas.List.{length-append, length-replicate, length-map}
+use Rattle.tbr_rows.specs.declared.column.Column.{Column}
+use Rattle.tbr_rows.specs.Filled.{FillsLine}
+use Rattle.tbr_rows.specs.Texts.{text_in_row, text_of_lines, filler_above, cell_text}
+use Rattle.tbr_rows.specs.Shown.{DrawsInOne, LineFits, TakesColumns, FillsBelow, LinesFillCell, FillsCell}
+use Rattle.tbr_rows.proofs.Standing.{width_append}
+
+
+-- characters of one column
+text_columns : {A : Type 0} (columns : ℕ → Option ℕ) (cs : List ℕ) (a : A) → DrawsInOne columns → Each (λ c. IsTrue (takes_one_column c)) cs → items_width columns (text_items cs a) ≡ length cs
+text_columns columns [] a one narrow = refl
+text_columns columns (c ∷ cs) a one narrow = omega (arith, ap (λ (o : Option ℕ). unwrap_or o 0) (one c narrow.0), text_columns columns cs a one narrow.1)
+
+spaces_narrow : (n : ℕ) → Each (λ c. IsTrue (takes_one_column c)) (spaces n)
+spaces_narrow zero = tt
+spaces_narrow (suc n) = (refl, spaces_narrow n)
+
+character_narrow : (c : Segment) → IsTrue (takes_one_column (character c))
+character_narrow slash = refl
+character_narrow (arms true true true true) = refl
+character_narrow (arms true true true false) = refl
+character_narrow (arms true true false true) = refl
+character_narrow (arms true true false false) = refl
+character_narrow (arms true false true true) = refl
+character_narrow (arms true false true false) = refl
+character_narrow (arms true false false true) = refl
+character_narrow (arms true false false false) = refl
+character_narrow (arms false true true true) = refl
+character_narrow (arms false true true false) = refl
+character_narrow (arms false true false true) = refl
+character_narrow (arms false true false false) = refl
+character_narrow (arms false false true true) = refl
+character_narrow (arms false false true false) = refl
+character_narrow (arms false false false true) = refl
+character_narrow (arms false false false false) = refl
+
+drawn_narrow : (cells : List Segment) → Each (λ c. IsTrue (takes_one_column c)) (map character cells)
+drawn_narrow [] = tt
+drawn_narrow (c ∷ cells) = (character_narrow c, drawn_narrow cells)
+
+above_narrow : (cells : List Segment) → Each (λ c. IsTrue (takes_one_column c)) (map line_above cells)
+above_narrow [] = tt
+above_narrow (c ∷ cells) = (go (is_among (character c) (0x2534 ∷ 0x253C ∷ 0x2514 ∷ 0x2518 ∷ [])), above_narrow cells)
+  where
+    go : (b : Bool) → IsTrue (takes_one_column (if b then 0x2502 else 32))
+    go true = refl
+    go false = refl
+
+-- a line that fits takes its cell's columns once it is filled
+pub filled_line : {A : Type 0} (columns : ℕ → Option ℕ) (eq : A → A → Bool) (align : CellAlign) (width : ℕ) (a t : A) (l done : RenderLine A) → DrawsInOne columns → LineFits columns width l →
+    FillsLine columns eq align width a l done → TakesColumns columns t width done
+filled_line {A} columns eq align width a t (Text es) (Text done) one fits fills =
+    let missing : ℕ = columns_missing columns width es in
+    let front : ℕ = columns_in_front align missing in
+    let before : List (Item A) = text_items (spaces front) a in
+    let behind : List (Item A) = text_items (spaces (missing - front)) a in
+    omega (
+      arith,
+      same_width columns eq (items_of done) (before ++ items_of es ++ behind) fills.0,
+      width_append columns (before ++ items_of es) behind,
+      width_append columns before (items_of es),
+      text_columns columns (spaces front) a one (spaces_narrow front),
+      text_columns columns (spaces (missing - front)) a one (spaces_narrow (missing - front)),
+      length-replicate {A = ℕ} front 32,
+      length-replicate {A = ℕ} (missing - front) 32,
+      front_within align missing,
+      fits,
+    )
+filled_line {A} columns eq align width a t (Line b) (Line done) one fits fills =
+    let cells : List Segment = stretched width b.cells in
+    let plain : shown t done ≡ text_items (map character cells) t = ap (shown t) fills ∙ ap (λ hs. let c : Border A = record { cells = cells; tag = b.tag; holes = hs } in shown t c) fits.1 in
+    ap (items_width columns) plain
+    ∙ text_columns columns (map character cells) t one (drawn_narrow cells)
+    ∙ omega (arith, length-map cells character, length-append b.cells (replicate (width - length b.cells) horizontal), length-replicate (width - length b.cells) horizontal, fits.0)
+filled_line columns eq align width a t (Text es) (Line done) one fits fills = absurd fills
+filled_line columns eq align width a t (Line b) (Text done) one fits fills = absurd fills
+
+filler_columns : {A : Type 0} (columns : ℕ → Option ℕ) (a : A) (width : ℕ) (bottom : Option (Border A)) → DrawsInOne columns → FillsBelow width bottom → items_width columns (text_items (filler_above width bottom) a) ≡ width
+filler_columns columns a width None one fills = text_columns columns (spaces width) a one (spaces_narrow width) ∙ length-replicate {A = ℕ} width 32
+filler_columns columns a width (Some b) one fills = text_columns columns (map line_above b.cells) a one (above_narrow b.cells) ∙ length-map b.cells line_above ∙ fills
+
+lines_fill : {A : Type 0} (columns : ℕ → Option ℕ) (a : A) (c : Column A) (ls : List (RenderLine A)) → DrawsInOne columns → FillsBelow c.cell.width c.bottom → Each (TakesColumns columns a c.cell.width) ls →
+    items_width columns (text_of_lines a c ls) ≡ c.cell.width
+lines_fill columns a c [] one below lines = filler_columns columns a c.cell.width c.bottom one below
+lines_fill columns a c (l ∷ ls) one below lines = lines.0
+
+each_drop : {X : Type 0} (P : X → Type 0) (n : ℕ) (xs : List X) → Each P xs → Each P (drop n xs)
+each_drop P zero xs h = h
+each_drop P (suc n) [] h = tt
+each_drop P (suc n) (x ∷ xs) h = each_drop P n xs h.1
+
+-- a cell whose lines take its columns fills them in each line of the row
+pub cell_fills : {A : Type 0} (columns : ℕ → Option ℕ) (a : A) (i : ℕ) (c : Column A) → DrawsInOne columns → LinesFillCell columns a c → FillsCell columns a i c
+cell_fills columns a i c one fills = lines_fill columns a c (drop i c.cell.lines) one fills.0 (each_drop (TakesColumns columns a c.cell.width) i c.cell.lines fills.1)
