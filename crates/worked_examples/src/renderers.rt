@@ -1,11 +1,13 @@
 //! Worked examples of renderers, by calls on them.
 mod blocks;
+mod borders;
 mod calls;
 mod colours;
 mod decorated;
 mod every_call;
 mod expected;
 mod images;
+mod inside;
 mod markers;
 mod memory;
 mod narrow;
@@ -14,5 +16,7 @@ mod prefixes;
 mod preserved;
 mod refusals;
 mod strikeouts;
+mod sub_blocks;
 mod sub_renderers;
+mod vertical_rows;
 mod wrapping;

@@ -1,4 +1,5 @@
 //! Renderers that are called call by call, and the lines that they have then.
+use super::inside::{Block, append_block, append_row};
 use crate::texts::{append_marked_line, append_pieces};
 use std::alloc::Global;
 use std::collections::LinkedList;
@@ -60,6 +61,13 @@ pub enum Call<'a> {
     Image(&'a str, &'a str),
     Colour(Colour),
     Background(Colour),
+    /// A border of the renderer's width.
+    Border,
+    BorderWidth(usize),
+    /// The lines of a renderer inside, behind these prefixes.
+    Append(Block<'a>, &'a [&'a str]),
+    /// Renderers inside, one below another.
+    VertRow(&'a [Block<'a>]),
     Ends(End),
 }
 
@@ -114,6 +122,7 @@ fn close_strikeout<D: TextDecorator, W: CharWidth>(r: &mut SubRenderer<D, W>) ->
 
 /// Makes a call.
 pub fn make<D: TextDecorator, W: CharWidth>(
+    alloc: Global,
     r: &mut SubRenderer<D, W>,
     call: Call<'_>,
 ) -> Result<(), Error> {
@@ -132,6 +141,10 @@ pub fn make<D: TextDecorator, W: CharWidth>(
         Call::Image(src, title) => r.add_image(src, title),
         Call::Colour(colour) => r.push_colour(colour),
         Call::Background(colour) => r.push_bgcolour(colour),
+        Call::Border => r.add_horizontal_border(),
+        Call::BorderWidth(width) => r.add_horizontal_border_width(width),
+        Call::Append(block, prefixes) => append_block(r, block, prefixes),
+        Call::VertRow(blocks) => append_row(alloc, r, blocks),
         Call::Ends(what) => {
             make_end(r, what);
             Ok(())
@@ -141,11 +154,12 @@ pub fn make<D: TextDecorator, W: CharWidth>(
 
 /// Makes calls, up to the first that refuses.
 pub fn make_all<D: TextDecorator, W: CharWidth>(
+    alloc: Global,
     r: &mut SubRenderer<D, W>,
     calls: &[Call<'_>],
 ) -> Result<(), Error> {
     for call in calls {
-        make(r, *call)?;
+        make(alloc, r, *call)?;
     }
     Ok(())
 }
@@ -157,11 +171,18 @@ pub enum Shown {
     Text,
     /// Their text with markers, as `<name>`.
     Markers,
-    /// Their pieces, each with its annotations.
+    /// Their pieces, each with its annotations; of a border its text alone.
     Pieces,
 }
 
-/// Appends a line of text, and a newline.
+/// Appends a border, and a newline.
+fn append_border<T>(all: &mut String, line: &RenderLine<T>) -> Result<(), OutOfMemory> {
+    all.push_str(line.to_text()?.as_str())?;
+    all.push('\n')?;
+    Ok(())
+}
+
+/// Appends a line, and a newline.
 fn append_line<T: Debug + Drop>(
     all: &mut String,
     alloc: Global,
@@ -171,7 +192,7 @@ fn append_line<T: Debug + Drop>(
     match (shown, line) {
         (Shown::Pieces, RenderLine::Text(line)) => append_pieces(all, alloc, line),
         (_, RenderLine::Text(line)) => append_marked_line(all, line),
-        (_, RenderLine::Line(_)) => Ok(()),
+        (_, RenderLine::Line(_)) => append_border(all, line),
     }
 }
 
@@ -207,6 +228,6 @@ pub fn handed_out<D: TextDecorator, W: CharWidth>(
     mut r: SubRenderer<D, W>,
     calls: &[Call<'_>],
 ) -> Result<String, Error> {
-    make_all(&mut r, calls)?;
+    make_all(alloc, &mut r, calls)?;
     shown_of(alloc, shown, r)
 }

@@ -1,7 +1,11 @@
 //! What a renderer answers of itself.
-use super::calls::Call::{Closes, EmptyLine, Ends, Line, Marker, Opens, Preformat, Text};
+use super::calls::Call::{
+    Append, Border, BorderWidth, Closes, EmptyLine, Ends, Line, Marker, Opens, Preformat, Text,
+    VertRow,
+};
 use super::calls::{Call, Closing, End, Opening, make_all};
 use super::expected::{Told, plain};
+use super::inside::{Block, Inner};
 use std::alloc::Global;
 use tbr_decor::TextDecorator;
 use tbr_lines::{CharWidth, Error};
@@ -90,6 +94,35 @@ const STATES: &[State] = &[
         ..NEW
     },
     State {
+        name: "a border does not leave it empty",
+        calls: &[Border],
+        tells: (false, 0, 0),
+        ..NEW
+    },
+    State {
+        name: "a border without columns does not either",
+        calls: &[BorderWidth(0)],
+        tells: (false, 0, 0),
+        ..NEW
+    },
+    State {
+        name: "lines of a renderer inside do not, if they have prefixes",
+        calls: &[Append(Block(5, &[Inner::Text("a")]), &[""])],
+        tells: (false, 0, 0),
+        ..NEW
+    },
+    State {
+        name: "without prefixes they do",
+        calls: &[Append(Block(5, &[Inner::Text("a")]), &[])],
+        ..NEW
+    },
+    State {
+        name: "a vertical row does not leave it empty",
+        calls: &[VertRow(&[Block(5, &[])])],
+        tells: (false, 0, 0),
+        ..NEW
+    },
+    State {
         name: "preformatted stretches are counted",
         calls: &[Preformat, Preformat],
         tells: (true, 2, 0),
@@ -150,10 +183,11 @@ pub fn tells<D: TextDecorator, W: CharWidth>(
 
 /// What a renderer tells behind calls.
 fn tells_behind<D: TextDecorator, W: CharWidth>(
+    alloc: Global,
     mut r: SubRenderer<D, W>,
     calls: &[Call<'_>],
 ) -> (Option<Error>, bool, usize, usize, usize) {
-    let _ = make_all(&mut r, calls);
+    let _ = make_all(alloc, &mut r, calls);
     tells(&r)
 }
 
@@ -162,7 +196,7 @@ fn a_renderer_tells_what_it_has(rt: HostRuntime) {
     let alloc = rt.alloc();
     for state in STATES {
         let (empty, preformatted, struck) = state.tells;
-        let told = tells_behind(plain(alloc, 9, state.told), state.calls);
+        let told = tells_behind(alloc, plain(alloc, 9, state.told), state.calls);
         assert!(rt;
             told == (None, empty, 9, preformatted, struck),
             "{}",

@@ -22,6 +22,8 @@ pub enum Told {
     Padding,
     /// Struck out text has no strokes.
     NoStrokes,
+    /// Borders of rows are not drawn.
+    NoBorders,
     /// What an image without a title shows.
     Images(ImageRenderMode),
     /// Each option differs from the usual one.
@@ -78,6 +80,7 @@ pub fn options(told: Told) -> RenderOptions
             options.wrap_width = Some(5);
             options.pad_block_width = true;
         }
+        Told::NoBorders => options.draw_borders = false,
         Told::NoStrokes => options.use_unicode_strikeout = false,
         Told::Images(mode) => options.img_mode = mode,
         Told::Unusual => options = UNUSUAL,

@@ -1,11 +1,12 @@
 //! Every call on a renderer, where memory may be refused: under `rt try --test --fail-alloc N` the Nth request is.
 use super::calls::Call::{
-    Background, Closes, Colour, EmptyLine, Ends, HardLine, Image, Line, Marker, Mode, Opens,
-    Preformat, StartBlock, StartTable, Text,
+    Append, Background, Border, Closes, Colour, EmptyLine, Ends, HardLine, Image, Line, Marker,
+    Mode, Opens, Preformat, StartBlock, StartTable, Text, VertRow,
 };
 use super::calls::{Call, Closing, End, Opening, Shown, handed_out, make_all};
 use super::colours::RED;
 use super::expected::{Told, options};
+use super::inside::{Block, Inner};
 use super::prefixes::prefixes_under;
 use super::refusals::keeps;
 use crate::texts::shows;
@@ -69,13 +70,38 @@ const DECORATED: &[Call<'static>] = &[
 
 const DECORATED_LINES: &str = "abcd\u{336}e    \n^{f}gh   \n";
 
-const EXAMPLES: &[(&[Call<'static>], &str)] = &[(CALLS, LINES), (DECORATED, DECORATED_LINES)];
+/// Lines of others, with a marker that waits across a border.
+const APPENDED: &[Call<'static>] = &[
+    Text("ab"),
+    Border,
+    Opens(Opening::Emphasis),
+    Append(
+        Block(
+            4,
+            &[Inner::Marker("x"), Inner::Border, Inner::Text("c d e")],
+        ),
+        &["- ", "  ", "  "],
+    ),
+    VertRow(&[Block(3, &[Inner::Text("f")]), Block(3, &[Inner::Text("g")])]),
+];
 
-/// A renderer of nine columns whose blocks have eight, and whose lines are padded.
-fn padding<D: TextDecorator>(alloc: Global, decorator: D) -> SubRenderer<D> {
+const APPENDED_LINES: &str = "ab\n─────────\n- ────\n  <x>c d\n  e\nf\n/////////\ng\n─────────\n";
+
+const PADDED_LINES: &str =
+    "ab       \n─────────\n- ────   \n  <x>c d    \n  e      \nf        \n/////////\ng        \n─────────\n";
+
+const EXAMPLES: &[(Told, &[Call<'static>], &str)] = &[
+    (Told::Padding, CALLS, LINES),
+    (Told::Padding, DECORATED, DECORATED_LINES),
+    (Told::Nothing, APPENDED, APPENDED_LINES),
+    (Told::Padding, APPENDED, PADDED_LINES),
+];
+
+/// A renderer of nine columns whose blocks have eight.
+fn renderer<D: TextDecorator>(alloc: Global, told: Told, decorator: D) -> SubRenderer<D> {
     let options = RenderOptions {
         wrap_width: Some(8),
-        ..options(Told::Padding)
+        ..options(told)
     };
     SubRenderer::new(alloc, 9, options, decorator)
 }
@@ -84,12 +110,17 @@ fn padding<D: TextDecorator>(alloc: Global, decorator: D) -> SubRenderer<D> {
 fn shown_or_refused<D: TextDecorator>(
     rt: &impl Abort,
     alloc: Global,
+    told: Told,
     decorator: D,
     calls: &[Call<'_>],
 ) -> Result<String, Error> {
-    let mut r = padding(alloc, decorator);
-    if let Err(refusal) = make_all(&mut r, calls) {
-        keeps(rt, &mut r, refusal);
+    let mut r = renderer(alloc, told, decorator);
+    if let Err(refusal) = make_all(alloc, &mut r, calls) {
+        // What is made for a call may be refused too, and that isn't kept.
+        if r.failure().is_none() {
+            return Err(refusal);
+        }
+        keeps(rt, alloc, &mut r, refusal);
     }
     handed_out(alloc, Shown::Markers, r, &[])
 }
@@ -105,8 +136,8 @@ fn shows_or_refuses(rt: &impl Abort, text: Result<String, Error>, expected: &str
 #[test]
 fn every_call_leaves_its_lines_or_refuses_for_good(rt: HostRuntime) {
     let alloc = rt.alloc();
-    for (calls, lines) in EXAMPLES {
-        let shown = shown_or_refused(&rt, alloc, RichDecorator::new(), calls);
+    for (told, calls, lines) in EXAMPLES {
+        let shown = shown_or_refused(&rt, alloc, *told, RichDecorator::new(), calls);
         shows_or_refuses(&rt, shown, lines);
     }
 }
@@ -117,8 +148,8 @@ fn shown_inside<D: TextDecorator>(
     decorator: D,
     calls: &[Call<'_>],
 ) -> Result<String, Error> {
-    let mut r = padding(alloc, decorator);
-    let _ = make_all(&mut r, calls);
+    let mut r = renderer(alloc, Told::Padding, decorator);
+    let _ = make_all(alloc, &mut r, calls);
     handed_out(alloc, Shown::Text, r.new_sub_renderer(5)?, &[])
 }
 

@@ -1,12 +1,13 @@
 //! What a renderer does that has refused.
 use super::calls::Call::{
-    Background, Closes, Colour, EmptyLine, Ends, HardLine, Image, Line, Marker, Mode, Opens,
-    Preformat, StartBlock, StartTable, Text,
+    Append, Background, Border, BorderWidth, Closes, Colour, EmptyLine, Ends, HardLine, Image,
+    Line, Marker, Mode, Opens, Preformat, StartBlock, StartTable, Text, VertRow,
 };
 use super::calls::{Call, Closing, End, Opening, Shown, handed_out, make, make_all};
 use super::colours::RED;
 use super::every_call::tells;
 use super::expected::{Told, options};
+use super::inside::{Block, Inner};
 use super::prefixes::prefixes_of;
 use crate::texts::{counts, shows};
 use std::alloc::Global;
@@ -41,6 +42,10 @@ const REFUSING: &[Call<'static>] = &[
     Image("s", ""),
     Colour(RED),
     Background(RED),
+    Border,
+    BorderWidth(1),
+    Append(Block(1, &[]), &["> "]),
+    VertRow(&[]),
 ];
 
 /// Each call that can't.
@@ -55,26 +60,28 @@ const ENDS: &[Call<'static>] = &[
 /// Each call answers the refusal.
 fn refuses_each<D: TextDecorator, W: CharWidth>(
     rt: &impl Abort,
+    alloc: Global,
     r: &mut SubRenderer<D, W>,
     refusal: Error,
 ) {
     for call in REFUSING {
-        assert!(rt; make(r, *call).err() == Some(refusal));
+        assert!(rt; make(alloc, r, *call).err() == Some(refusal));
     }
     if r.strikeout_depth() > 0 {
-        assert!(rt; make(r, Closes(Closing::Strikeout)).err() == Some(refusal));
+        assert!(rt; make(alloc, r, Closes(Closing::Strikeout)).err() == Some(refusal));
     }
 }
 
 /// The renderer keeps the refusal, and what can't refuse still answers.
 pub fn keeps<D: TextDecorator, W: CharWidth>(
     rt: &impl Abort,
+    alloc: Global,
     r: &mut SubRenderer<D, W>,
     refusal: Error,
 ) {
     let before = tells(r);
-    refuses_each(rt, r, refusal);
-    assert!(rt; make_all(r, ENDS).is_ok());
+    refuses_each(rt, alloc, r, refusal);
+    assert!(rt; make_all(alloc, r, ENDS).is_ok());
     assert!(rt; before.0 == Some(refusal) && !before.1);
     assert!(rt; tells(r) == before);
 }
@@ -115,6 +122,36 @@ const REFUSALS: &[Refusal] = &[
         asked: Shown::Text,
     },
     Refusal {
+        name: "lines of a renderer inside that is too narrow",
+        told: Told::Nothing,
+        width: 1,
+        answered: &[Text("a")],
+        refused: Append(Block(1, &[Inner::Text("漢")]), &["> "]),
+        error: Error::TooNarrow,
+        struck: 0,
+        asked: Shown::Pieces,
+    },
+    Refusal {
+        name: "a cell that has refused",
+        told: Told::Nothing,
+        width: 1,
+        answered: &[Opens(Opening::Strikeout)],
+        refused: VertRow(&[Block(1, &[]), Block(1, &[Inner::Text("漢"), Inner::Line])]),
+        error: Error::TooNarrow,
+        struck: 1,
+        asked: Shown::Text,
+    },
+    Refusal {
+        name: "a border that takes more columns than there is memory",
+        told: Told::Nothing,
+        width: 5,
+        answered: &[],
+        refused: BorderWidth(usize::MAX),
+        error: Error::OutOfMemory,
+        struck: 0,
+        asked: Shown::Text,
+    },
+    Refusal {
         name: "a line that is padded to more columns than there is memory",
         told: Told::Padding,
         width: usize::MAX,
@@ -148,15 +185,15 @@ fn refuses_for_good<D: TextDecorator>(
         options(refusal.told),
         decorator,
     );
-    assert!(rt; make_all(&mut r, refusal.answered).is_ok());
+    assert!(rt; make_all(alloc, &mut r, refusal.answered).is_ok());
     assert!(rt;
-        make(&mut r, refusal.refused).err() == Some(refusal.error),
+        make(alloc, &mut r, refusal.refused).err() == Some(refusal.error),
         "{}",
         refusal.name
     );
     counts(rt, r.strikeout_depth(), refusal.struck);
     still_answers(rt, &mut r);
-    keeps(rt, &mut r, refusal.error);
+    keeps(rt, alloc, &mut r, refusal.error);
     handed_out(alloc, refusal.asked, r, &[])
 }
 

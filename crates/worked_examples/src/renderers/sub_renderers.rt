@@ -82,9 +82,9 @@ fn sub_renderer<D: TextDecorator>(
         options(inside.told),
         decorator,
     );
-    let _ = make_all(&mut r, inside.calls);
+    let _ = make_all(alloc, &mut r, inside.calls);
     assert!(rt; r.failure() == inside.refusal, "{}", inside.name);
-    let _ = make_all(&mut r, inside.then);
+    let _ = make_all(alloc, &mut r, inside.then);
     r.new_sub_renderer(5)
 }
 
