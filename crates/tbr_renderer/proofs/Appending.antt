@@ -166,7 +166,7 @@ module _ {D A M : Type 0} (f : A → M) (columns : ℕ → Option ℕ) (first : 
           h.given,
           (left, h.yields, inr (omega (arith, h.as_many, fewer), (end, none))),
           h.put.lines ∙ ap (fold (with_line columns) (meant f first))
-          (sym (ap (prefixed tag (texts_of read h.given)) (seen-append lines (line ∷ more)) ∙ prefixed-front tag (texts_of read h.given) (seen lines) (seen (line ∷ more)) (same_length h.given lines h.as_many))),
+              (sym (ap (prefixed tag (texts_of read h.given)) (seen-append lines (line ∷ more)) ∙ prefixed-front tag (texts_of read h.given) (seen lines) (seen (line ∷ more)) (same_length h.given lines h.as_many))),
         )
       where
         length_behind : (xs : List (RenderLine (Vec A))) (x : RenderLine (Vec A)) (ys : List (RenderLine (Vec A))) → length xs < length (xs ++ x ∷ ys)

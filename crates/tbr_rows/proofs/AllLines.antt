@@ -13,9 +13,9 @@ use Rattle.tbr_rows.specs.declared.column.Column.{Column}
 use Rattle.tbr_rows.specs.Cells.{cell_height}
 use Rattle.tbr_rows.specs.Borders.{first_border, last_border, behind_border, before_border, without_first_border, with_last_border_apart}
 use Rattle.tbr_rows.specs.Texts.{row_height}
-use Rattle.tbr_rows.specs.Gaps.{cell_in}
-use Rattle.tbr_rows.specs.Shown.{part_of, later_of, as_lines, Meeting, met, merged_first, merged_last, behind, parts_of, parts_and_merged, meeting, AreItsRows, texts_in}
-use Rattle.tbr_rows.specs.Rows.{cells_under, columns_shown}
+use Rattle.tbr_rows.specs.Gaps.{has_gap, overhang_of, overhang, cell_in}
+use Rattle.tbr_rows.specs.Shown.{part_of, later_of, as_lines, Meeting, met, merged_first, merged_last, behind, goes_on, parts_of, parts_and_merged, meeting, AreItsRows, texts_in}
+use Rattle.tbr_rows.specs.Rows.{cells_under, columns_shown, cells_left}
 
 -- what a row shows of a cell and what it leaves are its lines
 pub part_and_later : {A : Type 0} (draws : Bool) (height : ℕ) (c : Cell A) → cell_height c ≤ height → part_of draws height c ++ later_of draws height c ≡ c.lines
@@ -167,3 +167,34 @@ cells_meet {A} true None height (c ∷ cs) = ap (λ (ds : List (Cell A)). met (m
 cells_meet {A} true (Some b) height (c ∷ cs) = ap (λ (ds : List (Cell A)). met (meeting true (Some b) height) c ∷ ds) (cells_meet true (Some b) height cs)
 cells_meet {A} false None height (c ∷ cs) = ap (λ (ds : List (Cell A)). c ∷ ds) (cells_meet false None height cs)
 cells_meet {A} false (Some b) height (c ∷ cs) = ap (λ (ds : List (Cell A)). c ∷ ds) (cells_meet false (Some b) height cs)
+
+-- ---- what overhangs of a row
+
+one_goes_on : {A : Type 0} (draws : Bool) (height : ℕ) (c : Cell A) (ls : List (RenderLine A)) →
+    overhang_of draws (record c { lines = drop height ls }) ≡ (if nat_lt 1 c.span then record c { span = c.span - 1; lines = later_of draws height (record c { lines = ls }) } ∷ [] else [])
+one_goes_on {A} draws height c ls = go (nat_lt 1 c.span)
+  where
+    rest : List (RenderLine A)
+    rest = drop (if draws then 1 else 0) (drop height ls)
+
+    next : List (RenderLine A) → Cell A
+    next xs = record c { span = c.span - 1; lines = xs }
+
+    go : (s : Bool) → (if s then next rest ∷ [] else []) ≡ (if s then next (flat_map (λ (k : Cell A). k.lines) (if s then next rest ∷ [] else [])) ∷ [] else [])
+    go true = ap (λ (xs : List (RenderLine A)). next xs ∷ []) (sym (append-nil rest))
+    go false = refl
+
+-- a list whose parts are the same
+parts_same : {A : Type 0} (xs ys zs ws : List (Cell A)) → xs ≡ ys → zs ≡ ws → xs ++ zs ≡ ys ++ ws
+parts_same xs ys zs ws e h = ap (λ (us : List (Cell _)). us ++ zs) e ∙ ap (λ (us : List (Cell _)). ys ++ us) h
+
+pub rows_go_on : {A : Type 0} (draws collapses : Bool) (top : Option (Border A)) (height : ℕ) (cs : List (Cell A)) →
+    overhang draws (cells_left height (columns_shown collapses (cells_under collapses top cs))) ≡ flat_map (goes_on draws (meeting collapses top height)) cs
+rows_go_on draws true None height [] = refl
+rows_go_on draws true (Some b) height [] = refl
+rows_go_on draws false None height [] = refl
+rows_go_on draws false (Some b) height [] = refl
+rows_go_on draws true None height (c ∷ cs) = parts_same _ _ _ _ (one_goes_on draws height c (before_border c.lines)) (rows_go_on draws true None height cs)
+rows_go_on draws true (Some b) height (c ∷ cs) = parts_same _ _ _ _ (one_goes_on draws height c (before_border (behind_border c.lines))) (rows_go_on draws true (Some b) height cs)
+rows_go_on draws false None height (c ∷ cs) = parts_same _ _ _ _ (one_goes_on draws height c c.lines) (rows_go_on draws false None height cs)
+rows_go_on draws false (Some b) height (c ∷ cs) = parts_same _ _ _ _ (one_goes_on draws height c c.lines) (rows_go_on draws false (Some b) height cs)

@@ -20,7 +20,6 @@ use Rattle.tbr_rows.specs.Texts.{text_in_row, text_of_lines, filler_above, cell_
 use Rattle.tbr_rows.specs.Shown.{DrawsInOne, LineFits, TakesColumns, FillsBelow, LinesFillCell, FillsCell}
 use Rattle.tbr_rows.proofs.Standing.{width_append}
 
-
 -- characters of one column
 text_columns : {A : Type 0} (columns : ℕ → Option ℕ) (cs : List ℕ) (a : A) → DrawsInOne columns → Each (λ c. IsTrue (takes_one_column c)) cs → items_width columns (text_items cs a) ≡ length cs
 text_columns columns [] a one narrow = refl

@@ -1,5 +1,5 @@
 -- What rows show of a cell.
-use Rattle.std.specs.Prelude.{◌≡◌, ℕ, ◌-◌, ◌≤◌, Bool, if◌then◌else◌, ◌&&◌, is_some, Option, None, Some, List, [], ◌∷◌, ◌++◌, flat_map, take, drop, length, ⊤, IsTrue}
+use Rattle.std.specs.Prelude.{◌≡◌, ℕ, ◌-◌, ◌≤◌, Bool, if◌then◌else◌, ◌&&◌, is_some, Option, None, Some, List, [], ◌∷◌, ◌++◌, flat_map, take, drop, length, nat_lt, ⊤, IsTrue}
 use Rattle.std.specs.List.{AllByRecursion as Each}
 use Rattle.tbr_model.specs.Width.{takes_one_column}
 use Rattle.tbr_tagged.specs.Elements.{line_width}
@@ -54,6 +54,10 @@ merged_last m c =
 -- and as it overhangs behind the row
 abbrev pub behind : {A : Type 0} → Bool → Meeting → Cell A → Cell A
 behind draws m c = record c { span = c.span - 1; lines = later_of draws m.height (met m c) }
+
+-- if it spans another row
+abbrev pub goes_on : {A : Type 0} → Bool → Meeting → Cell A → List (Cell A)
+goes_on draws m c = if nat_lt 1 c.span then behind draws m c ∷ [] else []
 
 -- what the rows show of it, one after another
 abbrev pub parts_of : {A : Type 0} → Bool → List Meeting → Cell A → List (List (RenderLine A))

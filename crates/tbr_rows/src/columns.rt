@@ -3,7 +3,7 @@ ghost use Rattle.std.specs.Prelude.{◌≡◌, ◌++◌, ◌∷◌, [], List, ma
 ghost use Rattle.std.specs.List.{AllZip};
 ghost use Rattle.tbr_border.specs.declared.render_line.RenderLine.{RenderLine as Line};
 ghost use Rattle.tbr_tagged.specs.Copies.{CopiesAreEqual};
-ghost use Rattle.tbr_rows.specs.Cells.{next_place, row_fits, spot_of};
+ghost use Rattle.tbr_rows.specs.Cells.{AreSideBySide, next_place, row_fits, spot_of};
 ghost use Rattle.tbr_rows.specs.Filled as model;
 
 use crate::line_set::{LineSet, next_place};
@@ -34,7 +34,7 @@ impl<T> Model for Columns<T> {
     ghost invariant = { λ c. AreSideBySide 0 c.cells.items };
 }
 
-impl<T: Eq + Clone + Drop> Columns<T> {
+impl<T> Columns<T> {
     /// No cells. It takes no memory.
     pub fn new(alloc: Global) -> Columns<T>
         ensures { result ≡ [] }
@@ -43,7 +43,9 @@ impl<T: Eq + Clone + Drop> Columns<T> {
             cells: Vec::new(alloc),
         }
     }
+}
 
+impl<T: Eq + Clone + Drop> Columns<T> {
     /// Adds a cell of a width in columns behind the others and a separator. It spans `span` rows. Each of its lines is
     /// filled up to its width: a text with spaces under copies of the tag, as the alignment says, and a border with
     /// `─`.
@@ -61,6 +63,7 @@ impl<T: Eq + Clone + Drop> Columns<T> {
         ensures ok { OnOk result ((filled : List (Line T))
             × AllZip (model.FillsLine W.columns T.eq align width tag.now) lines filled
             × (self.new ≡ self.old ++ model.cell_behind self.old width span filled ∷ [])) }
+        ensures side_by_side { AreSideBySide 0 self.new }
         ensures err { OnErr result (self.new ≡ self.old) }
     {
         let alloc = *self.cells.allocator();

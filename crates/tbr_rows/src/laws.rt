@@ -1,10 +1,10 @@
 //! Laws of rows, each as the contract of a function that does nothing.
-ghost use Rattle.std.specs.Prelude.{◌≡◌, ℕ, List, map, is_some, Some, Bool, true, ◌≤◌, ◌++◌, ◌∷◌, Option};
+ghost use Rattle.std.specs.Prelude.{◌≡◌, ℕ, List, map, is_some, Some, Bool, true, ◌≤◌, ◌++◌, ◌∷◌, Option, flat_map};
 ghost use Rattle.tbr_rows.specs.declared.line_set.LineSet.{LineSet as Cell};
 ghost use Rattle.std.specs.List.{AllZip, AllByRecursion as Each};
-ghost use Rattle.tbr_rows.specs.Shown.{part_of, later_of, Meeting, meeting, met, merged_first, merged_last, parts_of, parts_and_merged, AreItsRows, texts_in, FillsCell, LinesFillCell, DrawsInOne, LineFits, TakesColumns};
-ghost use Rattle.tbr_rows.specs.Rows.{cells_under, columns_shown};
-ghost use Rattle.tbr_rows.specs.Gaps.{cell_in};
+ghost use Rattle.tbr_rows.specs.Shown.{part_of, later_of, Meeting, meeting, met, merged_first, merged_last, parts_of, parts_and_merged, AreItsRows, texts_in, goes_on, FillsCell, LinesFillCell, DrawsInOne, LineFits, TakesColumns};
+ghost use Rattle.tbr_rows.specs.Rows.{cells_under, columns_shown, cells_left};
+ghost use Rattle.tbr_rows.specs.Gaps.{cell_in, overhang};
 ghost use Rattle.tbr_rows.specs.Filled.{FillsLine};
 ghost use Rattle.tbr_tagged.specs.declared.padding.CellAlign.{CellAlign};
 ghost use Rattle.tbr_border.specs.declared.render_line.RenderLine.{RenderLine};
@@ -91,6 +91,14 @@ pub fn a_row_shows_its_cells<T>()
     ensures { (collapses : Bool) (top : Option (Border T)) (height : ℕ) (cells : List (Cell T)) →
         map cell_in (columns_shown collapses (cells_under collapses top cells))
         ≡ map (met (meeting collapses top height)) cells }
+{}
+
+/// What overhangs of a row is, of each of its cells that spans another row, what the row leaves.
+#[tactic(auto, using(crate::proofs::AllLines::rows_go_on))]
+pub fn a_row_hands_on_what_it_leaves<T>()
+    ensures { (draws collapses : Bool) (top : Option (Border T)) (height : ℕ) (cells : List (Cell T)) →
+        overhang draws (cells_left height (columns_shown collapses (cells_under collapses top cells)))
+        ≡ flat_map (goes_on draws (meeting collapses top height)) cells }
 {}
 
 /// In each line of a row a cell's text begins at the cell's place, where the texts before it fill their cells.

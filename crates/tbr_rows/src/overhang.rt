@@ -26,7 +26,6 @@ impl<T> Model for Overhang<T> {
 
     ghost Value = { List (LineSet T) };
 
-    ghost use Rattle.tbr_rows.specs.Fitting.{fitting_of};
     ghost use Rattle.tbr_rows.specs.Cells.{AreApart};
 
     ghost view = { λ o. o.cells };

@@ -1,5 +1,5 @@
 //! Worked examples of rows of cells side by side.
-use crate::texts::{Voice, counts, piece, shows};
+use crate::texts::{Voice, append_elements, counts, piece, shows};
 use std::alloc::Global;
 use std::collections::LinkedList;
 use std::process::Abort;
@@ -326,6 +326,32 @@ fn overhanging_cells_are_displayed(rt: HostRuntime) {
     shows(&rt, overhanging(rt.alloc()), "0+1 over 1: <C>\n");
 }
 
+/// The elements of each line behind a row of one cell.
+fn tagged(alloc: Global, cell: Cell<'_>, style: RowStyle) -> Result<String, OutOfMemory> {
+    let mut table = Table::under(alloc, 0)?;
+    let _ = table.append(columns(alloc, &[cell])?, style)?;
+    let Table { lines, .. } = table;
+    let mut all = String::new(alloc);
+    for line in lines {
+        append_elements(&mut all, &line.into_tagged_line()?)?;
+        all.push('\n')?;
+    }
+    Ok(all)
+}
+
+#[test]
+fn a_border_stands_under_the_tag_of_its_row_or_its_own(rt: HostRuntime) {
+    let alloc = rt.alloc();
+    let border_between = single(2, &["a", "──", "b"]);
+    shows(
+        &rt,
+        tagged(alloc, border_between, UNDRAWN),
+        "2a|1 \n1──\n2b|1 \n",
+    );
+    // In the border below it keeps its own.
+    shows(&rt, tagged(alloc, spanning(2, 2, &["──"]), DRAWN), "2──\n");
+}
+
 /// A collapsing row of a table within a table, and of a cell of two lines.
 fn nested(alloc: Global) -> Result<String, OutOfMemory> {
     let mut inner = Table::under(alloc, 3)?;
@@ -344,6 +370,18 @@ fn nested(alloc: Global) -> Result<String, OutOfMemory> {
 fn collapsing_rows_merge_borders_of_their_cells(rt: HostRuntime) {
     let alloc = rt.alloc();
     shows(&rt, nested(alloc), "─┬─┬─\n1│2│x\n │ │y\n─┴─┴─\n");
+    // What overhangs begins with a border: it is merged too.
+    expect(
+        &rt,
+        alloc,
+        3,
+        COLLAPSING,
+        &[
+            &[spanning(3, 2, &["x", "z", "g", "───", "y"])],
+            &[blank(3, 1)],
+        ],
+        "───\nx  \nz  \ng  \ny  \n───\n",
+    );
     // Under no border the first one stays; alone, it is the cell's last one too.
     expect(
         &rt,

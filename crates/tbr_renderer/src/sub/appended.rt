@@ -17,7 +17,9 @@ use std::collections::LinkedList;
 use std::convert::AsStr;
 use std::vec::IntoIter;
 use tbr_decor::TextDecorator;
-use tbr_lines::{BorderSegHoriz, CharWidth, Error, OutOfMemory, RenderLine, TaggedLine, TaggedString};
+use tbr_lines::{
+    BorderSegHoriz, CharWidth, Error, OutOfMemory, RenderLine, TaggedLine, TaggedString,
+};
 
 impl<D: TextDecorator, W: CharWidth> SubRenderer<D, W> {
     /// A line as text: a border's cells stand under a copy of the annotations.
@@ -83,7 +85,10 @@ impl<D: TextDecorator, W: CharWidth> SubRenderer<D, W> {
     }
 
     /// Adds each line as text.
-    fn add_cell(&mut self, lines: LinkedList<RenderLine<Vec<D::Annotation>>>) -> Result<(), OutOfMemory>
+    fn add_cell(
+        &mut self,
+        lines: LinkedList<RenderLine<Vec<D::Annotation>>>,
+    ) -> Result<(), OutOfMemory>
         requires unfailed { self.old.failure ≡ None }
         requires merged { Each (IsMergedText (equal_lists D.Annotation.eq)) lines }
         ensures lines { OnOk result (meant D.meaning self.new ≡ with_cell W.columns (meant D.meaning self.old)

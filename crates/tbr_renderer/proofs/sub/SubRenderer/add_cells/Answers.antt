@@ -40,9 +40,10 @@ returns-clause-ok g c =
     let lines = c.in_ok-lines.lines in
     let seen = map (map_line (tag_meant f)) (map line_seen lines) in
     let whole : c.args.cols.items ≡ c.in-Some.first ∷ into_iter_items c.next.new.self = sym c.into_iter-cols.ensures.rest ∙ c.in-Some.ensures.items in
-    on_ok_weaker c.add_cells_below.result (λ h.
-      (seen ∷ h.0,
+    on_ok_weaker c.add_cells_below.result (λ h. (
+      seen ∷ h.0,
       subst (λ cols. AllZip (Hands f columns c.args.self.now) cols (seen ∷ h.0)) (sym whole)
-      ((unfailed c.in-Some.first.failure c.into_lines.result lines c.in_ok-lines.was c.into_lines.ensures.kept, c.in_ok-lines.ensures.lines), h.1),
-      h.2 ∙ ap (λ r. fold (with_cell_below columns) r h.0) c.in_ok-add_cell.ensures.lines))
+          ((unfailed c.in-Some.first.failure c.into_lines.result lines c.in_ok-lines.was c.into_lines.ensures.kept, c.in_ok-lines.ensures.lines), h.1),
+      h.2 ∙ ap (λ r. fold (with_cell_below columns) r h.0) c.in_ok-add_cell.ensures.lines,
+    ))
     c.add_cells_below.ensures.ok

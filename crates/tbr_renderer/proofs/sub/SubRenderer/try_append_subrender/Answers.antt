@@ -13,12 +13,14 @@ returns-clause-ok g c =
     let flushed = c.try_flush.new.self in
     let lines = c.in_ok-lines.lines in
     let seen = map (map_line (tag_meant f)) (map line_seen lines) in
-    let (given, gives, is) = c.in_ok-add_prefixed.ensures.lines in
-    (
+    let (given, gives, is) = c.in_ok-add_prefixed.ensures.lines in (
       seen,
       given,
       (unfailed c.args.other.failure c.into_lines.result lines c.in_ok-lines.was c.into_lines.ensures.kept, c.in_ok-lines.ensures.lines),
       subst (λ n. GivesFirst g.I.Iterator.next_gives n c.args.prefixes given) (sym (length-seen f columns flushed lines)) gives,
-      (meant f flushed, c.in_ok-try_flush.ensures.ok,
-      is ∙ ap (λ (s : Settings g.row.D.Denot g.D.TextDecorator.Meaning). fold (with_line columns) (meant f flushed) (prefixed s.annotations (texts_of g.P.AsStr.text given) seen)) c.in_ok-try_flush.ensures.settings),
+      (
+        meant f flushed,
+        c.in_ok-try_flush.ensures.ok,
+        is ∙ ap (λ (s : Settings g.row.D.Denot g.D.TextDecorator.Meaning). fold (with_line columns) (meant f flushed) (prefixed s.annotations (texts_of g.P.AsStr.text given) seen)) c.in_ok-try_flush.ensures.settings,
+      ),
     )

@@ -12,8 +12,8 @@ returns-clause-ok g c =
     let f = g.D.TextDecorator.meaning in
     let columns = g.W.CharWidth.columns in
     kept_ok (λ (r : Renderer g.row.D.Denot g.row.D-Annotation.Denot (Vec g.row.D-Annotation.Denot)).
-      (lines : List (Line (List g.D.TextDecorator.Meaning))) × (given : List g.row.P.Denot) × HandsOut columns (meant f c.args.other) lines × GivesFirst g.I.Iterator.next_gives (length lines) c.args.prefixes given
-      × AppendsLines columns (texts_of g.P.AsStr.text given) lines (meant f c.args.self.now) (meant f r))
+    (lines : List (Line (List g.D.TextDecorator.Meaning))) × (given : List g.row.P.Denot) × HandsOut columns (meant f c.args.other) lines × GivesFirst g.I.Iterator.next_gives (length lines) c.args.prefixes given
+    × AppendsLines columns (texts_of g.P.AsStr.text given) lines (meant f c.args.self.now) (meant f r))
     c.keep.result c.try_append_subrender-done.result c.try_append_subrender-done.new.self c.keep.new.self c.keep.ensures.result c.keep.ensures.ok c.try_append_subrender-done.ensures.ok
 
 pub returns-clause-too_narrow : goal.returns-clause-too_narrow

@@ -12,6 +12,6 @@ returns-clause-ok g c =
     let f = g.D.TextDecorator.meaning in
     let columns = g.W.CharWidth.columns in
     kept_ok (λ (r : Renderer g.row.D.Denot g.row.D-Annotation.Denot (Vec g.row.D-Annotation.Denot)).
-      (cells : List (List (Line (List g.D.TextDecorator.Meaning)))) × AllZip (λ col lines. HandsOut columns (meant f col) lines) c.args.cols.items cells
-      × AppendsCells columns cells (meant f c.args.self.now) (meant f r))
+    (cells : List (List (Line (List g.D.TextDecorator.Meaning)))) × AllZip (λ col lines. HandsOut columns (meant f col) lines) c.args.cols.items cells
+    × AppendsCells columns cells (meant f c.args.self.now) (meant f r))
     c.keep.result c.try_append_vert_row-done.result c.try_append_vert_row-done.new.self c.keep.new.self c.keep.ensures.result c.keep.ensures.ok c.try_append_vert_row-done.ensures.ok
