@@ -64,8 +64,8 @@ pub enum Call<'a> {
     /// A border of the renderer's width.
     Border,
     BorderWidth(usize),
-    /// The lines of a renderer inside, behind these prefixes.
-    Append(Block<'a>, &'a [&'a str]),
+    /// The lines of a renderer inside, behind these prefixes, each of which has a bar behind it.
+    Append(Block<'a>, &'a str),
     /// Renderers inside, one below another.
     VertRow(&'a [Block<'a>]),
     Ends(End),

@@ -107,13 +107,13 @@ const STATES: &[State] = &[
     },
     State {
         name: "lines of a renderer inside do not, if they have prefixes",
-        calls: &[Append(Block(5, &[Inner::Text("a")]), &[""])],
+        calls: &[Append(Block(5, &[Inner::Text("a")]), "|")],
         tells: (false, 0, 0),
         ..NEW
     },
     State {
         name: "without prefixes they do",
-        calls: &[Append(Block(5, &[Inner::Text("a")]), &[])],
+        calls: &[Append(Block(5, &[Inner::Text("a")]), "")],
         ..NEW
     },
     State {

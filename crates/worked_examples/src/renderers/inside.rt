@@ -48,14 +48,14 @@ fn inside<D: TextDecorator, W: CharWidth>(
     Ok(inside)
 }
 
-/// Appends the lines of a renderer inside, behind prefixes.
+/// Appends the lines of a renderer inside, behind prefixes, each of which has a bar behind it.
 pub fn append_block<D: TextDecorator, W: CharWidth>(
     r: &mut SubRenderer<D, W>,
     block: Block<'_>,
-    prefixes: &[&str],
+    prefixes: &str,
 ) -> Result<(), Error> {
     let inside = inside(r, block)?;
-    r.append_subrender(inside, prefixes.iter())
+    r.append_subrender(inside, prefixes.split_terminator('|'))
 }
 
 /// Appends renderers inside, one below another.

@@ -80,7 +80,7 @@ const APPENDED: &[Call<'static>] = &[
             4,
             &[Inner::Marker("x"), Inner::Border, Inner::Text("c d e")],
         ),
-        &["- ", "  ", "  "],
+        "- |  |  |",
     ),
     VertRow(&[Block(3, &[Inner::Text("f")]), Block(3, &[Inner::Text("g")])]),
 ];

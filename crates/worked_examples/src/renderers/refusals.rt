@@ -44,7 +44,7 @@ const REFUSING: &[Call<'static>] = &[
     Background(RED),
     Border,
     BorderWidth(1),
-    Append(Block(1, &[]), &["> "]),
+    Append(Block(1, &[]), "> |"),
     VertRow(&[]),
 ];
 
@@ -126,7 +126,7 @@ const REFUSALS: &[Refusal] = &[
         told: Told::Nothing,
         width: 1,
         answered: &[Text("a")],
-        refused: Append(Block(1, &[Inner::Text("漢")]), &["> "]),
+        refused: Append(Block(1, &[Inner::Text("漢")]), "> |"),
         error: Error::TooNarrow,
         struck: 0,
         asked: Shown::Pieces,

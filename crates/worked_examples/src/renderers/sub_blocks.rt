@@ -29,13 +29,13 @@ const NARROW: Block<'static> = Block(1, &[Inner::Text("漢")]);
 /// Where lines are padded there is no memory for its own.
 const HUGE: Block<'static> = Block(usize::MAX, &[Inner::Text("a")]);
 
-const ITEM: &[&str] = &["* ", "  ", "  "];
+const ITEM: &str = "* |  |  |";
 
 const LINES: Example = Example {
     name: "lines without prefixes are dropped",
     told: Told::Nothing,
     width: 8,
-    calls: &[Append(LETTERS, &["1 ", "2 "])],
+    calls: &[Append(LETTERS, "1 |2 |")],
     expected: &[Lines("1 a\n2 b\n")],
 };
 
@@ -48,10 +48,7 @@ const EXAMPLES: &[Example] = &[
             Text("Hello"),
             Ends(End::Block),
             StartBlock,
-            Append(
-                Block(10, &[Inner::Text("One, two, three")]),
-                &["> ", "> ", "> "],
-            ),
+            Append(Block(10, &[Inner::Text("One, two, three")]), "> |> |> |"),
             Ends(End::Block),
             Text("foo"),
         ],
@@ -71,19 +68,19 @@ const EXAMPLES: &[Example] = &[
     },
     Example {
         name: "prefixes without lines are not used",
-        calls: &[Append(LETTERS, &["1 ", "2 ", "3 ", "4 "])],
+        calls: &[Append(LETTERS, "1 |2 |3 |4 |")],
         expected: &[Lines("1 a\n2 b\n3 c\n")],
         ..LINES
     },
     Example {
         name: "a prefix may be empty",
-        calls: &[Append(LETTERS, &["", "2 ", ""])],
+        calls: &[Append(LETTERS, "|2 ||")],
         expected: &[Lines("a\n2 b\nc\n")],
         ..LINES
     },
     Example {
         name: "without prefixes no line comes, and the open line is ended",
-        calls: &[Text("x"), Append(LETTERS, &[]), Text("y")],
+        calls: &[Text("x"), Append(LETTERS, ""), Text("y")],
         expected: &[Lines("x\ny\n")],
         ..LINES
     },
@@ -98,7 +95,7 @@ const EXAMPLES: &[Example] = &[
         calls: &[
             Text("x"),
             Ends(End::Block),
-            Append(LETTERS, &["1 "]),
+            Append(LETTERS, "1 |"),
             Text("y"),
         ],
         expected: &[Lines("x\n1 a\n\ny\n")],
@@ -109,7 +106,7 @@ const EXAMPLES: &[Example] = &[
         width: 3,
         calls: &[Append(
             Block(3, &[Inner::Text("abc"), Inner::EmptyLine]),
-            &["---", ">>>>"],
+            "---|>>>>|",
         )],
         expected: &[Lines("---abc\n>>>>\n")],
         ..LINES
@@ -117,7 +114,7 @@ const EXAMPLES: &[Example] = &[
     Example {
         name: "a border is behind its prefix",
         width: 10,
-        calls: &[Append(Block(4, &[Inner::Border]), &["-", "+"])],
+        calls: &[Append(Block(4, &[Inner::Border]), "-|+|")],
         expected: &[Lines("-────\n"), Pieces(Under::Plain, "-────:[] \n")],
         ..LINES
     },
@@ -127,7 +124,7 @@ const EXAMPLES: &[Example] = &[
             Opens(Opening::Emphasis),
             Append(
                 Block(4, &[Inner::Strong, Inner::Text("a"), Inner::Border]),
-                &["> ", "> "],
+                "> |> |",
             ),
         ],
         expected: &[Pieces(
@@ -141,7 +138,7 @@ const EXAMPLES: &[Example] = &[
         told: Told::Padding,
         calls: &[Append(
             Block(4, &[Inner::Strong, Inner::Border, Inner::Text("a")]),
-            &["> ", "> "],
+            "> |> |",
         )],
         expected: &[Pieces(
             Under::Rich,
@@ -167,7 +164,7 @@ const EXAMPLES: &[Example] = &[
     },
     Example {
         name: "a border behind a prefix is text, also for a marker that waits",
-        calls: &[Marker("x"), Append(Block(4, &[Inner::Border]), &["-"])],
+        calls: &[Marker("x"), Append(Block(4, &[Inner::Border]), "-|")],
         expected: &[Markers("<x>-────\n")],
         ..LINES
     },
@@ -182,7 +179,7 @@ const EXAMPLES: &[Example] = &[
     },
     Example {
         name: "also where no prefix asks for its line",
-        calls: &[Append(NARROW, &[])],
+        calls: &[Append(NARROW, "")],
         expected: &[Refused(Error::TooNarrow)],
         ..LINES
     },
