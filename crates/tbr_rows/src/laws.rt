@@ -3,7 +3,12 @@ ghost use Rattle.std.specs.Prelude.{◌≡◌, ℕ, List, map, is_some, Some, Bo
 ghost use Rattle.tbr_rows.specs.declared.line_set.LineSet.{LineSet as Cell};
 ghost use Rattle.std.specs.List.{AllZip, AllByRecursion as Each};
 ghost use Rattle.tbr_rows.specs.Shown.{part_of, later_of, Meeting, meeting, met, merged_first, merged_last, parts_of, parts_and_merged, AreItsRows, texts_in, goes_on, FillsCell, LinesFillCell, DrawsInOne, LineFits, TakesColumns};
-ghost use Rattle.tbr_rows.specs.Rows.{cells_under, columns_shown, cells_left};
+ghost use Rattle.tbr_rows.specs.Rows.{IsRow, cells_under, columns_shown, cells_left};
+ghost use Rattle.std.specs.Option.{option_map};
+ghost use Rattle.tbr_tagged.specs.Mapped.{MeansEqual};
+ghost use Rattle.tbr_rows.specs.declared.row.Row.{Row};
+ghost use Rattle.tbr_rows.specs.declared.row.RowStyle.{RowStyle};
+ghost use Rattle.tbr_rows.specs.Meant.{map_cell, map_border, row_meant, MeansRow};
 ghost use Rattle.tbr_rows.specs.Gaps.{cell_in, overhang};
 ghost use Rattle.tbr_rows.specs.Filled.{FillsLine};
 ghost use Rattle.tbr_tagged.specs.declared.padding.CellAlign.{CellAlign};
@@ -121,4 +126,13 @@ pub fn lines_that_fit_take_their_columns<T>()
         FillsLine columns eq align width padding line done → TakesColumns columns tag width done }
     ensures cell { (columns : ℕ → Option ℕ) (tag : T) (i : ℕ) (column : Column T) → DrawsInOne columns →
         LinesFillCell columns tag column → FillsCell columns tag i column }
+{}
+
+/// A row under what its tags mean is the row of cells under what theirs mean, where equal tags mean the same.
+pub fn a_row_is_its_row_by_meaning<A, B>()
+    ensures { (f : A → B) (eq : A → A → Bool) → MeansEqual f eq →
+        (columns : ℕ → Option ℕ) (style : RowStyle) (tag : A) (hanging cells : List (Cell A))
+        (top : Option (Border A)) (row : Row A) → IsRow columns eq style tag hanging cells top row →
+        MeansRow columns style (f tag) (map (map_cell f) hanging) (map (map_cell f) cells)
+        (option_map (map_border f) top) (row_meant f row) }
 {}
