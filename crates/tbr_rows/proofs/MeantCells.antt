@@ -34,7 +34,7 @@ module _ {A B : Type 0} (f : A → B) where
   blank-map [] = refl
   blank-map (l ∷ ls) = refl
 
-  spot-map : (c : Cell A) → spot_of (map_cell f c) ≡ spot_of c
+  pub spot-map : (c : Cell A) → spot_of (map_cell f c) ≡ spot_of c
   spot-map c = ap (λ b. let s : Spot = record { place = c.place; width = c.width; is_blank = b } in s) (blank-map c.lines)
 
   appended-map : (at : ℕ) (hs : List (Cell A)) → appended at (map (map_cell f) hs) ≡ map (map_cell f) (appended at hs)

@@ -1,23 +1,34 @@
 -- Rows by what tags mean.
-use Rattle.std.proofs.Common.{◌≡◌, if◌then◌else◌, ℕ, Bool, true, false, Option, None, Some, List, [], map, ap, sym, ◌∙◌, subst, refl}
+use Rattle.std.proofs.Common.{◌≡◌, if◌then◌else◌, ℕ, Bool, true, false, Option, None, Some, List, [], ◌∷◌, ◌++◌, ◌-◌, ◌&&◌, map, ap, sym, ◌∙◌, subst, refl}
 use Rattle.std.specs.Prelude.{replicate}
 use Rattle.std.specs.Option.{option_map}
-use Rattle.tbr_model.specs.Run.{Item, glyph}
-use Rattle.tbr_model.specs.Mapped.{map_items}
+use Rattle.tbr_model.specs.Run.{Item, glyph, items_width}
+use Rattle.tbr_model.specs.Mapped.{map_item, map_items}
 use Rattle.tbr_border.specs.Cell.{Cell as Segment, horizontal}
 use Rattle.tbr_border.specs.Border.{Hole, Border, without_holes}
 use Rattle.tbr_tagged.specs.Mapped.{MeansEqual}
+use Rattle.tbr_tagged.specs.declared.padding.CellAlign.{CellAlign}
+use Rattle.tbr_tagged.specs.Elements.{items_of, line_width, text_items}
+use Rattle.tbr_tagged.specs.Padding.{spaces, aligned_items, columns_missing, columns_in_front}
+use Rattle.tbr_tagged.proofs.MappedTags.{means_same_items}
+use Rattle.tbr_model.proofs.maps.Words.{items_width-map}
+use Rattle.std.proofs.lemmas.List.{map-append}
+use Rattle.std.specs.List.{AllZip}
+use Rattle.tbr_border.specs.declared.render_line.RenderLine.{RenderLine}
+use Rattle.tbr_border.specs.declared.render_line.RenderLine.TheVariants.{Text, Line}
 use Rattle.tbr_rows.specs.declared.line_set.LineSet.{LineSet as Cell}
 use Rattle.tbr_rows.specs.declared.column.Column.{Column}
 use Rattle.tbr_rows.specs.declared.row.Row.{Row}
 use Rattle.tbr_rows.specs.declared.row.RowStyle.{RowStyle}
-use Rattle.tbr_rows.specs.Cells.{row_width}
+use Rattle.tbr_rows.specs.Cells.{row_width, Spot, spot_of, row_fits}
+use Rattle.tbr_rows.specs.Filled.{FillsLine}
+use Rattle.tbr_rows.proofs.Fits.{finds}
 use Rattle.tbr_rows.specs.Texts.{row_height, line_texts}
 use Rattle.tbr_rows.specs.Gaps.{overhang}
 use Rattle.tbr_rows.specs.Rows.{border_above, cells_under, next_under, next_merged, columns_shown, cells_left, separator_in, drawn_in, IsPlain, IsRow}
-use Rattle.tbr_rows.specs.Meant.{map_hole, map_border, map_cell, map_column, row_meant, HasGaps, MeansRow}
-use Rattle.tbr_rows.proofs.MeantCells.{with_hanging-map, row_width-map, border_above-map, cells_under-map, next_under-map, next_merged-map, columns_shown-map}
-use Rattle.tbr_rows.proofs.MeantTexts.{line_texts-map, row_height-map, cells_left-map, overhang-map, gaps_mean, texts_mean}
+use Rattle.tbr_rows.specs.Meant.{map_hole, map_border, map_cell, map_column, map_line, map_element, row_meant, HasGaps, MeansRow, MeansFilled}
+use Rattle.tbr_rows.proofs.MeantCells.{spot-map, with_hanging-map, row_width-map, border_above-map, cells_under-map, next_under-map, next_merged-map, columns_shown-map}
+use Rattle.tbr_rows.proofs.MeantTexts.{text-map, items-map, line_texts-map, row_height-map, cells_left-map, overhang-map, gaps_mean, texts_mean}
 
 module _ {A B : Type 0} (f : A → B) (eq : A → A → Bool) (means : MeansEqual f eq) where
   plain_means : (a : A) (width : ℕ) (b : Border A) → IsPlain eq a width b → map_border f b ≡ without_holes (replicate width horizontal) (f a)
@@ -65,3 +76,39 @@ module _ {A B : Type 0} (f : A → B) (eq : A → A → Bool) (means : MeansEqua
         lower = ap (option_map (map_border f)) r.lower ∙ drawn_means style r.full;
         rest = ap (map (map_cell f)) r.rest ∙ sym (overhang-map f draws (cells_left height r.shown)) ∙ ap (overhang draws) (sym left);
       }
+
+  -- ---- what comes into a row
+
+  filled_means : (columns : ℕ → Option ℕ) (align : CellAlign) (width : ℕ) (a : A) (l done : RenderLine A) → FillsLine columns eq align width a l done → MeansFilled columns align width (f a) (map_line f l) (map_line f done)
+  filled_means columns align width a (Text es) (Text done) h =
+      let missing : ℕ = columns_missing columns width es in
+      let front : ℕ = columns_in_front align missing in
+      let before : List (Item A) = text_items (spaces front) a in
+      let behind : List (Item A) = text_items (spaces (missing - front)) a in
+      let same : line_width columns (map (map_element f) es) ≡ line_width columns es = ap (items_width columns) (items-map f es) ∙ items_width-map f columns (items_of es) in
+      items-map f done ∙ means_same_items f eq means (items_of done) (before ++ items_of es ++ behind) h.0
+      ∙ map-append (map_item f) (before ++ items_of es) behind
+      ∙ ap (λ (is : List (Item B)). is ++ map_items f behind) (map-append (map_item f) before (items_of es))
+      ∙ ap (λ (is : List (Item B)). map_items f before ++ map_items f (items_of es) ++ is) (text-map f (spaces (missing - front)) a)
+      ∙ ap (λ (is : List (Item B)). is ++ map_items f (items_of es) ++ text_items (spaces (missing - front)) (f a)) (text-map f (spaces front) a)
+      ∙ ap (λ (is : List (Item B)). text_items (spaces front) (f a) ++ is ++ text_items (spaces (missing - front)) (f a)) (sym (items-map f es))
+      ∙ ap (λ n. aligned_items align (items_of (map (map_element f) es)) (width - n) (f a)) (sym same)
+  filled_means columns align width a (Line b) (Line done) h = ap (map_border f) h
+  filled_means columns align width a (Text es) (Line done) h = absurd h
+  filled_means columns align width a (Line b) (Text done) h = absurd h
+
+  pub lines_mean : (columns : ℕ → Option ℕ) (align : CellAlign) (width : ℕ) (a : A) (ls done : List (RenderLine A)) → AllZip (FillsLine columns eq align width a) ls done →
+      AllZip (MeansFilled columns align width (f a)) (map (map_line f) ls) (map (map_line f) done)
+  lines_mean columns align width a [] [] h = tt
+  lines_mean columns align width a [] (d ∷ ds) h = absurd h
+  lines_mean columns align width a (l ∷ ls) [] h = absurd h
+  lines_mean columns align width a (l ∷ ls) (d ∷ ds) h = (filled_means columns align width a l d h.0, lines_mean columns align width a ls ds h.1)
+
+module _ {A B : Type 0} (f : A → B) where
+  pub spots_mean : (cs : List (Cell A)) → map spot_of (map (map_cell f) cs) ≡ map spot_of cs
+  spots_mean [] = refl
+  spots_mean (c ∷ cs) = ap (λ (s : Spot). s ∷ map spot_of (map (map_cell f) cs)) (spot-map f c) ∙ ap (λ (ss : List Spot). spot_of c ∷ ss) (spots_mean cs)
+
+  pub fits_mean : (hs : List (Cell A)) (spots : List Spot) → row_fits (map (map_cell f) hs) spots ≡ row_fits hs spots
+  fits_mean [] spots = refl
+  fits_mean (h ∷ hs) spots = ap (λ b. finds spots h && b) (fits_mean hs spots)

@@ -24,7 +24,7 @@ use Rattle.tbr_rows.specs.Rows.{cells_left}
 use Rattle.tbr_rows.specs.Meant.{map_element, map_hole, map_border, map_line, map_cell, map_column, IsGapOf, HasGapIf, HasGaps}
 
 module _ {A B : Type 0} (f : A → B) where
-  text-map : (cs : List ℕ) (a : A) → map_items f (text_items cs a) ≡ text_items cs (f a)
+  pub text-map : (cs : List ℕ) (a : A) → map_items f (text_items cs a) ≡ text_items cs (f a)
   text-map [] a = refl
   text-map (c ∷ cs) a = ap (λ (is : List (Item B)). glyph c (f a) ∷ is) (text-map cs a)
 

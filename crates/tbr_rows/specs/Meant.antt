@@ -6,9 +6,10 @@ use Rattle.tbr_model.specs.Mapped.{map_items}
 use Rattle.tbr_border.specs.declared.render_line.RenderLine.{RenderLine}
 use Rattle.tbr_border.specs.declared.render_line.RenderLine.TheVariants.{Text, Line}
 use Rattle.tbr_border.specs.Cell.{horizontal}
-use Rattle.tbr_border.specs.Border.{Hole, Border, without_holes, shown}
+use Rattle.tbr_border.specs.Border.{Hole, Border, without_holes, with_cells, stretched, shown}
 use Rattle.tbr_tagged.specs.Elements.{Element, piece, marker_element, items_of}
-use Rattle.tbr_tagged.specs.Padding.{spaces}
+use Rattle.tbr_tagged.specs.Padding.{spaces, aligned_items, columns_missing}
+use Rattle.tbr_tagged.specs.declared.padding.CellAlign.{CellAlign}
 use Rattle.tbr_rows.specs.declared.line_set.LineSet.{LineSet as Cell}
 use Rattle.tbr_rows.specs.declared.column.Column.{Column}
 use Rattle.tbr_rows.specs.declared.row.Row.{Row}
@@ -39,6 +40,16 @@ map_cell f c = record { place = c.place; width = c.width; span = c.span; lines =
 
 abbrev pub map_column : {A B : Type 0} → (A → B) → Column A → Column B
 map_column f c = record { cell = map_cell f c.cell; bottom = option_map (map_border f) c.bottom }
+
+-- ---- lines that are filled
+
+abbrev pub MeansFilled : {A : Type 0} →
+    (ℕ → Option ℕ) → CellAlign → ℕ → A → RenderLine A → RenderLine A → Type 0
+MeansFilled columns align width a (Text es) (Text done) =
+    items_of done ≡ aligned_items align (items_of es) (columns_missing columns width es) a
+MeansFilled columns align width a (Line b) (Line done) = done ≡ with_cells (stretched width b.cells) b
+MeansFilled columns align width a (Text es) (Line done) = ⊥
+MeansFilled columns align width a (Line b) (Text done) = ⊥
 
 -- ---- rows
 

@@ -8,7 +8,7 @@ ghost use Rattle.std.specs.Option.{option_map};
 ghost use Rattle.tbr_tagged.specs.Mapped.{MeansEqual};
 ghost use Rattle.tbr_rows.specs.declared.row.Row.{Row};
 ghost use Rattle.tbr_rows.specs.declared.row.RowStyle.{RowStyle};
-ghost use Rattle.tbr_rows.specs.Meant.{map_cell, map_border, row_meant, MeansRow};
+ghost use Rattle.tbr_rows.specs.Meant.{map_cell, map_border, map_line, row_meant, MeansRow, MeansFilled};
 ghost use Rattle.tbr_rows.specs.Gaps.{cell_in, overhang};
 ghost use Rattle.tbr_rows.specs.Filled.{FillsLine};
 ghost use Rattle.tbr_tagged.specs.declared.padding.CellAlign.{CellAlign};
@@ -135,4 +135,15 @@ pub fn a_row_is_its_row_by_meaning<A, B>()
         (top : Option (Border A)) (row : Row A) → IsRow columns eq style tag hanging cells top row →
         MeansRow columns style (f tag) (map (map_cell f) hanging) (map (map_cell f) cells)
         (option_map (map_border f) top) (row_meant f row) }
+{}
+
+/// Lines that are filled are so under what their tags mean, and meanings change no place.
+pub fn meanings_change_no_place<A, B>()
+    ensures lines { (f : A → B) (eq : A → A → Bool) → MeansEqual f eq →
+        (columns : ℕ → Option ℕ) (align : CellAlign) (width : ℕ) (tag : A) (lines done : List (RenderLine A)) →
+        AllZip (FillsLine columns eq align width tag) lines done →
+        AllZip (MeansFilled columns align width (f tag)) (map (map_line f) lines) (map (map_line f) done) }
+    ensures spots { (f : A → B) (cells : List (Cell A)) → map spot_of (map (map_cell f) cells) ≡ map spot_of cells }
+    ensures fits { (f : A → B) (hanging : List (Cell A)) (spots : List Spot) →
+        row_fits (map (map_cell f) hanging) spots ≡ row_fits hanging spots }
 {}
