@@ -13,7 +13,7 @@ use Rattle.tbr_rows.specs.declared.column.Column.{Column}
 use Rattle.tbr_rows.specs.Cells.{cell_height}
 use Rattle.tbr_rows.specs.Borders.{first_border, last_border, behind_border, before_border, without_first_border, with_last_border_apart}
 use Rattle.tbr_rows.specs.Texts.{row_height}
-use Rattle.tbr_rows.specs.Gaps.{has_gap, overhang_of, overhang, cell_in}
+use Rattle.tbr_rows.specs.Gaps.{overhang_of, overhang, cell_in}
 use Rattle.tbr_rows.specs.Shown.{part_of, later_of, as_lines, Meeting, met, merged_first, merged_last, behind, goes_on, parts_of, parts_and_merged, meeting, AreItsRows, texts_in}
 use Rattle.tbr_rows.specs.Rows.{cells_under, columns_shown, cells_left}
 
@@ -176,8 +176,10 @@ one_goes_on {A} draws height c ls = go (nat_lt 1 c.span)
   where
     rest : List (RenderLine A)
     rest = drop (if draws then 1 else 0) (drop height ls)
+
     next : List (RenderLine A) → Cell A
     next xs = record c { span = c.span - 1; lines = xs }
+
     go : (s : Bool) → (if s then next rest ∷ [] else []) ≡ (if s then next (flat_map (λ (k : Cell A). k.lines) (if s then next rest ∷ [] else [])) ∷ [] else [])
     go true = ap (λ (xs : List (RenderLine A)). next xs ∷ []) (sym (append-nil rest))
     go false = refl

@@ -1,5 +1,5 @@
 -- Cells, places and borders under other tags.
-use Rattle.std.proofs.Common.{◌≡◌, if◌then◌else◌, ℕ, zero, suc, ◌+◌, ◌-◌, Bool, true, false, Option, None, Some, List, [], ◌∷◌, ◌++◌, map, fold, take, drop, length, refl, ap, sym, ◌∙◌}
+use Rattle.std.proofs.Common.{◌≡◌, if◌then◌else◌, ℕ, zero, suc, ◌+◌, ◌-◌, Bool, true, false, Option, None, Some, List, [], ◌∷◌, ◌++◌, map, fold, take, drop, length, refl, ap, ◌∙◌}
 use Rattle.std.specs.Prelude.{nat_lt, is_some, is_none}
 use Rattle.std.specs.Option.{option_map}
 use Rattle.std.proofs.lemmas.List.{length-map, take-map, drop-map}
@@ -43,6 +43,7 @@ module _ {A B : Type 0} (f : A → B) where
     where
       rest : List (Cell A)
       rest = appended (end_of h + 1) hs
+
       go : (b : Bool) → (if b then empty_cell at (h.place - at - 1) ∷ [] else []) ++ map_cell f h ∷ map (map_cell f) rest ≡ map (map_cell f) ((if b then empty_cell at (h.place - at - 1) ∷ [] else []) ++ h ∷ rest)
       go true = refl
       go false = refl

@@ -17,7 +17,6 @@ use Rattle.std.specs.List.{AllZip}
 use Rattle.tbr_border.specs.declared.render_line.RenderLine.{RenderLine}
 use Rattle.tbr_border.specs.declared.render_line.RenderLine.TheVariants.{Text, Line}
 use Rattle.tbr_rows.specs.declared.line_set.LineSet.{LineSet as Cell}
-use Rattle.tbr_rows.specs.declared.column.Column.{Column}
 use Rattle.tbr_rows.specs.declared.row.Row.{Row}
 use Rattle.tbr_rows.specs.declared.row.RowStyle.{RowStyle}
 use Rattle.tbr_rows.specs.Cells.{row_width, Spot, spot_of, row_fits}
@@ -25,7 +24,7 @@ use Rattle.tbr_rows.specs.Filled.{FillsLine}
 use Rattle.tbr_rows.proofs.Fits.{finds}
 use Rattle.tbr_rows.specs.Texts.{row_height, line_texts}
 use Rattle.tbr_rows.specs.Gaps.{overhang}
-use Rattle.tbr_rows.specs.Rows.{border_above, cells_under, next_under, next_merged, columns_shown, cells_left, separator_in, drawn_in, IsPlain, IsRow}
+use Rattle.tbr_rows.specs.Rows.{cells_under, next_under, next_merged, columns_shown, cells_left, separator_in, drawn_in, IsPlain, IsRow}
 use Rattle.tbr_rows.specs.Meant.{map_hole, map_border, map_cell, map_column, map_line, map_element, row_meant, HasGaps, MeansRow, MeansFilled}
 use Rattle.tbr_rows.proofs.MeantCells.{spot-map, with_hanging-map, row_width-map, border_above-map, cells_under-map, next_under-map, next_merged-map, columns_shown-map}
 use Rattle.tbr_rows.proofs.MeantTexts.{text-map, items-map, line_texts-map, row_height-map, cells_left-map, overhang-map, gaps_mean, texts_mean}

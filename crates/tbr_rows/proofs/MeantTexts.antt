@@ -1,17 +1,16 @@
 -- Lines of rows, gaps and what overhangs, under other tags.
-use Rattle.std.proofs.Common.{◌≡◌, if◌then◌else◌, ℕ, zero, suc, ◌+◌, ◌-◌, max, Bool, true, false, Option, None, Some, List, [], ◌∷◌, ◌++◌, map, fold, take, drop, length, refl, ap, sym, ◌∙◌, subst, append-nil}
-use Rattle.std.specs.Prelude.{nat_lt, nat_le, flat_map, slice_range, ◌/◌}
+use Rattle.std.proofs.Common.{◌≡◌, if◌then◌else◌, ℕ, ◌+◌, ◌-◌, max, Bool, true, false, Option, None, Some, List, [], ◌∷◌, ◌++◌, map, fold, drop, refl, ap, sym, ◌∙◌, subst}
+use Rattle.std.specs.Prelude.{nat_lt, nat_le, slice_range, ◌/◌}
 use Rattle.std.specs.Option.{option_map}
-use Rattle.std.specs.List.{AllZip}
-use Rattle.std.proofs.lemmas.List.{length-map, take-map, drop-map, map-append, map_push}
-use Rattle.tbr_model.specs.Run.{Item, glyph, marker, items_width}
+use Rattle.std.proofs.lemmas.List.{length-map, drop-map, map-append, map_push}
+use Rattle.tbr_model.specs.Run.{Item, glyph, items_width}
 use Rattle.tbr_model.specs.Mapped.{map_item, map_items}
 use Rattle.tbr_model.proofs.maps.Words.{items_width-map}
 use Rattle.tbr_border.specs.declared.render_line.RenderLine.{RenderLine}
 use Rattle.tbr_border.specs.declared.render_line.RenderLine.TheVariants.{Text, Line}
 use Rattle.tbr_border.specs.Cell.{Cell as Segment, character}
-use Rattle.tbr_border.specs.Border.{Hole, Border, opened, stretched, drawn, shown, shown_from, span_end, with_span, lines_above}
-use Rattle.tbr_tagged.specs.Elements.{Element, piece, marker_element, element_items, element_width, items_of, text_items, SameItems, SameElement, SameElements}
+use Rattle.tbr_border.specs.Border.{Hole, Border, opened, stretched, drawn, shown, shown_from, span_end, with_span}
+use Rattle.tbr_tagged.specs.Elements.{Element, piece, marker_element, element_items, element_width, items_of, text_items, SameElement, SameElements}
 use Rattle.tbr_tagged.specs.Padding.{spaces}
 use Rattle.tbr_tagged.specs.Mapped.{MeansEqual}
 use Rattle.tbr_tagged.proofs.MappedTags.{means_same_items}
@@ -111,6 +110,7 @@ module _ {A B : Type 0} (f : A → B) where
     where
       k : ℕ
       k = if draws then 1 else 0
+
       go : (b : Bool) → (if b then record (map_cell f c) { span = c.span - 1; lines = map (map_line f) (drop k c.lines) } ∷ [] else []) ≡ map (map_cell f) (if b then record c { span = c.span - 1; lines = drop k c.lines } ∷ [] else [])
       go true = refl
       go false = refl

@@ -98,6 +98,6 @@ pub record MeansRow {A : Type 0} (columns : ℕ → Option ℕ) (style : RowStyl
   pub plain_is : plain ≡ without_holes (replicate (row_width cells) horizontal) a
   pub full : Border A
   pub gaps : HasGaps style.draws_borders columns a (cells_left (row_height shown) shown)
-    (next_merged style.collapses (cells_under style.collapses top cells) (next_under top cells plain)) full
+      (next_merged style.collapses (cells_under style.collapses top cells) (next_under top cells plain)) full
   pub lower : row.next ≡ drawn_in style full
   pub rest : row.overhang ≡ overhang style.draws_borders (cells_left (row_height shown) shown)
