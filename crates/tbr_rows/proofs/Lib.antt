@@ -13,3 +13,4 @@ pub mod Filling
 pub mod MeantCells
 pub mod MeantTexts
 pub mod MeantRows
+pub mod OneRow

@@ -25,11 +25,11 @@ use Rattle.tbr_rows.proofs.Fits.{finds}
 use Rattle.tbr_rows.specs.Texts.{row_height, line_texts}
 use Rattle.tbr_rows.specs.Gaps.{overhang}
 use Rattle.tbr_rows.specs.Rows.{cells_under, next_under, next_merged, columns_shown, cells_left, separator_in, drawn_in, IsPlain, IsRow}
-use Rattle.tbr_rows.specs.Meant.{map_hole, map_border, map_cell, map_column, map_line, map_element, row_meant, HasGaps, MeansRow, MeansFilled}
+use Rattle.tbr_rows.specs.Meant.{map_hole, map_border, map_cell, map_column, map_line, map_element, EqualIfMeant, row_meant, HasGaps, MeansRow, MeansFilled}
 use Rattle.tbr_rows.proofs.MeantCells.{spot-map, with_hanging-map, row_width-map, border_above-map, cells_under-map, next_under-map, next_merged-map, columns_shown-map}
 use Rattle.tbr_rows.proofs.MeantTexts.{text-map, items-map, line_texts-map, row_height-map, cells_left-map, overhang-map, gaps_mean, texts_mean}
 
-module _ {A B : Type 0} (f : A → B) (eq : A → A → Bool) (means : MeansEqual f eq) where
+module _ {A B : Type 0} (f : A → B) (eq : A → A → Bool) (means : MeansEqual f eq) (told : EqualIfMeant f eq) where
   plain_means : (a : A) (width : ℕ) (b : Border A) → IsPlain eq a width b → map_border f b ≡ without_holes (replicate width horizontal) (f a)
   plain_means a width b p =
       ap (λ (cells : List Segment). let d : Border B = record { cells = cells; tag = f b.tag; holes = map (map_hole f) b.holes } in d) p.cells
@@ -63,7 +63,7 @@ module _ {A B : Type 0} (f : A → B) (eq : A → A → Bool) (means : MeansEqua
         upper = ap (option_map (map_border f)) r.upper ∙ sym (border_above-map f collapses r.cells top);
         shown = map (map_column f) r.shown;
         shown_is = ap (map (map_column f)) r.shown_is ∙ sym (columns_shown-map f collapses under) ∙ ap (columns_shown collapses) (sym (cells_under-map f collapses top r.cells));
-        texts = texts_mean f eq means row.lines.items (line_texts (glyph (separator_in style) a) a r.shown height) r.texts
+        texts = texts_mean f eq means told row.lines.items (line_texts (glyph (separator_in style) a) a r.shown height) r.texts
             ∙ sym (line_texts-map f (separator_in style) a r.shown height)
             ∙ ap (line_texts (glyph (separator_in style) (f a)) (f a) (map (map_column f) r.shown)) (sym (row_height-map f r.shown));
         plain = map_border f r.plain;
@@ -71,11 +71,12 @@ module _ {A B : Type 0} (f : A → B) (eq : A → A → Bool) (means : MeansEqua
         full = map_border f r.full;
         gaps = subst (λ (b : Border B). HasGaps draws columns (f a) (cells_left (row_height (map (map_column f) r.shown)) (map (map_column f) r.shown)) b (map_border f r.full)) (sym base)
             (subst (λ (cs : List (Cell B)). HasGaps draws columns (f a) cs (map_border f (next_merged collapses under (next_under top r.cells r.plain))) (map_border f r.full)) (sym left)
-            (gaps_mean f eq means draws columns a (cells_left height r.shown) (next_merged collapses under (next_under top r.cells r.plain)) r.full r.gaps));
+            (gaps_mean f eq means told draws columns a (cells_left height r.shown) (next_merged collapses under (next_under top r.cells r.plain)) r.full r.gaps));
         lower = ap (option_map (map_border f)) r.lower ∙ drawn_means style r.full;
         rest = ap (map (map_cell f)) r.rest ∙ sym (overhang-map f draws (cells_left height r.shown)) ∙ ap (overhang draws) (sym left);
       }
 
+module _ {A B : Type 0} (f : A → B) (eq : A → A → Bool) (means : MeansEqual f eq) where
   -- ---- what comes into a row
 
   filled_means : (columns : ℕ → Option ℕ) (align : CellAlign) (width : ℕ) (a : A) (l done : RenderLine A) → FillsLine columns eq align width a l done → MeansFilled columns align width (f a) (map_line f l) (map_line f done)

@@ -10,7 +10,7 @@ use Rattle.tbr_border.specs.declared.render_line.RenderLine.{RenderLine}
 use Rattle.tbr_border.specs.declared.render_line.RenderLine.TheVariants.{Text, Line}
 use Rattle.tbr_border.specs.Cell.{Cell as Segment, character}
 use Rattle.tbr_border.specs.Border.{Hole, Border, opened, stretched, drawn, shown, shown_from, span_end, with_span}
-use Rattle.tbr_tagged.specs.Elements.{Element, piece, marker_element, element_items, element_width, items_of, text_items, SameElement, SameElements}
+use Rattle.tbr_tagged.specs.Elements.{Element, piece, marker_element, element_items, element_width, items_of, text_items, SameElement, SameElements, HasText, IsPartedFrom, IsMerged}
 use Rattle.tbr_tagged.specs.Padding.{spaces}
 use Rattle.tbr_tagged.specs.Mapped.{MeansEqual}
 use Rattle.tbr_tagged.proofs.MappedTags.{means_same_items}
@@ -20,7 +20,8 @@ use Rattle.tbr_rows.specs.Cells.{cell_height, first_line}
 use Rattle.tbr_rows.specs.Texts.{row_height, text_in_row, filler_above, text_of_lines, cell_text, dropped, row_text, numbers_below, line_text, line_texts, HaveTexts}
 use Rattle.tbr_rows.specs.Gaps.{has_gap, with_element, with_elements, IsGapText, FillsGapIf, FillsGaps, cell_in, overhang_of, overhang}
 use Rattle.tbr_rows.specs.Rows.{cells_left}
-use Rattle.tbr_rows.specs.Meant.{map_element, map_hole, map_border, map_line, map_cell, map_column, IsGapOf, HasGapIf, HasGaps}
+use Rattle.tbr_rows.specs.Meant.{map_element, map_hole, map_border, map_line, map_cell, map_column, EqualIfMeant, EndsStretch, AreLongest, IsGapOf, HasGapIf, HasGaps}
+use Rattle.std.proofs.lemmas.Bool.{both_ways}
 
 module _ {A B : Type 0} (f : A → B) where
   pub text-map : (cs : List ℕ) (a : A) → map_items f (text_items cs a) ≡ text_items cs (f a)
@@ -153,7 +154,7 @@ module _ {A B : Type 0} (f : A → B) where
 
   -- ---- where equal tags mean the same
 
-  module _ (eq : A → A → Bool) (means : MeansEqual f eq) where
+  module _ (eq : A → A → Bool) (means : MeansEqual f eq) (told : EqualIfMeant f eq) where
     element_means : (e d : Element A) → SameElement eq e d → map_element f e ≡ map_element f d
     element_means (piece cs a) (piece ds b) h = ap (λ xs. piece xs (f a)) h.0 ∙ ap (λ (t : B). piece ds t) (means a b h.1)
     element_means (marker_element m) (marker_element n) h = ap (λ xs. let e : Element B = marker_element xs in e) h
@@ -167,10 +168,27 @@ module _ {A B : Type 0} (f : A → B) where
     elements_mean (e ∷ es) (d ∷ ds) h =
         ap (λ (x : Element B). x ∷ map (map_element f) es) (element_means e d h.0) ∙ ap (λ (xs : List (Element B)). map_element f d ∷ xs) (elements_mean es ds h.1)
 
+    has_text : (e : Element A) → HasText e → HasText (map_element f e)
+    has_text (piece [] a) h = h
+    has_text (piece (c ∷ cs) a) h = h
+    has_text (marker_element name) h = h
+
+    ends_stretch : (e : Element A) (es : List (Element A)) → IsPartedFrom eq e es → EndsStretch (map_element f e) (map (map_element f) es)
+    ends_stretch (piece cs a) [] h = tt
+    ends_stretch (marker_element name) [] h = tt
+    ends_stretch (piece cs a) (piece ds b ∷ es) h = λ same. both_ways (eq a b) h (told a b same)
+    ends_stretch (piece cs a) (marker_element name ∷ es) h = tt
+    ends_stretch (marker_element name) (piece ds b ∷ es) h = tt
+    ends_stretch (marker_element name) (marker_element n ∷ es) h = tt
+
+    longest_means : (es : List (Element A)) → IsMerged eq es → AreLongest (map (map_element f) es)
+    longest_means [] h = tt
+    longest_means (e ∷ es) h = (has_text e h.0, ends_stretch e es h.1, longest_means es h.2)
+
     gap_means : (a : A) (width : ℕ) (o : Option (RenderLine A)) (es : List (Element A)) → IsGapText eq a width o es → IsGapOf (f a) width (option_map (map_line f) o) (map (map_element f) es)
     gap_means a width None es h = elements_mean es (piece (spaces width) a ∷ []) h
     gap_means a width (Some (Text line)) es h = ap (map (map_element f)) h
-    gap_means a width (Some (Line b)) es h = items-map es ∙ means_same_items f eq means (items_of es) (shown b.tag b) h.0 ∙ sym (shown-map b.tag b)
+    gap_means a width (Some (Line b)) es h = (items-map es ∙ means_same_items f eq means (items_of es) (shown b.tag b) h.0 ∙ sym (shown-map b.tag b), longest_means es h.1)
 
     gap_if_means : (b : Bool) (columns : ℕ → Option ℕ) (a : A) (c : Cell A) (x y : Border A) → FillsGapIf b columns eq a c x y → HasGapIf b columns (f a) (map_cell f c) (map_border f x) (map_border f y)
     gap_if_means false columns a c x y h = ap (map_border f) h

@@ -1,5 +1,5 @@
 -- Rows by what tags mean.
-use Rattle.std.specs.Prelude.{◌≡◌, ℕ, Bool, true, false, Option, None, Some, List, [], ◌∷◌, map, replicate}
+use Rattle.std.specs.Prelude.{◌≡◌, ℕ, Bool, true, false, Option, None, Some, List, [], ◌∷◌, map, replicate, ⊤}
 use Rattle.std.specs.Option.{option_map}
 use Rattle.tbr_model.specs.Run.{Item, glyph}
 use Rattle.tbr_model.specs.Mapped.{map_items}
@@ -7,7 +7,7 @@ use Rattle.tbr_border.specs.declared.render_line.RenderLine.{RenderLine}
 use Rattle.tbr_border.specs.declared.render_line.RenderLine.TheVariants.{Text, Line}
 use Rattle.tbr_border.specs.Cell.{horizontal}
 use Rattle.tbr_border.specs.Border.{Hole, Border, without_holes, with_cells, stretched, shown}
-use Rattle.tbr_tagged.specs.Elements.{Element, piece, marker_element, items_of}
+use Rattle.tbr_tagged.specs.Elements.{Element, piece, marker_element, items_of, HasText}
 use Rattle.tbr_tagged.specs.Padding.{spaces, aligned_items, columns_missing}
 use Rattle.tbr_tagged.specs.declared.padding.CellAlign.{CellAlign}
 use Rattle.tbr_rows.specs.declared.line_set.LineSet.{LineSet as Cell}
@@ -41,6 +41,10 @@ map_cell f c = record { place = c.place; width = c.width; span = c.span; lines =
 abbrev pub map_column : {A B : Type 0} → (A → B) → Column A → Column B
 map_column f c = record { cell = map_cell f c.cell; bottom = option_map (map_border f) c.bottom }
 
+-- tags that mean the same are equal
+abbrev pub EqualIfMeant : {A B : Type 0} → (A → B) → (A → A → Bool) → Type 0
+EqualIfMeant {A} f eq = (x y : A) → f x ≡ f y → eq x y ≡ true
+
 -- ---- lines that are filled
 
 abbrev pub MeansFilled : {A : Type 0} →
@@ -69,11 +73,22 @@ row_meant f row = record {
   overhang = map (map_cell f) row.overhang;
 }
 
+-- Pieces are the longest stretches of characters under one tag.
+abbrev pub EndsStretch : {A : Type 0} → Element A → List (Element A) → Type 0
+EndsStretch e [] = ⊤
+EndsStretch (piece cs a) (piece ds b ∷ es) = a ≡ b → ⊥
+EndsStretch (piece cs a) (marker_element name ∷ es) = ⊤
+EndsStretch (marker_element name) (e ∷ es) = ⊤
+
+abbrev pub AreLongest : {A : Type 0} → List (Element A) → Type 0
+AreLongest [] = ⊤
+AreLongest (e ∷ es) = HasText e × EndsStretch e es × AreLongest es
+
 -- the elements of a cell's first line, in the border below its row
 abbrev pub IsGapOf : {A : Type 0} → A → ℕ → Option (RenderLine A) → List (Element A) → Type 0
 IsGapOf a width None es = es ≡ piece (spaces width) a ∷ []
 IsGapOf a width (Some (Text line)) es = es ≡ line
-IsGapOf a width (Some (Line b)) es = items_of es ≡ shown b.tag b
+IsGapOf a width (Some (Line b)) es = (items_of es ≡ shown b.tag b) × AreLongest es
 
 abbrev pub HasGapIf : {A : Type 0} → Bool → (ℕ → Option ℕ) → A → Cell A → Border A → Border A → Type 0
 HasGapIf false columns a c b b' = b' ≡ b
