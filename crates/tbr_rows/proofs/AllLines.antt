@@ -13,7 +13,7 @@ use Rattle.tbr_rows.specs.declared.column.Column.{Column}
 use Rattle.tbr_rows.specs.Cells.{cell_height}
 use Rattle.tbr_rows.specs.Borders.{first_border, last_border, behind_border, before_border, without_first_border, with_last_border_apart}
 use Rattle.tbr_rows.specs.Texts.{row_height}
-use Rattle.tbr_rows.specs.Gaps.{has_gap, overhang_of, overhang, cell_in}
+use Rattle.tbr_rows.specs.Gaps.{overhang_of, overhang, cell_in}
 use Rattle.tbr_rows.specs.Shown.{part_of, later_of, as_lines, Meeting, met, merged_first, merged_last, behind, goes_on, parts_of, parts_and_merged, meeting, AreItsRows, texts_in}
 use Rattle.tbr_rows.specs.Rows.{cells_under, columns_shown, cells_left}
 

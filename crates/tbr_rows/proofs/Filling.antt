@@ -1,7 +1,7 @@
 -- What stands in a row of a cell takes the cell's columns.
-use Rattle.std.proofs.Common.{◌≡◌, if◌then◌else◌, ℕ, zero, suc, ◌+◌, ◌-◌, ◌≤◌, Bool, true, false, Option, None, Some, unwrap_or, List, [], ◌∷◌, ◌++◌, map, drop, length, refl, ap, sym, ◌∙◌, subst, arith}
+use Rattle.std.proofs.Common.{◌≡◌, if◌then◌else◌, ℕ, zero, suc, ◌-◌, Bool, true, false, Option, None, Some, unwrap_or, List, [], ◌∷◌, ◌++◌, map, drop, length, refl, ap, ◌∙◌, arith}
 use Rattle.std.specs.Prelude.{IsTrue, replicate}
-use Rattle.std.specs.List.{AllByRecursion as Each, AllZip}
+use Rattle.std.specs.List.{AllByRecursion as Each}
 use Rattle.tbr_model.specs.Run.{Item, items_width}
 use Rattle.tbr_model.specs.Width.{takes_one_column}
 use Rattle.tbr_border.specs.declared.render_line.RenderLine.{RenderLine}
@@ -9,14 +9,14 @@ use Rattle.tbr_border.specs.declared.render_line.RenderLine.TheVariants.{Text, L
 use Rattle.tbr_border.specs.Cell.{Cell as Segment, slash, arms, horizontal, character, is_among, line_above}
 use Rattle.tbr_border.specs.Border.{Border, stretched, shown}
 use Rattle.tbr_tagged.specs.declared.padding.CellAlign.{CellAlign}
-use Rattle.tbr_tagged.specs.Elements.{items_of, line_width, text_items}
+use Rattle.tbr_tagged.specs.Elements.{items_of, text_items}
 use Rattle.tbr_tagged.specs.Padding.{spaces, columns_in_front, columns_missing}
 use Rattle.tbr_tagged.proofs.SameItems.{same_width}
 use Rattle.tbr_tagged.proofs.PaddedLines.{front_within}
 use Rattle.std.proofs.lemmas.List.{length-append, length-replicate, length-map}
 use Rattle.tbr_rows.specs.declared.column.Column.{Column}
 use Rattle.tbr_rows.specs.Filled.{FillsLine}
-use Rattle.tbr_rows.specs.Texts.{text_in_row, text_of_lines, filler_above, cell_text}
+use Rattle.tbr_rows.specs.Texts.{text_of_lines, filler_above}
 use Rattle.tbr_rows.specs.Shown.{DrawsInOne, LineFits, TakesColumns, FillsBelow, LinesFillCell, FillsCell}
 use Rattle.tbr_rows.proofs.Standing.{width_append}
 

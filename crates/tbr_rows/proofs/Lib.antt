@@ -10,3 +10,7 @@ pub mod Fitted
 pub mod AllLines
 pub mod Standing
 pub mod Filling
+pub mod MeantCells
+pub mod MeantTexts
+pub mod MeantRows
+pub mod OneRow

@@ -6,3 +6,4 @@ pub mod Gaps
 pub mod Rows
 pub mod Fitting
 pub mod Shown
+pub mod Meant

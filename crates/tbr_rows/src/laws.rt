@@ -3,7 +3,12 @@ ghost use Rattle.std.specs.Prelude.{◌≡◌, ℕ, List, map, is_some, Some, Bo
 ghost use Rattle.tbr_rows.specs.declared.line_set.LineSet.{LineSet as Cell};
 ghost use Rattle.std.specs.List.{AllZip, AllByRecursion as Each};
 ghost use Rattle.tbr_rows.specs.Shown.{part_of, later_of, Meeting, meeting, met, merged_first, merged_last, parts_of, parts_and_merged, AreItsRows, texts_in, goes_on, FillsCell, LinesFillCell, DrawsInOne, LineFits, TakesColumns};
-ghost use Rattle.tbr_rows.specs.Rows.{cells_under, columns_shown, cells_left};
+ghost use Rattle.tbr_rows.specs.Rows.{IsRow, cells_under, columns_shown, cells_left};
+ghost use Rattle.std.specs.Option.{option_map};
+ghost use Rattle.tbr_tagged.specs.Mapped.{MeansEqual};
+ghost use Rattle.tbr_rows.specs.declared.row.Row.{Row};
+ghost use Rattle.tbr_rows.specs.declared.row.RowStyle.{RowStyle};
+ghost use Rattle.tbr_rows.specs.Meant.{map_cell, map_border, map_line, row_meant, EqualIfMeant, MeansRow, MeansFilled, SeenRow};
 ghost use Rattle.tbr_rows.specs.Gaps.{cell_in, overhang};
 ghost use Rattle.tbr_rows.specs.Filled.{FillsLine};
 ghost use Rattle.tbr_tagged.specs.declared.padding.CellAlign.{CellAlign};
@@ -121,4 +126,32 @@ pub fn lines_that_fit_take_their_columns<T>()
         FillsLine columns eq align width padding line done → TakesColumns columns tag width done }
     ensures cell { (columns : ℕ → Option ℕ) (tag : T) (i : ℕ) (column : Column T) → DrawsInOne columns →
         LinesFillCell columns tag column → FillsCell columns tag i column }
+{}
+
+/// A row under what its tags mean is the row of cells under what theirs mean, where tags are equal exactly if they mean
+/// the same.
+pub fn a_row_is_its_row_by_meaning<A, B>()
+    ensures { (f : A → B) (eq : A → A → Bool) → MeansEqual f eq → EqualIfMeant f eq →
+        (columns : ℕ → Option ℕ) (style : RowStyle) (tag : A) (hanging cells : List (Cell A))
+        (top : Option (Border A)) (row : Row A) → IsRow columns eq style tag hanging cells top row →
+        MeansRow columns style (f tag) (map (map_cell f) hanging) (map (map_cell f) cells)
+        (option_map (map_border f) top) (row_meant f row) }
+{}
+
+/// Lines that are filled are so under what their tags mean, and meanings change no place.
+pub fn meanings_change_no_place<A, B>()
+    ensures lines { (f : A → B) (eq : A → A → Bool) → MeansEqual f eq →
+        (columns : ℕ → Option ℕ) (align : CellAlign) (width : ℕ) (tag : A) (lines done : List (RenderLine A)) →
+        AllZip (FillsLine columns eq align width tag) lines done →
+        AllZip (MeansFilled columns align width (f tag)) (map (map_line f) lines) (map (map_line f) done) }
+    ensures spots { (f : A → B) (cells : List (Cell A)) → map spot_of (map (map_cell f) cells) ≡ map spot_of cells }
+    ensures fits { (f : A → B) (hanging : List (Cell A)) (spots : List Spot) →
+        row_fits (map (map_cell f) hanging) spots ≡ row_fits hanging spots }
+{}
+
+/// By what tags mean there is only one row of the same cells under the same border.
+pub fn there_is_one_row_by_meaning<T>()
+    ensures { (columns : ℕ → Option ℕ) (style : RowStyle) (tag : T) (hanging cells : List (Cell T))
+        (top : Option (Border T)) (row other : SeenRow T) → MeansRow columns style tag hanging cells top row →
+        MeansRow columns style tag hanging cells top other → row ≡ other }
 {}
