@@ -5,6 +5,7 @@ use std::process::Abort;
 use std::test::Fail;
 
 mod blocks;
+mod borders;
 mod decorated;
 mod first_command;
 mod texts;
