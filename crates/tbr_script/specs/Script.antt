@@ -1,5 +1,5 @@
 -- The language of scripts, by the bytes of a script.
-use Rattle.std.specs.Prelude.{◌≡◌, ◌≢◌, ℕ, ◌^◌, ◌<◌, ◌≤◌, ◌==◌, if◌then◌else◌, ◌⊎◌, List, [], ◌∷◌, ◌++◌, length, flat_map, codes, chars, encode_utf8, Option, Some, None}
+use Rattle.std.specs.Prelude.{◌≡◌, ◌≢◌, ℕ, ◌^◌, ◌<◌, ◌≤◌, ◌==◌, if◌then◌else◌, ◌⊎◌, List, [], ◌∷◌, ◌++◌, length, flat_map, codes, encode_utf8, Option, Some, None}
 use Rattle.std.specs.Char.{IsScalar}
 use Rattle.std.specs.List.{AllByRecursion as Each}
 use Rattle.std.specs.Str.Parse.{IsNumeral, digits_value}
@@ -69,10 +69,6 @@ pub record IsText (writing text : List ℕ) : Type 0 where
   pub writes : flat_map written pieces ≡ writing
   pub means : flat_map meant pieces ≡ text
 
--- the same text by its characters
-abbrev pub AreCharacters : List ℕ → List ℕ → Type 0
-AreCharacters writing cs = (text : List ℕ) × IsText writing text × (cs ≡ chars text)
-
 -- what stands between two texts
 abbrev pub bar : List ℕ
 bar = codes " | "
@@ -85,11 +81,6 @@ pub record AreSplitTexts (writing one other : List ℕ) : Type 0 where
   pub first : (xs ys : List ℕ) → writing ≡ xs ++ (bar ++ ys) → length before ≤ length xs
   pub one_is : IsText before one
   pub other_is : IsText behind other
-
--- an image by its source and title, as characters
-abbrev pub IsImage : List ℕ → List ℕ → List ℕ → Type 0
-IsImage writing source title =
-    (s : List ℕ) × (t : List ℕ) × AreSplitTexts writing s t × (source ≡ chars s) × (title ≡ chars t)
 
 -- ---- words
 
