@@ -1,5 +1,5 @@
 -- What a contract sees of a stack of renderers.
-use Rattle.std.specs.Prelude.{ℕ, Option, Some, None, List, [], ◌∷◌}
+use Rattle.std.specs.Prelude.{ℕ, Option, Some, None, List, [], ◌∷◌, drop}
 
 -- A renderer of the stack. A link that is open in it stands as the place of its target, from 1, and the one that was
 -- opened last comes first.
@@ -23,13 +23,9 @@ new_stack r = record { levels = new_level r ∷ []; links = []; table_depth = 0 
 abbrev pub pushed : {R : Type 0} → R → Stack R → Stack R
 pushed r s = record s { levels = new_level r ∷ s.levels }
 
-abbrev pub below_top : {R : Type 0} → List (Level R) → List (Level R)
-below_top [] = []
-below_top (level ∷ levels) = levels
-
 -- what is left where the top is taken
 abbrev pub below : {R : Type 0} → Stack R → Stack R
-below s = record s { levels = below_top s.levels }
+below s = record s { levels = drop 1 s.levels }
 
 abbrev pub first_renderer : {R : Type 0} → List (Level R) → Option R
 first_renderer [] = None
@@ -39,10 +35,11 @@ first_renderer (level ∷ levels) = Some level.renderer
 abbrev pub top_of : {R : Type 0} → Stack R → Option R
 top_of s = first_renderer s.levels
 
-abbrev pub with_first : {R : Type 0} → List (Level R) → R → List (Level R)
-with_first [] r = []
-with_first (level ∷ levels) r = record level { renderer = r } ∷ levels
+-- a change of the first
+abbrev pub in_first : {X : Type 0} → (X → X) → List X → List X
+in_first change [] = []
+in_first change (x ∷ xs) = change x ∷ xs
 
 -- another renderer in the place of the top
 abbrev pub with_top : {R : Type 0} → Stack R → R → Stack R
-with_top s r = record s { levels = with_first s.levels r }
+with_top s r = record s { levels = in_first (λ level. record level { renderer = r }) s.levels }

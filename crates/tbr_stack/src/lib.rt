@@ -3,4 +3,6 @@
 
 pub use stack::{Stack, TextRenderer};
 
+mod level;
+mod links;
 mod stack;

@@ -1,15 +1,16 @@
 //! A stack of renderers.
-ghost use Rattle.std.specs.Prelude.{◌≡◌, ◌<◌, Some, length, map, OnOk, OnErr, IfOk, IfErr};
+ghost use Rattle.std.specs.Prelude.{◌≡◌, ◌<◌, Some, length, map, chars, OnOk, OnErr, IfOk, IfErr};
 ghost use Rattle.std.specs.Borrow.{Lends, sem};
 ghost use Rattle.tbr_lines.specs.View.{chars_of};
 ghost use Rattle.tbr_lines.specs.declared.Error.TheVariants as E;
 ghost use Rattle.tbr_stack.specs.contracts.stack.Stack.{the_row};
-ghost use Rattle.tbr_stack.specs.contracts.stack.Level.{the_row as level_row};
+ghost use Rattle.tbr_stack.specs.Links.{first_open, open_links, with_link, without_open_link};
 ghost use Rattle.tbr_stack.specs.Stack.{new_stack, top_of, below, with_top, pushed};
 
+use crate::level::Level;
 use std::alloc::Global;
 use std::marker::Model;
-use tbr_lines::{Error, UnicodeColumns};
+use tbr_lines::{Error, OutOfMemory, UnicodeColumns};
 use tbr_renderer::SubRenderer;
 
 /// Renderers on a stack, and the targets of the links that were started in them.
@@ -28,14 +29,6 @@ pub struct Stack<R> {
     pub table_depth: usize,
 }
 
-/// A renderer of the stack.
-#[derive(Drop)]
-struct Level<R> {
-    renderer: R,
-    /// For each open link the place of its target, from 1. The one opened last comes last.
-    open_links: Vec<usize>,
-}
-
 impl<R> Model for Stack<R> {
     ghost use Rattle.tbr_stack.specs.Stack.{Stack};
 
@@ -44,17 +37,6 @@ impl<R> Model for Stack<R> {
     ghost use Rattle.tbr_stack.specs.View.{stack_of};
 
     ghost view = { λ s. stack_of s };
-}
-
-impl<R> Level<R> {
-    /// The renderer, to be changed.
-    fn renderer_mut(&mut self) -> &mut R
-        ensures* writes_back { sem 𝓛 (Lends (level_row R.row) R.row self.entry result
-            (λ r. record self.old { renderer = r })) }
-        ensures renderer { result.now ≡ self.old.renderer }
-    {
-        &mut self.renderer
-    }
 }
 
 impl<R: Drop> Stack<R> {
@@ -81,10 +63,7 @@ impl<R: Drop> Stack<R> {
         ensures memory { IfErr result (λ e. e ≡ E.OutOfMemory) }
         ensures err { OnErr result (self.new ≡ self.old) }
     {
-        self.levels.push(Level {
-            renderer,
-            open_links: Vec::new(self.alloc),
-        })?;
+        self.levels.push(Level::new(self.alloc, renderer))?;
         Ok(())
     }
 
@@ -96,8 +75,7 @@ impl<R: Drop> Stack<R> {
         ensures top { top_of self.old ≡ Some result }
         ensures below { self.new ≡ below self.old }
     {
-        let Level { renderer, .. } = self.levels.pop().unwrap();
-        renderer
+        self.levels.pop().unwrap().into_renderer()
     }
 
     /// The top. It asks for a depth of at least 1.
@@ -105,7 +83,7 @@ impl<R: Drop> Stack<R> {
         requires { 0 < length self.now.levels }
         ensures { top_of self.now ≡ Some result.now }
     {
-        &self.levels[self.levels.len() - 1].renderer
+        self.levels[self.levels.len() - 1].renderer()
     }
 
     /// The top, to be changed. It asks for a depth of at least 1.
@@ -127,6 +105,46 @@ impl<R: Drop> Stack<R> {
         self.levels.len()
     }
 
+    /// How many links are open in the top. It asks for a depth of at least 1.
+    pub fn open_links(&self) -> usize
+        requires { 0 < length self.now.levels }
+        ensures { result ≡ length (open_links self.now) }
+    {
+        self.levels[self.levels.len() - 1].open_links()
+    }
+
+    /// The place of the target of the link that was opened last in the top, if one is open there.
+    pub(crate) fn last_open_link(&self) -> Option<usize>
+        requires { 0 < length self.now.levels }
+        ensures { result ≡ first_open (open_links self.now) }
+    {
+        self.levels[self.levels.len() - 1].last_open()
+    }
+
+    /// Opens a link in the top. Where memory is refused nothing changes.
+    pub(crate) fn open_link(&mut self, target: &str) -> Result<(), OutOfMemory>
+        requires { 0 < length self.old.levels }
+        ensures ok { OnOk result (self.new ≡ with_link (chars target.now) self.old) }
+        ensures err { OnErr result (self.new ≡ self.old) }
+    {
+        let target = String::from_str(self.alloc, target)?;
+        self.links.reserve(1)?;
+        let place = self.links.len() + 1;
+        let last = self.levels.len() - 1;
+        self.levels[last].open(place)?;
+        self.links.push(target)?;
+        Ok(())
+    }
+
+    /// Closes the link that was opened last in the top, if one is open there.
+    pub(crate) fn close_link(&mut self)
+        requires { 0 < length self.old.levels }
+        ensures { self.new ≡ without_open_link self.old }
+    {
+        let last = self.levels.len() - 1;
+        self.levels[last].close();
+    }
+
     /// The only renderer, and the targets of all links in the order in which these were started. It asks for a depth of
     /// exactly 1.
     pub fn into_inner(self) -> (R, Vec<String>)
@@ -139,7 +157,6 @@ impl<R: Drop> Stack<R> {
             links,
             ..
         } = self;
-        let Level { renderer, .. } = levels.pop().unwrap();
-        (renderer, links)
+        (levels.pop().unwrap().into_renderer(), links)
     }
 }
