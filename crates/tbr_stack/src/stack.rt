@@ -113,6 +113,11 @@ impl<R: Drop> Stack<R> {
         self.levels[self.levels.len() - 1].open_links()
     }
 
+    /// The allocator.
+    pub(crate) fn alloc(&self) -> Global {
+        self.alloc
+    }
+
     /// The place of the target of the link that was opened last in the top, if one is open there.
     pub(crate) fn last_open_link(&self) -> Option<usize>
         requires { 0 < length self.now.levels }
