@@ -7,12 +7,11 @@ use Rattle.tbr_decor.specs.End.{End}
 use Rattle.tbr_decor.specs.Ground.{Ground}
 use Rattle.tbr_decor.specs.declared.colour.Colour.{Colour}
 use Rattle.tbr_decor.specs.Decoration.{Decoration}
-use Rattle.tbr_lines.specs.declared.Error.{Error}
 use Rattle.tbr_renderer.specs.Image.{shown_title}
-use Rattle.tbr_renderer.specs.Decorated.{struck_from, struck_until, asked_to_close, annotated, coloured, uncoloured, Closes, AddsImageBy}
-use Rattle.tbr_renderer.specs.Renderer.{Line, Open, Renderer, Settings, settings_of, has_content, with_line, without_last, without_annotation, ignores}
-use Rattle.tbr_renderer.specs.Flush.{block_lines, Flushes, FlushesBlock}
-use Rattle.tbr_renderer.specs.Steps.{AddsEmptyLine, block_started, StartsBlock, BreaksLineAt, AddsText, AddsTextBy}
+use Rattle.tbr_renderer.specs.Decorated.{struck_from, struck_until, annotated, coloured, uncoloured, AddsImageBy}
+use Rattle.tbr_renderer.specs.Renderer.{Line, Renderer, settings_of, with_line, ignores}
+use Rattle.tbr_renderer.specs.Flush.{Flushes}
+use Rattle.tbr_renderer.specs.Steps.{BreaksLineAt}
 use Rattle.tbr_renderer.specs.Calls.{Call, add_empty_line, new_line, new_line_hard, start_block, start_table, end_block, add_inline_text, push_ws, pop_ws, push_preformat, pop_preformat, record_frag_start, begin, finish, start_strikeout, end_strikeout, add_image, push_colour, pop_colour, add_border, append_subrender, append_vert_row, Does}
 use Rattle.tbr_renderer.specs.Appended.{with_border, border_of_cells, as_text, prefixed, with_divider, with_cell, with_cell_below, with_cells, AppendsCells}
 use Rattle.tbr_lines.specs.Border.{Border}
