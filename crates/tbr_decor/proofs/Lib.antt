@@ -1,2 +1,2 @@
-mod Texts
+pub mod Texts
 pub mod Footnotes

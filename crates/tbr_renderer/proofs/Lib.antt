@@ -12,3 +12,4 @@ pub mod Fits
 pub mod Flushing
 pub mod Texts
 pub mod Writing
+pub mod Steady

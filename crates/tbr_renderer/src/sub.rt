@@ -114,6 +114,18 @@ impl<D: TextDecorator, W: CharWidth> SubRenderer<D, W> {
         self.failure
     }
 
+    /// Makes the renderer fail, as a call of its own that refuses does. One that has failed keeps its first refusal.
+    ///
+    /// It is for a caller whose own call has refused, and whose renderer is not to go on.
+    pub fn fail(&mut self, refusal: Error)
+        ensures live { self.old.failure ≡ None → self.new ≡ record self.old { failure = Some refusal } }
+        ensures failed { (e : Refusal) → self.old.failure ≡ Some e → self.new ≡ self.old }
+    {
+        if self.failure.is_none() {
+            self.failure = Some(refusal);
+        }
+    }
+
     /// How many strikeouts are open.
     pub fn strikeout_depth(&self) -> usize
         ensures { result ≡ self.now.strikeouts }

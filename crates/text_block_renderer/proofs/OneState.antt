@@ -27,7 +27,8 @@ use Rattle.text_block_renderer.specs.Settings.{settled, settled_by_image}
 use Rattle.text_block_renderer.specs.Normal.{WrapsNormally, PushesNormal}
 use Rattle.text_block_renderer.proofs.Moves.{flushed_none}
 use Rattle.text_block_renderer.proofs.Once.{flushes_once}
-use Rattle.text_block_renderer.proofs.Settings.{Steady, started_alike, call_changes}
+use Rattle.tbr_renderer.proofs.Steady.{Steady, started_alike}
+use Rattle.text_block_renderer.proofs.Settings.{call_changes}
 
 -- ---- modes
 

@@ -7,56 +7,24 @@ use Rattle.tbr_decor.specs.End.{End}
 use Rattle.tbr_decor.specs.Ground.{Ground}
 use Rattle.tbr_decor.specs.declared.colour.Colour.{Colour}
 use Rattle.tbr_decor.specs.Decoration.{Decoration}
-use Rattle.tbr_lines.specs.declared.Error.{Error}
 use Rattle.tbr_renderer.specs.Image.{shown_title}
-use Rattle.tbr_renderer.specs.Decorated.{struck_from, struck_until, asked_to_close, annotated, coloured, uncoloured, Closes, AddsImageBy}
-use Rattle.tbr_renderer.specs.Renderer.{Line, Open, Renderer, Settings, settings_of, has_content, with_line, without_last, without_annotation, ignores}
-use Rattle.tbr_renderer.specs.Flush.{block_lines, Flushes, FlushesBlock}
-use Rattle.tbr_renderer.specs.Steps.{AddsEmptyLine, block_started, StartsBlock, BreaksLineAt, AddsText, AddsTextBy}
+use Rattle.tbr_renderer.specs.Decorated.{struck_from, struck_until, annotated, coloured, uncoloured, AddsImageBy}
+use Rattle.tbr_renderer.specs.Renderer.{Line, Renderer, settings_of, with_line, ignores}
+use Rattle.tbr_renderer.specs.Flush.{Flushes}
+use Rattle.tbr_renderer.specs.Steps.{BreaksLineAt}
 use Rattle.tbr_renderer.specs.Calls.{Call, add_empty_line, new_line, new_line_hard, start_block, start_table, end_block, add_inline_text, push_ws, pop_ws, push_preformat, pop_preformat, record_frag_start, begin, finish, start_strikeout, end_strikeout, add_image, push_colour, pop_colour, add_border, append_subrender, append_vert_row, Does}
 use Rattle.tbr_renderer.specs.Appended.{with_border, border_of_cells, as_text, prefixed, with_divider, with_cell, with_cell_below, with_cells, AppendsCells}
 use Rattle.tbr_lines.specs.Border.{Border}
 use Rattle.tbr_lines.specs.Cell.{Cell, horizontal, slash}
 use Rattle.text_block_renderer.specs.Settings.{settled, settled_by_image}
-
--- the settings, and the kept refusal
-pub record Steady (D A : Type 0) : Type 0 where
-  pub settings : Settings D A
-  pub failure : Option Error
-
-abbrev pub steady : {D A : Type 0} → Renderer D A (List A) → Steady D A
-steady r = record { settings = settings_of r; failure = r.failure }
+use Rattle.tbr_renderer.proofs.Steady.{Steady, steady, lines_added, flushed_alike, empty_added, started_alike, text_added, added, taken, closed_alike}
 
 module _ {D A : Type 0} (columns : ℕ → Option ℕ) where
-  pub lines_added : (texts : List (List (Item (List A)))) (r : Renderer D A (List A)) → steady (fold (with_line columns) r texts) ≡ steady r
-  lines_added [] r = refl
-  lines_added (t ∷ ts) r = lines_added ts (with_line columns r t)
-
-  block_flushed : (r s : Renderer D A (List A)) (o : Option (Open (List A))) → FlushesBlock columns r o s → steady s ≡ steady r
-  block_flushed r s None h = ap (λ (q : Renderer D A (List A)). steady q) h
-  block_flushed r s (Some b) h = ap (λ (q : Renderer D A (List A)). steady q) h.is ∙ lines_added (block_lines columns r b h.texts) (record r { block = None })
-
-  pub flushed_alike : (r s : Renderer D A (List A)) → Flushes columns r s → steady s ≡ steady r
-  flushed_alike r s h = block_flushed r s r.block h
-
-  empty_added : (r s : Renderer D A (List A)) → AddsEmptyLine columns r s → steady s ≡ steady r
-  empty_added r s h = ap (λ (q : Renderer D A (List A)). steady q) h.2 ∙ flushed_alike r h.0 h.1
-
-  begun : (r : Renderer D A (List A)) → steady (block_started columns r) ≡ steady r
-  begun r = go (has_content r) refl
-    where
-      go : (b : Bool) → has_content r ≡ b → steady (block_started columns r) ≡ steady r
-      go true e = rw e refl
-      go false e = rw e refl
-
-  pub started_alike : (r s : Renderer D A (List A)) → StartsBlock columns r s → steady s ≡ steady r
-  started_alike r s h = ap (λ (q : Renderer D A (List A)). steady q) h.2 ∙ begun h.0 ∙ flushed_alike r h.0 h.1
-
   border_added : (r m s : Renderer D A (List A)) (b : Border (List A)) → Flushes columns r m → s ≡ with_border columns m b → steady s ≡ steady r
-  border_added r m s b h is = ap (λ (q : Renderer D A (List A)). steady q) is ∙ flushed_alike r m h
+  border_added r m s b h is = ap (λ (q : Renderer D A (List A)). steady q) is ∙ flushed_alike columns r m h
 
   lines_appended : (r m s : Renderer D A (List A)) (texts : List (List (Item (List A)))) → Flushes columns r m → s ≡ fold (with_line columns) m texts → steady s ≡ steady r
-  lines_appended r m s texts h is = ap (λ (q : Renderer D A (List A)). steady q) is ∙ lines_added texts m ∙ flushed_alike r m h
+  lines_appended r m s texts h is = ap (λ (q : Renderer D A (List A)). steady q) is ∙ lines_added columns texts m ∙ flushed_alike columns r m h
 
   divided : (cell : Cell) (r : Renderer D A (List A)) → steady (with_divider columns cell r) ≡ steady r
   divided cell r = go r.options.draw_borders
@@ -66,7 +34,7 @@ module _ {D A : Type 0} (columns : ℕ → Option ℕ) where
       go false = refl
 
   cell_added : (r : Renderer D A (List A)) (lines : List (Line (List A))) → steady (with_cell columns r lines) ≡ steady r
-  cell_added r lines = lines_added (map (as_text r.annotations) lines) r
+  cell_added r lines = lines_added columns (map (as_text r.annotations) lines) r
 
   cells_below : (cells : List (List (Line (List A)))) (r : Renderer D A (List A)) → steady (fold (with_cell_below columns) r cells) ≡ steady r
   cells_below [] r = refl
@@ -79,36 +47,19 @@ module _ {D A : Type 0} (columns : ℕ → Option ℕ) where
 
   cells_appended : (cells : List (List (Line (List A)))) (r s : Renderer D A (List A)) → AppendsCells columns cells r s → steady s ≡ steady r
   cells_appended cells r s h =
-      ap (λ (q : Renderer D A (List A)). steady q) h.2 ∙ divided horizontal (with_cells columns h.0 cells) ∙ cells_added cells h.0 ∙ flushed_alike r h.0 h.1
+      ap (λ (q : Renderer D A (List A)). steady q) h.2 ∙ divided horizontal (with_cells columns h.0 cells) ∙ cells_added cells h.0 ∙ flushed_alike columns r h.0 h.1
 
   broken : (r s : Renderer D A (List A)) (at : Bool) → BreaksLineAt columns at r s → steady s ≡ steady r
-  broken r s true h = empty_added r s h
-  broken r s false h = flushed_alike r s h
-
-  text_added : (preformatted : D → Bool → A) (ignored ended : Bool) (cs : List ℕ) (r s : Renderer D A (List A)) → AddsTextBy columns preformatted ignored ended cs r s → steady s ≡ steady r
-  text_added preformatted true ended cs r s h = ap (λ (q : Renderer D A (List A)). steady q) h
-  text_added preformatted false false cs r s h = ap (λ (q : Renderer D A (List A)). steady q) h.1
-  text_added preformatted false true cs r s h = ap (λ (q : Renderer D A (List A)). steady q) h.2.1 ∙ started_alike r h.0 h.1
+  broken r s true h = empty_added columns r s h
+  broken r s false h = flushed_alike columns r s h
 
   module _ (decoration : Decoration D A) where
-    -- a text, and then a turn of the settings that it leaves
-    added : (cs : List ℕ) (r s : Renderer D A (List A)) → AddsText columns decoration.preformatted cs r s → steady s ≡ steady r
-    added cs r s h = text_added decoration.preformatted (ignores r cs) r.block_ended cs r s h
-
-    taken : (m r : Renderer D A (List A)) → steady m ≡ steady r → steady (without_annotation m) ≡ steady (without_annotation r)
-    taken m r e = ap (λ (x : Steady D A). record x { settings = record x.settings { annotations = without_last x.settings.annotations } }) e
-
-    closed_alike : (closed : End) (r s : Renderer D A (List A)) → Closes columns decoration closed r s → steady s ≡ steady (without_annotation (asked_to_close decoration closed r))
-    closed_alike closed r s h =
-        let q = asked_to_close decoration closed r in
-        ap (λ (p : Renderer D A (List A)). steady p) h.2 ∙ taken h.0 q (added (decoration.end_text r.decorator closed) q h.0 h.1)
-
     image_alike : (source : List ℕ) (title : Option (List ℕ)) (r s : Renderer D A (List A)) → AddsImageBy columns decoration source title r s → steady s ≡ steady (settled_by_image decoration source title r)
     image_alike source None r s h = ap (λ (p : Renderer D A (List A)). steady p) h
     image_alike source (Some title) r s h =
         let image = start.image source title in
         let q = annotated decoration image r in
-        ap (λ (p : Renderer D A (List A)). steady p) h.2 ∙ taken h.0 q (added (decoration.start_text r.decorator image) q h.0 h.1)
+        ap (λ (p : Renderer D A (List A)). steady p) h.2 ∙ taken columns decoration h.0 q (added columns decoration (decoration.start_text r.decorator image) q h.0 h.1)
 
     -- strokes, by the settings alone
     struck_alike : (m r : Renderer D A (List A)) → steady m ≡ steady r → steady (struck_from m) ≡ steady (struck_from r)
@@ -125,24 +76,24 @@ module _ {D A : Type 0} (columns : ℕ → Option ℕ) where
             go false e = rw e refl
 
     pub call_settings : (call : Call (List A)) (r s : Renderer D A (List A)) → Does columns decoration call r s → steady s ≡ steady (settled decoration call r)
-    call_settings add_empty_line r s h = empty_added r s h
-    call_settings new_line r s h = flushed_alike r s h
+    call_settings add_empty_line r s h = empty_added columns r s h
+    call_settings new_line r s h = flushed_alike columns r s h
     call_settings new_line_hard r s h = broken r s h.0 h.2
-    call_settings start_block r s h = started_alike r s h
-    call_settings start_table r s h = started_alike r s h
+    call_settings start_block r s h = started_alike columns r s h
+    call_settings start_table r s h = started_alike columns r s h
     call_settings end_block r s h = ap (λ (q : Renderer D A (List A)). steady q) h
-    call_settings (add_inline_text cs) r s h = text_added decoration.preformatted (ignores r cs) r.block_ended cs r s h
+    call_settings (add_inline_text cs) r s h = text_added columns decoration.preformatted (ignores r cs) r.block_ended cs r s h
     call_settings (push_ws mode) r s h = ap (λ (q : Renderer D A (List A)). steady q) h
     call_settings pop_ws r s h = ap (λ (q : Renderer D A (List A)). steady q) h
     call_settings push_preformat r s h = ap (λ (q : Renderer D A (List A)). steady q) h
     call_settings pop_preformat r s h = ap (λ (q : Renderer D A (List A)). steady q) h
     call_settings (record_frag_start name) r s h = ap (λ (q : Renderer D A (List A)). steady q) h
-    call_settings (begin opened) r s h = added (decoration.start_text r.decorator opened) (annotated decoration opened r) s h
-    call_settings (finish closed) r s h = closed_alike closed r s h
+    call_settings (begin opened) r s h = added columns decoration (decoration.start_text r.decorator opened) (annotated decoration opened r) s h
+    call_settings (finish closed) r s h = closed_alike columns decoration closed r s h
     call_settings start_strikeout r s h =
         let q = annotated decoration start.strikeout r in
-        ap (λ (p : Renderer D A (List A)). steady p) h.2 ∙ struck_alike h.0 q (added (decoration.start_text r.decorator start.strikeout) q h.0 h.1)
-    call_settings end_strikeout r s h = closed_alike end.strikeout (struck_until r) s h
+        ap (λ (p : Renderer D A (List A)). steady p) h.2 ∙ struck_alike h.0 q (added columns decoration (decoration.start_text r.decorator start.strikeout) q h.0 h.1)
+    call_settings end_strikeout r s h = closed_alike columns decoration end.strikeout (struck_until r) s h
     call_settings (add_image source title) r s h = image_alike source (shown_title r.options.img_mode source title) r s h
     call_settings (push_colour g colour) r s h = ap (λ (q : Renderer D A (List A)). steady q) h
     call_settings (pop_colour g) r s h = ap (λ (q : Renderer D A (List A)). steady q) h

@@ -1,0 +1,40 @@
+-- The end of a link.
+use Rattle.std.proofs.Common.{◌≡◌, ℕ, List, [], ◌∷◌, Option, Some, map, sym, refl, ap, ◌∙◌}
+use Rattle.std.specs.Global.{Vec}
+use Rattle.tbr_decor.specs.Decoration.{Decoration}
+use Rattle.tbr_decor.specs.End as end
+use Rattle.tbr_renderer.specs.Calls.{finish, Does}
+use Rattle.tbr_renderer.specs.Meant.{meant}
+use Rattle.tbr_renderer.specs.Renderer.{Renderer, least, block_width}
+use Rattle.tbr_renderer.proofs.Steady.{Steady, closed_alike}
+use Rattle.tbr_stack.specs.Stack.{Level, Stack, top_of}
+use Rattle.tbr_stack.specs.Top.{OfTop, level_meant, stack_meant}
+use Rattle.tbr_stack.specs.Links.{open_in_first, open_links, shown_number}
+
+-- neither the kept refusal nor the columns of blocks are changed
+pub record Steadily {D A T : Type 0} (r q : Renderer D A T) : Type 0 where
+  pub failure : q.failure ≡ r.failure
+  pub columns : block_width q ≡ block_width r
+
+module _ {D A M : Type 0} (f : A → M) where
+  pub ended : (columns : ℕ → Option ℕ) (decoration : Decoration D M) (r q : Renderer D A (Vec A)) → Does columns decoration (finish end.link) (meant f r) (meant f q) → Steadily r q
+  ended columns decoration r q h =
+      let same = closed_alike columns decoration end.link (meant f r) (meant f q) h in
+      record {
+        failure = ap (λ (x : Steady D M). x.failure) same;
+        columns = ap (λ (x : Steady D M). least x.settings.width x.settings.options.wrap_width) same;
+      }
+
+  places_meant : (levels : List (Level (Renderer D A (Vec A)))) → open_in_first (map (level_meant f) levels) ≡ open_in_first levels
+  places_meant [] = refl
+  places_meant (level ∷ levels) = refl
+
+  -- the number that is shown, by what annotations mean
+  pub number_is : (s : Stack (Renderer D A (Vec A))) (r : Renderer D A (Vec A)) (number : Option ℕ) → OfTop (λ top. number ≡ shown_number top (open_links s)) s → top_of s ≡ Some r →
+      number ≡ shown_number (meant f r) (open_links (stack_meant f s))
+  number_is s r number h top =
+      let same : h.0 ≡ r = some_same h.0 r (sym h.1 ∙ top) in
+      h.2 ∙ ap (λ q. shown_number q (open_links s)) same ∙ ap (λ places. shown_number r places) (sym (places_meant s.levels))
+    where
+      some_same : (x y : Renderer D A (Vec A)) → Some x ≡ Some y → x ≡ y
+      some_same x y e = cc

@@ -1,0 +1,83 @@
+-- The top of a stack, and a stack by what its annotations mean.
+use Rattle.std.proofs.Common.{◌≡◌, ℕ, List, [], ◌∷◌, ◌++◌, Some, map, true, false, Result, Ok, Err, sym, subst, refl, ap, ◌∙◌}
+use Rattle.std.specs.Prelude.{OnOk, OnErr, is_ok}
+use Rattle.std.specs.Global.{Vec}
+use Rattle.tbr_renderer.specs.Renderer.{Renderer}
+use Rattle.tbr_renderer.specs.Meant.{meant}
+use Rattle.tbr_stack.specs.Stack.{Level, Stack, first_renderer, top_of, in_first, with_top}
+use Rattle.tbr_stack.specs.Top.{failure_of_first, failure_of, ChangesTop, OfTop, level_meant, stack_meant}
+use Rattle.tbr_stack.specs.Links.{opened, closed, with_link, without_open_link}
+
+-- ---- the top
+
+failure_first : {D A T : Type 0} (levels : List (Level (Renderer D A T))) (r : Renderer D A T) → first_renderer levels ≡ Some r → failure_of_first levels ≡ r.failure
+failure_first [] r h = cc
+failure_first (level ∷ levels) r h = let same : level.renderer ≡ r = cc in ap (λ q. q.failure) same
+
+pub failure_of_top : {D A T : Type 0} (s : Stack (Renderer D A T)) (r : Renderer D A T) → top_of s ≡ Some r → failure_of s ≡ r.failure
+failure_of_top s r h = failure_first s.levels r h
+
+first_opened : {R : Type 0} (place : ℕ) (levels : List (Level R)) → first_renderer (in_first (opened place) levels) ≡ first_renderer levels
+first_opened place [] = refl
+first_opened place (level ∷ levels) = refl
+
+pub top_linked : {R : Type 0} (target : List ℕ) (s : Stack R) → top_of (with_link target s) ≡ top_of s
+top_linked target s = first_opened _ s.levels
+
+-- ---- by what annotations mean
+
+module _ {D A M : Type 0} (f : A → M) where
+  first_meant : (levels : List (Level (Renderer D A (Vec A)))) (r : Renderer D A (Vec A)) → first_renderer levels ≡ Some r → first_renderer (map (level_meant f) levels) ≡ Some (meant f r)
+  first_meant [] r h = cc
+  first_meant (level ∷ levels) r h = let same : level.renderer ≡ r = cc in ap (λ q. Some (meant f q)) same
+
+  pub top_meant : (s : Stack (Renderer D A (Vec A))) (r : Renderer D A (Vec A)) → top_of s ≡ Some r → top_of (stack_meant f s) ≡ Some (meant f r)
+  top_meant s r h = first_meant s.levels r h
+
+  changed_meant : (change : Level (Renderer D A (Vec A)) → Level (Renderer D A (Vec A))) (other : Level (Renderer D M (List M)) → Level (Renderer D M (List M))) →
+      ((l : Level (Renderer D A (Vec A))) → level_meant f (change l) ≡ other (level_meant f l)) →
+      (levels : List (Level (Renderer D A (Vec A)))) → map (level_meant f) (in_first change levels) ≡ in_first other (map (level_meant f) levels)
+  changed_meant change other same [] = refl
+  changed_meant change other same (level ∷ levels) = ap (λ l. l ∷ map (level_meant f) levels) (same level)
+
+  pub linked_meant : (target : List ℕ) (s : Stack (Renderer D A (Vec A))) → stack_meant f (with_link target s) ≡ with_link target (stack_meant f s)
+  linked_meant target s =
+      ap (λ levels. record { levels = levels; links = s.links ++ target ∷ []; table_depth = s.table_depth }) (changed_meant (opened _) (opened _) (λ l. refl) s.levels)
+
+  pub closed_meant : (s : Stack (Renderer D A (Vec A))) → stack_meant f (without_open_link s) ≡ without_open_link (stack_meant f s)
+  closed_meant s = ap (λ levels. record { levels = levels; links = s.links; table_depth = s.table_depth }) (changed_meant closed closed (λ l. refl) s.levels)
+
+  with_top_meant : (s : Stack (Renderer D A (Vec A))) (q : Renderer D A (Vec A)) → stack_meant f (with_top s q) ≡ with_top (stack_meant f s) (meant f q)
+  with_top_meant s q =
+      ap (λ levels. record { levels = levels; links = s.links; table_depth = s.table_depth })
+      (changed_meant (λ l. record l { renderer = q }) (λ l. record l { renderer = meant f q }) (λ l. refl) s.levels)
+
+  module _ (Step : Renderer D M (List M) → Renderer D M (List M) → Type 0) where
+    -- the top makes a step
+    pub changes : (s : Stack (Renderer D A (Vec A))) (r q : Renderer D A (Vec A)) → top_of s ≡ Some r → Step (meant f r) (meant f q) → ChangesTop Step (stack_meant f s) (stack_meant f (with_top s q))
+    changes s r q top step = (meant f r, meant f q, top_meant s r top, step, with_top_meant s q)
+
+    -- behind the opening of a link
+    pub changes_linked : (target : List ℕ) (s l : Stack (Renderer D A (Vec A))) (r q : Renderer D A (Vec A)) → l ≡ with_link target s → top_of l ≡ Some r → Step (meant f r) (meant f q) →
+        ChangesTop Step (with_link target (stack_meant f s)) (stack_meant f (with_top l q))
+    changes_linked target s l r q is top step =
+        subst (λ u. ChangesTop Step u (stack_meant f (with_top l q))) (ap (λ u. stack_meant f u) is ∙ linked_meant target s) (changes l r q top step)
+
+    -- what is so of a step of the top
+    pub step_meant : (P : Renderer D A (Vec A) → Renderer D A (Vec A) → Type 0) → ((r q : Renderer D A (Vec A)) → P r q → Step (meant f r) (meant f q)) →
+        (s t : Stack (Renderer D A (Vec A))) → ChangesTop P s t → ChangesTop Step (stack_meant f s) (stack_meant f t)
+    step_meant P carry s t h = subst (λ u. ChangesTop Step (stack_meant f s) (stack_meant f u)) (sym h.4) (changes s h.0 h.1 h.2 (carry h.0 h.1 h.3))
+
+  pub of_top : (P : Renderer D M (List M) → Type 0) (s : Stack (Renderer D A (Vec A))) (r : Renderer D A (Vec A)) → top_of s ≡ Some r → P (meant f r) → OfTop P (stack_meant f s)
+  of_top P s r top h = (meant f r, top_meant s r top, h)
+
+-- ---- refusals
+
+-- what a result ensures that is known to be one
+pub if_ok : {X E : Type 0} {P : Type 0} (r : Result X E) → true ≡ is_ok r → OnOk r P → P
+if_ok (Ok x) is h = h
+if_ok (Err e) is h = cc
+
+pub if_err : {X E : Type 0} {P : Type 0} (r : Result X E) → false ≡ is_ok r → OnErr r P → P
+if_err (Ok x) is h = cc
+if_err (Err e) is h = h

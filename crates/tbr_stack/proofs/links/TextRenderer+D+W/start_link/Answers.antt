@@ -1,0 +1,34 @@
+use Rattle.std.proofs.Common.{◌≡◌, Some, chars, inl, inr, sym, subst, ap, ◌∙◌}
+use Rattle.std.proofs.lemmas.Result.{on_ok_weaker, on_err_weaker}
+use Rattle.tbr_renderer.specs.Meant.{meant}
+use Rattle.tbr_renderer.proofs.Stages.{on_err}
+use Rattle.tbr_lines.specs.declared.Error.TheVariants.{OutOfMemory}
+use Rattle.tbr_stack.specs.Stack.{top_of}
+use Rattle.tbr_stack.specs.Top.{ChangesTop, stack_meant}
+use Rattle.tbr_stack.proofs.Tops.{failure_of_top, top_linked, changes_linked, step_meant, of_top, if_ok, if_err}
+use Rattle.tbr_stack.proofs.links.TextRenderer+D+W.start_link.Goals as goal
+
+pub returns-in_err-keep-clause-left : goal.returns-in_err-keep-clause-left
+returns-in_err-keep-clause-left g c unfailed =
+    let same = if_err c.open_link-done.result (c.in_err-keep.ensures).result c.open_link-done.ensures.err in
+    let left = step_meant g.D.TextDecorator.meaning (λ r q. q ≡ record r { failure = Some OutOfMemory }) _ (λ r q is. ap (meant g.D.TextDecorator.meaning) is) _ _ (c.in_err-keep.ensures).failed in
+    on_err c.from_residual-in_err-keep.result (inl (subst (λ s. ChangesTop (λ r q. q ≡ record r { failure = Some OutOfMemory }) (stack_meant g.D.TextDecorator.meaning s) (stack_meant g.D.TextDecorator.meaning c.keep.new.self)) same left))
+
+pub returns-clause-ok : goal.returns-clause-ok
+returns-clause-ok g c =
+    let is = (c.in_ok-keep.ensures).ok ∙ if_ok c.open_link-done.result (c.in_ok-keep.ensures).result c.open_link-done.ensures.ok in
+    on_ok_weaker c.start_link.result (λ h. changes_linked g.D.TextDecorator.meaning _ (chars c.args.target.now) c.args.self.now c.keep.new.self c.top_mut.result.now c.start_link.new.self is c.top_mut.ensures.top h) c.start_link.ensures.ok
+
+pub returns-clause-too_narrow : goal.returns-clause-too_narrow
+returns-clause-too_narrow g c unfailed refused =
+    let is = (c.in_ok-keep.ensures).ok ∙ if_ok c.open_link-done.result (c.in_ok-keep.ensures).result c.open_link-done.ensures.ok in
+    let top = sym (top_linked (chars c.args.target.now) c.args.self.now) ∙ sym (ap (λ s. top_of s) is) ∙ c.top_mut.ensures.top in
+    let live = sym (failure_of_top c.args.self.now c.top_mut.result.now top) ∙ unfailed in
+    of_top g.D.TextDecorator.meaning _ c.args.self.now c.top_mut.result.now top (c.start_link.ensures.too_narrow live refused)
+
+pub returns-clause-left : goal.returns-clause-left
+returns-clause-left g c unfailed =
+    let is = (c.in_ok-keep.ensures).ok ∙ if_ok c.open_link-done.result (c.in_ok-keep.ensures).result c.open_link-done.ensures.ok in
+    let top = sym (top_linked (chars c.args.target.now) c.args.self.now) ∙ sym (ap (λ s. top_of s) is) ∙ c.top_mut.ensures.top in
+    let live = sym (failure_of_top c.args.self.now c.top_mut.result.now top) ∙ unfailed in
+    on_err_weaker c.start_link.result (λ h. inr (changes_linked g.D.TextDecorator.meaning _ (chars c.args.target.now) c.args.self.now c.keep.new.self c.top_mut.result.now c.start_link.new.self is c.top_mut.ensures.top h)) (c.start_link.ensures.left live)

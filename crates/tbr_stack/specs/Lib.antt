@@ -1,0 +1,4 @@
+pub mod Stack
+pub mod View
+pub mod Top
+pub mod Links

@@ -1,0 +1,102 @@
+-- The links of a stack.
+use Rattle.std.specs.Prelude.{◌≡◌, ℕ, ◌+◌, ◌⊎◌, if◌then◌else◌, length, Option, Some, None, List, [], ◌∷◌, ◌++◌, drop, codes}
+use Rattle.std.specs.Fmt.{decimal}
+use Rattle.tbr_lines.specs.declared.Error.TheVariants.{OutOfMemory}
+use Rattle.tbr_decor.specs.Decoration.{Decoration}
+use Rattle.tbr_decor.specs.Start as start
+use Rattle.tbr_decor.specs.End as end
+use Rattle.tbr_renderer.specs.Renderer.{Renderer}
+use Rattle.tbr_renderer.specs.Calls.{begin, finish, add_inline_text, Does, IsTooNarrow, StopsAtStage}
+use Rattle.tbr_stack.specs.Stack.{Level, Stack, in_first}
+use Rattle.tbr_stack.specs.Top.{ChangesTop, OfTop}
+
+-- ---- the links that are open in one renderer
+
+-- a link is opened, to the target at a place
+abbrev pub opened : {R : Type 0} → ℕ → Level R → Level R
+opened place level = record level { open_links = place ∷ level.open_links }
+
+-- the link that was opened last is closed, if one is open
+abbrev pub closed : {R : Type 0} → Level R → Level R
+closed level = record level { open_links = drop 1 level.open_links }
+
+abbrev pub first_open : List ℕ → Option ℕ
+first_open [] = None
+first_open (place ∷ places) = Some place
+
+-- ---- and in the top of a stack
+
+-- A link more, which is open in the top. Its target comes behind the others.
+abbrev pub with_link : {R : Type 0} → List ℕ → Stack R → Stack R
+with_link target s =
+    record s { levels = in_first (opened (length s.links + 1)) s.levels; links = s.links ++ target ∷ [] }
+
+-- the link that was opened last in the top is closed, if one is open there
+abbrev pub without_open_link : {R : Type 0} → Stack R → Stack R
+without_open_link s = record s { levels = in_first closed s.levels }
+
+abbrev pub open_in_first : {R : Type 0} → List (Level R) → List ℕ
+open_in_first [] = []
+open_in_first (level ∷ levels) = level.open_links
+
+-- the links that are open in the top
+abbrev pub open_links : {R : Type 0} → Stack R → List ℕ
+open_links s = open_in_first s.levels
+
+-- ---- the calls
+
+-- the text that shows the number of a link, as `[1]`
+abbrev pub link_number : ℕ → List ℕ
+link_number k = codes "[" ++ (decimal k ++ codes "]")
+
+-- The number that is shown where a link ends: with footnotes that of the link that was opened last, if one is open.
+abbrev pub shown_number : {D A T : Type 0} → Renderer D A T → List ℕ → Option ℕ
+shown_number r places = if r.options.include_link_footnotes then first_open places else None
+
+module _ {D A : Type 0} (columns : ℕ → Option ℕ) (decoration : Decoration D A) where
+  abbrev Top : Type 0
+  Top = Renderer D A (List A)
+
+  -- A link starts: it is opened, and then it begins in the top.
+  abbrev pub StartsLink : List ℕ → Stack Top → Stack Top → Type 0
+  StartsLink target s t = ChangesTop (Does columns decoration (begin (start.link target))) (with_link target s) t
+
+  -- A start that refuses opens no link for want of memory, or opens it, and the top stops.
+  abbrev pub StopsToStart : List ℕ → Stack Top → Stack Top → Type 0
+  StopsToStart target s t =
+      ChangesTop (λ r q. q ≡ record r { failure = Some OutOfMemory }) s t
+      ⊎ ChangesTop (StopsAtStage columns decoration (begin (start.link target))) (with_link target s) t
+
+  -- A link ends in a renderer, and its number comes behind it, where one is shown.
+  abbrev pub EndsWith : Option ℕ → Top → Top → Type 0
+  EndsWith None r q = Does columns decoration (finish end.link) r q
+  EndsWith (Some k) r q =
+      (m : Top) × Does columns decoration (finish end.link) r m
+      × Does columns decoration (add_inline_text (link_number k)) m q
+
+  abbrev pub EndIsTooNarrowWith : Option ℕ → Top → Type 0
+  EndIsTooNarrowWith None r = IsTooNarrow columns decoration (finish end.link) r
+  EndIsTooNarrowWith (Some k) r =
+      IsTooNarrow columns decoration (finish end.link) r
+      ⊎ ((m : Top) × Does columns decoration (finish end.link) r m
+      × IsTooNarrow columns decoration (add_inline_text (link_number k)) m)
+
+  abbrev pub StopsToEndWith : Option ℕ → Top → Top → Type 0
+  StopsToEndWith None r q = StopsAtStage columns decoration (finish end.link) r q
+  StopsToEndWith (Some k) r q =
+      StopsAtStage columns decoration (finish end.link) r q
+      ⊎ ((m : Top) × Does columns decoration (finish end.link) r m
+      × StopsAtStage columns decoration (add_inline_text (link_number k)) m q)
+
+  -- The link that was opened last in the top ends, with its number, and is closed.
+  abbrev pub EndsLink : Stack Top → Stack Top → Type 0
+  EndsLink s t =
+      (m : Stack Top) × ChangesTop (λ r q. EndsWith (shown_number r (open_links s)) r q) s m
+      × (t ≡ without_open_link m)
+
+  abbrev pub EndIsTooNarrow : Stack Top → Type 0
+  EndIsTooNarrow s = OfTop (λ r. EndIsTooNarrowWith (shown_number r (open_links s)) r) s
+
+  -- An end that refuses closes no link.
+  abbrev pub StopsToEnd : Stack Top → Stack Top → Type 0
+  StopsToEnd s t = ChangesTop (λ r q. StopsToEndWith (shown_number r (open_links s)) r q) s t

@@ -1,0 +1,32 @@
+-- What the calls on the top make of a stack.
+use Rattle.std.specs.Prelude.{◌≡◌, Option, Some, None, List, [], ◌∷◌, map}
+use Rattle.std.specs.Global.{Vec}
+use Rattle.tbr_lines.specs.declared.Error.{Error}
+use Rattle.tbr_renderer.specs.Renderer.{Renderer}
+use Rattle.tbr_renderer.specs.Meant.{meant}
+use Rattle.tbr_stack.specs.Stack.{Level, Stack, top_of, with_top}
+
+-- the kept refusal of the top
+abbrev pub failure_of_first : {D A T : Type 0} → List (Level (Renderer D A T)) → Option Error
+failure_of_first [] = None
+failure_of_first (level ∷ levels) = level.renderer.failure
+
+abbrev pub failure_of : {D A T : Type 0} → Stack (Renderer D A T) → Option Error
+failure_of s = failure_of_first s.levels
+
+-- The top makes a step, and all else stays.
+abbrev pub ChangesTop : {R : Type 0} → (R → R → Type 0) → Stack R → Stack R → Type 0
+ChangesTop {R} Step s t = (before after : R) × (top_of s ≡ Some before) × Step before after × (t ≡ with_top s after)
+
+-- Something is so of the top.
+abbrev pub OfTop : {R : Type 0} → (R → Type 0) → Stack R → Type 0
+OfTop {R} P s = (top : R) × (top_of s ≡ Some top) × P top
+
+-- ---- a stack by what its annotations mean
+
+abbrev pub level_meant : {D A M : Type 0} → (A → M) → Level (Renderer D A (Vec A)) → Level (Renderer D M (List M))
+level_meant meaning level = record { renderer = meant meaning level.renderer; open_links = level.open_links }
+
+abbrev pub stack_meant : {D A M : Type 0} → (A → M) → Stack (Renderer D A (Vec A)) → Stack (Renderer D M (List M))
+stack_meant meaning s =
+    record { levels = map (level_meant meaning) s.levels; links = s.links; table_depth = s.table_depth }

@@ -1,0 +1,8 @@
+//! Renderers on a stack, and the targets of their links.
+#![tactic(auto)]
+
+pub use stack::{Stack, TextRenderer};
+
+mod level;
+mod links;
+mod stack;

@@ -1,0 +1,166 @@
+//! Links that start and end in the top of a stack.
+ghost use Rattle.std.specs.Prelude.{◌≡◌, ◌≢◌, ◌<◌, ◌≤◌, None, Some, Err, length, chars, codes, IfOk, IfErr, OnOk, OnErr, MatchResult, is_ok};
+ghost use Rattle.tbr_lines.specs.View.{chars_of};
+ghost use Rattle.tbr_lines.specs.declared.Error.TheVariants as E;
+ghost use Rattle.tbr_decor.specs.Decoration.{decoration_of};
+ghost use Rattle.tbr_decor.specs.Start as start;
+ghost use Rattle.tbr_decor.specs.End as end;
+ghost use Rattle.tbr_renderer.specs.Renderer.{block_width};
+ghost use Rattle.tbr_renderer.specs.Calls.{KeepsFailure, Does, IsTooNarrow, StopsAtStage};
+ghost use Rattle.tbr_renderer.specs.Meant.{meant};
+ghost use Rattle.tbr_renderer.specs.Calls as call;
+ghost use Rattle.tbr_stack.specs.Top.{failure_of, ChangesTop, OfTop, stack_meant};
+ghost use Rattle.tbr_stack.specs.Links.{link_number, open_links, shown_number, StartsLink, StopsToStart, EndsWith, EndIsTooNarrowWith, StopsToEndWith, EndsLink, EndIsTooNarrow, StopsToEnd};
+
+use crate::stack::TextRenderer;
+use std::alloc::Global;
+use tbr_decor::TextDecorator;
+use tbr_lines::{CharWidth, Error, OutOfMemory};
+use tbr_renderer::{Renderer, SubRenderer};
+
+impl<D: TextDecorator, W: CharWidth> TextRenderer<D, W> {
+    /// Starts a link in the top, and adds its target to the others. It asks for a depth of at least 1.
+    ///
+    /// It refuses as the top does, and for want of memory, and then the top has failed. A top that had failed answers
+    /// its refusal, and nothing changes. Where memory is refused before the top begins the link, no link is opened, and
+    /// else it is open.
+    pub fn start_link(&mut self, target: &str) -> Result<(), Error>
+        requires { 0 < length self.old.levels }
+        ensures ok { OnOk result (StartsLink W.columns (decoration_of D.TextDecorator) (chars target.now)
+            (stack_meant D.meaning self.old) (stack_meant D.meaning self.new)) }
+        ensures too_narrow { failure_of self.old ≡ None → result ≡ Err E.TooNarrow →
+            OfTop (IsTooNarrow W.columns (decoration_of D.TextDecorator) (call.begin (start.link (chars target.now))))
+            (stack_meant D.meaning self.old) }
+        ensures two_columns { failure_of self.old ≡ None → OfTop (λ r. 2 ≤ block_width r) self.old →
+            result ≢ Err E.TooNarrow }
+        ensures left { failure_of self.old ≡ None → OnErr result (StopsToStart W.columns
+            (decoration_of D.TextDecorator) (chars target.now) (stack_meant D.meaning self.old)
+            (stack_meant D.meaning self.new)) }
+        ensures kept { KeepsFailure failure_of self.old result self.new }
+    {
+        self.refusal()?;
+        let done = self.open_link(target);
+        self.keep(done)?;
+        self.top_mut().start_link(target)
+    }
+
+    /// Ends the link that was opened last in the top, and closes it. With footnotes its number comes as text behind it.
+    /// It asks for a depth of at least 1.
+    ///
+    /// Where no link is open in the top, the top ends one all the same, and no number comes. It refuses as the top does,
+    /// and for want of memory, and then the top has failed and no link was closed. A top that had failed answers its
+    /// refusal, and nothing changes.
+    pub fn end_link(&mut self) -> Result<(), Error>
+        requires { 0 < length self.old.levels }
+        ensures ok { OnOk result (EndsLink W.columns (decoration_of D.TextDecorator)
+            (stack_meant D.meaning self.old) (stack_meant D.meaning self.new)) }
+        ensures too_narrow { failure_of self.old ≡ None → result ≡ Err E.TooNarrow →
+            EndIsTooNarrow W.columns (decoration_of D.TextDecorator) (stack_meant D.meaning self.old) }
+        ensures two_columns { failure_of self.old ≡ None → OfTop (λ r. 2 ≤ block_width r) self.old →
+            result ≢ Err E.TooNarrow }
+        ensures left { failure_of self.old ≡ None → OnErr result (StopsToEnd W.columns
+            (decoration_of D.TextDecorator) (stack_meant D.meaning self.old) (stack_meant D.meaning self.new)) }
+        ensures kept { KeepsFailure failure_of self.old result self.new }
+    {
+        let number = self.shown_number();
+        let alloc = self.alloc();
+        end_with(self.top_mut(), alloc, number)?;
+        self.close_link();
+        Ok(())
+    }
+
+    /// The number that is shown where a link ends, if one is.
+    fn shown_number(&self) -> Option<usize>
+        requires { 0 < length self.now.levels }
+        ensures { OfTop (λ r. result ≡ shown_number r (open_links self.now)) self.now }
+    {
+        if !self.top().options().include_link_footnotes {
+            return None;
+        }
+        self.last_open_link()
+    }
+
+    /// Answers the kept refusal of the top, if there is one.
+    fn refusal(&self) -> Result<(), Error>
+        requires { 0 < length self.now.levels }
+        ensures { MatchResult result (λ _. failure_of self.now ≡ None) (λ e. failure_of self.now ≡ Some e) }
+    {
+        match self.top().failure() {
+            Some(e) => Err(e),
+            None => Ok(()),
+        }
+    }
+
+    /// Keeps in the top that memory was refused.
+    fn keep(&mut self, done: Result<(), OutOfMemory>) -> Result<(), Error>
+        requires depth { 0 < length self.old.levels }
+        requires unfailed { failure_of self.old ≡ None }
+        ensures result { is_ok result ≡ is_ok done }
+        ensures ok { OnOk result (self.new ≡ self.old) }
+        ensures memory { IfErr result (λ e. e ≡ E.OutOfMemory) }
+        ensures failed { OnErr result
+            (ChangesTop (λ r q. q ≡ record r { failure = Some E.OutOfMemory }) self.old self.new) }
+    {
+        let Err(e) = done else {
+            return Ok(());
+        };
+        let e = Error::from(e);
+        self.top_mut().fail(e);
+        Err(e)
+    }
+}
+
+/// Ends a link in a renderer, and adds its number, if one is shown.
+fn end_with<D: TextDecorator, W: CharWidth>(
+    renderer: &mut SubRenderer<D, W>,
+    alloc: Global,
+    number: Option<usize>,
+) -> Result<(), Error>
+    ensures ok { OnOk result (EndsWith W.columns (decoration_of D.TextDecorator) number
+        (meant D.meaning renderer.old) (meant D.meaning renderer.new)) }
+    ensures too_narrow { renderer.old.failure ≡ None → result ≡ Err E.TooNarrow →
+        EndIsTooNarrowWith W.columns (decoration_of D.TextDecorator) number (meant D.meaning renderer.old) }
+    ensures two_columns { renderer.old.failure ≡ None → 2 ≤ block_width renderer.old → result ≢ Err E.TooNarrow }
+    ensures left { renderer.old.failure ≡ None → OnErr result (StopsToEndWith W.columns
+        (decoration_of D.TextDecorator) number (meant D.meaning renderer.old) (meant D.meaning renderer.new)) }
+    ensures kept { KeepsFailure (λ r. r.failure) renderer.old result renderer.new }
+{
+    renderer.end_link()?;
+    match number {
+        Some(k) => add_number(renderer, alloc, k),
+        None => Ok(()),
+    }
+}
+
+/// Adds the number of a link as text. The renderer fails where memory for it is refused.
+fn add_number<D: TextDecorator, W: CharWidth>(
+    renderer: &mut SubRenderer<D, W>,
+    alloc: Global,
+    k: usize,
+) -> Result<(), Error>
+    requires { renderer.old.failure ≡ None }
+    ensures ok { OnOk result (Does W.columns (decoration_of D.TextDecorator) (call.add_inline_text (link_number k))
+        (meant D.meaning renderer.old) (meant D.meaning renderer.new)) }
+    ensures too_narrow { result ≡ Err E.TooNarrow → IsTooNarrow W.columns (decoration_of D.TextDecorator)
+        (call.add_inline_text (link_number k)) (meant D.meaning renderer.old) }
+    ensures two_columns { 2 ≤ block_width renderer.old → result ≢ Err E.TooNarrow }
+    ensures left { OnErr result (StopsAtStage W.columns (decoration_of D.TextDecorator)
+        (call.add_inline_text (link_number k)) (meant D.meaning renderer.old) (meant D.meaning renderer.new)) }
+    ensures failed { IfErr result (λ e. renderer.new.failure ≡ Some e) }
+{
+    match number_text(alloc, k) {
+        Ok(number) => renderer.add_inline_text(number.as_str()),
+        Err(e) => {
+            let e = Error::from(e);
+            renderer.fail(e);
+            Err(e)
+        }
+    }
+}
+
+/// The text that shows a number.
+fn number_text(alloc: Global, k: usize) -> Result<String, OutOfMemory>
+    ensures { IfOk result (λ text. chars_of text ≡ link_number k) }
+{
+    Ok(format!(in alloc; "[{k}]")?)
+}
