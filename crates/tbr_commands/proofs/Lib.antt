@@ -1,0 +1,8 @@
+pub mod Spaced
+pub mod Colours
+pub mod Sizes
+pub mod OptionWords
+pub mod OpeningWords
+pub mod Commands
+pub mod OneCommand
+pub mod OneOpening

@@ -1,0 +1,15 @@
+use Rattle.tbr_script.proofs.Optional.{if_none_mapped}
+use Rattle.tbr_commands.proofs.Commands.{no_level_argument, append_word, cell_word}
+use Rattle.tbr_commands.proofs.command.Command.of_levels.Goals as goal
+
+pub returns-in_ok-parse-in-append-clause-none : goal.returns-in_ok-parse-in-append-clause-none
+returns-in_ok-parse-in-append-clause-none c =
+    if_none_mapped c.in_ok-parse-in-append.field-0 c.map-in-append.result c.map-in-append.ensures.variant
+    (λ n. no_level_argument c.args.line.now c.in-Some.word c.in-Some.argument c.in-Some.ensures.cases append_word c.in-append.is (λ t. n t.0 t.1 t.2))
+    c.in_ok-parse-in-append.ensures.none
+
+pub returns-in-cell-clause-none : goal.returns-in-cell-clause-none
+returns-in-cell-clause-none c =
+    if_none_mapped c.parse-in-cell.result c.map-in-cell.result c.map-in-cell.ensures.variant
+    (λ n. no_level_argument c.args.line.now c.in-Some.word c.in-Some.argument c.in-Some.ensures.cases cell_word c.in-cell.is (λ t. n t.0 t.1 t.2))
+    c.parse-in-cell.ensures.none
