@@ -1,5 +1,5 @@
 //! What a line of a script asks a renderer for.
-ghost use Rattle.std.specs.Prelude.{◌≡◌, ◌≢◌, ℕ, ◌<◌, true, None, Some, Err, OnOk, IfOk, IfSome, IfNone};
+ghost use Rattle.std.specs.Prelude.{◌≡◌, ℕ, ◌<◌, true, None, Some, Err, OnOk, IfOk, IfSome, IfNone};
 ghost use Rattle.tbr_lines.specs.declared.Error.TheVariants as E;
 ghost use Rattle.tbr_commands.specs.declared.request.kind.Kind.TheVariants as kind;
 ghost use Rattle.tbr_commands.specs.Request as asked;
