@@ -60,8 +60,11 @@ impl Command {
         ensures none { IfOk result (λ found.
             IfNone found ((command : asked.Command) → IsOfLevels line.now command → ⊥)) }
     {
+        if let Some(command) = Command::alone(line) {
+            return Ok(Some(command));
+        }
         let Some((word, argument)) = line.split_once(' ') else {
-            return Ok(Command::alone(line));
+            return Ok(None);
         };
         match word {
             "sub" => Ok(parse_size(argument).map(Command::Sub)),
