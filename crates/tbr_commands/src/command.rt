@@ -6,7 +6,7 @@ ghost use Rattle.tbr_commands.specs.Syntax.{IsCellSize, IsOfLevels, IsCommand};
 
 use crate::request::Request;
 use std::alloc::{AllocError, Global};
-use tbr_script::{TextPair, parse_size};
+use tbr_script::{TextPair, Words, parse_size};
 
 /// What a line of a script behind the first command asks for.
 #[derive(Debug, Drop)]
@@ -93,10 +93,12 @@ impl CellSize {
         ensures found { IfSome result (λ cell. IsCellSize writing.now cell.width cell.span) }
         ensures none { IfNone result ((width span : ℕ) → IsCellSize writing.now width span → ⊥) }
     {
-        let (width, span) = writing.split_once(' ')?;
-        Some(CellSize {
-            width: parse_size(width)?,
-            span: parse_size(span)?,
-        })
+        let mut words = Words::of(writing);
+        let width = parse_size(words.next()?)?;
+        let span = parse_size(words.next()?)?;
+        match words.next() {
+            Some(_) => None,
+            None => Some(CellSize { width, span }),
+        }
     }
 }
