@@ -103,7 +103,7 @@ IsCellSize writing width span =
     (digits : List ℕ) × (others : List ℕ) × (words_of writing ≡ digits ∷ others ∷ [])
     × IsSize digits width × IsSize others span
 
--- a line that opens or closes a renderer or a cell, or takes the cells that were closed
+-- a line that opens or closes a block or a cell, or takes the cells that wait
 abbrev pub IsOfLevels : List ℕ → Command → Type 0
 IsOfLevels line (ask request) = ⊥
 IsOfLevels line (sub width) = Behind (codes "sub") line (λ argument. IsSize argument width)
