@@ -6,8 +6,11 @@ use std::test::Fail;
 
 mod blocks;
 mod borders;
+mod cells;
 mod decorated;
 mod first_command;
+mod levels;
+mod prefixed;
 mod texts;
 
 /// A script, and what it tells.

@@ -1,9 +1,4 @@
-pub mod Colours
-pub mod OptionWords
-pub mod OpeningWords
-pub mod Commands
 pub mod Live
 pub mod LinesGive
 pub mod Results
-pub mod OneCommand
 pub mod Once

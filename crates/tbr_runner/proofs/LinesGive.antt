@@ -2,13 +2,14 @@
 use Rattle.std.proofs.Common.{◌≡◌, ℕ, suc, ◌+◌, ◌==◌, true, false, Option, List, [], ◌∷◌, length, Result, Err, refl, sym, subst, inl, inr, arith}
 use Rattle.std.proofs.lemmas.Bool.{false≢true, eqb-true}
 use Rattle.tbr_decor.specs.Decoration.{Decoration}
-use Rattle.tbr_runner.specs.Request.{Request}
+use Rattle.tbr_commands.specs.Request.{Request}
 use Rattle.tbr_script.specs.declared.error.RunError.{RunError}
 use Rattle.tbr_script.specs.declared.error.RunError.TheVariants.{NotACommand}
-use Rattle.tbr_runner.specs.declared.opening.Opening.{Opening}
+use Rattle.tbr_commands.specs.declared.opening.Opening.{Opening}
 use Rattle.tbr_script.specs.Script.{lines_of}
-use Rattle.tbr_runner.specs.Syntax.{IsCommand}
-use Rattle.tbr_runner.specs.Opening.{IsOpening}
+use Rattle.tbr_commands.specs.Command.{ask}
+use Rattle.tbr_commands.specs.Syntax.{IsCommand}
+use Rattle.tbr_commands.specs.Opening.{IsOpening}
 use Rattle.tbr_runner.specs.Progress.{Progress}
 use Rattle.tbr_runner.specs.Meaning.{LineDoes, LineRefuses, Ends, LinesGive, Opens, Begins}
 
@@ -16,7 +17,7 @@ no_length : (n : ℕ) → true ≡ (suc n == 0) → ⊥
 no_length n e = let none : suc n ≡ 0 = eqb-true (suc n) 0 (sym e) in omega (arith, none)
 
 module _ {D M : Type 0} (columns : ℕ → Option ℕ) (decoration : Decoration D M) (p : Progress D M (List M)) (number : ℕ) where
-  pub no_command : (line : List ℕ) → false ≡ (length line == 0) → ((request : Request) → IsCommand line request → ⊥) → LineRefuses columns decoration p number line (NotACommand number)
+  pub no_command : (line : List ℕ) → false ≡ (length line == 0) → ((request : Request) → IsCommand line (ask request) → ⊥) → LineRefuses columns decoration p number line (NotACommand number)
   no_command [] some none = absurd (false≢true some)
   no_command (b ∷ bs) some none = inl (none, refl)
 

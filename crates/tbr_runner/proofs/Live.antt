@@ -14,14 +14,14 @@ use Rattle.text_block_renderer.specs.Settings.{settled, settled_by_image}
 use Rattle.text_block_renderer.specs.Meant.{meant}
 use Rattle.text_block_renderer.specs.Calls.{Call, start_strikeout, end_strikeout, add_image, push_colour, pop_colour, Does}
 use Rattle.text_block_renderer.proofs.Settings.{preformats_behind, call_beside, call_changes}
-use Rattle.tbr_runner.specs.declared.begun.Begun.{Begun}
-use Rattle.tbr_runner.specs.declared.request.layout.Layout.TheVariants.{StartBlock, EndBlock, StartTable, NewLine, HardNewLine, EmptyLine}
-use Rattle.tbr_runner.specs.declared.request.beginning.Beginning.{Beginning}
-use Rattle.tbr_runner.specs.declared.request.beginning.Beginning.TheVariants as beginning
-use Rattle.tbr_runner.specs.declared.request.kind.Kind.{Kind}
-use Rattle.tbr_runner.specs.declared.request.kind.Kind.TheVariants as kind
-use Rattle.tbr_runner.specs.Request.{Request, layout, begin, end, text, fragment, link, image, colour, border, call_of}
-use Rattle.tbr_runner.specs.Begun.{ends_nothing, counted}
+use Rattle.tbr_commands.specs.declared.begun.Begun.{Begun}
+use Rattle.tbr_commands.specs.declared.request.layout.Layout.TheVariants.{StartBlock, EndBlock, StartTable, NewLine, HardNewLine, EmptyLine}
+use Rattle.tbr_commands.specs.declared.request.beginning.Beginning.{Beginning}
+use Rattle.tbr_commands.specs.declared.request.beginning.Beginning.TheVariants as beginning
+use Rattle.tbr_commands.specs.declared.request.kind.Kind.{Kind}
+use Rattle.tbr_commands.specs.declared.request.kind.Kind.TheVariants as kind
+use Rattle.tbr_commands.specs.Request.{Request, layout, begin, end, text, fragment, link, image, colour, border, call_of}
+use Rattle.tbr_commands.specs.Begun.{ends_nothing, counted}
 use Rattle.tbr_runner.specs.Progress.{IsLive}
 
 -- ---- what is counted

@@ -9,24 +9,25 @@ use Rattle.text_block_renderer.specs.Calls.{new_line}
 use Rattle.text_block_renderer.specs.Normal.{WrapsNormally, PushesNormal}
 use Rattle.text_block_renderer.proofs.OneState.{call_once, call_or_not, call_normal}
 use Rattle.tbr_model.specs.declared.white_space.WhiteSpace.TheVariants.{Normal, Pre, PreWrap}
-use Rattle.tbr_runner.specs.declared.begun.Begun.{Begun}
-use Rattle.tbr_runner.specs.declared.request.layout.Layout.{Layout}
-use Rattle.tbr_runner.specs.declared.request.layout.Layout.TheVariants.{StartBlock, EndBlock, StartTable, NewLine, HardNewLine, EmptyLine}
-use Rattle.tbr_runner.specs.declared.request.beginning.Beginning.{Beginning}
-use Rattle.tbr_runner.specs.declared.request.beginning.Beginning.TheVariants as beginning
-use Rattle.tbr_runner.specs.declared.request.kind.Kind.{Kind}
-use Rattle.tbr_runner.specs.declared.request.kind.Kind.TheVariants as kind
-use Rattle.tbr_runner.specs.Request.{Request, layout, begin, end, text, fragment, link, image, colour, border, laid_out, begun_by, end_of, call_of}
-use Rattle.tbr_runner.specs.Syntax.{beginning_name, IsAlone, HasArgument}
+use Rattle.tbr_commands.specs.declared.begun.Begun.{Begun}
+use Rattle.tbr_commands.specs.declared.request.layout.Layout.{Layout}
+use Rattle.tbr_commands.specs.declared.request.layout.Layout.TheVariants.{StartBlock, EndBlock, StartTable, NewLine, HardNewLine, EmptyLine}
+use Rattle.tbr_commands.specs.declared.request.beginning.Beginning.{Beginning}
+use Rattle.tbr_commands.specs.declared.request.beginning.Beginning.TheVariants as beginning
+use Rattle.tbr_commands.specs.declared.request.kind.Kind.{Kind}
+use Rattle.tbr_commands.specs.declared.request.kind.Kind.TheVariants as kind
+use Rattle.tbr_commands.specs.Request.{Request, layout, begin, end, text, fragment, link, image, colour, border, laid_out, begun_by, end_of, call_of}
+use Rattle.tbr_commands.specs.Syntax.{beginning_name, IsAlone, HasArgument}
 use Rattle.tbr_script.specs.declared.error.RunError.{RunError}
-use Rattle.tbr_runner.specs.declared.opening.Decorator.{Decorator}
-use Rattle.tbr_runner.specs.declared.opening.Decorator.TheVariants.{Plain, Trivial, Rich}
-use Rattle.tbr_runner.specs.declared.opening.Opening.{Opening}
+use Rattle.tbr_commands.specs.declared.opening.Decorator.{Decorator}
+use Rattle.tbr_commands.specs.declared.opening.Decorator.TheVariants.{Plain, Trivial, Rich}
+use Rattle.tbr_commands.specs.declared.opening.Opening.{Opening}
 use Rattle.tbr_runner.specs.Decorations.{plain_decoration, trivial_decoration, rich_decoration}
 use Rattle.tbr_runner.specs.Progress.{Progress}
 use Rattle.tbr_runner.specs.Normal.{IsNormalLine}
 use Rattle.tbr_runner.specs.Meaning.{RequestDoes, RequestRefuses, LineDoes, LineRefuses, Ends, LinesGive, opened, OpensUnder, Begins}
-use Rattle.tbr_runner.proofs.OneCommand.{command_once, opening_once}
+use Rattle.tbr_commands.proofs.OneCommand.{request_once}
+use Rattle.tbr_commands.proofs.OneOpening.{opening_once}
 
 -- a line that pushes no other mode
 begins_normal : (T : Type 0) (line : List ℕ) → IsNormalLine line → (what : Beginning) → line ≡ beginning_name what → PushesNormal (begun_by {T = T} what)
@@ -97,7 +98,7 @@ module _ {D M : Type 0} (columns : ℕ → Option ℕ) (decoration : Decoration 
   line_does_once : (p : Progress D M (List M)) (line : List ℕ) (x y : Progress D M (List M)) → WrapsNormally p.renderer → LineDoes columns decoration p line x → LineDoes columns decoration p line y → x ≡ y
   line_does_once p [] x y normal a b = a ∙ sym b
   line_does_once p (c ∷ cs) x y normal a b =
-      does_once p b.0 x y normal (subst (λ request. RequestDoes columns decoration p request x) (command_once (c ∷ cs) a.0 b.0 a.1 b.1) a.2) b.2
+      does_once p b.0 x y normal (subst (λ request. RequestDoes columns decoration p request x) (request_once (c ∷ cs) a.0 b.0 a.1 b.1) a.2) b.2
 
   line_refuses_once : (p : Progress D M (List M)) (number : ℕ) (line : List ℕ) (d e : RunError) → LineRefuses columns decoration p number line d → LineRefuses columns decoration p number line e → d ≡ e
   line_refuses_once p number [] d e a b = absurd a
@@ -105,13 +106,13 @@ module _ {D M : Type 0} (columns : ℕ → Option ℕ) (decoration : Decoration 
   line_refuses_once p number (c ∷ cs) d e (inl a) (inr b) = absurd (a.0 b.0 b.1)
   line_refuses_once p number (c ∷ cs) d e (inr a) (inl b) = absurd (b.0 a.0 a.1)
   line_refuses_once p number (c ∷ cs) d e (inr a) (inr b) =
-      refuses_once p number b.0 d e (subst (λ request. RequestRefuses columns decoration p number request d) (command_once (c ∷ cs) a.0 b.0 a.1 b.1) a.2) b.2
+      refuses_once p number b.0 d e (subst (λ request. RequestRefuses columns decoration p number request d) (request_once (c ∷ cs) a.0 b.0 a.1 b.1) a.2) b.2
 
   line_does_or_refuses : (p : Progress D M (List M)) (number : ℕ) (line : List ℕ) (x : Progress D M (List M)) (e : RunError) → WrapsNormally p.renderer → LineDoes columns decoration p line x → LineRefuses columns decoration p number line e → ⊥
   line_does_or_refuses p number [] x e normal a b = b
   line_does_or_refuses p number (c ∷ cs) x e normal a (inl b) = b.0 a.0 a.1
   line_does_or_refuses p number (c ∷ cs) x e normal a (inr b) =
-      does_or_refuses p number b.0 x e normal (subst (λ request. RequestDoes columns decoration p request x) (command_once (c ∷ cs) a.0 b.0 a.1 b.1) a.2) b.2
+      does_or_refuses p number b.0 x e normal (subst (λ request. RequestDoes columns decoration p request x) (request_once (c ∷ cs) a.0 b.0 a.1 b.1) a.2) b.2
 
   line_normal : (p : Progress D M (List M)) (line : List ℕ) (x : Progress D M (List M)) → WrapsNormally p.renderer → IsNormalLine line → LineDoes columns decoration p line x → WrapsNormally x.renderer
   line_normal p [] x normal is a = subst (λ (q : Progress D M (List M)). WrapsNormally q.renderer) (sym a) normal

@@ -1,8 +1,3 @@
-pub mod Request
-pub mod Syntax
-pub mod Options
-pub mod Opening
-pub mod Begun
 pub mod Progress
 pub mod Decorations
 pub mod Meaning

@@ -7,14 +7,15 @@ use Rattle.text_block_renderer.specs.Flush.{Flushes, FlushIsTooNarrow}
 use Rattle.text_block_renderer.specs.Calls.{Does, IsTooNarrow}
 use Rattle.tbr_script.specs.declared.error.RunError.{RunError}
 use Rattle.tbr_script.specs.declared.error.RunError.TheVariants.{TooNarrow, NotACommand, NothingToEnd}
-use Rattle.tbr_runner.specs.declared.opening.Decorator.{Decorator}
-use Rattle.tbr_runner.specs.declared.opening.Decorator.TheVariants.{Plain, Trivial, Rich}
-use Rattle.tbr_runner.specs.declared.opening.Opening.{Opening}
+use Rattle.tbr_commands.specs.declared.opening.Decorator.{Decorator}
+use Rattle.tbr_commands.specs.declared.opening.Decorator.TheVariants.{Plain, Trivial, Rich}
+use Rattle.tbr_commands.specs.declared.opening.Opening.{Opening}
 use Rattle.tbr_script.specs.Script.{lines_of}
-use Rattle.tbr_runner.specs.Request.{Request, call_of}
-use Rattle.tbr_runner.specs.Syntax.{IsCommand}
-use Rattle.tbr_runner.specs.Opening.{IsOpening}
-use Rattle.tbr_runner.specs.Begun.{nothing_begun, ends_nothing, counted}
+use Rattle.tbr_commands.specs.Request.{Request, call_of}
+use Rattle.tbr_commands.specs.Command.{ask}
+use Rattle.tbr_commands.specs.Syntax.{IsCommand}
+use Rattle.tbr_commands.specs.Opening.{IsOpening}
+use Rattle.tbr_commands.specs.Begun.{nothing_begun, ends_nothing, counted}
 use Rattle.tbr_runner.specs.Progress.{Progress}
 use Rattle.tbr_runner.specs.Decorations.{plain_decoration, trivial_decoration, rich_decoration}
 
@@ -45,14 +46,14 @@ module _ {D M : Type 0} (columns : ℕ → Option ℕ) (decoration : Decoration 
   -- Where a line leads. An empty line is skipped.
   abbrev pub LineDoes : Progress D M (List M) → List ℕ → Progress D M (List M) → Type 0
   LineDoes p [] next = next ≡ p
-  LineDoes p (b ∷ bs) next = (request : Request) × IsCommand (b ∷ bs) request × RequestDoes p request next
+  LineDoes p (b ∷ bs) next = (request : Request) × IsCommand (b ∷ bs) (ask request) × RequestDoes p request next
 
   -- With what the line of this number is refused: it is no command, or its request is refused.
   abbrev pub LineRefuses : Progress D M (List M) → ℕ → List ℕ → RunError → Type 0
   LineRefuses p number [] e = ⊥
   LineRefuses p number (b ∷ bs) e =
-      (((request : Request) → IsCommand (b ∷ bs) request → ⊥) × (e ≡ NotACommand number))
-      ⊎ ((request : Request) × IsCommand (b ∷ bs) request × RequestRefuses p number request e)
+      (((request : Request) → IsCommand (b ∷ bs) (ask request) → ⊥) × (e ≡ NotACommand number))
+      ⊎ ((request : Request) × IsCommand (b ∷ bs) (ask request) × RequestRefuses p number request e)
 
   -- What lines give that follow here, the first of them with this number.
   abbrev pub LinesGive : Progress D M (List M) → ℕ → List (List ℕ) → Result (List ℕ) RunError → Type 0

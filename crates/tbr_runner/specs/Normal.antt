@@ -1,9 +1,9 @@
 -- Scripts whose text is all `Normal`.
 use Rattle.std.specs.Prelude.{◌≡◌, ◌≢◌, ℕ, false, List, codes}
 use Rattle.std.specs.List.{AllByRecursion as Each}
-use Rattle.tbr_runner.specs.declared.opening.Opening.{Opening}
+use Rattle.tbr_commands.specs.declared.opening.Opening.{Opening}
 use Rattle.tbr_script.specs.Script.{lines_of}
-use Rattle.tbr_runner.specs.Opening.{IsOpening}
+use Rattle.tbr_commands.specs.Opening.{IsOpening}
 
 -- a line that has no option `overflow`, and pushes no mode but `normal`
 pub record IsNormalLine (line : List ℕ) : Type 0 where

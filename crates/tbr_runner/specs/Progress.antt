@@ -3,7 +3,7 @@ use Rattle.std.specs.Prelude.{◌≡◌, true, None, List}
 use Rattle.std.specs.Global.{Vec}
 use Rattle.text_block_renderer.specs.Renderer.{Renderer}
 use Rattle.text_block_renderer.specs.Meant.{meant}
-use Rattle.tbr_runner.specs.declared.begun.Begun.{Begun}
+use Rattle.tbr_commands.specs.declared.begun.Begun.{Begun}
 
 -- at a renderer, with what it has begun and not ended
 pub record Progress (D A T : Type 0) : Type 0 where

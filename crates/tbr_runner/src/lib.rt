@@ -4,10 +4,6 @@
 pub use laws::a_script_gives_one_thing;
 pub use runner::run;
 
-mod begun;
 mod laws;
-mod opening;
-mod options;
 mod program;
-mod request;
 mod runner;

@@ -2,15 +2,14 @@
 ghost use Rattle.std.specs.Prelude.{◌≡◌, ◌≢◌, ◌<◌, Some, Ok, Err, IfOk, IfErr, string_bytes};
 ghost use Rattle.tbr_decor.specs.Decoration.{decoration_of};
 ghost use Rattle.text_block_renderer.specs.Renderer.{new_renderer};
-ghost use Rattle.tbr_runner.specs.Begun.{nothing_begun};
-ghost use Rattle.tbr_runner.specs.Request.{request_of};
+ghost use Rattle.tbr_commands.specs.Begun.{nothing_begun};
+ghost use Rattle.tbr_commands.specs.Request.{request_of};
 ghost use Rattle.tbr_runner.specs.Progress.{progress_meant};
 ghost use Rattle.tbr_runner.specs.Meaning.{RequestDoes, RequestRefuses, LineDoes, LineRefuses, Ends};
 
-use crate::begun::Begun;
-use crate::request::Request;
 use std::alloc::Global;
 use std::marker::Model;
+use tbr_commands::{Begun, Command, Request};
 use tbr_decor::TextDecorator;
 use tbr_lines::CharWidth;
 use tbr_script::RunError;
@@ -66,9 +65,9 @@ impl<D: TextDecorator, W: CharWidth> Program<D, W> {
         if line.is_empty() {
             return Ok(self);
         }
-        match Request::parse(alloc, line)? {
-            Some(request) => self.call(number, &request),
-            None => Err(RunError::NotACommand(number)),
+        match Command::parse(alloc, line)? {
+            Some(Command::Ask(request)) => self.call(number, &request),
+            _ => Err(RunError::NotACommand(number)),
         }
     }
 

@@ -10,9 +10,9 @@ ghost use Rattle.tbr_runner.specs.Meaning.{LinesGive, opened, Opens, Gives};
 ghost use Rattle.tbr_script.specs.declared.error.RunError.{RunError as Refusal};
 ghost use Rattle.tbr_script.specs.Refusal.{IsOfScript};
 
-use crate::opening::{Decorator, Opening};
 use crate::program::Program;
 use std::alloc::Global;
+use tbr_commands::{Decorator, Opening};
 use tbr_decor::{PlainDecorator, RichDecorator, TextDecorator, TrivialDecorator};
 use tbr_lines::{CharWidth, UnicodeColumns};
 use tbr_script::{RunError, Sink, Source, split_line, write_all};

@@ -20,7 +20,11 @@ lines_of (b ∷ bs) = if b == newline_character then [] ∷ lines_of bs else ont
 abbrev pub IsNumber : List ℕ → Type 0
 IsNumber digits = IsNumeral 10 digits × (digits_value 10 digits < 2 ^ 64)
 
--- the same of a value up to 255
+-- a size by its digits, which is at least 1
+abbrev pub IsSize : List ℕ → ℕ → Type 0
+IsSize digits size = IsNumber digits × (size ≡ digits_value 10 digits) × (0 < size)
+
+-- one or more decimal digits of a value up to 255
 abbrev pub IsByte : List ℕ → Type 0
 IsByte digits = IsNumeral 10 digits × (digits_value 10 digits < 2 ^ 8)
 

@@ -3,16 +3,16 @@
 
 pub use error::RunError;
 pub use escape::unescape;
-pub use image::Image;
 pub use line::split_line;
-pub use number::{parse_byte, parse_number};
+pub use number::{parse_byte, parse_number, parse_size};
 pub use streams::{Failed, Sink, Source, StdSink, StdSource, write_all};
+pub use text_pair::TextPair;
 pub use words::Words;
 
 mod error;
 mod escape;
-mod image;
 mod line;
 mod number;
 mod streams;
+mod text_pair;
 mod words;

@@ -1,7 +1,8 @@
 //! Numbers of a script.
+ghost use Rattle.std.specs.Prelude.{ℕ, IfSome, IfNone};
 ghost use Rattle.std.specs.Option.{SomeIff};
 ghost use Rattle.std.specs.Str.Parse.{digits_value};
-ghost use Rattle.tbr_script.specs.Script.{IsNumber, IsByte, NamesCharacter};
+ghost use Rattle.tbr_script.specs.Script.{IsNumber, IsSize, IsByte, NamesCharacter};
 
 /// The value of decimal digits. There is none without a digit, with anything else, and past `usize`.
 pub fn parse_number(digits: &str) -> Option<usize>
@@ -12,6 +13,14 @@ pub fn parse_number(digits: &str) -> Option<usize>
         return None;
     }
     digits.parse::<usize>().ok()
+}
+
+/// The size that decimal digits are: the same of at least 1.
+pub fn parse_size(digits: &str) -> Option<usize>
+    ensures found { IfSome result (λ size. IsSize digits.now size) }
+    ensures none { IfNone result ((size : ℕ) → IsSize digits.now size → ⊥) }
+{
+    parse_number(digits).filter(|size| *size > 0)
 }
 
 /// The same up to 255.

@@ -1,5 +1,5 @@
 use Rattle.tbr_decor.specs.Decoration.{decoration_of}
-use Rattle.tbr_runner.specs.Request.{request_of}
+use Rattle.tbr_commands.specs.Request.{request_of}
 use Rattle.tbr_runner.proofs.Live.{still_live}
 use Rattle.tbr_runner.proofs.program.Program.call.Goals as goal
 

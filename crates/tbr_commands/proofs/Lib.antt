@@ -1,0 +1,7 @@
+pub mod Colours
+pub mod CellSizes
+pub mod OptionWords
+pub mod OpeningWords
+pub mod Commands
+pub mod OneCommand
+pub mod OneOpening

@@ -1,0 +1,96 @@
+-- What a script has begun and not ended yet.
+use Rattle.std.specs.Prelude.{ℕ, suc, ◌-◌, ◌==◌, Bool, false, Option, None, Some}
+use Rattle.tbr_decor.specs.Ground as ground
+use Rattle.tbr_commands.specs.Request.{Request, begin, end, link, colour}
+use Rattle.tbr_commands.specs.declared.begun.Begun.{Begun}
+use Rattle.tbr_commands.specs.declared.request.beginning.Beginning.{Beginning}
+use Rattle.tbr_commands.specs.declared.request.beginning.Beginning.TheVariants as beginning
+use Rattle.tbr_commands.specs.declared.request.kind.Kind.{Kind}
+use Rattle.tbr_commands.specs.declared.request.kind.Kind.TheVariants.{Mode, Preformat, Link, Emphasis, Strong, Strikeout, Code, Superscript, Colour, Background}
+
+abbrev pub nothing_begun : Begun
+nothing_begun = record {
+  modes = 0;
+  preformats = 0;
+  links = 0;
+  emphases = 0;
+  strongs = 0;
+  strikeouts = 0;
+  codes = 0;
+  superscripts = 0;
+  colours = 0;
+  backgrounds = 0;
+}
+
+-- how many of a kind are begun
+abbrev pub count : Begun → Kind → ℕ
+count begun Mode = begun.modes
+count begun Preformat = begun.preformats
+count begun Link = begun.links
+count begun Emphasis = begun.emphases
+count begun Strong = begun.strongs
+count begun Strikeout = begun.strikeouts
+count begun Code = begun.codes
+count begun Superscript = begun.superscripts
+count begun Colour = begun.colours
+count begun Background = begun.backgrounds
+
+abbrev pub with_count : Begun → Kind → ℕ → Begun
+with_count begun Mode n = record begun { modes = n }
+with_count begun Preformat n = record begun { preformats = n }
+with_count begun Link n = record begun { links = n }
+with_count begun Emphasis n = record begun { emphases = n }
+with_count begun Strong n = record begun { strongs = n }
+with_count begun Strikeout n = record begun { strikeouts = n }
+with_count begun Code n = record begun { codes = n }
+with_count begun Superscript n = record begun { superscripts = n }
+with_count begun Colour n = record begun { colours = n }
+with_count begun Background n = record begun { backgrounds = n }
+
+-- ---- what a request begins, and what it ends
+
+abbrev pub kind_of : Beginning → Kind
+kind_of (beginning.Mode mode) = Mode
+kind_of beginning.Preformat = Preformat
+kind_of beginning.Emphasis = Emphasis
+kind_of beginning.Strong = Strong
+kind_of beginning.Strikeout = Strikeout
+kind_of beginning.Code = Code
+kind_of beginning.Superscript = Superscript
+
+abbrev pub in_colour : ground.Ground → Kind
+in_colour ground.text = Colour
+in_colour ground.background = Background
+
+abbrev pub begins : Request → Option Kind
+begins (begin what) = Some (kind_of what)
+begins (link target) = Some Link
+begins (colour g c) = Some (in_colour g)
+begins other = None
+
+-- The end of a block is none of these: it may always come.
+abbrev pub ends : Request → Option Kind
+ends (end what) = Some what
+ends other = None
+
+-- ---- counting
+
+abbrev pub lacks : Begun → Option Kind → Bool
+lacks begun None = false
+lacks begun (Some kind) = count begun kind == 0
+
+-- whether a request ends what wasn't begun, or was ended already
+abbrev pub ends_nothing : Begun → Request → Bool
+ends_nothing begun request = lacks begun (ends request)
+
+abbrev pub more : Begun → Option Kind → Begun
+more begun None = begun
+more begun (Some kind) = with_count begun kind (suc (count begun kind))
+
+abbrev pub less : Begun → Option Kind → Begun
+less begun None = begun
+less begun (Some kind) = with_count begun kind (count begun kind - 1)
+
+-- what has begun behind a request
+abbrev pub counted : Begun → Request → Begun
+counted begun request = less (more begun (begins request)) (ends request)

@@ -1,0 +1,6 @@
+pub mod Request
+pub mod Command
+pub mod Syntax
+pub mod Options
+pub mod Opening
+pub mod Begun

@@ -1,0 +1,122 @@
+-- How each command is written.
+use Rattle.std.specs.Prelude.{◌≡◌, ◌⊎◌, ℕ, List, [], ◌∷◌, ◌++◌, None, Some, codes}
+use Rattle.std.specs.Str.{IsUtf8}
+use Rattle.std.specs.Str.Parse.{digits_value}
+use Rattle.tbr_model.specs.declared.white_space.WhiteSpace.{WhiteSpace}
+use Rattle.tbr_model.specs.declared.white_space.WhiteSpace.TheVariants.{Normal, Pre, PreWrap}
+use Rattle.tbr_decor.specs.declared.colour.Colour.{Colour}
+use Rattle.tbr_decor.specs.Ground as ground
+use Rattle.tbr_script.specs.Script.{IsNumber, IsSize, IsByte, IsText, AreSplitTexts, words_of}
+use Rattle.tbr_commands.specs.Request.{Request, layout, begin, end, text, fragment, link, image, colour, border}
+use Rattle.tbr_commands.specs.Command.{Command, ask, sub, append, cell, end_cell, vertical_row}
+use Rattle.tbr_commands.specs.declared.request.layout.Layout.{Layout}
+use Rattle.tbr_commands.specs.declared.request.layout.Layout.TheVariants.{StartBlock, EndBlock, StartTable, NewLine, HardNewLine, EmptyLine}
+use Rattle.tbr_commands.specs.declared.request.beginning.Beginning.{Beginning}
+use Rattle.tbr_commands.specs.declared.request.beginning.Beginning.TheVariants as beginning
+use Rattle.tbr_commands.specs.declared.request.kind.Kind.{Kind}
+use Rattle.tbr_commands.specs.declared.request.kind.Kind.TheVariants as kind
+
+-- a part of a colour
+abbrev pub IsPart : List ℕ → ℕ → Type 0
+IsPart digits part = IsByte digits × (part ≡ digits_value 10 digits)
+
+-- a colour by its red, green and blue parts, with a space between two
+abbrev pub IsColour : List ℕ → Colour → Type 0
+IsColour writing c =
+    (red : List ℕ) × (green : List ℕ) × (blue : List ℕ)
+    × (writing ≡ red ++ (codes " " ++ (green ++ (codes " " ++ blue))))
+    × IsPart red c.r × IsPart green c.g × IsPart blue c.b
+
+-- columns by their number, which may be 0
+abbrev pub AreColumns : List ℕ → ℕ → Type 0
+AreColumns digits columns = IsNumber digits × (columns ≡ digits_value 10 digits)
+
+-- ---- names
+
+abbrev pub layout_name : Layout → List ℕ
+layout_name StartBlock = codes "block"
+layout_name EndBlock = codes "endblock"
+layout_name StartTable = codes "table"
+layout_name NewLine = codes "line"
+layout_name HardNewLine = codes "hardline"
+layout_name EmptyLine = codes "empty"
+
+abbrev pub mode_name : WhiteSpace → List ℕ
+mode_name Normal = codes "normal"
+mode_name Pre = codes "pre"
+mode_name PreWrap = codes "prewrap"
+
+abbrev pub beginning_name : Beginning → List ℕ
+beginning_name (beginning.Mode mode) = codes "ws " ++ mode_name mode
+beginning_name beginning.Preformat = codes "pre"
+beginning_name beginning.Emphasis = codes "em"
+beginning_name beginning.Strong = codes "strong"
+beginning_name beginning.Strikeout = codes "strike"
+beginning_name beginning.Code = codes "code"
+beginning_name beginning.Superscript = codes "super"
+
+abbrev pub ending_name : Kind → List ℕ
+ending_name kind.Mode = codes "endws"
+ending_name kind.Preformat = codes "endpre"
+ending_name kind.Link = codes "endlink"
+ending_name kind.Emphasis = codes "endem"
+ending_name kind.Strong = codes "endstrong"
+ending_name kind.Strikeout = codes "endstrike"
+ending_name kind.Code = codes "endcode"
+ending_name kind.Superscript = codes "endsuper"
+ending_name kind.Colour = codes "endcolour"
+ending_name kind.Background = codes "endbg"
+
+-- ---- requests
+
+-- a name alone
+abbrev pub IsAlone : List ℕ → Request → Type 0
+IsAlone line (layout what) = line ≡ layout_name what
+IsAlone line (begin what) = line ≡ beginning_name what
+IsAlone line (end what) = line ≡ ending_name what
+IsAlone line (border None) = line ≡ codes "border"
+IsAlone line other = ⊥
+
+-- a word, a space, and what follows it
+abbrev pub Behind : List ℕ → List ℕ → (List ℕ → Type 0) → Type 0
+Behind word line IsArgument = (argument : List ℕ) × (line ≡ word ++ (codes " " ++ argument)) × IsArgument argument
+
+-- a word and an argument
+abbrev pub HasArgument : List ℕ → Request → Type 0
+HasArgument line (text t) = Behind (codes "text") line (λ argument. IsText argument t)
+HasArgument line (fragment name) = Behind (codes "frag") line (λ argument. IsText argument name)
+HasArgument line (link target) = Behind (codes "link") line (λ argument. IsText argument target)
+HasArgument line (image source title) = Behind (codes "image") line (λ argument. AreSplitTexts argument source title)
+HasArgument line (colour ground.text c) = Behind (codes "colour") line (λ argument. IsColour argument c)
+HasArgument line (colour ground.background c) = Behind (codes "bg") line (λ argument. IsColour argument c)
+HasArgument line (border (Some columns)) = Behind (codes "border") line (λ argument. AreColumns argument columns)
+HasArgument line other = ⊥
+
+abbrev pub IsRequest : List ℕ → Request → Type 0
+IsRequest line request = IsAlone line request ⊎ HasArgument line request
+
+-- ---- commands
+
+-- the size of a cell by its words: a width and a span
+abbrev pub IsCellSize : List ℕ → ℕ → ℕ → Type 0
+IsCellSize writing width span =
+    (digits : List ℕ) × (others : List ℕ) × (words_of writing ≡ digits ∷ others ∷ [])
+    × IsSize digits width × IsSize others span
+
+-- a line that opens or closes a block or a cell, or takes the cells that wait
+abbrev pub IsOfLevels : List ℕ → Command → Type 0
+IsOfLevels line (ask request) = ⊥
+IsOfLevels line (sub width) = Behind (codes "sub") line (λ argument. IsSize argument width)
+IsOfLevels line (append first others) = Behind (codes "append") line (λ argument. AreSplitTexts argument first others)
+IsOfLevels line (cell width span) = Behind (codes "cell") line (λ argument. IsCellSize argument width span)
+IsOfLevels line end_cell = line ≡ codes "endcell"
+IsOfLevels line vertical_row = line ≡ codes "vrow"
+
+abbrev pub IsWritten : List ℕ → Command → Type 0
+IsWritten line (ask request) = IsRequest line request
+IsWritten line command = IsOfLevels line command
+
+-- A line that asks for this. A line that isn't UTF-8 asks for nothing.
+pub record IsCommand (line : List ℕ) (command : Command) : Type 0 where
+  pub utf8 : IsUtf8 line
+  pub writes : IsWritten line command

@@ -1,0 +1,104 @@
+//! What a line of a script asks for.
+ghost use Rattle.std.specs.Prelude.{◌≢◌, ℕ, IfOk, IfSome, IfNone, codes};
+ghost use Rattle.tbr_commands.specs.Command as asked;
+ghost use Rattle.tbr_commands.specs.Command.{command_of, IsSized};
+ghost use Rattle.tbr_commands.specs.Syntax.{IsCellSize, IsOfLevels, IsCommand};
+
+use crate::request::Request;
+use std::alloc::{AllocError, Global};
+use tbr_script::{TextPair, Words, parse_size};
+
+/// What a line of a script behind the first command asks for.
+#[derive(Debug, Drop)]
+pub enum Command {
+    /// One call of the renderer that is open.
+    Ask(Request),
+    /// A block of so many columns, at least 1, opens inside the renderer that is open.
+    Sub(usize),
+    /// The block that is open closes. Its lines go into the renderer outside, each behind a prefix: that of the first
+    /// line, and that of all others.
+    Append(TextPair),
+    /// A cell opens inside the renderer that is open.
+    Cell(CellSize),
+    /// The cell that is open closes, and waits.
+    EndCell,
+    /// The cells that wait go into the renderer that is open, one below another.
+    VerticalRow,
+}
+
+/// How much of a row a cell takes.
+#[derive(Clone, Copy, Debug, PartialEq, Eq)]
+pub struct CellSize {
+    /// Its columns, at least 1.
+    pub width: usize,
+    /// The rows that it takes, at least 1.
+    pub span: usize,
+}
+
+impl Command {
+    /// What a line asks for, without its newline. `None` where it is no command.
+    pub fn parse(alloc: Global, line: &[u8]) -> Result<Option<Command>, AllocError>
+        ensures command { IfOk result (λ found.
+            IfSome found (λ command. IsCommand line.now (command_of command))) }
+        ensures sized { IfOk result (λ found. IfSome found (λ command. IsSized (command_of command))) }
+        ensures none { IfOk result (λ found.
+            IfNone found ((command : asked.Command) → IsCommand line.now command → ⊥)) }
+    {
+        let Ok(line) = str::from_utf8(line) else {
+            return Ok(None);
+        };
+        match Request::parse(alloc, line)? {
+            Some(request) => Ok(Some(Command::Ask(request))),
+            None => Command::of_levels(alloc, line),
+        }
+    }
+
+    /// The same of a line that opens or closes a block or a cell, or takes the cells that wait.
+    fn of_levels(alloc: Global, line: &str) -> Result<Option<Command>, AllocError>
+        ensures found { IfOk result (λ found.
+            IfSome found (λ command. IsOfLevels line.now (command_of command))) }
+        ensures none { IfOk result (λ found.
+            IfNone found ((command : asked.Command) → IsOfLevels line.now command → ⊥)) }
+    {
+        if let Some(command) = Command::alone(line) {
+            return Ok(Some(command));
+        }
+        let Some((word, argument)) = line.split_once(' ') else {
+            return Ok(None);
+        };
+        match word {
+            "sub" => Ok(parse_size(argument).map(Command::Sub)),
+            "append" => Ok(TextPair::parse(alloc, argument)?.map(Command::Append)),
+            "cell" => Ok(CellSize::parse(argument).map(Command::Cell)),
+            _ => Ok(None),
+        }
+    }
+
+    /// The same of such a line without an argument.
+    fn alone(line: &str) -> Option<Command>
+        ensures found { IfSome result (λ command. IsOfLevels line.now (command_of command)) }
+        ensures none { IfNone result ((line.now ≢ codes "endcell") × (line.now ≢ codes "vrow")) }
+    {
+        match line {
+            "endcell" => Some(Command::EndCell),
+            "vrow" => Some(Command::VerticalRow),
+            _ => None,
+        }
+    }
+}
+
+impl CellSize {
+    /// The width and the span that two numbers are, with exactly one space between them, if they are such.
+    fn parse(writing: &str) -> Option<CellSize>
+        ensures found { IfSome result (λ cell. IsCellSize writing.now cell.width cell.span) }
+        ensures none { IfNone result ((width span : ℕ) → IsCellSize writing.now width span → ⊥) }
+    {
+        let mut words = Words::of(writing);
+        let width = parse_size(words.next()?)?;
+        let span = parse_size(words.next()?)?;
+        match words.next() {
+            Some(_) => None,
+            None => Some(CellSize { width, span }),
+        }
+    }
+}

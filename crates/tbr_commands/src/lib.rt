@@ -1,0 +1,16 @@
+//! What the lines of a script ask for.
+#![tactic(auto)]
+
+pub use begun::Begun;
+pub use command::{CellSize, Command};
+pub use opening::{Decorator, Opening};
+pub use request::Request;
+pub use request::beginning::Beginning;
+pub use request::kind::Kind;
+pub use request::layout::Layout;
+
+mod begun;
+mod command;
+mod opening;
+mod options;
+mod request;

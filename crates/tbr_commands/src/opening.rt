@@ -1,0 +1,82 @@
+//! The first command of a script.
+ghost use Rattle.std.specs.Prelude.{◌≡◌, ◌≢◌, ◌<◌, Some, IfSome, IfNone};
+ghost use Rattle.tbr_commands.specs.Opening.{name_of, AsksFor, IsOpening};
+ghost use Rattle.tbr_commands.specs.declared.opening.Opening.{Opening as Meant};
+ghost use Rattle.tbr_commands.specs.declared.opening.Decorator.{Decorator as Name};
+
+use crate::options::parse_options;
+use tbr_renderer::RenderOptions;
+use tbr_script::{Words, parse_size};
+
+/// A decorator, by its name.
+#[derive(Clone, Copy, Debug, PartialEq, Eq)]
+pub enum Decorator {
+    /// `PlainDecorator`.
+    Plain,
+    /// `TrivialDecorator`.
+    Trivial,
+    /// `RichDecorator`.
+    Rich,
+}
+
+/// What the first command asks for.
+#[derive(Debug, Drop)]
+pub struct Opening {
+    /// The columns of the renderer, at least 1.
+    pub width: usize,
+    /// The decorator of its texts.
+    pub decorator: Decorator,
+    /// What the renderer is told to do. A wrap width is at least 1.
+    pub options: RenderOptions,
+}
+
+impl Decorator {
+    /// The decorator of a name, if there is one.
+    fn named(name: &str) -> Option<Decorator>
+        ensures found { IfSome result (λ decorator. name.now ≡ name_of decorator) }
+        ensures none { IfNone result ((decorator : Name) → name.now ≢ name_of decorator) }
+    {
+        match name {
+            "plain" => Some(Decorator::Plain),
+            "trivial" => Some(Decorator::Trivial),
+            "rich" => Some(Decorator::Rich),
+            _ => None,
+        }
+    }
+}
+
+impl Opening {
+    /// The first command of a script that a line is, without its newline. `None` where it is none.
+    pub fn parse(line: &[u8]) -> Option<Opening>
+        ensures found { IfSome result (λ opening. IsOpening line.now opening) }
+        ensures width { IfSome result (λ opening. 0 < opening.width) }
+        ensures wrap_width { IfSome result (λ opening. opening.options.wrap_width ≢ Some 0) }
+        ensures none { IfNone result ((opening : Meant) → IsOpening line.now opening → ⊥) }
+    {
+        let Ok(line) = str::from_utf8(line) else {
+            return None;
+        };
+        let mut words = Words::of(line);
+        if words.next()? != "new" {
+            return None;
+        }
+        Opening::behind_new(words)
+    }
+
+    /// The same of what stands behind `new`.
+    fn behind_new(mut words: Words<'_>) -> Option<Opening>
+        ensures found { IfSome result (λ opening. AsksFor words.entry opening) }
+        ensures width { IfSome result (λ opening. 0 < opening.width) }
+        ensures wrap_width { IfSome result (λ opening. opening.options.wrap_width ≢ Some 0) }
+        ensures none { IfNone result ((opening : Meant) → AsksFor words.entry opening → ⊥) }
+    {
+        let width = parse_size(words.next()?)?;
+        let decorator = Decorator::named(words.next()?)?;
+        let options = parse_options(words)?;
+        Some(Opening {
+            width,
+            decorator,
+            options,
+        })
+    }
+}

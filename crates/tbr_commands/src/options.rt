@@ -1,0 +1,81 @@
+//! The options of a script's first command.
+ghost use Rattle.std.specs.Prelude.{◌≡◌, ◌≢◌, ℕ, Some, IfSome, IfNone};
+ghost use Rattle.tbr_commands.specs.Options.{IsSetting, IsWrap, with_setting, AreOptions};
+ghost use Rattle.tbr_commands.specs.declared.options.Setting.{Setting as Meant};
+ghost use Rattle.tbr_commands.specs.declared.options.Setting.TheVariants as setting;
+ghost use Rattle.tbr_renderer.specs.declared.RenderOptions.{RenderOptions as Options};
+
+use tbr_renderer::{ImageRenderMode, RenderOptions};
+use tbr_script::{Words, parse_size};
+
+/// What one word tells the renderer.
+#[derive(Clone, Copy, Debug)]
+pub enum Setting {
+    /// The most columns that a line of wrapped text takes.
+    Wrap(usize),
+    /// A character that is wider than a line goes on a line of its own.
+    Overflow,
+    /// Lines are filled with spaces up to their width.
+    Pad,
+    /// Borders of tables aren't drawn.
+    NoBorders,
+    /// Struck out text has no strokes.
+    NoStrike,
+    /// What an image without a title shows.
+    Images(ImageRenderMode),
+}
+
+impl Setting {
+    /// The setting that a word is, if it is one.
+    fn parse(word: &str) -> Option<Setting>
+        ensures found { IfSome result (λ setting. IsSetting word.now setting) }
+        ensures none { IfNone result ((setting : Meant) → IsSetting word.now setting → ⊥) }
+    {
+        match word {
+            "overflow" => Some(Setting::Overflow),
+            "pad" => Some(Setting::Pad),
+            "noborders" => Some(Setting::NoBorders),
+            "nostrike" => Some(Setting::NoStrike),
+            "img=ignore" => Some(Setting::Images(ImageRenderMode::IgnoreEmpty)),
+            "img=filename" => Some(Setting::Images(ImageRenderMode::Filename)),
+            "img=always" => Some(Setting::Images(ImageRenderMode::ShowAlways)),
+            _ => wrap(word),
+        }
+    }
+
+    /// The options with this one.
+    fn set(self, options: &mut RenderOptions)
+        ensures { options.new ≡ with_setting options.old self }
+    {
+        match self {
+            Setting::Wrap(columns) => options.wrap_width = Some(columns),
+            Setting::Overflow => options.allow_width_overflow = true,
+            Setting::Pad => options.pad_block_width = true,
+            Setting::NoBorders => options.draw_borders = false,
+            Setting::NoStrike => options.use_unicode_strikeout = false,
+            Setting::Images(mode) => options.img_mode = mode,
+        }
+    }
+}
+
+/// The wrap width that a word is, if it is one.
+fn wrap(word: &str) -> Option<Setting>
+    ensures found { IfSome result (λ found.
+        (columns : ℕ) × (found ≡ setting.Wrap columns) × IsWrap word.now columns) }
+    ensures none { IfNone result ((columns : ℕ) → IsWrap word.now columns → ⊥) }
+{
+    Some(Setting::Wrap(parse_size(word.strip_prefix("wrap=")?)?))
+}
+
+/// The options that words tell, the later of a kind counting. `None` where one of them is no option.
+pub fn parse_options(mut words: Words<'_>) -> Option<RenderOptions>
+    ensures found { IfSome result (λ options. AreOptions words.entry options) }
+    ensures wrap_width { IfSome result (λ options. options.wrap_width ≢ Some 0) }
+    ensures none { IfNone result ((options : Options) → AreOptions words.entry options → ⊥) }
+{
+    let mut options = RenderOptions::default();
+    while let Some(word) = words.next() {
+        Setting::parse(word)?.set(&mut options);
+    }
+    Some(options)
+}

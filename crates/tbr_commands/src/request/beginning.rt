@@ -1,0 +1,83 @@
+//! Commands without an argument that begin something.
+ghost use Rattle.std.specs.Prelude.{◌≡◌, ◌≢◌, None, Err, OnOk, IfSome, IfNone};
+ghost use Rattle.tbr_lines.specs.declared.Error.TheVariants as E;
+ghost use Rattle.tbr_commands.specs.declared.request.beginning.Beginning.{Beginning as Meant};
+ghost use Rattle.tbr_commands.specs.Request.{begun_by};
+ghost use Rattle.tbr_commands.specs.Syntax.{beginning_name};
+ghost use Rattle.tbr_commands.specs.Begun.{kind_of};
+
+use crate::request::kind::Kind;
+use tbr_lines::{Error, WhiteSpace};
+use tbr_renderer::Renderer;
+
+/// What a command begins by its name alone.
+#[derive(Clone, Copy, Debug, PartialEq, Eq)]
+pub enum Beginning {
+    /// A mode of white space.
+    Mode(WhiteSpace),
+    /// A preformatted stretch.
+    Preformat,
+    /// Emphasised text.
+    Emphasis,
+    /// Strong text.
+    Strong,
+    /// Struck out text.
+    Strikeout,
+    /// Code.
+    Code,
+    /// A superscript.
+    Superscript,
+}
+
+impl Beginning {
+    /// The command of this kind that a line is, if it is one.
+    pub fn named(line: &str) -> Option<Beginning>
+        ensures found { IfSome result (λ beginning. line.now ≡ beginning_name beginning) }
+        ensures none { IfNone result ((beginning : Meant) → line.now ≢ beginning_name beginning) }
+    {
+        match line {
+            "ws normal" => Some(Beginning::Mode(WhiteSpace::Normal)),
+            "ws pre" => Some(Beginning::Mode(WhiteSpace::Pre)),
+            "ws prewrap" => Some(Beginning::Mode(WhiteSpace::PreWrap)),
+            "pre" => Some(Beginning::Preformat),
+            "em" => Some(Beginning::Emphasis),
+            "strong" => Some(Beginning::Strong),
+            "strike" => Some(Beginning::Strikeout),
+            "code" => Some(Beginning::Code),
+            "super" => Some(Beginning::Superscript),
+            _ => None,
+        }
+    }
+
+    /// What it begins.
+    pub fn kind(self) -> Kind
+        ensures { result ≡ kind_of self }
+    {
+        match self {
+            Beginning::Mode(_) => Kind::Mode,
+            Beginning::Preformat => Kind::Preformat,
+            Beginning::Emphasis => Kind::Emphasis,
+            Beginning::Strong => Kind::Strong,
+            Beginning::Strikeout => Kind::Strikeout,
+            Beginning::Code => Kind::Code,
+            Beginning::Superscript => Kind::Superscript,
+        }
+    }
+
+    /// Asks a renderer for it.
+    pub fn call<R: Renderer>(self, renderer: &mut R) -> Result<(), Error>
+        requires { R.kept_refusal renderer.old ≡ None }
+        ensures ok { OnOk result (R.does (begun_by self) renderer.old renderer.new) }
+        ensures too_narrow { result ≡ Err E.TooNarrow → R.is_too_narrow (begun_by self) renderer.old }
+    {
+        match self {
+            Beginning::Mode(mode) => renderer.push_ws(mode),
+            Beginning::Preformat => renderer.push_preformat(),
+            Beginning::Emphasis => renderer.start_emphasis(),
+            Beginning::Strong => renderer.start_strong(),
+            Beginning::Strikeout => renderer.start_strikeout(),
+            Beginning::Code => renderer.start_code(),
+            Beginning::Superscript => renderer.start_superscript(),
+        }
+    }
+}
