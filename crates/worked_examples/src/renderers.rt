@@ -15,6 +15,7 @@ mod padding;
 mod prefixes;
 mod preserved;
 mod refusals;
+mod stacks;
 mod strikeouts;
 mod sub_blocks;
 mod sub_renderers;
