@@ -1,11 +1,20 @@
 -- Columns of texts, and loops over characters.
-use Rattle.std.proofs.Common.{◌≡◌, ℕ, suc, ◌+◌, ◌<◌, ◌≤◌, Option, Some, unwrap_or, List, [], ◌∷◌, ◌++◌, map, length, get_or, take, drop, refl, ap, sym, ◌∙◌, arith, drop-cons, map-id}
+use Rattle.std.proofs.Common.{◌≡◌, ℕ, suc, ◌+◌, ◌<◌, ◌≤◌, true, Option, Some, unwrap_or, List, [], ◌∷◌, ◌++◌, map, length, get_or, take, drop, refl, ap, sym, ◌∙◌, arith, drop-cons, map-id}
+use Rattle.std.specs.Int.{is_in_range}
 use Rattle.std.specs.Iterator.{Yields}
+use Rattle.std.proofs.lemmas.Bool.Decides.{nat_tests}
 use Rattle.std.proofs.lemmas.Iterator.{YieldsList}
 use Rattle.std.proofs.lemmas.Iterator.Consumers.{YieldsList-so_far, YieldsList-turn}
 use Rattle.std.proofs.lemmas.List.{take-append-drop}
 use Rattle.tbr_model.specs.Run.{glyph, items_width}
 use Rattle.tbr_model.specs.Width.{width_of_text}
+use Rattle.tbr_tagged.specs.UnicodeColumns.{unicode_columns}
+use Rattle.unicode_width.specs.Width.{char_width}
+
+-- printable ASCII takes one column
+pub ascii_in_one : (c : ℕ) → is_in_range 0x20 0x7E c ≡ true → unicode_columns c ≡ Some 1
+unfolding char_width
+ascii_in_one c h = grind (arith, nat_tests)
 
 -- a list, from what a loop has seen of it on
 pub seen_and_rest : {A : Type 0} (all xs : List A) (x : A) → xs ≡ take (length xs) all → length xs < length all → x ≡ get_or all (length xs) x →

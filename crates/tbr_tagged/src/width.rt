@@ -1,4 +1,5 @@
 //! How many columns characters take in a terminal.
+ghost use Rattle.std.specs.Int.{is_in_range};
 ghost use Rattle.std.specs.Prelude.{◌≡◌, chars};
 ghost use Rattle.tbr_model.specs.Width as fixed;
 ghost use Rattle.tbr_tagged.specs.Sums.{GivesSum};
@@ -30,6 +31,9 @@ impl CharWidth for UnicodeColumns {
     ghost stroke_takes_none = { refl };
 
     fn width(c: char) -> Option<usize> {
+        if is_printable_ascii(c) {
+            return Some(1);
+        }
         if takes_one_column(c) {
             return Some(1);
         }
@@ -39,6 +43,13 @@ impl CharWidth for UnicodeColumns {
         let width = c.width()?;
         Some(width.min(2))
     }
+}
+
+/// Whether the character is of ASCII and printable.
+fn is_printable_ascii(c: char) -> bool
+    ensures { result ≡ is_in_range 0x20 0x7E c }
+{
+    c >= ' ' && c <= '~'
 }
 
 /// Whether the character is the space, the slash, or one that borders are drawn with.

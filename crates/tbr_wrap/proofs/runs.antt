@@ -5,3 +5,4 @@ pub mod LinesLeft
 pub mod MappedRuns
 pub mod NormalRuns
 pub mod ShownMeanings
+pub mod TextFronts

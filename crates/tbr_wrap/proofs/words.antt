@@ -1,3 +1,4 @@
 pub mod ModeCases
+pub mod PlainText
 pub mod RunEnds
 pub mod WordsLaid

@@ -1,5 +1,6 @@
 -- Where the changes of a block have led, by the rule of the model.
-use Rattle.std.specs.Prelude.{ℕ, suc, ◌==◌, not, ◌&&◌, ◌||◌, if◌then◌else◌, Bool, true, false, Option, List, [], ◌∷◌, ◌++◌, length, drop, fold, string_bytes}
+use Rattle.std.specs.Prelude.{ℕ, suc, ◌==◌, not, ◌&&◌, ◌||◌, if◌then◌else◌, Bool, false, Option, List, [], ◌∷◌, ◌++◌, map, length, drop, fold, string_bytes}
+use Rattle.tbr_model.specs.declared.white_space.WhiteSpace.{WhiteSpace}
 use Rattle.tbr_model.specs.Run.{Entry, character, marker_entry, Item, items_width, has_character}
 use Rattle.tbr_model.specs.Markers.{names_in_items, marker_run, without_last_markers}
 use Rattle.tbr_model.specs.Rule.{Event, call, entry, run_of, Progress, at_start, step, finished, waiting}
@@ -57,6 +58,10 @@ after columns width c (Marker name, a, b) = stepped columns width c (entry (mark
 after columns width c (Taken, a, b) = word_taken c
 after columns width c (Ended, a, b) = run_ended columns width c
 after columns width c (HandedOut, a, b) = line_handed c
+
+-- a text's characters come
+abbrev pub text_changes : {A : Type 0} → List ℕ → A → A → WhiteSpace → List (RunChange × A × A)
+text_changes cs a b mode = map (λ c. (Character c mode, a, b)) cs
 
 abbrev pub course : {A : Type 0} → (ℕ → Option ℕ) → ℕ → List (RunChange × A × A) → Course A
 course columns width changes = fold (after columns width) at_first changes

@@ -2,6 +2,7 @@ pub mod Stretches
 pub mod Flat
 pub mod Wrapped
 pub mod LaidLines
+pub mod Plain
 pub mod Wrapper
 pub mod State
 pub mod Course

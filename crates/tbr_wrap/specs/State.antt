@@ -1,5 +1,5 @@
 -- What a contract sees of a block.
-use Rattle.std.specs.Prelude.{◌≡◌, ℕ, zero, suc, ◌+◌, ◌≤◌, Bool, true, false, ◌||◌, ◌==◌, if◌then◌else◌, Option, None, Some, Result, Err, IfErr, unwrap_or, IsTrue, List, [], ◌∷◌, ◌++◌, ◌⊎◌, ◌↔◌, map, fold, length, drop, Contains}
+use Rattle.std.specs.Prelude.{◌≡◌, ℕ, zero, suc, ◌+◌, ◌≤◌, Bool, true, false, ◌||◌, ◌==◌, if◌then◌else◌, Option, None, Some, Result, Err, IfErr, unwrap_or, IsTrue, List, [], ◌∷◌, ◌++◌, ◌⊎◌, ◌↔◌, map, fold, length, drop, chars, Contains}
 use Rattle.std.specs.List.{AllByRecursion as Each}
 use Rattle.tbr_model.specs.Codes.{tab_character, zero_width_space}
 use Rattle.tbr_model.specs.declared.white_space.WhiteSpace.{WhiteSpace}
@@ -84,6 +84,12 @@ pub record JoinsRun {A : Type 0} (old : State A) (more : List (Entry A)) (new : 
     no_character = no_character;
     loose = loose;
   }
+
+-- The beginning of a text joins the run, and the rest is left.
+pub record JoinsFront {A : Type 0} (old : State A) (text rest : List ℕ) (a b : A) (mode : WhiteSpace) (new : State A) : Type 0 where
+  pub front : List ℕ
+  pub split : chars text ≡ front ++ chars rest
+  pub joins : JoinsRun old (text_entries front a b mode) new
 
 -- A marker joins the run. It ends no line, and is loose where the word has no character.
 pub record JoinsAsMarker {A : Type 0} (old : State A) (name : List ℕ) (new : State A) : Type 0 where

@@ -1,8 +1,9 @@
 -- What the fields of a wrapper say of the pending space and of the word under way.
-use Rattle.std.specs.Prelude.{◌≡◌, ℕ, Bool, true, Option, None, Some, List, [], ◌++◌, Result, OnOk}
+use Rattle.std.specs.Prelude.{◌≡◌, ℕ, Bool, true, Option, None, Some, List, [], ◌++◌, fold, Result, OnOk}
 use Rattle.std.specs.List.{AllZip, AllByRecursion as Each}
-use Rattle.tbr_model.specs.Run.{Item, items_width, Entry}
-use Rattle.tbr_model.specs.Rule.{Event, run_of, Space, Progress, at_start, progress, finished, waiting}
+use Rattle.tbr_model.specs.declared.white_space.WhiteSpace.{WhiteSpace}
+use Rattle.tbr_model.specs.Run.{Item, items_width}
+use Rattle.tbr_model.specs.Rule.{Space, Progress, at_start, join, finished, waiting}
 use Rattle.tbr_tagged.specs.Elements.{SameItems}
 use Rattle.tbr_wrap.specs.Wrapped.{FitsBlock}
 use Rattle.tbr_wrap.specs.LaidLines.{HoldsRule}
@@ -30,6 +31,10 @@ pub record IsAtProgress {A : Type 0} (columns : ℕ → Option ℕ) (eq : A → 
   pub mode : b.word_mode ≡ p.mode
   pub continuation_flag : b.continuation_flag ≡ p.continuation_flag
   pub in_continuation : b.in_continuation ≡ p.in_continuation
+
+-- characters join the word, one by one
+abbrev pub join_all : {A : Type 0} → List ℕ → A → WhiteSpace → Progress A → Progress A
+join_all cs a mode p = fold (λ q c. join c a mode q) p cs
 
 -- The rule stands somewhere.
 abbrev pub IsUnderWay : {A : Type 0} → (ℕ → Option ℕ) → (A → A → Bool) → Wrapper A → Type 0

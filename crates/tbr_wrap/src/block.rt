@@ -1,17 +1,22 @@
 //! A block of wrapped text.
 ghost use Rattle.std.specs.Prelude.{◌≡◌, ◌≢◌, ℕ, ◌≤◌, ◌<◌, ◌++◌, ◌∷◌, [], not, ◌&&◌, ◌||◌, ◌⊎◌, nat_lt, is_none, is_some, if◌then◌else◌, None, Some, List, OnOk, IfOk, IfErr, IsErr, IsSomeAnd, MatchResult, Err, Ok, true, false, chars, string_bytes, length, map, IsTrue, ◌↔◌};
 ghost use Rattle.std.specs.List.{AllZip};
+ghost use Rattle.std.specs.Str.{IsUtf8};
 ghost use Rattle.tbr_model.specs.Run.{Item, items_width, kept_items, has_character};
 ghost use Rattle.tbr_model.specs.Hard.{is_visible};
 ghost use Rattle.tbr_model.specs.Shown.{run_shows_columns};
 ghost use Rattle.tbr_tagged.specs.Copies.{CopiesAreEqual};
 ghost use Rattle.tbr_tagged.specs.Elements.{Element, items_of, SameItems, IsMerged};
+ghost use Rattle.tbr_model.specs.Rule as model;
+ghost use Rattle.tbr_model.specs.Width.{width_of_text};
+ghost use Rattle.tbr_wrap.specs.Plain.{IsPlain};
 ghost use Rattle.tbr_wrap.specs.Wrapped.{WordsFit, EndedWordsFit, ShowsText, padding_of};
 ghost use Rattle.tbr_wrap.specs.State.{IsNormal, CharactersFit, VisibleFit, is_some_list};
 ghost use Rattle.tbr_tagged.specs.declared.error.Error.TheVariants as E;
 
-use crate::run_change::{RunChange, RunHistory, with_marker};
-use crate::wrapper::Wrapper;
+use crate::plain::plain_in_front;
+use crate::run_change::{RunChange, RunHistory, note_ascii, with_marker};
+use crate::wrapper::{Wrapper, is_pre};
 use std::alloc::Global;
 use std::marker::{Model, PhantomData};
 use tbr_model::{CharWidth, History, WhiteSpace};
@@ -63,7 +68,7 @@ impl<T: Eq + Clone, W: CharWidth> WrappedBlock<T, W> {
     ghost use Rattle.tbr_model.specs.Markers.{names_in_items, names_in_run, names_behind, last};
     ghost use Rattle.tbr_tagged.specs.Elements.{marker_element};
     ghost use Rattle.tbr_tagged.specs.View.{element_of};
-    ghost use Rattle.tbr_wrap.specs.State.{empty_block, text_entries, JoinsRun, JoinsAsMarker, EndsRun, has_begun, run_with, KeepsRefusal, WrapsNormally, RunDecides, AreLastOf, loose_taken, lines_left, line_taken, run_flushed};
+    ghost use Rattle.tbr_wrap.specs.State.{empty_block, text_entries, JoinsRun, JoinsFront, JoinsAsMarker, EndsRun, has_begun, run_with, KeepsRefusal, WrapsNormally, RunDecides, AreLastOf, loose_taken, lines_left, line_taken, run_flushed};
 
     /// A block without text, whose lines take `width` columns at most. It takes no memory.
     ///
@@ -210,6 +215,100 @@ impl<T: Eq + Clone, W: CharWidth> WrappedBlock<T, W> {
         Ok(())
     }
 
+    /// Adds plain characters, of `width` columns, to the run.
+    fn add_plain(
+        &mut self,
+        text: &str,
+        width: usize,
+        main_tag: &T,
+        wrap_tag: &T,
+        mode: WhiteSpace,
+    ) -> Result<(), Error>
+    where
+        T: Drop,
+        requires faithful { CopiesAreEqual T.is_clone T.eq }
+        requires unfailed { self.old.failure ≡ None }
+        requires some { 0 < length text.now }
+        requires plain { IsPlain W.columns text.now }
+        requires width { width ≡ width_of_text W.columns text.now }
+        requires mode { model.is_pre mode ≡ false }
+        ensures ok { let more = text_entries (chars text.now) main_tag.now wrap_tag.now mode in
+            OnOk result (JoinsRun self.old more self.new) }
+        ensures failed { IfErr result (λ e. (e ≡ E.OutOfMemory) × (self.new.failure ≡ Some e)) }
+    {
+        let added = self
+            .wrapper
+            .add_plain::<W>(text, width, main_tag, wrap_tag, mode);
+        keep_want(&mut self.failure, added)?;
+        note_ascii(&mut self.changes, text, main_tag, wrap_tag, mode);
+        Ok(())
+    }
+
+    /// Adds the first character of a text to the run, and answers what is left.
+    fn add_first<'a>(
+        &mut self,
+        text: &'a str,
+        mode: WhiteSpace,
+        main_tag: &T,
+        wrap_tag: &T,
+    ) -> Result<&'a str, Error>
+    where
+        T: Drop,
+        requires faithful { CopiesAreEqual T.is_clone T.eq }
+        requires unfailed { self.old.failure ≡ None }
+        requires some { 0 < length text.now }
+        ensures ok { IfOk result (λ rest.
+            JoinsFront self.old text.now rest.now main_tag.now wrap_tag.now mode self.new) }
+        ensures rest { IfOk result (λ rest. IsUtf8 rest.now × (length rest.now < length text.now)) }
+        ensures failed { IfErr result (λ e. self.new.failure ≡ Some e) }
+        ensures too_narrow { result ≡ Err E.TooNarrow →
+            (self.old.may_overflow ≡ false) × ¬ (CharactersFit W.columns self.old.width self.old.run) }
+        ensures normal_too_narrow { let run = run_with self.old (chars text.now) main_tag.now wrap_tag.now mode in
+            IsNormal run → result ≡ Err E.TooNarrow → ¬ (EndedWordsFit W.columns self.old.width run) }
+    {
+        let mut rest = text.chars();
+        let Some(c) = rest.next() else {
+            return Ok(text);
+        };
+        self.add_char(c, main_tag, wrap_tag, mode)?;
+        Ok(rest.as_str())
+    }
+
+    /// Adds the beginning of a text to the run, and answers what is left: the plain characters that it begins with,
+    /// where these join the word wherever the line ends, and else its first character.
+    fn add_front<'a>(
+        &mut self,
+        text: &'a str,
+        mode: WhiteSpace,
+        main_tag: &T,
+        wrap_tag: &T,
+    ) -> Result<&'a str, Error>
+    where
+        T: Drop,
+        requires faithful { CopiesAreEqual T.is_clone T.eq }
+        requires unfailed { self.old.failure ≡ None }
+        requires some { 0 < length text.now }
+        ensures ok { IfOk result (λ rest.
+            JoinsFront self.old text.now rest.now main_tag.now wrap_tag.now mode self.new) }
+        ensures rest { IfOk result (λ rest. IsUtf8 rest.now × (length rest.now < length text.now)) }
+        ensures failed { IfErr result (λ e. self.new.failure ≡ Some e) }
+        ensures too_narrow { result ≡ Err E.TooNarrow →
+            (self.old.may_overflow ≡ false) × ¬ (CharactersFit W.columns self.old.width self.old.run) }
+        ensures normal_too_narrow { let run = run_with self.old (chars text.now) main_tag.now wrap_tag.now mode in
+            IsNormal run → result ≡ Err E.TooNarrow → ¬ (EndedWordsFit W.columns self.old.width run) }
+    {
+        if is_pre(mode) {
+            return self.add_first(text, mode, main_tag, wrap_tag);
+        }
+        let (count, width) = plain_in_front::<W>(text);
+        if count == 0 {
+            return self.add_first(text, mode, main_tag, wrap_tag);
+        }
+        let (front, rest) = text.split_at(count);
+        self.add_plain(front, width, main_tag, wrap_tag, mode)?;
+        Ok(rest)
+    }
+
     /// Does nothing. It tells what the fields of a `Normal` run say of it.
     fn known(&self)
         ensures fit { WrapsNormally self.now → EndedWordsFit W.columns self.now.width self.now.run }
@@ -251,8 +350,9 @@ impl<T: Eq + Clone, W: CharWidth> WrappedBlock<T, W> {
     {
         self.refusal()?;
         self.begin_call();
-        for c in text.chars() {
-            self.add_char(c, main_tag, wrap_tag, ws_mode)?;
+        let mut rest = text;
+        while !rest.is_empty() {
+            rest = self.add_front(rest, ws_mode, main_tag, wrap_tag)?;
         }
         self.known();
         Ok(())

@@ -1,10 +1,11 @@
 //! Characters under tags and markers, in one text.
-ghost use Rattle.std.specs.Prelude.{◌≡◌, ◌<◌, ◌≤◌, ◌+◌, ◌++◌, ◌∷◌, [], true, false, List, length, map, take, drop, string_bytes, MatchOption, OnOk, IfOk};
+ghost use Rattle.std.specs.Prelude.{◌≡◌, ◌<◌, ◌≤◌, ◌+◌, ◌++◌, ◌∷◌, [], true, false, List, length, map, take, drop, chars, string_bytes, MatchOption, OnOk, IfOk};
+ghost use Rattle.std.specs.Str.{IsAscii};
 ghost use Rattle.tbr_tagged.specs.Copies.{CopiesAreEqual};
 ghost use Rattle.tbr_model.specs.Run.{Item, glyph, marker, item_width, items_width, has_character};
 ghost use Rattle.tbr_model.specs.Rule.{spaces, without_leading, without_trailing};
 ghost use Rattle.tbr_model.specs.Markers.{names_in_items};
-ghost use Rattle.tbr_tagged.specs.Elements.{SameItems, IsMerged, items_of, marker_element};
+ghost use Rattle.tbr_tagged.specs.Elements.{SameItems, IsMerged, items_of, marker_element, text_items};
 ghost use Rattle.tbr_tagged.specs.View.{element_of};
 
 use crate::flat::characters::Characters;
@@ -202,6 +203,23 @@ impl<T: Eq + Clone> FlatText<T> {
     {
         self.word.add_characters(1)?;
         if let Err(e) = self.text.push(c, tag) {
+            clear(&mut self.text, &mut self.placed, &mut self.word);
+            return Err(e);
+        }
+        Ok(())
+    }
+
+    /// Adds a text of ASCII to the word. The tag is copied only where a stretch of it begins.
+    ///
+    /// Where memory is refused the items may be lost.
+    pub fn push_ascii(&mut self, text: &str, tag: &T) -> Result<(), OutOfMemory>
+        requires faithful { CopiesAreEqual T.is_clone T.eq }
+        requires some { 0 < length text.now }
+        requires ascii { IsAscii text.now }
+        ensures { OnOk result ((a : T) × (T.eq a tag.now ≡ true) × (self.new ≡ record self.old { word = self.old.word ++ text_items (chars text.now) a })) }
+    {
+        self.word.add_characters(text.len())?;
+        if let Err(e) = self.text.push_ascii(text, tag) {
             clear(&mut self.text, &mut self.placed, &mut self.word);
             return Err(e);
         }

@@ -7,5 +7,6 @@ mod block;
 mod flat;
 mod laid_lines;
 pub mod laws;
+mod plain;
 mod run_change;
 mod wrapper;

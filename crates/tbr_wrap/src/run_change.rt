@@ -1,5 +1,6 @@
 //! What happens to the runs of a block, which only contracts read.
 ghost use Rattle.std.specs.Prelude.{◌≡◌, ◌++◌, ◌∷◌, []};
+ghost use Rattle.tbr_wrap.specs.Course.{text_changes};
 
 use std::marker::Model;
 use tbr_model::{History, WhiteSpace};
@@ -23,6 +24,22 @@ pub enum RunChange {
 
 /// What happened to the runs of a block.
 pub type RunHistory<T> = History<RunChange, T, T>;
+
+/// Notes each byte of a text of ASCII as a character.
+pub fn note_ascii<T>(
+    changes: &mut RunHistory<T>,
+    text: &str,
+    main_tag: &T,
+    wrap_tag: &T,
+    mode: WhiteSpace,
+)
+    ensures { changes.new.items ≡ changes.old.items ++ text_changes text.now main_tag.now wrap_tag.now mode }
+{
+    for &byte in text.as_bytes() {
+        let change = RunChange::Character(char::from(byte), mode);
+        *changes = changes.appended(&change, main_tag, wrap_tag);
+    }
+}
 
 /// The history with one more marker, whose name is given back. The tag stands for none.
 pub fn with_marker<T>(changes: &RunHistory<T>, name: String, tag: &T) -> (RunHistory<T>, String)

@@ -7,8 +7,10 @@
 //! - What fits the open line is *placed* on it (`place_pending`, `place_word`). What may not fit is *put* on it and the
 //!   next ones (`put_pending`, `put_fresh`, `put_tab`).
 //! - Ended lines are *taken*, the first one first ([`LaidLines::take_line`]).
-ghost use Rattle.std.specs.Prelude.{◌≡◌, ◌≤◌, ◌<◌, ◌+◌, ◌&&◌, ◌↔◌, [], ℕ, List, map, string_bytes, Bool, if◌then◌else◌, IsTrue, Option, None, Some, true, false, OnOk, IfOk, Err};
+ghost use Rattle.std.specs.Prelude.{◌≡◌, ◌≤◌, ◌<◌, ◌+◌, ◌&&◌, ◌↔◌, [], ℕ, List, fold, length, map, chars, string_bytes, Bool, if◌then◌else◌, IsTrue, Option, None, Some, true, false, OnOk, IfOk, Err};
 ghost use Rattle.tbr_tagged.specs.Copies.{CopiesAreEqual};
+ghost use Rattle.std.specs.Str.{IsAscii};
+ghost use Rattle.tbr_model.specs.Width.{width_of_text};
 ghost use Rattle.tbr_model.specs.Run.{Item, character, marker_entry, items_width, has_character, is_break};
 ghost use Rattle.tbr_model.specs.Laid.{Laid, extended, put_items};
 ghost use Rattle.tbr_model.specs.Rule as model;
@@ -99,7 +101,9 @@ impl<T> Wrapper<T> {
 
 impl<T: Eq + Clone + Drop> Wrapper<T> {
     ghost use Rattle.tbr_wrap.specs.LaidLines.{KeepsLimits};
-    ghost use Rattle.tbr_wrap.specs.Wrapper.{IsAtProgress, IsUnderWay, Wherever, WrapperFollows, RunIsFinished, SameSpace, held_width};
+    ghost use Rattle.tbr_wrap.specs.Plain.{IsPlain};
+    ghost use Rattle.tbr_wrap.specs.State.{text_entries};
+    ghost use Rattle.tbr_wrap.specs.Wrapper.{IsAtProgress, IsUnderWay, Wherever, WrapperFollows, RunIsFinished, SameSpace, held_width, join_all};
 
     /// Puts the pending space on the open line, where it fits.
     fn place_pending<W: CharWidth>(&mut self) -> Result<(), OutOfMemory>
@@ -324,6 +328,32 @@ impl<T: Eq + Clone + Drop> Wrapper<T> {
         };
         let word_mode = self.mode_with(mode);
         self.lines.flat.push(c, tag)?;
+        self.word_width = word_width;
+        self.word_mode = word_mode;
+        Ok(())
+    }
+
+    /// Adds a text of ASCII, of `width` columns, to the word.
+    fn join_ascii(
+        &mut self,
+        text: &str,
+        width: usize,
+        tag: &T,
+        mode: WhiteSpace,
+    ) -> Result<(), OutOfMemory>
+        requires faithful { CopiesAreEqual T.is_clone T.eq }
+        requires some { 0 < length text.now }
+        requires ascii { IsAscii text.now }
+        ensures joined { (columns : ℕ → Option ℕ) (a : T) → width ≡ width_of_text columns (chars text.now) →
+            T.eq tag.now a ≡ true →
+            WrapperFollows columns T.eq self.old self.new result (join_all (chars text.now) a mode) }
+        ensures limits { KeepsLimits self.old.lines self.new.lines }
+    {
+        let Some(word_width) = self.word_width.checked_add(width) else {
+            return Err(OutOfMemory);
+        };
+        let word_mode = self.mode_with(mode);
+        self.lines.flat.push_ascii(text, tag)?;
         self.word_width = word_width;
         self.word_mode = word_mode;
         Ok(())
@@ -561,6 +591,31 @@ impl<T: Eq + Clone + Drop> Wrapper<T> {
                 self.preserve::<W>(c, main_tag, wrap_tag, mode)
             }
         }
+    }
+
+    /// Adds plain characters of a run, of `width` columns. No word ends there.
+    pub fn add_plain<W: CharWidth>(
+        &mut self,
+        text: &str,
+        width: usize,
+        main_tag: &T,
+        wrap_tag: &T,
+        mode: WhiteSpace,
+    ) -> Result<(), OutOfMemory>
+        requires faithful { CopiesAreEqual T.is_clone T.eq }
+        requires some { 0 < length text.now }
+        requires plain { IsPlain W.columns text.now }
+        requires width { width ≡ width_of_text W.columns text.now }
+        requires mode { model.is_pre mode ≡ false }
+        ensures entered { WrapperFollows W.columns T.eq self.old self.new result (λ p.
+            fold (enter W.columns self.old.lines.width) p
+            (text_entries (chars text.now) main_tag.now wrap_tag.now mode)) }
+        ensures limits { KeepsLimits self.old.lines self.new.lines }
+    {
+        if self.in_continuation {
+            return self.join_ascii(text, width, wrap_tag, mode);
+        }
+        self.join_ascii(text, width, main_tag, mode)
     }
 
     /// Adds a marker to the word.

@@ -1,5 +1,5 @@
 -- What each change leaves of a block's course, and what a contract sees of that.
-use Rattle.std.proofs.Common.{◌≡◌, ℕ, zero, suc, ◌+◌, ◌-◌, ◌<◌, ◌==◌, not, ◌&&◌, ◌||◌, ◌⊎◌, inl, inr, Bool, true, false, Option, Some, List, [], ◌∷◌, ◌++◌, map, length, take, drop, refl, ap, sym, ◌∙◌, subst, arith, append_assoc, append-nil, length-append, lt-ltb}
+use Rattle.std.proofs.Common.{◌≡◌, ℕ, zero, suc, ◌+◌, ◌-◌, ◌<◌, ◌==◌, not, ◌&&◌, ◌||◌, ◌⊎◌, inl, inr, Bool, true, false, Option, Some, List, [], ◌∷◌, ◌++◌, fold, map, length, take, drop, refl, ap, sym, ◌∙◌, subst, arith, append_assoc, append-nil, length-append, lt-ltb}
 use Rattle.std.proofs.Math.Bool.{or_assoc, or-false, or-true}
 use Rattle.std.proofs.lemmas.List.{take_at, drop_at, drop-append-le, length-take-le, length-map}
 use Rattle.std.proofs.lemmas.List.Elements.{length_all_zip}
@@ -7,15 +7,16 @@ use Rattle.std.proofs.lemmas.List.Sums.{fold-append}
 use Rattle.std.proofs.lemmas.Bool.{and_left, and_right, ne_eqb}
 use Rattle.std.specs.List.{AllZip, AllByRecursion as Each}
 use Rattle.std.specs.Prelude.{nat_lt}
-use Rattle.tbr_model.specs.Run.{Item, glyph, marker, is_kept, items_width, kept_items, Entry, marker_entry, has_character}
+use Rattle.tbr_model.specs.Run.{Item, glyph, marker, is_kept, items_width, kept_items, Entry, character, marker_entry, has_character}
 use Rattle.tbr_model.specs.Markers.{names_in_items, names_in_run, marker_run, marker_items, names_behind, last, without_last_markers}
 use Rattle.tbr_model.specs.Laid.{Laid, end_if_character}
 use Rattle.tbr_model.specs.Layout.{joined}
-use Rattle.tbr_model.specs.Rule.{Event, call, entry, run_of, Progress, at_start, step, progress, finished, waiting, lines_of}
+use Rattle.tbr_model.specs.Rule.{Event, call, entry, run_of, Progress, at_start, enter, step, progress, finished, waiting, lines_of}
 use Rattle.tbr_model.proofs.rule.DoneLines.{if_same, step_adds, finished_adds}
 use Rattle.tbr_model.proofs.rule.HardLines.{run_of-append}
 use Rattle.tbr_model.proofs.rule.Markers.{markers_run, markers_at_end, waiting_none, marker_items_alone, names_in_items-append, markers_lead, run_of_markers}
 use Rattle.tbr_model.proofs.rule.TakenOutMarkers.{taken_out, without_none}
+use Rattle.tbr_model.specs.declared.white_space.WhiteSpace.{WhiteSpace}
 use Rattle.tbr_model.specs.declared.white_space.WhiteSpace.TheVariants.{Normal, Pre}
 use Rattle.tbr_model.specs.Hard.{HasMode, entry_letters, is_visible, hard_lines, Parted}
 use Rattle.tbr_model.specs.Shown.{without_spaces, InventsNothing, ComesWithRun, ShowsInOrder, IsNotPre, ShowsOwn, run_shows_columns, HasColumns}
@@ -33,8 +34,8 @@ use Rattle.tbr_tagged.specs.declared.error.Error.{Error}
 use Rattle.tbr_model.proofs.words.Items.{items_width-append}
 use Rattle.tbr_tagged.proofs.SameItems.{all_zip_append, same_has}
 use Rattle.tbr_wrap.specs.Wrapped.{FitsBlock}
-use Rattle.tbr_wrap.specs.State.{State, JoinsRun, JoinsAsMarker, EndsRun, ShowsFitting, AreLastOf, IsShownBy, is_some_list, loose_taken, line_taken, run_flushed}
-use Rattle.tbr_wrap.specs.Course.{Course, at_first, stepped, word_taken, run_ended, line_handed, after, course, loose_names, state_of, viewed}
+use Rattle.tbr_wrap.specs.State.{State, JoinsRun, JoinsAsMarker, EndsRun, ShowsFitting, AreLastOf, IsShownBy, is_some_list, text_entries, loose_taken, line_taken, run_flushed}
+use Rattle.tbr_wrap.specs.Course.{Course, at_first, stepped, word_taken, run_ended, line_handed, after, text_changes, course, loose_names, state_of, viewed}
 use Rattle.tbr_wrap.specs.Held.{HoldsCourse}
 use Rattle.tbr_wrap.specs.LaidLines.{HoldsLaid, LaidLikeRule, LeavesAfterLine, KeepsLimits}
 use Rattle.tbr_wrap.specs.Wrapper.{IsAtProgress, RunIsFinished}
@@ -123,16 +124,57 @@ last_of_none xs = ap (last 0) (sym (append-nil xs)) ∙ last_of_two xs []
 pub no_loose : {A : Type 0} (word : List (Item A)) → has_character word ≡ true → loose_names word ≡ []
 no_loose word some = rw some refl
 
--- ---- one more change
+-- ---- more changes
+
+pub entries_run : {A : Type 0} (es : List (Entry A)) → run_of (map entry es) ≡ es
+entries_run [] = refl
+entries_run {A} (e ∷ es) = ap (λ (fs : List (Entry A)). e ∷ fs) (entries_run es)
 
 module _ {A : Type 0} (columns : ℕ → Option ℕ) where
+  module _ (width width' : ℕ) (changes changes' new : List (RunChange × A × A)) (same : width' ≡ width) (more : changes' ≡ changes ++ new) where
+    pub course_more : course columns width' changes' ≡ fold (after columns width) (course columns width changes) new
+    course_more = (λ i. course columns (same i) (more i)) ∙ fold-append (after columns width) at_first changes new
+
+    pub viewed_more : (may may' : Bool) (padding : Option A) (failure failure' : Option Error) → may' ≡ may → failure' ≡ failure →
+        viewed columns width' may' padding failure' changes' ≡ state_of columns width may padding failure (fold (after columns width) (course columns width changes) new)
+    viewed_more may may' padding failure failure' never kept = (λ i. state_of columns (same i) (never i) padding (kept i) (course_more i))
+
   module _ (width width' : ℕ) (changes changes' : List (RunChange × A × A)) (change : RunChange × A × A) (same : width' ≡ width) (more : changes' ≡ changes ++ change ∷ []) where
     pub course_after : course columns width' changes' ≡ after columns width (course columns width changes) change
-    course_after = (λ i. course columns (same i) (more i)) ∙ fold-append (after columns width) at_first changes (change ∷ [])
+    course_after = course_more width width' changes changes' (change ∷ []) same more
 
     pub viewed_after : (may may' : Bool) (padding : Option A) (failure failure' : Option Error) → may' ≡ may → failure' ≡ failure →
         viewed columns width' may' padding failure' changes' ≡ state_of columns width may padding failure (after columns width (course columns width changes) change)
-    viewed_after may may' padding failure failure' never kept = (λ i. state_of columns (same i) (never i) padding (kept i) (course_after i))
+    viewed_after = viewed_more width width' changes changes' (change ∷ []) same more
+
+  -- ---- several events
+
+  -- these events come
+  abbrev pub went : ℕ → Course A → List (Event A) → Course A
+  went width c es = record c { run = c.run ++ run_of es; progress = fold (step columns width) c.progress es }
+
+  went_on : (width : ℕ) (c : Course A) (e : Event A) (es : List (Event A)) → went width (stepped columns width c e) es ≡ went width c (e ∷ es)
+  went_on width c e es =
+      ap (λ run. record (went width c (e ∷ es)) { run = run }) (append_assoc c.run (run_of (e ∷ [])) (run_of es) ∙ ap (λ r. c.run ++ r) (sym (run_of-append (e ∷ []) es)))
+
+  -- the characters of a text
+  pub text_went : (width : ℕ) (c : Course A) (cs : List ℕ) (a b : A) (mode : WhiteSpace) → fold (after columns width) c (text_changes cs a b mode) ≡ went width c (map entry (text_entries cs a b mode))
+  text_went width c [] a b mode = ap (λ run. record c { run = run }) (sym (append-nil c.run))
+  text_went width c (x ∷ cs) a b mode =
+      let e : Event A = entry (character x a b mode) in
+      text_went width (stepped columns width c e) cs a b mode ∙ went_on width c e (map entry (text_entries cs a b mode))
+
+  pub entries_entered : (width : ℕ) (es : List (Entry A)) (p : Progress A) → fold (step columns width) p (map entry es) ≡ fold (enter columns width) p es
+  entries_entered width [] p = refl
+  entries_entered width (e ∷ es) p = entries_entered width es (enter columns width p e)
+
+  -- they only add lines
+  steps_add : (width : ℕ) (es : List (Event A)) (p : Progress A) → (more : List (List (Item A))) × ((fold (step columns width) p es).laid.done ≡ p.laid.done ++ more)
+  steps_add width [] p = ([], sym (append-nil p.laid.done))
+  steps_add width (e ∷ es) p =
+      let one = step_adds columns width p e in
+      let rest = steps_add width es (step columns width p e) in
+      (one.0 ++ rest.0, rest.1 ∙ ap (λ ls. ls ++ rest.0) one.1 ∙ append_assoc p.laid.done one.0 rest.0)
 
   -- ---- what a contract sees
 
@@ -140,11 +182,17 @@ module _ {A : Type 0} (columns : ℕ → Option ℕ) where
     abbrev seen : Course A → State A
     seen d = state_of columns width may padding failure d
 
-    pub joins_event : (e : Event A) → JoinsRun (seen c) (run_of (e ∷ [])) (seen (stepped columns width c e))
-    joins_event e =
-        let more = step_adds columns width c.progress e in
-        let s : State A = seen (stepped columns width c e) in
+    joins_events : (es : List (Event A)) → JoinsRun (seen c) (run_of es) (seen (went width c es))
+    joins_events es =
+        let more = steps_add width es c.progress in
+        let s : State A = seen (went width c es) in
         record { lines = more.0; no_columns = s.no_columns; no_character = s.no_character; loose = s.loose; is = ap (λ ls. record s { lines = ls }) more.1 }
+
+    pub joins_entries : (es : List (Entry A)) → JoinsRun (seen c) es (seen (went width c (map entry es)))
+    joins_entries es = subst (λ (fs : List (Entry A)). JoinsRun (seen c) fs (seen (went width c (map entry es)))) (entries_run es) (joins_events (map entry es))
+
+    pub joins_event : (e : Event A) → JoinsRun (seen c) (run_of (e ∷ [])) (seen (stepped columns width c e))
+    joins_event e = joins_events (e ∷ [])
 
     -- a call alone changes nothing
     pub call_seen : seen (stepped columns width c call) ≡ seen c
@@ -215,11 +263,11 @@ module _ {A : Type 0} (columns : ℕ → Option ℕ) where
       pub old_count : length b.lines.ended.items + c.handed ≡ length h.before + length c.progress.laid.done
       old_count = omega (arith, lines_count b h.before given c.progress h.stands, given_count)
 
-      -- an event comes
-      pub holds_stepped : (d : Wrapper A) (e : Event A) → KeepsLimits b.lines d.lines → IsAtProgress columns eq d h.before given (step columns b.lines.width c.progress e) → HoldsCourse columns eq d begun (stepped columns b.lines.width c e)
-      holds_stepped d e limits s =
-          let p : Progress A = step columns b.lines.width c.progress e in
-          let more = step_adds columns b.lines.width c.progress e in
+      -- events come
+      pub holds_went : (d : Wrapper A) (es : List (Event A)) → KeepsLimits b.lines d.lines → IsAtProgress columns eq d h.before given (fold (step columns b.lines.width) c.progress es) → HoldsCourse columns eq d begun (went b.lines.width c es)
+      holds_went d es limits s =
+          let p : Progress A = fold (step columns b.lines.width) c.progress es in
+          let more = steps_add b.lines.width es c.progress in
           let same : take c.handed p.laid.done ≡ given = ap (take c.handed) s.lays.shows.split ∙ take_at given s.lays.shows.rest c.handed given_count in
           let longer : length p.laid.done ≡ length c.progress.laid.done + length more.0 = ap length more.1 ∙ length-append c.progress.laid.done more.0 in
           record {
@@ -227,12 +275,16 @@ module _ {A : Type 0} (columns : ℕ → Option ℕ) where
             earlier = h.earlier;
             within = omega (arith, h.within, longer);
             stands = subst (λ (ls : List (List (Item A))). IsAtProgress columns eq d h.before ls p) (sym same) s;
-            events = h.events ++ e ∷ [];
-            run_is = run_of-append h.events (e ∷ []) ∙ ap (λ es. es ++ run_of (e ∷ [])) h.run_is;
-            progress_is = ap (λ w. progress columns w (h.events ++ e ∷ [])) limits.width ∙ fold-append (step columns b.lines.width) at_start h.events (e ∷ []) ∙ ap (λ q. step columns b.lines.width q e) h.progress_is;
+            events = h.events ++ es;
+            run_is = run_of-append h.events es ∙ ap (λ fs. fs ++ run_of es) h.run_is;
+            progress_is = ap (λ w. progress columns w (h.events ++ es)) limits.width ∙ fold-append (step columns b.lines.width) at_start h.events es ∙ ap (λ q. fold (step columns b.lines.width) q es) h.progress_is;
             has_begun = begun_lists begun c.begun b.lines.ended.items d.lines.ended.items c.progress.laid.done p.laid.done (length more.0)
                 (omega (arith, old_count, lines_count d h.before given p s, given_count, longer)) longer h.has_begun;
           }
+
+      -- an event comes
+      pub holds_stepped : (d : Wrapper A) (e : Event A) → KeepsLimits b.lines d.lines → IsAtProgress columns eq d h.before given (step columns b.lines.width c.progress e) → HoldsCourse columns eq d begun (stepped columns b.lines.width c e)
+      holds_stepped d e = holds_went d (e ∷ [])
 
       -- the word's markers are taken out
       pub holds_taken : (d : Wrapper A) → KeepsLimits b.lines d.lines → has_character c.progress.word ≡ false → IsAtProgress columns eq d h.before given (record c.progress { word = [] }) → HoldsCourse columns eq d begun (word_taken c)

@@ -11,7 +11,7 @@ use Rattle.tbr_model.specs.Layout.{Slot, line_text, joined}
 use Rattle.tbr_model.specs.Greedy.{IsNarrow, wrapped}
 use Rattle.tbr_model.specs.Laid.{Laid, end_if_character}
 use Rattle.tbr_model.specs.Rule.{Event, run_of, progress, finished, flush_word, waiting, lines_of}
-use Rattle.tbr_model.specs.Hard.{HasMode, Preserves, IsNarrowEntry, glyphs_of, is_visible, visible_glyphs, visible_entries, IsShown, ShowsHardLine, ShowsPre, ShowsPreWrap, ShowsTabs, Parted, hard_lines}
+use Rattle.tbr_model.specs.Hard.{HasMode, Preserves, IsNarrowEntry, glyphs_of, is_visible, visible_glyphs, visible_entries, IsShown, ShowsPre, ShowsPreWrap, ShowsTabs, Parted, hard_lines}
 use Rattle.tbr_model.proofs.lists.Each.{each_append, each_front, each_back}
 use Rattle.tbr_model.proofs.words.KeptItems.{narrow_markers}
 use Rattle.tbr_model.proofs.words.LinesHaveCharacters.{HasGlyph, best_characters}

@@ -32,12 +32,12 @@ module _ {A : Type 0} where
   marker_pushed f p w v name h e =
       ap (λ (m : MarkerPlaces). with_marks f p m) e ∙ ap (λ is. record { placed = marked f.placed p.markers; word = is }) (marked_push f.word w name h)
 
-  -- a character joins it
-  pub character_pushed : (f g : Flat A) (p w v : MarkerPlaces) (i : Item A) → covered w ≡ length f.word → g ≡ record f { word = f.word ++ i ∷ [] } → v ≡ record w { behind = w.behind + 1 } →
-      with_marks g p v ≡ record (with_marks f p w) { word = marked f.word w.markers ++ i ∷ [] }
-  character_pushed f g p w v i h d e =
-      ap (λ (x : Flat A). with_marks x p v) d ∙ ap (λ (m : MarkerPlaces). with_marks (record f { word = f.word ++ i ∷ [] }) p m) e
-      ∙ ap (λ is. record { placed = marked f.placed p.markers; word = is }) (marked_more f.word (i ∷ []) w.markers (omega (arith, h)))
+  -- characters join it
+  pub characters_pushed : (f g : Flat A) (p w v : MarkerPlaces) (is : List (Item A)) (n : ℕ) → covered w ≡ length f.word → g ≡ record f { word = f.word ++ is } → v ≡ record w { behind = w.behind + n } →
+      with_marks g p v ≡ record (with_marks f p w) { word = marked f.word w.markers ++ is }
+  characters_pushed f g p w v is n h d e =
+      ap (λ (x : Flat A). with_marks x p v) d ∙ ap (λ (m : MarkerPlaces). with_marks (record f { word = f.word ++ is }) p m) e
+      ∙ ap (λ js. record { placed = marked f.placed p.markers; word = js }) (marked_more f.word is w.markers (omega (arith, h)))
 
   -- the word is placed
   pub word_placed : (f g : Flat A) (p w q : MarkerPlaces) (none : MarkerPlaces) → covered p ≡ length f.placed → g ≡ record { placed = f.placed ++ f.word; word = [] } → q ≡ followed p w → none ≡ record { markers = []; behind = 0 } →

@@ -1,6 +1,6 @@
 -- The tags that stretches stand for.
 use Rattle.std.proofs.Common.{◌≡◌, ℕ, suc, zero, ◌+◌, ◌-◌, ◌<◌, ◌≤◌, Bool, true, List, [], ◌∷◌, ◌++◌, length, take, drop, get_or, set, replicate, refl, ap, sym, ◌∙◌, subst, arith, append_assoc, append-nil, add-one}
-use Rattle.std.proofs.lemmas.List.{take_rest, take-append-drop, drop-set-lt, length-append, length-take, length-drop, drop-append-le, length-replicate, replicate_more}
+use Rattle.std.proofs.lemmas.List.{take_rest, take-append-drop, drop-set-lt, length-append, length-take, length-drop, drop-append-le, length-replicate, replicate-append-replicate}
 use Rattle.std.proofs.Math.Seq.{drop-append-add}
 use Rattle.std.specs.List.{AllZip}
 use Rattle.std.specs.Cmp.{IsEquivalence}
@@ -58,23 +58,26 @@ module _ {A : Type 0} where
   drop_all (x ∷ xs) zero h = absurd (omega arith)
   drop_all (x ∷ xs) (suc i) h = drop_all xs i (omega arith)
 
-  -- the last stretch is one longer
-  pub push_last : (xs : List (Stretch A)) (k i : ℕ) (s y : Stretch A) → k ≤ i → suc i ≡ length xs → s ≡ get_or xs i s → y ≡ record s { more = s.more + 1 } →
-      tags_of (drop k (set xs i y)) ≡ tags_of (drop k xs) ++ s.tag ∷ []
-  push_last xs k i s y h g is e =
+  -- the last stretch is longer
+  pub push_last : (xs : List (Stretch A)) (k i n : ℕ) (s y : Stretch A) → k ≤ i → suc i ≡ length xs → s ≡ get_or xs i s → y ≡ record s { more = s.more + n } →
+      tags_of (drop k (set xs i y)) ≡ tags_of (drop k xs) ++ replicate n s.tag
+  push_last xs k i n s y h g is e =
       let front = tags_of (drop k (take i xs)) in
       let none : drop (suc i) xs ≡ [] = drop_all xs (suc i) (omega arith) in
-      let new : tags_of (drop k (set xs i y)) ≡ front ++ ((s.tag ∷ replicate s.more s.tag) ++ s.tag ∷ []) =
-      set_tags xs k i y h (omega arith) ∙ ap (λ z. front ++ tags_of (z ∷ drop (suc i) xs)) e ∙ ap (λ zs. front ++ tags_of (record s { more = s.more + 1 } ∷ zs)) none
-      ∙ ap (λ ts. front ++ (s.tag ∷ ts)) (append-nil (replicate (s.more + 1) s.tag) ∙ sym (replicate_more s.more s.tag)) in
+      let new : tags_of (drop k (set xs i y)) ≡ front ++ ((s.tag ∷ replicate s.more s.tag) ++ replicate n s.tag) =
+      set_tags xs k i y h (omega arith) ∙ ap (λ z. front ++ tags_of (z ∷ drop (suc i) xs)) e ∙ ap (λ zs. front ++ tags_of (record s { more = s.more + n } ∷ zs)) none
+      ∙ ap (λ ts. front ++ (s.tag ∷ ts)) (append-nil (replicate (s.more + n) s.tag) ∙ sym (replicate-append-replicate s.more n s.tag)) in
       let old : tags_of (drop k xs) ≡ front ++ (s.tag ∷ replicate s.more s.tag) =
       item_tags xs k i s h (omega arith) ∙ ap (λ z. front ++ tags_of (z ∷ drop (suc i) xs)) (sym is) ∙ ap (λ zs. front ++ tags_of (s ∷ zs)) none
       ∙ ap (λ ts. front ++ (s.tag ∷ ts)) (append-nil (replicate s.more s.tag)) in
-      new ∙ sym (append_assoc front (s.tag ∷ replicate s.more s.tag) (s.tag ∷ [])) ∙ ap (λ ts. ts ++ s.tag ∷ []) (sym old)
+      new ∙ sym (append_assoc front (s.tag ∷ replicate s.more s.tag) (replicate n s.tag)) ∙ ap (λ ts. ts ++ replicate n s.tag) (sym old)
 
-  -- a stretch of one is pushed
-  pub push_new : (xs : List (Stretch A)) (k : ℕ) (a : A) → k ≤ length xs → tags_of (drop k (xs ++ record { more = 0; tag = a } ∷ [])) ≡ tags_of (drop k xs) ++ a ∷ []
-  push_new xs k a h = ap tags_of (drop-append-le k xs (record { more = 0; tag = a } ∷ []) h) ∙ tags_of-append (drop k xs) (record { more = 0; tag = a } ∷ [])
+  -- a stretch is pushed
+  pub push_new : (xs : List (Stretch A)) (k m n : ℕ) (a : A) → k ≤ length xs → n ≡ suc m →
+      tags_of (drop k (xs ++ record { more = m; tag = a } ∷ [])) ≡ tags_of (drop k xs) ++ replicate n a
+  push_new xs k m n a h e =
+      ap tags_of (drop-append-le k xs (record { more = m; tag = a } ∷ []) h) ∙ tags_of-append (drop k xs) (record { more = m; tag = a } ∷ [])
+      ∙ ap (λ ts. tags_of (drop k xs) ++ a ∷ ts) (append-nil (replicate m a)) ∙ ap (λ i. tags_of (drop k xs) ++ replicate i a) (sym e)
 
   -- two readings of one place
   pub same_stretch : (xs : List (Stretch A)) (i : ℕ) (d e : Stretch A) → i < length xs → d ≡ get_or xs i d → e ≡ get_or xs i e → d ≡ e

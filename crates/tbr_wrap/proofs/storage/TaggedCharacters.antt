@@ -27,11 +27,17 @@ glyphs_front [] ts us h = refl
 glyphs_front (c ∷ cs) [] us h = absurd (omega arith)
 glyphs_front (c ∷ cs) (t ∷ ts) us h = ap (λ is. glyph c t ∷ is) (glyphs_front cs ts us (omega arith))
 
-glyphs_push : {A : Type 0} (cs : List ℕ) (ts : List A) (c : ℕ) (a : A) → length ts ≡ length cs → glyphs (cs ++ c ∷ []) (ts ++ a ∷ []) ≡ glyphs cs ts ++ glyph c a ∷ []
-glyphs_push [] [] c a h = refl
-glyphs_push [] (t ∷ ts) c a h = absurd (omega arith)
-glyphs_push (d ∷ cs) [] c a h = absurd (omega arith)
-glyphs_push (d ∷ cs) (t ∷ ts) c a h = ap (λ is. glyph d t ∷ is) (glyphs_push cs ts c a (omega arith))
+-- characters under one tag
+glyphs_one : {A : Type 0} (cs : List ℕ) (n : ℕ) (a : A) → n ≡ length cs → glyphs cs (replicate n a) ≡ text_items cs a
+glyphs_one [] n a h = refl
+glyphs_one (c ∷ cs) zero a h = absurd (omega (arith, h))
+glyphs_one (c ∷ cs) (suc n) a h = ap (λ is. glyph c a ∷ is) (glyphs_one cs n a (omega (arith, h)))
+
+glyphs_push : {A : Type 0} (cs ds : List ℕ) (ts us : List A) → length ts ≡ length cs → glyphs (cs ++ ds) (ts ++ us) ≡ glyphs cs ts ++ glyphs ds us
+glyphs_push [] ds [] us h = refl
+glyphs_push [] ds (t ∷ ts) us h = absurd (omega arith)
+glyphs_push (c ∷ cs) ds [] us h = absurd (omega arith)
+glyphs_push (c ∷ cs) ds (t ∷ ts) us h = ap (λ is. glyph c t ∷ is) (glyphs_push cs ds ts us (omega arith))
 
 pub length-glyphs : {A : Type 0} (cs : List ℕ) (ts : List A) → length cs ≤ length ts → length (glyphs cs ts) ≡ length cs
 length-glyphs [] ts h = refl
@@ -55,13 +61,14 @@ drop_twice (suc n) m (x ∷ xs) = let e : suc n + m ≡ suc (n + m) = omega arit
 
 -- ---- the calls
 
-pub flat_push : {A : Type 0} (l : Letters) (ts : List A) (c : ℕ) (a : A) → length ts ≡ length l.placed + length l.word →
-    flat (record l { word = l.word ++ c ∷ [] }) (ts ++ a ∷ []) ≡ record (flat l ts) { word = (flat l ts).word ++ glyph c a ∷ [] }
-flat_push l ts c a h =
-    let p = glyphs_front l.placed ts (a ∷ []) (omega (arith, h)) in
-    let q = drop-append-le (length l.placed) ts (a ∷ []) (omega (arith, h)) in
-    let r = glyphs_push l.word (drop (length l.placed) ts) c a (omega (arith, h, length-drop (length l.placed) ts)) in
-    rw (p, q, r) refl
+pub flat_push : {A : Type 0} (l : Letters) (ts : List A) (cs : List ℕ) (n : ℕ) (a : A) → length ts ≡ length l.placed + length l.word → n ≡ length cs →
+    flat (record l { word = l.word ++ cs }) (ts ++ replicate n a) ≡ record (flat l ts) { word = (flat l ts).word ++ text_items cs a }
+flat_push l ts cs n a h e =
+    let us = replicate n a in
+    let p = glyphs_front l.placed ts us (omega (arith, h)) in
+    let q = drop-append-le (length l.placed) ts us (omega (arith, h)) in
+    let r = glyphs_push l.word cs (drop (length l.placed) ts) us (omega (arith, h, length-drop (length l.placed) ts)) in
+    rw (p, q, r, glyphs_one cs n a e) refl
 
 pub flat_word : {A : Type 0} (l : Letters) (ts : List A) → flat (record { placed = l.placed ++ l.word; word = [] }) ts ≡ record { placed = (flat l ts).placed ++ (flat l ts).word; word = [] }
 flat_word l ts = rw (glyphs-append l.placed l.word ts) refl

@@ -126,6 +126,21 @@ letters_push bytes i j w c h s =
     (cut_push bytes (encode_utf8 c) i j (take i bytes) (slice_range bytes i j) (drop j bytes) (cut bytes i j w h))
     ∙ ap (λ cs. record { placed = chars (slice_range bytes i j); word = cs }) (chars_push (drop j bytes) c (word_utf8 bytes i j w h) s)
 
+-- a text joins the word
+pub parts_behind : (bytes ds : List ℕ) (i j w n : ℕ) → AreParts bytes i j w → IsUtf8 ds → n ≡ length (chars ds) → AreParts (bytes ++ ds) i j (w + n)
+parts_behind bytes ds i j w n h s e =
+    let u = word_utf8 bytes i j w h in
+    from_cut (bytes ++ ds) i j (w + n) (take i bytes) (slice_range bytes i j) (drop j bytes ++ ds)
+    (cut_push bytes ds i j (take i bytes) (slice_range bytes i j) (drop j bytes) (cut bytes i j w h))
+    (placed_utf8 bytes i j w h) (IsUtf8-append (drop j bytes) ds u s)
+    (omega (arith, h.word_len, e, ap length (chars-append (drop j bytes) ds u), length-append (chars (drop j bytes)) (chars ds)))
+
+pub letters_behind : (bytes ds : List ℕ) (i j w : ℕ) → AreParts bytes i j w → letters (bytes ++ ds) i j ≡ record { placed = chars (slice_range bytes i j); word = chars (drop j bytes) ++ chars ds }
+letters_behind bytes ds i j w h =
+    letters_cut (bytes ++ ds) i j (take i bytes) (slice_range bytes i j) (drop j bytes ++ ds)
+    (cut_push bytes ds i j (take i bytes) (slice_range bytes i j) (drop j bytes) (cut bytes i j w h))
+    ∙ ap (λ cs. record { placed = chars (slice_range bytes i j); word = cs }) (chars-append (drop j bytes) ds (word_utf8 bytes i j w h))
+
 -- the word's first characters are placed
 pub parts_first : (bytes ds rest : List ℕ) (i j k w v : ℕ) → AreParts bytes i j w → drop j bytes ≡ ds ++ rest → IsUtf8 ds → IsUtf8 rest → k ≡ j + length ds → v ≡ length (chars rest) → AreParts bytes i k v
 parts_first bytes ds rest i j k w v h e p q n m =

@@ -100,20 +100,22 @@ impl<T: Drop> Stretches<T> {
 }
 
 impl<T: Eq + Clone> Stretches<T> {
-    /// Adds a tag at the end. It is copied only where a stretch of it begins.
+    /// Adds a tag `count` times at the end. It is copied only where a stretch of it begins.
     ///
     /// Where memory is refused the tags stay as they were.
-    pub fn push(&mut self, tag: &T) -> Result<(), OutOfMemory>
-        requires { CopiesAreEqual T.is_clone T.eq }
-        ensures ok { OnOk result ((a : T) × (T.eq a tag.now ≡ true) × (self.new ≡ self.old ++ a ∷ [])) }
+    pub fn push(&mut self, tag: &T, count: usize) -> Result<(), OutOfMemory>
+        requires faithful { CopiesAreEqual T.is_clone T.eq }
+        requires some { 0 < count }
+        ensures ok { OnOk result ((a : T) × (T.eq a tag.now ≡ true) × (self.new ≡ self.old ++ replicate count a)) }
         ensures err { OnErr result (self.new ≡ self.old) }
     {
-        let count = self.stretches.len();
-        if self.skipped < count && self.stretches[count - 1].tag == *tag {
-            return lengthen(&mut self.stretches[count - 1], 1);
+        let len = self.stretches.len();
+        if self.skipped < len && self.stretches[len - 1].tag == *tag {
+            return lengthen(&mut self.stretches[len - 1], count);
         }
         let tag = tag.clone()?;
-        self.stretches.push(Stretch { more: 0, tag })?;
+        let more = count - 1;
+        self.stretches.push(Stretch { more, tag })?;
         Ok(())
     }
 

@@ -1,7 +1,7 @@
-use Rattle.std.proofs.Common.{◌≡◌, ap, ◌∙◌, sym, subst, string_bytes}
-use Rattle.tbr_model.specs.Run.{Entry, marker_entry}
+use Rattle.std.proofs.Common.{ap, ◌∙◌, sym, subst, string_bytes}
+use Rattle.tbr_model.specs.Run.{marker_entry}
 use Rattle.tbr_model.specs.Rule.{entry, enter}
-use Rattle.tbr_wrap.specs.State.{State, JoinsAsMarker}
+use Rattle.tbr_wrap.specs.State.{JoinsAsMarker}
 use Rattle.tbr_wrap.specs.Course.{course, state_of}
 use Rattle.tbr_wrap.specs.Held.{HoldsCourse}
 use Rattle.tbr_wrap.specs.Wrapper.{IsAtProgress}

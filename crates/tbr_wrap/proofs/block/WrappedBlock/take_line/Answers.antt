@@ -1,4 +1,4 @@
-use Rattle.std.proofs.Common.{◌≡◌, ◌<◌, Ok, None, Some, true, false, List, [], ◌∷◌, ◌++◌, length, ap, ◌∙◌, sym, subst, arith, refl}
+use Rattle.std.proofs.Common.{◌≡◌, ◌<◌, Ok, Some, true, false, [], length, ap, ◌∙◌, sym, subst}
 use Rattle.tbr_tagged.specs.Elements.{items_of, IsMerged}
 use Rattle.tbr_tagged.proofs.SameItems.{same_items_trans}
 use Rattle.std.specs.Prelude.{IfSome}

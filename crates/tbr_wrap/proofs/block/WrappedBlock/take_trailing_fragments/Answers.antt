@@ -1,10 +1,8 @@
-use Rattle.std.proofs.Common.{◌≡◌, false, true, if◌then◌else◌, [], map, length, ap, ◌∙◌, sym, refl, subst}
-use Rattle.tbr_model.specs.Run.{has_character}
-use Rattle.tbr_model.specs.Markers.{last, names_in_items, names_in_run}
+use Rattle.std.proofs.Common.{map, ap, ◌∙◌, sym, subst}
 use Rattle.tbr_tagged.specs.Elements.{marker_element}
 use Rattle.tbr_tagged.specs.View.{element_of}
 use Rattle.tbr_wrap.specs.State.{State}
-use Rattle.tbr_wrap.specs.Course.{course, loose_names}
+use Rattle.tbr_wrap.specs.Course.{course}
 use Rattle.tbr_wrap.specs.Held.{HoldsCourse}
 use Rattle.tbr_wrap.proofs.runs.Courses.{course_after, viewed_after, holds_taken, taken_seen, kept_seen, loose_last, loose_behind, no_loose, word_held, word_names_held, given}
 use Rattle.tbr_wrap.proofs.runs.NormalRuns.{trailing_so_far}

@@ -1,0 +1,6 @@
+use Rattle.std.proofs.Common.{sym, ◌∙◌}
+use Rattle.tbr_tagged.proofs.TextColumns.{ascii_in_one}
+use Rattle.tbr_tagged.proofs.width.UnicodeColumnsCharWidth.width.Goals as goal
+
+pub returns-then-is_printable_ascii : goal.returns-then-is_printable_ascii
+returns-then-is_printable_ascii c = sym (ascii_in_one c.args.c (sym c.is_printable_ascii.ensures ∙ c.if-is_printable_ascii.true))

@@ -1,0 +1,45 @@
+//! Plain characters, which join a word where they are.
+ghost use Rattle.std.specs.Prelude.{◌≡◌, ◌≤◌, ◌<◌, ◌+◌, ◌∷◌, ℕ, List, length, take, drop, IfSome};
+ghost use Rattle.tbr_model.specs.Width.{width_of_text};
+ghost use Rattle.tbr_wrap.specs.Plain as plain;
+ghost use Rattle.tbr_wrap.specs.Plain.{IsPlain};
+
+use tbr_model::CharWidth;
+
+/// How many bytes of plain characters a text begins with, and the columns that these take.
+///
+/// A plain character is printable ASCII, other than the space, that has a width. The one behind these isn't plain, or
+/// the columns with it pass `usize`.
+pub fn plain_in_front<W: CharWidth>(text: &str) -> (usize, usize)
+    ensures within { result.0 ≤ length text.now }
+    ensures plain { IsPlain W.columns (take result.0 text.now) }
+    ensures columns { result.1 ≡ width_of_text W.columns (take result.0 text.now) }
+    ensures all { (b : ℕ) (rest : List ℕ) → drop result.0 text.now ≡ b ∷ rest →
+        IfSome (plain.plain_width W.columns b) (λ n. usize.MAX < result.1 + n) }
+{
+    let bytes = text.as_bytes();
+    let mut columns = 0usize;
+    let mut count = 0;
+    while count < bytes.len() {
+        let Some(width) = plain_width::<W>(bytes[count]) else {
+            return (count, columns);
+        };
+        let Some(sum) = columns.checked_add(width) else {
+            return (count, columns);
+        };
+        columns = sum;
+        count += 1;
+    }
+    (count, columns)
+}
+
+/// The columns of a plain character.
+fn plain_width<W: CharWidth>(byte: u8) -> Option<usize>
+    ensures { result ≡ plain.plain_width W.columns byte }
+{
+    if byte.is_ascii_graphic() {
+        W::width(char::from(byte))
+    } else {
+        None
+    }
+}
