@@ -1,38 +1,19 @@
 -- Borders under what their annotations mean.
-use Rattle.std.proofs.Common.{◌≡◌, ℕ, ◌+◌, Option, true, false, List, [], ◌∷◌, ◌++◌, map, drop, refl, ap, sym, ◌∙◌}
-use Rattle.std.specs.Prelude.{slice_range}
+use Rattle.std.proofs.Common.{◌≡◌, ℕ, Option, true, false, List, [], ◌∷◌, ◌++◌, map, refl, ap, sym, ◌∙◌}
 use Rattle.std.specs.Global.{Vec}
 use Rattle.std.proofs.lemmas.List.{map-append}
 use Rattle.tbr_model.specs.Run.{Item}
-use Rattle.tbr_model.specs.Mapped.{map_item, map_items}
-use Rattle.tbr_lines.specs.Elements.{Element, piece, marker_element, element_items}
-use Rattle.tbr_lines.specs.Cell.{Cell, character}
-use Rattle.tbr_lines.specs.Border.{Hole, Border, drawn, shown, shown_from}
-use Rattle.tbr_renderer.specs.Meant.{map_element, map_hole, map_border, map_line, tag_meant, items_meant, meant}
+use Rattle.tbr_model.specs.Mapped.{map_items}
+use Rattle.tbr_lines.specs.Border.{Border, shown}
+use Rattle.tbr_rows.specs.Meant.{map_border}
+use Rattle.tbr_rows.proofs.MeantTexts as rows
+use Rattle.tbr_renderer.specs.Meant.{map_line, tag_meant, items_meant, meant}
 use Rattle.tbr_renderer.specs.Renderer.{Line, text, border, Renderer, line_padding}
 use Rattle.tbr_renderer.specs.Appended.{with_border, border_line}
-use Rattle.tbr_renderer.proofs.Meanings.{text_items-map}
 
-module _ {T U : Type 0} (f : T → U) where
-  element_items-map : (e : Element T) → map_items f (element_items e) ≡ element_items (map_element f e)
-  element_items-map (piece cs a) = text_items-map f cs a
-  element_items-map (marker_element name) = refl
-
-  shown_from-map : (tag : T) (cells : List Cell) (at : ℕ) (hs : List (Hole T)) → map_items f (shown_from tag cells at hs) ≡ shown_from (f tag) cells at (map (map_hole f) hs)
-  shown_from-map tag cells at [] = text_items-map f (map character (drop at cells)) tag
-  shown_from-map tag cells at (h ∷ hs) =
-      let between = slice_range cells at h.place in
-      let behind : List (Item T) = shown_from tag cells (h.place + h.width) hs in
-      map-append (map_item f) (drawn between tag) (element_items h.element ++ behind)
-      ∙ ap (λ is. is ++ map_items f (element_items h.element ++ behind)) (text_items-map f (map character between) tag)
-      ∙ ap (λ is. drawn between (f tag) ++ is)
-      (map-append (map_item f) (element_items h.element) behind
-      ∙ ap (λ is. is ++ map_items f behind) (element_items-map h.element)
-      ∙ ap (λ is. element_items (map_element f h.element) ++ is) (shown_from-map tag cells (h.place + h.width) hs))
-
-  -- a border shows the same under other tags
-  pub shown-map : (tag : T) (b : Border T) → map_items f (shown tag b) ≡ shown (f tag) (map_border f b)
-  shown-map tag b = shown_from-map tag b.cells 0 b.holes
+-- a border shows the same under other tags
+pub shown-map : {T U : Type 0} (f : T → U) (tag : T) (b : Border T) → map_items f (shown tag b) ≡ shown (f tag) (map_border f b)
+shown-map f tag b = sym (rows.shown-map f tag b)
 
 module _ {D A M : Type 0} (f : A → M) (columns : ℕ → Option ℕ) (r s : Renderer D A (Vec A)) (b : Border (Vec A)) where
   -- a border joins the lines as it is

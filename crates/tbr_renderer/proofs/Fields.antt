@@ -1,8 +1,11 @@
 -- What the fields of a renderer hold after they change.
-use Rattle.std.proofs.Common.{◌≡◌, Bool, true, false, ◌||◌, List, [], ◌∷◌, ◌++◌, map, refl, ap, sym, ◌∙◌, subst}
+use Rattle.std.proofs.Common.{◌≡◌, ℕ, ◌+◌, ◌-◌, ◌≤◌, arith, not, None, if◌then◌else◌, Bool, true, false, ◌||◌, List, [], ◌∷◌, ◌++◌, map, length, refl, ap, sym, ◌∙◌, subst, length-append, lt-ltb}
+use Rattle.std.specs.Prelude.{filter, nat_lt}
+use mir.Val.{bool_byte}
 use Rattle.std.specs.Global.{Vec}
 use Rattle.std.specs.List.{AllByRecursion as Each, list_any}
 use Rattle.std.proofs.lemmas.List.{map-append}
+use Rattle.std.proofs.lemmas.List.Elements.{filter-append}
 use Rattle.tbr_lines.specs.Copies.{equal_lists}
 use Rattle.tbr_lines.specs.Elements.{Element, piece, marker_element}
 use Rattle.tbr_lines.specs.RenderLine.{IsMergedText, has_content as line_holds}
@@ -12,8 +15,9 @@ use Rattle.tbr_lines.specs.View.{element_of}
 use Rattle.tbr_lines.proofs.MappedTags.{merged_piece_has}
 use Rattle.tbr_lines.specs.declared.TaggedLineElement.{TaggedLineElement}
 use Rattle.tbr_renderer.specs.declared.sub.SubRenderer.TheInside.{Inside}
-use Rattle.tbr_renderer.specs.Renderer.{Renderer, line_has_content}
-use Rattle.tbr_renderer.specs.View.{line_seen, names_of, AreMarkers, renderer_of, HoldsRenderer}
+use Rattle.tbr_lines.specs.Border.{Border, has_holes}
+use Rattle.tbr_renderer.specs.Renderer.{border, Renderer, line_has_content}
+use Rattle.tbr_renderer.specs.View.{line_seen, names_of, AreMarkers, renderer_of, HoldsFresh, HoldsRenderer}
 
 -- ---- markers
 
@@ -54,35 +58,83 @@ each_behind : {X : Type 0} (P : X → Type 0) (xs : List X) (x : X) → Each P x
 each_behind P [] x h k = (k, tt)
 each_behind P (y ∷ xs) x h k = (h.0, each_behind P xs x h.1 k)
 
-any_behind : {X : Type 0} (test : X → Bool) (xs : List X) (x : X) → list_any test (xs ++ x ∷ []) ≡ list_any test xs || test x
-any_behind test [] x = or_false (test x)
+pub count_behind : {X : Type 0} (test : X → Bool) (xs : List X) (x : X) → length (filter test (xs ++ x ∷ [])) ≡ length (filter test xs) + (if test x then 1 else 0)
+count_behind {X} test xs x = ap length (filter-append test xs (x ∷ [])) ∙ length-append (filter test xs) (filter test (x ∷ [])) ∙ ap (λ n. length (filter test xs) + n) (go (test x))
   where
-    or_false : (b : Bool) → b || false ≡ b
-    or_false true = refl
-    or_false false = refl
-any_behind test (y ∷ xs) x = go (test y) (any_behind test xs x)
+    go : (b : Bool) → length (if b then x ∷ [] else []) ≡ (if b then 1 else 0)
+    go true = refl
+    go false = refl
+
+-- some pass where their count is above zero
+pub any_counted : {X : Type 0} (test : X → Bool) (xs : List X) → nat_lt 0 (length (filter test xs)) ≡ list_any test xs
+any_counted test [] = refl
+any_counted test (x ∷ xs) = go (test x) (any_counted test xs)
   where
-    go : (b : Bool) → list_any test (xs ++ x ∷ []) ≡ list_any test xs || test x → b || list_any test (xs ++ x ∷ []) ≡ (b || list_any test xs) || test x
-    go true e = refl
-    go false e = e
+    go : (b : Bool) → nat_lt 0 (length (filter test xs)) ≡ list_any test xs → nat_lt 0 (length (if b then x ∷ filter test xs else filter test xs)) ≡ b || list_any test xs
+    go true h = lt-ltb 0 (length (x ∷ filter test xs)) (omega arith)
+    go false h = h
+
+pub one_or_none : (b : Bool) → bool_byte b ≡ (if b then 1 else 0)
+one_or_none true = refl
+one_or_none false = refl
 
 -- a line has content where it is seen to have it
 content_seen : {T : Type 0} (eq : T → T → Bool) (line : RenderLine T) → IsMergedText eq line → line_holds line ≡ line_has_content (line_seen line)
 content_seen eq (Text line) merged = merged_piece_has eq line merged
 content_seen eq (Rule b) merged = refl
 
-module _ {D W A : Type 0} (eq : A → A → Bool) (r : Inside D W A) (line : RenderLine (Vec A)) (lines : List (RenderLine (Vec A))) (has_content : Bool) where
+each_front : {X : Type 0} (P : X → Type 0) (xs : List X) (x : X) → Each P (xs ++ x ∷ []) → Each P xs
+each_front P [] x h = tt
+each_front P (y ∷ xs) x h = (h.0, each_front P xs x h.1)
+
+module _ {D W A : Type 0} (eq : A → A → Bool) (r : Inside D W A) (b : Border (Vec A)) (lines : List (RenderLine (Vec A))) (is : r.lines ≡ lines ++ Rule b ∷ []) where
+  -- lines with content, and a border behind them
+  counted : length (filter line_has_content (map line_seen r.lines)) ≡ length (filter line_has_content (map line_seen lines)) + (if not (has_holes b.holes) then 1 else 0)
+  counted =
+      ap (λ ls. length (filter line_has_content (map line_seen ls))) is ∙ ap (λ ls. length (filter line_has_content ls)) (map-append line_seen lines (Rule b ∷ []))
+      ∙ count_behind line_has_content (map line_seen lines) (border b)
+
+  -- a border without holes counts
+  pub some_counted : HoldsFresh eq r → has_holes b.holes ≡ false → 1 ≤ r.with_content
+  some_counted f bare =
+      let one : ◌≡◌ {A = ℕ} (if not (has_holes b.holes) then 1 else 0) 1 = rw bare refl in
+      omega (arith, f.content, counted, one)
+
+  pub one_less : HoldsFresh eq r → has_holes b.holes ≡ false → r.with_content ≡ r.with_content - 1 + (if not (has_holes b.holes) then 1 else 0)
+  one_less f bare =
+      let one : ◌≡◌ {A = ℕ} (if not (has_holes b.holes) then 1 else 0) 1 = rw bare refl in
+      omega (arith, some_counted f bare, one)
+
+  pub none_less : has_holes b.holes ≡ true → r.with_content ≡ r.with_content + (if not (has_holes b.holes) then 1 else 0)
+  none_less holed =
+      let none : ◌≡◌ {A = ℕ} (if not (has_holes b.holes) then 1 else 0) 0 = rw holed refl in
+      omega (arith, none)
+
+  -- it is taken
+  pub holds_front : HoldsRenderer eq r → r.failure ≡ None → (with_content : ℕ) → r.with_content ≡ with_content + (if not (has_holes b.holes) then 1 else 0) → HoldsRenderer eq (record r { lines = lines; with_content = with_content })
+  holds_front h live with_content one = record {
+    columns = h.columns;
+    fresh = λ none. let f = h.fresh live in record {
+      opened = f.opened;
+      markers = f.markers;
+      merged = each_front (IsMergedText (equal_lists eq)) lines (Rule b) (subst (λ ls. Each (IsMergedText (equal_lists eq)) ls) is f.merged);
+      content = let n : with_content ≡ length (filter line_has_content (map line_seen lines)) = omega (arith, one, f.content, counted) in n;
+    };
+  }
+
+module _ {D W A : Type 0} (eq : A → A → Bool) (r : Inside D W A) (line : RenderLine (Vec A)) (lines : List (RenderLine (Vec A))) (with_content : ℕ) where
   -- one more line
-  pub holds_line : HoldsRenderer eq r → IsMergedText (equal_lists eq) line → lines ≡ r.lines ++ line ∷ [] → has_content ≡ r.has_content || line_holds line →
-      HoldsRenderer eq (record r { lines = lines; has_content = has_content })
+  pub holds_line : HoldsRenderer eq r → IsMergedText (equal_lists eq) line → lines ≡ r.lines ++ line ∷ [] → with_content ≡ r.with_content + (if line_holds line then 1 else 0) →
+      HoldsRenderer eq (record r { lines = lines; with_content = with_content })
   holds_line h merged is content = record {
     columns = h.columns;
     fresh = λ live. let f = h.fresh live in record {
       opened = f.opened;
       markers = f.markers;
       merged = subst (λ ls. Each (IsMergedText (equal_lists eq)) ls) (sym is) (each_behind (IsMergedText (equal_lists eq)) r.lines line f.merged merged);
-      content = content ∙ ap (λ b. b || line_holds line) f.content ∙ ap (λ b. list_any line_has_content (map line_seen r.lines) || b) (content_seen (equal_lists eq) line merged)
-          ∙ sym (any_behind line_has_content (map line_seen r.lines) (line_seen line))
-          ∙ ap (list_any line_has_content) (sym (map-append line_seen r.lines (line ∷ [])) ∙ ap (map line_seen) (sym is));
+      content = content ∙ ap (λ n. n + (if line_holds line then 1 else 0)) f.content
+          ∙ ap (λ (b : Bool). length (filter line_has_content (map line_seen r.lines)) + (if b then 1 else 0)) (content_seen (equal_lists eq) line merged)
+          ∙ sym (count_behind line_has_content (map line_seen r.lines) (line_seen line))
+          ∙ ap (λ ls. length (filter line_has_content ls)) (sym (map-append line_seen r.lines (line ∷ [])) ∙ ap (map line_seen) (sym is));
     };
   }

@@ -138,7 +138,7 @@ module _ {D A M : Type 0} (f : A → M) (columns : ℕ → Option ℕ) (r : Rend
       ap (map (line_meant columns f behind)) left ∙ lines-map f columns behind b.padding (block_width r) all padding wide in
       let after_lines : meant f s1 ≡ fold (with_line columns) (record (meant f r) { block = None }) (map (λ is. is ++ padding_of columns (option_map g b.padding) (block_width r) is) (map_lines g all)) =
       lines ∙ ap (λ (q : Renderer D A (Vec A)). fold (with_line columns) (meant f q) (map (line_meant columns f behind) (lines_left behind))) emptied ∙ ap (fold (with_line columns) (record (meant f r) { block = None })) here in
-      let done : EndsBlock columns (meant f r) (record { padding = option_map g b.padding; run = map_run g b.run }) (meant f s2) = record {
+      let done : EndsBlock columns (meant f r) (record { padding = option_map g b.padding; run = map_run g b.run; blank = false }) (meant f s2) = record {
         texts = map_lines g all;
         names = names;
         fits = run_fits-map g columns (block_width r) (may_overflow r) b.run

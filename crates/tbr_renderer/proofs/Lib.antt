@@ -8,8 +8,10 @@ pub mod LineTexts
 pub mod Appending
 pub mod Fields
 pub mod Lines
+pub mod Blank
 pub mod Fits
 pub mod Flushing
+pub mod Rowing
 pub mod Texts
 pub mod Writing
 pub mod Steady

@@ -7,5 +7,6 @@ pub mod Flush
 pub mod Steps
 pub mod Image
 pub mod Appended
+pub mod Rows
 pub mod Decorated
 pub mod Calls

@@ -1,12 +1,11 @@
 -- A renderer by what its annotations mean.
-use Rattle.std.specs.Prelude.{List, map}
+use Rattle.std.specs.Prelude.{List, map, false}
 use Rattle.std.specs.Option.{option_map}
 use Rattle.std.specs.Global.{Vec}
 use Rattle.std.specs.Vec.{vec_items}
 use Rattle.tbr_model.specs.Run.{Item}
 use Rattle.tbr_model.specs.Mapped.{map_items, map_run}
-use Rattle.tbr_lines.specs.Elements.{Element, piece, marker_element}
-use Rattle.tbr_lines.specs.Border.{Hole, Border}
+use Rattle.tbr_rows.specs.Meant.{map_border, map_cell}
 use Rattle.tbr_renderer.specs.Renderer.{Line, text, border, Open, Renderer}
 
 -- what a list of annotations means
@@ -17,24 +16,14 @@ tag_meant meaning v = map meaning (vec_items v)
 abbrev pub items_meant : {A M : Type 0} → (A → M) → List (Item (Vec A)) → List (Item (List M))
 items_meant meaning is = map_items (tag_meant meaning) is
 
--- ---- elements, borders, lines and blocks under other tags
-
-abbrev pub map_element : {T U : Type 0} → (T → U) → Element T → Element U
-map_element f (piece cs a) = piece cs (f a)
-map_element f (marker_element name) = marker_element name
-
-abbrev pub map_hole : {T U : Type 0} → (T → U) → Hole T → Hole U
-map_hole f h = record { place = h.place; width = h.width; element = map_element f h.element }
-
-abbrev pub map_border : {T U : Type 0} → (T → U) → Border T → Border U
-map_border f b = record { cells = b.cells; tag = f b.tag; holes = map (map_hole f) b.holes }
+-- ---- lines and blocks under other tags
 
 abbrev pub map_line : {T U : Type 0} → (T → U) → Line T → Line U
 map_line f (text is) = text (map_items f is)
 map_line f (border b) = border (map_border f b)
 
 abbrev pub map_open : {T U : Type 0} → (T → U) → Open T → Open U
-map_open f b = record { padding = option_map f b.padding; run = map_run f b.run }
+map_open f b = record { padding = option_map f b.padding; run = map_run f b.run; blank = false }
 
 -- the same renderer, each annotation as what it means
 abbrev pub meant : {D A M : Type 0} → (A → M) → Renderer D A (Vec A) → Renderer D M (List M)
@@ -51,4 +40,5 @@ meant meaning r = record {
   strikeouts = r.strikeouts;
   preformatted = r.preformatted;
   failure = r.failure;
+  hanging = map (map_cell (tag_meant meaning)) r.hanging;
 }

@@ -11,6 +11,7 @@ use Rattle.tbr_lines.specs.Border.{Border, has_holes}
 use Rattle.tbr_lines.specs.State.{text_entries}
 use Rattle.tbr_lines.specs.Wrapped.{padding_of}
 use Rattle.tbr_lines.specs.declared.Error.{Error}
+use Rattle.tbr_rows.specs.declared.line_set.LineSet.{LineSet as Cell}
 use Rattle.tbr_renderer.specs.declared.options.RenderOptions.{RenderOptions}
 
 -- A line: a text, or a border.
@@ -22,6 +23,8 @@ pub data Line (T : Type 0) : Type 0 where
 pub record Open (T : Type 0) : Type 0 where
   pub padding : Option T
   pub run : List (Entry T)
+  -- Whether no line of it has ended, and what is open holds no character. Its meaning doesn't tell: it says no there.
+  pub blank : Bool
 
 -- A renderer, whose decorator is a `D`. Text stands under a `T`, which holds several annotations `A`.
 pub record Renderer (D A T : Type 0) : Type 0 where
@@ -41,6 +44,8 @@ pub record Renderer (D A T : Type 0) : Type 0 where
   pub preformatted : ℕ
   -- the kept refusal
   pub failure : Option Error
+  -- the cells that overhang from the rows before
+  pub hanging : List (Cell T)
 
 -- a renderer to which nothing was added
 abbrev pub new_renderer : {D A T : Type 0} → ℕ → RenderOptions → D → Renderer D A T
@@ -57,6 +62,7 @@ new_renderer width options decorator = record {
   strikeouts = 0;
   preformatted = 0;
   failure = None;
+  hanging = [];
 }
 
 -- ---- what isn't text
@@ -142,7 +148,11 @@ may_overflow r = overflows r.options (block_width r)
 
 -- a block as it is opened: it pads under the annotations of that moment
 abbrev pub new_block : {D A : Type 0} → Renderer D A (List A) → Open (List A)
-new_block r = record { padding = (if r.options.pad_block_width then Some r.annotations else None); run = [] }
+new_block r = record {
+  padding = (if r.options.pad_block_width then Some r.annotations else None);
+  run = [];
+  blank = false;
+}
 
 -- the open block, or a new one
 abbrev pub open_block : {D A : Type 0} → Renderer D A (List A) → Open (List A)

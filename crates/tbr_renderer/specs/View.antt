@@ -1,14 +1,14 @@
 -- What the fields of a renderer mean.
-use Rattle.std.specs.Prelude.{◌≡◌, ◌<◌, ℕ, Bool, false, ⊤, Option, Some, None, List, [], ◌∷◌, map, chars}
+use Rattle.std.specs.Prelude.{◌≡◌, ◌<◌, ℕ, Bool, false, not, ◌&&◌, ⊤, Option, Some, None, List, [], ◌∷◌, map, filter, length, chars}
 use Rattle.std.specs.Option.{option_map}
-use Rattle.std.specs.List.{AllByRecursion as Each, list_any}
+use Rattle.std.specs.List.{AllByRecursion as Each}
 use Rattle.std.specs.Global.{Vec}
 use Rattle.tbr_lines.specs.Copies.{equal_lists}
 use Rattle.tbr_lines.specs.View.{element_of}
 use Rattle.tbr_renderer.specs.Meant.{tag_meant, map_open}
 use Rattle.tbr_renderer.specs.declared.sub.SubRenderer.TheInside.{Inside}
 use Rattle.tbr_lines.specs.Elements.{Element, piece, marker_element, items_of}
-use Rattle.tbr_lines.specs.State.{State}
+use Rattle.tbr_lines.specs.State.{State, has_begun}
 use Rattle.tbr_decor.specs.Start as start
 use Rattle.tbr_decor.specs.End as end
 use Rattle.tbr_decor.specs.Ground as ground
@@ -28,7 +28,7 @@ line_seen (Text es) = text (items_of es)
 line_seen (Rule b) = border b
 
 abbrev pub open_seen : {T : Type 0} → State T → Open T
-open_seen b = record { padding = b.padding; run = b.run }
+open_seen b = record { padding = b.padding; run = b.run; blank = not (has_begun b) && b.no_character }
 
 abbrev pub block_seen : {T : Type 0} → Option (State T) → Option (Open T)
 block_seen block = option_map open_seen block
@@ -74,16 +74,17 @@ renderer_of r = record {
   strikeouts = r.strikeouts;
   preformatted = r.preformatted;
   failure = r.failure;
+  hanging = r.hanging;
 }
 
--- What the fields of a renderer that hasn't failed hold: a fresh block, if any, markers that wait, and lines whose
--- pieces are the longest stretches under equal annotations.
+-- What the fields of a renderer that hasn't failed hold: a fresh block, if any, markers that wait, lines whose pieces are
+-- the longest stretches under equal annotations, and how many of them have content.
 pub record HoldsFresh {D W A : Type 0} (eq : A → A → Bool) (r : Inside D W A) : Type 0 where
   pub opened : IsOpened (least r.width r.options.wrap_width)
       (overflows r.options (least r.width r.options.wrap_width)) r.wrapping
   pub markers : AreMarkers (map element_of r.waiting.items)
   pub merged : Each (IsMergedText (equal_lists eq)) r.lines
-  pub content : r.has_content ≡ list_any line_has_content (map line_seen r.lines)
+  pub content : r.with_content ≡ length (filter line_has_content (map line_seen r.lines))
 
 -- and what those of any renderer do
 pub record HoldsRenderer {D W A : Type 0} (eq : A → A → Bool) (r : Inside D W A) : Type 0 where

@@ -1,8 +1,10 @@
 //! The calls of a renderer.
-ghost use Rattle.std.specs.Prelude.{◌≡◌, ◌≢◌, ◌≤◌, ◌<◌, ◌⊎◌, ℕ, Bool, true, List, length, Option, None, Some, Err, OnOk, OnErr, IfOk, IfErr, chars};
+ghost use Rattle.std.specs.Prelude.{◌≡◌, ◌≢◌, ◌≤◌, ◌<◌, ◌⊎◌, ℕ, Bool, true, List, length, Option, None, Some, Err, OnOk, OnErr, IfOk, IfErr, chars, map, replicate};
 ghost use Rattle.std.specs.List.{AllZip, AllByRecursion as Each};
 ghost use Rattle.tbr_renderer.specs.Renderer.{Line};
 ghost use Rattle.tbr_renderer.specs.Appended.{GivesFirst, texts_of, FirstToRefuse};
+ghost use Rattle.tbr_renderer.specs.Rows.{GivenCell, GivesCell, align_in};
+ghost use Rattle.tbr_lines.specs.declared.CellAlign.TheVariants as A;
 ghost use Rattle.tbr_lines.specs.View.{chars_of};
 ghost use Rattle.tbr_decor.specs.Start as start;
 ghost use Rattle.tbr_decor.specs.End as end;
@@ -15,7 +17,7 @@ ghost use Rattle.tbr_lines.specs.declared.Error.TheVariants as E;
 
 use std::convert::AsStr;
 use tbr_decor::Colour;
-use tbr_lines::{Error, WhiteSpace};
+use tbr_lines::{CellAlign, Error, WhiteSpace};
 
 /// What writes blocks of text, one below another.
 ///
@@ -51,6 +53,12 @@ pub trait Renderer {
     ghost hands_out: { Self → List (Line Self.Tag) → Type 0 };
 
     ghost holds_back: { Self → Type 0 };
+
+    // Whether a row of such renderers, each with a span, has a place for each cell that overhangs, and what a row of
+    // these cells leaves.
+    ghost has_places_for: { Self → List (Self × ℕ) → Type 0 };
+
+    ghost appends_row: { Bool → List (GivenCell Self.Tag) → Self → Self → Type 0 };
 
     // Whether it is as another one was, but for this refusal.
     ghost has_failed_from: { Self → Refusal → Self → Type 0 };
@@ -373,6 +381,56 @@ pub trait Renderer {
             is_too_narrow call.new_line self.old ⊎ FirstToRefuse (λ col lines. hands_out col lines) (λ col. holds_back col) cols.items }
         ensures two_columns { kept_refusal self.old ≡ None → 2 ≤ block_columns self.old →
             Each (λ col. (kept_refusal col ≡ None) × (2 ≤ block_columns col)) cols.items → result ≢ Err E.TooNarrow }
+        ensures left { kept_refusal self.old ≡ None →
+            OnErr result (stops_at_stage call.new_line self.old self.new) }
+        ensures kept { KeepsFailure kept_refusal self.old result self.new };
+
+    /// Ends the open line, and then those of other renderers, in order, and adds a row of their lines, side by side and
+    /// parted by `│`, or by spaces where borders aren't drawn. Each comes with the rows that it spans, at least one, and
+    /// its texts are aligned as asked, one alignment for each. It asks for a row that fits: a `SubRenderer` tells by
+    /// `row_fits`.
+    ///
+    /// A border that is the last line is joined to the row, and a border comes below, where borders are drawn. Lines of a
+    /// cell that spans more rows overhang into the next rows. With `collapse` borders at the top and at the bottom of
+    /// cells are merged into the borders above and below. A refusal of one of the renderers is passed on, the first in
+    /// order.
+    fn append_columns_aligned(
+        &mut self,
+        cols: Vec<(Self, usize)>,
+        aligns: &[CellAlign],
+        collapse: bool,
+    ) -> Result<(), Error>
+        requires spans { Each (λ col. 0 < col.1) cols.items }
+        requires aligns { length aligns.now ≡ length cols.items }
+        requires fits { has_places_for self.old cols.items }
+        ensures ok { OnOk result ((cells : List (GivenCell Tag)) × AllZip (GivesCell columns_of hands_out) cols.items cells
+            × (map align_in cells ≡ aligns.now) × appends_row collapse cells self.old self.new) }
+        ensures too_narrow { kept_refusal self.old ≡ None → result ≡ Err E.TooNarrow →
+            is_too_narrow call.new_line self.old
+            ⊎ FirstToRefuse (λ col lines. hands_out col.0 lines) (λ col. holds_back col.0) cols.items }
+        ensures two_columns { kept_refusal self.old ≡ None → 2 ≤ block_columns self.old →
+            Each (λ col. (kept_refusal col.0 ≡ None) × (2 ≤ block_columns col.0)) cols.items →
+            result ≢ Err E.TooNarrow }
+        ensures left { kept_refusal self.old ≡ None →
+            OnErr result (stops_at_stage call.new_line self.old self.new) }
+        ensures kept { KeepsFailure kept_refusal self.old result self.new };
+
+    /// Adds a row, as `append_columns_aligned` does, with all texts at the left.
+    fn append_columns_with_borders(
+        &mut self,
+        cols: Vec<(Self, usize)>,
+        collapse: bool,
+    ) -> Result<(), Error>
+        requires spans { Each (λ col. 0 < col.1) cols.items }
+        requires fits { has_places_for self.old cols.items }
+        ensures ok { OnOk result ((cells : List (GivenCell Tag)) × AllZip (GivesCell columns_of hands_out) cols.items cells
+            × (map align_in cells ≡ replicate (length cells) A.Left) × appends_row collapse cells self.old self.new) }
+        ensures too_narrow { kept_refusal self.old ≡ None → result ≡ Err E.TooNarrow →
+            is_too_narrow call.new_line self.old
+            ⊎ FirstToRefuse (λ col lines. hands_out col.0 lines) (λ col. holds_back col.0) cols.items }
+        ensures two_columns { kept_refusal self.old ≡ None → 2 ≤ block_columns self.old →
+            Each (λ col. (kept_refusal col.0 ≡ None) × (2 ≤ block_columns col.0)) cols.items →
+            result ≢ Err E.TooNarrow }
         ensures left { kept_refusal self.old ≡ None →
             OnErr result (stops_at_stage call.new_line self.old self.new) }
         ensures kept { KeepsFailure kept_refusal self.old result self.new };

@@ -21,6 +21,7 @@ use tbr_lines::{
     CharWidth, Error, OutOfMemory, RenderLine, TaggedLine, TaggedLineElement, TooNarrow,
     UnicodeColumns, WhiteSpace, WrappedBlock,
 };
+use tbr_rows::Overhang;
 
 mod appended;
 mod blocks;
@@ -30,6 +31,7 @@ mod colours;
 mod decorated;
 mod images;
 mod lines;
+mod rows;
 mod strikeouts;
 mod texts;
 
@@ -41,8 +43,8 @@ pub struct SubRenderer<D: TextDecorator, W: CharWidth = UnicodeColumns> {
     options: RenderOptions,
     decorator: D,
     lines: LinkedList<RenderLine<Vec<D::Annotation>>>,
-    /// Whether a line has content.
-    has_content: bool,
+    /// How many lines have content.
+    with_content: usize,
     /// The open block.
     wrapping: Option<WrappedBlock<Vec<D::Annotation>, W>>,
     /// Markers that wait for a line of text.
@@ -54,6 +56,8 @@ pub struct SubRenderer<D: TextDecorator, W: CharWidth = UnicodeColumns> {
     strikeouts: usize,
     preformatted: usize,
     failure: Option<Error>,
+    /// The cells that overhang from the rows before.
+    hanging: Overhang<Vec<D::Annotation>>,
 }
 
 impl<D: TextDecorator, W: CharWidth> Model for SubRenderer<D, W> {
@@ -88,7 +92,7 @@ impl<D: TextDecorator, W: CharWidth> SubRenderer<D, W> {
             options,
             decorator,
             lines: LinkedList::new(alloc),
-            has_content: false,
+            with_content: 0,
             wrapping: None,
             waiting: Vec::new(alloc),
             block_ended: false,
@@ -97,6 +101,7 @@ impl<D: TextDecorator, W: CharWidth> SubRenderer<D, W> {
             strikeouts: 0,
             preformatted: 0,
             failure: None,
+            hanging: Overhang::new(alloc),
         }
     }
 
@@ -210,7 +215,7 @@ impl<D: TextDecorator, W: CharWidth> SubRenderer<D, W> {
         requires { self.now.failure ≡ None }
         ensures { result ≡ has_content self.now }
     {
-        self.has_content
+        self.with_content > 0
     }
 
     /// Lets markers wait.
@@ -243,9 +248,12 @@ impl<D: TextDecorator, W: CharWidth> SubRenderer<D, W> {
         ensures line { OnOk result (self.new ≡ record self.old { lines = self.old.lines ++ line_seen line ∷ [] }) }
         ensures settings { KeepsSettings (meant D.meaning self.old) (meant D.meaning self.new) }
     {
-        let has_content = line.has_content();
+        let more = usize::from(line.has_content());
+        let Some(with_content) = self.with_content.checked_add(more) else {
+            return Err(OutOfMemory);
+        };
         self.lines.push_back(line)?;
-        self.has_content |= has_content;
+        self.with_content = with_content;
         Ok(())
     }
 

@@ -79,7 +79,7 @@ module _ {A B : Type 0} (f : A → B) (eq : A → A → Bool) (means : MeansEqua
 module _ {A B : Type 0} (f : A → B) (eq : A → A → Bool) (means : MeansEqual f eq) where
   -- ---- what comes into a row
 
-  filled_means : (columns : ℕ → Option ℕ) (align : CellAlign) (width : ℕ) (a : A) (l done : RenderLine A) → FillsLine columns eq align width a l done → MeansFilled columns align width (f a) (map_line f l) (map_line f done)
+  pub filled_means : (columns : ℕ → Option ℕ) (align : CellAlign) (width : ℕ) (a : A) (l done : RenderLine A) → FillsLine columns eq align width a l done → MeansFilled columns align width (f a) (map_line f l) (map_line f done)
   filled_means columns align width a (Text es) (Text done) h =
       let missing : ℕ = columns_missing columns width es in
       let front : ℕ = columns_in_front align missing in

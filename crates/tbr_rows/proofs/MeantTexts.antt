@@ -181,7 +181,7 @@ module _ {A B : Type 0} (f : A → B) where
     ends_stretch (marker_element name) (piece ds b ∷ es) h = tt
     ends_stretch (marker_element name) (marker_element n ∷ es) h = tt
 
-    longest_means : (es : List (Element A)) → IsMerged eq es → AreLongest (map (map_element f) es)
+    pub longest_means : (es : List (Element A)) → IsMerged eq es → AreLongest (map (map_element f) es)
     longest_means [] h = tt
     longest_means (e ∷ es) h = (has_text e h.0, ends_stretch e es h.1, longest_means es h.2)
 

@@ -35,7 +35,7 @@ rest_same a (c ∷ cs) [] xs ys es (piece (d ∷ ds) b ∷ fs) p q l m h = absur
 rest_same a (c ∷ cs) [] xs ys es (marker_element n ∷ fs) p q l m h = absurd (let no : ⊥ = cc in no)
 
 -- elements of the same items, in longest stretches, are the same
-longest_same : {A : Type 0} (es fs : List (Element A)) → AreLongest es → AreLongest fs → items_of es ≡ items_of fs → es ≡ fs
+pub longest_same : {A : Type 0} (es fs : List (Element A)) → AreLongest es → AreLongest fs → items_of es ≡ items_of fs → es ≡ fs
 longest_same [] [] l m h = refl
 longest_same [] (piece [] b ∷ fs) l m h = absurd m.0
 longest_same [] (piece (d ∷ ds) b ∷ fs) l m h = absurd (let no : ⊥ = cc in no)

@@ -425,7 +425,7 @@ impl<T: Eq + Clone, W: CharWidth> WrappedBlock<T, W> {
     ///
     /// In a `Normal` run `TooNarrow` comes exactly where a word of the run has a character wider than the block; in any
     /// other run only where the run has such a character, and always where that is visible; and never where lines may
-    /// be wider. `OutOfMemory` comes only for want of memory.
+    /// be wider. `OutOfMemory` comes only for want of memory. Where open line and word hold no character, no line ends.
     pub fn flush(&mut self) -> Result<(), Error>
     where
         T: Drop,
@@ -440,6 +440,7 @@ impl<T: Eq + Clone, W: CharWidth> WrappedBlock<T, W> {
         ensures normal_too_narrow { self.old.failure ≡ None → IsNormal self.old.run → result ≡ Err E.TooNarrow →
             ¬ (WordsFit W.columns self.old.width self.old.run) }
         ensures two_columns { self.old.failure ≡ None → 2 ≤ self.old.width → result ≢ Err E.TooNarrow }
+        ensures blank { self.old.no_character ≡ true → OnOk result (lines_left self.new ≡ lines_left self.old) }
         ensures kept { KeepsRefusal self.old result self.new }
     {
         self.refusal()?;

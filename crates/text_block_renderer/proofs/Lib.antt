@@ -14,5 +14,5 @@ pub mod Stretching
 pub mod Parting
 pub mod Laying
 pub mod Nesting
-pub mod Rows
+pub mod VerticalRows
 pub mod Taking

@@ -9,11 +9,12 @@ pub use Rattle.tbr_renderer.specs.Steps
 pub use Rattle.tbr_renderer.specs.Text
 pub use Rattle.tbr_renderer.specs.View
 pub use Rattle.tbr_renderer.specs.Appended
+pub use Rattle.tbr_renderer.specs.Rows
 pub mod Drawn
 pub mod MarkersStand
 pub mod Stretches
 pub mod Nested
-pub mod Rows
+pub mod VerticalRows
 pub mod Taken
 pub mod Settings
 pub mod Normal

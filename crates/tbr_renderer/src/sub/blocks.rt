@@ -1,11 +1,12 @@
 //! The end of runs, and the beginning of blocks.
-ghost use Rattle.std.specs.Prelude.{◌≡◌, ◌≢◌, ◌≤◌, None, Some, Ok, Err, map, fold, List, ℕ, IfOk, IfErr, OnOk};
+ghost use Rattle.std.specs.Prelude.{◌≡◌, ◌≢◌, ◌≤◌, None, Some, Ok, Err, true, map, fold, List, ℕ, IfOk, IfErr, OnOk};
 ghost use Rattle.tbr_lines.specs.State.{lines_left};
 ghost use Rattle.tbr_lines.specs.declared.Error.{Error as Refusal};
 ghost use Rattle.tbr_lines.specs.declared.Error.TheVariants as E;
 ghost use Rattle.tbr_renderer.specs.Renderer.{KeepsSettings, with_line, block_width};
 ghost use Rattle.tbr_renderer.specs.Meant.{meant};
 ghost use Rattle.tbr_renderer.specs.Flush.{line_meant, Flushes, FlushIsTooNarrow};
+ghost use Rattle.tbr_renderer.specs.Rows.{block_is_blank};
 ghost use Rattle.tbr_renderer.specs.Steps.{with_empty_line, AddsEmptyLine, block_started, StartsBlock, BlockIsAtLineStart, BreaksLine};
 
 use crate::sub::SubRenderer;
@@ -34,6 +35,8 @@ impl<D: TextDecorator, W: CharWidth> SubRenderer<D, W> {
         requires { self.old.failure ≡ None }
         ensures ok { OnOk result (Flushes W.columns (meant D.meaning self.old) (meant D.meaning self.new)) }
         ensures unfailed { OnOk result (self.new.failure ≡ None) }
+        ensures blank { block_is_blank self.old.block ≡ true →
+            OnOk result ((meant D.meaning self.new).lines ≡ (meant D.meaning self.old).lines) }
         ensures too_narrow { result ≡ Err E.TooNarrow → FlushIsTooNarrow W.columns (meant D.meaning self.old) }
         ensures two_columns { 2 ≤ block_width self.old → result ≢ Err E.TooNarrow }
         ensures settings { KeepsSettings (meant D.meaning self.old) (meant D.meaning self.new) }

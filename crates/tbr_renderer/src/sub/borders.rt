@@ -3,7 +3,8 @@ ghost use Rattle.std.specs.Prelude.{◌≡◌, ◌≢◌, ◌≤◌, if◌then�
 ghost use Rattle.tbr_lines.specs.Cell.{cell_of, horizontal};
 ghost use Rattle.tbr_lines.specs.declared.Error.TheVariants as E;
 ghost use Rattle.tbr_renderer.specs.Renderer.{KeepsSettings, block_width};
-ghost use Rattle.tbr_renderer.specs.Meant.{tag_meant, map_border, meant};
+ghost use Rattle.tbr_rows.specs.Meant.{map_border};
+ghost use Rattle.tbr_renderer.specs.Meant.{tag_meant, meant};
 ghost use Rattle.tbr_renderer.specs.Flush.{FlushIsTooNarrow};
 ghost use Rattle.tbr_renderer.specs.Appended.{with_border, border_of_cells, with_divider, AddsBorder};
 
@@ -13,7 +14,10 @@ use tbr_lines::{BorderHoriz, BorderSegHoriz, CharWidth, Error, OutOfMemory, Rend
 
 impl<D: TextDecorator, W: CharWidth> SubRenderer<D, W> {
     /// Adds a border, as text where lines are padded. Where memory is refused it is lost.
-    fn add_border(&mut self, border: BorderHoriz<Vec<D::Annotation>>) -> Result<(), OutOfMemory>
+    pub(crate) fn add_border(
+        &mut self,
+        border: BorderHoriz<Vec<D::Annotation>>,
+    ) -> Result<(), OutOfMemory>
         requires { self.old.failure ≡ None }
         ensures border { OnOk result (meant D.meaning self.new
             ≡ with_border W.columns (meant D.meaning self.old) (map_border (tag_meant D.meaning) border)) }

@@ -1,5 +1,5 @@
 //! The calls of a renderer.
-ghost use Rattle.std.specs.Prelude.{◌≡◌, ◌≢◌, ◌<◌, ◌++◌, ◌∷◌, [], suc, ◌-◌, not, None, Some, Ok, Err, OnOk, OnErr, IfErr, List, ◌⊎◌, ◌≤◌};
+ghost use Rattle.std.specs.Prelude.{◌≡◌, ◌≢◌, ◌<◌, ◌++◌, ◌∷◌, [], suc, ◌-◌, not, true, None, Some, Ok, Err, OnOk, OnErr, IfErr, List, map, length, replicate, ◌⊎◌, ◌≤◌};
 ghost use Rattle.tbr_lines.specs.declared.Error.TheVariants as E;
 ghost use Rattle.tbr_renderer.specs.Renderer.{KeepsSettings, block_width, without_last};
 ghost use Rattle.tbr_renderer.specs.Meant.{meant, tag_meant};
@@ -7,6 +7,9 @@ ghost use Rattle.tbr_renderer.specs.Steps.{BlockIsEmpty, TellsEmpty};
 ghost use Rattle.tbr_renderer.specs.Calls.{Does, IsTooNarrow, StopsAtStage, KeepsFailure};
 ghost use Rattle.tbr_renderer.specs.Calls as call;
 ghost use Rattle.tbr_renderer.specs.Appended.{HandsOut, HoldsBack, FirstToRefuse, AppendsCells};
+ghost use Rattle.tbr_rows.specs.Cells.{row_fits};
+ghost use Rattle.tbr_renderer.specs.Rows.{GivenCell, GivesCell, align_in, spots_of, AppendsRow};
+ghost use Rattle.tbr_lines.specs.declared.CellAlign.TheVariants as A;
 ghost use Rattle.tbr_renderer.specs.Flush.{FlushIsTooNarrow};
 ghost use Rattle.tbr_renderer.specs.Renderer.{Line};
 ghost use Rattle.tbr_decor.specs.Decoration.{decoration_of};
@@ -19,7 +22,7 @@ use crate::sub::colours::Ground;
 use crate::sub::decorated::{End, Start};
 use std::convert::AsStr;
 use tbr_decor::{Colour, TextDecorator};
-use tbr_lines::{CharWidth, Error, WhiteSpace};
+use tbr_lines::{CellAlign, CharWidth, Error, WhiteSpace};
 
 impl<D: TextDecorator, W: CharWidth> SubRenderer<D, W> {
     /// Pushes a mode.
@@ -40,7 +43,7 @@ impl<D: TextDecorator, W: CharWidth> SubRenderer<D, W> {
     }
 
     /// Whether it has no line.
-    fn has_no_line(&self) -> bool
+    pub(crate) fn has_no_line(&self) -> bool
         ensures { result ≡ not (is_some_list self.now.lines) }
     {
         self.lines.is_empty()
@@ -86,7 +89,9 @@ impl<D: TextDecorator, W: CharWidth> Renderer for SubRenderer<D, W> {
     ghost use Rattle.tbr_renderer.specs.Appended.{HandsOut, HoldsBack};
     ghost use Rattle.std.specs.Prelude.{Some};
     ghost use Rattle.tbr_decor.specs.Decoration.{decoration_of};
-    ghost use Rattle.std.specs.Prelude.{◌≡◌, ◌⊎◌, List};
+    ghost use Rattle.std.specs.Prelude.{◌≡◌, ◌⊎◌, List, true};
+    ghost use Rattle.tbr_rows.specs.Cells.{row_fits};
+    ghost use Rattle.tbr_renderer.specs.Rows.{spots_of, AppendsRow};
     ghost use Rattle.tbr_renderer.specs.Decorated.{sub_renderer};
     ghost use Rattle.tbr_renderer.specs.Calls.{Does, IsTooNarrow, StopsAtStage};
 
@@ -95,6 +100,11 @@ impl<D: TextDecorator, W: CharWidth> Renderer for SubRenderer<D, W> {
     ghost hands_out = { λ r lines. HandsOut W.columns (meant D.meaning r) lines };
 
     ghost holds_back = { λ r. HoldsBack W.columns (meant D.meaning r) };
+
+    ghost has_places_for = { λ r cols. row_fits r.hanging (spots_of cols) ≡ true };
+
+    ghost appends_row = { λ collapse cells old new.
+        AppendsRow W.columns collapse cells (meant D.meaning old) (meant D.meaning new) };
 
     ghost has_failed_from = { λ old refusal new.
         meant D.meaning new ≡ record (meant D.meaning old) { failure = Some refusal } };
@@ -292,6 +302,62 @@ impl<D: TextDecorator, W: CharWidth> Renderer for SubRenderer<D, W> {
     {
         self.refusal()?;
         let done = self.try_append_vert_row(cols);
+        self.keep(done)
+    }
+
+    fn append_columns_aligned(
+        &mut self,
+        cols: Vec<(SubRenderer<D, W>, usize)>,
+        aligns: &[CellAlign],
+        collapse: bool,
+    ) -> Result<(), Error>
+        requires spans { Each (λ col. 0 < col.1) cols.items }
+        requires aligns { length aligns.now ≡ length cols.items }
+        requires fits { row_fits self.old.hanging (spots_of cols.items) ≡ true }
+        ensures ok { OnOk result ((cells : List (GivenCell (List D.Meaning)))
+            × AllZip (GivesCell (λ col. col.width) (λ col lines. HandsOut W.columns (meant D.meaning col) lines)) cols.items cells
+            × (map align_in cells ≡ aligns.now)
+            × AppendsRow W.columns collapse cells (meant D.meaning self.old) (meant D.meaning self.new)) }
+        ensures too_narrow { self.old.failure ≡ None → result ≡ Err E.TooNarrow →
+            FlushIsTooNarrow W.columns (meant D.meaning self.old)
+            ⊎ FirstToRefuse (λ col lines. HandsOut W.columns (meant D.meaning col.0) lines)
+            (λ col. HoldsBack W.columns (meant D.meaning col.0)) cols.items }
+        ensures two_columns { self.old.failure ≡ None → 2 ≤ block_width self.old →
+            Each (λ col. (col.0.failure ≡ None) × (2 ≤ block_width col.0)) cols.items → result ≢ Err E.TooNarrow }
+        ensures left { self.old.failure ≡ None → OnErr result
+            (StopsAtStage W.columns (decoration_of D.TextDecorator) call.new_line
+            (meant D.meaning self.old) (meant D.meaning self.new)) }
+        ensures kept { KeepsFailure (λ r. r.failure) self.old result self.new }
+    {
+        self.refusal()?;
+        let done = self.try_append_columns(cols, aligns, collapse);
+        self.keep(done)
+    }
+
+    fn append_columns_with_borders(
+        &mut self,
+        cols: Vec<(SubRenderer<D, W>, usize)>,
+        collapse: bool,
+    ) -> Result<(), Error>
+        requires spans { Each (λ col. 0 < col.1) cols.items }
+        requires fits { row_fits self.old.hanging (spots_of cols.items) ≡ true }
+        ensures ok { OnOk result ((cells : List (GivenCell (List D.Meaning)))
+            × AllZip (GivesCell (λ col. col.width) (λ col lines. HandsOut W.columns (meant D.meaning col) lines)) cols.items cells
+            × (map align_in cells ≡ replicate (length cells) A.Left)
+            × AppendsRow W.columns collapse cells (meant D.meaning self.old) (meant D.meaning self.new)) }
+        ensures too_narrow { self.old.failure ≡ None → result ≡ Err E.TooNarrow →
+            FlushIsTooNarrow W.columns (meant D.meaning self.old)
+            ⊎ FirstToRefuse (λ col lines. HandsOut W.columns (meant D.meaning col.0) lines)
+            (λ col. HoldsBack W.columns (meant D.meaning col.0)) cols.items }
+        ensures two_columns { self.old.failure ≡ None → 2 ≤ block_width self.old →
+            Each (λ col. (col.0.failure ≡ None) × (2 ≤ block_width col.0)) cols.items → result ≢ Err E.TooNarrow }
+        ensures left { self.old.failure ≡ None → OnErr result
+            (StopsAtStage W.columns (decoration_of D.TextDecorator) call.new_line
+            (meant D.meaning self.old) (meant D.meaning self.new)) }
+        ensures kept { KeepsFailure (λ r. r.failure) self.old result self.new }
+    {
+        self.refusal()?;
+        let done = self.try_append_columns(cols, &[], collapse);
         self.keep(done)
     }
 

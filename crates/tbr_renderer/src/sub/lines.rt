@@ -1,5 +1,5 @@
 //! Lines that are handed out.
-ghost use Rattle.std.specs.Prelude.{◌≡◌, ◌≢◌, ◌≤◌, None, Some, Ok, Err, ◌++◌, map, IfOk, OnOk, List};
+ghost use Rattle.std.specs.Prelude.{◌≡◌, ◌≢◌, ◌≤◌, None, Some, Ok, Err, true, [], ◌++◌, map, IfOk, OnOk, List};
 ghost use Rattle.std.specs.List.{AllByRecursion as Each};
 ghost use Rattle.tbr_lines.specs.Copies.{equal_lists};
 ghost use Rattle.tbr_lines.specs.RenderLine.{IsMergedText};
@@ -11,6 +11,7 @@ ghost use Rattle.tbr_renderer.specs.Text.{line_text, lines_text};
 ghost use Rattle.tbr_lines.specs.View.{chars_of};
 ghost use Rattle.tbr_renderer.specs.Meant.{tag_meant, map_line, meant};
 ghost use Rattle.tbr_renderer.specs.Flush.{Flushes, FlushIsTooNarrow};
+ghost use Rattle.tbr_renderer.specs.Rows.{is_blank};
 
 use crate::sub::SubRenderer;
 use std::alloc::Global;
@@ -20,7 +21,8 @@ use tbr_decor::TextDecorator;
 use tbr_lines::{CharWidth, Error, OutOfMemory, RenderLine};
 
 impl<D: TextDecorator, W: CharWidth> SubRenderer<D, W> {
-    /// Ends the open line, and hands out all lines. Their pieces are the longest stretches under equal annotations.
+    /// Ends the open line, and hands out all lines. Their pieces are the longest stretches under equal annotations. There
+    /// are none where nothing stands in the renderer.
     ///
     /// It refuses as `new_line` does.
     pub fn into_lines(mut self) -> Result<LinkedList<RenderLine<Vec<D::Annotation>>>, Error>
@@ -28,6 +30,7 @@ impl<D: TextDecorator, W: CharWidth> SubRenderer<D, W> {
             × Flushes W.columns (meant D.meaning self) s
             × (map (map_line (tag_meant D.meaning)) (map line_seen lines) ≡ s.lines)) }
         ensures merged { IfOk result (λ lines. Each (IsMergedText (equal_lists D.Annotation.eq)) lines) }
+        ensures blank { is_blank self ≡ true → IfOk result (λ lines. lines ≡ []) }
         ensures too_narrow { self.failure ≡ None → result ≡ Err E.TooNarrow →
             FlushIsTooNarrow W.columns (meant D.meaning self) }
         ensures two_columns { self.failure ≡ None → 2 ≤ block_width self → result ≢ Err E.TooNarrow }
@@ -60,7 +63,7 @@ impl<D: TextDecorator, W: CharWidth> SubRenderer<D, W> {
         ensures lines { map line_seen result ≡ self.old.lines }
         ensures merged { Each (IsMergedText (equal_lists D.Annotation.eq)) result }
     {
-        self.has_content = false;
+        self.with_content = 0;
         mem::replace(&mut self.lines, LinkedList::new(self.alloc))
     }
 }

@@ -4,7 +4,7 @@ use Rattle.std.proofs.Math.Bool.{or_assoc, or-false, or-true}
 use Rattle.std.proofs.lemmas.List.{take_at, drop_at, drop-append-le, length-take-le, length-map}
 use Rattle.std.proofs.lemmas.List.Elements.{length_all_zip}
 use Rattle.std.proofs.lemmas.List.Sums.{fold-append}
-use Rattle.std.proofs.lemmas.Bool.{and_left, and_right, ne_eqb}
+use Rattle.std.proofs.lemmas.Bool.{and_left, and_right, and_parts, ne_eqb}
 use Rattle.std.specs.List.{AllZip, AllByRecursion as Each}
 use Rattle.std.specs.Prelude.{nat_lt}
 use Rattle.tbr_model.specs.Run.{Item, glyph, marker, is_kept, items_width, kept_items, Entry, character, marker_entry, has_character}
@@ -13,7 +13,7 @@ use Rattle.tbr_model.specs.Laid.{Laid, end_if_character}
 use Rattle.tbr_model.specs.Layout.{joined}
 use Rattle.tbr_model.specs.Rule.{Event, call, entry, run_of, Progress, at_start, enter, step, progress, finished, waiting, lines_of}
 use Rattle.tbr_model.proofs.rule.DoneLines.{if_same, step_adds, finished_adds}
-use Rattle.tbr_model.proofs.rule.HardLines.{run_of-append}
+use Rattle.tbr_model.proofs.rule.HardLines.{run_of-append, not_flushed}
 use Rattle.tbr_model.proofs.rule.Markers.{markers_run, markers_at_end, waiting_none, marker_items_alone, names_in_items-append, markers_lead, run_of_markers}
 use Rattle.tbr_model.proofs.rule.TakenOutMarkers.{taken_out, without_none}
 use Rattle.tbr_model.specs.declared.white_space.WhiteSpace.{WhiteSpace}
@@ -34,7 +34,7 @@ use Rattle.tbr_tagged.specs.declared.error.Error.{Error}
 use Rattle.tbr_model.proofs.words.Items.{items_width-append}
 use Rattle.tbr_tagged.proofs.SameItems.{all_zip_append, same_has}
 use Rattle.tbr_wrap.specs.Wrapped.{FitsBlock}
-use Rattle.tbr_wrap.specs.State.{State, JoinsRun, JoinsAsMarker, EndsRun, ShowsFitting, AreLastOf, IsShownBy, is_some_list, text_entries, loose_taken, line_taken, run_flushed}
+use Rattle.tbr_wrap.specs.State.{State, JoinsRun, JoinsAsMarker, EndsRun, ShowsFitting, AreLastOf, IsShownBy, is_some_list, text_entries, lines_left, loose_taken, line_taken, run_flushed}
 use Rattle.tbr_wrap.specs.Course.{Course, at_first, stepped, word_taken, run_ended, line_handed, after, text_changes, course, loose_names, state_of, viewed}
 use Rattle.tbr_wrap.specs.Held.{HoldsCourse}
 use Rattle.tbr_wrap.specs.LaidLines.{HoldsLaid, LaidLikeRule, LeavesAfterLine, KeepsLimits}
@@ -386,6 +386,22 @@ module _ {A : Type 0} (columns : ℕ → Option ℕ) where
 
       all_count : length all_lines ≡ length c.progress.laid.done + length added
       all_count = ap length all_is ∙ length-append c.progress.laid.done added
+
+      -- where open line and word have no character, it adds none
+      none_added : not (has_character c.progress.laid.line) && not (has_character c.progress.word) ≡ true → all_lines ≡ c.progress.laid.done
+      none_added none =
+          let (line, word) = and_parts (not (has_character c.progress.laid.line)) (not (has_character c.progress.word)) none in
+          let laid : finished columns b.lines.width c.progress ≡ end_if_character c.progress.laid = ap (λ (p : Progress A). end_if_character p.laid) (not_flushed columns b.lines.width c.progress (not_true _ word)) in
+          let same : end_if_character c.progress.laid ≡ c.progress.laid = let bare = not_true _ line in rw bare refl in
+          ap (λ (l : Laid A). l.done) (laid ∙ same)
+        where
+          not_true : (b : Bool) → not b ≡ true → b ≡ false
+          not_true true h = cc
+          not_true false h = refl
+
+      pub none_more : (may : Bool) (padding : Option A) (failure : Option Error) → not (has_character c.progress.laid.line) && not (has_character c.progress.word) ≡ true →
+          lines_left (state_of columns b.lines.width may padding failure (run_ended columns b.lines.width c)) ≡ c.ended ++ drop c.handed c.progress.laid.done
+      none_more may padding failure none = append-nil (c.ended ++ drop c.handed all_lines) ∙ ap (λ ls. c.ended ++ drop c.handed ls) (none_added none)
 
       pub lines_of_run : lines_of columns b.lines.width h.events ≡ all_lines
       lines_of_run = ap (λ p. (finished columns b.lines.width p).done) h.progress_is

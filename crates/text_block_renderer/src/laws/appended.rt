@@ -13,7 +13,7 @@ ghost use Rattle.tbr_renderer.specs.Calls.{append_subrender, append_vert_row, Do
 ghost use Rattle.text_block_renderer.specs.Drawn.{AreDrawnAmong, WithoutDrawnBorders};
 ghost use Rattle.text_block_renderer.specs.Stretches.{lines_laid};
 ghost use Rattle.text_block_renderer.specs.Nested.{Level, nested, IsFront, shortest, visible_behind, HandOn};
-ghost use Rattle.text_block_renderer.specs.Rows.{row_lines};
+ghost use Rattle.text_block_renderer.specs.VerticalRows.{row_lines};
 ghost use Rattle.text_block_renderer.specs.Taken.{StandWithin, AreTakenIn};
 
 /// Behind the prefixes of blocks inside blocks, the i-th line is the i-th prefixes of all, one behind another from the

@@ -5,7 +5,8 @@ use Rattle.tbr_lines.specs.Copies.{equal_lists}
 use Rattle.tbr_lines.specs.Elements.{items_of}
 use Rattle.tbr_lines.proofs.Copies.{list_copies_equal}
 use Rattle.tbr_lines.proofs.MappedTags.{means_same_items}
-use Rattle.tbr_renderer.specs.Meant.{tag_meant, map_border, map_line}
+use Rattle.tbr_rows.specs.Meant.{map_border}
+use Rattle.tbr_renderer.specs.Meant.{tag_meant, map_line}
 use Rattle.tbr_renderer.specs.Appended.{as_text}
 use Rattle.tbr_renderer.specs.View.{line_seen}
 use Rattle.tbr_renderer.proofs.Meanings.{tags_mean}

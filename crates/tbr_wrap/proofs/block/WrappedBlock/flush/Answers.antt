@@ -1,13 +1,13 @@
-use Rattle.std.proofs.Common.{◌≡◌, Bool, Err, refl, ap, ◌∙◌, sym, subst}
+use Rattle.std.proofs.Common.{◌≡◌, Bool, None, Err, refl, ap, ◌∙◌, sym, subst}
 use Rattle.std.proofs.lemmas.Result.{err_from_is_err_and}
 use Rattle.std.specs.List.{AllByRecursion as Each}
 use Rattle.tbr_model.specs.Rule.{lines_of}
 use Rattle.tbr_tagged.specs.declared.error.Error.TheVariants as E
-use Rattle.tbr_wrap.specs.State.{State}
+use Rattle.tbr_wrap.specs.State.{State, lines_left}
 use Rattle.tbr_wrap.specs.Course.{course}
 use Rattle.tbr_wrap.specs.Held.{HoldsCourse}
 use Rattle.tbr_wrap.specs.Wrapped.{FitsBlock}
-use Rattle.tbr_wrap.proofs.runs.Courses.{course_after, viewed_after, holds_ended, ended_seen, ends_run, lines_of_run, added, left_names, given}
+use Rattle.tbr_wrap.proofs.runs.Courses.{course_after, viewed_after, holds_ended, ended_seen, ends_run, lines_of_run, none_more, added, left_names, given}
 use Rattle.tbr_wrap.proofs.runs.NormalRuns.{word_fits, narrow_at_end}
 use Rattle.tbr_wrap.proofs.runs.EndedRuns.{visible_fit, words_fit_normal, two_columns}
 use Rattle.tbr_wrap.proofs.block.WrappedBlock.flush.Goals as goal
@@ -47,6 +47,22 @@ returns-clause-ok g c =
       viewed_after columns b.lines.width d.lines.width changes _ _ limits.width c.appended-self-inside.ensures b.lines.may_overflow d.lines.may_overflow _ failure c.keep.new.failure limits.may_overflow done.1
           ∙ ended_seen columns eq b c.self.inside.begun now k b.lines.may_overflow _ failure,
     )
+
+pub returns-clause-blank : goal.returns-clause-blank
+returns-clause-blank g c =
+    let columns = g.W.CharWidth.columns in
+    let eq = g.T.PartialEq.eq in
+    let b = c.self.inside.wrapper in
+    let d = c.finish.new.self in
+    let changes = c.self.inside.changes.items in
+    let now = course columns b.lines.width changes in
+    let done = c.in_ok-keep.ensures.ok in
+    let k = c.self.invariant (ap (λ (s : State g.row.T.Denot). s.failure) c.self.view_is ∙ c.in_ok-refusal.ensures) in
+    let limits = c.finish.ensures.limits in
+    let failure = c.self.inside.failure in
+    rw (← c.self.view_is) (λ none.
+    ap lines_left (viewed_after columns b.lines.width d.lines.width changes _ _ limits.width c.appended-self-inside.ensures b.lines.may_overflow d.lines.may_overflow None failure c.keep.new.failure limits.may_overflow done.1)
+    ∙ none_more columns eq b c.self.inside.begun now k b.lines.may_overflow None failure none)
 
 pub returns-clause-fit : goal.returns-clause-fit
 returns-clause-fit g c =

@@ -1,4 +1,4 @@
-use Rattle.text_block_renderer.proofs.Rows.{row_drawn, row_undrawn}
+use Rattle.text_block_renderer.proofs.VerticalRows.{row_drawn, row_undrawn}
 use Rattle.text_block_renderer.proofs.laws.appended.a_vertical_row_is_its_cells_and_borders.Goals as goal
 
 pub returns : goal.returns

@@ -11,7 +11,7 @@ use Rattle.tbr_renderer.specs.Flush.{Flushes}
 use Rattle.tbr_renderer.specs.Appended.{with_border, border_of_cells, as_text, with_divider, with_cell, with_cell_below, with_cells}
 use Rattle.tbr_renderer.specs.Calls.{append_vert_row, Does}
 use Rattle.text_block_renderer.specs.Stretches.{lines_laid}
-use Rattle.text_block_renderer.specs.Rows.{cell_lines, row_lines}
+use Rattle.text_block_renderer.specs.VerticalRows.{cell_lines, row_lines}
 use Rattle.tbr_renderer.proofs.Steady.{Steady, lines_added, flushed_alike}
 use Rattle.text_block_renderer.proofs.Drawing.{border_stays}
 use Rattle.text_block_renderer.proofs.Waiting.{none_wait}

@@ -1,0 +1,351 @@
+-- Rows under what their annotations mean.
+use Rattle.std.proofs.Common.{◌≡◌, ℕ, ◌+◌, zero, suc, ◌-◌, ◌<◌, ◌↔◌, IsTrue, Bool, true, false, if◌then◌else◌, is_some, is_none, Option, None, Some, unwrap_or, List, [], ◌∷◌, ◌++◌, map, fold, take, drop, length, get_or, refl, ap, sym, ◌∙◌, subst, arith}
+use Rattle.std.specs.Borrow.{Bor}
+use Rattle.std.specs.Prelude.{IsSome, IfSome, replicate}
+use Rattle.std.specs.Option.{MatchOption, option_copied}
+use Rattle.std.specs.Global.{Vec}
+use Rattle.std.specs.Vec.{vec_items}
+use Rattle.std.specs.Option.{option_map}
+use Rattle.std.specs.List.{AllZip, AllByRecursion as Each}
+use Rattle.std.specs.Cmp.Lexicographic.{pointwise}
+use Rattle.std.proofs.lemmas.List.{map-append, length-map, take-map, length-append, map_more, take_more, nil_from_length}
+use Rattle.std.proofs.lemmas.List.Sums.{fold-append}
+use Rattle.std.proofs.Math.Seq.{take-append_seam}
+use Rattle.tbr_model.specs.Run.{Item, items_width}
+use Rattle.tbr_model.specs.Mapped.{map_items}
+use Rattle.tbr_lines.specs.Border.{Border}
+use Rattle.tbr_lines.specs.Copies.{equal_lists}
+use Rattle.tbr_lines.specs.Elements.{items_of}
+use Rattle.tbr_lines.specs.Mapped.{MeansEqual}
+use Rattle.tbr_lines.specs.Padding.{aligned_items}
+use Rattle.tbr_lines.specs.RenderLine.{IsMergedText}
+use Rattle.tbr_lines.specs.declared.CellAlign.{CellAlign}
+use Rattle.tbr_lines.specs.declared.CellAlign.TheVariants.{Left}
+use Rattle.tbr_lines.specs.declared.RenderLine.{RenderLine}
+use Rattle.tbr_lines.specs.declared.RenderLine.TheVariants.{Text, Line as Rule}
+use Rattle.tbr_rows.specs.Cells.{AreSideBySide, IsAsFree, first_line, look, spot_of, spots_from, row_fits}
+use Rattle.tbr_rows.specs.Filled.{FillsLine, cell_behind}
+use Rattle.tbr_rows.specs.Fitting.{Fitting, fit_step, fit_all}
+use Rattle.tbr_rows.specs.Meant.{map_border, map_cell, map_element, map_line as map_row_line, EqualIfMeant, SeenRow, row_meant, MeansRow}
+use Rattle.tbr_rows.specs.Rows.{IsRow}
+use Rattle.tbr_rows.specs.declared.Row.{Row}
+use Rattle.tbr_rows.specs.declared.RowStyle.{RowStyle}
+use Rattle.tbr_rows.specs.declared.LineSet.{LineSet as Cell}
+use Rattle.tbr_rows.proofs.Fitted.{spots_are, fits_with_fewer_lines}
+use Rattle.tbr_rows.proofs.MeantRows.{filled_means, fits_mean, row_means}
+use Rattle.tbr_rows.proofs.MeantTexts.{items-map, longest_means}
+use Rattle.tbr_renderer.specs.Renderer.{Line, text, border, Open, Renderer, without_last, with_line}
+use Rattle.tbr_renderer.specs.Meant.{tag_meant, map_line, meant}
+use Rattle.tbr_renderer.specs.View.{line_seen}
+use Rattle.tbr_renderer.specs.Flush.{block_lines, Flushes, FlushesBlock}
+use Rattle.tbr_renderer.specs.Appended.{HandsOut}
+use Rattle.tbr_renderer.specs.Rows.{is_rule, is_border, is_blank, looks, spots_of, LeavesFree, GivenCell, align_in, GivesCell, FillsCell, ComesAs, aligned_as, border_in, last_border, before_border, border_lines, style_in, with_next, with_row_behind, with_row}
+
+-- ---- lists of annotations that mean the same are equal
+
+module _ {A M : Type 0} (eq : A → A → Bool) (meaning : A → M) (by_meaning : (a b : A) → IsTrue (eq a b) ↔ (meaning a ≡ meaning b)) where
+  lists_told : (xs ys : List A) → map meaning xs ≡ map meaning ys → pointwise eq xs ys ≡ true
+  lists_told [] [] h = refl
+  lists_told [] (y ∷ ys) h = absurd (let no : ⊥ = cc in no)
+  lists_told (x ∷ xs) [] h = absurd (let no : ⊥ = cc in no)
+  lists_told (x ∷ xs) (y ∷ ys) h =
+      let first : meaning x ≡ meaning y = cc in
+      let rest : map meaning xs ≡ map meaning ys = cc in
+      let one : eq x y ≡ true = (by_meaning x y).1 first in
+      let all = lists_told xs ys rest in
+      rw (one, all) refl
+
+  pub tags_told : EqualIfMeant (tag_meant meaning) (equal_lists eq)
+  tags_told v w same = lists_told (vec_items v) (vec_items w) same
+
+-- ---- the border above
+
+module _ {T U : Type 0} (f : T → U) where
+  border_in-map : (l : Line T) → border_in (map_line f l) ≡ option_map (map_border f) (border_in l)
+  border_in-map (text is) = refl
+  border_in-map (border b) = refl
+
+  pub last_border-map : (ls : List (Line T)) → last_border (map (map_line f) ls) ≡ option_map (map_border f) (last_border ls)
+  last_border-map [] = refl
+  last_border-map (l ∷ []) = border_in-map l
+  last_border-map (l ∷ m ∷ ls) = last_border-map (m ∷ ls)
+
+  pub before_border-map : (ls : List (Line T)) → before_border (map (map_line f) ls) ≡ map (map_line f) (before_border ls)
+  before_border-map ls =
+      ap (λ (o : Option (Border U)). if is_some o then without_last (map (map_line f) ls) else map (map_line f) ls) (last_border-map ls)
+      ∙ ap (λ n. if is_some (option_map (map_border f) (last_border ls)) then take (n - 1) (map (map_line f) ls) else map (map_line f) ls) (length-map ls (map_line f))
+      ∙ ap (λ (ms : List (Line U)). if is_some (option_map (map_border f) (last_border ls)) then ms else map (map_line f) ls) (take-map (map_line f) (length ls - 1) ls)
+      ∙ go (last_border ls)
+    where
+      go : (o : Option (Border T)) → (if is_some (option_map (map_border f) o) then map (map_line f) (without_last ls) else map (map_line f) ls) ≡ map (map_line f) (if is_some o then without_last ls else ls)
+      go None = refl
+      go (Some b) = refl
+
+  pub border_lines-map : (o : Option (Border T)) → map (map_line f) (border_lines o) ≡ border_lines (option_map (map_border f) o)
+  border_lines-map None = refl
+  border_lines-map (Some b) = refl
+
+-- the last line decides
+last_behind : {T : Type 0} (front : List (Line T)) (l : Line T) → last_border (front ++ l ∷ []) ≡ border_in l
+last_behind [] l = refl
+last_behind (x ∷ []) l = refl
+last_behind (x ∷ y ∷ front) l = last_behind (y ∷ front) l
+
+front_behind : {X : Type 0} (front : List X) (x : X) → without_last (front ++ x ∷ []) ≡ front
+front_behind front x = ap (λ n. take (n - 1) (front ++ x ∷ [])) (length-append front (x ∷ [])) ∙ ap (λ n. take n (front ++ x ∷ [])) (let n : length front + 1 - 1 ≡ length front = omega arith in n) ∙ take-append_seam front (x ∷ [])
+
+module _ {T : Type 0} (ls front : List (Line T)) (b : Border T) (is : ls ≡ front ++ border b ∷ []) where
+  pub border_is : last_border ls ≡ Some b
+  border_is = ap last_border is ∙ last_behind front (border b)
+
+  pub front_is : before_border ls ≡ front
+  front_is = ap before_border is ∙ ap (λ (o : Option (Border T)). if is_some o then without_last (front ++ border b ∷ []) else front ++ border b ∷ []) (last_behind front (border b)) ∙ front_behind front (border b)
+
+pub no_border_is : {T : Type 0} (ls : List (Line T)) → last_border ls ≡ None → before_border ls ≡ ls
+no_border_is ls none = ap (λ (o : Option (Border _)). if is_some o then without_last ls else ls) none
+
+-- no border where the last line in memory is none
+pub no_last_border : {T : Type 0} (ls : List (RenderLine T)) (x : RenderLine T) → x ≡ get_or ls (length ls - 1) x → last_border (line_seen x ∷ []) ≡ None → last_border (map line_seen ls) ≡ None
+no_last_border [] x is none = refl
+no_last_border (l ∷ []) x is none = let same : x ≡ l = is ∙ ap (λ n. get_or (l ∷ []) n x) (let zeroth : length (l ∷ []) - 1 ≡ 0 = omega arith in zeroth) in ap (λ k. last_border (line_seen k ∷ [])) (sym same) ∙ none
+no_last_border (l ∷ m ∷ ls) x is none =
+    let next : length (l ∷ m ∷ ls) - 1 ≡ suc (length (m ∷ ls) - 1) = omega arith in
+    no_last_border (m ∷ ls) x (is ∙ ap (λ n. get_or (l ∷ m ∷ ls) n x) next) none
+
+-- nor where there is none
+pub no_border_there : {T : Type 0} (ls : List (RenderLine T)) (o : Option (Bor (RenderLine T))) → is_border o ≡ false → (0 < length ls → IsSome o) → IfSome o (λ x. x.now ≡ get_or ls (length ls - 1) x.now) → last_border (map line_seen ls) ≡ None
+no_border_there [] o not some found = refl
+no_border_there (l ∷ ls) None not some found = let no = some (let more : 0 < length (l ∷ ls) = omega arith in more) in cc
+no_border_there (l ∷ ls) (Some x) not some found = no_last_border (l ∷ ls) x.now found (no_rule x.now not)
+  where
+    no_rule : {T : Type 0} (x : RenderLine T) → is_rule x ≡ false → border_in (line_seen x) ≡ None
+    no_rule (Text es) h = refl
+    no_rule (Rule b) h = cc
+
+-- ---- a row that is put
+
+module _ {D A M : Type 0} (f : A → M) (columns : ℕ → Option ℕ) where
+  -- behind the lines
+  pub row_put : (r s0 s1 s2 s3 : Renderer D A (Vec A)) (above next : Option (Border (Vec A))) (texts : List (List (Item (List M)))) (overhang : List (Cell (Vec A))) (row : SeenRow (List M)) →
+      s0 ≡ record r { lines = r.lines ++ border_lines above } → s1 ≡ record s0 { hanging = overhang } → meant f s2 ≡ fold (with_line columns) (meant f s1) texts →
+      meant f s3 ≡ with_next columns (meant f s2) (option_map (map_border (tag_meant f)) next) →
+      row ≡ record { above = option_map (map_border (tag_meant f)) above; lines = texts; next = option_map (map_border (tag_meant f)) next; overhang = map (map_cell (tag_meant f)) overhang } →
+      meant f s3 ≡ with_row_behind columns (meant f r) row
+  row_put r s0 s1 s2 s3 above next texts overhang row put hung lines last is =
+      let top : meant f s1 ≡ record (meant f r) { lines = (meant f r).lines ++ border_lines (option_map (map_border (tag_meant f)) above); hanging = map (map_cell (tag_meant f)) overhang } =
+      ap (meant f) hung ∙ ap (λ (q : Renderer D A (Vec A)). meant f (record q { hanging = overhang })) put
+      ∙ ap (λ (ls : List (Line (List M))). record (meant f r) { lines = ls; hanging = map (map_cell (tag_meant f)) overhang })
+      (map-append (map_line (tag_meant f)) r.lines (border_lines above) ∙ ap (λ ls. map (map_line (tag_meant f)) r.lines ++ ls) (border_lines-map (tag_meant f) above)) in
+      last ∙ ap (λ (q : Renderer D M (List M)). with_next columns q (option_map (map_border (tag_meant f)) next)) (lines ∙ ap (λ (q : Renderer D M (List M)). fold (with_line columns) q texts) top)
+      ∙ ap (with_row_behind columns (meant f r)) (sym is)
+
+  -- in the place of the border above
+  pub row_placed : (r s0 s1 s2 : Renderer D A (Vec A)) (row : SeenRow (List M)) → s0 ≡ record r { hanging = [] } → s1 ≡ record s0 { lines = before_border s0.lines } → meant f s2 ≡ with_row_behind columns (meant f s1) row → meant f s2 ≡ with_row columns (meant f r) row
+  row_placed r s0 s1 s2 row taken cut put =
+      let before : meant f s1 ≡ record (meant f r) { lines = before_border (meant f r).lines; hanging = [] } =
+      ap (meant f) cut ∙ ap (λ (q : Renderer D A (Vec A)). meant f (record q { lines = before_border q.lines })) taken
+      ∙ ap (λ (ls : List (Line (List M))). record (meant f r) { lines = ls; hanging = [] }) (sym (before_border-map (tag_meant f) r.lines)) in
+      put ∙ ap (λ (q : Renderer D M (List M)). with_row_behind columns q row) before
+
+-- a row that was laid out
+module _ {D A M : Type 0} (f : A → M) (eq : A → A → Bool) (means : MeansEqual (tag_meant f) (equal_lists eq)) (told : EqualIfMeant (tag_meant f) (equal_lists eq)) (columns : ℕ → Option ℕ) where
+  pub row_laid : (r s0 s1 s2 : Renderer D A (Vec A)) (row : Row (Vec A)) (hanging own : List (Cell (Vec A))) (above : Option (Border (Vec A))) (style : RowStyle) (tag : Vec A) (collapses : Bool) →
+      hanging ≡ r.hanging → s0 ≡ record r { hanging = [] } → above ≡ last_border s0.lines → s1 ≡ record s0 { lines = before_border s0.lines } → style ≡ style_in r collapses → tag_meant f tag ≡ map f r.annotations →
+      IsRow columns (equal_lists eq) style tag hanging own above row → meant f s2 ≡ with_row_behind columns (meant f s1) (row_meant (tag_meant f) row) →
+      (x : SeenRow (List M)) × MeansRow columns (style_in r collapses) (map f r.annotations) (map (map_cell (tag_meant f)) r.hanging) (map (map_cell (tag_meant f)) own) (last_border (map (map_line (tag_meant f)) r.lines)) x
+      × (meant f s2 ≡ with_row columns (meant f r) x)
+  row_laid r s0 s1 s2 row hanging own above style tag collapses hung taken top cut style_is tag_is is put =
+      let g = tag_meant f in
+      let seen : SeenRow (List M) = row_meant g row in
+      let cells : List (Cell (List M)) = map (map_cell g) own in
+      let border_is : option_map (map_border g) above ≡ last_border (map (map_line g) r.lines) =
+      ap (option_map (map_border g)) (top ∙ ap (λ (q : Renderer D A (Vec A)). last_border q.lines) taken) ∙ sym (last_border-map g r.lines) in
+      let laid = row_means g (equal_lists eq) means told columns style tag hanging own above row is in
+      let styled = subst (λ (t : RowStyle). MeansRow columns t (g tag) (map (map_cell g) hanging) cells (option_map (map_border g) above) seen) style_is laid in
+      let tagged = subst (λ (a : List M). MeansRow columns (style_in r collapses) a (map (map_cell g) hanging) cells (option_map (map_border g) above) seen) tag_is styled in
+      let hanged = subst (λ (hs : List (Cell (Vec A))). MeansRow columns (style_in r collapses) (map f r.annotations) (map (map_cell g) hs) cells (option_map (map_border g) above) seen) hung tagged in
+      let topped = subst (λ (o : Option (Border (List M))). MeansRow columns (style_in r collapses) (map f r.annotations) (map (map_cell g) r.hanging) cells o seen) border_is hanged in
+      (seen, topped, row_placed f columns r s0 s1 s2 seen taken cut put)
+
+-- ---- what a flush leaves of the overhanging cells
+
+module _ {D A : Type 0} (columns : ℕ → Option ℕ) where
+  lines_hang : (ts : List (List (Item (List A)))) (q : Renderer D A (List A)) → (fold (with_line columns) q ts).hanging ≡ q.hanging
+  lines_hang [] q = refl
+  lines_hang (t ∷ ts) q = lines_hang ts (with_line columns q t)
+
+  block_hangs : (r s : Renderer D A (List A)) (o : Option (Open (List A))) → FlushesBlock columns r o s → s.hanging ≡ r.hanging
+  block_hangs r s None h = ap (λ (q : Renderer D A (List A)). q.hanging) h
+  block_hangs r s (Some b) h = ap (λ (q : Renderer D A (List A)). q.hanging) h.is ∙ lines_hang (block_lines columns r b h.texts) (record r { block = None })
+
+  pub flush_hangs : (r s : Renderer D A (List A)) → Flushes columns r s → s.hanging ≡ r.hanging
+  flush_hangs r s h = block_hangs r s r.block h
+
+-- ---- whether the row fits
+
+pub fit_more : {X A : Type 0} (f : Fitting A) (look_at : X → ℕ × Bool) (xs : List X) (i : ℕ) (x : X) → i < length xs → x ≡ get_or xs i x →
+    fit_step (fit_all f (map look_at (take i xs))) (look_at x).0 (look_at x).1 ≡ fit_all f (map look_at (take (i + 1) xs))
+fit_more {X} {A} f look_at xs i x below is =
+    let so_far : List (ℕ × Bool) = map look_at (take i xs) in
+    let more : map look_at (take (i + 1) xs) ≡ so_far ++ look_at x ∷ [] = map_more look_at xs i x below ∙ ap (λ (y : X). so_far ++ look_at y ∷ []) (sym is) in
+    sym (ap (fit_all f) more ∙ fold-append (λ (g : Fitting A) (w : ℕ × Bool). fit_step g w.0 w.1) f so_far (look_at x ∷ []))
+
+-- what holds of the first ones, and of the next
+pub each_more : {X : Type 0} (P : X → Type 0) (xs : List X) (i : ℕ) (x : X) → i < length xs → x ≡ get_or xs i x → Each P (take i xs) → P x → Each P (take (i + 1) xs)
+each_more P xs i x below is h one = subst (Each P) (sym (take_more xs i x below ∙ ap (λ y. take i xs ++ y ∷ []) (sym is))) (behind (take i xs) h)
+  where
+    behind : (ys : List _) → Each P ys → Each P (ys ++ x ∷ [])
+    behind [] k = (one, tt)
+    behind (y ∷ ys) k = (k.0, behind ys k.1)
+
+side_by_side-map : {A B : Type 0} (f : A → B) (at : ℕ) (cells : List (Cell A)) → AreSideBySide at cells → AreSideBySide at (map (map_cell f) cells)
+side_by_side-map f at [] h = tt
+side_by_side-map f at (c ∷ cs) h = (h.0, side_by_side-map f (c.place + c.width + 1) cs h.1)
+
+-- the cells stand side by side, whatever their annotations mean
+pub stand_meant : {A M : Type 0} (f : A → M) (cells : List (Cell (Vec A))) → AreSideBySide 0 cells → AreSideBySide 0 (map (map_cell (tag_meant f)) cells)
+stand_meant f cells h = side_by_side-map (tag_meant f) 0 cells h
+
+freed : {D A T : Type 0} (at : ℕ) (cols : List (Renderer D A T × ℕ)) (cells : List (Cell T)) → AllZip LeavesFree cols cells → AllZip IsAsFree (spots_from at (map looks cols)) (spots_from at (map look cells))
+freed at [] [] h = tt
+freed at [] (c ∷ cs) h = absurd h
+freed at (d ∷ ds) [] h = absurd h
+freed {D} {A} {T} at (d ∷ ds) (c ∷ cs) h =
+    let wide : c.width ≡ d.0.width = h.0.0 in
+    let none : is_blank d.0 ≡ true → is_none (first_line c.lines) ≡ true = λ blank. ap (λ ls. is_none (first_line ls)) (h.0.1 blank) in (
+      (refl, wide, none),
+      subst (λ n. AllZip IsAsFree (spots_from (at + d.0.width + 1) (map looks ds)) (spots_from (at + n + 1) (map look cs))) (sym wide) (freed (at + d.0.width + 1) ds cs h.1),
+    )
+
+-- the row of the cells fits where that of the renderers does
+pub still_fits : {D A M : Type 0} (f : A → M) (columns : ℕ → Option ℕ) (r s : Renderer D A (Vec A)) (cols : List (Renderer D A (Vec A) × ℕ)) (cells : List (Cell (Vec A))) → Flushes columns (meant f r) (meant f s) → AreSideBySide 0 cells → AllZip LeavesFree cols cells →
+    row_fits r.hanging (spots_of cols) ≡ true → row_fits s.hanging (map spot_of cells) ≡ true
+still_fits f columns r s cols cells flushes stand free fits =
+    let same : row_fits s.hanging (spots_of cols) ≡ row_fits r.hanging (spots_of cols) =
+    sym (fits_mean (tag_meant f) s.hanging (spots_of cols)) ∙ ap (λ hs. row_fits hs (spots_of cols)) (flush_hangs columns (meant f r) (meant f s) flushes) ∙ fits_mean (tag_meant f) r.hanging (spots_of cols) in
+    ap (row_fits s.hanging) (spots_are cells stand) ∙ fits_with_fewer_lines s.hanging (spots_of cols) (spots_from 0 (map look cells)) (freed 0 cols cells free) (same ∙ fits)
+
+-- ---- cells that come one after another
+
+-- a line of a cell is filled, by what its annotations mean
+module _ {A M : Type 0} (f : A → M) (eq : A → A → Bool) (means : MeansEqual (tag_meant f) (equal_lists eq)) (told : EqualIfMeant (tag_meant f) (equal_lists eq)) (columns : ℕ → Option ℕ) (align : CellAlign) (width : ℕ) (tag : Vec A) where
+  line_fills : (l done : RenderLine (Vec A)) → IsMergedText (equal_lists eq) l → FillsLine columns (equal_lists eq) align width tag l done →
+      FillsCell columns align width (tag_meant f tag) (map_line (tag_meant f) (line_seen l)) (map_row_line (tag_meant f) done)
+  line_fills (Text es) (Text done) merged h =
+      let g = tag_meant f in
+      let same : items_of (map (map_element g) es) ≡ map_items g (items_of es) = items-map g es in (
+        filled_means g (equal_lists eq) means columns align width tag (Text es) (Text done) h ∙ ap (λ (is : List (Item (List M))). aligned_items align is (width - items_width columns is) (g tag)) same,
+        longest_means g (equal_lists eq) means told done (h.1 merged),
+      )
+  line_fills (Rule b) (Rule done) merged h = filled_means (tag_meant f) (equal_lists eq) means columns align width tag (Rule b) (Rule done) h
+  line_fills (Text es) (Rule done) merged h = absurd h
+  line_fills (Rule b) (Text done) merged h = absurd h
+
+  pub lines_fill : (ls done : List (RenderLine (Vec A))) → Each (IsMergedText (equal_lists eq)) ls → AllZip (FillsLine columns (equal_lists eq) align width tag) ls done →
+      AllZip (FillsCell columns align width (tag_meant f tag)) (map (map_line (tag_meant f)) (map line_seen ls)) (map (map_row_line (tag_meant f)) done)
+  lines_fill [] [] merged h = tt
+  lines_fill [] (d ∷ ds) merged h = absurd h
+  lines_fill (l ∷ ls) [] merged h = absurd h
+  lines_fill (l ∷ ls) (d ∷ ds) merged h = (line_fills l d merged.0 h.0, lines_fill ls ds merged.1 h.1)
+
+pub none_filled : {X Y : Type 0} (R : X → Y → Type 0) (xs : List X) (ys : List Y) → AllZip R xs ys → xs ≡ [] → ys ≡ []
+none_filled R [] [] h e = refl
+none_filled R [] (y ∷ ys) h e = absurd h
+none_filled R (x ∷ xs) ys h e = absurd (let no : ⊥ = cc in no)
+
+zip_behind : {X Y : Type 0} (R : X → Y → Type 0) (xs : List X) (ys : List Y) (x : X) (y : Y) → AllZip R xs ys → R x y → AllZip R (xs ++ x ∷ []) (ys ++ y ∷ [])
+zip_behind R [] [] x y h r = (r, tt)
+zip_behind R [] (z ∷ ys) x y h r = absurd h
+zip_behind R (z ∷ xs) [] x y h r = absurd h
+zip_behind R (z ∷ xs) (w ∷ ys) x y h r = (h.0, zip_behind R xs ys x y h.1 r)
+
+-- the next alignment, or the left
+abbrev pub next_align : List CellAlign → CellAlign
+next_align [] = Left
+next_align (align ∷ aligns) = align
+
+aligned_more : {X : Type 0} (aligns : List CellAlign) (xs : List X) (x : X) → aligned_as aligns (xs ++ x ∷ []) ≡ aligned_as aligns xs ++ next_align (drop (length xs) aligns) ∷ []
+aligned_more [] [] x = refl
+aligned_more (a ∷ more) [] x = refl
+aligned_more [] (y ∷ xs) x = ap (λ bs. Left ∷ bs) (aligned_more [] xs x ∙ ap (λ bs. aligned_as [] xs ++ next_align bs ∷ []) (none_dropped (length xs)))
+  where
+    none_dropped : (n : ℕ) → drop {A = CellAlign} n [] ≡ []
+    none_dropped zero = refl
+    none_dropped (suc n) = refl
+aligned_more (a ∷ more) (y ∷ xs) x = ap (λ bs. a ∷ bs) (aligned_more more xs x)
+
+abbrev pub Gives : {D A M : Type 0} → (A → M) → (ℕ → Option ℕ) → Renderer D A (Vec A) × ℕ → GivenCell (List M) → Type 0
+Gives {D} {A} {M} f columns col cell = GivesCell (λ (r : Renderer D A (Vec A)). r.width) (λ (r : Renderer D A (Vec A)) lines. HandsOut columns (meant f r) lines) col cell
+
+module _ {D A M : Type 0} (f : A → M) (columns : ℕ → Option ℕ) (aligns : List CellAlign) (tag : List M) where
+  -- the cells of some renderers, and the alignments that are left
+  pub record HasColumns (cols : List (Renderer D A (Vec A) × ℕ)) (own : List (Cell (Vec A))) (left : List CellAlign) : Type 0 where
+    pub cells : List (GivenCell (List M))
+    pub give : AllZip (Gives f columns) cols cells
+    pub aligned : map align_in cells ≡ aligned_as aligns cols
+    pub left_is : left ≡ drop (length cols) aligns
+    pub come : AllZip (ComesAs columns tag) cells (map (map_cell (tag_meant f)) own)
+    pub free : AllZip LeavesFree cols own
+
+  pub no_columns : HasColumns [] [] aligns
+  no_columns = record { cells = []; give = tt; aligned = refl; left_is = refl; come = tt; free = tt }
+
+  pub columns_go_on : (cols : List (Renderer D A (Vec A) × ℕ)) (own next : List (Cell (Vec A))) (left rest : List CellAlign) (col : Renderer D A (Vec A)) (span : ℕ) (align : CellAlign) (seen : List (Line (List M))) (filled : List (RenderLine (Vec A))) → (h : HasColumns cols own left) →
+      HandsOut columns (meant f col) seen → align ≡ next_align left → rest ≡ drop 1 left →
+      AllZip (FillsCell columns align col.width tag) seen (map (map_row_line (tag_meant f)) filled) → (is_blank col ≡ true → filled ≡ []) →
+      next ≡ own ++ cell_behind own col.width span filled ∷ [] → HasColumns (cols ++ (col, span) ∷ []) next rest
+  columns_go_on cols own next left rest col span align seen filled h hands aligned_by rest_is fills blank is =
+      let cell : GivenCell (List M) = record { width = col.width; span = span; align = align; lines = seen } in
+      let placed : Cell (Vec A) = cell_behind own col.width span filled in
+      let g = map_cell (tag_meant f) in
+      let more : map g next ≡ map g own ++ g placed ∷ [] = ap (map g) is ∙ map-append g own (placed ∷ []) in
+      record {
+        cells = h.cells ++ cell ∷ [];
+        give = zip_behind (Gives f columns) cols h.cells (col, span) cell h.give (refl, refl, hands);
+        aligned = map-append align_in h.cells (cell ∷ []) ∙ ap (λ bs. bs ++ align ∷ []) h.aligned ∙ ap (λ a. aligned_as aligns cols ++ a ∷ []) (aligned_by ∙ ap next_align h.left_is) ∙ sym (aligned_more aligns cols (col, span));
+        left_is = rest_is ∙ ap (drop 1) h.left_is ∙ dropped (length cols) aligns ∙ ap (λ n. drop n aligns) (let one : suc (length cols) ≡ length (cols ++ (col, span) ∷ []) = omega (arith, length-append cols ((col, span) ∷ [])) in one);
+        come = subst (AllZip (ComesAs columns tag) (h.cells ++ cell ∷ [])) (sym more) (zip_behind (ComesAs columns tag) h.cells (map g own) cell (g placed) h.come (refl, refl, fills));
+        free = subst (AllZip LeavesFree (cols ++ (col, span) ∷ [])) (sym is) (zip_behind LeavesFree cols own (col, span) placed h.free (refl, blank));
+      }
+    where
+      dropped : (n : ℕ) (bs : List CellAlign) → drop 1 (drop n bs) ≡ drop (suc n) bs
+      dropped zero bs = refl
+      dropped (suc n) [] = refl
+      dropped (suc n) (a ∷ bs) = dropped n bs
+
+-- the lines that renderers hand out
+pub lines_given : {D A M : Type 0} (f : A → M) (columns : ℕ → Option ℕ) (cols : List (Renderer D A (Vec A) × ℕ)) (cells : List (GivenCell (List M))) → AllZip (Gives f columns) cols cells →
+    AllZip (λ col lines. HandsOut columns (meant f col.0) lines) cols (map (λ (cell : GivenCell (List M)). cell.lines) cells)
+lines_given f columns [] [] h = tt
+lines_given f columns [] (c ∷ cs) h = absurd h
+lines_given f columns (d ∷ ds) [] h = absurd h
+lines_given f columns (d ∷ ds) (c ∷ cs) h = (h.0.2, lines_given f columns ds cs h.1)
+
+-- the alignment that comes next
+pub next_taken : {I : Type 0} (get : I → List CellAlign) (it next : I) (o : Option (Bor CellAlign)) (align : CellAlign) → MatchOption o ((length (get it) ≡ 0) × (next ≡ it)) (λ x. get it ≡ x.now ∷ get next) → align ≡ unwrap_or (option_copied o) Left →
+    (align ≡ next_align (get it)) × (get next ≡ drop 1 (get it))
+next_taken get it next None align none is =
+    let empty : get it ≡ [] = nil_from_length (get it) none.0 in
+    (is ∙ ap next_align (sym empty), ap get none.1 ∙ empty ∙ ap (drop 1) (sym empty))
+next_taken get it next (Some x) align some is = (is ∙ ap next_align (sym some), ap (drop 1) (sym some))
+
+-- none at all
+all_left : {X : Type 0} (xs : List X) → aligned_as [] xs ≡ replicate (length xs) Left
+all_left [] = refl
+all_left (x ∷ xs) = ap (λ bs. Left ∷ bs) (all_left xs)
+
+length_left : {X : Type 0} (xs : List X) → length (aligned_as [] xs) ≡ length xs
+length_left [] = refl
+length_left (x ∷ xs) = ap suc (length_left xs)
+
+pub none_aligned : {X Y : Type 0} (align : Y → CellAlign) (xs : List X) (ys : List Y) → map align ys ≡ aligned_as [] xs → map align ys ≡ replicate (length ys) Left
+none_aligned align xs ys same =
+    let many : length xs ≡ length ys = sym (length_left xs) ∙ ap length (sym same) ∙ length-map ys align in
+    same ∙ all_left xs ∙ ap (λ n. replicate n Left) many
+
+-- as many alignments as columns
+pub all_aligned : {X : Type 0} (aligns : List CellAlign) (xs : List X) → length aligns ≡ length xs → aligned_as aligns xs ≡ aligns
+all_aligned [] [] same = refl
+all_aligned [] (x ∷ xs) same = absurd (let no : ⊥ = omega (arith, same) in no)
+all_aligned (a ∷ more) [] same = absurd (let no : ⊥ = omega (arith, same) in no)
+all_aligned (a ∷ more) (x ∷ xs) same = ap (λ bs. a ∷ bs) (all_aligned more xs (let shorter : length more ≡ length xs = omega (arith, same) in shorter))

@@ -1,0 +1,9 @@
+use Rattle.std.proofs.Common.{map}
+use Rattle.tbr_lines.specs.Elements.{items_of}
+use Rattle.tbr_renderer.specs.Meant.{items_meant}
+use Rattle.tbr_renderer.proofs.Appending.{HasPut}
+use Rattle.tbr_renderer.proofs.sub.SubRenderer.add_texts.Given as goal
+
+abbrev pub invariant-loop-text : goal.invariant-loop-text
+invariant-loop-text g l =
+    HasPut g.D.TextDecorator.meaning g.W.CharWidth.columns l.fn.self (map (λ text. items_meant g.D.TextDecorator.meaning (items_of text)) l.yielded) l.self

@@ -1,0 +1,21 @@
+use Rattle.std.proofs.Common.{map}
+use Rattle.tbr_rows.specs.Meant.{map_cell}
+use Rattle.tbr_renderer.specs.Meant.{tag_meant, meant}
+use Rattle.tbr_renderer.proofs.Rowing.{still_fits, stand_meant}
+use Rattle.tbr_renderer.proofs.sub.SubRenderer.try_append_columns.Goals as goal
+
+pub add_row-requires-clause-fits : goal.add_row-requires-clause-fits
+add_row-requires-clause-fits g c =
+    still_fits g.D.TextDecorator.meaning g.W.CharWidth.columns c.args.self.now c.try_flush.new.self c.args.cols.items c.in_ok-columns.columns c.in_ok-try_flush.ensures.ok c.in_ok-columns.ensures.side_by_side c.in_ok-columns.ensures.free c.requires.fits
+
+pub returns-clause-ok : goal.returns-clause-ok
+returns-clause-ok g c =
+    let f = g.D.TextDecorator.meaning in
+    let own = c.in_ok-columns.columns in
+    let (cells, give, aligned, come) = c.in_ok-columns.ensures.cells in
+    let (row, means, is) = c.in_ok-add_row.ensures.row in (
+      cells,
+      give,
+      aligned,
+      (meant f c.try_flush.new.self, c.in_ok-try_flush.ensures.ok, record { own = map (map_cell (tag_meant f)) own; come = come; side_by_side = stand_meant f own c.in_ok-columns.ensures.side_by_side; row = row; means = means; is = is }),
+    )

@@ -1,0 +1,159 @@
+-- Rows of cells side by side: what comes into them, and what they add to a renderer.
+use Rattle.std.specs.Prelude.{◌≡◌, ◌↔◌, IsTrue, ℕ, ◌-◌, Bool, true, false, not, ◌&&◌, if◌then◌else◌, is_none, is_some, Option, None, Some, List, [], ◌∷◌, ◌++◌, map, fold}
+use Rattle.std.specs.List.{AllZip}
+use Rattle.std.specs.Borrow.{Bor}
+use Rattle.tbr_model.specs.Run.{items_width, has_character, kept_items}
+use Rattle.tbr_lines.specs.Border.{Border, with_cells, stretched}
+use Rattle.tbr_lines.specs.Elements.{items_of}
+use Rattle.tbr_lines.specs.Padding.{aligned_items}
+use Rattle.tbr_lines.specs.State.{IsNormal, is_some_list}
+use Rattle.tbr_lines.specs.declared.CellAlign.{CellAlign}
+use Rattle.tbr_lines.specs.declared.CellAlign.TheVariants.{Left}
+use Rattle.tbr_lines.specs.declared.RenderLine.{RenderLine}
+use Rattle.tbr_lines.specs.declared.RenderLine.TheVariants.{Text, Line as Rule}
+use Rattle.tbr_rows.specs.Cells.{AreSideBySide, Spot, spots_from}
+use Rattle.tbr_rows.specs.Meant.{AreLongest, SeenRow, MeansRow}
+use Rattle.tbr_rows.specs.declared.LineSet.{LineSet as Cell}
+use Rattle.tbr_rows.specs.declared.RowStyle.{RowStyle}
+use Rattle.tbr_renderer.specs.Renderer.{Line, text, border, Open, Renderer, may_overflow, without_last, with_line}
+use Rattle.tbr_renderer.specs.Flush.{Flushes}
+use Rattle.tbr_renderer.specs.Appended.{with_border}
+
+-- ---- renderers in which nothing stands
+
+abbrev pub block_is_blank : {T : Type 0} → Option (Open T) → Bool
+block_is_blank None = true
+block_is_blank (Some b) = b.blank
+
+-- It hasn't failed, its open block, if any, is blank, and it has no line.
+abbrev pub is_blank : {D A T : Type 0} → Renderer D A T → Bool
+is_blank r = is_none r.failure && (block_is_blank r.block && not (is_some_list r.lines))
+
+-- An open block whose run is `Normal` is blank exactly where the run has no kept character, if no line may be wider than
+-- the block.
+abbrev pub TellsBlank : {D A T : Type 0} → (ℕ → Option ℕ) → Renderer D A T → Type 0
+TellsBlank {D} {A} {T} columns r =
+    r.failure ≡ None → (b : Open T) → r.block ≡ Some b → may_overflow r ≡ false → IsNormal b.run →
+    IsTrue b.blank ↔ (has_character (kept_items columns b.run) ≡ false)
+
+-- a renderer that comes with a span, as a cell of a row: its width, and whether nothing stands in it
+abbrev pub looks : {D A T : Type 0} → Renderer D A T × ℕ → ℕ × Bool
+looks col = (col.0.width, is_blank col.0)
+
+-- where renderers that come as cells will stand, and whether nothing stands in them
+abbrev pub spots_of : {D A T : Type 0} → List (Renderer D A T × ℕ) → List Spot
+spots_of cols = spots_from 0 (map looks cols)
+
+-- A cell of such a renderer takes as many columns, and has no line where nothing stands in the renderer.
+abbrev pub LeavesFree : {D A T : Type 0} → Renderer D A T × ℕ → Cell T → Type 0
+LeavesFree col cell = (cell.width ≡ col.0.width) × (is_blank col.0 ≡ true → cell.lines ≡ [])
+
+-- ---- what comes into a row
+
+-- A cell as it comes: how many columns it takes, how many rows it spans, how its texts are aligned, and its lines.
+pub record GivenCell (T : Type 0) : Type 0 where
+  pub width : ℕ
+  pub span : ℕ
+  pub align : CellAlign
+  pub lines : List (Line T)
+
+abbrev pub align_in : {T : Type 0} → GivenCell T → CellAlign
+align_in cell = cell.align
+
+-- A renderer that comes with a span gives this cell.
+abbrev pub GivesCell : {S T : Type 0} →
+    (S → ℕ) → (S → List (Line T) → Type 0) → S × ℕ → GivenCell T → Type 0
+GivesCell columns_of hands_out col cell =
+    (cell.width ≡ columns_of col.0) × (cell.span ≡ col.1) × hands_out col.0 cell.lines
+
+-- A line of a cell is filled up to its width: a text with spaces as the alignment says, its pieces the longest stretches
+-- under one annotation, and a border with `─`.
+abbrev pub FillsCell : {A : Type 0} → (ℕ → Option ℕ) → CellAlign → ℕ → A → Line A → RenderLine A → Type 0
+FillsCell columns align width a (text is) (Text es) =
+    (items_of es ≡ aligned_items align is (width - items_width columns is) a) × AreLongest es
+FillsCell columns align width a (border b) (Rule done) = done ≡ with_cells (stretched width b.cells) b
+FillsCell columns align width a (text is) (Rule done) = ⊥
+FillsCell columns align width a (border b) (Text es) = ⊥
+
+-- the cell in the row
+abbrev pub ComesAs : {A : Type 0} → (ℕ → Option ℕ) → A → GivenCell A → Cell A → Type 0
+ComesAs columns a given cell =
+    (cell.width ≡ given.width) × (cell.span ≡ given.span)
+    × AllZip (FillsCell columns given.align given.width a) given.lines cell.lines
+
+-- an alignment for each of these: at the left where none is given
+abbrev pub aligned_as : {X : Type 0} → List CellAlign → List X → List CellAlign
+aligned_as aligns [] = []
+aligned_as [] (x ∷ xs) = Left ∷ aligned_as [] xs
+aligned_as (align ∷ aligns) (x ∷ xs) = align ∷ aligned_as aligns xs
+
+-- ---- the border above
+
+abbrev pub is_rule : {T : Type 0} → RenderLine T → Bool
+is_rule (Text es) = false
+is_rule (Rule b) = true
+
+-- whether there is a line that is a border
+abbrev pub is_border : {T : Type 0} → Option (Bor (RenderLine T)) → Bool
+is_border None = false
+is_border (Some line) = is_rule line.now
+
+abbrev pub border_in : {T : Type 0} → Line T → Option (Border T)
+border_in (text is) = None
+border_in (border b) = Some b
+
+-- the last line, if it is a border, and the lines without it
+abbrev pub last_border : {T : Type 0} → List (Line T) → Option (Border T)
+last_border [] = None
+last_border (l ∷ []) = border_in l
+last_border (l ∷ m ∷ ls) = last_border (m ∷ ls)
+
+abbrev pub before_border : {T : Type 0} → List (Line T) → List (Line T)
+before_border ls = if is_some (last_border ls) then without_last ls else ls
+
+-- a border as lines, if there is one
+abbrev pub border_lines : {T : Type 0} → Option (Border T) → List (Line T)
+border_lines None = []
+border_lines (Some b) = border b ∷ []
+
+-- ---- what a row adds
+
+abbrev pub style_in : {D A T : Type 0} → Renderer D A T → Bool → RowStyle
+style_in r collapses = record { draws_borders = r.options.draw_borders; collapses = collapses }
+
+-- a border more, if there is one
+abbrev pub with_next : {D A : Type 0} →
+    (ℕ → Option ℕ) → Renderer D A (List A) → Option (Border (List A)) → Renderer D A (List A)
+with_next columns r None = r
+with_next columns r (Some b) = with_border columns r b
+
+-- The border above a row, its lines and the border below come behind the others, and what overhangs waits for the next
+-- row.
+abbrev pub with_row_behind : {D A : Type 0} →
+    (ℕ → Option ℕ) → Renderer D A (List A) → SeenRow (List A) → Renderer D A (List A)
+with_row_behind columns r row =
+    let top = record r { lines = r.lines ++ border_lines row.above; hanging = row.overhang } in
+    with_next columns (fold (with_line columns) top row.lines) row.next
+
+-- the border above comes in the place of the last line, if that was it
+abbrev pub with_row : {D A : Type 0} →
+    (ℕ → Option ℕ) → Renderer D A (List A) → SeenRow (List A) → Renderer D A (List A)
+with_row columns r row = with_row_behind columns (record r { lines = before_border r.lines }) row
+
+-- A row of these cells, and of those that overhang, comes under the last line, if that is a border.
+pub record PutsRow {D A : Type 0} (columns : ℕ → Option ℕ) (collapses : Bool) (cells : List (GivenCell (List A)))
+    (r s : Renderer D A (List A)) : Type 0 where
+  -- the cells that come
+  pub own : List (Cell (List A))
+  pub come : AllZip (ComesAs columns r.annotations) cells own
+  pub side_by_side : AreSideBySide 0 own
+  -- the row
+  pub row : SeenRow (List A)
+  pub means : MeansRow columns (style_in r collapses) r.annotations r.hanging own (last_border r.lines) row
+  pub is : s ≡ with_row columns r row
+
+-- and so it does behind a flush
+abbrev pub AppendsRow : {D A : Type 0} → (ℕ → Option ℕ) → Bool → List (GivenCell (List A))
+    → Renderer D A (List A) → Renderer D A (List A) → Type 0
+AppendsRow {D} {A} columns collapses cells r s =
+    (m : Renderer D A (List A)) × Flushes columns r m × PutsRow columns collapses cells m s

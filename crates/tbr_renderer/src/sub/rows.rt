@@ -1,0 +1,255 @@
+//! Rows of cells side by side.
+ghost use Rattle.std.specs.Prelude.{◌≡◌, ◌≢◌, ◌≤◌, ◌⊎◌, ◌++◌, ◌∷◌, [], None, Some, Ok, Err, true, List, ℕ, length, map, fold, OnOk, IfOk, IfSome};
+ghost use Rattle.std.specs.Option.{option_map};
+ghost use Rattle.std.specs.List.{AllZip, AllByRecursion as Each};
+ghost use Rattle.tbr_lines.specs.Copies.{equal_lists};
+ghost use Rattle.tbr_lines.specs.Elements.{items_of, IsMerged};
+ghost use Rattle.tbr_lines.specs.declared.Error.TheVariants as E;
+ghost use Rattle.tbr_lines.specs.declared.RenderLine.TheVariants.{Line as Rule};
+ghost use Rattle.tbr_rows.specs.Cells.{AreSideBySide, row_fits, spot_of};
+ghost use Rattle.tbr_rows.specs.Meant.{map_border, map_cell, row_meant, MeansRow, SeenRow};
+ghost use Rattle.tbr_renderer.specs.Renderer.{KeepsSettings, with_line, block_width};
+ghost use Rattle.tbr_renderer.specs.Meant.{tag_meant, items_meant, meant};
+ghost use Rattle.tbr_renderer.specs.View.{line_seen};
+ghost use Rattle.tbr_renderer.specs.Flush.{FlushIsTooNarrow};
+ghost use Rattle.tbr_renderer.specs.Appended.{HandsOut, HoldsBack, FirstToRefuse};
+ghost use Rattle.tbr_renderer.specs.Rows as model;
+ghost use Rattle.tbr_renderer.specs.Rows.{GivenCell, GivesCell, ComesAs, PutsRow, AppendsRow};
+
+use crate::renderer::Renderer;
+use crate::sub::SubRenderer;
+use std::collections::LinkedList;
+use std::mem;
+use tbr_decor::TextDecorator;
+use tbr_lines::{BorderHoriz, CellAlign, CharWidth, Error, OutOfMemory, RenderLine, TaggedLine};
+use tbr_rows::{Columns, Overhang, Row, RowStyle};
+
+impl<D: TextDecorator, W: CharWidth> SubRenderer<D, W> {
+    /// Whether a row of these renderers, each with the rows that it spans, has a place for each cell that overhangs from
+    /// the rows before: the place of a renderer of the same width in which nothing stands, or one behind all of them. It
+    /// takes no memory, and doesn't look at a failure.
+    pub fn row_fits(&self, cols: &Vec<(SubRenderer<D, W>, usize)>) -> bool
+        ensures fits { result ≡ row_fits self.now.hanging (model.spots_of cols.now.items) }
+        ensures blank { Each (λ col. model.TellsBlank W.columns col.0) cols.now.items }
+    {
+        let mut fitting = self.hanging.fitting();
+        for (col, _) in cols {
+            fitting.add(col.width(), col.is_blank());
+        }
+        fitting.fits()
+    }
+
+    /// Whether nothing stands in it: it hasn't failed, it has no line, and its open block, if any, holds no character.
+    fn is_blank(&self) -> bool
+        ensures asks { result ≡ model.is_blank self.now }
+        ensures normal { model.TellsBlank W.columns self.now }
+    {
+        self.failure().is_none() && self.has_blank_block() && self.has_no_line()
+    }
+
+    /// Whether no block is open, or the open one holds no character.
+    fn has_blank_block(&self) -> bool
+        requires { self.now.failure ≡ None }
+        ensures asks { result ≡ model.block_is_blank self.now.block }
+        ensures normal { model.TellsBlank W.columns self.now }
+    {
+        match &self.wrapping {
+            Some(block) => block.is_blank(),
+            None => true,
+        }
+    }
+
+    /// Ends the run, and then those of other renderers, and adds a row of their lines. Where alignments are missing,
+    /// cells stand at the left.
+    pub(crate) fn try_append_columns(
+        &mut self,
+        cols: Vec<(SubRenderer<D, W>, usize)>,
+        aligns: &[CellAlign],
+        collapses: bool,
+    ) -> Result<(), Error>
+        requires unfailed { self.old.failure ≡ None }
+        requires fits { row_fits self.old.hanging (model.spots_of cols.items) ≡ true }
+        ensures ok { OnOk result ((cells : List (GivenCell (List D.Meaning)))
+            × AllZip (GivesCell (λ col. col.width) (λ col lines. HandsOut W.columns (meant D.meaning col) lines)) cols.items cells
+            × (map model.align_in cells ≡ model.aligned_as aligns.now cols.items)
+            × AppendsRow W.columns collapses cells (meant D.meaning self.old) (meant D.meaning self.new)) }
+        ensures too_narrow { result ≡ Err E.TooNarrow → FlushIsTooNarrow W.columns (meant D.meaning self.old)
+            ⊎ FirstToRefuse (λ col lines. HandsOut W.columns (meant D.meaning col.0) lines)
+            (λ col. HoldsBack W.columns (meant D.meaning col.0)) cols.items }
+        ensures two_columns { 2 ≤ block_width self.old →
+            Each (λ col. (col.0.failure ≡ None) × (2 ≤ block_width col.0)) cols.items → result ≢ Err E.TooNarrow }
+        ensures settings { KeepsSettings (meant D.meaning self.old) (meant D.meaning self.new) }
+    {
+        self.try_flush()?;
+        let columns = self.columns_of(cols, aligns)?;
+        self.add_row(columns, collapses)?;
+        Ok(())
+    }
+
+    /// The cells of a row: the lines of renderers, each filled up to its renderer's width.
+    fn columns_of(
+        &self,
+        cols: Vec<(SubRenderer<D, W>, usize)>,
+        aligns: &[CellAlign],
+    ) -> Result<Columns<Vec<D::Annotation>>, Error>
+        ensures cells { IfOk result (λ columns. (cells : List (GivenCell (List D.Meaning)))
+            × AllZip (GivesCell (λ col. col.width) (λ col lines. HandsOut W.columns (meant D.meaning col) lines)) cols.items cells
+            × (map model.align_in cells ≡ model.aligned_as aligns.now cols.items)
+            × AllZip (ComesAs W.columns (map D.meaning self.now.annotations)) cells
+            (map (map_cell (tag_meant D.meaning)) columns)) }
+        ensures free { IfOk result (λ columns. AllZip model.LeavesFree cols.items columns) }
+        ensures side_by_side { IfOk result (λ columns. AreSideBySide 0 columns) }
+        ensures too_narrow { result ≡ Err E.TooNarrow →
+            FirstToRefuse (λ col lines. HandsOut W.columns (meant D.meaning col.0) lines)
+            (λ col. HoldsBack W.columns (meant D.meaning col.0)) cols.items }
+        ensures two_columns { Each (λ col. (col.0.failure ≡ None) × (2 ≤ block_width col.0)) cols.items →
+            result ≢ Err E.TooNarrow }
+    {
+        let tag = self.tag()?;
+        let mut aligns = aligns.iter();
+        let mut columns = Columns::new(self.alloc);
+        for (col, span) in cols {
+            let width = col.width();
+            let lines = col.into_lines()?;
+            let align = aligns.next().copied().unwrap_or(CellAlign::Left);
+            columns.push::<W>(width, span, align, lines, &tag)?;
+        }
+        Ok(columns)
+    }
+
+    /// Adds a row of these cells, under the last line if that is a border.
+    fn add_row(
+        &mut self,
+        columns: Columns<Vec<D::Annotation>>,
+        collapses: bool,
+    ) -> Result<(), OutOfMemory>
+        requires unfailed { self.old.failure ≡ None }
+        requires fits { row_fits self.old.hanging (map spot_of columns) ≡ true }
+        ensures row { OnOk result ((row : SeenRow (List D.Meaning))
+            × MeansRow W.columns (model.style_in self.old collapses) (map D.meaning self.old.annotations)
+            (meant D.meaning self.old).hanging (map (map_cell (tag_meant D.meaning)) columns)
+            (model.last_border (meant D.meaning self.old).lines) row
+            × (meant D.meaning self.new ≡ model.with_row W.columns (meant D.meaning self.old) row)) }
+        ensures settings { KeepsSettings (meant D.meaning self.old) (meant D.meaning self.new) }
+    {
+        let style = RowStyle {
+            draws_borders: self.options.draw_borders,
+            collapses,
+        };
+        let tag = self.tag()?;
+        let hanging = self.take_hanging();
+        let above = self.take_border();
+        let row = columns.lay_out::<W>(self.alloc, hanging, above, style, &tag)?;
+        self.put_row(row)
+    }
+
+    /// Takes the cells that overhang.
+    fn take_hanging(&mut self) -> Overhang<Vec<D::Annotation>>
+        ensures cells { result ≡ self.old.hanging }
+        ensures rest { self.new ≡ record self.old { hanging = [] } }
+    {
+        mem::replace(&mut self.hanging, Overhang::new(self.alloc))
+    }
+
+    /// Takes the last line, if it is a border.
+    fn take_border(&mut self) -> Option<BorderHoriz<Vec<D::Annotation>>>
+        requires { self.old.failure ≡ None }
+        ensures border { result ≡ model.last_border self.old.lines }
+        ensures rest { self.new ≡ record self.old { lines = model.before_border self.old.lines } }
+    {
+        let border = take_last_border(&mut self.lines)?;
+        if !border.has_holes() {
+            self.with_content -= 1;
+        }
+        Some(border)
+    }
+
+    /// Adds a row that is laid out. Where memory is refused it is lost.
+    fn put_row(&mut self, row: Row<Vec<D::Annotation>>) -> Result<(), OutOfMemory>
+        requires unfailed { self.old.failure ≡ None }
+        requires merged { Each (IsMerged (equal_lists D.Annotation.eq)) row.lines.items }
+        ensures row { OnOk result (meant D.meaning self.new
+            ≡ model.with_row_behind W.columns (meant D.meaning self.old) (row_meant (tag_meant D.meaning) row)) }
+        ensures settings { KeepsSettings (meant D.meaning self.old) (meant D.meaning self.new) }
+    {
+        self.put_back(row.above)?;
+        self.hang(row.overhang);
+        self.add_texts(row.lines)?;
+        self.add_next(row.next)
+    }
+
+    /// Puts a border back, if there is one.
+    fn put_back(
+        &mut self,
+        border: Option<BorderHoriz<Vec<D::Annotation>>>,
+    ) -> Result<(), OutOfMemory>
+        requires { self.old.failure ≡ None }
+        ensures border { OnOk result
+            (self.new ≡ record self.old { lines = self.old.lines ++ model.border_lines border }) }
+        ensures settings { KeepsSettings (meant D.meaning self.old) (meant D.meaning self.new) }
+    {
+        match border {
+            Some(border) => self.push_line(RenderLine::Line(border)),
+            None => Ok(()),
+        }
+    }
+
+    /// Keeps the cells that overhang.
+    fn hang(&mut self, overhang: Overhang<Vec<D::Annotation>>)
+        ensures { self.new ≡ record self.old { hanging = overhang } }
+    {
+        self.hanging = overhang;
+    }
+
+    /// Adds lines of text.
+    fn add_texts(&mut self, texts: Vec<TaggedLine<Vec<D::Annotation>>>) -> Result<(), OutOfMemory>
+        requires unfailed { self.old.failure ≡ None }
+        requires merged { Each (IsMerged (equal_lists D.Annotation.eq)) texts.items }
+        ensures lines { OnOk result (meant D.meaning self.new ≡ fold (with_line W.columns) (meant D.meaning self.old)
+            (map (λ text. items_meant D.meaning (items_of text)) texts.items)) }
+        ensures unfailed { OnOk result (self.new.failure ≡ None) }
+        ensures settings { KeepsSettings (meant D.meaning self.old) (meant D.meaning self.new) }
+    {
+        for text in texts {
+            self.add_line(text)?;
+        }
+        Ok(())
+    }
+
+    /// Adds a border, if there is one.
+    fn add_next(
+        &mut self,
+        border: Option<BorderHoriz<Vec<D::Annotation>>>,
+    ) -> Result<(), OutOfMemory>
+        requires { self.old.failure ≡ None }
+        ensures border { OnOk result (meant D.meaning self.new
+            ≡ model.with_next W.columns (meant D.meaning self.old) (option_map (map_border (tag_meant D.meaning)) border)) }
+        ensures settings { KeepsSettings (meant D.meaning self.old) (meant D.meaning self.new) }
+    {
+        match border {
+            Some(border) => self.add_border(border),
+            None => Ok(()),
+        }
+    }
+}
+
+/// Takes the last line, if it is a border.
+fn take_last_border<T: Drop>(lines: &mut LinkedList<RenderLine<T>>) -> Option<BorderHoriz<T>>
+    ensures some { IfSome result (λ border. lines.old ≡ lines.new ++ Rule border ∷ []) }
+    ensures none { result ≡ None → (lines.new ≡ lines.old) × (model.last_border (map line_seen lines.old) ≡ None) }
+{
+    if !is_border(lines.back()) {
+        return None;
+    }
+    match lines.pop_back() {
+        Some(RenderLine::Line(border)) => Some(border),
+        Some(RenderLine::Text(_)) | None => None,
+    }
+}
+
+/// Whether a line is a border.
+fn is_border<T>(line: Option<&RenderLine<T>>) -> bool
+    ensures { result ≡ model.is_border line.entry }
+{
+    matches!(line, Some(RenderLine::Line(_)))
+}
