@@ -9,6 +9,8 @@ pub use Rattle.tbr_renderer.specs.Steps
 pub use Rattle.tbr_renderer.specs.Text
 pub use Rattle.tbr_renderer.specs.View
 pub use Rattle.tbr_renderer.specs.Appended
+pub use Rattle.tbr_stack.specs.Links
+pub use Rattle.tbr_stack.specs.Stack
 pub use Rattle.tbr_renderer.specs.Rows
 pub mod Drawn
 pub mod MarkersStand

@@ -2,5 +2,6 @@
 #![tactic(auto)]
 
 pub use tbr_renderer::{ImageRenderMode, RenderOptions, Renderer, SubRenderer};
+pub use tbr_stack::TextRenderer;
 
 pub mod laws;
