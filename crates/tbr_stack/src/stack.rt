@@ -1,0 +1,145 @@
+//! A stack of renderers.
+ghost use Rattle.std.specs.Prelude.{◌≡◌, ◌<◌, Some, length, map, OnOk, OnErr, IfOk, IfErr};
+ghost use Rattle.std.specs.Borrow.{Lends, sem};
+ghost use Rattle.tbr_lines.specs.View.{chars_of};
+ghost use Rattle.tbr_lines.specs.declared.Error.TheVariants as E;
+ghost use Rattle.tbr_stack.specs.contracts.stack.Stack.{the_row};
+ghost use Rattle.tbr_stack.specs.contracts.stack.Level.{the_row as level_row};
+ghost use Rattle.tbr_stack.specs.Stack.{new_stack, top_of, below, with_top, pushed};
+
+use std::alloc::Global;
+use std::marker::Model;
+use tbr_lines::{Error, UnicodeColumns};
+use tbr_renderer::SubRenderer;
+
+/// Renderers on a stack, and the targets of the links that were started in them.
+pub type TextRenderer<D, W = UnicodeColumns> = Stack<SubRenderer<D, W>>;
+
+/// Values on a stack, and the targets of the links that were started in them.
+///
+/// A renderer for a block inside is pushed, and popped where the block ends. Text goes to the top.
+#[derive(Drop)]
+pub struct Stack<R> {
+    alloc: Global,
+    /// The top comes last.
+    levels: Vec<Level<R>>,
+    links: Vec<String>,
+    /// How deep the tables lie in one another. It is kept for callers, and not read.
+    pub table_depth: usize,
+}
+
+/// A renderer of the stack.
+#[derive(Drop)]
+struct Level<R> {
+    renderer: R,
+    /// For each open link the place of its target, from 1. The one opened last comes last.
+    open_links: Vec<usize>,
+}
+
+impl<R> Model for Stack<R> {
+    ghost use Rattle.tbr_stack.specs.Stack.{Stack};
+
+    ghost Value = { Stack R };
+
+    ghost use Rattle.tbr_stack.specs.View.{stack_of};
+
+    ghost view = { λ s. stack_of s };
+}
+
+impl<R> Level<R> {
+    /// The renderer, to be changed.
+    fn renderer_mut(&mut self) -> &mut R
+        ensures* writes_back { sem 𝓛 (Lends (level_row R.row) R.row self.entry result
+            (λ r. record self.old { renderer = r })) }
+        ensures renderer { result.now ≡ self.old.renderer }
+    {
+        &mut self.renderer
+    }
+}
+
+impl<R: Drop> Stack<R> {
+    /// A stack of one renderer, without links. It refuses only for want of memory.
+    pub fn new(alloc: Global, renderer: R) -> Result<Stack<R>, Error>
+        ensures stack { IfOk result (λ s. s ≡ new_stack renderer) }
+        ensures memory { IfErr result (λ e. e ≡ E.OutOfMemory) }
+    {
+        let mut stack = Stack {
+            alloc,
+            levels: Vec::new(alloc),
+            links: Vec::new(alloc),
+            table_depth: 0,
+        };
+        stack.push(renderer)?;
+        Ok(stack)
+    }
+
+    /// Puts a renderer on top.
+    ///
+    /// It refuses only for want of memory. The stack is then as it was, and the renderer is dropped.
+    pub fn push(&mut self, renderer: R) -> Result<(), Error>
+        ensures ok { OnOk result (self.new ≡ pushed renderer self.old) }
+        ensures memory { IfErr result (λ e. e ≡ E.OutOfMemory) }
+        ensures err { OnErr result (self.new ≡ self.old) }
+    {
+        self.levels.push(Level {
+            renderer,
+            open_links: Vec::new(self.alloc),
+        })?;
+        Ok(())
+    }
+
+    /// Takes the top. It asks for a depth of at least 1.
+    ///
+    /// The links that are open in it are forgotten, but their targets stay.
+    pub fn pop(&mut self) -> R
+        requires { 0 < length self.old.levels }
+        ensures top { top_of self.old ≡ Some result }
+        ensures below { self.new ≡ below self.old }
+    {
+        let Level { renderer, .. } = self.levels.pop().unwrap();
+        renderer
+    }
+
+    /// The top. It asks for a depth of at least 1.
+    pub fn top(&self) -> &R
+        requires { 0 < length self.now.levels }
+        ensures { top_of self.now ≡ Some result.now }
+    {
+        &self.levels[self.levels.len() - 1].renderer
+    }
+
+    /// The top, to be changed. It asks for a depth of at least 1.
+    ///
+    /// What is left of it is the top of the stack, and all else stays as it was.
+    pub fn top_mut(&mut self) -> &mut R
+        requires { 0 < length self.old.levels }
+        ensures* writes_back { sem 𝓛 (Lends (the_row R.row) R.row self.entry result (with_top self.old)) }
+        ensures top { top_of self.old ≡ Some result.now }
+    {
+        let last = self.levels.len() - 1;
+        self.levels[last].renderer_mut()
+    }
+
+    /// How many renderers the stack has. The calls that speak of the top ask for at least 1.
+    pub fn depth(&self) -> usize
+        ensures { result ≡ length self.now.levels }
+    {
+        self.levels.len()
+    }
+
+    /// The only renderer, and the targets of all links in the order in which these were started. It asks for a depth of
+    /// exactly 1.
+    pub fn into_inner(self) -> (R, Vec<String>)
+        requires { length self.levels ≡ 1 }
+        ensures renderer { top_of self ≡ Some result.0 }
+        ensures links { map chars_of result.1.items ≡ self.links }
+    {
+        let Stack {
+            mut levels,
+            links,
+            ..
+        } = self;
+        let Level { renderer, .. } = levels.pop().unwrap();
+        (renderer, links)
+    }
+}
