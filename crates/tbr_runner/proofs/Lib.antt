@@ -1,3 +1,6 @@
+pub mod Given
+pub mod Levels
+pub mod Meant
 pub mod Live
 pub mod LinesGive
 pub mod Results
