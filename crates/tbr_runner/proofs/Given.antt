@@ -1,6 +1,5 @@
 -- Prefixes that an iterator gives.
-use Rattle.std.proofs.Common.{◌≡◌, ◌⊎◌, ◌<◌, ℕ, zero, suc, List, [], ◌∷◌, map, length, take, replicate, Option, None, chars, refl, sym, ap, ◌∙◌, inl, inr, arith}
-use Rattle.std.specs.Iterator.{Yields}
+use Rattle.std.proofs.Common.{◌≡◌, ◌⊎◌, ◌<◌, ℕ, zero, suc, List, ◌∷◌, map, length, take, replicate, Option, None, chars, refl, sym, ap, ◌∙◌, inl, inr, arith}
 use Rattle.std.proofs.lemmas.List.{map-id, take-map, take_all}
 use Rattle.std.proofs.lemmas.Iterator.{YieldsList}
 use Rattle.std.proofs.lemmas.Iterator.Consumers.{YieldsList-so_far, YieldsList-end}

@@ -1,5 +1,5 @@
 -- Levels that come and go.
-use Rattle.std.proofs.Common.{◌≡◌, ℕ, ◌<◌, List, [], ◌∷◌, length, map, Some, refl, sym, ap, ◌∙◌, subst, arith}
+use Rattle.std.proofs.Common.{◌≡◌, ◌<◌, List, [], ◌∷◌, length, Some, refl, sym, subst, arith}
 use Rattle.std.specs.List.{AllZip}
 use Rattle.text_block_renderer.specs.Renderer.{Renderer}
 use Rattle.tbr_stack.specs.Stack.{Stack, Level, top_of, with_top, pushed, below, first_renderer, with_first, below_top}

@@ -1,5 +1,5 @@
 -- What commands lead to, by what annotations mean.
-use Rattle.std.proofs.Common.{Bool, true, false, Result, encode_utf8_all, Ok, Err, ◌≡◌, ◌≢◌, ◌⊎◌, ℕ, List, [], ◌∷◌, ◌++◌, map, length, Option, None, Some, refl, sym, ap, ◌∙◌, subst, inl, inr}
+use Rattle.std.proofs.Common.{Bool, true, false, encode_utf8_all, Ok, Err, ◌≡◌, ◌≢◌, ◌⊎◌, ℕ, List, [], ◌∷◌, map, length, Option, None, Some, refl, sym, ap, ◌∙◌, subst, inl, inr}
 use Rattle.std.specs.Global.{Vec}
 use Rattle.std.specs.List.{AllZip}
 use Rattle.std.proofs.lemmas.List.{map-append}
@@ -11,11 +11,10 @@ use Rattle.text_block_renderer.specs.Text.{lines_text}
 use Rattle.text_block_renderer.specs.Decorated.{sub_renderer}
 use Rattle.text_block_renderer.specs.Appended.{HandsOut, HoldsBack, FirstToRefuse}
 use Rattle.text_block_renderer.specs.Calls.{append_subrender, append_vert_row, Does, IsTooNarrow}
-use Rattle.tbr_script.specs.declared.error.RunError.{RunError}
 use Rattle.tbr_script.specs.declared.error.RunError.TheVariants.{TooNarrow, NotACommand, NothingToEnd}
 use Rattle.tbr_commands.specs.Request.{Request, call_of}
 use Rattle.tbr_commands.specs.Begun.{ends_nothing, counted}
-use Rattle.tbr_stack.specs.Stack.{Stack, Level, top_of, with_top, pushed, below, first_renderer, with_first, below_top}
+use Rattle.tbr_stack.specs.Stack.{Stack, Level, top_of, with_top, pushed, first_renderer, with_first, below_top}
 use Rattle.tbr_runner.specs.declared.opened.Opener.{Opener}
 use Rattle.tbr_runner.specs.declared.opened.Opener.TheVariants.{Sub, Cell}
 use Rattle.tbr_runner.specs.Prefixes.{prefixes}
@@ -210,7 +209,7 @@ module _ {D A M : Type 0} (meaning : A → M) where
         progress_meant meaning j,
         closes_as p closed j by (Cell span) inside (here (Some (Cell span)) is) closes left,
         ap (λ (x : Pending D A (Vec A)). progress_meant meaning (record { stack = j.stack; pending = x; opened = j.opened })) waits
-        ∙ ap (λ (cells : List (Renderer D M (List M) × ℕ)). record (progress_meant meaning j) { pending = record (pending_meant meaning j.pending) { cells = cells } }) (map-append (cell_meant meaning) j.pending.cells ((inside, span) ∷ [])),
+            ∙ ap (λ (cells : List (Renderer D M (List M) × ℕ)). record (progress_meant meaning j) { pending = record (pending_meant meaning j.pending) { cells = cells } }) (map-append (cell_meant meaning) j.pending.cells ((inside, span) ∷ [])),
       )
 
       module _ (columns : ℕ → Option ℕ) (top : Renderer D A (Vec A)) (is_top : top_of j.stack ≡ Some top) (is : opener i.opened ≡ Some Sub) where

@@ -56,8 +56,10 @@ impl<D: TextDecorator, W: CharWidth> Program<D, W> {
         requires width { 0 < width }
         requires wrap_width { options.wrap_width ≢ Some 0 }
         ensures program { IfOk result (λ program. program ≡ record {
-            stack = new_stack (new_renderer width options decorator);
-            pending = nothing_pending; opened = []; }) }
+          stack = new_stack (new_renderer width options decorator);
+          pending = nothing_pending;
+          opened = [];
+        }) }
         ensures memory { IfErr result (λ e. e ≡ E.OutOfMemory) }
     {
         let renderer = SubRenderer::new(alloc, width, options, decorator);
@@ -92,12 +94,7 @@ impl<D: TextDecorator, W: CharWidth> Program<D, W> {
     }
 
     /// Does what a command asks for, on the line of this number.
-    fn run(
-        self,
-        alloc: Global,
-        number: usize,
-        command: &Command,
-    ) -> Result<Program<D, W>, RunError>
+    fn run(self, alloc: Global, number: usize, command: &Command) -> Result<Program<D, W>, RunError>
         requires { IsSized (command_of command.now) }
         ensures done { IfOk result (λ next. CommandDoes W.columns (decoration_of D.TextDecorator)
             (progress_meant D.meaning self) (command_of command.now) (progress_meant D.meaning next)) }

@@ -1,4 +1,4 @@
-use Rattle.std.proofs.Common.{◌≡◌, refl, sym, ap, ◌∙◌, subst, Err}
+use Rattle.std.proofs.Common.{refl, sym, ap, ◌∙◌, subst, Err}
 use Rattle.tbr_decor.specs.Decoration.{decoration_of}
 use Rattle.text_block_renderer.specs.Calls.{append_vert_row}
 use Rattle.tbr_runner.specs.Progress.{progress_meant, IsLive}

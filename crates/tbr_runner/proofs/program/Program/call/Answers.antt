@@ -1,4 +1,4 @@
-use Rattle.std.proofs.Common.{◌≡◌, ◌<◌, Err, refl, subst, sym, ap, ◌∙◌}
+use Rattle.std.proofs.Common.{◌<◌, Err, refl, subst, sym, ap, ◌∙◌}
 use Rattle.tbr_decor.specs.Decoration.{decoration_of}
 use Rattle.tbr_commands.specs.Request.{request_of}
 use Rattle.tbr_runner.specs.Progress.{progress_meant}

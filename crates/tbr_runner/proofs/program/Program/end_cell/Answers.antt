@@ -1,4 +1,4 @@
-use Rattle.std.proofs.Common.{◌≡◌, true, false}
+use Rattle.std.proofs.Common.{◌≡◌, false}
 use Rattle.tbr_runner.proofs.Meant.{no_cell, cells_in_cell, some_opened, none_waits, cell_waits}
 use Rattle.tbr_runner.proofs.program.Program.end_cell.Goals as goal
 
