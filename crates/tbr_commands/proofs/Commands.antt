@@ -116,6 +116,10 @@ Argument sub_word bs = (width : ℕ) × IsSize bs width
 Argument append_word bs = (s : List ℕ) × (t : List ℕ) × AreSplitTexts bs s t
 Argument cell_word bs = (width : ℕ) × (span : ℕ) × IsCellSize bs width span
 
+-- no name alone of a block or a cell
+abbrev pub IsNoLevelName : List ℕ → Type 0
+IsNoLevelName line = (line ≢ codes "endcell") × (line ≢ codes "vrow")
+
 -- a line by the word that it begins with
 abbrev pub IsWorded : List ℕ → Type 0
 IsWorded line = (w : Word) × Behind (written_as w) line (Argument w)
@@ -137,13 +141,13 @@ module _ (line : List ℕ) where
   by_word (begin what) k = absurd k
   by_word (end what) k = absurd k
 
-  level_by_word : line ≢ codes "endcell" → line ≢ codes "vrow" → (command : Command) → IsOfLevels line command → IsWorded line
-  level_by_word a b (ask request) k = absurd k
-  level_by_word a b (sub n) k = (sub_word, another (codes "sub") (λ bs. IsSize bs n) (Argument sub_word) (λ bs h. (n, h)) k)
-  level_by_word a b (append s t) k = (append_word, another (codes "append") (λ bs. AreSplitTexts bs s t) (Argument append_word) (λ bs h. (s, t, h)) k)
-  level_by_word a b (cell m n) k = (cell_word, another (codes "cell") (λ bs. IsCellSize bs m n) (Argument cell_word) (λ bs h. (m, n, h)) k)
-  level_by_word a b end_cell k = absurd (a k)
-  level_by_word a b vertical_row k = absurd (b k)
+  level_by_word : IsNoLevelName line → (command : Command) → IsOfLevels line command → IsWorded line
+  level_by_word names (ask request) k = absurd k
+  level_by_word names (sub n) k = (sub_word, another (codes "sub") (λ bs. IsSize bs n) (Argument sub_word) (λ bs h. (n, h)) k)
+  level_by_word names (append s t) k = (append_word, another (codes "append") (λ bs. AreSplitTexts bs s t) (Argument append_word) (λ bs h. (s, t, h)) k)
+  level_by_word names (cell m n) k = (cell_word, another (codes "cell") (λ bs. IsCellSize bs m n) (Argument cell_word) (λ bs h. (m, n, h)) k)
+  level_by_word names end_cell k = absurd (names.0 k)
+  level_by_word names vertical_row k = absurd (names.1 k)
 
 parts : (line : List ℕ) (r : Option (Bor (List ℕ) × Bor (List ℕ))) → IsSplitOnceResult 32 line r → (w : Word) → Behind (written_as w) line (Argument w) → MatchOption r ⊥ (λ x. (x.0.now ≡ written_as w) × Argument w x.1.now)
 parts line None h w k = split_after 32 line (written_as w) k.0 None h (lit< tt) k.1 (no_space (written_as w) (spaceless w))
@@ -158,22 +162,15 @@ no_space_no_word line h w = parts line None h w.0 w.1
 pub no_space_no_argument : (line : List ℕ) → IsSplitOnceResult 32 line None → (request : Request) → HasArgument line request → ⊥
 no_space_no_argument line h request k = no_space_no_word line h (by_word line request k)
 
-pub no_level_alone : (line : List ℕ) → IsSplitOnceResult 32 line None → line ≢ codes "endcell" → line ≢ codes "vrow" → (command : Command) → IsOfLevels line command → ⊥
-no_level_alone line h a b command k = no_space_no_word line h (level_by_word line a b command k)
-
--- no name has a space
-space_inside : (xs ys zs : List ℕ) → Each (λ b. b ≢ 32) xs → xs ≡ ys ++ 32 ∷ zs → ⊥
-space_inside [] [] zs a e = absurd cc
-space_inside [] (y ∷ ys) zs a e = absurd cc
-space_inside (x ∷ xs) [] zs a e = let head : x ≡ 32 = cc in a.0 head
-space_inside (x ∷ xs) (y ∷ ys) zs a e = space_inside xs ys zs a.1 cc
+pub no_space_of_levels : (line : List ℕ) → IsNoLevelName line → IsSplitOnceResult 32 line None → (command : Command) → IsOfLevels line command → ⊥
+no_space_of_levels line names h command k = no_space_no_word line h (level_by_word line names command k)
 
 module _ (line : List ℕ) (word rest : Bor (List ℕ)) (h : IsSplitOnceResult 32 line (Some (word, rest))) where
   pub behind_it : line ≡ word.now ++ (32 ∷ rest.now)
   behind_it = (split_parts 32 line (Some (word, rest)) h (lit< tt)).0
 
   -- what stands behind this word is no argument of it
-  pub no_such_argument : (w : Word) → word.now ≡ written_as w → (Argument w rest.now → ⊥) → IsWorded line → ⊥
+  no_such_argument : (w : Word) → word.now ≡ written_as w → (Argument w rest.now → ⊥) → IsWorded line → ⊥
   no_such_argument w is n v =
       let p = parts line (Some (word, rest)) h v.0 v.1 in
       n (subst (λ x. Argument x rest.now) (word_once v.0 w [] [] (ap (λ bs. bs ++ 32 ∷ []) (sym p.0 ∙ is))) p.1)
@@ -181,21 +178,8 @@ module _ (line : List ℕ) (word rest : Bor (List ℕ)) (h : IsSplitOnceResult 3
   pub no_argument : (w : Word) → word.now ≡ written_as w → (Argument w rest.now → ⊥) → (request : Request) → HasArgument line request → ⊥
   no_argument w is n request k = no_such_argument w is n (by_word line request k)
 
-  -- the line isn't a name alone
-  not_alone : (name : List ℕ) → Each (λ b. b ≢ 32) name → line ≢ name
-  not_alone name s is = space_inside name word.now rest.now s (sym is ∙ behind_it)
-
-  no_end_cell : line ≢ codes "endcell"
-  no_end_cell = not_alone (codes "endcell") (λ e. omega arith, (λ e. omega arith, (λ e. omega arith, (λ e. omega arith, (λ e. omega arith, (λ e. omega arith, (λ e. omega arith, tt)))))))
-
-  no_vertical_row : line ≢ codes "vrow"
-  no_vertical_row = not_alone (codes "vrow") (λ e. omega arith, (λ e. omega arith, (λ e. omega arith, (λ e. omega arith, tt))))
-
-  of_levels : (command : Command) → IsOfLevels line command → IsWorded line
-  of_levels = level_by_word line no_end_cell no_vertical_row
-
-  pub no_level_argument : (w : Word) → word.now ≡ written_as w → (Argument w rest.now → ⊥) → (command : Command) → IsOfLevels line command → ⊥
-  no_level_argument w is n command k = no_such_argument w is n (of_levels command k)
+  pub no_level_argument : IsNoLevelName line → (w : Word) → word.now ≡ written_as w → (Argument w rest.now → ⊥) → (command : Command) → IsOfLevels line command → ⊥
+  no_level_argument names w is n command k = no_such_argument w is n (level_by_word line names command k)
 
   begins_with : (v : IsWorded line) → word.now ≡ written_as v.0
   begins_with v = (parts line (Some (word, rest)) h v.0 v.1).0
@@ -215,14 +199,14 @@ module _ (line : List ℕ) (word rest : Bor (List ℕ)) (h : IsSplitOnceResult 3
   no_word a b c d f g n (begin what) k = k
   no_word a b c d f g n (end what) k = k
 
-  pub no_level_word : word.now ≢ codes "sub" → word.now ≢ codes "append" → word.now ≢ codes "cell" → (command : Command) → IsOfLevels line command → ⊥
-  unfolding of_levels level_by_word
-  no_level_word a b c (ask request) k = k
-  no_level_word a b c (sub n) k = a (begins_with (of_levels (sub n) k))
-  no_level_word a b c (append s t) k = b (begins_with (of_levels (append s t) k))
-  no_level_word a b c (cell m n) k = c (begins_with (of_levels (cell m n) k))
-  no_level_word a b c end_cell k = no_end_cell k
-  no_level_word a b c vertical_row k = no_vertical_row k
+  pub no_level_word : IsNoLevelName line → word.now ≢ codes "sub" → word.now ≢ codes "append" → word.now ≢ codes "cell" → (command : Command) → IsOfLevels line command → ⊥
+  unfolding level_by_word
+  no_level_word names a b c (ask request) k = k
+  no_level_word names a b c (sub n) k = a (begins_with (level_by_word line names (sub n) k))
+  no_level_word names a b c (append s t) k = b (begins_with (level_by_word line names (append s t) k))
+  no_level_word names a b c (cell m n) k = c (begins_with (level_by_word line names (cell m n) k))
+  no_level_word names a b c end_cell k = names.0 k
+  no_level_word names a b c vertical_row k = names.1 k
 
 -- ---- commands
 

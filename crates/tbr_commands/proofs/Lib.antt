@@ -1,6 +1,5 @@
-pub mod Spaced
 pub mod Colours
-pub mod Sizes
+pub mod CellSizes
 pub mod OptionWords
 pub mod OpeningWords
 pub mod Commands

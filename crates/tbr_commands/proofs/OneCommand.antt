@@ -19,7 +19,7 @@ use Rattle.tbr_commands.specs.Syntax.{layout_name, beginning_name, ending_name, 
 use Rattle.tbr_script.proofs.Texts.{one_escape}
 use Rattle.tbr_script.proofs.Bars.{one_split}
 use Rattle.tbr_commands.proofs.Colours.{colour_once}
-use Rattle.tbr_commands.proofs.Sizes.{cell_size_once}
+use Rattle.tbr_commands.proofs.CellSizes.{cell_size_once}
 use Rattle.tbr_commands.proofs.Commands.{Word, text_word, marker_word, link_word, image_word, colour_word, ground_word, border_word, sub_word, append_word, cell_word, written_as, word_once}
 
 -- ---- texts

@@ -1,12 +1,12 @@
 -- How each command is written.
-use Rattle.std.specs.Prelude.{◌≡◌, ◌⊎◌, ℕ, List, ◌++◌, None, Some, codes}
+use Rattle.std.specs.Prelude.{◌≡◌, ◌⊎◌, ℕ, List, [], ◌∷◌, ◌++◌, None, Some, codes}
 use Rattle.std.specs.Str.{IsUtf8}
 use Rattle.std.specs.Str.Parse.{digits_value}
 use Rattle.tbr_model.specs.declared.white_space.WhiteSpace.{WhiteSpace}
 use Rattle.tbr_model.specs.declared.white_space.WhiteSpace.TheVariants.{Normal, Pre, PreWrap}
 use Rattle.tbr_decor.specs.declared.colour.Colour.{Colour}
 use Rattle.tbr_decor.specs.Ground as ground
-use Rattle.tbr_script.specs.Script.{IsNumber, IsSize, IsByte, IsText, AreSplitTexts}
+use Rattle.tbr_script.specs.Script.{IsNumber, IsSize, IsByte, IsText, AreSplitTexts, words_of}
 use Rattle.tbr_commands.specs.Request.{Request, layout, begin, end, text, fragment, link, image, colour, border}
 use Rattle.tbr_commands.specs.Command.{Command, ask, sub, append, cell, end_cell, vertical_row}
 use Rattle.tbr_commands.specs.declared.request.layout.Layout.{Layout}
@@ -97,13 +97,13 @@ IsRequest line request = IsAlone line request ⊎ HasArgument line request
 
 -- ---- commands
 
--- a width and a span, with a space between them
+-- the size of a cell by its words: a width and a span
 abbrev pub IsCellSize : List ℕ → ℕ → ℕ → Type 0
 IsCellSize writing width span =
-    (digits : List ℕ) × (others : List ℕ) × (writing ≡ digits ++ (codes " " ++ others))
+    (digits : List ℕ) × (others : List ℕ) × (words_of writing ≡ digits ∷ others ∷ [])
     × IsSize digits width × IsSize others span
 
--- a line that opens or closes a renderer or a cell, or takes the cells that were closed
+-- a line that opens or closes a block or a cell, or takes the cells that wait
 abbrev pub IsOfLevels : List ℕ → Command → Type 0
 IsOfLevels line (ask request) = ⊥
 IsOfLevels line (sub width) = Behind (codes "sub") line (λ argument. IsSize argument width)

@@ -6,23 +6,23 @@ ghost use Rattle.tbr_commands.specs.Syntax.{IsCellSize, IsOfLevels, IsCommand};
 
 use crate::request::Request;
 use std::alloc::{AllocError, Global};
-use tbr_script::{TextPair, parse_size};
+use tbr_script::{TextPair, Words, parse_size};
 
 /// What a line of a script behind the first command asks for.
 #[derive(Debug, Drop)]
 pub enum Command {
     /// One call of the renderer that is open.
     Ask(Request),
-    /// A renderer of so many columns, at least 1, opens inside it.
+    /// A block of so many columns, at least 1, opens inside the renderer that is open.
     Sub(usize),
-    /// That renderer closes. Its lines go into the one outside, behind a prefix: one for the first, and another for
-    /// all others.
+    /// The block that is open closes. Its lines go into the renderer outside, each behind a prefix: that of the first
+    /// line, and that of all others.
     Append(TextPair),
-    /// A cell opens inside it.
+    /// A cell opens inside the renderer that is open.
     Cell(CellSize),
-    /// That cell closes, and waits.
+    /// The cell that is open closes, and waits.
     EndCell,
-    /// The waiting cells go into it, one below another.
+    /// The cells that wait go into the renderer that is open, one below another.
     VerticalRow,
 }
 
@@ -31,7 +31,7 @@ pub enum Command {
 pub struct CellSize {
     /// Its columns, at least 1.
     pub width: usize,
-    /// Rows that it takes, at least 1.
+    /// The rows that it takes, at least 1.
     pub span: usize,
 }
 
@@ -53,15 +53,18 @@ impl Command {
         }
     }
 
-    /// The same of a line that opens or closes a renderer or a cell, or takes the cells that were closed.
+    /// The same of a line that opens or closes a block or a cell, or takes the cells that wait.
     fn of_levels(alloc: Global, line: &str) -> Result<Option<Command>, AllocError>
         ensures found { IfOk result (λ found.
             IfSome found (λ command. IsOfLevels line.now (command_of command))) }
         ensures none { IfOk result (λ found.
             IfNone found ((command : asked.Command) → IsOfLevels line.now command → ⊥)) }
     {
+        if let Some(command) = Command::alone(line) {
+            return Ok(Some(command));
+        }
         let Some((word, argument)) = line.split_once(' ') else {
-            return Ok(Command::alone(line));
+            return Ok(None);
         };
         match word {
             "sub" => Ok(parse_size(argument).map(Command::Sub)),
@@ -90,10 +93,12 @@ impl CellSize {
         ensures found { IfSome result (λ cell. IsCellSize writing.now cell.width cell.span) }
         ensures none { IfNone result ((width span : ℕ) → IsCellSize writing.now width span → ⊥) }
     {
-        let (width, span) = writing.split_once(' ')?;
-        Some(CellSize {
-            width: parse_size(width)?,
-            span: parse_size(span)?,
-        })
+        let mut words = Words::of(writing);
+        let width = parse_size(words.next()?)?;
+        let span = parse_size(words.next()?)?;
+        match words.next() {
+            Some(_) => None,
+            None => Some(CellSize { width, span }),
+        }
     }
 }
