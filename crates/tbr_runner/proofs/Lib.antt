@@ -1,4 +1,8 @@
+pub mod Given
+pub mod Levels
+pub mod Meant
 pub mod Live
 pub mod LinesGive
+pub mod OfScript
 pub mod Results
-pub mod Once
+pub mod once

@@ -101,7 +101,7 @@ module _ {D M : Type 0} (columns : ℕ → Option ℕ) (decoration : Decoration 
   unstruck_by_end g r true e = rw e (refl, refl)
   unstruck_by_end g r false e = rw e (refl, refl)
 
-  settled_options : (call : Call (List M)) (r : Renderer D M (List M)) → (settled decoration call r).options ≡ r.options
+  pub settled_options : (call : Call (List M)) (r : Renderer D M (List M)) → (settled decoration call r).options ≡ r.options
   unfolding Unstruck
   settled_options start_strikeout r = go r.options.use_unicode_strikeout refl
     where
@@ -177,4 +177,16 @@ still_live {D} {A} {M} columns decoration meaning request r s begun next live is
       λ on.
           let before_on = sym (ap (λ (x : RenderOptions). x.use_unicode_strikeout) options) ∙ on in
           ap (λ (x : Settings D M). x.strikeouts) settings ∙ counted_strikeouts columns decoration before begun request before_on (live.2 before_on) ∙ ap (λ (b : Begun). b.strikeouts) (sym is),
+    )
+
+-- a call that changes no setting
+pub steady_live : {D A M : Type 0} (columns : ℕ → Option ℕ) (decoration : Decoration D M) (meaning : A → M) (call : Call (List M)) (r s : Renderer D A (Vec A)) (begun : Begun) →
+    ((x : Renderer D M (List M)) → settled decoration call x ≡ x) → ((n : ℕ) → preformats_behind columns decoration call n ≡ n) →
+    IsLive r begun → Does columns decoration call (meant meaning r) (meant meaning s) → IsLive s begun
+steady_live {D} {A} {M} columns decoration meaning call r s begun settles counts live does =
+    let behind = call_beside columns decoration call (meant meaning r) (meant meaning s) does in
+    let same : settings_of (meant meaning s) ≡ settings_of (meant meaning r) = call_changes columns decoration call (meant meaning r) (meant meaning s) does ∙ ap (λ (x : Renderer D M (List M)). settings_of x) (settles (meant meaning r)) in (
+      behind.0 ∙ live.0,
+      behind.1 ∙ counts r.preformatted ∙ live.1,
+      λ on. ap (λ (x : Settings D M). x.strikeouts) same ∙ live.2 (sym (ap (λ (x : Settings D M). x.options.use_unicode_strikeout) same) ∙ on),
     )

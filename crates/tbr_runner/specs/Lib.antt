@@ -1,3 +1,4 @@
+pub mod Prefixes
 pub mod Progress
 pub mod Decorations
 pub mod Meaning

@@ -1,82 +1,212 @@
 -- The meaning of a script: that of its commands one after another, up to the first line that is faulty or refuses.
-use Rattle.std.specs.Prelude.{◌≡◌, ℕ, ◌+◌, ◌⊎◌, true, false, Option, Result, Err, MatchResult, List, [], ◌∷◌, encode_utf8_all}
+use Rattle.std.specs.Prelude.{◌≡◌, ◌≢◌, ℕ, ◌+◌, ◌⊎◌, true, false, Option, None, Some, Result, Err, MatchResult, List, [], ◌∷◌, ◌++◌, map, length, encode_utf8_all}
+use Rattle.std.specs.List.{AllZip}
 use Rattle.tbr_decor.specs.Decoration.{Decoration}
-use Rattle.text_block_renderer.specs.Renderer.{Renderer, new_renderer}
+use Rattle.text_block_renderer.specs.Renderer.{Renderer, Line, new_renderer}
 use Rattle.text_block_renderer.specs.Text.{lines_text}
 use Rattle.text_block_renderer.specs.Flush.{Flushes, FlushIsTooNarrow}
-use Rattle.text_block_renderer.specs.Calls.{Does, IsTooNarrow}
+use Rattle.text_block_renderer.specs.Decorated.{sub_renderer}
+use Rattle.text_block_renderer.specs.Appended.{HandsOut, HoldsBack, FirstToRefuse}
+use Rattle.text_block_renderer.specs.Calls.{append_subrender, append_vert_row, Does, IsTooNarrow}
 use Rattle.tbr_script.specs.declared.error.RunError.{RunError}
 use Rattle.tbr_script.specs.declared.error.RunError.TheVariants.{TooNarrow, NotACommand, NothingToEnd}
+use Rattle.tbr_script.specs.Script.{lines_of}
+use Rattle.tbr_stack.specs.Stack.{Stack, new_stack, top_of, with_top, pushed, below}
 use Rattle.tbr_commands.specs.declared.opening.Decorator.{Decorator}
 use Rattle.tbr_commands.specs.declared.opening.Decorator.TheVariants.{Plain, Trivial, Rich}
 use Rattle.tbr_commands.specs.declared.opening.Opening.{Opening}
-use Rattle.tbr_script.specs.Script.{lines_of}
 use Rattle.tbr_commands.specs.Request.{Request, call_of}
-use Rattle.tbr_commands.specs.Command.{ask}
+use Rattle.tbr_commands.specs.Command.{Command, ask, sub, append, cell, end_cell, vertical_row}
 use Rattle.tbr_commands.specs.Syntax.{IsCommand}
 use Rattle.tbr_commands.specs.Opening.{IsOpening}
-use Rattle.tbr_commands.specs.Begun.{nothing_begun, ends_nothing, counted}
-use Rattle.tbr_runner.specs.Progress.{Progress}
+use Rattle.tbr_commands.specs.Begun.{ends_nothing, counted}
+use Rattle.tbr_runner.specs.declared.opened.Opener.{Opener}
+use Rattle.tbr_runner.specs.declared.opened.Opener.TheVariants.{Sub, Cell}
+use Rattle.tbr_runner.specs.Prefixes.{prefixes}
+use Rattle.tbr_runner.specs.Progress.{Pending, Opened, Progress, nothing_pending}
 use Rattle.tbr_runner.specs.Decorations.{plain_decoration, trivial_decoration, rich_decoration}
+
+-- ---- the renderer on top
+
+module _ {R : Type 0} where
+  -- it leads somewhere, and nothing else of the stack changes
+  abbrev pub OnTop : (R → R → Type 0) → Stack R → Stack R → Type 0
+  OnTop Leads stack next = (r : R) × (s : R) × (top_of stack ≡ Some r) × Leads r s × (next ≡ with_top stack s)
+
+  -- it is such
+  abbrev pub TopIs : (R → Type 0) → Stack R → Type 0
+  TopIs Is stack = (r : R) × (top_of stack ≡ Some r) × Is r
 
 -- ---- behind the first command, under any decorator
 
--- What the end of a script gives: the text of the lines behind a flush, or that this is too narrow.
-abbrev pub Ends : {D M : Type 0} → (ℕ → Option ℕ) → Progress D M (List M) → Result (List ℕ) RunError → Type 0
-Ends {D} {M} columns p outcome =
+-- by which command the innermost level that is open was opened
+abbrev pub opener : {D A T : Type 0} → List (Opened D A T) → Option Opener
+opener [] = None
+opener (level ∷ levels) = Some level.by
+
+-- the renderers of cells
+abbrev pub renderers_of : {D A T : Type 0} → List (Renderer D A T × ℕ) → List (Renderer D A T)
+renderers_of cells = map (λ cell. cell.0) cells
+
+-- one cell more that waits
+abbrev pub with_cell : {D A T : Type 0} → Pending D A T → Renderer D A T → ℕ → Pending D A T
+with_cell pending inside span = record pending { cells = pending.cells ++ (inside, span) ∷ [] }
+
+-- The innermost level ends: its renderer is taken, and what was pending below it is so again. No cell waits in it.
+pub record Closes {D A T : Type 0} (p : Progress D A T) (by : Opener) (inside : Renderer D A T) (next : Progress D A T) :
+    Type 0 where
+  pub cells : p.pending.cells ≡ []
+  pub opened : p.opened ≡ record { by = by; below = next.pending } ∷ next.opened
+  pub top : top_of p.stack ≡ Some inside
+  pub stack : next.stack ≡ below p.stack
+
+-- What the end of a script gives, which counts as the line of this number: the text of the lines behind a flush, or
+-- that this is too narrow. Where a level is open or a cell waits, it is no command.
+abbrev pub Ends :
+    {D M : Type 0} → (ℕ → Option ℕ) → Progress D M (List M) → ℕ → Result (List ℕ) RunError → Type 0
+Ends {D} {M} columns p number outcome =
     MatchResult outcome
-    (λ bytes. (s : Renderer D M (List M)) × Flushes columns p.renderer s
-    × (bytes ≡ encode_utf8_all (lines_text s.lines)))
-    (λ e. FlushIsTooNarrow columns p.renderer × (e ≡ TooNarrow))
+    (λ bytes. (p.opened ≡ []) × (p.pending.cells ≡ [])
+    × TopIs (λ r. (s : Renderer D M (List M)) × Flushes columns r s
+    × (bytes ≡ encode_utf8_all (lines_text s.lines))) p.stack)
+    (λ e. (((p.opened ≢ []) ⊎ (p.pending.cells ≢ [])) × (e ≡ NotACommand number))
+    ⊎ ((p.opened ≡ []) × (p.pending.cells ≡ []) × TopIs (FlushIsTooNarrow columns) p.stack × (e ≡ TooNarrow)))
+
+-- ---- where a command leads
+
+-- A renderer for a block inside comes on top, with nothing pending.
+pub record LevelOpens {D M : Type 0} (decoration : Decoration D M) (p : Progress D M (List M)) (by : Opener)
+    (width : ℕ) (next : Progress D M (List M)) : Type 0 where
+  pub stack : TopIs (λ r. next.stack ≡ pushed (sub_renderer decoration width r) p.stack) p.stack
+  pub pending : next.pending ≡ nothing_pending
+  pub opened : next.opened ≡ record { by = by; below = p.pending } ∷ p.opened
+
+-- The innermost level waits as a cell in that below it.
+abbrev pub CellDoes : {D A T : Type 0} → Progress D A T → Progress D A T → Type 0
+CellDoes {D} {A} {T} p next =
+    (span : ℕ) × (inside : Renderer D A T) × (closed : Progress D A T) × Closes p (Cell span) inside closed
+    × (next ≡ record closed { pending = with_cell closed.pending inside span })
 
 module _ {D M : Type 0} (columns : ℕ → Option ℕ) (decoration : Decoration D M) where
-  -- Where a request leads.
+  -- The renderer on top does what is asked.
   pub record RequestDoes (p : Progress D M (List M)) (request : Request) (next : Progress D M (List M)) : Type 0 where
-    pub ends : ends_nothing p.begun request ≡ false
-    pub does : Does columns decoration (call_of p.renderer.width request) p.renderer next.renderer
-    pub counts : next.begun ≡ counted p.begun request
+    pub ends : ends_nothing p.pending.begun request ≡ false
+    pub does : OnTop (λ r s. Does columns decoration (call_of r.width request) r s) p.stack next.stack
+    pub counts : next.pending ≡ record p.pending { begun = counted p.pending.begun request }
+    pub opened : next.opened ≡ p.opened
 
-  -- With what a request is refused on the line of this number: it ends nothing, or the renderer is too narrow.
+  -- The lines of the innermost level join those below it, the first behind one prefix, each other behind another.
+  pub record AppendDoes (p : Progress D M (List M)) (first other : List ℕ) (next : Progress D M (List M)) :
+      Type 0 where
+    pub inside : Renderer D M (List M)
+    pub closed : Progress D M (List M)
+    pub closes : Closes p Sub inside closed
+    pub lines : List (Line (List M))
+    pub hands_out : HandsOut columns inside lines
+    pub does : OnTop (Does columns decoration (append_subrender (prefixes first other (length lines)) lines))
+        closed.stack next.stack
+    pub pending : next.pending ≡ closed.pending
+    pub opened : next.opened ≡ closed.opened
+
+  -- The lines of the waiting cells join those of the renderer on top, and none waits any more.
+  pub record RowDoes (p next : Progress D M (List M)) : Type 0 where
+    pub cells : List (List (Line (List M)))
+    pub hand_out : AllZip (HandsOut columns) (renderers_of p.pending.cells) cells
+    pub does : OnTop (Does columns decoration (append_vert_row cells)) p.stack next.stack
+    pub pending : next.pending ≡ record p.pending { cells = [] }
+    pub opened : next.opened ≡ p.opened
+
+  abbrev pub CommandDoes : Progress D M (List M) → Command → Progress D M (List M) → Type 0
+  CommandDoes p (ask request) next = RequestDoes p request next
+  CommandDoes p (sub width) next = LevelOpens decoration p Sub width next
+  CommandDoes p (append first other) next = AppendDoes p first other next
+  CommandDoes p (cell width span) next = LevelOpens decoration p (Cell span) width next
+  CommandDoes p end_cell next = CellDoes p next
+  CommandDoes p vertical_row next = RowDoes p next
+
+-- ---- with what a command is refused on the line of this number
+
+-- Cells wait in a level that it would end.
+abbrev pub CellsWait : {D A T : Type 0} → Progress D A T → ℕ → RunError → Type 0
+CellsWait p number e = (p.pending.cells ≢ []) × (e ≡ NotACommand number)
+
+-- No `cell` opened the innermost level, or cells wait in it.
+abbrev pub CellRefuses : {D A T : Type 0} → Progress D A T → ℕ → RunError → Type 0
+CellRefuses p number e =
+    (((span : ℕ) → opener p.opened ≢ Some (Cell span)) × (e ≡ NothingToEnd number))
+    ⊎ ((span : ℕ) × (opener p.opened ≡ Some (Cell span)) × CellsWait p number e)
+
+module _ {D M : Type 0} (columns : ℕ → Option ℕ) where
+  -- No `sub` opened the innermost level, or cells wait in it, or the renderer below it is too narrow, or its own.
+  abbrev pub AppendRefuses : Progress D M (List M) → ℕ → RunError → Type 0
+  AppendRefuses p number e =
+      ((opener p.opened ≢ Some Sub) × (e ≡ NothingToEnd number))
+      ⊎ ((opener p.opened ≡ Some Sub) × CellsWait p number e)
+      ⊎ ((inside : Renderer D M (List M)) × (closed : Progress D M (List M)) × Closes p Sub inside closed
+      × (TopIs (FlushIsTooNarrow columns) closed.stack ⊎ HoldsBack columns inside) × (e ≡ TooNarrow))
+
+  -- The renderer on top is too narrow, or one of the cells.
+  abbrev pub RowRefuses : Progress D M (List M) → RunError → Type 0
+  RowRefuses p e =
+      (TopIs (FlushIsTooNarrow columns) p.stack
+      ⊎ FirstToRefuse (HandsOut columns) (HoldsBack columns) (renderers_of p.pending.cells)) × (e ≡ TooNarrow)
+
+module _ {D M : Type 0} (columns : ℕ → Option ℕ) (decoration : Decoration D M) where
+  -- It ends nothing, or the renderer on top is too narrow.
   abbrev pub RequestRefuses : Progress D M (List M) → ℕ → Request → RunError → Type 0
   RequestRefuses p number request e =
-      ((ends_nothing p.begun request ≡ true) × (e ≡ NothingToEnd number))
-      ⊎ ((ends_nothing p.begun request ≡ false)
-      × IsTooNarrow columns decoration (call_of p.renderer.width request) p.renderer × (e ≡ TooNarrow))
+      ((ends_nothing p.pending.begun request ≡ true) × (e ≡ NothingToEnd number))
+      ⊎ ((ends_nothing p.pending.begun request ≡ false)
+      × TopIs (λ r. IsTooNarrow columns decoration (call_of r.width request) r) p.stack × (e ≡ TooNarrow))
+
+  abbrev pub CommandRefuses : Progress D M (List M) → ℕ → Command → RunError → Type 0
+  CommandRefuses p number (ask request) e = RequestRefuses p number request e
+  CommandRefuses p number (sub width) e = ⊥
+  CommandRefuses p number (append first other) e = AppendRefuses columns p number e
+  CommandRefuses p number (cell width span) e = ⊥
+  CommandRefuses p number end_cell e = CellRefuses p number e
+  CommandRefuses p number vertical_row e = RowRefuses columns p e
+
+  -- ---- lines
 
   -- Where a line leads. An empty line is skipped.
   abbrev pub LineDoes : Progress D M (List M) → List ℕ → Progress D M (List M) → Type 0
   LineDoes p [] next = next ≡ p
-  LineDoes p (b ∷ bs) next = (request : Request) × IsCommand (b ∷ bs) (ask request) × RequestDoes p request next
+  LineDoes p (b ∷ bs) next =
+      (command : Command) × IsCommand (b ∷ bs) command × CommandDoes columns decoration p command next
 
-  -- With what the line of this number is refused: it is no command, or its request is refused.
+  -- With what the line of this number is refused: it is no command, or what it asks for is refused.
   abbrev pub LineRefuses : Progress D M (List M) → ℕ → List ℕ → RunError → Type 0
   LineRefuses p number [] e = ⊥
   LineRefuses p number (b ∷ bs) e =
-      (((request : Request) → IsCommand (b ∷ bs) (ask request) → ⊥) × (e ≡ NotACommand number))
-      ⊎ ((request : Request) × IsCommand (b ∷ bs) (ask request) × RequestRefuses p number request e)
+      (((command : Command) → IsCommand (b ∷ bs) command → ⊥) × (e ≡ NotACommand number))
+      ⊎ ((command : Command) × IsCommand (b ∷ bs) command × CommandRefuses p number command e)
 
   -- What lines give that follow here, the first of them with this number.
   abbrev pub LinesGive : Progress D M (List M) → ℕ → List (List ℕ) → Result (List ℕ) RunError → Type 0
-  LinesGive p number [] outcome = Ends columns p outcome
+  LinesGive p number [] outcome = Ends columns p number outcome
   LinesGive p number (line ∷ lines) outcome =
       ((e : RunError) × LineRefuses p number line e × (outcome ≡ Err e))
       ⊎ ((next : Progress D M (List M)) × LineDoes p line next × LinesGive next (number + 1) lines outcome)
 
 -- ---- the whole
 
--- the renderer of a first command, with nothing begun
-abbrev pub opened : {D M : Type 0} → Opening → D → Progress D M (List M)
-opened opening decorator =
-    record { renderer = new_renderer opening.width opening.options decorator; begun = nothing_begun }
+-- the renderer of a first command, with nothing pending
+abbrev pub started : {D M : Type 0} → Opening → D → Progress D M (List M)
+started opening decorator = record {
+  stack = new_stack (new_renderer opening.width opening.options decorator);
+  pending = nothing_pending;
+  opened = [];
+}
 
 -- What lines give behind the first command, whose decorator this is.
 abbrev pub OpensUnder : (ℕ → Option ℕ) → Decorator → Opening → ℕ → List (List ℕ) → Result (List ℕ) RunError → Type 0
 OpensUnder columns Plain opening number lines outcome =
-    LinesGive columns plain_decoration (opened opening (record {})) number lines outcome
+    LinesGive columns plain_decoration (started opening (record {})) number lines outcome
 OpensUnder columns Trivial opening number lines outcome =
-    LinesGive columns trivial_decoration (opened opening (record {})) number lines outcome
+    LinesGive columns trivial_decoration (started opening (record {})) number lines outcome
 OpensUnder columns Rich opening number lines outcome =
-    LinesGive columns rich_decoration (opened opening (record {})) number lines outcome
+    LinesGive columns rich_decoration (started opening (record {})) number lines outcome
 
 abbrev pub Opens : (ℕ → Option ℕ) → Opening → ℕ → List (List ℕ) → Result (List ℕ) RunError → Type 0
 Opens columns opening number lines outcome = OpensUnder columns opening.decorator opening number lines outcome

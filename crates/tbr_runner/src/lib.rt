@@ -5,5 +5,8 @@ pub use laws::a_script_gives_one_thing;
 pub use runner::run;
 
 mod laws;
+mod opened;
+mod pending;
+mod prefixes;
 mod program;
 mod runner;

@@ -1,25 +1,34 @@
-//! A script's calls, one after another.
-ghost use Rattle.std.specs.Prelude.{◌≡◌, ◌≢◌, ◌<◌, Some, Ok, Err, IfOk, IfErr, string_bytes};
+//! A script's commands, one after another.
+ghost use Rattle.std.specs.Prelude.{◌≡◌, [], ◌≢◌, ◌<◌, None, Some, Ok, Err, IfOk, IfErr, IfSome, OnOk, string_bytes};
 ghost use Rattle.tbr_decor.specs.Decoration.{decoration_of};
 ghost use Rattle.text_block_renderer.specs.Renderer.{new_renderer};
-ghost use Rattle.tbr_commands.specs.Begun.{nothing_begun};
+ghost use Rattle.tbr_script.specs.declared.error.RunError.TheVariants as E;
+ghost use Rattle.tbr_stack.specs.Stack.{new_stack};
 ghost use Rattle.tbr_commands.specs.Request.{request_of};
-ghost use Rattle.tbr_runner.specs.Progress.{progress_meant};
-ghost use Rattle.tbr_runner.specs.Meaning.{RequestDoes, RequestRefuses, LineDoes, LineRefuses, Ends};
+ghost use Rattle.tbr_commands.specs.Command.{command_of, IsSized};
+ghost use Rattle.tbr_runner.specs.Progress.{progress_meant, nothing_pending};
+ghost use Rattle.tbr_runner.specs.declared.opened.Opener.{Opener as By};
+ghost use Rattle.tbr_runner.specs.Meaning.{opener, Closes, RequestDoes, RequestRefuses, LevelOpens, AppendDoes, AppendRefuses, CellDoes, CellRefuses, RowDoes, RowRefuses, CommandDoes, CommandRefuses, LineDoes, LineRefuses, Ends};
 
+use crate::opened::{OpenLevels, Opener};
+use crate::pending::Pending;
+use crate::prefixes::append_behind;
 use std::alloc::Global;
 use std::marker::Model;
-use tbr_commands::{Begun, Command, Request};
+use tbr_commands::{Command, Request};
 use tbr_decor::TextDecorator;
 use tbr_lines::CharWidth;
-use tbr_script::RunError;
-use text_block_renderer::{RenderOptions, SubRenderer};
+use tbr_script::{RunError, TextPair};
+use tbr_stack::TextRenderer;
+use text_block_renderer::{RenderOptions, Renderer, SubRenderer};
 
 /// What a script has called so far behind its first command. A refusal drops the program.
 #[derive(Drop)]
 pub struct Program<D: TextDecorator, W: CharWidth> {
-    renderer: SubRenderer<D, W>,
-    begun: Begun,
+    renderers: TextRenderer<D, W>,
+    /// On the renderer on top.
+    pending: Pending<D, W>,
+    opened: OpenLevels<D, W>,
 }
 
 impl<D: TextDecorator, W: CharWidth> Model for Program<D, W> {
@@ -28,24 +37,37 @@ impl<D: TextDecorator, W: CharWidth> Model for Program<D, W> {
 
     ghost Value = { Progress D D.Annotation (Vec D.Annotation) };
 
-    ghost use Rattle.tbr_runner.specs.Progress.{IsLive};
+    ghost use Rattle.tbr_runner.specs.Progress.{AreLive};
 
-    ghost view = { λ p. record { renderer = p.renderer; begun = p.begun } };
+    ghost view = { λ p. record { stack = p.renderers; pending = p.pending; opened = p.opened } };
 
-    ghost invariant = { λ p. IsLive p.renderer p.begun };
+    ghost invariant = { λ p. AreLive p.renderers p.pending p.opened };
 }
 
 impl<D: TextDecorator, W: CharWidth> Program<D, W> {
-    /// A renderer of a width of at least 1, and nothing called yet. A wrap width is at least 1 too.
-    pub fn new(alloc: Global, width: usize, options: RenderOptions, decorator: D) -> Program<D, W>
+    /// A renderer of a width of at least 1, and nothing called yet. A wrap width is at least 1 too. It refuses only for
+    /// want of memory.
+    pub fn new(
+        alloc: Global,
+        width: usize,
+        options: RenderOptions,
+        decorator: D,
+    ) -> Result<Program<D, W>, RunError>
         requires width { 0 < width }
         requires wrap_width { options.wrap_width ≢ Some 0 }
-        ensures { result ≡ record { renderer = new_renderer width options decorator; begun = nothing_begun } }
+        ensures program { IfOk result (λ program. program ≡ record {
+          stack = new_stack (new_renderer width options decorator);
+          pending = nothing_pending;
+          opened = [];
+        }) }
+        ensures memory { IfErr result (λ e. e ≡ E.OutOfMemory) }
     {
-        Program {
-            renderer: SubRenderer::new(alloc, width, options, decorator),
-            begun: Begun::nothing(),
-        }
+        let renderer = SubRenderer::new(alloc, width, options, decorator);
+        Ok(Program {
+            renderers: TextRenderer::new(alloc, renderer)?,
+            pending: Pending::nothing(alloc),
+            opened: OpenLevels::none(alloc),
+        })
     }
 
     /// Does what the line of this number asks for. An empty line asks for nothing.
@@ -66,8 +88,27 @@ impl<D: TextDecorator, W: CharWidth> Program<D, W> {
             return Ok(self);
         }
         match Command::parse(alloc, line)? {
-            Some(Command::Ask(request)) => self.call(number, &request),
-            _ => Err(RunError::NotACommand(number)),
+            Some(command) => self.run(alloc, number, &command),
+            None => Err(RunError::NotACommand(number)),
+        }
+    }
+
+    /// Does what a command asks for, on the line of this number.
+    fn run(self, alloc: Global, number: usize, command: &Command) -> Result<Program<D, W>, RunError>
+        requires { IsSized (command_of command.now) }
+        ensures done { IfOk result (λ next. CommandDoes W.columns (decoration_of D.TextDecorator)
+            (progress_meant D.meaning self) (command_of command.now) (progress_meant D.meaning next)) }
+        ensures refused { IfErr result (λ e. e ≢ RunError.OutOfMemory →
+            CommandRefuses W.columns (decoration_of D.TextDecorator) (progress_meant D.meaning self) number
+            (command_of command.now) e) }
+    {
+        match command {
+            Command::Ask(request) => self.call(number, request),
+            Command::Sub(width) => self.open(alloc, Opener::Sub, *width),
+            Command::Append(prefixes) => self.append(number, prefixes),
+            Command::Cell(size) => self.open(alloc, Opener::Cell(size.span), size.width),
+            Command::EndCell => self.end_cell(number),
+            Command::VerticalRow => self.add_row(alloc),
         }
     }
 
@@ -79,26 +120,139 @@ impl<D: TextDecorator, W: CharWidth> Program<D, W> {
             RequestRefuses W.columns (decoration_of D.TextDecorator) (progress_meant D.meaning self) number
             (request_of request.now) e) }
     {
-        if self.begun.lacks(request) {
+        if self.pending.lacks(request) {
             return Err(RunError::NothingToEnd(number));
         }
-        let Some(begun) = self.begun.behind(request) else {
+        let Program {
+            mut renderers,
+            pending,
+            opened,
+        } = self;
+        let Some(pending) = pending.behind(request) else {
             return Err(RunError::OutOfMemory);
         };
-        let mut renderer = self.renderer;
-        request.call(&mut renderer)?;
-        Ok(Program { renderer, begun })
+        request.call(renderers.top_mut())?;
+        Ok(Program {
+            renderers,
+            pending,
+            opened,
+        })
     }
 
-    /// The text of the script.
+    /// Opens a level of a width of at least 1.
+    fn open(self, alloc: Global, by: Opener, width: usize) -> Result<Program<D, W>, RunError>
+        requires { 0 < width }
+        ensures done { IfOk result (λ next. LevelOpens (decoration_of D.TextDecorator)
+            (progress_meant D.meaning self) by width (progress_meant D.meaning next)) }
+        ensures memory { IfErr result (λ e. e ≡ E.OutOfMemory) }
+    {
+        let Program {
+            mut renderers,
+            pending,
+            mut opened,
+        } = self;
+        let inside = renderers.top().new_sub_renderer(width)?;
+        renderers.push(inside)?;
+        opened.open(by, pending)?;
+        Ok(Program {
+            renderers,
+            pending: Pending::nothing(alloc),
+            opened,
+        })
+    }
+
+    /// Closes the innermost level, and answers its renderer. It asks that a level is open, and that no cell waits in it.
+    fn close(self) -> (SubRenderer<D, W>, Program<D, W>)
+        requires opened { opener self.opened ≢ None }
+        requires cells { self.pending.cells ≡ [] }
+        ensures { (by : By) × Closes self by result.0 result.1 }
+    {
+        let Program {
+            mut renderers,
+            mut opened,
+            ..
+        } = self;
+        let inside = renderers.pop();
+        let pending = opened.close();
+        let program = Program {
+            renderers,
+            pending,
+            opened,
+        };
+        (inside, program)
+    }
+
+    /// Closes the level that `sub` opened, on the line of this number: its lines join those below it.
+    fn append(self, number: usize, prefixes: &TextPair) -> Result<Program<D, W>, RunError>
+        ensures done { IfOk result (λ next. AppendDoes W.columns (decoration_of D.TextDecorator)
+            (progress_meant D.meaning self) (string_bytes prefixes.now.first) (string_bytes prefixes.now.second)
+            (progress_meant D.meaning next)) }
+        ensures refused { IfErr result (λ e. e ≢ RunError.OutOfMemory →
+            AppendRefuses W.columns (progress_meant D.meaning self) number e) }
+    {
+        if !self.opened.is_sub() {
+            return Err(RunError::NothingToEnd(number));
+        }
+        if self.pending.has_cells() {
+            return Err(RunError::NotACommand(number));
+        }
+        let (inside, mut program) = self.close();
+        append_behind(program.renderers.top_mut(), inside, prefixes)?;
+        Ok(program)
+    }
+
+    /// Closes the level that `cell` opened, on the line of this number: it waits below as a cell.
+    fn end_cell(self, number: usize) -> Result<Program<D, W>, RunError>
+        ensures done { IfOk result (λ next.
+            CellDoes (progress_meant D.meaning self) (progress_meant D.meaning next)) }
+        ensures refused { IfErr result (λ e. e ≢ RunError.OutOfMemory →
+            CellRefuses (progress_meant D.meaning self) number e) }
+    {
+        let Some(span) = self.opened.cell_span() else {
+            return Err(RunError::NothingToEnd(number));
+        };
+        if self.pending.has_cells() {
+            return Err(RunError::NotACommand(number));
+        }
+        let (inside, mut program) = self.close();
+        program.pending.add_cell(inside, span)?;
+        Ok(program)
+    }
+
+    /// Adds the waiting cells, one below another.
+    fn add_row(self, alloc: Global) -> Result<Program<D, W>, RunError>
+        ensures done { IfOk result (λ next. RowDoes W.columns (decoration_of D.TextDecorator)
+            (progress_meant D.meaning self) (progress_meant D.meaning next)) }
+        ensures refused { IfErr result (λ e. e ≢ RunError.OutOfMemory →
+            RowRefuses W.columns (progress_meant D.meaning self) e) }
+    {
+        let Program {
+            mut renderers,
+            mut pending,
+            opened,
+        } = self;
+        let cells = pending.take_cells(alloc)?;
+        renderers.top_mut().append_vert_row(cells)?;
+        Ok(Program {
+            renderers,
+            pending,
+            opened,
+        })
+    }
+
+    /// The text of the script, whose end counts as the line of this number.
     ///
     /// It refuses as the end of the script does, and with `OutOfMemory` only for want of memory.
-    pub fn finish(self) -> Result<String, RunError>
+    pub fn finish(self, number: usize) -> Result<String, RunError>
         ensures text { IfOk result (λ text.
-            Ends W.columns (progress_meant D.meaning self) (Ok (string_bytes text))) }
+            Ends W.columns (progress_meant D.meaning self) number (Ok (string_bytes text))) }
         ensures refused { IfErr result (λ e. e ≢ RunError.OutOfMemory →
-            Ends W.columns (progress_meant D.meaning self) (Err e)) }
+            Ends W.columns (progress_meant D.meaning self) number (Err e)) }
     {
-        Ok(self.renderer.into_string()?)
+        if !self.opened.is_empty() || self.pending.has_cells() {
+            return Err(RunError::NotACommand(number));
+        }
+        let (renderer, _) = self.renderers.into_inner();
+        Ok(renderer.into_string()?)
     }
 }

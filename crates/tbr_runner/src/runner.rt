@@ -6,7 +6,7 @@ ghost use Rattle.tbr_script.specs.Streams.{AppendsBeginning};
 ghost use Rattle.tbr_decor.specs.Decoration.{decoration_of};
 ghost use Rattle.tbr_script.specs.Script.{lines_of};
 ghost use Rattle.tbr_runner.specs.Progress.{progress_meant};
-ghost use Rattle.tbr_runner.specs.Meaning.{LinesGive, opened, Opens, Gives};
+ghost use Rattle.tbr_runner.specs.Meaning.{LinesGive, started, Opens, Gives};
 ghost use Rattle.tbr_script.specs.declared.error.RunError.{RunError as Refusal};
 ghost use Rattle.tbr_script.specs.Refusal.{IsOfScript};
 
@@ -117,12 +117,12 @@ fn render_under<D: TextDecorator, W: CharWidth>(
     requires wrap_width { opening.options.wrap_width ≢ Some 0 }
     requires number { number + length script.now < 2 ^ 64 }
     ensures text { IfOk result (λ text. LinesGive W.columns (decoration_of D.TextDecorator)
-        (opened opening decorator) number (lines_of script.now) (Ok (string_bytes text))) }
+        (started opening decorator) number (lines_of script.now) (Ok (string_bytes text))) }
     ensures refusal { IfErr result (λ e. e ≢ RunError.OutOfMemory → LinesGive W.columns (decoration_of D.TextDecorator)
-        (opened opening decorator) number (lines_of script.now) (Err e)) }
+        (started opening decorator) number (lines_of script.now) (Err e)) }
     ensures of_script { IfErr result (λ e. e ≢ RunError.OutOfMemory → IsOfScript e) }
 {
-    let program = Program::<D, W>::new(alloc, opening.width, opening.options, decorator);
+    let program = Program::<D, W>::new(alloc, opening.width, opening.options, decorator)?;
     render_with(alloc, program, number, script)
 }
 
@@ -175,5 +175,5 @@ fn render_with<D: TextDecorator, W: CharWidth>(
         rest = behind;
         number += 1;
     }
-    program.finish()
+    program.finish(number)
 }

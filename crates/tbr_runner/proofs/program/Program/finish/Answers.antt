@@ -1,14 +1,34 @@
-use Rattle.std.proofs.Common.{sym, ap, ◌∙◌, subst, string_bytes, encode_utf8_all}
+use Rattle.std.proofs.Common.{◌≡◌, true, false, Err, inl, inr, sym, ap, ◌∙◌, string_bytes, encode_utf8_all}
 use Rattle.std.proofs.lemmas.Str.{encodes-chars, IsUtf8-string_bytes}
-use Rattle.text_block_renderer.specs.Meant.{meant}
-use Rattle.text_block_renderer.specs.Flush.{Flushes}
+use Rattle.tbr_runner.specs.Progress.{progress_meant}
+use Rattle.tbr_runner.specs.Meaning.{Ends}
+use Rattle.tbr_runner.proofs.Levels.{only_level, top_live}
+use Rattle.tbr_runner.proofs.Meant.{still_open, end_refused, end_text}
+use Rattle.tbr_runner.proofs.Results.{refused_by}
+use Rattle.tbr_runner.proofs.program.Program.finish.Goals.{then-not-is_empty-via-then-not-is_empty, then-not-is_empty-via-else-not-is_empty+then-has_cells}
 use Rattle.tbr_runner.proofs.program.Program.finish.Goals as goal
+
+pub into_inner-renderer-requires : goal.into_inner-renderer-requires
+into_inner-renderer-requires g c =
+    only_level c.self.inside.renderers c.self.inside.pending c.self.inside.opened c.self.invariant (c.is_empty.ensures.0 (cc))
+
+pub returns-then-not-is_empty-clause-refused : goal.returns-then-not-is_empty-clause-refused
+returns-then-not-is_empty-clause-refused g c = λ _.
+    still_open g.D.TextDecorator.meaning _ c.args.self c.self.view_is g.W.CharWidth.columns c.args.number
+    (elim c.then-not-is_empty.branch [ then-not-is_empty-via-then-not-is_empty w ↦ inl (λ none. let h : c.is_empty.result ≡ true = c.is_empty.ensures.1 none in cc (h, w.if-not-is_empty.true)) | then-not-is_empty-via-else-not-is_empty+then-has_cells w ↦ inr (λ none. let h : w.has_cells.result ≡ false = w.has_cells.ensures.1 none in cc (h, w.if-has_cells.true)) ])
 
 pub returns-clause-text : goal.returns-clause-text
 returns-clause-text g c =
-    let text = c.in_ok-into_string.field-0 in
-    let given = c.in_ok-into_string.ensures.text in (
-      given.0,
-      subst (λ p. Flushes g.W.CharWidth.columns (meant g.D.TextDecorator.meaning p.renderer) given.0) c.self.view_is given.1,
-      sym (encodes-chars (string_bytes text) (IsUtf8-string_bytes text)) ∙ ap encode_utf8_all given.2,
-    )
+    let given = c.in_ok-into_string.ensures.text in
+    let text = string_bytes c.in_ok-into_string.field-0 in
+    end_text g.D.TextDecorator.meaning _ c.args.self c.self.view_is g.W.CharWidth.columns c.args.number c.into_inner-renderer.result.0 c.into_inner-renderer.ensures.renderer (c.is_empty.ensures.0 (cc)) (c.has_cells.ensures.0 (cc)) text
+    (given.0, given.1, sym (encodes-chars text (IsUtf8-string_bytes c.in_ok-into_string.field-0)) ∙ ap encode_utf8_all given.2)
+
+pub returns-in_err-into_string-clause-refused : goal.returns-in_err-into_string-clause-refused
+returns-in_err-into_string-clause-refused g c =
+    let meaning = g.D.TextDecorator.meaning in
+    let columns = g.W.CharWidth.columns in
+    refused_by (λ e. Ends columns (progress_meant meaning c.args.self) c.args.number (Err e)) c.from_residual.result c.in_err-into_string.field-0.0 c.from_residual.ensures.1 (λ e.
+    let live = top_live c.self.inside.renderers c.self.inside.pending c.self.inside.opened c.self.invariant c.into_inner-renderer.result.0 c.into_inner-renderer.ensures.renderer in
+    end_refused meaning _ c.args.self c.self.view_is columns c.args.number c.into_inner-renderer.result.0 c.into_inner-renderer.ensures.renderer (c.is_empty.ensures.0 (cc)) (c.has_cells.ensures.0 (cc))
+    (c.into_string.ensures.too_narrow live.0 (c.in_err-into_string.was ∙ ap Err e)))

@@ -1,0 +1,236 @@
+-- What commands lead to, by what annotations mean.
+use Rattle.std.proofs.Common.{Bool, true, false, encode_utf8_all, Ok, Err, ◌≡◌, ◌≢◌, ◌⊎◌, ℕ, List, [], ◌∷◌, map, length, Option, None, Some, refl, sym, ap, ◌∙◌, subst, inl, inr}
+use Rattle.std.specs.Global.{Vec}
+use Rattle.std.specs.List.{AllZip}
+use Rattle.std.proofs.lemmas.List.{map-append}
+use Rattle.tbr_decor.specs.Decoration.{Decoration}
+use Rattle.text_block_renderer.specs.Renderer.{Renderer, Line}
+use Rattle.text_block_renderer.specs.Meant.{meant}
+use Rattle.text_block_renderer.specs.Flush.{Flushes, FlushIsTooNarrow}
+use Rattle.text_block_renderer.specs.Text.{lines_text}
+use Rattle.text_block_renderer.specs.Decorated.{sub_renderer}
+use Rattle.text_block_renderer.specs.Appended.{HandsOut, HoldsBack, FirstToRefuse}
+use Rattle.text_block_renderer.specs.Calls.{append_subrender, append_vert_row, Does, IsTooNarrow}
+use Rattle.tbr_script.specs.declared.error.RunError.TheVariants.{TooNarrow, NotACommand, NothingToEnd}
+use Rattle.tbr_commands.specs.Request.{Request, call_of}
+use Rattle.tbr_commands.specs.Begun.{ends_nothing, counted}
+use Rattle.tbr_stack.specs.Stack.{Stack, Level, top_of, with_top, pushed, first_renderer, with_first, below_top}
+use Rattle.tbr_runner.specs.declared.opened.Opener.{Opener}
+use Rattle.tbr_runner.specs.declared.opened.Opener.TheVariants.{Sub, Cell}
+use Rattle.tbr_runner.specs.Prefixes.{prefixes}
+use Rattle.tbr_runner.specs.Progress.{Pending, Opened, Progress, nothing_pending, cell_meant, level_meant, stack_meant, pending_meant, opened_meant, progress_meant}
+use Rattle.tbr_runner.specs.Meaning.{OnTop, TopIs, opener, renderers_of, with_cell, Closes, RequestDoes, RequestRefuses, LevelOpens, AppendDoes, AppendRefuses, CellDoes, CellRefuses, RowDoes, RowRefuses, Ends}
+
+module _ {D A M : Type 0} (meaning : A → M) where
+  -- ---- stacks
+
+  first_meant : (levels : List (Level (Renderer D A (Vec A)))) (r : Renderer D A (Vec A)) → first_renderer levels ≡ Some r → first_renderer (map (level_meant meaning) levels) ≡ Some (meant meaning r)
+  first_meant [] r is = cc
+  first_meant (level ∷ levels) r is =
+      let same : level.renderer ≡ r = cc in
+      ap (λ (x : Renderer D A (Vec A)). Some (meant meaning x)) same
+
+  with_first_meant : (levels : List (Level (Renderer D A (Vec A)))) (s : Renderer D A (Vec A)) → map (level_meant meaning) (with_first levels s) ≡ with_first (map (level_meant meaning) levels) (meant meaning s)
+  with_first_meant [] s = refl
+  with_first_meant (level ∷ levels) s = refl
+
+  below_top_meant : (levels : List (Level (Renderer D A (Vec A)))) → map (level_meant meaning) (below_top levels) ≡ below_top (map (level_meant meaning) levels)
+  below_top_meant [] = refl
+  below_top_meant (level ∷ levels) = refl
+
+  -- the renderer on top leads to another
+  pub on_top_meant : (Leads : Renderer D M (List M) → Renderer D M (List M) → Type 0) (stack : Stack (Renderer D A (Vec A))) (r s : Renderer D A (Vec A)) → top_of stack ≡ Some r → Leads (meant meaning r) (meant meaning s) → OnTop Leads (stack_meant meaning stack) (stack_meant meaning (with_top stack s))
+  on_top_meant Leads stack r s is leads =
+      (meant meaning r, meant meaning s, first_meant stack.levels r is, leads, ap (λ (ls : List (Level (Renderer D M (List M)))). record (stack_meant meaning stack) { levels = ls }) (with_first_meant stack.levels s))
+
+  pub top_is_meant : (Is : Renderer D M (List M) → Type 0) (stack : Stack (Renderer D A (Vec A))) (r : Renderer D A (Vec A)) → top_of stack ≡ Some r → Is (meant meaning r) → TopIs Is (stack_meant meaning stack)
+  top_is_meant Is stack r is such = (meant meaning r, first_meant stack.levels r is, such)
+
+  -- ---- levels and cells
+
+  opener_meant : (os : List (Opened D A (Vec A))) → opener (map (opened_meant meaning) os) ≡ opener os
+  opener_meant [] = refl
+  opener_meant (o ∷ os) = refl
+
+  pub no_cells : (cells : List (Renderer D A (Vec A) × ℕ)) → map (cell_meant meaning) cells ≡ [] → cells ≡ []
+  no_cells [] is = refl
+  no_cells (cell ∷ cells) is = cc
+
+  pub no_opened : (os : List (Opened D A (Vec A))) → map (opened_meant meaning) os ≡ [] → os ≡ []
+  no_opened [] is = refl
+  no_opened (o ∷ os) is = cc
+
+  renderers_meant : (cells : List (Renderer D A (Vec A) × ℕ)) → renderers_of (map (cell_meant meaning) cells) ≡ map (meant meaning) (renderers_of cells)
+  renderers_meant [] = refl
+  renderers_meant (cell ∷ cells) = ap (λ (rs : List (Renderer D M (List M))). meant meaning cell.0 ∷ rs) (renderers_meant cells)
+
+  closes_meant : (p next : Progress D A (Vec A)) (by : Opener) (inside : Renderer D A (Vec A)) → Closes p by inside next → Closes (progress_meant meaning p) by (meant meaning inside) (progress_meant meaning next)
+  closes_meant p next by inside closes = record {
+    cells = ap (map (cell_meant meaning)) closes.cells;
+    opened = ap (map (opened_meant meaning)) closes.opened;
+    top = first_meant p.stack.levels inside closes.top;
+    stack = ap (stack_meant meaning) closes.stack ∙ ap (λ (ls : List (Level (Renderer D M (List M)))). record (stack_meant meaning p.stack) { levels = ls }) (below_top_meant p.stack.levels);
+  }
+
+  -- a level that this opened closes as such
+  closes_as : (p closed j : Progress D A (Vec A)) (by as_this : Opener) (inside : Renderer D A (Vec A)) → opener p.opened ≡ Some as_this → Closes p by inside closed → j ≡ closed → Closes (progress_meant meaning p) as_this (meant meaning inside) (progress_meant meaning j)
+  closes_as p closed j by as_this inside is closes same =
+      let opens : opener p.opened ≡ Some by = ap opener closes.opened in
+      let this : by ≡ as_this = cc (opens, is) in
+      subst (λ (b : Opener). Closes (progress_meant meaning p) b (meant meaning inside) (progress_meant meaning j)) this
+      (subst (λ (q : Progress D A (Vec A)). Closes (progress_meant meaning p) by (meant meaning inside) (progress_meant meaning q)) (sym same) (closes_meant p closed by inside closes))
+
+  -- ---- commands
+
+  pub opens_meant : (decoration : Decoration D M) (i p : Progress D A (Vec A)) (by : Opener) (width : ℕ) (r inside : Renderer D A (Vec A)) (stack : Stack (Renderer D A (Vec A))) (pending : Pending D A (Vec A)) (opened : List (Opened D A (Vec A))) →
+      i ≡ p → top_of i.stack ≡ Some r → meant meaning inside ≡ sub_renderer decoration width (meant meaning r) → stack ≡ pushed inside i.stack → pending ≡ nothing_pending → opened ≡ record { by = by; below = i.pending } ∷ i.opened →
+      LevelOpens decoration (progress_meant meaning p) by width (progress_meant meaning (record { stack = stack; pending = pending; opened = opened }))
+  opens_meant decoration i p by width r inside stack pending opened same top is pushes nothing opens =
+      subst (λ (q : Progress D A (Vec A)). LevelOpens decoration (progress_meant meaning q) by width (progress_meant meaning (record { stack = stack; pending = pending; opened = opened }))) same (record {
+        stack = (meant meaning r, first_meant i.stack.levels r top, ap (stack_meant meaning) pushes ∙ ap (λ (x : Renderer D M (List M)). pushed x (stack_meant meaning i.stack)) is);
+        pending = ap (pending_meant meaning) nothing;
+        opened = ap (map (opened_meant meaning)) opens;
+      })
+
+  module _ (i p : Progress D A (Vec A)) (same : i ≡ p) where
+    here : (o : Option Opener) → opener i.opened ≡ o → opener p.opened ≡ o
+    here o is = ap (λ (q : Progress D A (Vec A)). opener q.opened) (sym same) ∙ is
+
+    waiting : i.pending.cells ≢ [] → (progress_meant meaning p).pending.cells ≢ []
+    waiting some none = some (ap (λ (q : Progress D A (Vec A)). q.pending.cells) same ∙ no_cells p.pending.cells none)
+
+    pub no_sub : (columns : ℕ → Option ℕ) (number : ℕ) → opener i.opened ≢ Some Sub → AppendRefuses columns (progress_meant meaning p) number (NothingToEnd number)
+    no_sub columns number none = inl ((λ is. none (ap (λ (q : Progress D A (Vec A)). opener q.opened) same ∙ sym (opener_meant p.opened) ∙ is)), refl)
+
+    pub cells_in_sub : (columns : ℕ → Option ℕ) (number : ℕ) → opener i.opened ≡ Some Sub → i.pending.cells ≢ [] → AppendRefuses columns (progress_meant meaning p) number (NotACommand number)
+    cells_in_sub columns number is some = inr (inl (opener_meant p.opened ∙ here (Some Sub) is, (waiting some, refl)))
+
+    pub no_cell : (number : ℕ) → ((span : ℕ) → opener i.opened ≢ Some (Cell span)) → CellRefuses (progress_meant meaning p) number (NothingToEnd number)
+    no_cell number none = inl ((λ span is. none span (ap (λ (q : Progress D A (Vec A)). opener q.opened) same ∙ sym (opener_meant p.opened) ∙ is)), refl)
+
+    pub cells_in_cell : (number span : ℕ) → opener i.opened ≡ Some (Cell span) → i.pending.cells ≢ [] → CellRefuses (progress_meant meaning p) number (NotACommand number)
+    cells_in_cell number span is some = inr (span, opener_meant p.opened ∙ here (Some (Cell span)) is, (waiting some, refl))
+
+    pub some_opened : (o : Opener) → opener i.opened ≡ Some o → opener p.opened ≢ None
+    some_opened o is none = cc (here (Some o) is, none)
+
+    pub none_waits : i.pending.cells ≡ [] → p.pending.cells ≡ []
+    none_waits none = ap (λ (q : Progress D A (Vec A)). q.pending.cells) (sym same) ∙ none
+
+    -- ---- requests
+
+    module _ (columns : ℕ → Option ℕ) (decoration : Decoration D M) (request : Request) where
+      ends_as : (b : Bool) → ends_nothing i.pending.begun request ≡ b → ends_nothing p.pending.begun request ≡ b
+      ends_as b is = ap (λ (q : Progress D A (Vec A)). ends_nothing q.pending.begun request) (sym same) ∙ is
+
+      pub ends_too_much : (number : ℕ) → ends_nothing i.pending.begun request ≡ true → RequestRefuses columns decoration (progress_meant meaning p) number request (NothingToEnd number)
+      ends_too_much number is = inl (ends_as true is, refl)
+
+      module _ (top : Renderer D A (Vec A)) (is_top : top_of i.stack ≡ Some top) (some : ends_nothing i.pending.begun request ≡ false) where
+        pub request_refused : (number : ℕ) → IsTooNarrow columns decoration (call_of top.width request) (meant meaning top) → RequestRefuses columns decoration (progress_meant meaning p) number request TooNarrow
+        request_refused number h =
+            let here_is = top_is_meant (λ r. IsTooNarrow columns decoration (call_of r.width request) r) i.stack top is_top h in
+            inr (ends_as false some, subst (λ (q : Progress D A (Vec A)). TopIs (λ r. IsTooNarrow columns decoration (call_of r.width request) r) (stack_meant meaning q.stack)) same here_is, refl)
+
+        pub request_done : (s : Renderer D A (Vec A)) (pending : Pending D A (Vec A)) → pending ≡ record i.pending { begun = counted i.pending.begun request } → Does columns decoration (call_of top.width request) (meant meaning top) (meant meaning s) →
+            RequestDoes columns decoration (progress_meant meaning p) request (progress_meant meaning (record { stack = with_top i.stack s; pending = pending; opened = i.opened }))
+        request_done s pending counts does =
+            subst (λ (q : Progress D A (Vec A)). RequestDoes columns decoration (progress_meant meaning q) request (progress_meant meaning (record { stack = with_top i.stack s; pending = pending; opened = i.opened }))) same (record {
+              ends = some;
+              does = on_top_meant (λ r t. Does columns decoration (call_of r.width request) r t) i.stack top s is_top does;
+              counts = ap (pending_meant meaning) counts;
+              opened = refl;
+            })
+
+    -- ---- rows
+
+    module _ (columns : ℕ → Option ℕ) (top : Renderer D A (Vec A)) (is_top : top_of i.stack ≡ Some top) (cols : List (Renderer D A (Vec A))) (are : cols ≡ renderers_of i.pending.cells) where
+      each_meant : (rs : List (Renderer D A (Vec A))) (cells : List (List (Line (List M)))) → AllZip (λ r lines. HandsOut columns (meant meaning r) lines) rs cells → AllZip (HandsOut columns) (map (meant meaning) rs) cells
+      each_meant [] [] h = tt
+      each_meant [] (c ∷ cells) h = absurd h
+      each_meant (r ∷ rs) [] h = absurd h
+      each_meant (r ∷ rs) (c ∷ cells) h = (h.0, each_meant rs cells h.1)
+
+      refusal_meant : (rs : List (Renderer D A (Vec A))) → FirstToRefuse (λ r lines. HandsOut columns (meant meaning r) lines) (λ r. HoldsBack columns (meant meaning r)) rs → FirstToRefuse (HandsOut columns) (HoldsBack columns) (map (meant meaning) rs)
+      refusal_meant [] h = absurd h
+      refusal_meant (r ∷ rs) (inl h) = inl h
+      refusal_meant (r ∷ rs) (inr h) = inr (h.0, h.1, refusal_meant rs h.2)
+
+      cols_meant : map (meant meaning) cols ≡ renderers_of (map (cell_meant meaning) i.pending.cells)
+      cols_meant = ap (map (meant meaning)) are ∙ sym (renderers_meant i.pending.cells)
+
+      pub row_done : (decoration : Decoration D M) (s : Renderer D A (Vec A)) (pending : Pending D A (Vec A)) → pending ≡ record i.pending { cells = [] } →
+          ((cells : List (List (Line (List M)))) × AllZip (λ r lines. HandsOut columns (meant meaning r) lines) cols cells × Does columns decoration (append_vert_row cells) (meant meaning top) (meant meaning s)) →
+          RowDoes columns decoration (progress_meant meaning p) (progress_meant meaning (record { stack = with_top i.stack s; pending = pending; opened = i.opened }))
+      row_done decoration s pending taken h =
+          subst (λ (q : Progress D A (Vec A)). RowDoes columns decoration (progress_meant meaning q) (progress_meant meaning (record { stack = with_top i.stack s; pending = pending; opened = i.opened }))) same (record {
+            cells = h.0;
+            hand_out = subst (λ (rs : List (Renderer D M (List M))). AllZip (HandsOut columns) rs h.0) cols_meant (each_meant cols h.0 h.1);
+            does = on_top_meant (Does columns decoration (append_vert_row h.0)) i.stack top s is_top h.2;
+            pending = ap (pending_meant meaning) taken;
+            opened = refl;
+          })
+
+      row_narrow : FlushIsTooNarrow columns (meant meaning top) ⊎ FirstToRefuse (λ r lines. HandsOut columns (meant meaning r) lines) (λ r. HoldsBack columns (meant meaning r)) cols → TopIs (FlushIsTooNarrow columns) (stack_meant meaning i.stack) ⊎ FirstToRefuse (HandsOut columns) (HoldsBack columns) (renderers_of (map (cell_meant meaning) i.pending.cells))
+      row_narrow (inl h) = inl (top_is_meant (FlushIsTooNarrow columns) i.stack top is_top h)
+      row_narrow (inr h) = inr (subst (FirstToRefuse (HandsOut columns) (HoldsBack columns)) cols_meant (refusal_meant cols h))
+
+      pub row_refused : FlushIsTooNarrow columns (meant meaning top) ⊎ FirstToRefuse (λ r lines. HandsOut columns (meant meaning r) lines) (λ r. HoldsBack columns (meant meaning r)) cols → RowRefuses columns (progress_meant meaning p) TooNarrow
+      row_refused h = subst (λ (q : Progress D A (Vec A)). RowRefuses columns (progress_meant meaning q) TooNarrow) same (row_narrow h, refl)
+
+    -- ---- the end
+
+    module _ (columns : ℕ → Option ℕ) (number : ℕ) where
+      pub still_open : (i.opened ≢ []) ⊎ (i.pending.cells ≢ []) → Ends columns (progress_meant meaning p) number (Err (NotACommand number))
+      still_open h = subst (λ (q : Progress D A (Vec A)). Ends columns (progress_meant meaning q) number (Err (NotACommand number))) same (inl (go h, refl))
+        where
+          go : (i.opened ≢ []) ⊎ (i.pending.cells ≢ []) → ((progress_meant meaning i).opened ≢ []) ⊎ ((progress_meant meaning i).pending.cells ≢ [])
+          go (inl some) = inl (λ none. some (no_opened i.opened none))
+          go (inr some) = inr (λ none. some (no_cells i.pending.cells none))
+
+      module _ (top : Renderer D A (Vec A)) (is_top : top_of i.stack ≡ Some top) (closed : i.opened ≡ []) (none : i.pending.cells ≡ []) where
+        pub end_refused : FlushIsTooNarrow columns (meant meaning top) → Ends columns (progress_meant meaning p) number (Err TooNarrow)
+        end_refused h =
+            subst (λ (q : Progress D A (Vec A)). Ends columns (progress_meant meaning q) number (Err TooNarrow)) same
+            (inr (ap (map (opened_meant meaning)) closed, ap (map (cell_meant meaning)) none, top_is_meant (FlushIsTooNarrow columns) i.stack top is_top h, refl))
+
+        pub end_text : (bytes : List ℕ) → ((s : Renderer D M (List M)) × Flushes columns (meant meaning top) s × (bytes ≡ encode_utf8_all (lines_text s.lines))) → Ends columns (progress_meant meaning p) number (Ok bytes)
+        end_text bytes h =
+            subst (λ (q : Progress D A (Vec A)). Ends columns (progress_meant meaning q) number (Ok bytes)) same
+            (ap (map (opened_meant meaning)) closed, ap (map (cell_meant meaning)) none, top_is_meant (λ r. (s : Renderer D M (List M)) × Flushes columns r s × (bytes ≡ encode_utf8_all (lines_text s.lines))) i.stack top is_top h)
+
+    -- ---- the innermost level closes
+
+    module _ (closed j : Progress D A (Vec A)) (by : Opener) (inside : Renderer D A (Vec A)) (closes : Closes p by inside closed) (left : j ≡ closed) where
+      pub cell_waits : (span : ℕ) (pending : Pending D A (Vec A)) → opener i.opened ≡ Some (Cell span) → pending ≡ with_cell j.pending inside span → CellDoes (progress_meant meaning p) (progress_meant meaning (record { stack = j.stack; pending = pending; opened = j.opened }))
+      cell_waits span pending is waits = (
+        span,
+        meant meaning inside,
+        progress_meant meaning j,
+        closes_as p closed j by (Cell span) inside (here (Some (Cell span)) is) closes left,
+        ap (λ (x : Pending D A (Vec A)). progress_meant meaning (record { stack = j.stack; pending = x; opened = j.opened })) waits
+            ∙ ap (λ (cells : List (Renderer D M (List M) × ℕ)). record (progress_meant meaning j) { pending = record (pending_meant meaning j.pending) { cells = cells } }) (map-append (cell_meant meaning) j.pending.cells ((inside, span) ∷ [])),
+      )
+
+      module _ (columns : ℕ → Option ℕ) (top : Renderer D A (Vec A)) (is_top : top_of j.stack ≡ Some top) (is : opener i.opened ≡ Some Sub) where
+        pub lines_appended : (decoration : Decoration D M) (first other : List ℕ) (s : Renderer D A (Vec A)) →
+            ((lines : List (Line (List M))) × HandsOut columns (meant meaning inside) lines × Does columns decoration (append_subrender (prefixes first other (length lines)) lines) (meant meaning top) (meant meaning s)) →
+            AppendDoes columns decoration (progress_meant meaning p) first other (progress_meant meaning (record { stack = with_top j.stack s; pending = j.pending; opened = j.opened }))
+        lines_appended decoration first other s h = record {
+          inside = meant meaning inside;
+          closed = progress_meant meaning j;
+          closes = closes_as p closed j by Sub inside (here (Some Sub) is) closes left;
+          lines = h.0;
+          hands_out = h.1;
+          does = on_top_meant (Does columns decoration (append_subrender (prefixes first other (length h.0)) h.0)) j.stack top s is_top h.2;
+          pending = refl;
+          opened = refl;
+        }
+
+        narrow : FlushIsTooNarrow columns (meant meaning top) ⊎ HoldsBack columns (meant meaning inside) → TopIs (FlushIsTooNarrow columns) (stack_meant meaning j.stack) ⊎ HoldsBack columns (meant meaning inside)
+        narrow (inl h) = inl (top_is_meant (FlushIsTooNarrow columns) j.stack top is_top h)
+        narrow (inr h) = inr h
+
+        pub lines_refused : (number : ℕ) → FlushIsTooNarrow columns (meant meaning top) ⊎ HoldsBack columns (meant meaning inside) → AppendRefuses columns (progress_meant meaning p) number TooNarrow
+        lines_refused number h =
+            inr (inr (meant meaning inside, progress_meant meaning j, closes_as p closed j by Sub inside (here (Some Sub) is) closes left, narrow h, refl))

@@ -1,0 +1,160 @@
+-- Where all that stands wraps normally, a command leads to one progress, or is refused, and not both.
+use Rattle.std.proofs.Common.{◌≡◌, ◌⊎◌, ℕ, Option, List, length, sym, ap, ◌∙◌, subst, inl, inr}
+use Rattle.std.proofs.lemmas.Bool.{false≢true}
+use Rattle.tbr_decor.specs.Decoration.{Decoration}
+use Rattle.text_block_renderer.specs.Renderer.{Renderer, Line}
+use Rattle.text_block_renderer.specs.Flush.{FlushIsTooNarrow}
+use Rattle.text_block_renderer.specs.Appended.{HandsOut, HoldsBack}
+use Rattle.text_block_renderer.specs.Calls.{Call, append_subrender, append_vert_row, Does, IsTooNarrow}
+use Rattle.text_block_renderer.specs.Normal.{PushesNormal}
+use Rattle.text_block_renderer.proofs.OneState.{call_once, call_or_not}
+use Rattle.tbr_stack.specs.Stack.{Stack}
+use Rattle.tbr_script.specs.declared.error.RunError.{RunError}
+use Rattle.tbr_commands.specs.Request.{Request, call_of}
+use Rattle.tbr_commands.specs.Command.{Command, ask, sub, append, cell, end_cell, vertical_row}
+use Rattle.tbr_commands.specs.Syntax.{IsWritten}
+use Rattle.tbr_runner.specs.declared.opened.Opener.TheVariants.{Sub, Cell}
+use Rattle.tbr_runner.specs.Normal.{IsNormalLine}
+use Rattle.tbr_runner.specs.Prefixes.{prefixes}
+use Rattle.tbr_runner.specs.Progress.{Progress, Pending, Opened}
+use Rattle.tbr_runner.specs.Meaning.{OnTop, TopIs, CellDoes, CellRefuses, RequestDoes, AppendDoes, RowDoes, CommandDoes, AppendRefuses, RowRefuses, RequestRefuses, CommandRefuses}
+use Rattle.tbr_runner.proofs.once.Tops.{EachIn, on_top_once, on_top_or_not, on_top_in}
+use Rattle.tbr_runner.proofs.once.Plain.{IsPlain, call_plain}
+use Rattle.tbr_runner.proofs.once.Handed.{handed_once, handed_or_held, all_handed_once, all_handed_or_not}
+use Rattle.tbr_runner.proofs.once.Levels.{one_progress, closes_once, closes_opener, cell_once, AllPlain, PlainCells, PlainBelow, waiting_wrap, top_wraps, closed_plain, cell_plain, opens_once, opened_plain}
+use Rattle.tbr_runner.proofs.once.Refusals.{not_waiting}
+use Rattle.tbr_runner.proofs.once.Requests.{pushes_normal}
+
+cell_or_not : {D A T : Type 0} (p x : Progress D A T) (number : ℕ) (e : RunError) → CellDoes p x → CellRefuses p number e → ⊥
+cell_or_not p x number e a (inl b) = b.0 a.0 (closes_opener p (Cell a.0) a.1 a.2 a.3)
+cell_or_not p x number e a (inr b) = not_waiting p number e a.3.cells b.2
+
+module _ {D M : Type 0} (columns : ℕ → Option ℕ) (decoration : Decoration D M) where
+  -- ---- a call of the renderer on top, which its width may determine
+
+  module _ (call : ℕ → Call (List M)) (p : Progress D M (List M)) (all : AllPlain p) where
+    abbrev Calls : Stack (Renderer D M (List M)) → Type 0
+    Calls next = OnTop (λ r s. Does columns decoration (call r.width) r s) p.stack next
+
+    called_once : (x y : Stack (Renderer D M (List M))) → Calls x → Calls y → x ≡ y
+    called_once x y a b =
+        on_top_once (λ r s. Does columns decoration (call r.width) r s) p.stack x y (λ r s t is. call_once columns decoration (call r.width) r s t (top_wraps p r all is)) a b
+
+    called_or_not : (x : Stack (Renderer D M (List M))) → Calls x → TopIs (λ r. IsTooNarrow columns decoration (call r.width) r) p.stack → ⊥
+    called_or_not x a b =
+        on_top_or_not (λ r s. Does columns decoration (call r.width) r s) (λ r. IsTooNarrow columns decoration (call r.width) r) p.stack x (λ r s is. call_or_not columns decoration (call r.width) r s (top_wraps p r all is)) a b
+
+    called_plain : (x : Stack (Renderer D M (List M))) → ((width : ℕ) → PushesNormal (call width)) → Calls x → EachIn IsPlain x.levels
+    called_plain x pushes a =
+        on_top_in IsPlain (λ r s. Does columns decoration (call r.width) r s) p.stack x (λ r s. call_plain decoration columns (call r.width) r s (pushes r.width)) all.stack a
+
+  -- behind it what is pending and open is plain, as it was before
+  still_plain : (x : Progress D M (List M)) (left : Pending D M (List M)) (levels : List (Opened D M (List M))) → EachIn IsPlain x.stack.levels → x.pending ≡ left → x.opened ≡ levels → PlainCells left → PlainBelow levels → AllPlain x
+  still_plain x left levels stack w o cells below = record {
+    stack = stack;
+    pending = subst (λ (q : Pending D M (List M)). PlainCells q) (sym w) cells;
+    opened = subst (λ (os : List (Opened D M (List M))). PlainBelow os) (sym o) below;
+  }
+
+  -- ---- requests
+
+  module _ (p x : Progress D M (List M)) (request : Request) (all : AllPlain p) (a : RequestDoes columns decoration p request x) where
+    request_once : (y : Progress D M (List M)) → RequestDoes columns decoration p request y → x ≡ y
+    request_once y b =
+        one_progress x y (called_once (λ width. call_of width request) p all x.stack y.stack a.does b.does) (a.counts ∙ sym b.counts) (a.opened ∙ sym b.opened)
+
+    request_or_not : (number : ℕ) (e : RunError) → RequestRefuses columns decoration p number request e → ⊥
+    request_or_not number e (inl b) = false≢true (sym a.ends ∙ b.0)
+    request_or_not number e (inr b) = called_or_not (λ width. call_of width request) p all x.stack a.does b.1
+
+    request_plain : (line : List ℕ) → IsNormalLine line → IsWritten line (ask request) → AllPlain x
+    request_plain line is k =
+        let pushes = λ (width : ℕ). pushes_normal (List M) width line is request k in
+        let top = called_plain (λ width. call_of width request) p all x.stack pushes a.does in
+        still_plain x _ p.opened top a.counts a.opened all.pending all.opened
+
+  -- ---- lines of a level
+
+  module _ (p x : Progress D M (List M)) (first other : List ℕ) (all : AllPlain p) (a : AppendDoes columns decoration p first other x) where
+    abbrev behind : List (Line (List M)) → Call (List M)
+    behind lines = append_subrender (prefixes first other (length lines)) lines
+
+    closed : AllPlain a.closed
+    closed = closed_plain p Sub a.inside a.closed all a.closes
+
+    append_once : (y : Progress D M (List M)) → AppendDoes columns decoration p first other y → x ≡ y
+    append_once y b =
+        let same = closes_once p Sub Sub a.inside b.inside a.closed b.closed a.closes b.closes in
+        let hands = subst (λ (r : Renderer D M (List M)). HandsOut columns r b.lines) (sym same.1) b.hands_out in
+        let lines = handed_once columns decoration a.inside a.lines b.lines (top_wraps p a.inside all a.closes.top) a.hands_out hands in
+        let there = subst (λ (q : Progress D M (List M)). OnTop (Does columns decoration (behind b.lines)) q.stack y.stack) (sym same.2) b.does in
+        let does = subst (λ (ls : List (Line (List M))). OnTop (Does columns decoration (behind ls)) a.closed.stack y.stack) (sym lines) there in
+        one_progress x y
+        (called_once (λ width. behind a.lines) a.closed closed x.stack y.stack a.does does)
+        (a.pending ∙ ap (λ (q : Progress D M (List M)). q.pending) same.2 ∙ sym b.pending)
+        (a.opened ∙ ap (λ (q : Progress D M (List M)). q.opened) same.2 ∙ sym b.opened)
+
+    append_or_not : (number : ℕ) (e : RunError) → AppendRefuses columns p number e → ⊥
+    append_or_not number e (inl b) = b.0 (closes_opener p Sub a.inside a.closed a.closes)
+    append_or_not number e (inr (inl b)) = not_waiting p number e a.closes.cells b.1
+    append_or_not number e (inr (inr b)) = go b.3
+      where
+        same : (Sub ≡ Sub) × (a.inside ≡ b.0) × (a.closed ≡ b.1)
+        same = closes_once p Sub Sub a.inside b.0 a.closed b.1 a.closes b.2
+
+        go : TopIs (FlushIsTooNarrow columns) b.1.stack ⊎ HoldsBack columns b.0 → ⊥
+        go (inl k) = called_or_not (λ width. behind a.lines) a.closed closed x.stack a.does (subst (λ (q : Progress D M (List M)). TopIs (FlushIsTooNarrow columns) q.stack) (sym same.2) k)
+        go (inr k) =
+            handed_or_held columns decoration a.inside a.lines (top_wraps p a.inside all a.closes.top) a.hands_out (subst (λ (r : Renderer D M (List M)). HoldsBack columns r) (sym same.1) k)
+
+    append_plain : AllPlain x
+    append_plain =
+        let top = called_plain (λ width. behind a.lines) a.closed closed x.stack (λ width. tt) a.does in
+        still_plain x _ _ top a.pending a.opened closed.pending closed.opened
+
+  -- ---- rows
+
+  module _ (p x : Progress D M (List M)) (all : AllPlain p) (a : RowDoes columns decoration p x) where
+    row_once : (y : Progress D M (List M)) → RowDoes columns decoration p y → x ≡ y
+    row_once y b =
+        let cells = all_handed_once columns decoration _ a.cells b.cells (waiting_wrap p all) a.hand_out b.hand_out in
+        let does = subst (λ (cs : List (List (Line (List M)))). OnTop (Does columns decoration (append_vert_row cs)) p.stack y.stack) (sym cells) b.does in
+        one_progress x y
+        (called_once (λ width. append_vert_row a.cells) p all x.stack y.stack a.does does)
+        (a.pending ∙ sym b.pending) (a.opened ∙ sym b.opened)
+
+    row_or_not : (e : RunError) → RowRefuses columns p e → ⊥
+    row_or_not e (inl b, is) = called_or_not (λ width. append_vert_row a.cells) p all x.stack a.does b
+    row_or_not e (inr b, is) = all_handed_or_not columns decoration _ a.cells (waiting_wrap p all) a.hand_out b
+
+    row_plain : AllPlain x
+    row_plain =
+        let top = called_plain (λ width. append_vert_row a.cells) p all x.stack (λ width. tt) a.does in
+        still_plain x _ p.opened top a.pending a.opened tt all.opened
+
+  -- ---- commands
+
+  module _ (p : Progress D M (List M)) (all : AllPlain p) where
+    pub does_once : (command : Command) (x y : Progress D M (List M)) → CommandDoes columns decoration p command x → CommandDoes columns decoration p command y → x ≡ y
+    does_once (ask request) x y a b = request_once p x request all a y b
+    does_once (sub width) x y a b = opens_once decoration p Sub width x y a b
+    does_once (append first other) x y a b = append_once p x first other all a y b
+    does_once (cell width span) x y a b = opens_once decoration p (Cell span) width x y a b
+    does_once end_cell x y a b = cell_once p x y a b
+    does_once vertical_row x y a b = row_once p x all a y b
+
+    pub does_or_not : (number : ℕ) (command : Command) (x : Progress D M (List M)) (e : RunError) → CommandDoes columns decoration p command x → CommandRefuses columns decoration p number command e → ⊥
+    does_or_not number (ask request) x e a b = request_or_not p x request all a number e b
+    does_or_not number (sub width) x e a b = b
+    does_or_not number (append first other) x e a b = append_or_not p x first other all a number e b
+    does_or_not number (cell width span) x e a b = b
+    does_or_not number end_cell x e a b = cell_or_not p x number e a b
+    does_or_not number vertical_row x e a b = row_or_not p x all a e b
+
+    pub does_plain : (line : List ℕ) (command : Command) (x : Progress D M (List M)) → IsNormalLine line → IsWritten line command → CommandDoes columns decoration p command x → AllPlain x
+    does_plain line (ask request) x is k a = request_plain p x request all a line is k
+    does_plain line (sub width) x is k a = opened_plain decoration p Sub width x all a
+    does_plain line (append first other) x is k a = append_plain p x first other all a
+    does_plain line (cell width span) x is k a = opened_plain decoration p (Cell span) width x all a
+    does_plain line end_cell x is k a = cell_plain p x all a
+    does_plain line vertical_row x is k a = row_plain p x all a

@@ -1,0 +1,47 @@
+use Rattle.std.proofs.Common.{◌≡◌, true, false, Err, refl, ap, ◌∙◌}
+use Rattle.tbr_decor.specs.Decoration.{decoration_of}
+use Rattle.text_block_renderer.specs.Calls.{append_subrender}
+use Rattle.tbr_runner.specs.Progress.{progress_meant}
+use Rattle.tbr_runner.specs.Meaning.{AppendRefuses}
+use Rattle.tbr_runner.proofs.Levels.{with_top_live, top_live}
+use Rattle.tbr_runner.proofs.Live.{steady_live}
+use Rattle.tbr_runner.proofs.Meant.{no_sub, cells_in_sub, some_opened, none_waits, lines_appended, lines_refused}
+use Rattle.tbr_runner.proofs.Results.{refused_by}
+use Rattle.tbr_runner.proofs.program.Program.append.Goals as goal
+
+pub returns-then-not-is_sub-clause-refused : goal.returns-then-not-is_sub-clause-refused
+returns-then-not-is_sub-clause-refused g c = λ _.
+    no_sub g.D.TextDecorator.meaning _ c.args.self c.self.view_is g.W.CharWidth.columns c.args.number (λ is. let h : c.is_sub.result ≡ true = c.is_sub.ensures.1 is in let k = c.if-not-is_sub.true in cc)
+
+pub returns-then-has_cells-clause-refused : goal.returns-then-has_cells-clause-refused
+returns-then-has_cells-clause-refused g c = λ _.
+    cells_in_sub g.D.TextDecorator.meaning _ c.args.self c.self.view_is g.W.CharWidth.columns c.args.number (c.is_sub.ensures.0 (cc)) (λ none. let h : c.has_cells.result ≡ false = c.has_cells.ensures.1 none in cc)
+
+pub close-inside-requires-clause-opened : goal.close-inside-requires-clause-opened
+close-inside-requires-clause-opened g c =
+    some_opened g.D.TextDecorator.meaning _ c.args.self c.self.view_is _ (c.is_sub.ensures.0 (cc))
+
+pub close-inside-requires-clause-cells : goal.close-inside-requires-clause-cells
+close-inside-requires-clause-cells g c =
+    none_waits g.D.TextDecorator.meaning _ c.args.self c.self.view_is (c.has_cells.ensures.0 (cc))
+
+pub returns-in_err-append_behind-clause-refused : goal.returns-in_err-append_behind-clause-refused
+returns-in_err-append_behind-clause-refused g c =
+    let meaning = g.D.TextDecorator.meaning in
+    let columns = g.W.CharWidth.columns in
+    refused_by (AppendRefuses columns (progress_meant meaning c.args.self) c.args.number) c.from_residual.result c.in_err-append_behind.field-0.0 c.from_residual.ensures.1 (λ e.
+    lines_refused meaning _ c.args.self c.self.view_is c.close-inside.result.1 _ c.close-inside.ensures.0 c.close-inside.result.0 c.close-inside.ensures.1 c.program.view_is columns c.top_mut.result.now c.top_mut.ensures.top (c.is_sub.ensures.0 (cc)) c.args.number
+    (c.append_behind.ensures.too_narrow (c.in_err-append_behind.was ∙ ap Err e)))
+
+pub invariant_of-program : goal.invariant_of-program
+invariant_of-program g c =
+    let j = c.program.inside in
+    let live = top_live j.renderers j.pending j.opened c.program.invariant c.top_mut.result.now c.top_mut.ensures.top in
+    let h = c.in_ok-append_behind.ensures.ok in
+    with_top_live j.renderers j.pending j.opened c.program.invariant _ c.append_behind.new.renderer j.pending refl
+    (steady_live g.W.CharWidth.columns (decoration_of g.D.TextDecorator) g.D.TextDecorator.meaning (append_subrender _ h.0) c.top_mut.result.now c.append_behind.new.renderer j.pending.begun (λ x. refl) (λ n. refl) live h.2)
+
+pub returns-clause-done : goal.returns-clause-done
+returns-clause-done g c =
+    lines_appended g.D.TextDecorator.meaning _ c.args.self c.self.view_is c.close-inside.result.1 _ c.close-inside.ensures.0 c.close-inside.result.0 c.close-inside.ensures.1 c.program.view_is g.W.CharWidth.columns c.top_mut.result.now c.top_mut.ensures.top (c.is_sub.ensures.0 (cc))
+    (decoration_of g.D.TextDecorator) _ _ c.append_behind.new.renderer c.in_ok-append_behind.ensures.ok

@@ -1,0 +1,36 @@
+use Rattle.tbr_runner.proofs.Results.{if_err_then}
+use Rattle.tbr_runner.proofs.program.Program.run.Goals as goal
+
+pub returns-in-Ask-clause-done : goal.returns-in-Ask-clause-done
+returns-in-Ask-clause-done g c = rw c.in-Ask.is c.call.ensures.done
+
+pub returns-in-Ask-clause-refused : goal.returns-in-Ask-clause-refused
+returns-in-Ask-clause-refused g c = rw c.in-Ask.is c.call.ensures.refused
+
+pub returns-in-Sub-clause-done : goal.returns-in-Sub-clause-done
+returns-in-Sub-clause-done g c = rw c.in-Sub.is c.open.ensures.done
+
+pub returns-in-Sub-clause-refused : goal.returns-in-Sub-clause-refused
+returns-in-Sub-clause-refused g c = if_err_then c.open.result (λ e memory other. absurd (other memory)) c.open.ensures.memory
+
+pub returns-in-Append-clause-refused : goal.returns-in-Append-clause-refused
+returns-in-Append-clause-refused g c = rw c.in-Append.is c.append.ensures.refused
+
+pub returns-in-Cell-clause-done : goal.returns-in-Cell-clause-done
+returns-in-Cell-clause-done g c = rw c.in-Cell.is c.open-in-Cell.ensures.done
+
+pub returns-in-Cell-clause-refused : goal.returns-in-Cell-clause-refused
+returns-in-Cell-clause-refused g c =
+    if_err_then c.open-in-Cell.result (λ e memory other. absurd (other memory)) c.open-in-Cell.ensures.memory
+
+pub returns-in-EndCell-clause-done : goal.returns-in-EndCell-clause-done
+returns-in-EndCell-clause-done g c = rw c.in-EndCell.is c.end_cell.ensures.done
+
+pub returns-in-EndCell-clause-refused : goal.returns-in-EndCell-clause-refused
+returns-in-EndCell-clause-refused g c = rw c.in-EndCell.is c.end_cell.ensures.refused
+
+pub returns-in-VerticalRow-clause-done : goal.returns-in-VerticalRow-clause-done
+returns-in-VerticalRow-clause-done g c = rw c.in-VerticalRow.is c.add_row.ensures.done
+
+pub returns-in-VerticalRow-clause-refused : goal.returns-in-VerticalRow-clause-refused
+returns-in-VerticalRow-clause-refused g c = rw c.in-VerticalRow.is c.add_row.ensures.refused
