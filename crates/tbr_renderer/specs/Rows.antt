@@ -29,8 +29,8 @@ block_is_blank (Some b) = b.blank
 abbrev pub is_blank : {D A T : Type 0} → Renderer D A T → Bool
 is_blank r = is_none r.failure && (block_is_blank r.block && not (is_some_list r.lines))
 
--- An open block whose run is `Normal` is blank exactly where the run has no kept character, if no line may be wider than
--- the block.
+-- An open block whose run is `Normal` is blank exactly where the run has no kept character, if no line may be wider
+-- than the block.
 abbrev pub TellsBlank : {D A T : Type 0} → (ℕ → Option ℕ) → Renderer D A T → Type 0
 TellsBlank {D} {A} {T} columns r =
     r.failure ≡ None → (b : Open T) → r.block ≡ Some b → may_overflow r ≡ false → IsNormal b.run →
@@ -66,8 +66,8 @@ abbrev pub GivesCell : {S T : Type 0} →
 GivesCell columns_of hands_out col cell =
     (cell.width ≡ columns_of col.0) × (cell.span ≡ col.1) × hands_out col.0 cell.lines
 
--- A line of a cell is filled up to its width: a text with spaces as the alignment says, its pieces the longest stretches
--- under one annotation, and a border with `─`.
+-- A line of a cell is filled up to its width: a text with spaces as the alignment says, its pieces the longest
+-- stretches under one annotation, and a border with `─`.
 abbrev pub FillsCell : {A : Type 0} → (ℕ → Option ℕ) → CellAlign → ℕ → A → Line A → RenderLine A → Type 0
 FillsCell columns align width a (text is) (Text es) =
     (items_of es ≡ aligned_items align is (width - items_width columns is) a) × AreLongest es

@@ -386,12 +386,12 @@ pub trait Renderer {
         ensures kept { KeepsFailure kept_refusal self.old result self.new };
 
     /// Ends the open line, and then those of other renderers, in order, and adds a row of their lines, side by side and
-    /// parted by `│`, or by spaces where borders aren't drawn. Each comes with the rows that it spans, at least one, and
-    /// its texts are aligned as asked, one alignment for each. It asks for a row that fits: a `SubRenderer` tells by
-    /// `row_fits`.
+    /// parted by `│`, or by spaces where borders aren't drawn. Each comes with the rows that it spans, at least one,
+    /// and its texts are aligned as asked, one alignment for each. It asks for a row that fits: a `SubRenderer` tells
+    /// by `row_fits`.
     ///
-    /// A border that is the last line is joined to the row, and a border comes below, where borders are drawn. Lines of a
-    /// cell that spans more rows overhang into the next rows. With `collapse` borders at the top and at the bottom of
+    /// A border that is the last line is joined to the row, and a border comes below, where borders are drawn. Lines of
+    /// a cell that spans more rows overhang into the next rows. With `collapse` borders at the top and at the bottom of
     /// cells are merged into the borders above and below. A refusal of one of the renderers is passed on, the first in
     /// order.
     fn append_columns_aligned(
@@ -403,7 +403,8 @@ pub trait Renderer {
         requires spans { Each (λ col. 0 < col.1) cols.items }
         requires aligns { length aligns.now ≡ length cols.items }
         requires fits { has_places_for self.old cols.items }
-        ensures ok { OnOk result ((cells : List (GivenCell Tag)) × AllZip (GivesCell columns_of hands_out) cols.items cells
+        ensures ok { OnOk result ((cells : List (GivenCell Tag))
+            × AllZip (GivesCell columns_of hands_out) cols.items cells
             × (map align_in cells ≡ aligns.now) × appends_row collapse cells self.old self.new) }
         ensures too_narrow { kept_refusal self.old ≡ None → result ≡ Err E.TooNarrow →
             is_too_narrow call.new_line self.old
@@ -423,7 +424,8 @@ pub trait Renderer {
     ) -> Result<(), Error>
         requires spans { Each (λ col. 0 < col.1) cols.items }
         requires fits { has_places_for self.old cols.items }
-        ensures ok { OnOk result ((cells : List (GivenCell Tag)) × AllZip (GivesCell columns_of hands_out) cols.items cells
+        ensures ok { OnOk result ((cells : List (GivenCell Tag))
+            × AllZip (GivesCell columns_of hands_out) cols.items cells
             × (map align_in cells ≡ replicate (length cells) A.Left) × appends_row collapse cells self.old self.new) }
         ensures too_narrow { kept_refusal self.old ≡ None → result ≡ Err E.TooNarrow →
             is_too_narrow call.new_line self.old

@@ -22,7 +22,7 @@ module _ {D A : Type 0} (columns : ℕ → Option ℕ) where
   one_line_grows : (r : Renderer D A (List A)) (is : List (Item (List A))) → Grows r (with_line columns r is)
   one_line_grows r is = (_, refl)
 
-  lines_grow : (texts : List (List (Item (List A)))) (r : Renderer D A (List A)) → Grows r (fold (with_line columns) r texts)
+  pub lines_grow : (texts : List (List (Item (List A)))) (r : Renderer D A (List A)) → Grows r (fold (with_line columns) r texts)
   lines_grow [] r = stays r r refl
   lines_grow (t ∷ ts) r = grows_on r (with_line columns r t) (fold (with_line columns) (with_line columns r t) ts) (one_line_grows r t) (lines_grow ts (with_line columns r t))
 

@@ -15,4 +15,5 @@ pub mod Parting
 pub mod Laying
 pub mod Nesting
 pub mod VerticalRows
+pub mod RowsOfCells
 pub mod Taking

@@ -315,7 +315,8 @@ impl<D: TextDecorator, W: CharWidth> Renderer for SubRenderer<D, W> {
         requires aligns { length aligns.now ≡ length cols.items }
         requires fits { row_fits self.old.hanging (spots_of cols.items) ≡ true }
         ensures ok { OnOk result ((cells : List (GivenCell (List D.Meaning)))
-            × AllZip (GivesCell (λ col. col.width) (λ col lines. HandsOut W.columns (meant D.meaning col) lines)) cols.items cells
+            × AllZip (GivesCell (λ col. col.width) (λ col lines. HandsOut W.columns (meant D.meaning col) lines))
+            cols.items cells
             × (map align_in cells ≡ aligns.now)
             × AppendsRow W.columns collapse cells (meant D.meaning self.old) (meant D.meaning self.new)) }
         ensures too_narrow { self.old.failure ≡ None → result ≡ Err E.TooNarrow →
@@ -342,7 +343,8 @@ impl<D: TextDecorator, W: CharWidth> Renderer for SubRenderer<D, W> {
         requires spans { Each (λ col. 0 < col.1) cols.items }
         requires fits { row_fits self.old.hanging (spots_of cols.items) ≡ true }
         ensures ok { OnOk result ((cells : List (GivenCell (List D.Meaning)))
-            × AllZip (GivesCell (λ col. col.width) (λ col lines. HandsOut W.columns (meant D.meaning col) lines)) cols.items cells
+            × AllZip (GivesCell (λ col. col.width) (λ col lines. HandsOut W.columns (meant D.meaning col) lines))
+            cols.items cells
             × (map align_in cells ≡ replicate (length cells) A.Left)
             × AppendsRow W.columns collapse cells (meant D.meaning self.old) (meant D.meaning self.new)) }
         ensures too_narrow { self.old.failure ≡ None → result ≡ Err E.TooNarrow →

@@ -25,9 +25,9 @@ use tbr_lines::{BorderHoriz, CellAlign, CharWidth, Error, OutOfMemory, RenderLin
 use tbr_rows::{Columns, Overhang, Row, RowStyle};
 
 impl<D: TextDecorator, W: CharWidth> SubRenderer<D, W> {
-    /// Whether a row of these renderers, each with the rows that it spans, has a place for each cell that overhangs from
-    /// the rows before: the place of a renderer of the same width in which nothing stands, or one behind all of them. It
-    /// takes no memory, and doesn't look at a failure.
+    /// Whether a row of these renderers, each with the rows that it spans, has a place for each cell that overhangs
+    /// from the rows before: the place of a renderer of the same width in which nothing stands, or one behind all of
+    /// them. It takes no memory, and doesn't look at a failure.
     pub fn row_fits(&self, cols: &Vec<(SubRenderer<D, W>, usize)>) -> bool
         ensures fits { result ≡ row_fits self.now.hanging (model.spots_of cols.now.items) }
         ensures blank { Each (λ col. model.TellsBlank W.columns col.0) cols.now.items }
@@ -70,7 +70,8 @@ impl<D: TextDecorator, W: CharWidth> SubRenderer<D, W> {
         requires unfailed { self.old.failure ≡ None }
         requires fits { row_fits self.old.hanging (model.spots_of cols.items) ≡ true }
         ensures ok { OnOk result ((cells : List (GivenCell (List D.Meaning)))
-            × AllZip (GivesCell (λ col. col.width) (λ col lines. HandsOut W.columns (meant D.meaning col) lines)) cols.items cells
+            × AllZip (GivesCell (λ col. col.width) (λ col lines. HandsOut W.columns (meant D.meaning col) lines))
+            cols.items cells
             × (map model.align_in cells ≡ model.aligned_as aligns.now cols.items)
             × AppendsRow W.columns collapses cells (meant D.meaning self.old) (meant D.meaning self.new)) }
         ensures too_narrow { result ≡ Err E.TooNarrow → FlushIsTooNarrow W.columns (meant D.meaning self.old)
@@ -93,7 +94,8 @@ impl<D: TextDecorator, W: CharWidth> SubRenderer<D, W> {
         aligns: &[CellAlign],
     ) -> Result<Columns<Vec<D::Annotation>>, Error>
         ensures cells { IfOk result (λ columns. (cells : List (GivenCell (List D.Meaning)))
-            × AllZip (GivesCell (λ col. col.width) (λ col lines. HandsOut W.columns (meant D.meaning col) lines)) cols.items cells
+            × AllZip (GivesCell (λ col. col.width) (λ col lines. HandsOut W.columns (meant D.meaning col) lines))
+            cols.items cells
             × (map model.align_in cells ≡ model.aligned_as aligns.now cols.items)
             × AllZip (ComesAs W.columns (map D.meaning self.now.annotations)) cells
             (map (map_cell (tag_meant D.meaning)) columns)) }
@@ -222,8 +224,8 @@ impl<D: TextDecorator, W: CharWidth> SubRenderer<D, W> {
         border: Option<BorderHoriz<Vec<D::Annotation>>>,
     ) -> Result<(), OutOfMemory>
         requires { self.old.failure ≡ None }
-        ensures border { OnOk result (meant D.meaning self.new
-            ≡ model.with_next W.columns (meant D.meaning self.old) (option_map (map_border (tag_meant D.meaning)) border)) }
+        ensures border { let next = option_map (map_border (tag_meant D.meaning)) border in
+            OnOk result (meant D.meaning self.new ≡ model.with_next W.columns (meant D.meaning self.old) next) }
         ensures settings { KeepsSettings (meant D.meaning self.old) (meant D.meaning self.new) }
     {
         match border {

@@ -1,0 +1,168 @@
+-- Rows of cells side by side.
+use Rattle.std.proofs.Common.{◌≡◌, ℕ, ◌+◌, ◌-◌, suc, Bool, if◌then◌else◌, is_some, Option, Some, None, List, [], ◌∷◌, ◌++◌, fold, take, length, refl, ap, sym, ◌∙◌, subst, append_assoc, append-nil, arith}
+use Rattle.std.specs.List.{AllZip, AllByRecursion as Each}
+use Rattle.tbr_model.specs.declared.white_space.WhiteSpace.TheVariants.{Normal}
+use Rattle.tbr_lines.specs.State.{IsNormal}
+use Rattle.tbr_model.specs.Run.{Item}
+use Rattle.tbr_lines.specs.Border.{Border}
+use Rattle.tbr_lines.specs.declared.CellAlign.{CellAlign}
+use Rattle.tbr_lines.specs.declared.RenderLine.{RenderLine}
+use Rattle.tbr_lines.specs.declared.RenderLine.TheVariants.{Text, Line as Rule}
+use Rattle.tbr_rows.specs.Cells.{AreSideBySide}
+use Rattle.tbr_rows.specs.Meant.{SeenRow, MeansRow}
+use Rattle.tbr_rows.specs.declared.LineSet.{LineSet as Cell}
+use Rattle.tbr_rows.proofs.OneRow.{longest_same, one_row}
+use Rattle.tbr_renderer.specs.Renderer.{Line, text, border, Open, Renderer, Settings, settings_of, without_last, with_line, least, overflows, open_run}
+use Rattle.tbr_renderer.specs.Calls.{text_of_lines}
+use Rattle.tbr_renderer.specs.Rows.{GivenCell, FillsCell, ComesAs, last_border, before_border, border_lines, style_in, with_next, with_row, PutsRow, AppendsRow}
+use Rattle.text_block_renderer.specs.Normal.{WrapsNormally}
+use Rattle.text_block_renderer.proofs.Growing.{Grows, lines_grow, moves_grow}
+use Rattle.text_block_renderer.proofs.Moves.{flush, no_block, flushed_none}
+use Rattle.text_block_renderer.proofs.Once.{flushes_once}
+use Rattle.text_block_renderer.proofs.Settings.{Steady, flushed_alike}
+
+-- ---- texts only come
+
+text_append : {T : Type 0} (xs ys : List (Line T)) → text_of_lines (xs ++ ys) ≡ text_of_lines xs ++ text_of_lines ys
+text_append [] ys = refl
+text_append (text is ∷ xs) ys = ap (λ js. is ++ js) (text_append xs ys) ∙ sym (append_assoc is (text_of_lines xs) (text_of_lines ys))
+text_append (border b ∷ xs) ys = text_append xs ys
+
+text_behind : {T : Type 0} (l : Line T) (xs ys : List (Line T)) → text_of_lines xs ≡ text_of_lines ys → text_of_lines (l ∷ xs) ≡ text_of_lines (l ∷ ys)
+text_behind (text is) xs ys h = ap (λ js. is ++ js) h
+text_behind (border b) xs ys h = h
+
+-- a border at the end is no text
+without_border : {T : Type 0} (ls : List (Line T)) (b : Border T) → last_border ls ≡ Some b → text_of_lines (without_last ls) ≡ text_of_lines ls
+without_border [] b e = refl
+without_border (text is ∷ []) b e = absurd (let no : ⊥ = cc in no)
+without_border (border c ∷ []) b e = ap (λ n. text_of_lines (take n (border c ∷ []))) (let none : length (border c ∷ []) - 1 ≡ 0 = omega arith in none)
+without_border (l ∷ m ∷ ls) b e =
+    let next : length (l ∷ m ∷ ls) - 1 ≡ suc (length (m ∷ ls) - 1) = omega arith in
+    ap (λ n. text_of_lines (take n (l ∷ m ∷ ls))) next ∙ text_behind l (without_last (m ∷ ls)) (m ∷ ls) (without_border (m ∷ ls) b e)
+
+cut_texts : {T : Type 0} (ls : List (Line T)) → text_of_lines (before_border ls) ≡ text_of_lines ls
+cut_texts {T} ls = go (last_border ls) refl
+  where
+    go : (o : Option (Border T)) → last_border ls ≡ o → text_of_lines (if is_some o then without_last ls else ls) ≡ text_of_lines ls
+    go None e = refl
+    go (Some b) e = without_border ls b e
+
+no_texts : {T : Type 0} (o : Option (Border T)) → text_of_lines (border_lines o) ≡ []
+no_texts None = refl
+no_texts (Some b) = refl
+
+module _ {D A : Type 0} (columns : ℕ → Option ℕ) where
+  next_grows : (r : Renderer D A (List A)) (o : Option (Border (List A))) → Grows r (with_next columns r o)
+  next_grows r None = ([], sym (append-nil r.lines))
+  next_grows r (Some b) = (_, refl)
+
+  row_texts : (r : Renderer D A (List A)) (row : SeenRow (List A)) → (more : List (Item (List A))) × (text_of_lines (with_row columns r row).lines ≡ text_of_lines r.lines ++ more)
+  row_texts r row =
+      let top : Renderer D A (List A) = record r { lines = before_border r.lines ++ border_lines row.above; hanging = row.overhang } in
+      let texts = lines_grow columns row.lines top in
+      let next = next_grows (fold (with_line columns) top row.lines) row.next in
+      let came : List (Line (List A)) = texts.0 ++ next.0 in
+      let whole : (with_row columns r row).lines ≡ top.lines ++ came = next.1 ∙ ap (λ ls. ls ++ next.0) texts.1 ∙ append_assoc top.lines texts.0 next.0 in (
+        text_of_lines came,
+        ap text_of_lines whole ∙ text_append top.lines came
+            ∙ ap (λ is. is ++ text_of_lines came) (text_append (before_border r.lines) (border_lines row.above) ∙ ap (λ is. text_of_lines (before_border r.lines) ++ is) (no_texts row.above) ∙ append-nil (text_of_lines (before_border r.lines)) ∙ cut_texts r.lines),
+      )
+
+  pub texts_only_come : (collapses : Bool) (cells : List (GivenCell (List A))) (r s : Renderer D A (List A)) → AppendsRow columns collapses cells r s → (more : List (Item (List A))) × (text_of_lines s.lines ≡ text_of_lines r.lines ++ more)
+  texts_only_come collapses cells r s h =
+      let (m, flushes, puts) = h in
+      let first = moves_grow columns (flush ∷ []) r m (m, flushes, refl) in
+      let behind = row_texts m puts.row in (
+        text_of_lines first.0 ++ behind.0,
+        ap (λ (q : Renderer D A (List A)). text_of_lines q.lines) puts.is ∙ behind.1 ∙ ap (λ is. is ++ behind.0) (ap text_of_lines first.1 ∙ text_append r.lines first.0) ∙ append_assoc (text_of_lines r.lines) (text_of_lines first.0) behind.0,
+      )
+
+  -- ---- settings
+
+  lines_settle : (ts : List (List (Item (List A)))) (q : Renderer D A (List A)) → settings_of (fold (with_line columns) q ts) ≡ settings_of q
+  lines_settle [] q = refl
+  lines_settle (t ∷ ts) q = lines_settle ts (with_line columns q t)
+
+  next_settles : (r : Renderer D A (List A)) (o : Option (Border (List A))) → settings_of (with_next columns r o) ≡ settings_of r
+  next_settles r None = refl
+  next_settles r (Some b) = refl
+
+  pub settings_stay : (collapses : Bool) (cells : List (GivenCell (List A))) (r s : Renderer D A (List A)) → AppendsRow columns collapses cells r s → settings_of s ≡ settings_of r
+  settings_stay collapses cells r s h =
+      let (m, flushes, puts) = h in
+      let row = puts.row in
+      let top : Renderer D A (List A) = record m { lines = before_border m.lines ++ border_lines row.above; hanging = row.overhang } in
+      ap (λ (q : Renderer D A (List A)). settings_of q) puts.is ∙ next_settles (fold (with_line columns) top row.lines) row.next ∙ lines_settle row.lines top
+      ∙ ap (λ (q : Steady D A). q.settings) (flushed_alike columns r m flushes)
+
+  -- ---- `Normal` text
+
+  next_closed : (r : Renderer D A (List A)) (o : Option (Border (List A))) → r.block ≡ None → (with_next columns r o).block ≡ None
+  next_closed r None h = h
+  next_closed r (Some b) h = h
+
+  row_closed : (collapses : Bool) (cells : List (GivenCell (List A))) (r s : Renderer D A (List A)) → AppendsRow columns collapses cells r s → s.block ≡ None
+  row_closed collapses cells r s h =
+      let (m, flushes, puts) = h in
+      let row = puts.row in
+      let top : Renderer D A (List A) = record m { lines = before_border m.lines ++ border_lines row.above; hanging = row.overhang } in
+      ap (λ (q : Renderer D A (List A)). q.block) puts.is ∙ next_closed (fold (with_line columns) top row.lines) row.next (no_block columns row.lines top (flushed_none columns r m flushes))
+
+  pub rows_stay_normal : (collapses : Bool) (cells : List (GivenCell (List A))) (r s : Renderer D A (List A)) → WrapsNormally r → AppendsRow columns collapses cells r s → WrapsNormally s
+  rows_stay_normal collapses cells r s normal h =
+      let kept = settings_stay collapses cells r s h in record {
+        narrow = ap (λ (t : Settings D A). overflows t.options (least t.width t.options.wrap_width)) kept ∙ normal.narrow;
+        modes = subst (Each (λ mode. mode ≡ Normal)) (sym (ap (λ (t : Settings D A). t.modes) kept)) normal.modes;
+        run = subst (λ (o : Option (Open (List A))). IsNormal (open_run o)) (sym (row_closed collapses cells r s h)) tt;
+      }
+
+-- ---- one state
+
+one_line : {A : Type 0} (columns : ℕ → Option ℕ) (align : CellAlign) (width : ℕ) (a : A) (l : Line A) (x y : RenderLine A) → FillsCell columns align width a l x → FillsCell columns align width a l y → x ≡ y
+one_line columns align width a (text is) (Text es) (Text fs) h k = ap (λ ds. Text ds) (longest_same es fs h.1 k.1 (h.0 ∙ sym k.0))
+one_line columns align width a (border b) (Rule c) (Rule d) h k = ap (λ e. Rule e) (h ∙ sym k)
+one_line columns align width a (text is) (Rule c) y h k = absurd h
+one_line columns align width a (text is) (Text es) (Rule d) h k = absurd k
+one_line columns align width a (border b) (Text es) y h k = absurd h
+one_line columns align width a (border b) (Rule c) (Text fs) h k = absurd k
+
+one_each : {X Y : Type 0} (R : X → Y → Type 0) → ((x : X) (y z : Y) → R x y → R x z → y ≡ z) → (xs : List X) (ys zs : List Y) → AllZip R xs ys → AllZip R xs zs → ys ≡ zs
+one_each R one [] [] [] h k = refl
+one_each R one [] (y ∷ ys) zs h k = absurd h
+one_each R one [] [] (z ∷ zs) h k = absurd k
+one_each R one (x ∷ xs) [] zs h k = absurd h
+one_each R one (x ∷ xs) (y ∷ ys) [] h k = absurd k
+one_each R one (x ∷ xs) (y ∷ ys) (z ∷ zs) h k = ap (λ v. v ∷ ys) (one x y z h.0 k.0) ∙ ap (λ vs. z ∷ vs) (one_each R one xs ys zs h.1 k.1)
+
+module _ {A : Type 0} (columns : ℕ → Option ℕ) (a : A) where
+  one_cell : (given : GivenCell A) (c d : Cell A) → c.place ≡ d.place → ComesAs columns a given c → ComesAs columns a given d → c ≡ d
+  one_cell given c d place h k =
+      let wide : c.width ≡ d.width = h.0 ∙ sym k.0 in
+      let span : c.span ≡ d.span = h.1 ∙ sym k.1 in
+      let lines : c.lines ≡ d.lines = one_each (FillsCell columns given.align given.width a) (one_line columns given.align given.width a) given.lines c.lines d.lines h.2 k.2 in
+      λ i. record { place = place i; width = wide i; span = span i; lines = lines i }
+
+  one_own : (at : ℕ) (given : List (GivenCell A)) (cs ds : List (Cell A)) → AllZip (ComesAs columns a) given cs → AllZip (ComesAs columns a) given ds → AreSideBySide at cs → AreSideBySide at ds → cs ≡ ds
+  one_own at [] [] [] h k p q = refl
+  one_own at [] (c ∷ cs) ds h k p q = absurd h
+  one_own at [] [] (d ∷ ds) h k p q = absurd k
+  one_own at (g ∷ gs) [] ds h k p q = absurd h
+  one_own at (g ∷ gs) (c ∷ cs) [] h k p q = absurd k
+  one_own at (g ∷ gs) (c ∷ cs) (d ∷ ds) h k p q =
+      let first : c ≡ d = one_cell g c d (p.0 ∙ sym q.0) h.0 k.0 in
+      let behind : AreSideBySide (d.place + d.width + 1) cs = subst (λ (e : Cell A). AreSideBySide (e.place + e.width + 1) cs) first p.1 in
+      ap (λ (e : Cell A). e ∷ cs) first ∙ ap (λ (es : List (Cell A)). d ∷ es) (one_own (d.place + d.width + 1) gs cs ds h.1 k.1 behind q.1)
+
+module _ {D A : Type 0} (columns : ℕ → Option ℕ) (collapses : Bool) (cells : List (GivenCell (List A))) where
+  puts_once : (r s t : Renderer D A (List A)) → PutsRow columns collapses cells r s → PutsRow columns collapses cells r t → t ≡ s
+  puts_once r s t h k =
+      let own : k.own ≡ h.own = one_own columns r.annotations 0 cells k.own h.own k.come h.come k.side_by_side h.side_by_side in
+      let means = subst (λ (cs : List (Cell (List A))). MeansRow columns (style_in r collapses) r.annotations r.hanging cs (last_border r.lines) k.row) own k.means in
+      let row : k.row ≡ h.row = one_row columns (style_in r collapses) r.annotations r.hanging h.own (last_border r.lines) k.row h.row means h.means in
+      k.is ∙ ap (with_row columns r) row ∙ sym h.is
+
+  pub rows_once : (r s t : Renderer D A (List A)) → WrapsNormally r → AppendsRow columns collapses cells r s → AppendsRow columns collapses cells r t → t ≡ s
+  rows_once r s t normal h k =
+      let same : k.0 ≡ h.0 = flushes_once columns r h.0 k.0 normal.narrow normal.run h.1 k.1 in
+      puts_once h.0 s t h.2 (subst (λ (q : Renderer D A (List A)). PutsRow columns collapses cells q t) same k.2)
