@@ -9,3 +9,4 @@ pub mod Image
 pub mod Appended
 pub mod Decorated
 pub mod Calls
+pub mod Footnotes

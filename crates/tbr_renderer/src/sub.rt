@@ -30,6 +30,7 @@ mod colours;
 mod decorated;
 mod images;
 mod lines;
+mod links;
 mod strikeouts;
 mod texts;
 
