@@ -10,3 +10,4 @@ pub mod Appended
 pub mod Rows
 pub mod Decorated
 pub mod Calls
+pub mod Footnotes

@@ -31,6 +31,7 @@ mod colours;
 mod decorated;
 mod images;
 mod lines;
+mod links;
 mod rows;
 mod strikeouts;
 mod texts;

@@ -1,8 +1,6 @@
 //! Worked examples of renderers on a stack, by calls on them.
 ghost use Rattle.std.specs.Prelude.{◌<◌};
 
-use super::expected::{Told, options};
-use crate::texts::shows;
 use std::alloc::Global;
 use std::iter;
 use std::process::Abort;
@@ -121,7 +119,7 @@ fn stack(
 {
     let options = RenderOptions {
         include_link_footnotes: footnotes,
-        ..options(Told::Nothing)
+        ..RenderOptions::default()
     };
     TextRenderer::new(
         alloc,
