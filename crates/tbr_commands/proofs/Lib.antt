@@ -1,6 +1,6 @@
 pub mod Spaced
 pub mod Colours
-pub mod Sizes
+pub mod NewCells
 pub mod OptionWords
 pub mod OpeningWords
 pub mod Commands
