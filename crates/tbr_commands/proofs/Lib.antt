@@ -1,4 +1,3 @@
-pub mod Spaced
 pub mod Colours
 pub mod NewCells
 pub mod OptionWords
