@@ -1,5 +1,5 @@
 //! What a line of a script asks for.
-ghost use Rattle.std.specs.Prelude.{◌≢◌, ℕ, IfOk, IfSome, IfNone, codes};
+ghost use Rattle.std.specs.Prelude.{◌≢◌, IfOk, IfSome, IfNone, codes};
 ghost use Rattle.tbr_commands.specs.Command as asked;
 ghost use Rattle.tbr_commands.specs.Command.{command_of, IsSized};
 ghost use Rattle.tbr_commands.specs.Syntax.{IsOfLevels, IsCommand};
