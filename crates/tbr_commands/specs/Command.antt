@@ -5,9 +5,9 @@ use Rattle.tbr_commands.specs.Request.{Request, request_of}
 use Rattle.tbr_commands.specs.declared.command.Command as declared
 use Rattle.tbr_commands.specs.declared.command.Command.TheVariants as variant
 
--- A request is one call of the renderer that is open. The others open a renderer or a cell inside it, close one, or
--- take the cells that were closed: side by side, with their borders collapsed or not, or one below another. Prefixes
--- are by their bytes: that of the first line, and that of all others.
+-- A request is one call of the renderer that is open. The others open a block or a cell inside it, close one, or take
+-- the cells that wait: side by side, with their borders collapsed or not, or one below another. Prefixes are by their
+-- bytes: that of the first line, and that of all others.
 pub data Command : Type 0 where
   ask : Request → Command
   sub : (width : ℕ) → Command

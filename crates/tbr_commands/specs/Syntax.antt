@@ -111,7 +111,7 @@ IsNewCell writing width span align =
     (digits : List ℕ) × (others : List ℕ) × (words : List (List ℕ)) × (words_of writing ≡ digits ∷ others ∷ words)
     × IsSize digits width × IsSize others span × IsAlignment words align
 
--- a line that opens or closes a renderer or a cell, or takes the cells that were closed
+-- a line that opens or closes a block or a cell, or takes the cells that wait
 abbrev pub IsOfLevels : List ℕ → Command → Type 0
 IsOfLevels line (ask request) = ⊥
 IsOfLevels line (sub width) = Behind (codes "sub") line (λ argument. IsSize argument width)

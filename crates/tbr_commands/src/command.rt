@@ -16,21 +16,21 @@ pub mod new_cell;
 pub enum Command {
     /// One call of the renderer that is open.
     Ask(Request),
-    /// A renderer of so many columns, at least 1, opens inside it.
+    /// A block of so many columns, at least 1, opens inside the renderer that is open.
     Sub(usize),
-    /// That renderer closes. Its lines go into the one outside, behind a prefix: one for the first, and another for
-    /// all others.
+    /// The block that is open closes. Its lines go into the renderer outside, each behind a prefix: that of the first
+    /// line, and that of all others.
     Append(TextPair),
-    /// A cell opens inside it.
+    /// A cell opens inside the renderer that is open.
     Cell(NewCell),
-    /// That cell closes, and waits.
+    /// The cell that is open closes, and waits.
     EndCell,
-    /// The waiting cells go into it, side by side.
+    /// The cells that wait go into the renderer that is open, side by side.
     Row {
-        /// Whether borders at their tops and bottoms become one with those of the row.
+        /// Whether borders at the tops and bottoms of cells become one with those of the row.
         collapse: bool,
     },
-    /// The waiting cells go into it, one below another.
+    /// The cells that wait go into the renderer that is open, one below another.
     VerticalRow,
 }
 
@@ -52,7 +52,7 @@ impl Command {
         }
     }
 
-    /// The same of a line that opens or closes a renderer or a cell, or takes the cells that were closed.
+    /// The same of a line that opens or closes a block or a cell, or takes the cells that wait.
     fn of_levels(alloc: Global, line: &str) -> Result<Option<Command>, AllocError>
         ensures found { IfOk result (λ found.
             IfSome found (λ command. IsOfLevels line.now (command_of command))) }
