@@ -59,7 +59,7 @@ fn told_of(alloc: Global, e: RunError) -> Result<String, Fail> {
 }
 
 /// What is written and, behind it, the status and line of a refusal.
-fn outcome(alloc: Global, reader: impl Read + Drop, writer: Slow) -> Result<String, Fail> {
+pub fn outcome(alloc: Global, reader: impl Read + Drop, writer: Slow) -> Result<String, Fail> {
     let (ended, held) = ended(alloc, reader, writer);
     let mut told = String::from_utf8(held)?;
     if let Err(e) = ended {

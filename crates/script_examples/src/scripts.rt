@@ -11,6 +11,7 @@ mod decorated;
 mod first_command;
 mod levels;
 mod prefixed;
+mod rows;
 mod texts;
 
 /// A script, and what it tells.

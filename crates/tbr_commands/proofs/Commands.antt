@@ -1,8 +1,9 @@
 -- How a line begins.
-use Rattle.std.proofs.Common.{◌≡◌, ◌≢◌, ℕ, zero, suc, ◌<◌, ◌==◌, if◌then◌else◌, List, [], ◌∷◌, ◌++◌, length, get_or, Option, Some, None, MatchOption, codes, lit<, arith, refl, sym, ap, ◌∙◌, subst}
+use Rattle.std.proofs.Common.{◌≡◌, ◌≢◌, ℕ, zero, suc, ◌<◌, ◌==◌, true, false, if◌then◌else◌, List, [], ◌∷◌, ◌++◌, length, get_or, Option, Some, None, MatchOption, codes, lit<, arith, refl, sym, ap, ◌∙◌, subst}
 use Rattle.std.specs.List.{AllByRecursion as Each}
 use Rattle.std.specs.Borrow.{Bor}
 use Rattle.std.proofs.lemmas.Str.Pattern.{IsSplitOnceResult, split_after, split_parts}
+use Rattle.tbr_lines.specs.declared.CellAlign.{CellAlign}
 use Rattle.tbr_decor.specs.Ground as ground
 use Rattle.tbr_decor.specs.declared.colour.Colour.{Colour}
 use Rattle.tbr_script.specs.Script.{IsText, IsSize, AreSplitTexts}
@@ -10,8 +11,8 @@ use Rattle.tbr_commands.specs.declared.request.layout.Layout.{Layout}
 use Rattle.tbr_commands.specs.declared.request.beginning.Beginning.{Beginning}
 use Rattle.tbr_commands.specs.declared.request.kind.Kind.{Kind}
 use Rattle.tbr_commands.specs.Request.{Request, layout, begin, end, text, fragment, link, image, colour, border}
-use Rattle.tbr_commands.specs.Command.{Command, ask, sub, append, cell, end_cell, vertical_row, IsSized}
-use Rattle.tbr_commands.specs.Syntax.{layout_name, beginning_name, ending_name, IsAlone, Behind, HasArgument, IsColour, AreColumns, IsCellSize, IsRequest, IsOfLevels, IsWritten}
+use Rattle.tbr_commands.specs.Command.{Command, ask, sub, append, cell, end_cell, row, vertical_row, IsSized}
+use Rattle.tbr_commands.specs.Syntax.{layout_name, beginning_name, ending_name, IsAlone, Behind, HasArgument, IsColour, AreColumns, IsNewCell, IsRequest, IsOfLevels, IsWritten}
 
 -- ---- a name alone
 
@@ -114,11 +115,11 @@ Argument ground_word bs = (c : Colour) × IsColour bs c
 Argument border_word bs = (columns : ℕ) × AreColumns bs columns
 Argument sub_word bs = (width : ℕ) × IsSize bs width
 Argument append_word bs = (s : List ℕ) × (t : List ℕ) × AreSplitTexts bs s t
-Argument cell_word bs = (width : ℕ) × (span : ℕ) × IsCellSize bs width span
+Argument cell_word bs = (width : ℕ) × (span : ℕ) × (align : CellAlign) × IsNewCell bs width span align
 
 -- no name alone of a block or a cell
 abbrev pub IsNoLevelName : List ℕ → Type 0
-IsNoLevelName line = (line ≢ codes "endcell") × (line ≢ codes "vrow")
+IsNoLevelName line = (line ≢ codes "endcell") × (line ≢ codes "row") × (line ≢ codes "row collapse") × (line ≢ codes "vrow")
 
 -- a line by the word that it begins with
 abbrev pub IsWorded : List ℕ → Type 0
@@ -145,9 +146,11 @@ module _ (line : List ℕ) where
   level_by_word names (ask request) k = absurd k
   level_by_word names (sub n) k = (sub_word, another (codes "sub") (λ bs. IsSize bs n) (Argument sub_word) (λ bs h. (n, h)) k)
   level_by_word names (append s t) k = (append_word, another (codes "append") (λ bs. AreSplitTexts bs s t) (Argument append_word) (λ bs h. (s, t, h)) k)
-  level_by_word names (cell m n) k = (cell_word, another (codes "cell") (λ bs. IsCellSize bs m n) (Argument cell_word) (λ bs h. (m, n, h)) k)
+  level_by_word names (cell m n a) k = (cell_word, another (codes "cell") (λ bs. IsNewCell bs m n a) (Argument cell_word) (λ bs h. (m, n, a, h)) k)
   level_by_word names end_cell k = absurd (names.0 k)
-  level_by_word names vertical_row k = absurd (names.1 k)
+  level_by_word names (row false) k = absurd (names.1 k)
+  level_by_word names (row true) k = absurd (names.2 k)
+  level_by_word names vertical_row k = absurd (names.3 k)
 
 parts : (line : List ℕ) (r : Option (Bor (List ℕ) × Bor (List ℕ))) → IsSplitOnceResult 32 line r → (w : Word) → Behind (written_as w) line (Argument w) → MatchOption r ⊥ (λ x. (x.0.now ≡ written_as w) × Argument w x.1.now)
 parts line None h w k = split_after 32 line (written_as w) k.0 None h (lit< tt) k.1 (no_space (written_as w) (spaceless w))
@@ -204,9 +207,11 @@ module _ (line : List ℕ) (word rest : Bor (List ℕ)) (h : IsSplitOnceResult 3
   no_level_word names a b c (ask request) k = k
   no_level_word names a b c (sub n) k = a (begins_with (level_by_word line names (sub n) k))
   no_level_word names a b c (append s t) k = b (begins_with (level_by_word line names (append s t) k))
-  no_level_word names a b c (cell m n) k = c (begins_with (level_by_word line names (cell m n) k))
+  no_level_word names a b c (cell m n d) k = c (begins_with (level_by_word line names (cell m n d) k))
   no_level_word names a b c end_cell k = names.0 k
-  no_level_word names a b c vertical_row k = names.1 k
+  no_level_word names a b c (row false) k = names.1 k
+  no_level_word names a b c (row true) k = names.2 k
+  no_level_word names a b c vertical_row k = names.3 k
 
 -- ---- commands
 
@@ -214,8 +219,9 @@ pub no_command : (line : List ℕ) → ((request : Request) → IsRequest line r
 no_command line a b (ask request) k = a request k
 no_command line a b (sub n) k = b (sub n) k
 no_command line a b (append s t) k = b (append s t) k
-no_command line a b (cell m n) k = b (cell m n) k
+no_command line a b (cell m n c) k = b (cell m n c) k
 no_command line a b end_cell k = b end_cell k
+no_command line a b (row collapse) k = b (row collapse) k
 no_command line a b vertical_row k = b vertical_row k
 
 -- A command has a width and a span of at least 1.
@@ -223,6 +229,7 @@ pub sized : (line : List ℕ) (command : Command) → IsOfLevels line command �
 sized line (ask request) k = tt
 sized line (sub n) k = k.2.2
 sized line (append s t) k = tt
-sized line (cell m n) k = (k.2.3.2, k.2.4.2)
+sized line (cell m n a) k = (k.2.4.2, k.2.5.2)
 sized line end_cell k = tt
+sized line (row collapse) k = tt
 sized line vertical_row k = tt

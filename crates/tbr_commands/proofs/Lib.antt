@@ -1,5 +1,5 @@
 pub mod Colours
-pub mod CellSizes
+pub mod NewCells
 pub mod OptionWords
 pub mod OpeningWords
 pub mod Commands

@@ -3,6 +3,7 @@ use Rattle.std.proofs.Common.{◌≡◌, ℕ, ◌==◌, ◌&&◌, Bool, true, fa
 use Rattle.std.specs.Prelude.{encode_utf8}
 use Rattle.std.specs.List.{AllByRecursion as Each}
 use Rattle.std.proofs.lemmas.List.{append_cancel_left}
+use Rattle.tbr_lines.specs.declared.CellAlign.{CellAlign}
 use Rattle.tbr_decor.specs.Ground as ground
 use Rattle.tbr_decor.specs.declared.colour.Colour.{Colour}
 use Rattle.tbr_model.specs.declared.white_space.WhiteSpace.TheVariants.{Normal, Pre, PreWrap}
@@ -13,13 +14,13 @@ use Rattle.tbr_commands.specs.declared.request.beginning.Beginning.TheVariants a
 use Rattle.tbr_commands.specs.declared.request.kind.Kind.{Kind}
 use Rattle.tbr_commands.specs.declared.request.kind.Kind.TheVariants as kind
 use Rattle.tbr_commands.specs.Request.{Request, layout, begin, end, text, fragment, link, image, colour, border}
-use Rattle.tbr_commands.specs.Command.{Command, ask, sub, append, cell, end_cell, vertical_row}
+use Rattle.tbr_commands.specs.Command.{Command, ask, sub, append, cell, end_cell, row, vertical_row}
 use Rattle.tbr_script.specs.Script.{Piece, itself, escape, IsPiece, written, meant, IsText, IsSize, AreSplitTexts}
-use Rattle.tbr_commands.specs.Syntax.{layout_name, beginning_name, ending_name, IsAlone, HasArgument, IsColour, AreColumns, IsCellSize, IsWritten, IsCommand}
+use Rattle.tbr_commands.specs.Syntax.{layout_name, beginning_name, ending_name, IsAlone, HasArgument, IsColour, AreColumns, IsNewCell, IsWritten, IsCommand}
 use Rattle.tbr_script.proofs.Texts.{one_escape}
 use Rattle.tbr_script.proofs.Bars.{one_split}
 use Rattle.tbr_commands.proofs.Colours.{colour_once}
-use Rattle.tbr_commands.proofs.CellSizes.{cell_size_once}
+use Rattle.tbr_commands.proofs.NewCells.{new_cell_once}
 use Rattle.tbr_commands.proofs.Commands.{Word, text_word, marker_word, link_word, image_word, colour_word, ground_word, border_word, sub_word, append_word, cell_word, written_as, word_once}
 
 -- ---- texts
@@ -80,6 +81,8 @@ read line =
     else if same line (codes "endbg") then Some (ask (end kind.Background))
     else if same line (codes "border") then Some (ask (border None))
     else if same line (codes "endcell") then Some end_cell
+    else if same line (codes "row") then Some (row false)
+    else if same line (codes "row collapse") then Some (row true)
     else if same line (codes "vrow") then Some vertical_row
     else None
 
@@ -141,7 +144,7 @@ Argued ground_word bs command = (c : Colour) × IsColour bs c × (command ≡ as
 Argued border_word bs command = (n : ℕ) × AreColumns bs n × (command ≡ ask (border (Some n)))
 Argued sub_word bs command = (n : ℕ) × IsSize bs n × (command ≡ sub n)
 Argued append_word bs command = (s : List ℕ) × (t : List ℕ) × AreSplitTexts bs s t × (command ≡ append s t)
-Argued cell_word bs command = (m : ℕ) × (n : ℕ) × IsCellSize bs m n × (command ≡ cell m n)
+Argued cell_word bs command = (m : ℕ) × (n : ℕ) × (x : CellAlign) × IsNewCell bs m n x × (command ≡ cell m n x)
 
 record IsArgued (line : List ℕ) (command : Command) : Type 0 where
   word : Word
@@ -172,8 +175,10 @@ is_parted line (ask request) (inl k) = inl (is_read line request k)
 is_parted line (ask request) (inr k) = inr (has_argument line request k)
 is_parted line (sub n) k = inr (record { word = sub_word; behind = k.0; is = k.1; argued = (n, k.2, refl) })
 is_parted line (append s t) k = inr (record { word = append_word; behind = k.0; is = k.1; argued = (s, t, k.2, refl) })
-is_parted line (cell m n) k = inr (record { word = cell_word; behind = k.0; is = k.1; argued = (m, n, k.2, refl) })
+is_parted line (cell m n x) k = inr (record { word = cell_word; behind = k.0; is = k.1; argued = (m, n, x, k.2, refl) })
 is_parted line end_cell k = inl (ap read k)
+is_parted line (row false) k = inl (ap read k)
+is_parted line (row true) k = inl (ap read k)
 is_parted line vertical_row k = inl (ap read k)
 
 -- a line with an argument isn't read
@@ -213,8 +218,8 @@ argued_once bs append_word c d a b =
     let same = texts_once bs a.0 a.1 b.0 b.1 a.2 b.2 in
     a.3 ∙ ap (λ s. append s a.1) same.0 ∙ ap (append b.0) same.1 ∙ sym b.3
 argued_once bs cell_word c d a b =
-    let same = cell_size_once bs a.0 a.1 b.0 b.1 a.2 b.2 in
-    a.3 ∙ ap (λ m. cell m a.1) same.0 ∙ ap (cell b.0) same.1 ∙ sym b.3
+    let same = new_cell_once bs a.0 a.1 b.0 b.1 a.2 b.2 a.3 b.3 in
+    a.4 ∙ ap (λ m. cell m a.1 a.2) same.0 ∙ ap (λ n. cell b.0 n a.2) same.1 ∙ ap (cell b.0 b.1) same.2 ∙ sym b.4
 
 with_argument_once : (line : List ℕ) (c d : Command) → IsArgued line c → IsArgued line d → c ≡ d
 with_argument_once line c d a b =

@@ -1,23 +1,26 @@
 -- What a line of a script asks for.
-use Rattle.std.specs.Prelude.{ℕ, ◌<◌, List, string_bytes}
+use Rattle.std.specs.Prelude.{ℕ, ◌<◌, Bool, List, string_bytes}
+use Rattle.tbr_lines.specs.declared.CellAlign.{CellAlign}
 use Rattle.tbr_commands.specs.Request.{Request, request_of}
 use Rattle.tbr_commands.specs.declared.command.Command as declared
 use Rattle.tbr_commands.specs.declared.command.Command.TheVariants as variant
 
 -- A request is one call of the renderer that is open. The others open a block or a cell inside it, close one, or take
--- the cells that wait. Prefixes are by their bytes: that of the first line, and that of all others.
+-- the cells that wait: side by side, with their borders collapsed or not, or one below another. Prefixes are by their
+-- bytes: that of the first line, and that of all others.
 pub data Command : Type 0 where
   ask : Request → Command
   sub : (width : ℕ) → Command
   append : (first others : List ℕ) → Command
-  cell : (width span : ℕ) → Command
+  cell : (width span : ℕ) → CellAlign → Command
   end_cell : Command
+  row : (collapse : Bool) → Command
   vertical_row : Command
 
 -- Widths and spans are at least 1.
 abbrev pub IsSized : Command → Type 0
 IsSized (sub width) = 0 < width
-IsSized (cell width span) = (0 < width) × (0 < span)
+IsSized (cell width span align) = (0 < width) × (0 < span)
 IsSized other = Unit {0}
 
 -- ---- the command that one of the code is
@@ -26,6 +29,7 @@ abbrev pub command_of : declared.Command → Command
 command_of (variant.Ask request) = ask (request_of request)
 command_of (variant.Sub width) = sub width
 command_of (variant.Append prefixes) = append (string_bytes prefixes.first) (string_bytes prefixes.second)
-command_of (variant.Cell size) = cell size.width size.span
+command_of (variant.Cell new) = cell new.width new.span new.align
 command_of variant.EndCell = end_cell
+command_of (variant.Row collapse) = row collapse
 command_of variant.VerticalRow = vertical_row

@@ -1,14 +1,16 @@
 -- How each command is written.
-use Rattle.std.specs.Prelude.{◌≡◌, ◌⊎◌, ℕ, List, [], ◌∷◌, ◌++◌, None, Some, codes}
+use Rattle.std.specs.Prelude.{◌≡◌, ◌⊎◌, ℕ, true, false, List, [], ◌∷◌, ◌++◌, None, Some, codes}
 use Rattle.std.specs.Str.{IsUtf8}
 use Rattle.std.specs.Str.Parse.{digits_value}
 use Rattle.tbr_model.specs.declared.white_space.WhiteSpace.{WhiteSpace}
 use Rattle.tbr_model.specs.declared.white_space.WhiteSpace.TheVariants.{Normal, Pre, PreWrap}
+use Rattle.tbr_lines.specs.declared.CellAlign.{CellAlign}
+use Rattle.tbr_lines.specs.declared.CellAlign.TheVariants.{Left, Right, Centre}
 use Rattle.tbr_decor.specs.declared.colour.Colour.{Colour}
 use Rattle.tbr_decor.specs.Ground as ground
 use Rattle.tbr_script.specs.Script.{IsNumber, IsSize, IsByte, IsText, AreSplitTexts, words_of}
 use Rattle.tbr_commands.specs.Request.{Request, layout, begin, end, text, fragment, link, image, colour, border}
-use Rattle.tbr_commands.specs.Command.{Command, ask, sub, append, cell, end_cell, vertical_row}
+use Rattle.tbr_commands.specs.Command.{Command, ask, sub, append, cell, end_cell, row, vertical_row}
 use Rattle.tbr_commands.specs.declared.request.layout.Layout.{Layout}
 use Rattle.tbr_commands.specs.declared.request.layout.Layout.TheVariants.{StartBlock, EndBlock, StartTable, NewLine, HardNewLine, EmptyLine}
 use Rattle.tbr_commands.specs.declared.request.beginning.Beginning.{Beginning}
@@ -97,19 +99,27 @@ IsRequest line request = IsAlone line request ⊎ HasArgument line request
 
 -- ---- commands
 
--- the size of a cell by its words: a width and a span
-abbrev pub IsCellSize : List ℕ → ℕ → ℕ → Type 0
-IsCellSize writing width span =
-    (digits : List ℕ) × (others : List ℕ) × (words_of writing ≡ digits ∷ others ∷ [])
-    × IsSize digits width × IsSize others span
+-- the words behind a cell's span, and the alignment that they tell
+abbrev pub IsAlignment : List (List ℕ) → CellAlign → Type 0
+IsAlignment words Left = (words ≡ []) ⊎ (words ≡ codes "left" ∷ [])
+IsAlignment words Right = words ≡ codes "right" ∷ []
+IsAlignment words Centre = words ≡ codes "centre" ∷ []
+
+-- a cell by its words: a width, a span, and perhaps an alignment
+abbrev pub IsNewCell : List ℕ → ℕ → ℕ → CellAlign → Type 0
+IsNewCell writing width span align =
+    (digits : List ℕ) × (others : List ℕ) × (words : List (List ℕ)) × (words_of writing ≡ digits ∷ others ∷ words)
+    × IsSize digits width × IsSize others span × IsAlignment words align
 
 -- a line that opens or closes a block or a cell, or takes the cells that wait
 abbrev pub IsOfLevels : List ℕ → Command → Type 0
 IsOfLevels line (ask request) = ⊥
 IsOfLevels line (sub width) = Behind (codes "sub") line (λ argument. IsSize argument width)
 IsOfLevels line (append first others) = Behind (codes "append") line (λ argument. AreSplitTexts argument first others)
-IsOfLevels line (cell width span) = Behind (codes "cell") line (λ argument. IsCellSize argument width span)
+IsOfLevels line (cell width span align) = Behind (codes "cell") line (λ argument. IsNewCell argument width span align)
 IsOfLevels line end_cell = line ≡ codes "endcell"
+IsOfLevels line (row false) = line ≡ codes "row"
+IsOfLevels line (row true) = line ≡ codes "row collapse"
 IsOfLevels line vertical_row = line ≡ codes "vrow"
 
 abbrev pub IsWritten : List ℕ → Command → Type 0

@@ -1,12 +1,15 @@
 //! What a line of a script asks for.
-ghost use Rattle.std.specs.Prelude.{◌≢◌, ℕ, IfOk, IfSome, IfNone, codes};
+ghost use Rattle.std.specs.Prelude.{◌≢◌, IfOk, IfSome, IfNone, codes};
 ghost use Rattle.tbr_commands.specs.Command as asked;
 ghost use Rattle.tbr_commands.specs.Command.{command_of, IsSized};
-ghost use Rattle.tbr_commands.specs.Syntax.{IsCellSize, IsOfLevels, IsCommand};
+ghost use Rattle.tbr_commands.specs.Syntax.{IsOfLevels, IsCommand};
 
+use crate::command::new_cell::NewCell;
 use crate::request::Request;
 use std::alloc::{AllocError, Global};
-use tbr_script::{TextPair, Words, parse_size};
+use tbr_script::{TextPair, parse_size};
+
+pub mod new_cell;
 
 /// What a line of a script behind the first command asks for.
 #[derive(Debug, Drop)]
@@ -19,20 +22,16 @@ pub enum Command {
     /// line, and that of all others.
     Append(TextPair),
     /// A cell opens inside the renderer that is open.
-    Cell(CellSize),
+    Cell(NewCell),
     /// The cell that is open closes, and waits.
     EndCell,
+    /// The cells that wait go into the renderer that is open, side by side.
+    Row {
+        /// Whether borders at the tops and bottoms of cells become one with those of the row.
+        collapse: bool,
+    },
     /// The cells that wait go into the renderer that is open, one below another.
     VerticalRow,
-}
-
-/// How much of a row a cell takes.
-#[derive(Clone, Copy, Debug, PartialEq, Eq)]
-pub struct CellSize {
-    /// Its columns, at least 1.
-    pub width: usize,
-    /// The rows that it takes, at least 1.
-    pub span: usize,
 }
 
 impl Command {
@@ -69,7 +68,7 @@ impl Command {
         match word {
             "sub" => Ok(parse_size(argument).map(Command::Sub)),
             "append" => Ok(TextPair::parse(alloc, argument)?.map(Command::Append)),
-            "cell" => Ok(CellSize::parse(argument).map(Command::Cell)),
+            "cell" => Ok(NewCell::parse(argument).map(Command::Cell)),
             _ => Ok(None),
         }
     }
@@ -77,28 +76,15 @@ impl Command {
     /// The same of such a line without an argument.
     fn alone(line: &str) -> Option<Command>
         ensures found { IfSome result (λ command. IsOfLevels line.now (command_of command)) }
-        ensures none { IfNone result ((line.now ≢ codes "endcell") × (line.now ≢ codes "vrow")) }
+        ensures none { IfNone result ((line.now ≢ codes "endcell") × (line.now ≢ codes "row")
+            × (line.now ≢ codes "row collapse") × (line.now ≢ codes "vrow")) }
     {
         match line {
             "endcell" => Some(Command::EndCell),
+            "row" => Some(Command::Row { collapse: false }),
+            "row collapse" => Some(Command::Row { collapse: true }),
             "vrow" => Some(Command::VerticalRow),
             _ => None,
-        }
-    }
-}
-
-impl CellSize {
-    /// The width and the span that two numbers are, with exactly one space between them, if they are such.
-    fn parse(writing: &str) -> Option<CellSize>
-        ensures found { IfSome result (λ cell. IsCellSize writing.now cell.width cell.span) }
-        ensures none { IfNone result ((width span : ℕ) → IsCellSize writing.now width span → ⊥) }
-    {
-        let mut words = Words::of(writing);
-        let width = parse_size(words.next()?)?;
-        let span = parse_size(words.next()?)?;
-        match words.next() {
-            Some(_) => None,
-            None => Some(CellSize { width, span }),
         }
     }
 }

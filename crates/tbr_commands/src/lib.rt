@@ -2,7 +2,8 @@
 #![tactic(auto)]
 
 pub use begun::Begun;
-pub use command::{CellSize, Command};
+pub use command::Command;
+pub use command::new_cell::NewCell;
 pub use opening::{Decorator, Opening};
 pub use request::Request;
 pub use request::beginning::Beginning;

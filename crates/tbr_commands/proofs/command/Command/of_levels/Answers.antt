@@ -14,7 +14,7 @@ returns-in_ok-parse-in-append-clause-none c =
 pub returns-in-cell-clause-none : goal.returns-in-cell-clause-none
 returns-in-cell-clause-none c =
     if_none_mapped c.parse-in-cell.result c.map-in-cell.result c.map-in-cell.ensures.variant
-    (λ n. no_level_argument c.args.line.now c.in-Some-split_once.word c.in-Some-split_once.argument c.in-Some-split_once.ensures.cases c.in_default.ensures.none cell_word c.in-cell.is (λ t. n t.0 t.1 t.2))
+    (λ n. no_level_argument c.args.line.now c.in-Some-split_once.word c.in-Some-split_once.argument c.in-Some-split_once.ensures.cases c.in_default.ensures.none cell_word c.in-cell.is (λ t. n t.0 t.1 t.2 t.3))
     c.parse-in-cell.ensures.none
 
 pub returns-in_ok-parse-in-append-clause-found : goal.returns-in_ok-parse-in-append-clause-found
