@@ -1,12 +1,18 @@
 -- Levels that come and go.
-use Rattle.std.proofs.Common.{◌≡◌, ◌<◌, List, [], ◌∷◌, length, Some, refl, sym, subst, arith}
+use Rattle.std.proofs.Common.{◌≡◌, ◌<◌, List, [], ◌∷◌, length, drop, Some, refl, sym, subst, arith}
 use Rattle.std.specs.List.{AllZip}
 use Rattle.text_block_renderer.specs.Renderer.{Renderer}
-use Rattle.tbr_stack.specs.Stack.{Stack, Level, top_of, with_top, pushed, below, first_renderer, with_first, below_top}
+use Rattle.tbr_stack.specs.Stack.{Stack, Level, top_of, with_top, pushed, below, first_renderer, in_first}
 use Rattle.tbr_commands.specs.Begun.{nothing_begun}
 use Rattle.tbr_commands.specs.declared.begun.Begun.{Begun}
 use Rattle.tbr_runner.specs.declared.opened.Opener.{Opener}
 use Rattle.tbr_runner.specs.Progress.{Pending, Opened, IsLive, AreLive, begun_on_each, nothing_pending}
+
+abbrev pub with_first : {R : Type 0} → List (Level R) → R → List (Level R)
+with_first levels r = in_first (λ level. record level { renderer = r }) levels
+
+abbrev pub below_top : {R : Type 0} → List (Level R) → List (Level R)
+below_top levels = drop 1 levels
 
 module _ {D A T : Type 0} where
   abbrev Zipped : List (Level (Renderer D A T)) → List Begun → Type 0

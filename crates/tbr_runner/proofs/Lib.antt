@@ -2,6 +2,7 @@ pub mod Given
 pub mod Levels
 pub mod Meant
 pub mod Live
+pub mod Rows
 pub mod LinesGive
 pub mod OfScript
 pub mod Results

@@ -14,6 +14,8 @@ use Rattle.text_block_renderer.specs.Settings.{settled, settled_by_image}
 use Rattle.text_block_renderer.specs.Meant.{meant}
 use Rattle.text_block_renderer.specs.Calls.{Call, start_strikeout, end_strikeout, add_image, push_colour, pop_colour, Does}
 use Rattle.text_block_renderer.proofs.Settings.{preformats_behind, call_beside, call_changes}
+use Rattle.text_block_renderer.proofs.RowsOfCells.{settings_stay, failure_stays}
+use Rattle.text_block_renderer.specs.Rows.{GivenCell, AppendsRow}
 use Rattle.tbr_commands.specs.declared.begun.Begun.{Begun}
 use Rattle.tbr_commands.specs.declared.request.layout.Layout.TheVariants.{StartBlock, EndBlock, StartTable, NewLine, HardNewLine, EmptyLine}
 use Rattle.tbr_commands.specs.declared.request.beginning.Beginning.{Beginning}
@@ -188,5 +190,15 @@ steady_live {D} {A} {M} columns decoration meaning call r s begun settles counts
     let same : settings_of (meant meaning s) ≡ settings_of (meant meaning r) = call_changes columns decoration call (meant meaning r) (meant meaning s) does ∙ ap (λ (x : Renderer D M (List M)). settings_of x) (settles (meant meaning r)) in (
       behind.0 ∙ live.0,
       behind.1 ∙ counts r.preformatted ∙ live.1,
+      λ on. ap (λ (x : Settings D M). x.strikeouts) same ∙ live.2 (sym (ap (λ (x : Settings D M). x.options.use_unicode_strikeout) same) ∙ on),
+    )
+
+-- a row of cells side by side
+pub row_live : {D A M : Type 0} (columns : ℕ → Option ℕ) (meaning : A → M) (collapse : Bool) (cells : List (GivenCell (List M))) (r s : Renderer D A (Vec A)) (begun : Begun) →
+    IsLive r begun → AppendsRow columns collapse cells (meant meaning r) (meant meaning s) → IsLive s begun
+row_live {D} {A} {M} columns meaning collapse cells r s begun live appends =
+    let same : settings_of (meant meaning s) ≡ settings_of (meant meaning r) = settings_stay columns collapse cells (meant meaning r) (meant meaning s) appends in (
+      failure_stays columns collapse cells (meant meaning r) (meant meaning s) appends ∙ live.0,
+      ap (λ (x : Settings D M). x.preformatted) same ∙ live.1,
       λ on. ap (λ (x : Settings D M). x.strikeouts) same ∙ live.2 (sym (ap (λ (x : Settings D M). x.options.use_unicode_strikeout) same) ∙ on),
     )

@@ -1,8 +1,9 @@
 -- What commands lead to, by what annotations mean.
-use Rattle.std.proofs.Common.{Bool, true, false, encode_utf8_all, Ok, Err, ◌≡◌, ◌≢◌, ◌⊎◌, ℕ, List, [], ◌∷◌, map, length, Option, None, Some, refl, sym, ap, ◌∙◌, subst, inl, inr}
+use Rattle.std.proofs.Common.{Bool, true, false, encode_utf8_all, Ok, Err, ◌≡◌, ◌≢◌, ◌⊎◌, ℕ, List, [], ◌∷◌, ◌++◌, map, length, Option, None, Some, refl, sym, ap, ◌∙◌, subst, inl, inr}
 use Rattle.std.specs.Global.{Vec}
 use Rattle.std.specs.List.{AllZip}
 use Rattle.std.proofs.lemmas.List.{map-append}
+use Rattle.tbr_lines.specs.declared.CellAlign.{CellAlign}
 use Rattle.tbr_decor.specs.Decoration.{Decoration}
 use Rattle.text_block_renderer.specs.Renderer.{Renderer, Line}
 use Rattle.text_block_renderer.specs.Meant.{meant}
@@ -14,12 +15,13 @@ use Rattle.text_block_renderer.specs.Calls.{append_subrender, append_vert_row, D
 use Rattle.tbr_script.specs.declared.error.RunError.TheVariants.{TooNarrow, NotACommand, NothingToEnd}
 use Rattle.tbr_commands.specs.Request.{Request, call_of}
 use Rattle.tbr_commands.specs.Begun.{ends_nothing, counted}
-use Rattle.tbr_stack.specs.Stack.{Stack, Level, top_of, with_top, pushed, first_renderer, with_first, below_top}
+use Rattle.tbr_stack.specs.Stack.{Stack, Level, top_of, with_top, pushed, first_renderer}
+use Rattle.tbr_runner.proofs.Levels.{with_first, below_top}
 use Rattle.tbr_runner.specs.declared.opened.Opener.{Opener}
 use Rattle.tbr_runner.specs.declared.opened.Opener.TheVariants.{Sub, Cell}
 use Rattle.tbr_runner.specs.Prefixes.{prefixes}
 use Rattle.tbr_runner.specs.Progress.{Pending, Opened, Progress, nothing_pending, cell_meant, level_meant, stack_meant, pending_meant, opened_meant, progress_meant}
-use Rattle.tbr_runner.specs.Meaning.{OnTop, TopIs, opener, renderers_of, with_cell, Closes, RequestDoes, RequestRefuses, LevelOpens, AppendDoes, AppendRefuses, CellDoes, CellRefuses, RowDoes, RowRefuses, Ends}
+use Rattle.tbr_runner.specs.Meaning.{OnTop, TopIs, opener, renderers_of, with_cell, without_cells, Closes, RequestDoes, RequestRefuses, LevelOpens, AppendDoes, AppendRefuses, CellDoes, CellRefuses, VerticalRowDoes, VerticalRowRefuses, Ends}
 
 module _ {D A M : Type 0} (meaning : A → M) where
   -- ---- stacks
@@ -105,11 +107,11 @@ module _ {D A M : Type 0} (meaning : A → M) where
     pub cells_in_sub : (columns : ℕ → Option ℕ) (number : ℕ) → opener i.opened ≡ Some Sub → i.pending.cells ≢ [] → AppendRefuses columns (progress_meant meaning p) number (NotACommand number)
     cells_in_sub columns number is some = inr (inl (opener_meant p.opened ∙ here (Some Sub) is, (waiting some, refl)))
 
-    pub no_cell : (number : ℕ) → ((span : ℕ) → opener i.opened ≢ Some (Cell span)) → CellRefuses (progress_meant meaning p) number (NothingToEnd number)
-    no_cell number none = inl ((λ span is. none span (ap (λ (q : Progress D A (Vec A)). opener q.opened) same ∙ sym (opener_meant p.opened) ∙ is)), refl)
+    pub no_cell : (number : ℕ) → ((span : ℕ) (align : CellAlign) → opener i.opened ≢ Some (Cell span align)) → CellRefuses (progress_meant meaning p) number (NothingToEnd number)
+    no_cell number none = inl ((λ span align is. none span align (ap (λ (q : Progress D A (Vec A)). opener q.opened) same ∙ sym (opener_meant p.opened) ∙ is)), refl)
 
-    pub cells_in_cell : (number span : ℕ) → opener i.opened ≡ Some (Cell span) → i.pending.cells ≢ [] → CellRefuses (progress_meant meaning p) number (NotACommand number)
-    cells_in_cell number span is some = inr (span, opener_meant p.opened ∙ here (Some (Cell span)) is, (waiting some, refl))
+    pub cells_in_cell : (number span : ℕ) (align : CellAlign) → opener i.opened ≡ Some (Cell span align) → i.pending.cells ≢ [] → CellRefuses (progress_meant meaning p) number (NotACommand number)
+    cells_in_cell number span align is some = inr (span, align, opener_meant p.opened ∙ here (Some (Cell span align)) is, (waiting some, refl))
 
     pub some_opened : (o : Opener) → opener i.opened ≡ Some o → opener p.opened ≢ None
     some_opened o is none = cc (here (Some o) is, none)
@@ -159,11 +161,11 @@ module _ {D A M : Type 0} (meaning : A → M) where
       cols_meant : map (meant meaning) cols ≡ renderers_of (map (cell_meant meaning) i.pending.cells)
       cols_meant = ap (map (meant meaning)) are ∙ sym (renderers_meant i.pending.cells)
 
-      pub row_done : (decoration : Decoration D M) (s : Renderer D A (Vec A)) (pending : Pending D A (Vec A)) → pending ≡ record i.pending { cells = [] } →
+      pub vertical_done : (decoration : Decoration D M) (s : Renderer D A (Vec A)) (pending : Pending D A (Vec A)) → pending ≡ without_cells i.pending →
           ((cells : List (List (Line (List M)))) × AllZip (λ r lines. HandsOut columns (meant meaning r) lines) cols cells × Does columns decoration (append_vert_row cells) (meant meaning top) (meant meaning s)) →
-          RowDoes columns decoration (progress_meant meaning p) (progress_meant meaning (record { stack = with_top i.stack s; pending = pending; opened = i.opened }))
-      row_done decoration s pending taken h =
-          subst (λ (q : Progress D A (Vec A)). RowDoes columns decoration (progress_meant meaning q) (progress_meant meaning (record { stack = with_top i.stack s; pending = pending; opened = i.opened }))) same (record {
+          VerticalRowDoes columns decoration (progress_meant meaning p) (progress_meant meaning (record { stack = with_top i.stack s; pending = pending; opened = i.opened }))
+      vertical_done decoration s pending taken h =
+          subst (λ (q : Progress D A (Vec A)). VerticalRowDoes columns decoration (progress_meant meaning q) (progress_meant meaning (record { stack = with_top i.stack s; pending = pending; opened = i.opened }))) same (record {
             cells = h.0;
             hand_out = subst (λ (rs : List (Renderer D M (List M))). AllZip (HandsOut columns) rs h.0) cols_meant (each_meant cols h.0 h.1);
             does = on_top_meant (Does columns decoration (append_vert_row h.0)) i.stack top s is_top h.2;
@@ -171,12 +173,12 @@ module _ {D A M : Type 0} (meaning : A → M) where
             opened = refl;
           })
 
-      row_narrow : FlushIsTooNarrow columns (meant meaning top) ⊎ FirstToRefuse (λ r lines. HandsOut columns (meant meaning r) lines) (λ r. HoldsBack columns (meant meaning r)) cols → TopIs (FlushIsTooNarrow columns) (stack_meant meaning i.stack) ⊎ FirstToRefuse (HandsOut columns) (HoldsBack columns) (renderers_of (map (cell_meant meaning) i.pending.cells))
-      row_narrow (inl h) = inl (top_is_meant (FlushIsTooNarrow columns) i.stack top is_top h)
-      row_narrow (inr h) = inr (subst (FirstToRefuse (HandsOut columns) (HoldsBack columns)) cols_meant (refusal_meant cols h))
+      vertical_narrow : FlushIsTooNarrow columns (meant meaning top) ⊎ FirstToRefuse (λ r lines. HandsOut columns (meant meaning r) lines) (λ r. HoldsBack columns (meant meaning r)) cols → TopIs (FlushIsTooNarrow columns) (stack_meant meaning i.stack) ⊎ FirstToRefuse (HandsOut columns) (HoldsBack columns) (renderers_of (map (cell_meant meaning) i.pending.cells))
+      vertical_narrow (inl h) = inl (top_is_meant (FlushIsTooNarrow columns) i.stack top is_top h)
+      vertical_narrow (inr h) = inr (subst (FirstToRefuse (HandsOut columns) (HoldsBack columns)) cols_meant (refusal_meant cols h))
 
-      pub row_refused : FlushIsTooNarrow columns (meant meaning top) ⊎ FirstToRefuse (λ r lines. HandsOut columns (meant meaning r) lines) (λ r. HoldsBack columns (meant meaning r)) cols → RowRefuses columns (progress_meant meaning p) TooNarrow
-      row_refused h = subst (λ (q : Progress D A (Vec A)). RowRefuses columns (progress_meant meaning q) TooNarrow) same (row_narrow h, refl)
+      pub vertical_refused : FlushIsTooNarrow columns (meant meaning top) ⊎ FirstToRefuse (λ r lines. HandsOut columns (meant meaning r) lines) (λ r. HoldsBack columns (meant meaning r)) cols → VerticalRowRefuses columns (progress_meant meaning p) TooNarrow
+      vertical_refused h = subst (λ (q : Progress D A (Vec A)). VerticalRowRefuses columns (progress_meant meaning q) TooNarrow) same (vertical_narrow h, refl)
 
     -- ---- the end
 
@@ -202,14 +204,15 @@ module _ {D A M : Type 0} (meaning : A → M) where
     -- ---- the innermost level closes
 
     module _ (closed j : Progress D A (Vec A)) (by : Opener) (inside : Renderer D A (Vec A)) (closes : Closes p by inside closed) (left : j ≡ closed) where
-      pub cell_waits : (span : ℕ) (pending : Pending D A (Vec A)) → opener i.opened ≡ Some (Cell span) → pending ≡ with_cell j.pending inside span → CellDoes (progress_meant meaning p) (progress_meant meaning (record { stack = j.stack; pending = pending; opened = j.opened }))
-      cell_waits span pending is waits = (
+      pub cell_waits : (span : ℕ) (align : CellAlign) (pending : Pending D A (Vec A)) → opener i.opened ≡ Some (Cell span align) → pending ≡ with_cell j.pending inside span align → CellDoes (progress_meant meaning p) (progress_meant meaning (record { stack = j.stack; pending = pending; opened = j.opened }))
+      cell_waits span align pending is waits = (
         span,
+        align,
         meant meaning inside,
         progress_meant meaning j,
-        closes_as p closed j by (Cell span) inside (here (Some (Cell span)) is) closes left,
+        closes_as p closed j by (Cell span align) inside (here (Some (Cell span align)) is) closes left,
         ap (λ (x : Pending D A (Vec A)). progress_meant meaning (record { stack = j.stack; pending = x; opened = j.opened })) waits
-            ∙ ap (λ (cells : List (Renderer D M (List M) × ℕ)). record (progress_meant meaning j) { pending = record (pending_meant meaning j.pending) { cells = cells } }) (map-append (cell_meant meaning) j.pending.cells ((inside, span) ∷ [])),
+            ∙ ap (λ (cells : List (Renderer D M (List M) × ℕ)). record (progress_meant meaning j) { pending = record (pending_meant meaning j.pending) { cells = cells; aligns = j.pending.aligns ++ align ∷ [] } }) (map-append (cell_meant meaning) j.pending.cells ((inside, span) ∷ [])),
       )
 
       module _ (columns : ℕ → Option ℕ) (top : Renderer D A (Vec A)) (is_top : top_of j.stack ≡ Some top) (is : opener i.opened ≡ Some Sub) where

@@ -3,8 +3,8 @@ use Rattle.std.proofs.Common.{◌≡◌, ℕ, Option, List, [], ◌∷◌, Err, 
 use Rattle.tbr_decor.specs.Decoration.{Decoration}
 use Rattle.tbr_script.specs.Refusal.{IsOfScript}
 use Rattle.tbr_script.specs.declared.error.RunError.{RunError}
-use Rattle.tbr_script.specs.declared.error.RunError.TheVariants.{TooNarrow, NotACommand, NothingToEnd}
-use Rattle.tbr_commands.specs.Command.{Command, ask, sub, append, cell, end_cell, vertical_row}
+use Rattle.tbr_script.specs.declared.error.RunError.TheVariants.{TooNarrow, NotACommand, NothingToEnd, RowDoesNotFit}
+use Rattle.tbr_commands.specs.Command.{Command, ask, sub, append, cell, end_cell, row, vertical_row}
 use Rattle.tbr_runner.specs.Progress.{Progress}
 use Rattle.tbr_runner.specs.Meaning.{CommandRefuses, LineRefuses, Ends}
 
@@ -19,9 +19,11 @@ module _ {D M : Type 0} (columns : ℕ → Option ℕ) (decoration : Decoration 
   command_of_script (append first other) e (inl h) = as_such e (NothingToEnd number) h.1 tt
   command_of_script (append first other) e (inr (inl h)) = as_such e (NotACommand number) h.1.1 tt
   command_of_script (append first other) e (inr (inr h)) = as_such e TooNarrow h.4 tt
-  command_of_script (cell width span) e h = absurd h
+  command_of_script (cell width span align) e h = absurd h
   command_of_script end_cell e (inl h) = as_such e (NothingToEnd number) h.1 tt
-  command_of_script end_cell e (inr h) = as_such e (NotACommand number) h.2.1 tt
+  command_of_script end_cell e (inr h) = as_such e (NotACommand number) h.3.1 tt
+  command_of_script (row collapse) e (inl h) = as_such e (RowDoesNotFit number) h.1 tt
+  command_of_script (row collapse) e (inr h) = as_such e TooNarrow h.2 tt
   command_of_script vertical_row e h = as_such e TooNarrow h.1 tt
 
   pub line_of_script : (line : List ℕ) (e : RunError) → LineRefuses columns decoration p number line e → IsOfScript e

@@ -4,6 +4,7 @@ pub mod Plain
 pub mod Handed
 pub mod Levels
 pub mod Requests
+pub mod Rows
 pub mod Refusals
 pub mod Commands
 pub mod Scripts

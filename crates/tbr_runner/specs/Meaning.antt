@@ -1,22 +1,26 @@
 -- The meaning of a script: that of its commands one after another, up to the first line that is faulty or refuses.
-use Rattle.std.specs.Prelude.{◌≡◌, ◌≢◌, ℕ, ◌+◌, ◌⊎◌, true, false, Option, None, Some, Result, Err, MatchResult, List, [], ◌∷◌, ◌++◌, map, length, encode_utf8_all}
+use Rattle.std.specs.Prelude.{◌≡◌, ◌≢◌, ℕ, ◌+◌, ◌⊎◌, Bool, true, false, Option, None, Some, Result, Err, MatchResult, List, [], ◌∷◌, ◌++◌, map, length, encode_utf8_all}
 use Rattle.std.specs.List.{AllZip}
+use Rattle.std.specs.Option.{option_map}
+use Rattle.tbr_lines.specs.declared.CellAlign.{CellAlign}
+use Rattle.tbr_rows.specs.Cells.{spots_from, row_fits}
 use Rattle.tbr_decor.specs.Decoration.{Decoration}
-use Rattle.text_block_renderer.specs.Renderer.{Renderer, Line, new_renderer}
+use Rattle.text_block_renderer.specs.Renderer.{Renderer, Line, Open, new_renderer}
 use Rattle.text_block_renderer.specs.Text.{lines_text}
 use Rattle.text_block_renderer.specs.Flush.{Flushes, FlushIsTooNarrow}
 use Rattle.text_block_renderer.specs.Decorated.{sub_renderer}
 use Rattle.text_block_renderer.specs.Appended.{HandsOut, HoldsBack, FirstToRefuse}
 use Rattle.text_block_renderer.specs.Calls.{append_subrender, append_vert_row, Does, IsTooNarrow}
+use Rattle.text_block_renderer.specs.Rows.{TellsBlank, looks, GivenCell, align_in, GivesCell, AppendsRow}
 use Rattle.tbr_script.specs.declared.error.RunError.{RunError}
-use Rattle.tbr_script.specs.declared.error.RunError.TheVariants.{TooNarrow, NotACommand, NothingToEnd}
+use Rattle.tbr_script.specs.declared.error.RunError.TheVariants.{TooNarrow, NotACommand, NothingToEnd, RowDoesNotFit}
 use Rattle.tbr_script.specs.Script.{lines_of}
 use Rattle.tbr_stack.specs.Stack.{Stack, new_stack, top_of, with_top, pushed, below}
 use Rattle.tbr_commands.specs.declared.opening.Decorator.{Decorator}
 use Rattle.tbr_commands.specs.declared.opening.Decorator.TheVariants.{Plain, Trivial, Rich}
 use Rattle.tbr_commands.specs.declared.opening.Opening.{Opening}
 use Rattle.tbr_commands.specs.Request.{Request, call_of}
-use Rattle.tbr_commands.specs.Command.{Command, ask, sub, append, cell, end_cell, vertical_row}
+use Rattle.tbr_commands.specs.Command.{Command, ask, sub, append, cell, end_cell, row, vertical_row}
 use Rattle.tbr_commands.specs.Syntax.{IsCommand}
 use Rattle.tbr_commands.specs.Opening.{IsOpening}
 use Rattle.tbr_commands.specs.Begun.{ends_nothing, counted}
@@ -49,8 +53,15 @@ abbrev pub renderers_of : {D A T : Type 0} → List (Renderer D A T × ℕ) → 
 renderers_of cells = map (λ cell. cell.0) cells
 
 -- one cell more that waits
-abbrev pub with_cell : {D A T : Type 0} → Pending D A T → Renderer D A T → ℕ → Pending D A T
-with_cell pending inside span = record pending { cells = pending.cells ++ (inside, span) ∷ [] }
+abbrev pub with_cell : {D A T : Type 0} → Pending D A T → Renderer D A T → ℕ → CellAlign → Pending D A T
+with_cell pending inside span align = record pending {
+  cells = pending.cells ++ (inside, span) ∷ [];
+  aligns = pending.aligns ++ align ∷ [];
+}
+
+-- none that waits
+abbrev pub without_cells : {D A T : Type 0} → Pending D A T → Pending D A T
+without_cells pending = record pending { cells = []; aligns = [] }
 
 -- The innermost level ends: its renderer is taken, and what was pending below it is so again. No cell waits in it.
 pub record Closes {D A T : Type 0} (p : Progress D A T) (by : Opener) (inside : Renderer D A T) (next : Progress D A T) :
@@ -72,6 +83,23 @@ Ends {D} {M} columns p number outcome =
     (λ e. (((p.opened ≢ []) ⊎ (p.pending.cells ≢ [])) × (e ≡ NotACommand number))
     ⊎ ((p.opened ≡ []) × (p.pending.cells ≡ []) × TopIs (FlushIsTooNarrow columns) p.stack × (e ≡ TooNarrow)))
 
+-- ---- whether a row fits
+
+-- the same renderer, its open block blank or not
+abbrev pub with_blank : {D A T : Type 0} → Bool → Renderer D A T → Renderer D A T
+with_blank {D} {A} {T} blank r = record r { block = option_map (λ (b : Open T). record b { blank = blank }) r.block }
+
+module _ {D M : Type 0} (columns : ℕ → Option ℕ) where
+  -- How a cell may look: its columns, and whether nothing stands in it, as far as that is told of an open block.
+  abbrev pub MayLook : Renderer D M (List M) × ℕ → ℕ × Bool → Type 0
+  MayLook col look =
+      (blank : Bool) × TellsBlank columns (with_blank blank col.0) × (look ≡ looks (with_blank blank col.0, col.1))
+
+  -- Whether the cells that wait may be found to fit as the next row of a renderer.
+  abbrev pub MayFit : List (Renderer D M (List M) × ℕ) → Bool → Renderer D M (List M) → Type 0
+  MayFit cells fits r =
+      (seen : List (ℕ × Bool)) × AllZip MayLook cells seen × (row_fits r.hanging (spots_from 0 seen) ≡ fits)
+
 -- ---- where a command leads
 
 -- A renderer for a block inside comes on top, with nothing pending.
@@ -84,8 +112,9 @@ pub record LevelOpens {D M : Type 0} (decoration : Decoration D M) (p : Progress
 -- The innermost level waits as a cell in that below it.
 abbrev pub CellDoes : {D A T : Type 0} → Progress D A T → Progress D A T → Type 0
 CellDoes {D} {A} {T} p next =
-    (span : ℕ) × (inside : Renderer D A T) × (closed : Progress D A T) × Closes p (Cell span) inside closed
-    × (next ≡ record closed { pending = with_cell closed.pending inside span })
+    (span : ℕ) × (align : CellAlign) × (inside : Renderer D A T) × (closed : Progress D A T)
+    × Closes p (Cell span align) inside closed
+    × (next ≡ record closed { pending = with_cell closed.pending inside span align })
 
 module _ {D M : Type 0} (columns : ℕ → Option ℕ) (decoration : Decoration D M) where
   -- The renderer on top does what is asked.
@@ -108,21 +137,32 @@ module _ {D M : Type 0} (columns : ℕ → Option ℕ) (decoration : Decoration 
     pub pending : next.pending ≡ closed.pending
     pub opened : next.opened ≡ closed.opened
 
-  -- The lines of the waiting cells join those of the renderer on top, and none waits any more.
-  pub record RowDoes (p next : Progress D M (List M)) : Type 0 where
+  -- The lines of the waiting cells join those of the renderer on top, one cell below another, and none waits any more.
+  pub record VerticalRowDoes (p next : Progress D M (List M)) : Type 0 where
     pub cells : List (List (Line (List M)))
     pub hand_out : AllZip (HandsOut columns) (renderers_of p.pending.cells) cells
     pub does : OnTop (Does columns decoration (append_vert_row cells)) p.stack next.stack
-    pub pending : next.pending ≡ record p.pending { cells = [] }
+    pub pending : next.pending ≡ without_cells p.pending
+    pub opened : next.opened ≡ p.opened
+
+  -- The waiting cells fit as a row and are added side by side, and none waits any more.
+  pub record RowDoes (p : Progress D M (List M)) (collapse : Bool) (next : Progress D M (List M)) : Type 0 where
+    pub fits : TopIs (MayFit columns p.pending.cells true) p.stack
+    pub cells : List (GivenCell (List M))
+    pub come : AllZip (GivesCell (λ r. r.width) (HandsOut columns)) p.pending.cells cells
+    pub aligned : map align_in cells ≡ p.pending.aligns
+    pub does : OnTop (AppendsRow columns collapse cells) p.stack next.stack
+    pub pending : next.pending ≡ without_cells p.pending
     pub opened : next.opened ≡ p.opened
 
   abbrev pub CommandDoes : Progress D M (List M) → Command → Progress D M (List M) → Type 0
   CommandDoes p (ask request) next = RequestDoes p request next
   CommandDoes p (sub width) next = LevelOpens decoration p Sub width next
   CommandDoes p (append first other) next = AppendDoes p first other next
-  CommandDoes p (cell width span) next = LevelOpens decoration p (Cell span) width next
+  CommandDoes p (cell width span align) next = LevelOpens decoration p (Cell span align) width next
   CommandDoes p end_cell next = CellDoes p next
-  CommandDoes p vertical_row next = RowDoes p next
+  CommandDoes p (row collapse) next = RowDoes p collapse next
+  CommandDoes p vertical_row next = VerticalRowDoes p next
 
 -- ---- with what a command is refused on the line of this number
 
@@ -133,8 +173,8 @@ CellsWait p number e = (p.pending.cells ≢ []) × (e ≡ NotACommand number)
 -- No `cell` opened the innermost level, or cells wait in it.
 abbrev pub CellRefuses : {D A T : Type 0} → Progress D A T → ℕ → RunError → Type 0
 CellRefuses p number e =
-    (((span : ℕ) → opener p.opened ≢ Some (Cell span)) × (e ≡ NothingToEnd number))
-    ⊎ ((span : ℕ) × (opener p.opened ≡ Some (Cell span)) × CellsWait p number e)
+    (((span : ℕ) (align : CellAlign) → opener p.opened ≢ Some (Cell span align)) × (e ≡ NothingToEnd number))
+    ⊎ ((span : ℕ) × (align : CellAlign) × (opener p.opened ≡ Some (Cell span align)) × CellsWait p number e)
 
 module _ {D M : Type 0} (columns : ℕ → Option ℕ) where
   -- No `sub` opened the innermost level, or cells wait in it, or the renderer below it is too narrow, or its own.
@@ -146,10 +186,19 @@ module _ {D M : Type 0} (columns : ℕ → Option ℕ) where
       × (TopIs (FlushIsTooNarrow columns) closed.stack ⊎ HoldsBack columns inside) × (e ≡ TooNarrow))
 
   -- The renderer on top is too narrow, or one of the cells.
-  abbrev pub RowRefuses : Progress D M (List M) → RunError → Type 0
-  RowRefuses p e =
-      (TopIs (FlushIsTooNarrow columns) p.stack
-      ⊎ FirstToRefuse (HandsOut columns) (HoldsBack columns) (renderers_of p.pending.cells)) × (e ≡ TooNarrow)
+  abbrev pub CellsAreTooNarrow : Progress D M (List M) → Type 0
+  CellsAreTooNarrow p =
+      TopIs (FlushIsTooNarrow columns) p.stack
+      ⊎ FirstToRefuse (HandsOut columns) (HoldsBack columns) (renderers_of p.pending.cells)
+
+  abbrev pub VerticalRowRefuses : Progress D M (List M) → RunError → Type 0
+  VerticalRowRefuses p e = CellsAreTooNarrow p × (e ≡ TooNarrow)
+
+  -- The waiting cells don't fit as a row, or they do and something is too narrow.
+  abbrev pub RowRefuses : Progress D M (List M) → ℕ → RunError → Type 0
+  RowRefuses p number e =
+      (TopIs (MayFit columns p.pending.cells false) p.stack × (e ≡ RowDoesNotFit number))
+      ⊎ (TopIs (MayFit columns p.pending.cells true) p.stack × CellsAreTooNarrow p × (e ≡ TooNarrow))
 
 module _ {D M : Type 0} (columns : ℕ → Option ℕ) (decoration : Decoration D M) where
   -- It ends nothing, or the renderer on top is too narrow.
@@ -163,9 +212,10 @@ module _ {D M : Type 0} (columns : ℕ → Option ℕ) (decoration : Decoration 
   CommandRefuses p number (ask request) e = RequestRefuses p number request e
   CommandRefuses p number (sub width) e = ⊥
   CommandRefuses p number (append first other) e = AppendRefuses columns p number e
-  CommandRefuses p number (cell width span) e = ⊥
+  CommandRefuses p number (cell width span align) e = ⊥
   CommandRefuses p number end_cell e = CellRefuses p number e
-  CommandRefuses p number vertical_row e = RowRefuses columns p e
+  CommandRefuses p number (row collapse) e = RowRefuses columns p number e
+  CommandRefuses p number vertical_row e = VerticalRowRefuses columns p e
 
   -- ---- lines
 

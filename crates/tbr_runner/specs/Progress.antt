@@ -1,18 +1,22 @@
 -- Where a script stands behind its first command.
-use Rattle.std.specs.Prelude.{◌≡◌, ℕ, true, None, List, [], ◌∷◌, map}
+use Rattle.std.specs.Prelude.{◌≡◌, ◌<◌, ℕ, true, None, List, [], ◌∷◌, map}
 use Rattle.std.specs.List.{AllZip}
 use Rattle.std.specs.Global.{Vec}
+use Rattle.tbr_lines.specs.declared.CellAlign.{CellAlign}
 use Rattle.text_block_renderer.specs.Renderer.{Renderer}
 use Rattle.text_block_renderer.specs.Meant.{meant}
 use Rattle.tbr_stack.specs.Stack.{Level, Stack}
 use Rattle.tbr_commands.specs.Begun.{nothing_begun}
 use Rattle.tbr_commands.specs.declared.begun.Begun.{Begun}
 use Rattle.tbr_runner.specs.declared.opened.Opener.{Opener}
+use Rattle.tbr_runner.specs.declared.opened.Opener.TheVariants.{Sub, Cell}
 
--- What has begun on a renderer and not ended, and the cells that wait there for their row, each with its span.
+-- What has begun on a renderer and not ended, and the cells that wait there for their row, each with its span, and how
+-- their texts are aligned.
 pub record Pending (D A T : Type 0) : Type 0 where
   pub begun : Begun
   pub cells : List (Renderer D A T × ℕ)
+  pub aligns : List CellAlign
 
 -- A level that is open: the command that opened it, and what is pending below it.
 pub record Opened (D A T : Type 0) : Type 0 where
@@ -26,7 +30,12 @@ pub record Progress (D A T : Type 0) : Type 0 where
   pub opened : List (Opened D A T)
 
 abbrev pub nothing_pending : {D A T : Type 0} → Pending D A T
-nothing_pending = record { begun = nothing_begun; cells = [] }
+nothing_pending = record { begun = nothing_begun; cells = []; aligns = [] }
+
+-- a cell to come spans at least one row
+abbrev pub IsSpanned : Opener → Type 0
+IsSpanned Sub = Unit {0}
+IsSpanned (Cell span align) = 0 < span
 
 -- ---- the same, each annotation as what it means
 
@@ -41,7 +50,7 @@ module _ {D A M : Type 0} (meaning : A → M) where
   cell_meant cell = (meant meaning cell.0, cell.1)
 
   abbrev pub pending_meant : Pending D A (Vec A) → Pending D M (List M)
-  pending_meant p = record { begun = p.begun; cells = map cell_meant p.cells }
+  pending_meant p = record { begun = p.begun; cells = map cell_meant p.cells; aligns = p.aligns }
 
   abbrev pub opened_meant : Opened D A (Vec A) → Opened D M (List M)
   opened_meant o = record { by = o.by; below = pending_meant o.below }

@@ -1,6 +1,7 @@
 //! Levels that are open.
-ghost use Rattle.std.specs.Prelude.{◌≡◌, ◌≢◌, ◌↔◌, ℕ, true, None, Some, [], ◌∷◌, OnOk, IfSome, IfNone};
-ghost use Rattle.tbr_runner.specs.Progress.{Opened as Level};
+ghost use Rattle.std.specs.Prelude.{◌≡◌, ◌≢◌, ◌↔◌, ◌<◌, ℕ, true, None, Some, [], ◌∷◌, OnOk, IfSome, IfNone};
+ghost use Rattle.tbr_lines.specs.declared.CellAlign.{CellAlign as Align};
+ghost use Rattle.tbr_runner.specs.Progress.{Opened as Level, IsSpanned};
 ghost use Rattle.tbr_runner.specs.declared.opened.Opener.{Opener as By};
 ghost use Rattle.tbr_runner.specs.Meaning.{opener};
 
@@ -8,15 +9,20 @@ use crate::pending::Pending;
 use std::alloc::{AllocError, Global};
 use std::marker::Model;
 use tbr_decor::TextDecorator;
-use tbr_lines::CharWidth;
+use tbr_lines::{CellAlign, CharWidth};
 
 /// The command that opened a level.
 #[derive(Clone, Copy, Debug, PartialEq, Eq)]
 pub enum Opener {
     /// It is appended to the level below it.
     Sub,
-    /// It waits there as a cell of so many rows.
-    Cell(usize),
+    /// It waits there as a cell.
+    Cell {
+        /// The rows that it spans, at least 1.
+        span: usize,
+        /// How its texts are aligned.
+        align: CellAlign,
+    },
 }
 
 /// A level that is open.
@@ -50,7 +56,12 @@ impl<D: TextDecorator, W: CharWidth> Model for OpenLevels<D, W> {
 
     ghost Value = { List (Opened D D.Annotation (Vec D.Annotation)) };
 
+    ghost use Rattle.std.specs.List.{AllByRecursion as Each};
+    ghost use Rattle.tbr_runner.specs.Progress.{IsSpanned};
+
     ghost view = { λ o. reverse o.levels.items };
+
+    ghost invariant = { λ o. Each (λ level. IsSpanned level.by) o.levels.items };
 }
 
 impl<D: TextDecorator, W: CharWidth> OpenLevels<D, W> {
@@ -77,26 +88,30 @@ impl<D: TextDecorator, W: CharWidth> OpenLevels<D, W> {
         matches!(self.opener(), Some(Opener::Sub))
     }
 
-    /// The rows of the innermost level, if `cell` opened it.
-    pub fn cell_span(&self) -> Option<usize>
-        ensures found { IfSome result (λ span. opener self.now ≡ Some (Opener.Cell span)) }
-        ensures none { IfNone result ((span : ℕ) → opener self.now ≢ Some (Opener.Cell span)) }
+    /// The rows that the innermost level spans and how its texts are aligned, if `cell` opened it.
+    pub fn cell(&self) -> Option<(usize, CellAlign)>
+        ensures found { IfSome result (λ cell. opener self.now ≡ Some (Opener.Cell cell.0 cell.1)) }
+        ensures spans { IfSome result (λ cell. 0 < cell.0) }
+        ensures none { IfNone result ((span : ℕ) (align : Align) →
+            opener self.now ≢ Some (Opener.Cell span align)) }
     {
         match self.opener()? {
             Opener::Sub => None,
-            Opener::Cell(span) => Some(span),
+            Opener::Cell { span, align } => Some((span, align)),
         }
     }
 
     /// What opened the innermost level, if one is open.
     fn opener(&self) -> Option<Opener>
-        ensures { result ≡ opener self.now }
+        ensures by { result ≡ opener self.now }
+        ensures spans { IfSome result (λ by. IsSpanned by) }
     {
         Some(self.levels.last()?.by)
     }
 
     /// Opens a level, below which this is pending. Where memory is refused it is dropped.
     pub fn open(&mut self, by: Opener, below: Pending<D, W>) -> Result<(), AllocError>
+        requires { IsSpanned by }
         ensures { OnOk result (self.new ≡ record { by = by; below = below } ∷ self.old) }
     {
         self.levels.push(Opened { by, below })?;

@@ -1,16 +1,17 @@
 //! What is pending on a renderer.
-ghost use Rattle.std.specs.Prelude.{◌≡◌, ◌↔◌, false, [], OnOk, IfOk, IfSome};
+ghost use Rattle.std.specs.Prelude.{◌≡◌, ◌↔◌, ◌<◌, false, [], length, IfOk, IfSome};
+ghost use Rattle.std.specs.List.{AllByRecursion as Each};
 ghost use Rattle.tbr_commands.specs.Begun.{ends_nothing, counted};
 ghost use Rattle.tbr_commands.specs.Request.{request_of};
 ghost use Rattle.tbr_runner.specs.Progress.{nothing_pending};
-ghost use Rattle.tbr_runner.specs.Meaning.{renderers_of, with_cell};
+ghost use Rattle.tbr_runner.specs.Meaning.{renderers_of, with_cell, without_cells};
 
 use std::alloc::{AllocError, Global};
 use std::marker::Model;
 use std::mem;
 use tbr_commands::{Begun, Request};
 use tbr_decor::TextDecorator;
-use tbr_lines::CharWidth;
+use tbr_lines::{CellAlign, CharWidth};
 use text_block_renderer::SubRenderer;
 
 /// What has begun on a renderer and not ended, and the cells that wait there for their row.
@@ -19,6 +20,8 @@ pub struct Pending<D: TextDecorator, W: CharWidth> {
     begun: Begun,
     /// Each with the rows that it spans.
     cells: Vec<(SubRenderer<D, W>, usize)>,
+    /// How their texts are aligned.
+    aligns: Vec<CellAlign>,
 }
 
 impl<D: TextDecorator, W: CharWidth> Model for Pending<D, W> {
@@ -27,7 +30,13 @@ impl<D: TextDecorator, W: CharWidth> Model for Pending<D, W> {
 
     ghost Value = { Pending D D.Annotation (Vec D.Annotation) };
 
-    ghost view = { λ p. record { begun = p.begun; cells = p.cells.items } };
+    ghost view = { λ p. record { begun = p.begun; cells = p.cells.items; aligns = p.aligns.items } };
+
+    ghost use Rattle.std.specs.List.{AllByRecursion as Each};
+    ghost use Rattle.std.specs.Prelude.{◌≡◌, ◌<◌, length};
+
+    ghost invariant = { λ p. Each (λ cell. 0 < cell.1) p.cells.items
+        × (length p.aligns.items ≡ length p.cells.items) };
 }
 
 impl<D: TextDecorator, W: CharWidth> Pending<D, W> {
@@ -38,6 +47,7 @@ impl<D: TextDecorator, W: CharWidth> Pending<D, W> {
         Pending {
             begun: Begun::nothing(),
             cells: Vec::new(alloc),
+            aligns: Vec::new(alloc),
         }
     }
 
@@ -53,10 +63,15 @@ impl<D: TextDecorator, W: CharWidth> Pending<D, W> {
         ensures { IfSome result (λ pending.
             pending ≡ record self { begun = counted self.begun (request_of request.now) }) }
     {
-        let Pending { begun, cells } = self;
+        let Pending {
+            begun,
+            cells,
+            aligns,
+        } = self;
         Some(Pending {
             begun: begun.behind(request)?,
             cells,
+            aligns,
         })
     }
 
@@ -67,20 +82,50 @@ impl<D: TextDecorator, W: CharWidth> Pending<D, W> {
         !self.cells.is_empty()
     }
 
-    /// Lets a renderer wait as a cell of so many rows. Where memory is refused it is dropped.
-    pub fn add_cell(&mut self, cell: SubRenderer<D, W>, span: usize) -> Result<(), AllocError>
-        ensures { OnOk result (self.new ≡ with_cell self.old cell span) }
+    /// Lets a renderer wait as a cell of so many rows, at least 1, whose texts are aligned so.
+    pub fn with_cell(
+        self,
+        cell: SubRenderer<D, W>,
+        span: usize,
+        align: CellAlign,
+    ) -> Result<Pending<D, W>, AllocError>
+        requires { 0 < span }
+        ensures { IfOk result (λ pending. pending ≡ with_cell self cell span align) }
     {
-        self.cells.push((cell, span))?;
-        Ok(())
+        let Pending {
+            begun,
+            mut cells,
+            mut aligns,
+        } = self;
+        cells.push((cell, span))?;
+        aligns.push(align)?;
+        Ok(Pending {
+            begun,
+            cells,
+            aligns,
+        })
     }
 
-    /// Takes the renderers of the waiting cells, whatever their spans are.
-    pub fn take_cells(&mut self, alloc: Global) -> Result<Vec<SubRenderer<D, W>>, AllocError>
-        ensures cells { IfOk result (λ cells. cells.items ≡ renderers_of self.old.cells) }
-        ensures rest { self.new ≡ record self.old { cells = [] } }
+    /// Takes the waiting cells, and how their texts are aligned.
+    pub fn take_cells(&mut self, alloc: Global) -> (Vec<(SubRenderer<D, W>, usize)>, Vec<CellAlign>)
+        ensures cells { result.0.items ≡ self.old.cells }
+        ensures aligns { result.1.items ≡ self.old.aligns }
+        ensures rest { self.new ≡ without_cells self.old }
+        ensures spans { Each (λ cell. 0 < cell.1) result.0.items }
+        ensures count { length result.1.items ≡ length result.0.items }
     {
         let cells = mem::replace(&mut self.cells, Vec::new(alloc));
+        let aligns = mem::replace(&mut self.aligns, Vec::new(alloc));
+        (cells, aligns)
+    }
+
+    /// Takes the renderers of the waiting cells, whatever their spans and alignments are.
+    pub fn take_renderers(&mut self, alloc: Global) -> Result<Vec<SubRenderer<D, W>>, AllocError>
+        ensures cells { IfOk result (λ cells. cells.items ≡ renderers_of self.old.cells) }
+        ensures rest { self.new ≡ without_cells self.old }
+    {
+        let cells = mem::replace(&mut self.cells, Vec::new(alloc));
+        self.aligns = Vec::new(alloc);
         cells.into_iter().map(|(cell, _)| cell).collect(alloc)
     }
 }

@@ -6,16 +6,16 @@ ghost use Rattle.tbr_script.specs.declared.error.RunError.TheVariants as E;
 ghost use Rattle.tbr_stack.specs.Stack.{new_stack};
 ghost use Rattle.tbr_commands.specs.Request.{request_of};
 ghost use Rattle.tbr_commands.specs.Command.{command_of, IsSized};
-ghost use Rattle.tbr_runner.specs.Progress.{progress_meant, nothing_pending};
+ghost use Rattle.tbr_runner.specs.Progress.{progress_meant, nothing_pending, IsSpanned};
 ghost use Rattle.tbr_runner.specs.declared.opened.Opener.{Opener as By};
-ghost use Rattle.tbr_runner.specs.Meaning.{opener, Closes, RequestDoes, RequestRefuses, LevelOpens, AppendDoes, AppendRefuses, CellDoes, CellRefuses, RowDoes, RowRefuses, CommandDoes, CommandRefuses, LineDoes, LineRefuses, Ends};
+ghost use Rattle.tbr_runner.specs.Meaning.{opener, Closes, RequestDoes, RequestRefuses, LevelOpens, AppendDoes, AppendRefuses, CellDoes, CellRefuses, VerticalRowDoes, VerticalRowRefuses, RowDoes, RowRefuses, CommandDoes, CommandRefuses, LineDoes, LineRefuses, Ends};
 
 use crate::opened::{OpenLevels, Opener};
 use crate::pending::Pending;
 use crate::prefixes::append_behind;
 use std::alloc::Global;
 use std::marker::Model;
-use tbr_commands::{Command, Request};
+use tbr_commands::{Command, NewCell, Request};
 use tbr_decor::TextDecorator;
 use tbr_lines::CharWidth;
 use tbr_script::{RunError, TextPair};
@@ -106,9 +106,13 @@ impl<D: TextDecorator, W: CharWidth> Program<D, W> {
             Command::Ask(request) => self.call(number, request),
             Command::Sub(width) => self.open(alloc, Opener::Sub, *width),
             Command::Append(prefixes) => self.append(number, prefixes),
-            Command::Cell(size) => self.open(alloc, Opener::Cell(size.span), size.width),
+            Command::Cell(new) => {
+                let NewCell { width, span, align } = *new;
+                self.open(alloc, Opener::Cell { span, align }, width)
+            }
             Command::EndCell => self.end_cell(number),
-            Command::VerticalRow => self.add_row(alloc),
+            Command::Row { collapse } => self.add_row(alloc, number, *collapse),
+            Command::VerticalRow => self.add_vertical_row(alloc),
         }
     }
 
@@ -141,7 +145,8 @@ impl<D: TextDecorator, W: CharWidth> Program<D, W> {
 
     /// Opens a level of a width of at least 1.
     fn open(self, alloc: Global, by: Opener, width: usize) -> Result<Program<D, W>, RunError>
-        requires { 0 < width }
+        requires width { 0 < width }
+        requires spans { IsSpanned by }
         ensures done { IfOk result (λ next. LevelOpens (decoration_of D.TextDecorator)
             (progress_meant D.meaning self) by width (progress_meant D.meaning next)) }
         ensures memory { IfErr result (λ e. e ≡ E.OutOfMemory) }
@@ -208,30 +213,68 @@ impl<D: TextDecorator, W: CharWidth> Program<D, W> {
         ensures refused { IfErr result (λ e. e ≢ RunError.OutOfMemory →
             CellRefuses (progress_meant D.meaning self) number e) }
     {
-        let Some(span) = self.opened.cell_span() else {
+        let Some((span, align)) = self.opened.cell() else {
             return Err(RunError::NothingToEnd(number));
         };
         if self.pending.has_cells() {
             return Err(RunError::NotACommand(number));
         }
-        let (inside, mut program) = self.close();
-        program.pending.add_cell(inside, span)?;
-        Ok(program)
+        let (inside, program) = self.close();
+        let Program {
+            renderers,
+            pending,
+            opened,
+        } = program;
+        Ok(Program {
+            renderers,
+            pending: pending.with_cell(inside, span, align)?,
+            opened,
+        })
     }
 
-    /// Adds the waiting cells, one below another.
-    fn add_row(self, alloc: Global) -> Result<Program<D, W>, RunError>
+    /// Adds the waiting cells side by side, on the line of this number.
+    fn add_row(
+        self,
+        alloc: Global,
+        number: usize,
+        collapse: bool,
+    ) -> Result<Program<D, W>, RunError>
         ensures done { IfOk result (λ next. RowDoes W.columns (decoration_of D.TextDecorator)
-            (progress_meant D.meaning self) (progress_meant D.meaning next)) }
+            (progress_meant D.meaning self) collapse (progress_meant D.meaning next)) }
         ensures refused { IfErr result (λ e. e ≢ RunError.OutOfMemory →
-            RowRefuses W.columns (progress_meant D.meaning self) e) }
+            RowRefuses W.columns (progress_meant D.meaning self) number e) }
     {
         let Program {
             mut renderers,
             mut pending,
             opened,
         } = self;
-        let cells = pending.take_cells(alloc)?;
+        let (cells, aligns) = pending.take_cells(alloc);
+        let top = renderers.top_mut();
+        if !top.row_fits(&cells) {
+            return Err(RunError::RowDoesNotFit(number));
+        }
+        top.append_columns_aligned(cells, &aligns, collapse)?;
+        Ok(Program {
+            renderers,
+            pending,
+            opened,
+        })
+    }
+
+    /// Adds the waiting cells, one below another.
+    fn add_vertical_row(self, alloc: Global) -> Result<Program<D, W>, RunError>
+        ensures done { IfOk result (λ next. VerticalRowDoes W.columns (decoration_of D.TextDecorator)
+            (progress_meant D.meaning self) (progress_meant D.meaning next)) }
+        ensures refused { IfErr result (λ e. e ≢ RunError.OutOfMemory →
+            VerticalRowRefuses W.columns (progress_meant D.meaning self) e) }
+    {
+        let Program {
+            mut renderers,
+            mut pending,
+            opened,
+        } = self;
+        let cells = pending.take_renderers(alloc)?;
         renderers.top_mut().append_vert_row(cells)?;
         Ok(Program {
             renderers,

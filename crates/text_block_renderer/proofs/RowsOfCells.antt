@@ -19,7 +19,7 @@ use Rattle.text_block_renderer.specs.Normal.{WrapsNormally}
 use Rattle.text_block_renderer.proofs.Growing.{Grows, lines_grow, moves_grow}
 use Rattle.text_block_renderer.proofs.Moves.{flush, no_block, flushed_none}
 use Rattle.text_block_renderer.proofs.Once.{flushes_once}
-use Rattle.text_block_renderer.proofs.Settings.{Steady, flushed_alike}
+use Rattle.tbr_renderer.proofs.Steady.{Steady, flushed_alike}
 
 -- ---- texts only come
 
@@ -95,6 +95,24 @@ module _ {D A : Type 0} (columns : ℕ → Option ℕ) where
       let top : Renderer D A (List A) = record m { lines = before_border m.lines ++ border_lines row.above; hanging = row.overhang } in
       ap (λ (q : Renderer D A (List A)). settings_of q) puts.is ∙ next_settles (fold (with_line columns) top row.lines) row.next ∙ lines_settle row.lines top
       ∙ ap (λ (q : Steady D A). q.settings) (flushed_alike columns r m flushes)
+
+  -- ---- the kept refusal
+
+  lines_unfailed : (ts : List (List (Item (List A)))) (q : Renderer D A (List A)) → (fold (with_line columns) q ts).failure ≡ q.failure
+  lines_unfailed [] q = refl
+  lines_unfailed (t ∷ ts) q = lines_unfailed ts (with_line columns q t)
+
+  next_unfailed : (r : Renderer D A (List A)) (o : Option (Border (List A))) → (with_next columns r o).failure ≡ r.failure
+  next_unfailed r None = refl
+  next_unfailed r (Some b) = refl
+
+  pub failure_stays : (collapses : Bool) (cells : List (GivenCell (List A))) (r s : Renderer D A (List A)) → AppendsRow columns collapses cells r s → s.failure ≡ r.failure
+  failure_stays collapses cells r s h =
+      let (m, flushes, puts) = h in
+      let row = puts.row in
+      let top : Renderer D A (List A) = record m { lines = before_border m.lines ++ border_lines row.above; hanging = row.overhang } in
+      ap (λ (q : Renderer D A (List A)). q.failure) puts.is ∙ next_unfailed (fold (with_line columns) top row.lines) row.next ∙ lines_unfailed row.lines top
+      ∙ ap (λ (q : Steady D A). q.failure) (flushed_alike columns r m flushes)
 
   -- ---- `Normal` text
 

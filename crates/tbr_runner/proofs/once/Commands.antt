@@ -11,23 +11,24 @@ use Rattle.text_block_renderer.proofs.OneState.{call_once, call_or_not}
 use Rattle.tbr_stack.specs.Stack.{Stack}
 use Rattle.tbr_script.specs.declared.error.RunError.{RunError}
 use Rattle.tbr_commands.specs.Request.{Request, call_of}
-use Rattle.tbr_commands.specs.Command.{Command, ask, sub, append, cell, end_cell, vertical_row}
+use Rattle.tbr_commands.specs.Command.{Command, ask, sub, append, cell, end_cell, row, vertical_row}
 use Rattle.tbr_commands.specs.Syntax.{IsWritten}
 use Rattle.tbr_runner.specs.declared.opened.Opener.TheVariants.{Sub, Cell}
 use Rattle.tbr_runner.specs.Normal.{IsNormalLine}
 use Rattle.tbr_runner.specs.Prefixes.{prefixes}
 use Rattle.tbr_runner.specs.Progress.{Progress, Pending, Opened}
-use Rattle.tbr_runner.specs.Meaning.{OnTop, TopIs, CellDoes, CellRefuses, RequestDoes, AppendDoes, RowDoes, CommandDoes, AppendRefuses, RowRefuses, RequestRefuses, CommandRefuses}
+use Rattle.tbr_runner.specs.Meaning.{OnTop, TopIs, CellDoes, CellRefuses, RequestDoes, AppendDoes, VerticalRowDoes, CommandDoes, AppendRefuses, VerticalRowRefuses, RequestRefuses, CommandRefuses}
 use Rattle.tbr_runner.proofs.once.Tops.{EachIn, on_top_once, on_top_or_not, on_top_in}
 use Rattle.tbr_runner.proofs.once.Plain.{IsPlain, call_plain}
 use Rattle.tbr_runner.proofs.once.Handed.{handed_once, handed_or_held, all_handed_once, all_handed_or_not}
-use Rattle.tbr_runner.proofs.once.Levels.{one_progress, closes_once, closes_opener, cell_once, AllPlain, PlainCells, PlainBelow, waiting_wrap, top_wraps, closed_plain, cell_plain, opens_once, opened_plain}
+use Rattle.tbr_runner.proofs.once.Levels.{one_progress, closes_once, closes_opener, cell_once, AllPlain, PlainCells, PlainBelow, waiting_wrap, top_wraps, closed_plain, still_plain, cell_plain, opens_once, opened_plain}
 use Rattle.tbr_runner.proofs.once.Refusals.{not_waiting}
+use Rattle.tbr_runner.proofs.once.Rows.{row_once, row_or_not, row_plain}
 use Rattle.tbr_runner.proofs.once.Requests.{pushes_normal}
 
 cell_or_not : {D A T : Type 0} (p x : Progress D A T) (number : ℕ) (e : RunError) → CellDoes p x → CellRefuses p number e → ⊥
-cell_or_not p x number e a (inl b) = b.0 a.0 (closes_opener p (Cell a.0) a.1 a.2 a.3)
-cell_or_not p x number e a (inr b) = not_waiting p number e a.3.cells b.2
+cell_or_not p x number e a (inl b) = b.0 a.0 a.1 (closes_opener p (Cell a.0 a.1) a.2 a.3 a.4)
+cell_or_not p x number e a (inr b) = not_waiting p number e a.4.cells b.3
 
 module _ {D M : Type 0} (columns : ℕ → Option ℕ) (decoration : Decoration D M) where
   -- ---- a call of the renderer on top, which its width may determine
@@ -47,14 +48,6 @@ module _ {D M : Type 0} (columns : ℕ → Option ℕ) (decoration : Decoration 
     called_plain : (x : Stack (Renderer D M (List M))) → ((width : ℕ) → PushesNormal (call width)) → Calls x → EachIn IsPlain x.levels
     called_plain x pushes a =
         on_top_in IsPlain (λ r s. Does columns decoration (call r.width) r s) p.stack x (λ r s. call_plain decoration columns (call r.width) r s (pushes r.width)) all.stack a
-
-  -- behind it what is pending and open is plain, as it was before
-  still_plain : (x : Progress D M (List M)) (left : Pending D M (List M)) (levels : List (Opened D M (List M))) → EachIn IsPlain x.stack.levels → x.pending ≡ left → x.opened ≡ levels → PlainCells left → PlainBelow levels → AllPlain x
-  still_plain x left levels stack w o cells below = record {
-    stack = stack;
-    pending = subst (λ (q : Pending D M (List M)). PlainCells q) (sym w) cells;
-    opened = subst (λ (os : List (Opened D M (List M))). PlainBelow os) (sym o) below;
-  }
 
   -- ---- requests
 
@@ -114,21 +107,21 @@ module _ {D M : Type 0} (columns : ℕ → Option ℕ) (decoration : Decoration 
 
   -- ---- rows
 
-  module _ (p x : Progress D M (List M)) (all : AllPlain p) (a : RowDoes columns decoration p x) where
-    row_once : (y : Progress D M (List M)) → RowDoes columns decoration p y → x ≡ y
-    row_once y b =
+  module _ (p x : Progress D M (List M)) (all : AllPlain p) (a : VerticalRowDoes columns decoration p x) where
+    vertical_once : (y : Progress D M (List M)) → VerticalRowDoes columns decoration p y → x ≡ y
+    vertical_once y b =
         let cells = all_handed_once columns decoration _ a.cells b.cells (waiting_wrap p all) a.hand_out b.hand_out in
         let does = subst (λ (cs : List (List (Line (List M)))). OnTop (Does columns decoration (append_vert_row cs)) p.stack y.stack) (sym cells) b.does in
         one_progress x y
         (called_once (λ width. append_vert_row a.cells) p all x.stack y.stack a.does does)
         (a.pending ∙ sym b.pending) (a.opened ∙ sym b.opened)
 
-    row_or_not : (e : RunError) → RowRefuses columns p e → ⊥
-    row_or_not e (inl b, is) = called_or_not (λ width. append_vert_row a.cells) p all x.stack a.does b
-    row_or_not e (inr b, is) = all_handed_or_not columns decoration _ a.cells (waiting_wrap p all) a.hand_out b
+    vertical_or_not : (e : RunError) → VerticalRowRefuses columns p e → ⊥
+    vertical_or_not e (inl b, is) = called_or_not (λ width. append_vert_row a.cells) p all x.stack a.does b
+    vertical_or_not e (inr b, is) = all_handed_or_not columns decoration _ a.cells (waiting_wrap p all) a.hand_out b
 
-    row_plain : AllPlain x
-    row_plain =
+    vertical_plain : AllPlain x
+    vertical_plain =
         let top = called_plain (λ width. append_vert_row a.cells) p all x.stack (λ width. tt) a.does in
         still_plain x _ p.opened top a.pending a.opened tt all.opened
 
@@ -139,22 +132,25 @@ module _ {D M : Type 0} (columns : ℕ → Option ℕ) (decoration : Decoration 
     does_once (ask request) x y a b = request_once p x request all a y b
     does_once (sub width) x y a b = opens_once decoration p Sub width x y a b
     does_once (append first other) x y a b = append_once p x first other all a y b
-    does_once (cell width span) x y a b = opens_once decoration p (Cell span) width x y a b
+    does_once (cell width span align) x y a b = opens_once decoration p (Cell span align) width x y a b
     does_once end_cell x y a b = cell_once p x y a b
-    does_once vertical_row x y a b = row_once p x all a y b
+    does_once (row collapse) x y a b = row_once columns decoration p x all collapse a y b
+    does_once vertical_row x y a b = vertical_once p x all a y b
 
     pub does_or_not : (number : ℕ) (command : Command) (x : Progress D M (List M)) (e : RunError) → CommandDoes columns decoration p command x → CommandRefuses columns decoration p number command e → ⊥
     does_or_not number (ask request) x e a b = request_or_not p x request all a number e b
     does_or_not number (sub width) x e a b = b
     does_or_not number (append first other) x e a b = append_or_not p x first other all a number e b
-    does_or_not number (cell width span) x e a b = b
+    does_or_not number (cell width span align) x e a b = b
     does_or_not number end_cell x e a b = cell_or_not p x number e a b
-    does_or_not number vertical_row x e a b = row_or_not p x all a e b
+    does_or_not number (row collapse) x e a b = row_or_not columns decoration p x all collapse a number e b
+    does_or_not number vertical_row x e a b = vertical_or_not p x all a e b
 
     pub does_plain : (line : List ℕ) (command : Command) (x : Progress D M (List M)) → IsNormalLine line → IsWritten line command → CommandDoes columns decoration p command x → AllPlain x
     does_plain line (ask request) x is k a = request_plain p x request all a line is k
     does_plain line (sub width) x is k a = opened_plain decoration p Sub width x all a
     does_plain line (append first other) x is k a = append_plain p x first other all a
-    does_plain line (cell width span) x is k a = opened_plain decoration p (Cell span) width x all a
+    does_plain line (cell width span align) x is k a = opened_plain decoration p (Cell span align) width x all a
     does_plain line end_cell x is k a = cell_plain p x all a
-    does_plain line vertical_row x is k a = row_plain p x all a
+    does_plain line (row collapse) x is k a = row_plain columns decoration p x all collapse a
+    does_plain line vertical_row x is k a = vertical_plain p x all a

@@ -1,6 +1,7 @@
 -- A level opens and closes in one way. Where all that stands before wraps normally, so does all that stands behind.
 use Rattle.std.proofs.Common.{◌≡◌, ℕ, List, [], ◌∷◌, Some, sym, ap, ◌∙◌, subst}
 use Rattle.std.specs.List.{AllByRecursion as Each}
+use Rattle.tbr_lines.specs.declared.CellAlign.{CellAlign}
 use Rattle.tbr_decor.specs.Decoration.{Decoration}
 use Rattle.tbr_model.proofs.lists.Each.{each_append}
 use Rattle.text_block_renderer.specs.Renderer.{Renderer}
@@ -14,8 +15,8 @@ use Rattle.tbr_runner.specs.Meaning.{opener, renderers_of, with_cell, Closes, Le
 use Rattle.tbr_runner.proofs.once.Tops.{EachIn, top_once, of_top, below_in}
 use Rattle.tbr_runner.proofs.once.Plain.{IsPlain, sub_plain}
 
-same_span : (m n : ℕ) → Cell m ≡ Cell n → m ≡ n
-same_span m n e = cc e
+same_cell : (m n : ℕ) (a b : CellAlign) → Cell m a ≡ Cell n b → (m ≡ n) × (a ≡ b)
+same_cell m n a b e = (cc e, cc e)
 
 module _ {D A T : Type 0} where
   pub one_progress : (p q : Progress D A T) → p.stack ≡ q.stack → p.pending ≡ q.pending → p.opened ≡ q.opened → p ≡ q
@@ -42,10 +43,12 @@ module _ {D A T : Type 0} where
 
   pub cell_once : (p x y : Progress D A T) → CellDoes p x → CellDoes p y → x ≡ y
   cell_once p x y a b =
-      let same = closes_once p (Cell a.0) (Cell b.0) a.1 b.1 a.2 b.2 a.3 b.3 in
-      a.4 ∙ ap (λ (n : ℕ). record a.2 { pending = with_cell a.2.pending a.1 n }) (same_span a.0 b.0 same.0)
-      ∙ ap (λ (r : Renderer D A T). record a.2 { pending = with_cell a.2.pending r b.0 }) same.1
-      ∙ ap (λ (q : Progress D A T). record q { pending = with_cell q.pending b.1 b.0 }) same.2 ∙ sym b.4
+      let same = closes_once p (Cell a.0 a.1) (Cell b.0 b.1) a.2 b.2 a.3 b.3 a.4 b.4 in
+      let place = same_cell a.0 b.0 a.1 b.1 same.0 in
+      a.5 ∙ ap (λ (n : ℕ). record a.3 { pending = with_cell a.3.pending a.2 n a.1 }) place.0
+      ∙ ap (λ (g : CellAlign). record a.3 { pending = with_cell a.3.pending a.2 b.0 g }) place.1
+      ∙ ap (λ (r : Renderer D A T). record a.3 { pending = with_cell a.3.pending r b.0 b.1 }) same.1
+      ∙ ap (λ (q : Progress D A T). record q { pending = with_cell q.pending b.2 b.0 b.1 }) same.2 ∙ sym b.5
 
 -- ---- what wraps normally
 
@@ -64,6 +67,14 @@ module _ {D M : Type 0} where
     pub pending : PlainCells p.pending
     pub opened : PlainBelow p.opened
 
+  -- what is pending and open is plain, as it was before
+  pub still_plain : (x : Progress D M (List M)) (left : Pending D M (List M)) (levels : List (Opened D M (List M))) → EachIn IsPlain x.stack.levels → x.pending ≡ left → x.opened ≡ levels → PlainCells left → PlainBelow levels → AllPlain x
+  still_plain x left levels stack w o cells below = record {
+    stack = stack;
+    pending = subst (λ (q : Pending D M (List M)). PlainCells q) (sym w) cells;
+    opened = subst (λ (os : List (Opened D M (List M))). PlainBelow os) (sym o) below;
+  }
+
   cells_wrap : (cells : List (Renderer D M (List M) × ℕ)) → Each (λ cell. IsPlain cell.0) cells → Each WrapsNormally (renderers_of cells)
   cells_wrap [] all = tt
   cells_wrap (cell ∷ cells) all = (all.0.wraps, cells_wrap cells all.1)
@@ -81,9 +92,9 @@ module _ {D M : Type 0} where
 
   pub cell_plain : (p next : Progress D M (List M)) → AllPlain p → CellDoes p next → AllPlain next
   cell_plain p next all a =
-      let closed = closed_plain p (Cell a.0) a.1 a.2 all a.3 in
-      let waits = each_append (λ (cell : Renderer D M (List M) × ℕ). IsPlain cell.0) a.2.pending.cells ((a.1, a.0) ∷ []) closed.pending (of_top IsPlain p.stack a.1 all.stack a.3.top, tt) in
-      subst (λ (q : Progress D M (List M)). AllPlain q) (sym a.4) (record { stack = closed.stack; pending = waits; opened = closed.opened })
+      let closed = closed_plain p (Cell a.0 a.1) a.2 a.3 all a.4 in
+      let waits = each_append (λ (cell : Renderer D M (List M) × ℕ). IsPlain cell.0) a.3.pending.cells ((a.2, a.0) ∷ []) closed.pending (of_top IsPlain p.stack a.2 all.stack a.4.top, tt) in
+      subst (λ (q : Progress D M (List M)). AllPlain q) (sym a.5) (record { stack = closed.stack; pending = waits; opened = closed.opened })
 
   -- ---- the beginning of a level
 

@@ -4,11 +4,12 @@ use Rattle.std.proofs.lemmas.Bool.{false≢true}
 use Rattle.tbr_decor.specs.Decoration.{Decoration}
 use Rattle.tbr_script.specs.declared.error.RunError.{RunError}
 use Rattle.tbr_commands.specs.Request.{Request}
-use Rattle.tbr_commands.specs.Command.{Command, ask, sub, append, cell, end_cell, vertical_row}
+use Rattle.tbr_commands.specs.Command.{Command, ask, sub, append, cell, end_cell, row, vertical_row}
 use Rattle.tbr_runner.specs.declared.opened.Opener.TheVariants.{Sub}
 use Rattle.tbr_runner.specs.Progress.{Progress}
-use Rattle.tbr_runner.specs.Meaning.{CellsWait, CellRefuses, AppendRefuses, RequestRefuses, CommandRefuses}
-use Rattle.tbr_runner.proofs.once.Levels.{closes_opener}
+use Rattle.tbr_runner.specs.Meaning.{CellsWait, CellRefuses, AppendRefuses, RequestRefuses, RowRefuses, CommandRefuses}
+use Rattle.tbr_runner.proofs.once.Levels.{closes_opener, AllPlain}
+use Rattle.tbr_runner.proofs.once.Rows.{row_fits_or_not}
 
 module _ {D A T : Type 0} where
   pub not_waiting : (p : Progress D A T) (number : ℕ) (e : RunError) → p.pending.cells ≡ [] → CellsWait p number e → ⊥
@@ -16,9 +17,9 @@ module _ {D A T : Type 0} where
 
   cell_refused_once : (p : Progress D A T) (number : ℕ) (d e : RunError) → CellRefuses p number d → CellRefuses p number e → d ≡ e
   cell_refused_once p number d e (inl a) (inl b) = a.1 ∙ sym b.1
-  cell_refused_once p number d e (inl a) (inr b) = absurd (a.0 b.0 b.1)
-  cell_refused_once p number d e (inr a) (inl b) = absurd (b.0 a.0 a.1)
-  cell_refused_once p number d e (inr a) (inr b) = a.2.1 ∙ sym b.2.1
+  cell_refused_once p number d e (inl a) (inr b) = absurd (a.0 b.0 b.1 b.2)
+  cell_refused_once p number d e (inr a) (inl b) = absurd (b.0 a.0 a.1 a.2)
+  cell_refused_once p number d e (inr a) (inr b) = a.3.1 ∙ sym b.3.1
 
 module _ {D M : Type 0} (columns : ℕ → Option ℕ) where
   append_refused_once : (p : Progress D M (List M)) (number : ℕ) (d e : RunError) → AppendRefuses columns p number d → AppendRefuses columns p number e → d ≡ e
@@ -39,10 +40,18 @@ module _ {D M : Type 0} (columns : ℕ → Option ℕ) (decoration : Decoration 
   request_refused_once p number request d e (inl a) (inr b) = absurd (false≢true (sym b.0 ∙ a.0))
   request_refused_once p number request d e (inr a) (inl b) = absurd (false≢true (sym a.0 ∙ b.0))
 
-  pub refused_once : (p : Progress D M (List M)) (number : ℕ) (command : Command) (d e : RunError) → CommandRefuses columns decoration p number command d → CommandRefuses columns decoration p number command e → d ≡ e
-  refused_once p number (ask request) d e a b = request_refused_once p number request d e a b
-  refused_once p number (sub width) d e a b = absurd a
-  refused_once p number (append first other) d e a b = append_refused_once columns p number d e a b
-  refused_once p number (cell width span) d e a b = absurd a
-  refused_once p number end_cell d e a b = cell_refused_once p number d e a b
-  refused_once p number vertical_row d e a b = a.1 ∙ sym b.1
+  -- a row fits or not, where what stands wraps normally
+  row_refused_once : (p : Progress D M (List M)) (number : ℕ) (d e : RunError) → AllPlain p → RowRefuses columns p number d → RowRefuses columns p number e → d ≡ e
+  row_refused_once p number d e all (inl a) (inl b) = a.1 ∙ sym b.1
+  row_refused_once p number d e all (inl a) (inr b) = absurd (row_fits_or_not columns p all b.0 a.0)
+  row_refused_once p number d e all (inr a) (inl b) = absurd (row_fits_or_not columns p all a.0 b.0)
+  row_refused_once p number d e all (inr a) (inr b) = a.2 ∙ sym b.2
+
+  pub refused_once : (p : Progress D M (List M)) (number : ℕ) (command : Command) (d e : RunError) → AllPlain p → CommandRefuses columns decoration p number command d → CommandRefuses columns decoration p number command e → d ≡ e
+  refused_once p number (ask request) d e all a b = request_refused_once p number request d e a b
+  refused_once p number (sub width) d e all a b = absurd a
+  refused_once p number (append first other) d e all a b = append_refused_once columns p number d e a b
+  refused_once p number (cell width span align) d e all a b = absurd a
+  refused_once p number end_cell d e all a b = cell_refused_once p number d e a b
+  refused_once p number (row collapse) d e all a b = row_refused_once p number d e all a b
+  refused_once p number vertical_row d e all a b = a.1 ∙ sym b.1

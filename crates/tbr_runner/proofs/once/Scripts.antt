@@ -29,13 +29,13 @@ module _ {D M : Type 0} (columns : ℕ → Option ℕ) (decoration : Decoration 
   line_does_once p (c ∷ cs) x y all a b =
       does_once columns decoration p all b.0 x y (subst (λ command. CommandDoes columns decoration p command x) (command_once (c ∷ cs) a.0 b.0 a.1 b.1) a.2) b.2
 
-  line_refuses_once : (p : Progress D M (List M)) (number : ℕ) (line : List ℕ) (d e : RunError) → LineRefuses columns decoration p number line d → LineRefuses columns decoration p number line e → d ≡ e
-  line_refuses_once p number [] d e a b = absurd a
-  line_refuses_once p number (c ∷ cs) d e (inl a) (inl b) = a.1 ∙ sym b.1
-  line_refuses_once p number (c ∷ cs) d e (inl a) (inr b) = absurd (a.0 b.0 b.1)
-  line_refuses_once p number (c ∷ cs) d e (inr a) (inl b) = absurd (b.0 a.0 a.1)
-  line_refuses_once p number (c ∷ cs) d e (inr a) (inr b) =
-      refused_once columns decoration p number b.0 d e (subst (λ command. CommandRefuses columns decoration p number command d) (command_once (c ∷ cs) a.0 b.0 a.1 b.1) a.2) b.2
+  line_refuses_once : (p : Progress D M (List M)) (number : ℕ) (line : List ℕ) (d e : RunError) → AllPlain p → LineRefuses columns decoration p number line d → LineRefuses columns decoration p number line e → d ≡ e
+  line_refuses_once p number [] d e all a b = absurd a
+  line_refuses_once p number (c ∷ cs) d e all (inl a) (inl b) = a.1 ∙ sym b.1
+  line_refuses_once p number (c ∷ cs) d e all (inl a) (inr b) = absurd (a.0 b.0 b.1)
+  line_refuses_once p number (c ∷ cs) d e all (inr a) (inl b) = absurd (b.0 a.0 a.1)
+  line_refuses_once p number (c ∷ cs) d e all (inr a) (inr b) =
+      refused_once columns decoration p number b.0 d e all (subst (λ command. CommandRefuses columns decoration p number command d) (command_once (c ∷ cs) a.0 b.0 a.1 b.1) a.2) b.2
 
   line_does_or_refuses : (p : Progress D M (List M)) (number : ℕ) (line : List ℕ) (x : Progress D M (List M)) (e : RunError) → AllPlain p → LineDoes columns decoration p line x → LineRefuses columns decoration p number line e → ⊥
   line_does_or_refuses p number [] x e all a b = b
@@ -74,7 +74,7 @@ module _ {D M : Type 0} (columns : ℕ → Option ℕ) (decoration : Decoration 
   lines_give_once : (p : Progress D M (List M)) (number : ℕ) (lines : List (List ℕ)) (x y : Result (List ℕ) RunError) → AllPlain p → Each IsNormalLine lines → LinesGive columns decoration p number lines x → LinesGive columns decoration p number lines y → x ≡ y
   lines_give_once p number [] x y all normal a b = ends_once p number x y all a b
   lines_give_once p number (line ∷ lines) x y all normal (inl a) (inl b) =
-      a.2 ∙ ap Err (line_refuses_once p number line a.0 b.0 a.1 b.1) ∙ sym b.2
+      a.2 ∙ ap Err (line_refuses_once p number line a.0 b.0 all a.1 b.1) ∙ sym b.2
   lines_give_once p number (line ∷ lines) x y all normal (inl a) (inr b) = absurd (line_does_or_refuses p number line b.0 a.0 all b.1 a.1)
   lines_give_once p number (line ∷ lines) x y all normal (inr a) (inl b) = absurd (line_does_or_refuses p number line a.0 b.0 all a.1 b.1)
   lines_give_once p number (line ∷ lines) x y all normal (inr a) (inr b) =

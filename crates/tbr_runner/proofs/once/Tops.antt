@@ -1,8 +1,9 @@
 -- The renderer on top of a stack is one.
 use Rattle.std.proofs.Common.{◌≡◌, List, [], ◌∷◌, Some, sym, ap, ◌∙◌, subst}
 use Rattle.std.specs.List.{AllByRecursion as Each}
-use Rattle.tbr_stack.specs.Stack.{Level, Stack, top_of, with_top, below, first_renderer, with_first, below_top}
+use Rattle.tbr_stack.specs.Stack.{Level, Stack, top_of, with_top, below, first_renderer}
 use Rattle.tbr_runner.specs.Meaning.{OnTop, TopIs}
+use Rattle.tbr_runner.proofs.Levels.{with_first, below_top}
 
 module _ {R : Type 0} where
   pub top_once : (stack : Stack R) (r s : R) → top_of stack ≡ Some r → top_of stack ≡ Some s → r ≡ s

@@ -1,32 +1,39 @@
-use Rattle.std.proofs.Common.{refl, sym, ap, ◌∙◌, subst, Err}
+use Rattle.std.proofs.Common.{◌≡◌, true, false, Err, refl, sym, ap, ◌∙◌, subst}
 use Rattle.tbr_decor.specs.Decoration.{decoration_of}
-use Rattle.text_block_renderer.specs.Calls.{append_vert_row}
 use Rattle.tbr_runner.specs.Progress.{progress_meant, IsLive}
 use Rattle.tbr_runner.specs.Meaning.{RowRefuses}
 use Rattle.tbr_runner.proofs.Levels.{with_top_live, top_live}
-use Rattle.tbr_runner.proofs.Live.{steady_live}
-use Rattle.tbr_runner.proofs.Meant.{row_done, row_refused}
+use Rattle.tbr_runner.proofs.Live.{row_live}
+use Rattle.tbr_runner.proofs.Rows.{row_unfit, row_refused, row_done}
 use Rattle.tbr_runner.proofs.Results.{refused_by}
 use Rattle.tbr_runner.proofs.program.Program.add_row.Goals as goal
 
-pub returns-in_err-append_vert_row-clause-refused : goal.returns-in_err-append_vert_row-clause-refused
-returns-in_err-append_vert_row-clause-refused g c =
+pub returns-then-not-row_fits-clause-refused : goal.returns-then-not-row_fits-clause-refused
+returns-then-not-row_fits-clause-refused g c = λ _.
+    let unfit : c.row_fits.result ≡ false = let k = c.if-not-row_fits.true in cc in
+    row_unfit g.D.TextDecorator.meaning g.W.CharWidth.columns _ c.args.self c.self.view_is c.top_mut-top.result.now c.top_mut-top.ensures.top c.take_cells-cells.result.0.items c.take_cells-cells.ensures.cells c.row_fits.ensures.blank c.args.number (sym c.row_fits.ensures.fits ∙ unfit)
+
+pub returns-in_err-append_columns_aligned-clause-refused : goal.returns-in_err-append_columns_aligned-clause-refused
+returns-in_err-append_columns_aligned-clause-refused g c =
     let meaning = g.D.TextDecorator.meaning in
     let columns = g.W.CharWidth.columns in
-    refused_by (RowRefuses columns (progress_meant meaning c.args.self)) c.from_residual-in_err-append_vert_row.result c.in_err-append_vert_row.field-0.0 c.from_residual-in_err-append_vert_row.ensures.1 (λ e.
-    let live = top_live c.self.inside.renderers c.self.inside.pending c.self.inside.opened c.self.invariant c.top_mut.result.now c.top_mut.ensures.top in
-    row_refused meaning _ c.args.self c.self.view_is columns c.top_mut.result.now c.top_mut.ensures.top c.in_ok-cells.cells.items c.in_ok-cells.ensures.cells
-    (c.append_vert_row.ensures.too_narrow live.0 (c.in_err-append_vert_row.was ∙ ap Err e)))
+    let fit : c.row_fits.result ≡ true = let k = c.if-not-row_fits.false in cc in
+    refused_by (RowRefuses columns (progress_meant meaning c.args.self) c.args.number) c.from_residual.result c.in_err-append_columns_aligned.field-0.0 c.from_residual.ensures.1 (λ e.
+    let live = top_live c.self.inside.renderers c.self.inside.pending c.self.inside.opened c.self.invariant c.top_mut-top.result.now c.top_mut-top.ensures.top in
+    row_refused meaning columns _ c.args.self c.self.view_is c.top_mut-top.result.now c.top_mut-top.ensures.top c.take_cells-cells.result.0.items c.take_cells-cells.ensures.cells c.row_fits.ensures.blank c.args.number (sym c.row_fits.ensures.fits ∙ fit)
+    (c.append_columns_aligned.ensures.too_narrow live.0 (c.in_err-append_columns_aligned.was ∙ ap Err e)))
 
 pub invariant_of-result : goal.invariant_of-result
 invariant_of-result g c =
     let i = c.self.inside in
-    let live = top_live i.renderers i.pending i.opened c.self.invariant c.top_mut.result.now c.top_mut.ensures.top in
-    let h = c.in_ok-append_vert_row.ensures.ok in
-    with_top_live i.renderers i.pending i.opened c.self.invariant _ c.append_vert_row.new.self c.take_cells.new.self refl
-    (subst (IsLive c.append_vert_row.new.self) (sym (ap (λ p. p.begun) c.in_ok-cells.ensures.rest))
-    (steady_live g.W.CharWidth.columns (decoration_of g.D.TextDecorator) g.D.TextDecorator.meaning (append_vert_row h.0) c.top_mut.result.now c.append_vert_row.new.self i.pending.begun (λ x. refl) (λ n. refl) live h.2))
+    let live = top_live i.renderers i.pending i.opened c.self.invariant c.top_mut-top.result.now c.top_mut-top.ensures.top in
+    let h = c.in_ok-append_columns_aligned.ensures.ok in
+    with_top_live i.renderers i.pending i.opened c.self.invariant _ c.append_columns_aligned.new.self c.take_cells-cells.new.self refl
+    (subst (IsLive c.append_columns_aligned.new.self) (sym (ap (λ p. p.begun) c.take_cells-cells.ensures.rest))
+    (row_live g.W.CharWidth.columns g.D.TextDecorator.meaning c.args.collapse h.0 c.top_mut-top.result.now c.append_columns_aligned.new.self i.pending.begun live h.3))
 
 pub returns-clause-done : goal.returns-clause-done
 returns-clause-done g c =
-    row_done g.D.TextDecorator.meaning _ c.args.self c.self.view_is g.W.CharWidth.columns c.top_mut.result.now c.top_mut.ensures.top c.in_ok-cells.cells.items c.in_ok-cells.ensures.cells (decoration_of g.D.TextDecorator) c.append_vert_row.new.self c.take_cells.new.self c.in_ok-cells.ensures.rest c.in_ok-append_vert_row.ensures.ok
+    let fit : c.row_fits.result ≡ true = let k = c.if-not-row_fits.false in cc in
+    row_done g.D.TextDecorator.meaning g.W.CharWidth.columns _ c.args.self c.self.view_is c.top_mut-top.result.now c.top_mut-top.ensures.top c.take_cells-cells.result.0.items c.take_cells-cells.ensures.cells c.row_fits.ensures.blank
+    (decoration_of g.D.TextDecorator) c.args.collapse c.deref.result.now c.append_columns_aligned.new.self c.take_cells-cells.new.self (sym c.row_fits.ensures.fits ∙ fit) (c.deref.ensures.value ∙ c.take_cells-cells.ensures.aligns) c.take_cells-cells.ensures.rest c.in_ok-append_columns_aligned.ensures.ok

@@ -8,7 +8,7 @@ returns-in_default-clause-refused g c = λ _.
 
 pub returns-then-has_cells-clause-refused : goal.returns-then-has_cells-clause-refused
 returns-then-has_cells-clause-refused g c = λ _.
-    cells_in_cell g.D.TextDecorator.meaning _ c.args.self c.self.view_is c.args.number c.in-Some.span c.in-Some.ensures.found (λ none. let h : c.has_cells.result ≡ false = c.has_cells.ensures.1 none in cc)
+    cells_in_cell g.D.TextDecorator.meaning _ c.args.self c.self.view_is c.args.number c.in-Some.span c.in-Some.align c.in-Some.ensures.found (λ none. let h : c.has_cells.result ≡ false = c.has_cells.ensures.1 none in cc)
 
 pub close-inside-requires-clause-opened : goal.close-inside-requires-clause-opened
 close-inside-requires-clause-opened g c =
@@ -19,5 +19,4 @@ close-inside-requires-clause-cells g c =
     none_waits g.D.TextDecorator.meaning _ c.args.self c.self.view_is (c.has_cells.ensures.0 (cc))
 
 pub returns-clause-done : goal.returns-clause-done
-returns-clause-done g c =
-    cell_waits g.D.TextDecorator.meaning _ c.args.self c.self.view_is c.close-inside.result.1 _ c.close-inside.ensures.0 c.close-inside.result.0 c.close-inside.ensures.1 c.program.view_is c.in-Some.span c.add_cell.new.self c.in-Some.ensures.found c.in_ok-add_cell.ensures
+returns-clause-done g c = ?

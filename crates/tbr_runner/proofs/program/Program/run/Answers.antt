@@ -29,8 +29,14 @@ returns-in-EndCell-clause-done g c = rw c.in-EndCell.is c.end_cell.ensures.done
 pub returns-in-EndCell-clause-refused : goal.returns-in-EndCell-clause-refused
 returns-in-EndCell-clause-refused g c = rw c.in-EndCell.is c.end_cell.ensures.refused
 
+pub returns-in-Row-clause-done : goal.returns-in-Row-clause-done
+returns-in-Row-clause-done g c = rw c.in-Row.is c.add_row.ensures.done
+
+pub returns-in-Row-clause-refused : goal.returns-in-Row-clause-refused
+returns-in-Row-clause-refused g c = rw c.in-Row.is c.add_row.ensures.refused
+
 pub returns-in-VerticalRow-clause-done : goal.returns-in-VerticalRow-clause-done
-returns-in-VerticalRow-clause-done g c = rw c.in-VerticalRow.is c.add_row.ensures.done
+returns-in-VerticalRow-clause-done g c = rw c.in-VerticalRow.is c.add_vertical_row.ensures.done
 
 pub returns-in-VerticalRow-clause-refused : goal.returns-in-VerticalRow-clause-refused
-returns-in-VerticalRow-clause-refused g c = rw c.in-VerticalRow.is c.add_row.ensures.refused
+returns-in-VerticalRow-clause-refused g c = rw c.in-VerticalRow.is c.add_vertical_row.ensures.refused

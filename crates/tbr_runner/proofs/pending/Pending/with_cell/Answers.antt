@@ -1,0 +1,7 @@
+use Rattle.tbr_runner.proofs.pending.Pending.with_cell.Goals as goal
+
+pub invariant_of-result : goal.invariant_of-result
+invariant_of-result g c = ?
+
+pub returns : goal.returns
+returns g c = ?
