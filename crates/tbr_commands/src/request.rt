@@ -1,6 +1,9 @@
 //! What a line of a script asks a renderer for.
 ghost use Rattle.std.specs.Prelude.{◌≡◌, ℕ, ◌<◌, true, None, Some, Err, OnOk, IfOk, IfSome, IfNone};
 ghost use Rattle.tbr_lines.specs.declared.Error.TheVariants as E;
+ghost use Rattle.tbr_decor.specs.Decoration.{decoration_of};
+ghost use Rattle.tbr_renderer.specs.Calls.{Does, IsTooNarrow};
+ghost use Rattle.tbr_renderer.specs.Meant.{meant};
 ghost use Rattle.tbr_commands.specs.declared.request.kind.Kind.TheVariants as kind;
 ghost use Rattle.tbr_commands.specs.Request as asked;
 ghost use Rattle.tbr_commands.specs.Request.{request_of, call_of};
@@ -12,9 +15,9 @@ use crate::request::colour::colour;
 use crate::request::kind::Kind;
 use crate::request::layout::Layout;
 use std::alloc::{AllocError, Global};
-use tbr_decor::Colour;
-use tbr_lines::Error;
-use tbr_renderer::Renderer;
+use tbr_decor::{Colour, TextDecorator};
+use tbr_lines::{CharWidth, Error};
+use tbr_renderer::{Renderer, SubRenderer};
 use tbr_script::{TextPair, parse_number, unescape};
 
 pub mod beginning;
@@ -85,15 +88,20 @@ impl Request {
     }
 
     /// Asks a renderer for it.
-    pub fn call<R: Renderer>(&self, renderer: &mut R) -> Result<(), Error>
-        requires live { R.kept_refusal renderer.old ≡ None }
-        requires preformats { request_of self.now ≡ asked.end kind.Preformat → 0 < R.open_preformats renderer.old }
-        requires strikeouts { request_of self.now ≡ asked.end kind.Strikeout → R.strikes renderer.old ≡ true →
-            0 < R.open_strikeouts renderer.old }
-        ensures ok { OnOk result
-            (R.does (call_of (R.columns_of renderer.old) (request_of self.now)) renderer.old renderer.new) }
-        ensures too_narrow { result ≡ Err E.TooNarrow →
-            R.is_too_narrow (call_of (R.columns_of renderer.old) (request_of self.now)) renderer.old }
+    pub fn call<D: TextDecorator, W: CharWidth>(
+        &self,
+        renderer: &mut SubRenderer<D, W>,
+    ) -> Result<(), Error>
+        requires live { renderer.old.failure ≡ None }
+        requires preformats { request_of self.now ≡ asked.end kind.Preformat → 0 < renderer.old.preformatted }
+        requires strikeouts { request_of self.now ≡ asked.end kind.Strikeout →
+            renderer.old.options.use_unicode_strikeout ≡ true → 0 < renderer.old.strikeouts }
+        ensures ok { let asks = call_of renderer.old.width (request_of self.now) in
+            OnOk result (Does W.columns (decoration_of D.TextDecorator) asks (meant D.meaning renderer.old)
+            (meant D.meaning renderer.new)) }
+        ensures too_narrow { let asks = call_of renderer.old.width (request_of self.now) in
+            result ≡ Err E.TooNarrow →
+            IsTooNarrow W.columns (decoration_of D.TextDecorator) asks (meant D.meaning renderer.old) }
     {
         match self {
             Request::Layout(layout) => layout.call(renderer),

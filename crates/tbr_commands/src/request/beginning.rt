@@ -1,14 +1,18 @@
 //! Commands without an argument that begin something.
 ghost use Rattle.std.specs.Prelude.{◌≡◌, ◌≢◌, None, Err, OnOk, IfSome, IfNone};
 ghost use Rattle.tbr_lines.specs.declared.Error.TheVariants as E;
+ghost use Rattle.tbr_decor.specs.Decoration.{decoration_of};
+ghost use Rattle.tbr_renderer.specs.Calls.{Does, IsTooNarrow};
+ghost use Rattle.tbr_renderer.specs.Meant.{meant};
 ghost use Rattle.tbr_commands.specs.declared.request.beginning.Beginning.{Beginning as Meant};
 ghost use Rattle.tbr_commands.specs.Request.{begun_by};
 ghost use Rattle.tbr_commands.specs.Syntax.{beginning_name};
 ghost use Rattle.tbr_commands.specs.Begun.{kind_of};
 
 use crate::request::kind::Kind;
-use tbr_lines::{Error, WhiteSpace};
-use tbr_renderer::Renderer;
+use tbr_decor::TextDecorator;
+use tbr_lines::{CharWidth, Error, WhiteSpace};
+use tbr_renderer::{Renderer, SubRenderer};
 
 /// What a command begins by its name alone.
 #[derive(Clone, Copy, Debug, PartialEq, Eq)]
@@ -65,10 +69,15 @@ impl Beginning {
     }
 
     /// Asks a renderer for it.
-    pub fn call<R: Renderer>(self, renderer: &mut R) -> Result<(), Error>
-        requires { R.kept_refusal renderer.old ≡ None }
-        ensures ok { OnOk result (R.does (begun_by self) renderer.old renderer.new) }
-        ensures too_narrow { result ≡ Err E.TooNarrow → R.is_too_narrow (begun_by self) renderer.old }
+    pub fn call<D: TextDecorator, W: CharWidth>(
+        self,
+        renderer: &mut SubRenderer<D, W>,
+    ) -> Result<(), Error>
+        requires { renderer.old.failure ≡ None }
+        ensures ok { OnOk result (Does W.columns (decoration_of D.TextDecorator) (begun_by self)
+            (meant D.meaning renderer.old) (meant D.meaning renderer.new)) }
+        ensures too_narrow { result ≡ Err E.TooNarrow →
+            IsTooNarrow W.columns (decoration_of D.TextDecorator) (begun_by self) (meant D.meaning renderer.old) }
     {
         match self {
             Beginning::Mode(mode) => renderer.push_ws(mode),

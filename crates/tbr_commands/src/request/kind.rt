@@ -1,13 +1,17 @@
 //! What commands begin, and the commands that end it.
 ghost use Rattle.std.specs.Prelude.{◌≡◌, ◌≢◌, ◌<◌, true, None, Err, OnOk, IfSome, IfNone};
 ghost use Rattle.tbr_lines.specs.declared.Error.TheVariants as E;
+ghost use Rattle.tbr_decor.specs.Decoration.{decoration_of};
+ghost use Rattle.tbr_renderer.specs.Calls.{Does, IsTooNarrow};
+ghost use Rattle.tbr_renderer.specs.Meant.{meant};
 ghost use Rattle.tbr_commands.specs.declared.request.kind.Kind.{Kind as Meant};
 ghost use Rattle.tbr_commands.specs.declared.request.kind.Kind.TheVariants as kind;
 ghost use Rattle.tbr_commands.specs.Request.{end_of};
 ghost use Rattle.tbr_commands.specs.Syntax.{ending_name};
 
-use tbr_lines::Error;
-use tbr_renderer::Renderer;
+use tbr_decor::TextDecorator;
+use tbr_lines::{CharWidth, Error};
+use tbr_renderer::{Renderer, SubRenderer};
 
 /// What one command begins and another ends.
 #[derive(Clone, Copy, Debug, PartialEq, Eq)]
@@ -56,13 +60,18 @@ impl Kind {
     }
 
     /// Asks a renderer to end it.
-    pub fn end<R: Renderer>(self, renderer: &mut R) -> Result<(), Error>
-        requires live { R.kept_refusal renderer.old ≡ None }
-        requires preformats { self ≡ kind.Preformat → 0 < R.open_preformats renderer.old }
-        requires strikeouts { self ≡ kind.Strikeout → R.strikes renderer.old ≡ true →
-            0 < R.open_strikeouts renderer.old }
-        ensures ok { OnOk result (R.does (end_of self) renderer.old renderer.new) }
-        ensures too_narrow { result ≡ Err E.TooNarrow → R.is_too_narrow (end_of self) renderer.old }
+    pub fn end<D: TextDecorator, W: CharWidth>(
+        self,
+        renderer: &mut SubRenderer<D, W>,
+    ) -> Result<(), Error>
+        requires live { renderer.old.failure ≡ None }
+        requires preformats { self ≡ kind.Preformat → 0 < renderer.old.preformatted }
+        requires strikeouts { self ≡ kind.Strikeout → renderer.old.options.use_unicode_strikeout ≡ true →
+            0 < renderer.old.strikeouts }
+        ensures ok { OnOk result (Does W.columns (decoration_of D.TextDecorator) (end_of self)
+            (meant D.meaning renderer.old) (meant D.meaning renderer.new)) }
+        ensures too_narrow { result ≡ Err E.TooNarrow →
+            IsTooNarrow W.columns (decoration_of D.TextDecorator) (end_of self) (meant D.meaning renderer.old) }
     {
         match self {
             Kind::Mode => renderer.pop_ws(),

@@ -1,12 +1,16 @@
 //! Commands that end lines.
 ghost use Rattle.std.specs.Prelude.{◌≡◌, ◌≢◌, None, Err, OnOk, IfSome, IfNone};
 ghost use Rattle.tbr_lines.specs.declared.Error.TheVariants as E;
+ghost use Rattle.tbr_decor.specs.Decoration.{decoration_of};
+ghost use Rattle.tbr_renderer.specs.Calls.{Does, IsTooNarrow};
+ghost use Rattle.tbr_renderer.specs.Meant.{meant};
 ghost use Rattle.tbr_commands.specs.declared.request.layout.Layout.{Layout as Meant};
 ghost use Rattle.tbr_commands.specs.Request.{laid_out};
 ghost use Rattle.tbr_commands.specs.Syntax.{layout_name};
 
-use tbr_lines::Error;
-use tbr_renderer::Renderer;
+use tbr_decor::TextDecorator;
+use tbr_lines::{CharWidth, Error};
+use tbr_renderer::{Renderer, SubRenderer};
 
 /// What a command does to blocks and lines.
 #[derive(Clone, Copy, Debug, PartialEq, Eq)]
@@ -43,10 +47,15 @@ impl Layout {
     }
 
     /// Asks a renderer for it.
-    pub fn call<R: Renderer>(self, renderer: &mut R) -> Result<(), Error>
-        requires { R.kept_refusal renderer.old ≡ None }
-        ensures ok { OnOk result (R.does (laid_out self) renderer.old renderer.new) }
-        ensures too_narrow { result ≡ Err E.TooNarrow → R.is_too_narrow (laid_out self) renderer.old }
+    pub fn call<D: TextDecorator, W: CharWidth>(
+        self,
+        renderer: &mut SubRenderer<D, W>,
+    ) -> Result<(), Error>
+        requires { renderer.old.failure ≡ None }
+        ensures ok { OnOk result (Does W.columns (decoration_of D.TextDecorator) (laid_out self)
+            (meant D.meaning renderer.old) (meant D.meaning renderer.new)) }
+        ensures too_narrow { result ≡ Err E.TooNarrow →
+            IsTooNarrow W.columns (decoration_of D.TextDecorator) (laid_out self) (meant D.meaning renderer.old) }
     {
         match self {
             Layout::StartBlock => renderer.start_block(),
