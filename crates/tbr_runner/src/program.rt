@@ -135,7 +135,8 @@ impl<D: TextDecorator, W: CharWidth> Program<D, W> {
         let Some(pending) = pending.behind(request) else {
             return Err(RunError::OutOfMemory);
         };
-        request.call(renderers.top_mut())?;
+        let top = renderers.top_mut();
+        request.call(top)?;
         Ok(Program {
             renderers,
             pending,
@@ -202,7 +203,8 @@ impl<D: TextDecorator, W: CharWidth> Program<D, W> {
             return Err(RunError::NotACommand(number));
         }
         let (inside, mut program) = self.close();
-        append_behind(program.renderers.top_mut(), inside, prefixes)?;
+        let top = program.renderers.top_mut();
+        append_behind(top, inside, prefixes)?;
         Ok(program)
     }
 

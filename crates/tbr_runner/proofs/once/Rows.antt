@@ -31,14 +31,14 @@ same_truth true false f g = sym (f refl)
 same_truth false true f g = g refl
 same_truth false false f g = refl
 
+abbrev Cells : (D M : Type 0) → Type 0
+Cells D M = List (Renderer D M (List M) × ℕ)
+
+abbrev Plain : {D M : Type 0} → Cells D M → Type 0
+Plain cells = Each (λ cell. IsPlain cell.0) cells
+
 module _ {D M : Type 0} (columns : ℕ → Option ℕ) where
   -- ---- whether a row fits
-
-  abbrev Cells : Type 0
-  Cells = List (Renderer D M (List M) × ℕ)
-
-  abbrev Plain : Cells → Type 0
-  Plain cells = Each (λ cell. IsPlain cell.0) cells
 
   abbrev look_of : Renderer D M (List M) → Option Error → Option (Open (List M)) → Bool → ℕ × Bool
   look_of r failure block blank =
@@ -56,7 +56,7 @@ module _ {D M : Type 0} (columns : ℕ → Option ℕ) where
           let g = b.1 live (record block { blank = b.0 }) (ap (λ o. option_map (λ (q : Open (List M)). record q { blank = b.0 }) o) is) normal.narrow run in
           ap (λ (blank : Bool). looks (with_blank blank cell.0, cell.1)) (same_truth a.0 b.0 (λ h. g.1 (f.0 h)) (λ h. f.1 (g.0 h)))
 
-  looks_once : (cells : Cells) (xs ys : List (ℕ × Bool)) → Plain cells → AllZip (MayLook columns) cells xs → AllZip (MayLook columns) cells ys → xs ≡ ys
+  looks_once : (cells : Cells D M) (xs ys : List (ℕ × Bool)) → Plain cells → AllZip (MayLook columns) cells xs → AllZip (MayLook columns) cells ys → xs ≡ ys
   looks_once [] [] [] all a b = refl
   looks_once [] [] (y ∷ ys) all a b = absurd b
   looks_once [] (x ∷ xs) ys all a b = absurd a
@@ -65,7 +65,7 @@ module _ {D M : Type 0} (columns : ℕ → Option ℕ) where
   looks_once (cell ∷ cells) (x ∷ xs) (y ∷ ys) all a b =
       ap (λ (z : ℕ × Bool). z ∷ xs) (look_once cell x y all.0.wraps a.0 b.0) ∙ ap (λ (zs : List (ℕ × Bool)). y ∷ zs) (looks_once cells xs ys all.1 a.1 b.1)
 
-  fits_or_not : (cells : Cells) (r : Renderer D M (List M)) → Plain cells → MayFit columns cells true r → MayFit columns cells false r → ⊥
+  fits_or_not : (cells : Cells D M) (r : Renderer D M (List M)) → Plain cells → MayFit columns cells true r → MayFit columns cells false r → ⊥
   fits_or_not cells r all a b =
       let same = looks_once cells a.0 b.0 all a.1 b.1 in
       false≢true (sym b.2 ∙ ap (λ seen. row_fits r.hanging (spots_from 0 seen)) (sym same) ∙ a.2)
@@ -88,7 +88,7 @@ module _ {D M : Type 0} (columns : ℕ → Option ℕ) (decoration : Decoration 
       let lines : x.lines ≡ y.lines = handed_once columns decoration cell.0 x.lines y.lines normal a.2 b.2 in
       λ i. record { width = wide i; span = span i; align = align i; lines = lines i }
 
-  come_once : (cells : Cells) (xs ys : List (GivenCell (List M))) → Plain columns cells → AllZip (Comes columns) cells xs → AllZip (Comes columns) cells ys → map align_in xs ≡ map align_in ys → xs ≡ ys
+  come_once : (cells : Cells D M) (xs ys : List (GivenCell (List M))) → Plain cells → AllZip (Comes columns) cells xs → AllZip (Comes columns) cells ys → map align_in xs ≡ map align_in ys → xs ≡ ys
   come_once [] [] [] all a b aligns = refl
   come_once [] [] (y ∷ ys) all a b aligns = absurd b
   come_once [] (x ∷ xs) ys all a b aligns = absurd a
@@ -98,7 +98,7 @@ module _ {D M : Type 0} (columns : ℕ → Option ℕ) (decoration : Decoration 
       ap (λ (z : GivenCell (List M)). z ∷ xs) (comes_once cell x y all.0.wraps a.0 b.0 (cc aligns))
       ∙ ap (λ (zs : List (GivenCell (List M))). y ∷ zs) (come_once cells xs ys all.1 a.1 b.1 (cc aligns))
 
-  come_or_not : (cells : Cells) (xs : List (GivenCell (List M))) → Plain columns cells → AllZip (Comes columns) cells xs → FirstToRefuse (HandsOut columns) (HoldsBack columns) (renderers_of cells) → ⊥
+  come_or_not : (cells : Cells D M) (xs : List (GivenCell (List M))) → Plain cells → AllZip (Comes columns) cells xs → FirstToRefuse (HandsOut columns) (HoldsBack columns) (renderers_of cells) → ⊥
   come_or_not [] xs all a b = b
   come_or_not (cell ∷ cells) [] all a b = a
   come_or_not (cell ∷ cells) (x ∷ xs) all a (inl b) = handed_or_held columns decoration cell.0 x.lines all.0.wraps a.0.2 b

@@ -23,10 +23,10 @@ invariant_of-result g c =
     let i = c.self.inside in
     let live = top_live i.renderers i.pending i.opened c.self.invariant c.top_mut.result.now c.top_mut.ensures.top in
     let h = c.in_ok-append_vert_row.ensures.ok in
-    with_top_live i.renderers i.pending i.opened c.self.invariant _ c.append_vert_row.new.self c.take_cells.new.self refl
+    with_top_live i.renderers i.pending i.opened c.self.invariant _ c.append_vert_row.new.self c.take_renderers.new.self refl
     (subst (IsLive c.append_vert_row.new.self) (sym (ap (λ p. p.begun) c.in_ok-cells.ensures.rest))
     (steady_live g.W.CharWidth.columns (decoration_of g.D.TextDecorator) g.D.TextDecorator.meaning (append_vert_row h.0) c.top_mut.result.now c.append_vert_row.new.self i.pending.begun (λ x. refl) (λ n. refl) live h.2))
 
 pub returns-clause-done : goal.returns-clause-done
 returns-clause-done g c =
-    vertical_done g.D.TextDecorator.meaning _ c.args.self c.self.view_is g.W.CharWidth.columns c.top_mut.result.now c.top_mut.ensures.top c.in_ok-cells.cells.items c.in_ok-cells.ensures.cells (decoration_of g.D.TextDecorator) c.append_vert_row.new.self c.take_cells.new.self c.in_ok-cells.ensures.rest c.in_ok-append_vert_row.ensures.ok
+    vertical_done g.D.TextDecorator.meaning _ c.args.self c.self.view_is g.W.CharWidth.columns c.top_mut.result.now c.top_mut.ensures.top c.in_ok-cells.cells.items c.in_ok-cells.ensures.cells (decoration_of g.D.TextDecorator) c.append_vert_row.new.self c.take_renderers.new.self c.in_ok-cells.ensures.rest c.in_ok-append_vert_row.ensures.ok

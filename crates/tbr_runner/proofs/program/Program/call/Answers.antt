@@ -19,32 +19,32 @@ returns-in_err-call-clause-refused g c =
     let columns = g.W.CharWidth.columns in
     let request = request_of c.args.request.now in
     refused_by (RequestRefuses columns (decoration_of g.D.TextDecorator) (progress_meant meaning c.args.self) c.args.number request) c.from_residual.result c.in_err-call.field-0.0 c.from_residual.ensures.1 (λ e.
-    request_refused meaning _ c.args.self c.self.view_is columns (decoration_of g.D.TextDecorator) request c.top_mut.result.now c.top_mut.ensures.top (sym c.lacks.ensures ∙ c.if-lacks.false) c.args.number (c.call.ensures.too_narrow (c.in_err-call.was ∙ ap Err e)))
+    request_refused meaning _ c.args.self c.self.view_is columns (decoration_of g.D.TextDecorator) request c.top_mut-top.result.now c.top_mut-top.ensures.top (sym c.lacks.ensures ∙ c.if-lacks.false) c.args.number (c.call.ensures.too_narrow (c.in_err-call.was ∙ ap Err e)))
 
 pub invariant_of-result : goal.invariant_of-result
 invariant_of-result g c =
     let i = c.self.inside in
-    let live = top_live i.renderers i.pending i.opened c.self.invariant c.top_mut.result.now c.top_mut.ensures.top in
+    let live = top_live i.renderers i.pending i.opened c.self.invariant c.top_mut-top.result.now c.top_mut-top.ensures.top in
     with_top_live i.renderers i.pending i.opened c.self.invariant _ c.call.new.renderer c.in-Some.pending refl
-    (still_live g.W.CharWidth.columns (decoration_of g.D.TextDecorator) g.D.TextDecorator.meaning (request_of c.args.request.now) c.top_mut.result.now c.call.new.renderer i.pending.begun c.in-Some.pending.begun live (ap (λ p. p.begun) c.in-Some.ensures) c.in_ok-call.ensures.ok)
+    (still_live g.W.CharWidth.columns (decoration_of g.D.TextDecorator) g.D.TextDecorator.meaning (request_of c.args.request.now) c.top_mut-top.result.now c.call.new.renderer i.pending.begun c.in-Some.pending.begun live (ap (λ p. p.begun) c.in-Some.ensures) c.in_ok-call.ensures.ok)
 
 pub returns-clause-done : goal.returns-clause-done
 returns-clause-done g c =
-    request_done g.D.TextDecorator.meaning _ c.args.self c.self.view_is g.W.CharWidth.columns (decoration_of g.D.TextDecorator) (request_of c.args.request.now) c.top_mut.result.now c.top_mut.ensures.top (sym c.lacks.ensures ∙ c.if-lacks.false) c.call.new.renderer c.in-Some.pending c.in-Some.ensures c.in_ok-call.ensures.ok
+    request_done g.D.TextDecorator.meaning _ c.args.self c.self.view_is g.W.CharWidth.columns (decoration_of g.D.TextDecorator) (request_of c.args.request.now) c.top_mut-top.result.now c.top_mut-top.ensures.top (sym c.lacks.ensures ∙ c.if-lacks.false) c.call.new.renderer c.in-Some.pending c.in-Some.ensures c.in_ok-call.ensures.ok
 
 pub call-requires-clause-live : goal.call-requires-clause-live
 call-requires-clause-live g c =
     let i = c.self.inside in
-    (top_live i.renderers i.pending i.opened c.self.invariant c.top_mut.result.now c.top_mut.ensures.top).0
+    (top_live i.renderers i.pending i.opened c.self.invariant c.top_mut-top.result.now c.top_mut-top.ensures.top).0
 
 pub call-requires-clause-preformats : goal.call-requires-clause-preformats
 call-requires-clause-preformats g c = λ is.
     let i = c.self.inside in
-    let live = top_live i.renderers i.pending i.opened c.self.invariant c.top_mut.result.now c.top_mut.ensures.top in
+    let live = top_live i.renderers i.pending i.opened c.self.invariant c.top_mut-top.result.now c.top_mut-top.ensures.top in
     subst (λ n. 0 < n) (sym live.1) (some_preformats i.pending.begun (request_of c.args.request.now) (sym c.lacks.ensures ∙ c.if-lacks.false) is)
 
 pub call-requires-clause-strikeouts : goal.call-requires-clause-strikeouts
 call-requires-clause-strikeouts g c = λ is on.
     let i = c.self.inside in
-    let live = top_live i.renderers i.pending i.opened c.self.invariant c.top_mut.result.now c.top_mut.ensures.top in
+    let live = top_live i.renderers i.pending i.opened c.self.invariant c.top_mut-top.result.now c.top_mut-top.ensures.top in
     subst (λ n. 0 < n) (sym (live.2 on)) (some_strikeouts i.pending.begun (request_of c.args.request.now) (sym c.lacks.ensures ∙ c.if-lacks.false) is)
