@@ -1,12 +1,12 @@
 //! Lines that are appended behind prefixes.
 ghost use Rattle.std.specs.Prelude.{◌≡◌, ◌⊎◌, List, length, None, Err, OnOk, string_bytes};
 ghost use Rattle.tbr_lines.specs.declared.Error.TheVariants as E;
-ghost use Rattle.text_block_renderer.specs.Renderer.{Line};
-ghost use Rattle.text_block_renderer.specs.Calls.{append_subrender, Does};
-ghost use Rattle.text_block_renderer.specs.Appended.{HandsOut, HoldsBack};
-ghost use Rattle.text_block_renderer.specs.Flush.{FlushIsTooNarrow};
-ghost use Rattle.text_block_renderer.specs.Meant.{meant};
 ghost use Rattle.tbr_decor.specs.Decoration.{decoration_of};
+ghost use Rattle.text_block_renderer.specs.Renderer.{Line};
+ghost use Rattle.text_block_renderer.specs.Meant.{meant};
+ghost use Rattle.text_block_renderer.specs.Flush.{FlushIsTooNarrow};
+ghost use Rattle.text_block_renderer.specs.Appended.{HandsOut, HoldsBack};
+ghost use Rattle.text_block_renderer.specs.Calls.{Does, append_subrender};
 ghost use Rattle.tbr_runner.specs.Prefixes.{prefixes};
 
 use std::iter;
@@ -29,8 +29,8 @@ pub fn append_behind<D: TextDecorator, W: CharWidth>(
         × Does W.columns (decoration_of D.TextDecorator) (append_subrender
         (prefixes (string_bytes texts.now.first) (string_bytes texts.now.second) (length lines)) lines)
         (meant D.meaning renderer.old) (meant D.meaning renderer.new)) }
-    ensures too_narrow { result ≡ Err E.TooNarrow →
-        FlushIsTooNarrow W.columns (meant D.meaning renderer.old) ⊎ HoldsBack W.columns (meant D.meaning inside) }
+    ensures too_narrow { result ≡ Err E.TooNarrow → FlushIsTooNarrow W.columns (meant D.meaning renderer.old)
+        ⊎ HoldsBack W.columns (meant D.meaning inside) }
 {
     let first = iter::once(texts.first.as_str());
     let others = iter::repeat_n(texts.second.as_str(), OTHERS);
