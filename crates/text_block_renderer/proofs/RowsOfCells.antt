@@ -19,7 +19,7 @@ use Rattle.text_block_renderer.specs.Normal.{WrapsNormally}
 use Rattle.text_block_renderer.proofs.Growing.{Grows, lines_grow, moves_grow}
 use Rattle.text_block_renderer.proofs.Moves.{flush, no_block, flushed_none}
 use Rattle.text_block_renderer.proofs.Once.{flushes_once}
-use Rattle.text_block_renderer.proofs.Settings.{Steady, flushed_alike}
+use Rattle.tbr_renderer.proofs.Steady.{Steady, flushed_alike}
 
 -- ---- texts only come
 
