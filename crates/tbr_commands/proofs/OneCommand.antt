@@ -240,6 +240,3 @@ parted_once line c d (inr a) (inr b) = with_argument_once line c d a b
 
 pub command_once : (line : List ℕ) (c d : Command) → IsCommand line c → IsCommand line d → c ≡ d
 command_once line c d a b = parted_once line c d (is_parted line c a.writes) (is_parted line d b.writes)
-
-pub request_once : (line : List ℕ) (c d : Request) → IsCommand line (ask c) → IsCommand line (ask d) → c ≡ d
-request_once line c d a b = let same = command_once line (ask c) (ask d) a b in cc same

@@ -64,8 +64,8 @@ abbrev pub without_cells : {D A T : Type 0} → Pending D A T → Pending D A T
 without_cells pending = record pending { cells = []; aligns = [] }
 
 -- The innermost level ends: its renderer is taken, and what was pending below it is so again. No cell waits in it.
-pub record Closes {D A T : Type 0} (p : Progress D A T) (by : Opener) (inside : Renderer D A T) (next : Progress D A T) :
-    Type 0 where
+pub record Closes {D A T : Type 0} (p : Progress D A T) (by : Opener) (inside : Renderer D A T)
+    (next : Progress D A T) : Type 0 where
   pub cells : p.pending.cells ≡ []
   pub opened : p.opened ≡ record { by = by; below = next.pending } ∷ next.opened
   pub top : top_of p.stack ≡ Some inside

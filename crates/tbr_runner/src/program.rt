@@ -167,7 +167,7 @@ impl<D: TextDecorator, W: CharWidth> Program<D, W> {
         })
     }
 
-    /// Closes the innermost level, and answers its renderer. It asks that a level is open, and that no cell waits in it.
+    /// Closes the innermost level, and answers its renderer. It asks that a level is open in which no cell waits.
     fn close(self) -> (SubRenderer<D, W>, Program<D, W>)
         requires opened { opener self.opened ≢ None }
         requires cells { self.pending.cells ≡ [] }

@@ -30,22 +30,31 @@ impl CharWidth for UnicodeColumns {
 
     ghost stroke_takes_none = { refl };
 
+    #[inline]
     fn width(c: char) -> Option<usize> {
         if is_printable_ascii(c) {
             return Some(1);
         }
-        if takes_one_column(c) {
-            return Some(1);
-        }
-        if c == STROKE {
-            return Some(0);
-        }
-        let width = c.width()?;
-        Some(width.min(2))
+        looked_up(c)
     }
 }
 
+/// The columns of any character, by what is fixed and by `unicode_width`.
+fn looked_up(c: char) -> Option<usize>
+    ensures { result ≡ unicode_columns c }
+{
+    if takes_one_column(c) {
+        return Some(1);
+    }
+    if c == STROKE {
+        return Some(0);
+    }
+    let width = c.width()?;
+    Some(width.min(2))
+}
+
 /// Whether the character is of ASCII and printable.
+#[inline]
 fn is_printable_ascii(c: char) -> bool
     ensures { result ≡ is_in_range 0x20 0x7E c }
 {

@@ -16,7 +16,7 @@ ghost use Rattle.tbr_tagged.specs.declared.error.Error.TheVariants as E;
 
 use crate::plain::plain_in_front;
 use crate::run_change::{RunChange, RunHistory, note_ascii, with_marker};
-use crate::wrapper::{Wrapper, is_pre};
+use crate::wrapper::Wrapper;
 use std::alloc::Global;
 use std::marker::{Model, PhantomData};
 use tbr_model::{CharWidth, History, WhiteSpace};
@@ -297,10 +297,7 @@ impl<T: Eq + Clone, W: CharWidth> WrappedBlock<T, W> {
         ensures normal_too_narrow { let run = run_with self.old (chars text.now) main_tag.now wrap_tag.now mode in
             IsNormal run → result ≡ Err E.TooNarrow → ¬ (EndedWordsFit W.columns self.old.width run) }
     {
-        if is_pre(mode) {
-            return self.add_first(text, mode, main_tag, wrap_tag);
-        }
-        let (count, width) = plain_in_front::<W>(text);
+        let (count, width) = plain_in_front::<W>(text, mode);
         if count == 0 {
             return self.add_first(text, mode, main_tag, wrap_tag);
         }

@@ -1,22 +1,28 @@
 //! Plain characters, which join a word where they are.
-ghost use Rattle.std.specs.Prelude.{◌≡◌, ◌≤◌, ◌<◌, ◌+◌, ◌∷◌, ℕ, List, length, take, drop, IfSome};
+ghost use Rattle.std.specs.Prelude.{◌≡◌, ◌≤◌, ◌<◌, ◌+◌, ◌∷◌, ℕ, List, length, take, drop, IfSome, false};
+ghost use Rattle.tbr_model.specs.Rule as model;
 ghost use Rattle.tbr_model.specs.Width.{width_of_text};
 ghost use Rattle.tbr_wrap.specs.Plain as plain;
 ghost use Rattle.tbr_wrap.specs.Plain.{IsPlain};
 
-use tbr_model::CharWidth;
+use crate::wrapper::is_pre;
+use tbr_model::{CharWidth, WhiteSpace};
 
 /// How many bytes of plain characters a text begins with, and the columns that these take.
 ///
 /// A plain character is printable ASCII, other than the space, that has a width. The one behind these isn't plain, or
-/// the columns with it pass `usize`.
-pub fn plain_in_front<W: CharWidth>(text: &str) -> (usize, usize)
+/// the columns with it pass `usize`. In `Pre`, where a character may begin the continuation tag, it looks for none.
+pub fn plain_in_front<W: CharWidth>(text: &str, mode: WhiteSpace) -> (usize, usize)
+    ensures mode { 0 < result.0 → model.is_pre mode ≡ false }
     ensures within { result.0 ≤ length text.now }
     ensures plain { IsPlain W.columns (take result.0 text.now) }
     ensures columns { result.1 ≡ width_of_text W.columns (take result.0 text.now) }
-    ensures all { (b : ℕ) (rest : List ℕ) → drop result.0 text.now ≡ b ∷ rest →
+    ensures all { model.is_pre mode ≡ false → (b : ℕ) (rest : List ℕ) → drop result.0 text.now ≡ b ∷ rest →
         IfSome (plain.plain_width W.columns b) (λ n. usize.MAX < result.1 + n) }
 {
+    if is_pre(mode) {
+        return (0, 0);
+    }
     let bytes = text.as_bytes();
     let mut columns = 0usize;
     let mut count = 0;

@@ -6,6 +6,7 @@ mod colours;
 mod decorated;
 mod every_call;
 mod expected;
+mod footnotes;
 mod images;
 mod inside;
 mod markers;

@@ -289,3 +289,48 @@ fn a_link_that_the_top_refuses_to_begin_is_open(rt: HostRuntime) -> Result<(), F
     assert_eq!(rt; targets_of(rt.alloc(), &links)?.as_str(), "t ");
     Ok(())
 }
+
+/// Pushes a renderer, or refuses for want of memory and changes nothing.
+fn pushes_or_refuses(rt: &impl Abort, stack: &mut TextRenderer<PlainDecorator>) {
+    let depth = stack.depth();
+    match push(rt, stack, 5) {
+        Ok(()) => assert!(rt; stack.depth() == depth.saturating_add(1)),
+        Err(error) => assert!(rt; error == Error::OutOfMemory && stack.depth() == depth),
+    }
+}
+
+/// How many links are open in the top, and its refusal.
+fn top_of(rt: &impl Abort, stack: &TextRenderer<PlainDecorator>) -> (usize, Option<Error>) {
+    assert!(rt; 0 < stack.depth());
+    (stack.open_links(), stack.top().failure())
+}
+
+/// Makes a call, or refuses for want of memory for good.
+fn answers_or_fails(
+    rt: &impl Abort,
+    stack: &mut TextRenderer<PlainDecorator>,
+    call: Call<'_>,
+    open: usize,
+) {
+    match make(rt, stack, call) {
+        Ok(()) => assert!(rt; top_of(rt, stack) == (open, None)),
+        Err(error) => {
+            assert!(rt; error == Error::OutOfMemory);
+            let left = top_of(rt, stack);
+            assert!(rt; left.1 == Some(error) && make(rt, stack, call) == Err(error));
+            assert!(rt; top_of(rt, stack) == left);
+        }
+    }
+}
+
+#[test]
+fn a_stack_without_memory_keeps_what_it_has(rt: HostRuntime) {
+    let Ok(mut stack) = stack(rt.alloc(), 9, true) else {
+        return;
+    };
+    pushes_or_refuses(&rt, &mut stack);
+    for call in [Link("a"), Text("x")] {
+        answers_or_fails(&rt, &mut stack, call, 1);
+    }
+    answers_or_fails(&rt, &mut stack, EndLink, 0);
+}
