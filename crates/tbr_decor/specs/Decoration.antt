@@ -1,5 +1,6 @@
 -- A decorator by what its calls give: texts and annotations by its state, and the state that a call leaves.
 use Rattle.std.specs.Prelude.{ℕ, Bool, List, Option}
+use Rattle.tbr_lines.specs.Elements.{Element}
 use Rattle.tbr_decor.specs.declared.colour.Colour.{Colour}
 use Rattle.tbr_decor.specs.Start.{Start}
 use Rattle.tbr_decor.specs.End.{End}
@@ -18,6 +19,7 @@ pub record Decoration (D M : Type 0) : Type 0 where
   pub colour_annotation : D → Ground → Colour → Option M
   pub ends_colour : D → Ground → Bool
   pub subblock : D → D
+  pub footnotes : D → List (List ℕ) → List (List (Element M))
   pub after : D → Change → D
 
 abbrev pub decoration_of : {D A : Type 0} → (decorator : Ghosts D A) → Decoration D decorator.Meaning
@@ -30,5 +32,6 @@ decoration_of decorator = record {
   colour_annotation = decorator.colour_annotation;
   ends_colour = decorator.ends_colour;
   subblock = decorator.subblock;
+  footnotes = decorator.footnotes;
   after = decorator.after;
 }

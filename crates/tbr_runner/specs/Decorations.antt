@@ -5,6 +5,7 @@ use Rattle.tbr_decor.specs.Plain as plain
 use Rattle.tbr_decor.specs.Trivial as trivial
 use Rattle.tbr_decor.specs.Rich as rich
 use Rattle.tbr_decor.specs.Style as style
+use Rattle.tbr_decor.specs.Usual as usual
 use Rattle.tbr_decor.specs.Style.{Style}
 use Rattle.tbr_decor.specs.declared.PlainDecorator.{PlainDecorator}
 use Rattle.tbr_decor.specs.declared.TrivialDecorator.{TrivialDecorator}
@@ -21,6 +22,7 @@ plain_decoration = record {
   colour_annotation = λ _ _ _. None;
   ends_colour = λ _ _. false;
   subblock = λ d. d;
+  footnotes = λ _. usual.footnotes tt;
   after = λ d _. d;
 }
 
@@ -35,6 +37,7 @@ trivial_decoration = record {
   colour_annotation = λ _ _ _. None;
   ends_colour = λ _ _. false;
   subblock = λ d. d;
+  footnotes = λ _. usual.footnotes tt;
   after = λ d _. d;
 }
 
@@ -49,5 +52,6 @@ rich_decoration = record {
   colour_annotation = λ _ g colour. Some (rich.coloured g colour);
   ends_colour = λ _ _. true;
   subblock = λ d. d;
+  footnotes = λ _. usual.footnotes style.plain;
   after = λ d _. d;
 }
