@@ -1,4 +1,4 @@
-/* Loaded in front of the C library by tools/refused: it refuses a program's requests for memory, its reads or its writes.
+/* Loaded in front of the C library by tools/refused: refuses a program's requests for memory, its reads or its writes.
  *
  * REFUSE="memory FIRST LAST" refuses the requests from the FIRST to the LAST, counted from 1. "read FIRST LAST" and
  * "write FIRST LAST" do so with reads of standard input and writes to standard output, which then fail. READ=N and
