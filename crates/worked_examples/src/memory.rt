@@ -80,6 +80,8 @@ fn lines_behind(
             return Err(refusal);
         }
         block_keeps(rt, alloc, &mut block, refusal);
+        assert!(rt; block.into_lines().is_err());
+        return Err(refusal);
     }
     let mut all = String::new(alloc);
     for line in &block.into_lines()? {

@@ -119,6 +119,8 @@ fn shown_or_refused<D: TextDecorator>(
             return Err(refusal);
         }
         keeps(rt, alloc, &mut r, refusal);
+        assert!(rt; handed_out(alloc, Shown::Text, r, &[]).err() == Some(refusal));
+        return Err(refusal);
     }
     handed_out(alloc, Shown::Markers, r, &[])
 }

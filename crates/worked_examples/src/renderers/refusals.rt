@@ -83,6 +83,7 @@ pub fn keeps<D: TextDecorator, W: CharWidth>(
     let before = tells(r);
     refuses_each(rt, alloc, r, refusal);
     assert!(rt; make_all(alloc, r, ENDS).is_ok());
+    assert!(rt; r.width_minus(0, 1).is_ok());
     assert!(rt; before.0 == Some(refusal) && !before.1);
     assert!(rt; tells(r) == before);
 }
