@@ -127,7 +127,13 @@ const EXAMPLES: &[Example<'static>] = &[
     Example {
         name: "each piece stands under its one annotation, and pieces don't matter where a line is cut",
         width: 8,
-        footnotes: &[&[Plain("plain "), Strong("st"), Name("x"), Strong("rong"), Plain("!")]],
+        footnotes: &[&[
+            Plain("plain "),
+            Strong("st"),
+            Name("x"),
+            Strong("rong"),
+            Plain("!"),
+        ]],
         shown: Shown::Pieces,
         lines: "plain :[Default] st:[Strong] \nrong:[Strong] !:[Default] \n",
         ..TARGET
@@ -168,9 +174,7 @@ fn element(
     match part {
         Plain(text) => piece(alloc, text, RichAnnotation::Default),
         Strong(text) => piece(alloc, text, RichAnnotation::Strong),
-        Name(name) => Ok(TaggedLineElement::FragmentStart(String::from_str(
-            alloc, name,
-        )?)),
+        Name(name) => Ok(TaggedLineElement::FragmentStart(String::from_str(alloc, name)?)),
     }
 }
 
@@ -245,11 +249,7 @@ fn marked(alloc: Global) -> Result<String, Error> {
 
 #[test]
 fn footnotes_stand_under_annotations_of_any_decorator(rt: HostRuntime) {
-    shows(
-        &rt,
-        marked(rt.alloc()),
-        "a b:[Nothing] \nc:[Marked] \n",
-    );
+    shows(&rt, marked(rt.alloc()), "a b:[Nothing] \nc:[Marked] \n");
 }
 
 #[test]
