@@ -8,9 +8,9 @@ use crate::texts::{append_pieces, shows};
 use std::alloc::Global;
 use std::process::Abort;
 use std::test::Fail;
-use tbr_decor::{PlainDecorator, RichAnnotation, RichDecorator, TextDecorator};
-use tbr_lines::{Error, OutOfMemory, TaggedLine, TaggedLineElement, TaggedString, UnicodeColumns};
-use text_block_renderer::{RenderOptions, Renderer, SubRenderer};
+use tbr_decor::{RichAnnotation, RichDecorator};
+use tbr_lines::{Error, OutOfMemory, TaggedLine, TaggedLineElement, TaggedString};
+use text_block_renderer::{RenderOptions, SubRenderer};
 
 /// The pieces of the footnotes of two targets.
 fn footnotes(alloc: Global, listed: bool) -> Result<String, Error> {
