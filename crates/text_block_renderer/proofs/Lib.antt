@@ -17,3 +17,4 @@ pub mod Nesting
 pub mod VerticalRows
 pub mod RowsOfCells
 pub mod Taking
+pub mod Linking
