@@ -18,3 +18,5 @@ pub mod VerticalRows
 pub mod RowsOfCells
 pub mod Taking
 pub mod Linking
+pub mod WideEnough
+pub mod Acting

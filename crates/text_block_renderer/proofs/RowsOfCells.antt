@@ -120,7 +120,7 @@ module _ {D A : Type 0} (columns : ℕ → Option ℕ) where
   next_closed r None h = h
   next_closed r (Some b) h = h
 
-  row_closed : (collapses : Bool) (cells : List (GivenCell (List A))) (r s : Renderer D A (List A)) → AppendsRow columns collapses cells r s → s.block ≡ None
+  pub row_closed : (collapses : Bool) (cells : List (GivenCell (List A))) (r s : Renderer D A (List A)) → AppendsRow columns collapses cells r s → s.block ≡ None
   row_closed collapses cells r s h =
       let (m, flushes, puts) = h in
       let row = puts.row in

@@ -21,3 +21,5 @@ pub mod VerticalRows
 pub mod Taken
 pub mod Settings
 pub mod Normal
+pub mod Acts
+pub mod Headline
