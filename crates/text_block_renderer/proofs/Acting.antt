@@ -293,7 +293,7 @@ module _ {D A : Type 0} (columns : ℕ → Option ℕ) where
     -- ---- calls and rows
 
     -- as the only one of calls
-    alone : (c : Call (List A)) (r s : Renderer D A (List A)) (es : List (Entry (List A))) → Does columns decoration c r s → es ≡ entries_brought columns decoration c r → Brings columns decoration (c ∷ []) r es s
+    pub alone : (c : Call (List A)) (r s : Renderer D A (List A)) (es : List (Entry (List A))) → Does columns decoration c r s → es ≡ entries_brought columns decoration c r → Brings columns decoration (c ∷ []) r es s
     alone c r s es does is = (s, [], does, (refl, refl), is ∙ sym (append-nil (entries_brought columns decoration c r)))
 
     rows_one : (act : Act (List A)) (acts : List (Act (List A))) → rows_of (act ∷ acts) ≡ rows_of (act ∷ []) ++ rows_of acts
@@ -365,6 +365,9 @@ module _ {D A : Type 0} (columns : ℕ → Option ℕ) where
         let (m, first, rest, does, others, is) = h in
         subst (λ fs. Along (rows_of (act ∷ acts)) r fs s) (sym is)
         (subst (λ xs. Along xs r (first ++ rest) s) (sym (rows_one act acts)) (along_on (rows_of (act ∷ [])) (rows_of acts) r m s first rest (act_along act r m first does) (acts_along acts m s rest others)))
+
+    pub act_options : (act : Act (List A)) (r s : Renderer D A (List A)) (es : List (Entry (List A))) → ActBrings columns decoration act r es s → s.options ≡ r.options
+    act_options act r s es h = let along = act_along act r s es h in along.options
 
     -- ---- the headline
 

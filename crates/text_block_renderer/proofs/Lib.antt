@@ -20,3 +20,4 @@ pub mod Taking
 pub mod Linking
 pub mod WideEnough
 pub mod Acting
+pub mod ActsShow
