@@ -21,11 +21,11 @@ use Rattle.tbr_rows.specs.Shown.{DrawsInOne, LineFits, TakesColumns, FillsBelow,
 use Rattle.tbr_rows.proofs.Standing.{width_append}
 
 -- characters of one column
-text_columns : {A : Type 0} (columns : ℕ → Option ℕ) (cs : List ℕ) (a : A) → DrawsInOne columns → Each (λ c. IsTrue (takes_one_column c)) cs → items_width columns (text_items cs a) ≡ length cs
+pub text_columns : {A : Type 0} (columns : ℕ → Option ℕ) (cs : List ℕ) (a : A) → DrawsInOne columns → Each (λ c. IsTrue (takes_one_column c)) cs → items_width columns (text_items cs a) ≡ length cs
 text_columns columns [] a one narrow = refl
 text_columns columns (c ∷ cs) a one narrow = omega (arith, ap (λ (o : Option ℕ). unwrap_or o 0) (one c narrow.0), text_columns columns cs a one narrow.1)
 
-spaces_narrow : (n : ℕ) → Each (λ c. IsTrue (takes_one_column c)) (spaces n)
+pub spaces_narrow : (n : ℕ) → Each (λ c. IsTrue (takes_one_column c)) (spaces n)
 spaces_narrow zero = tt
 spaces_narrow (suc n) = (refl, spaces_narrow n)
 

@@ -14,3 +14,4 @@ pub mod MeantCells
 pub mod MeantTexts
 pub mod MeantRows
 pub mod OneRow
+pub mod CellsOfRows

@@ -7,3 +7,4 @@ pub mod Rows
 pub mod Fitting
 pub mod Shown
 pub mod Meant
+pub mod CellsShown

@@ -1,5 +1,5 @@
 //! Laws of rows, each as the contract of a function that does nothing.
-ghost use Rattle.std.specs.Prelude.{◌≡◌, ℕ, List, map, is_some, Some, Bool, true, ◌≤◌, ◌++◌, ◌∷◌, Option, flat_map};
+ghost use Rattle.std.specs.Prelude.{◌≡◌, ◌≢◌, ℕ, List, [], length, map, is_some, Some, Bool, true, ◌≤◌, ◌++◌, ◌∷◌, Option, flat_map};
 ghost use Rattle.tbr_rows.specs.declared.line_set.LineSet.{LineSet as Cell};
 ghost use Rattle.std.specs.List.{AllZip, AllByRecursion as Each};
 ghost use Rattle.tbr_rows.specs.Shown.{part_of, later_of, Meeting, meeting, met, merged_first, merged_last, parts_of, parts_and_merged, AreItsRows, texts_in, goes_on, FillsCell, LinesFillCell, DrawsInOne, LineFits, TakesColumns};
@@ -11,6 +11,7 @@ ghost use Rattle.tbr_rows.specs.declared.row.RowStyle.{RowStyle};
 ghost use Rattle.tbr_rows.specs.Meant.{map_cell, map_border, map_line, row_meant, EqualIfMeant, MeansRow, MeansFilled, SeenRow};
 ghost use Rattle.tbr_rows.specs.Gaps.{cell_in, overhang};
 ghost use Rattle.tbr_rows.specs.Filled.{FillsLine};
+ghost use Rattle.tbr_rows.specs.CellsShown.{MadeRow, StandsAmong, FollowOneAnother, HasFilledCells, IsOfFirst, ShowsTexts};
 ghost use Rattle.tbr_tagged.specs.declared.padding.CellAlign.{CellAlign};
 ghost use Rattle.tbr_border.specs.declared.render_line.RenderLine.{RenderLine};
 ghost use Rattle.tbr_rows.specs.Texts.{row_height, line_text};
@@ -154,4 +155,17 @@ pub fn there_is_one_row_by_meaning<T>()
     ensures { (columns : ℕ → Option ℕ) (style : RowStyle) (tag : T) (hanging cells : List (Cell T))
         (top : Option (Border T)) (row other : SeenRow T) → MeansRow columns style tag hanging cells top row →
         MeansRow columns style tag hanging cells top other → row ≡ other }
+{}
+
+/// Over the rows of its span each cell shows its texts once, in order, in its own columns. The rows follow one another,
+/// and the lines of all cells take their cells' columns. The cells of a row are those that overhang, and its own; one of
+/// these that has no line may leave its place to one that overhangs.
+pub fn rows_show_each_cell_in_its_columns<T>()
+    ensures shown { (columns : ℕ → Option ℕ) → DrawsInOne columns → (draws : Bool) (rows : List (MadeRow T columns))
+        (cell : Cell T) → FollowOneAnother columns draws rows → Each (HasFilledCells columns) rows →
+        IsOfFirst columns cell rows → length rows ≡ cell.span → ShowsTexts columns draws rows cell }
+    ensures own { (columns : ℕ → Option ℕ) (row : MadeRow T columns) (cell : Cell T) →
+        StandsAmong cell row.own → cell.lines ≢ [] → StandsAmong cell row.means.cells }
+    ensures hanging { (columns : ℕ → Option ℕ) (row : MadeRow T columns) (cell : Cell T) →
+        StandsAmong cell row.hanging → StandsAmong cell row.means.cells }
 {}

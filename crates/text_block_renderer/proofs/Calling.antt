@@ -58,7 +58,7 @@ module _ {D A : Type 0} where
 
 module _ {D A : Type 0} (columns : ℕ → Option ℕ) (kind : Kind) where
   empty_put : (r s : Renderer D A (List A)) → r.block ≡ None → s ≡ with_empty_line columns r → Path columns kind r s []
-  empty_put r s none h = onward columns kind r (with_line columns r []) s [] [] (one columns kind (line []) r (with_line columns r []) (may_lay_nothing (List A) kind, none, refl)) (turned columns kind (with_line columns r []) (with_empty_line columns r) s refl refl refl refl refl h)
+  empty_put r s none h = onward columns kind r (with_line columns r []) s [] [] (one columns kind (line []) r (with_line columns r []) (may_lay_nothing (List A) kind, none, refl)) (turned columns kind (with_line columns r []) (with_empty_line columns r) s refl refl refl refl refl refl h)
 
   empty_added : (r s : Renderer D A (List A)) → AddsEmptyLine columns r s → Path columns kind r s []
   empty_added r s h = onward columns kind r h.0 s [] [] (one columns kind flush r h.0 h.1) (empty_put h.0 s (flushed_none columns r h.0 h.1) h.2)
@@ -72,7 +72,7 @@ module _ {D A : Type 0} (columns : ℕ → Option ℕ) (kind : Kind) where
           empty_put r s none (h ∙ is)
       go false e =
           let is : block_started columns r ≡ record r { block_ended = false } = rw e refl in
-          turned columns kind r (record r { block_ended = false }) s refl refl refl refl refl (h ∙ is)
+          turned columns kind r (record r { block_ended = false }) s refl refl refl refl refl refl (h ∙ is)
 
   started : (r s : Renderer D A (List A)) → StartsBlock columns r s → Path columns kind r s []
   started r s h = onward columns kind r h.0 s [] [] (one columns kind flush r h.0 h.1) (begun h.0 s (flushed_none columns r h.0 h.1) h.2)
@@ -109,20 +109,20 @@ module _ {D A : Type 0} (columns : ℕ → Option ℕ) (kind : Kind) where
 
   module _ (decoration : Decoration D A) where
     struck_from_same : (r : Renderer D A (List A)) (b : Bool) → r.options.use_unicode_strikeout ≡ b → SameText r (struck_from r)
-    struck_from_same r true e = rw e (record { lines = refl; block = refl; waiting = refl; width = refl; options = refl })
-    struck_from_same r false e = rw e (record { lines = refl; block = refl; waiting = refl; width = refl; options = refl })
+    struck_from_same r true e = rw e (record { lines = refl; block = refl; waiting = refl; width = refl; options = refl; hanging = refl })
+    struck_from_same r false e = rw e (record { lines = refl; block = refl; waiting = refl; width = refl; options = refl; hanging = refl })
 
     struck_until_same : (r : Renderer D A (List A)) (b : Bool) → r.options.use_unicode_strikeout ≡ b → SameText r (struck_until r)
-    struck_until_same r true e = rw e (record { lines = refl; block = refl; waiting = refl; width = refl; options = refl })
-    struck_until_same r false e = rw e (record { lines = refl; block = refl; waiting = refl; width = refl; options = refl })
+    struck_until_same r true e = rw e (record { lines = refl; block = refl; waiting = refl; width = refl; options = refl; hanging = refl })
+    struck_until_same r false e = rw e (record { lines = refl; block = refl; waiting = refl; width = refl; options = refl; hanging = refl })
 
     coloured_same : (g : Ground) (colour : Colour) (r : Renderer D A (List A)) (o : Option A) → decoration.colour_annotation r.decorator g colour ≡ o → SameText r (coloured decoration g colour r)
-    coloured_same g colour r None e = rw e (record { lines = refl; block = refl; waiting = refl; width = refl; options = refl })
-    coloured_same g colour r (Some a) e = rw e (record { lines = refl; block = refl; waiting = refl; width = refl; options = refl })
+    coloured_same g colour r None e = rw e (record { lines = refl; block = refl; waiting = refl; width = refl; options = refl; hanging = refl })
+    coloured_same g colour r (Some a) e = rw e (record { lines = refl; block = refl; waiting = refl; width = refl; options = refl; hanging = refl })
 
     uncoloured_same : (g : Ground) (r : Renderer D A (List A)) (b : Bool) → decoration.ends_colour r.decorator g ≡ b → SameText r (uncoloured decoration g r)
-    uncoloured_same g r true e = rw e (record { lines = refl; block = refl; waiting = refl; width = refl; options = refl })
-    uncoloured_same g r false e = rw e (record { lines = refl; block = refl; waiting = refl; width = refl; options = refl })
+    uncoloured_same g r true e = rw e (record { lines = refl; block = refl; waiting = refl; width = refl; options = refl; hanging = refl })
+    uncoloured_same g r false e = rw e (record { lines = refl; block = refl; waiting = refl; width = refl; options = refl; hanging = refl })
 
     added : (cs : List ℕ) (r s : Renderer D A (List A)) → AddsText columns decoration.preformatted cs r s → Path columns kind r s (text_brought columns decoration cs r)
     added cs r s h = text_added decoration.preformatted (ignores r cs) r.block_ended cs r s h
@@ -131,7 +131,7 @@ module _ {D A : Type 0} (columns : ℕ → Option ℕ) (kind : Kind) where
     opens opened r s h =
         let q = annotated decoration opened r in
         let cs = decoration.start_text r.decorator opened in
-        onward columns kind r q s [] (text_brought columns decoration cs q) (turned columns kind r q q refl refl refl refl refl refl) (added cs q s h)
+        onward columns kind r q s [] (text_brought columns decoration cs q) (turned columns kind r q q refl refl refl refl refl refl refl) (added cs q s h)
 
     -- moves, and then a turn
     turned_then : (r m s : Renderer D A (List A)) (es : List (Entry (List A))) → Path columns kind r m es → Path columns kind m s [] → Path columns kind r s es
@@ -142,13 +142,13 @@ module _ {D A : Type 0} (columns : ℕ → Option ℕ) (kind : Kind) where
         let q = asked_to_close decoration closed r in
         let cs = decoration.end_text r.decorator closed in
         let es = text_brought columns decoration cs q in
-        onward columns kind r q s [] es (turned columns kind r q q refl refl refl refl refl refl) (turned_then q h.0 s es (added cs q h.0 h.1) (turned columns kind h.0 (without_annotation h.0) s refl refl refl refl refl h.2))
+        onward columns kind r q s [] es (turned columns kind r q q refl refl refl refl refl refl refl) (turned_then q h.0 s es (added cs q h.0 h.1) (turned columns kind h.0 (without_annotation h.0) s refl refl refl refl refl refl h.2))
 
     image_added : (source : List ℕ) (title : Option (List ℕ)) (r s : Renderer D A (List A)) → AddsImageBy columns decoration source title r s → Path columns kind r s (image_brought columns decoration source title r)
     image_added source None r s h = stays columns kind r s h
     image_added source (Some title) r s h =
         let image = start.image source title in
-        turned_then r h.0 s (text_brought columns decoration (decoration.start_text r.decorator image) (annotated decoration image r)) (opens image r h.0 h.1) (turned columns kind h.0 (without_annotation h.0) s refl refl refl refl refl h.2)
+        turned_then r h.0 s (text_brought columns decoration (decoration.start_text r.decorator image) (annotated decoration image r)) (opens image r h.0 h.1) (turned columns kind h.0 (without_annotation h.0) s refl refl refl refl refl refl h.2)
 
     call_moves : (c : Call (List A)) (r s : Renderer D A (List A)) → Fits kind r (c ∷ []) → Does columns decoration c r s → Course columns kind r s (entries_brought columns decoration c r) (borders_added r.width r.options c)
     call_moves add_empty_line r s fits h = empty_added r s h
@@ -156,12 +156,12 @@ module _ {D A : Type 0} (columns : ℕ → Option ℕ) (kind : Kind) where
     call_moves new_line_hard r s fits h = broken r s h.0 h.2
     call_moves start_block r s fits h = started r s h
     call_moves start_table r s fits h = started r s h
-    call_moves end_block r s fits h = turned columns kind r (record r { block_ended = true }) s refl refl refl refl refl h
+    call_moves end_block r s fits h = turned columns kind r (record r { block_ended = true }) s refl refl refl refl refl refl h
     call_moves (add_inline_text cs) r s fits h = text_added decoration.preformatted (ignores r cs) r.block_ended cs r s h
-    call_moves (push_ws mode) r s fits h = turned columns kind r (record r { modes = r.modes ++ mode ∷ [] }) s refl refl refl refl refl h
-    call_moves pop_ws r s fits h = turned columns kind r (record r { modes = without_last r.modes }) s refl refl refl refl refl h
-    call_moves push_preformat r s fits h = turned columns kind r (record r { preformatted = suc r.preformatted }) s refl refl refl refl refl h
-    call_moves pop_preformat r s fits h = turned columns kind r (record r { preformatted = r.preformatted - 1 }) s refl refl refl refl refl h
+    call_moves (push_ws mode) r s fits h = turned columns kind r (record r { modes = r.modes ++ mode ∷ [] }) s refl refl refl refl refl refl h
+    call_moves pop_ws r s fits h = turned columns kind r (record r { modes = without_last r.modes }) s refl refl refl refl refl refl h
+    call_moves push_preformat r s fits h = turned columns kind r (record r { preformatted = suc r.preformatted }) s refl refl refl refl refl refl h
+    call_moves pop_preformat r s fits h = turned columns kind r (record r { preformatted = r.preformatted - 1 }) s refl refl refl refl refl refl h
     call_moves (record_frag_start name) r s fits h = one columns kind (join (marker_entry name ∷ [])) r s h
     call_moves (begin opened) r s fits h = opens opened r s h
     call_moves (finish closed) r s fits h = closes closed r s h

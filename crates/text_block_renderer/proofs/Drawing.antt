@@ -170,7 +170,7 @@ module _ {D A : Type 0} (columns : ℕ → Option ℕ) where
   move_less (join es) r s ls pads e h =
       with_none r s ls es pads (no_line (join es) r s ls (ap (λ (q : Renderer D A (List A)). q.lines) h) (ap (λ (q : Renderer D A (List A)). on q ls) h))
   move_less turn r s ls pads e h =
-      with_none r s ls [] pads (no_line turn r s ls h.lines (record { lines = refl; block = h.block; waiting = h.waiting; width = h.width; options = h.options }))
+      with_none r s ls [] pads (no_line turn r s ls h.lines (record { lines = refl; block = h.block; waiting = h.waiting; width = h.width; options = h.options; hanging = h.hanging }))
 
   moves_less : (ms : List (Move (List A))) (r s : Renderer D A (List A)) (ls : List (Line (List A))) (pads : Bool) → r.options.pad_block_width ≡ pads → MakesAll columns any ms r s → Less r s ls (brought ms) (if_drawn pads (ruled ms))
   moves_less [] r s ls pads e h =

@@ -17,3 +17,11 @@ pub mod Nesting
 pub mod VerticalRows
 pub mod RowsOfCells
 pub mod Taking
+pub mod Linking
+pub mod WideEnough
+pub mod Staying
+pub mod Lists
+pub mod Overhanging
+pub mod Acting
+pub mod Heading
+pub mod ActsShow

@@ -5,6 +5,7 @@ use Rattle.std.specs.List.{AllByRecursion as Each}
 use Rattle.tbr_model.specs.Run.{Entry, Item}
 use Rattle.tbr_lines.specs.Border.{without_holes}
 use Rattle.tbr_lines.specs.Cell.{Cell}
+use Rattle.tbr_rows.specs.declared.LineSet.{LineSet as Overhanging}
 use Rattle.tbr_renderer.specs.declared.options.RenderOptions.{RenderOptions}
 use Rattle.tbr_renderer.specs.Renderer.{Open, Renderer, with_line, with_entries}
 use Rattle.tbr_renderer.specs.Flush.{block_lines, Flushes, FlushesBlock}
@@ -28,6 +29,7 @@ pub record SameText {D A : Type 0} (r s : Renderer D A (List A)) : Type 0 where
   pub waiting : s.waiting ≡ r.waiting
   pub width : s.width ≡ r.width
   pub options : s.options ≡ r.options
+  pub hanging : s.hanging ≡ r.hanging
 
 abbrev pub brought_by : {T : Type 0} → Move T → List (Entry T)
 brought_by flush = []
@@ -87,8 +89,14 @@ MayRule own r = ⊥
 
 -- ---- paths
 
-abbrev pub frame : {D A : Type 0} → Renderer D A (List A) → ℕ × RenderOptions
-frame r = (r.width, r.options)
+-- what no call changes
+pub record Frame (A : Type 0) : Type 0 where
+  pub width : ℕ
+  pub options : RenderOptions
+  pub hanging : List (Overhanging (List A))
+
+abbrev pub frame : {D A : Type 0} → Renderer D A (List A) → Frame A
+frame r = record { width = r.width; options = r.options; hanging = r.hanging }
 
 module _ {D A : Type 0} (columns : ℕ → Option ℕ) where
   pub no_block : (ts : List (List (Item (List A)))) (q : Renderer D A (List A)) → q.block ≡ None → (fold (with_line columns) q ts).block ≡ None
@@ -102,7 +110,7 @@ module _ {D A : Type 0} (columns : ℕ → Option ℕ) where
   pub flushed_none : (r s : Renderer D A (List A)) → Flushes columns r s → s.block ≡ None
   flushed_none r s h = closed r s r.block refl h
 
-  frame_of_lines : (ts : List (List (Item (List A)))) (q : Renderer D A (List A)) → frame (fold (with_line columns) q ts) ≡ frame q
+  pub frame_of_lines : (ts : List (List (Item (List A)))) (q : Renderer D A (List A)) → frame (fold (with_line columns) q ts) ≡ frame q
   frame_of_lines [] q = refl
   frame_of_lines (t ∷ ts) q = frame_of_lines ts (with_line columns q t)
 
@@ -152,8 +160,8 @@ module _ {D A : Type 0} (columns : ℕ → Option ℕ) (kind : Kind) where
   pub turned_by : (r q s : Renderer D A (List A)) → SameText r q → s ≡ q → Path r s []
   turned_by r q s same is = one turn r s (subst (λ (p : Renderer D A (List A)). SameText r p) (sym is) same)
 
-  pub turned : (r q s : Renderer D A (List A)) → q.lines ≡ r.lines → q.block ≡ r.block → q.waiting ≡ r.waiting → q.width ≡ r.width → q.options ≡ r.options → s ≡ q → Path r s []
-  turned r q s lines block waiting width options is = turned_by r q s (record { lines = lines; block = block; waiting = waiting; width = width; options = options }) is
+  pub turned : (r q s : Renderer D A (List A)) → q.lines ≡ r.lines → q.block ≡ r.block → q.waiting ≡ r.waiting → q.width ≡ r.width → q.options ≡ r.options → q.hanging ≡ r.hanging → s ≡ q → Path r s []
+  turned r q s lines block waiting width options hanging is = turned_by r q s (record { lines = lines; block = block; waiting = waiting; width = width; options = options; hanging = hanging }) is
 
   pub stays : (r s : Renderer D A (List A)) → s ≡ r → Path r s []
   stays r s h = record { moves = []; makes = h; brings = refl; rules = refl }
@@ -176,24 +184,31 @@ module _ {D A : Type 0} (columns : ℕ → Option ℕ) (kind : Kind) where
   through R same on each [] r s h = same r s h
   through R same on each (m ∷ ms) r s h = on r h.0 s (each m r h.0 h.1) (through R same on each ms h.0 s h.2)
 
-  -- ---- width and options
+  -- ---- width, options, and the cells that overhang
 
   move_frame : (m : Move (List A)) (r s : Renderer D A (List A)) → Makes m r s → frame s ≡ frame r
   move_frame flush r s h = flush_frame columns r s r.block h
   move_frame (line is) r s h = ap (λ (q : Renderer D A (List A)). frame q) h.2
   move_frame (rule cells) r s h = ap (λ (q : Renderer D A (List A)). frame q) h.2
   move_frame (join es) r s h = ap (λ (q : Renderer D A (List A)). frame q) h
-  move_frame turn r s h = ap (λ w. (w, s.options)) h.width ∙ ap (λ o. (r.width, o)) h.options
+  move_frame turn r s h =
+      ap (λ w. frame_of w s.options s.hanging) h.width ∙ ap (λ o. frame_of r.width o s.hanging) h.options ∙ ap (λ cells. frame_of r.width r.options cells) h.hanging
+    where
+      frame_of : ℕ → RenderOptions → List (Overhanging (List A)) → Frame A
+      frame_of w o cells = record { width = w; options = o; hanging = cells }
 
   pub move_options : (m : Move (List A)) (r s : Renderer D A (List A)) → Makes m r s → s.options ≡ r.options
-  move_options m r s h = ap (λ (f : ℕ × RenderOptions). f.1) (move_frame m r s h)
+  move_options m r s h = ap (λ (f : Frame A). f.options) (move_frame m r s h)
 
   path_frame : (r s : Renderer D A (List A)) (es : List (Entry (List A))) (bs : List (List Cell)) → Course r s es bs → frame s ≡ frame r
   path_frame r s es bs path =
       through (λ p q. frame q ≡ frame p) (λ p q e. ap (λ (t : Renderer D A (List A)). frame t) e) (λ p q t g h. h ∙ g) move_frame path.moves r s path.makes
 
   pub path_width : (r s : Renderer D A (List A)) (es : List (Entry (List A))) (bs : List (List Cell)) → Course r s es bs → s.width ≡ r.width
-  path_width r s es bs path = ap (λ (f : ℕ × RenderOptions). f.0) (path_frame r s es bs path)
+  path_width r s es bs path = ap (λ (f : Frame A). f.width) (path_frame r s es bs path)
 
   pub path_options : (r s : Renderer D A (List A)) (es : List (Entry (List A))) (bs : List (List Cell)) → Course r s es bs → s.options ≡ r.options
-  path_options r s es bs path = ap (λ (f : ℕ × RenderOptions). f.1) (path_frame r s es bs path)
+  path_options r s es bs path = ap (λ (f : Frame A). f.options) (path_frame r s es bs path)
+
+  pub path_hanging : (r s : Renderer D A (List A)) (es : List (Entry (List A))) (bs : List (List Cell)) → Course r s es bs → s.hanging ≡ r.hanging
+  path_hanging r s es bs path = ap (λ (f : Frame A). f.hanging) (path_frame r s es bs path)

@@ -5,7 +5,6 @@ use Rattle.tbr_model.specs.Run.{Entry, Item}
 use Rattle.tbr_model.proofs.lists.Each.{each_append}
 use Rattle.tbr_lines.specs.Border.{without_holes}
 use Rattle.tbr_lines.specs.Cell.{Cell}
-use Rattle.tbr_renderer.specs.declared.options.RenderOptions.{RenderOptions}
 use Rattle.tbr_decor.specs.Decoration.{Decoration}
 use Rattle.tbr_renderer.specs.Renderer.{Open, Renderer, with_line, with_entries, open_run}
 use Rattle.tbr_renderer.specs.Flush.{block_lines, EndsBlock, FlushesBlock}
@@ -16,7 +15,7 @@ use Rattle.text_block_renderer.specs.Stretches.{Part, ended, laid, ruled, entrie
 use Rattle.std.specs.Prelude.{⊤}
 use Rattle.std.specs.List.{AllByRecursion as Each}
 use Rattle.text_block_renderer.proofs.Moves as moves
-use Rattle.text_block_renderer.proofs.Moves.{Move, flush, line, rule, join, turn, brought_by, brought, ruled_by, Kind, any, undrawn, own, Fits, MayLay, MayRule, Makes, MakesAll, no_block, flush_frame}
+use Rattle.text_block_renderer.proofs.Moves.{Move, flush, line, rule, join, turn, brought_by, brought, ruled_by, Kind, any, undrawn, own, Fits, MayLay, MayRule, Makes, MakesAll, Frame, no_block, flush_frame}
 use Rattle.text_block_renderer.proofs.Calling.{calls_move}
 use Rattle.tbr_renderer.proofs.Writing.{open_run_is}
 use Rattle.text_block_renderer.proofs.Stretching.{flush_adds}
@@ -95,8 +94,8 @@ module _ {D A : Type 0} (columns : ℕ → Option ℕ) (kind : Kind) where
       let closed : Renderer D A (List A) = record q { block = None } in
       let same = flush_frame columns q s (Some b) h in
       one_part r q s es [] bs (ended q b h.texts)
-      (ap (λ (f : ℕ × RenderOptions). f.0) same)
-      (ap (λ (f : ℕ × RenderOptions). f.1) same)
+      (ap (λ (f : Frame A). f.width) same)
+      (ap (λ (f : Frame A). f.options) same)
       (record { width = k.width; options = k.options; block = open_block_is; names = h.names; ends = h.ends })
       (ended_kind kind q b h.texts)
       (flush_adds columns q s b h)

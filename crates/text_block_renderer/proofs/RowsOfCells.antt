@@ -23,7 +23,7 @@ use Rattle.tbr_renderer.proofs.Steady.{Steady, flushed_alike}
 
 -- ---- texts only come
 
-text_append : {T : Type 0} (xs ys : List (Line T)) → text_of_lines (xs ++ ys) ≡ text_of_lines xs ++ text_of_lines ys
+pub text_append : {T : Type 0} (xs ys : List (Line T)) → text_of_lines (xs ++ ys) ≡ text_of_lines xs ++ text_of_lines ys
 text_append [] ys = refl
 text_append (text is ∷ xs) ys = ap (λ js. is ++ js) (text_append xs ys) ∙ sym (append_assoc is (text_of_lines xs) (text_of_lines ys))
 text_append (border b ∷ xs) ys = text_append xs ys
@@ -41,14 +41,14 @@ without_border (l ∷ m ∷ ls) b e =
     let next : length (l ∷ m ∷ ls) - 1 ≡ suc (length (m ∷ ls) - 1) = omega arith in
     ap (λ n. text_of_lines (take n (l ∷ m ∷ ls))) next ∙ text_behind l (without_last (m ∷ ls)) (m ∷ ls) (without_border (m ∷ ls) b e)
 
-cut_texts : {T : Type 0} (ls : List (Line T)) → text_of_lines (before_border ls) ≡ text_of_lines ls
+pub cut_texts : {T : Type 0} (ls : List (Line T)) → text_of_lines (before_border ls) ≡ text_of_lines ls
 cut_texts {T} ls = go (last_border ls) refl
   where
     go : (o : Option (Border T)) → last_border ls ≡ o → text_of_lines (if is_some o then without_last ls else ls) ≡ text_of_lines ls
     go None e = refl
     go (Some b) e = without_border ls b e
 
-no_texts : {T : Type 0} (o : Option (Border T)) → text_of_lines (border_lines o) ≡ []
+pub no_texts : {T : Type 0} (o : Option (Border T)) → text_of_lines (border_lines o) ≡ []
 no_texts None = refl
 no_texts (Some b) = refl
 
@@ -120,7 +120,7 @@ module _ {D A : Type 0} (columns : ℕ → Option ℕ) where
   next_closed r None h = h
   next_closed r (Some b) h = h
 
-  row_closed : (collapses : Bool) (cells : List (GivenCell (List A))) (r s : Renderer D A (List A)) → AppendsRow columns collapses cells r s → s.block ≡ None
+  pub row_closed : (collapses : Bool) (cells : List (GivenCell (List A))) (r s : Renderer D A (List A)) → AppendsRow columns collapses cells r s → s.block ≡ None
   row_closed collapses cells r s h =
       let (m, flushes, puts) = h in
       let row = puts.row in

@@ -113,7 +113,7 @@ module _ {D A : Type 0} (columns : ℕ → Option ℕ) where
       subst (λ (q : Renderer D A (List A)). Shows columns q es) (sym h.is) (record { ended = k.ended ++ b.run; shown = both; whole = whole })
 
   -- laid items, put as a line where no block is open
-  shows_put : (r s : Renderer D A (List A)) (is : List (Item (List A))) (es : List (Entry (List A))) → r.block ≡ None → s ≡ with_line columns r is → Shows columns r es → Shows columns s (es ++ laid_entries is)
+  pub shows_put : (r s : Renderer D A (List A)) (is : List (Item (List A))) (es : List (Entry (List A))) → r.block ≡ None → s ≡ with_line columns r is → Shows columns r es → Shows columns s (es ++ laid_entries is)
   shows_put r s is es none e k =
       let more : List (Entry (List A)) = laid_entries is in
       let both : AllZip (IsShown (λ x y. x ≡ y)) (visible_glyphs columns (text_of_lines r.lines) ++ visible_glyphs columns is) (visible_entries columns (k.ended ++ more)) =
@@ -130,7 +130,7 @@ module _ {D A : Type 0} (columns : ℕ → Option ℕ) where
       })
 
   -- a border that stays one
-  shows_rule : (r s : Renderer D A (List A)) (b : Border (List A)) (es : List (Entry (List A))) → r.options.pad_block_width ≡ false → s ≡ with_border columns r b → Shows columns r es → Shows columns s es
+  pub shows_rule : (r s : Renderer D A (List A)) (b : Border (List A)) (es : List (Entry (List A))) → r.options.pad_block_width ≡ false → s ≡ with_border columns r b → Shows columns r es → Shows columns s es
   shows_rule r s b es unpadded e k =
       let same : text_of_lines (r.lines ++ border_line columns r b ∷ []) ≡ text_of_lines r.lines = ap (λ l. text_of_lines (r.lines ++ l ∷ [])) (border_stays columns r b unpadded) ∙ no_text_behind r.lines b in
       subst (λ (q : Renderer D A (List A)). Shows columns q es) (sym e) (record {

@@ -11,6 +11,7 @@ pub use Rattle.tbr_renderer.specs.View
 pub use Rattle.tbr_renderer.specs.Appended
 pub use Rattle.tbr_stack.specs.Links
 pub use Rattle.tbr_stack.specs.Stack
+pub use Rattle.tbr_stack.specs.StackCalls
 pub use Rattle.tbr_renderer.specs.Rows
 pub mod Drawn
 pub mod MarkersStand
@@ -20,3 +21,5 @@ pub mod VerticalRows
 pub mod Taken
 pub mod Settings
 pub mod Normal
+pub mod Acts
+pub mod Headline

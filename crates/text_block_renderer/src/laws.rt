@@ -1,5 +1,7 @@
 //! What follows from the steps alone, each as the contract of a function that does nothing.
 pub mod appended;
+pub mod headline;
+pub mod links;
 pub mod rows;
 
 ghost use Rattle.std.specs.Prelude.{◌≡◌, ℕ, false, ◌⊎◌, Option, Some, List, [], ◌++◌, flat_map};

@@ -1,10 +1,12 @@
 //! What follows for rows of cells side by side.
-ghost use Rattle.std.specs.Prelude.{◌≡◌, ℕ, Bool, Option, List, ◌++◌};
-ghost use Rattle.tbr_model.specs.Run.{Item};
+ghost use Rattle.std.specs.Prelude.{◌≡◌, ℕ, Bool, false, Option, List, ◌++◌};
+ghost use Rattle.tbr_model.specs.Run.{Entry, Item};
+ghost use Rattle.tbr_decor.specs.Decoration.{Decoration};
 ghost use Rattle.tbr_renderer.specs.Renderer.{Renderer, settings_of};
-ghost use Rattle.tbr_renderer.specs.Calls.{text_of_lines};
+ghost use Rattle.tbr_renderer.specs.Calls.{text_of_lines, Shows};
 ghost use Rattle.tbr_renderer.specs.Rows.{GivenCell, AppendsRow};
 ghost use Rattle.text_block_renderer.specs.Normal.{WrapsNormally};
+ghost use Rattle.text_block_renderer.specs.Acts.{Act, ActsBring};
 
 /// A row takes no line of text back: its texts come behind those that there are.
 pub fn a_row_takes_no_text_back<D, A>()
@@ -32,4 +34,13 @@ pub fn normal_rows_keep_text_normal<D, A>()
     ensures { (columns : ℕ → Option ℕ) (collapses : Bool) (cells : List (GivenCell (List A)))
         (r s : Renderer D A (List A)) →
         WrapsNormally r → AppendsRow columns collapses cells r s → WrapsNormally s }
+{}
+
+/// After any calls and rows the visible characters of what they brought stand in the lines of text, but for those of the
+/// open run, once and in order, each under an annotation of its call, where lines aren't padded. A row brings the texts
+/// of its lines.
+pub fn visible_characters_stand_once_with_rows_too<D, A>()
+    ensures { (columns : ℕ → Option ℕ) (decoration : Decoration D A) (acts : List (Act (List A)))
+        (r s : Renderer D A (List A)) (before es : List (Entry (List A))) → r.options.pad_block_width ≡ false →
+        ActsBring columns decoration acts r es s → Shows columns r before → Shows columns s (before ++ es) }
 {}

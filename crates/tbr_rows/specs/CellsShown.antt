@@ -1,0 +1,89 @@
+-- What rows of cells show of each cell, over all rows of its span.
+use Rattle.std.specs.Prelude.{◌≡◌, ℕ, ◌<◌, ⊤, Bool, Option, Some, List, [], ◌∷◌, ◌++◌, length, map}
+use Rattle.std.specs.List.{slice_get, AllByRecursion as Each}
+use Rattle.tbr_model.specs.Run.{Item, items_width}
+use Rattle.tbr_model.specs.Layout.{joined}
+use Rattle.tbr_border.specs.Border.{Border}
+use Rattle.tbr_border.specs.declared.render_line.RenderLine.{RenderLine}
+use Rattle.tbr_border.specs.declared.render_line.RenderLine.TheVariants.{Text, Line}
+use Rattle.tbr_tagged.specs.Elements.{items_of}
+use Rattle.tbr_rows.specs.declared.line_set.LineSet.{LineSet as Cell}
+use Rattle.tbr_rows.specs.declared.row.RowStyle.{RowStyle}
+use Rattle.tbr_rows.specs.Cells.{AreSideBySide, AreApart}
+use Rattle.tbr_rows.specs.Texts.{text_in_row, row_height}
+use Rattle.tbr_rows.specs.Meant.{SeenRow, MeansRow}
+use Rattle.tbr_rows.specs.Shown.{Meeting, meeting, met, behind, parts_of, texts_in}
+
+-- A row, with the cells of which it was made: those that overhang, and its own.
+pub record MadeRow (A : Type 0) (columns : ℕ → Option ℕ) : Type 0 where
+  pub style : RowStyle
+  pub tag : A
+  pub hanging : List (Cell A)
+  pub own : List (Cell A)
+  pub side_by_side : AreSideBySide 0 own
+  pub top : Option (Border A)
+  pub row : SeenRow A
+  pub means : MeansRow columns style tag hanging own top row
+
+abbrev pub StandsAmong : {X : Type 0} → X → List X → Type 0
+StandsAmong {X} x xs = (front rest : List X) × (xs ≡ front ++ x ∷ rest)
+
+-- ---- lines that fit
+
+-- a line takes so many columns: a text, or a border that nothing stands in front of
+abbrev pub Fills : {A : Type 0} → (ℕ → Option ℕ) → ℕ → RenderLine A → Type 0
+Fills columns width (Text es) = items_width columns (items_of es) ≡ width
+Fills columns width (Line b) = (length b.cells ≡ width) × (b.holes ≡ [])
+
+-- and so does each line of a cell
+abbrev pub IsFilled : {A : Type 0} → (ℕ → Option ℕ) → Cell A → Type 0
+IsFilled columns c = Each (Fills columns c.width) c.lines
+
+module _ {A : Type 0} (columns : ℕ → Option ℕ) where
+  -- ---- one row
+
+  -- what each cell of it meets
+  abbrev pub meeting_in : MadeRow A columns → Meeting
+  meeting_in r = meeting r.style.collapses r.top (row_height r.means.shown)
+
+  -- In line i of the row there stands in the cell's columns what is shown of it: its line i, if it has one.
+  pub record ShowsAt (r : MadeRow A columns) (c : Cell A) (i : ℕ) : Type 0 where
+    pub before : List (Item A)
+    pub here : List (Item A)
+    pub after : List (Item A)
+    pub line : slice_get r.row.lines i ≡ Some (before ++ here ++ after)
+    pub place : items_width columns before ≡ c.place
+    pub width : items_width columns here ≡ c.width
+    pub shows : (l : RenderLine A) → slice_get (met (meeting_in r) c).lines i ≡ Some l → here ≡ text_in_row r.tag l
+
+  abbrev pub StandsInItsColumns : MadeRow A columns → Cell A → Type 0
+  StandsInItsColumns r c = (i : ℕ) → i < length r.row.lines → ShowsAt r c i
+
+  -- ---- the rows of a cell
+
+  -- in each of them what is left of it by then
+  abbrev pub StandsInAll : List (MadeRow A columns) → Cell A → Type 0
+  StandsInAll [] c = ⊤
+  StandsInAll (r ∷ rs) c = StandsInItsColumns r c × StandsInAll rs (behind r.style.draws_borders (meeting_in r) c)
+
+  -- Each row has what overhangs of the one before, and all draw borders, or none.
+  abbrev pub FollowOneAnother : Bool → List (MadeRow A columns) → Type 0
+  FollowOneAnother draws [] = ⊤
+  FollowOneAnother draws (r ∷ []) = r.style.draws_borders ≡ draws
+  FollowOneAnother draws (r ∷ q ∷ rs) =
+      (r.style.draws_borders ≡ draws) × (q.hanging ≡ r.row.overhang) × FollowOneAnother draws (q ∷ rs)
+
+  -- the lines of their own cells fit
+  abbrev pub HasFilledCells : MadeRow A columns → Type 0
+  HasFilledCells r = Each (IsFilled columns) r.own
+
+  -- A cell of the first row, in which what overhangs stands apart, and its lines fit too.
+  abbrev pub IsOfFirst : Cell A → List (MadeRow A columns) → Type 0
+  IsOfFirst c [] = ⊥
+  IsOfFirst c (r ∷ rs) =
+      StandsAmong c r.means.cells × AreApart 0 r.hanging × Each (IsFilled columns) r.hanging
+
+  -- The rows of a cell's span show its texts once, in order, in its own columns.
+  pub record ShowsTexts (draws : Bool) (rows : List (MadeRow A columns)) (c : Cell A) : Type 0 where
+    pub once : texts_in (joined (parts_of draws (map meeting_in rows) c)) ≡ texts_in c.lines
+    pub in_its_columns : StandsInAll rows c

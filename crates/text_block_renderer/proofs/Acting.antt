@@ -1,0 +1,211 @@
+-- What calls and rows add to the lines, piece by piece.
+use Rattle.std.proofs.Common.{◌≡◌, ℕ, Bool, Option, Some, None, List, [], ◌∷◌, ◌++◌, map, flat_map, fold, refl, ap, sym, ◌∙◌, subst, append_assoc, append-nil}
+use Rattle.std.specs.List.{AllZip}
+use Rattle.std.proofs.lemmas.List.{map-append}
+use Rattle.std.proofs.lemmas.List.Concat.{flat_map-append}
+use Rattle.tbr_model.specs.Run.{Entry, Item}
+use Rattle.tbr_model.specs.Layout.{joined}
+use Rattle.tbr_model.proofs.lists.Each.{each_append}
+use Rattle.tbr_lines.specs.Border.{Border}
+use Rattle.tbr_rows.specs.Meant.{SeenRow}
+use Rattle.tbr_rows.specs.declared.LineSet.{LineSet as Cell}
+use Rattle.tbr_decor.specs.Decoration.{Decoration}
+use Rattle.tbr_renderer.specs.declared.options.RenderOptions.{RenderOptions}
+use Rattle.tbr_renderer.specs.Renderer.{Line, Open, Renderer, Settings, settings_of, with_line, open_run}
+use Rattle.tbr_renderer.specs.Rows.{GivenCell, before_border, border_lines, with_next, with_row, PutsRow}
+use Rattle.tbr_renderer.specs.Appended.{border_line}
+use Rattle.tbr_renderer.specs.Calls.{Call, new_line, Does, entries_brought, Brings, laid_entries}
+use Rattle.tbr_renderer.proofs.Steady.{Steady, lines_added}
+use Rattle.text_block_renderer.specs.Stretches.{Part, ended, laid, ruled, lines_laid, IsPart, ComesInParts}
+use Rattle.text_block_renderer.specs.Acts.{Act, call, row, rows_of, ActBrings, ActsBring, Piece, part, put, cells_in, rows_in, border_lines_of, lines_of_piece, entries_of_piece, IsPiece, StaysLine, ComesInPieces}
+use Rattle.text_block_renderer.proofs.Moves.{any, Frame, frame, frame_of_lines, flushed_none, path_width, path_options, path_hanging}
+use Rattle.text_block_renderer.proofs.Calling.{calls_move}
+use Rattle.text_block_renderer.proofs.Parting.{brings_parts}
+use Rattle.text_block_renderer.proofs.Laying.{laid_lines}
+use Rattle.text_block_renderer.proofs.RowsOfCells.{row_closed}
+use Rattle.text_block_renderer.proofs.Staying.{all_stay, stay_on, stay_append, top_put_back}
+use Rattle.text_block_renderer.proofs.Lists.{flat_map_map, each_map, each_gives}
+use Rattle.text_block_renderer.proofs.Overhanging.{Chain, chain_append}
+
+module _ {D A : Type 0} (columns : ℕ → Option ℕ) where
+  rows_append : (ps qs : List (Piece D A columns)) → rows_in (ps ++ qs) ≡ rows_in ps ++ rows_in qs
+  rows_append [] qs = refl
+  rows_append (part p ∷ ps) qs = rows_append ps qs
+  rows_append (put p ∷ ps) qs = ap (λ rows. p ∷ rows) (rows_append ps qs)
+
+  no_rows : (ps : List (Part D A)) → rows_in {columns = columns} (map (λ p. part p) ps) ≡ []
+  no_rows [] = refl
+  no_rows (p ∷ ps) = no_rows ps
+
+  -- parts of calls
+  as_pieces : (r s : Renderer D A (List A)) (es : List (Entry (List A))) → ComesInParts columns r es s → ComesInPieces columns [] r es s
+  as_pieces r s es h = record {
+    pieces = map part h.parts;
+    are = each_map (IsPart columns r) (IsPiece columns r) part (λ p k. k) h.parts h.are;
+    lines = subst (λ ls. AllZip StaysLine ls s.lines) (h.lines ∙ ap (λ ls. r.lines ++ ls) (sym (flat_map_map (lines_of_piece columns) part h.parts))) (all_stay s.lines);
+    entries = h.entries ∙ ap (λ fs. fs ++ open_run s.block) (sym (flat_map_map (entries_of_piece columns) part h.parts));
+    put_rows = ap (map cells_in) (no_rows h.parts);
+  }
+
+  part_of_other : (r q : Renderer D A (List A)) → q.width ≡ r.width → q.options ≡ r.options → (p : Part D A) → IsPart columns q p → IsPart columns r p
+  part_of_other r q width options (ended t b texts) h = record { width = h.width ∙ width; options = h.options ∙ options; block = h.block; names = h.names; ends = h.ends }
+  part_of_other r q width options (laid t is) h = record { width = h.width ∙ width; options = h.options ∙ options; block = h.block }
+  part_of_other r q width options (ruled t cells) h = record { width = h.width ∙ width; options = h.options ∙ options; block = h.block }
+
+  piece_of_other : (r q : Renderer D A (List A)) → q.width ≡ r.width → q.options ≡ r.options → (p : Piece D A columns) → IsPiece columns q p → IsPiece columns r p
+  piece_of_other r q width options (part p) h = part_of_other r q width options p h
+  piece_of_other r q width options (put p) h = record { width = h.width ∙ width; options = h.options ∙ options; block = h.block }
+
+  -- and then others
+  come_on : (xs ys : List (List (GivenCell (List A)))) (r q s : Renderer D A (List A)) (es fs : List (Entry (List A))) → q.width ≡ r.width → q.options ≡ r.options → ComesInPieces columns xs r es q → ComesInPieces columns ys q fs s →
+      ComesInPieces columns (xs ++ ys) r (es ++ fs) s
+  come_on xs ys r q s es fs width options h k =
+      let first = flat_map (lines_of_piece columns) h.pieces in
+      let after_them = flat_map (lines_of_piece columns) k.pieces in
+      let both : flat_map (lines_of_piece columns) (h.pieces ++ k.pieces) ≡ first ++ after_them = flat_map-append (lines_of_piece columns) h.pieces k.pieces in
+      let before = flat_map (entries_of_piece columns) h.pieces in
+      let after = flat_map (entries_of_piece columns) k.pieces in
+      record {
+        pieces = h.pieces ++ k.pieces;
+        are = each_append (IsPiece columns r) h.pieces k.pieces h.are (each_gives (IsPiece columns q) (IsPiece columns r) (piece_of_other r q width options) k.pieces k.are);
+        lines = subst (λ ls. AllZip StaysLine ls s.lines) (append_assoc r.lines first after_them ∙ ap (λ ls. r.lines ++ ls) (sym both))
+            (stay_on ((r.lines ++ first) ++ after_them) (q.lines ++ after_them) s.lines (stay_append (r.lines ++ first) q.lines after_them after_them h.lines (all_stay after_them)) k.lines);
+        entries = sym (append_assoc (open_run r.block) es fs) ∙ ap (λ gs. gs ++ fs) h.entries ∙ append_assoc before (open_run q.block) fs ∙ ap (λ gs. before ++ gs) k.entries
+            ∙ sym (append_assoc before after (open_run s.block)) ∙ ap (λ gs. gs ++ open_run s.block) (sym (flat_map-append (entries_of_piece columns) h.pieces k.pieces));
+        put_rows = ap (map cells_in) (rows_append h.pieces k.pieces) ∙ map-append cells_in (rows_in h.pieces) (rows_in k.pieces) ∙ ap (λ zs. zs ++ map cells_in (rows_in k.pieces)) h.put_rows ∙ ap (λ zs. xs ++ zs) k.put_rows;
+      }
+
+  -- ---- a row
+
+  next_frame : (q : Renderer D A (List A)) (o : Option (Border (List A))) → frame (with_next columns q o) ≡ frame q
+  next_frame q None = refl
+  next_frame q (Some b) = refl
+
+  row_frame : (m : Renderer D A (List A)) (seen : SeenRow (List A)) → frame (with_row columns m seen) ≡ record (frame m) { hanging = seen.overhang }
+  row_frame m seen =
+      let top : Renderer D A (List A) = record m { lines = before_border m.lines ++ border_lines seen.above; hanging = seen.overhang } in
+      next_frame (fold (with_line columns) top seen.lines) seen.next ∙ frame_of_lines columns seen.lines top
+
+  same_laid : (r : Renderer D A (List A)) (ls : List (Line (List A))) (cells : List (Cell (List A))) (ts : List (List (Item (List A)))) → lines_laid columns (record r { lines = ls; hanging = cells }) ts ≡ lines_laid columns r ts
+  same_laid r ls cells [] = refl
+  same_laid r ls cells (t ∷ ts) = refl
+
+  border_same : (r q : Renderer D A (List A)) (b : Border (List A)) → q.width ≡ r.width → q.options ≡ r.options → q.annotations ≡ r.annotations → border_line columns q b ≡ border_line columns r b
+  border_same r q b width options annotations = ap (λ w. line_of w q.options q.annotations) width ∙ ap (λ o. line_of r.width o q.annotations) options ∙ ap (λ a. line_of r.width r.options a) annotations
+    where
+      line_of : ℕ → RenderOptions → List A → Line (List A)
+      line_of w o a = border_line columns (record r { width = w; options = o; annotations = a }) b
+
+  next_lines : (r q : Renderer D A (List A)) (o : Option (Border (List A))) → settings_of q ≡ settings_of r → (with_next columns q o).lines ≡ q.lines ++ border_lines_of columns r o
+  next_lines r q None e = sym (append-nil q.lines)
+  next_lines r q (Some b) e =
+      ap (λ l. q.lines ++ l ∷ []) (border_same r q b (ap (λ (t : Settings D A). t.width) e) (ap (λ (t : Settings D A). t.options) e) (ap (λ (t : Settings D A). t.annotations) e))
+
+  row_lines : (m : Renderer D A (List A)) (seen : SeenRow (List A)) →
+      (with_row columns m seen).lines ≡ (before_border m.lines ++ border_lines seen.above) ++ (lines_laid columns m seen.lines ++ border_lines_of columns m seen.next)
+  row_lines m seen =
+      let first = before_border m.lines ++ border_lines seen.above in
+      let top : Renderer D A (List A) = record m { lines = first; hanging = seen.overhang } in
+      let full = fold (with_line columns) top seen.lines in
+      let settings : settings_of full ≡ settings_of m = ap (λ (x : Steady D A). x.settings) (lines_added columns seen.lines top) in
+      let laid = lines_laid columns m seen.lines in
+      next_lines m full seen.next settings ∙ ap (λ ls. ls ++ border_lines_of columns m seen.next) (laid_lines columns seen.lines top ∙ ap (λ ls. first ++ ls) (same_laid m first seen.overhang seen.lines))
+      ∙ append_assoc first laid (border_lines_of columns m seen.next)
+
+  put_piece : (collapses : Bool) (cells : List (GivenCell (List A))) (m s : Renderer D A (List A)) → m.block ≡ None → s.block ≡ None → (puts : PutsRow columns collapses cells m s) → ComesInPieces columns (cells ∷ []) m (laid_entries (joined puts.row.lines)) s
+  put_piece collapses cells m s none closed puts =
+      let seen = puts.row in
+      let above = before_border m.lines ++ border_lines seen.above in
+      let new = lines_laid columns m seen.lines ++ border_lines_of columns m seen.next in
+      let one : Piece D A columns = put (record { before = m; behind = s; collapses = collapses; cells = cells; puts = puts }) in
+      let es = laid_entries (joined seen.lines) in
+      let upper : AllZip StaysLine m.lines above =
+      subst (λ (o : Option (Border (List A))). AllZip StaysLine m.lines (before_border m.lines ++ border_lines o)) (sym puts.means.upper) (top_put_back collapses puts.means.cells m.lines) in
+      record {
+        pieces = one ∷ [];
+        are = (record { width = refl; options = refl; block = none }, tt);
+        lines = subst (λ ls. AllZip StaysLine (m.lines ++ (new ++ [])) ls) (sym (ap (λ (q : Renderer D A (List A)). q.lines) puts.is ∙ row_lines m seen))
+            (subst (λ ls. AllZip StaysLine (m.lines ++ ls) (above ++ new)) (sym (append-nil new)) (stay_append m.lines above new new upper (all_stay new)));
+        entries = ap (λ (o : Option (Open (List A))). open_run o ++ es) none ∙ sym (append-nil es) ∙ sym (append-nil (es ++ [])) ∙ ap (λ (o : Option (Open (List A))). (es ++ []) ++ open_run o) (sym closed);
+        put_rows = refl;
+      }
+
+  module _ (decoration : Decoration D A) where
+    -- ---- calls and rows
+
+    -- as the only one of calls
+    pub alone : (c : Call (List A)) (r s : Renderer D A (List A)) (es : List (Entry (List A))) → Does columns decoration c r s → es ≡ entries_brought columns decoration c r → Brings columns decoration (c ∷ []) r es s
+    alone c r s es does is = (s, [], does, (refl, refl), is ∙ sym (append-nil (entries_brought columns decoration c r)))
+
+    rows_one : (act : Act (List A)) (acts : List (Act (List A))) → rows_of (act ∷ acts) ≡ rows_of (act ∷ []) ++ rows_of acts
+    rows_one (call c) acts = refl
+    rows_one (row collapses cells) acts = refl
+
+    -- What came in pieces, to a renderer that is the same but for what calls and rows may change.
+    pub record Along (xs : List (List (GivenCell (List A)))) (r : Renderer D A (List A)) (es : List (Entry (List A))) (s : Renderer D A (List A)) : Type 0 where
+      pub width : s.width ≡ r.width
+      pub options : s.options ≡ r.options
+      pub came : ComesInPieces columns xs r es s
+      pub chain : Chain columns r.options.draw_borders r.hanging (rows_in came.pieces) s.hanging
+
+    along_on : (xs ys : List (List (GivenCell (List A)))) (r q s : Renderer D A (List A)) (es fs : List (Entry (List A))) → Along xs r es q → Along ys q fs s → Along (xs ++ ys) r (es ++ fs) s
+    unfolding come_on
+    along_on xs ys r q s es fs h k =
+        let behind : Chain columns r.options.draw_borders q.hanging (rows_in k.came.pieces) s.hanging =
+        subst (λ (o : RenderOptions). Chain columns o.draw_borders q.hanging (rows_in k.came.pieces) s.hanging) h.options k.chain in
+        record {
+          width = k.width ∙ h.width;
+          options = k.options ∙ h.options;
+          came = come_on xs ys r q s es fs h.width h.options h.came k.came;
+          chain = subst (λ rows. Chain columns r.options.draw_borders r.hanging rows s.hanging) (sym (rows_append h.came.pieces k.came.pieces))
+              (chain_append columns r.options.draw_borders r.hanging (rows_in h.came.pieces) q.hanging (rows_in k.came.pieces) s.hanging h.chain behind);
+        }
+
+    call_along : (c : Call (List A)) (r s : Renderer D A (List A)) (es : List (Entry (List A))) → Brings columns decoration (c ∷ []) r es s → Along [] r es s
+    unfolding as_pieces
+    call_along c r s es h =
+        let path = calls_move columns any decoration (c ∷ []) r s es tt h in
+        let parts = (brings_parts columns decoration (c ∷ []) r s es h).0 in
+        record {
+          width = path_width columns any r s es _ path;
+          options = path_options columns any r s es _ path;
+          came = as_pieces r s es parts;
+          chain = subst (λ rows. Chain columns r.options.draw_borders r.hanging rows s.hanging) (sym (no_rows parts.parts)) (path_hanging columns any r s es _ path);
+        }
+
+    row_along : (collapses : Bool) (cells : List (GivenCell (List A))) (m s : Renderer D A (List A)) → m.block ≡ None → s.block ≡ None → (puts : PutsRow columns collapses cells m s) → Along (cells ∷ []) m (laid_entries (joined puts.row.lines)) s
+    unfolding put_piece
+    row_along collapses cells m s none closed puts =
+        let seen = puts.row in
+        let same = ap (λ (q : Renderer D A (List A)). frame q) puts.is ∙ row_frame m seen in
+        record {
+          width = ap (λ (f : Frame A). f.width) same;
+          options = ap (λ (f : Frame A). f.options) same;
+          came = put_piece collapses cells m s none closed puts;
+          chain = (refl, refl, ap (λ (f : Frame A). f.hanging) same);
+        }
+
+    act_along : (act : Act (List A)) (r s : Renderer D A (List A)) (es : List (Entry (List A))) → ActBrings columns decoration act r es s → Along (rows_of (act ∷ [])) r es s
+    act_along (call c) r s es h = call_along c r s es (alone c r s es h.0 h.1)
+    act_along (row collapses cells) r s es h =
+        let (m, flushes, puts, is) = h in
+        let first = call_along new_line r m [] (alone new_line r m [] flushes refl) in
+        let closed = row_closed columns collapses cells r s (m, flushes, puts) in
+        let second = row_along collapses cells m s (flushed_none columns r m flushes) closed puts in
+        subst (λ fs. Along (cells ∷ []) r fs s) (sym is) (along_on [] (cells ∷ []) r m s [] (laid_entries (joined puts.row.lines)) first second)
+
+    pub acts_along : (acts : List (Act (List A))) (r s : Renderer D A (List A)) (es : List (Entry (List A))) → ActsBring columns decoration acts r es s → Along (rows_of acts) r es s
+    acts_along [] r s es h =
+        subst (λ (q : Renderer D A (List A)). Along [] r es q) (sym h.0) (subst (λ fs. Along [] r fs r) (sym h.1) (record {
+          width = refl;
+          options = refl;
+          came = record { pieces = []; are = tt; lines = subst (λ ls. AllZip StaysLine ls r.lines) (sym (append-nil r.lines)) (all_stay r.lines); entries = append-nil (open_run r.block); put_rows = refl };
+          chain = refl;
+        }))
+    acts_along (act ∷ acts) r s es h =
+        let (m, first, rest, does, others, is) = h in
+        subst (λ fs. Along (rows_of (act ∷ acts)) r fs s) (sym is)
+        (subst (λ xs. Along xs r (first ++ rest) s) (sym (rows_one act acts)) (along_on (rows_of (act ∷ [])) (rows_of acts) r m s first rest (act_along act r m first does) (acts_along acts m s rest others)))
+
+    pub act_options : (act : Act (List A)) (r s : Renderer D A (List A)) (es : List (Entry (List A))) → ActBrings columns decoration act r es s → s.options ≡ r.options
+    act_options act r s es h = let along = act_along act r s es h in along.options

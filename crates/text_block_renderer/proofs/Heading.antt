@@ -1,0 +1,55 @@
+-- The headline.
+use Rattle.std.proofs.Common.{◌≡◌, ℕ, Option, ◌≤◌, List, ap, sym, ◌∙◌, subst}
+use Rattle.std.specs.List.{AllByRecursion as Each}
+use Rattle.tbr_model.specs.declared.white_space.WhiteSpace.TheVariants.{Normal, Pre}
+use Rattle.tbr_model.specs.Run.{Entry, character, marker_entry}
+use Rattle.tbr_model.specs.Hard.{HasMode}
+use Rattle.tbr_model.specs.Shown.{IsNotPre}
+use Rattle.tbr_rows.specs.Cells.{AreApart}
+use Rattle.tbr_rows.specs.CellsShown.{IsFilled, HasFilledCells}
+use Rattle.tbr_decor.specs.Decoration.{Decoration}
+use Rattle.tbr_renderer.specs.declared.options.RenderOptions.{RenderOptions}
+use Rattle.tbr_renderer.specs.Renderer.{Renderer, least, block_width}
+use Rattle.text_block_renderer.specs.Stretches.{ended, laid, ruled}
+use Rattle.text_block_renderer.specs.Acts.{Act, ActsBring, Piece, part, put, cells_in, rows_in, IsPiece}
+use Rattle.text_block_renderer.specs.Headline.{NoLayoutIsAhead, StandsOnce, CellsFit, made, Headline}
+use Rattle.text_block_renderer.proofs.Stretching.{none_ahead}
+use Rattle.text_block_renderer.proofs.WideEnough.{act_fits}
+use Rattle.text_block_renderer.proofs.Lists.{each_unmap, each_gives}
+use Rattle.text_block_renderer.proofs.Overhanging.{Chain, cells_filled, cells_shown}
+use Rattle.text_block_renderer.proofs.Acting.{acts_along}
+
+module _ {D A : Type 0} (columns : ℕ → Option ℕ) where
+  module _ (decoration : Decoration D A) where
+    not_pre : (e : Entry (List A)) → HasMode Normal e → IsNotPre e
+    not_pre (character c a b mode) h = λ pre. let no : Normal ≡ Pre = sym h ∙ pre in cc
+    not_pre (marker_entry name) h = tt
+
+    no_layout : (r : Renderer D A (List A)) (p : Piece D A columns) → IsPiece columns r p → NoLayoutIsAhead columns p
+    no_layout r (part (ended q b texts)) h = λ narrow normal. none_ahead columns (block_width q) b.run texts (h.ends.shown.best narrow normal)
+    no_layout r (part (laid q is)) h = tt
+    no_layout r (part (ruled q cells)) h = tt
+    no_layout r (put p) h = tt
+
+    once : (r : Renderer D A (List A)) (p : Piece D A columns) → IsPiece columns r p → StandsOnce columns p
+    once r (part (ended q b texts)) h = (h.ends.shown.visible, λ normal. h.ends.own (each_gives (HasMode Normal) IsNotPre not_pre b.run normal))
+    once r (part (laid q is)) h = tt
+    once r (part (ruled q cells)) h = tt
+    once r (put p) h = tt
+
+    pub headline : (acts : List (Act (List A))) (r s : Renderer D A (List A)) (es : List (Entry (List A))) → ActsBring columns decoration acts r es s → Headline columns decoration acts r es s
+    headline acts r s es h =
+        let along = acts_along columns decoration acts r s es h in
+        let same : block_width s ≡ block_width r = ap (λ w. least w s.options.wrap_width) along.width ∙ ap (λ (o : RenderOptions). least r.width o.wrap_width) along.options in
+        record {
+          came = along.came;
+          no_layout_is_ahead = each_gives (IsPiece columns r) (NoLayoutIsAhead columns) (no_layout r) along.came.pieces along.came.are;
+          visible_characters_stand_once = each_gives (IsPiece columns r) (StandsOnce columns) (once r) along.came.pieces along.came.are;
+          each_cell_shows_its_texts_once = λ one none fit before rows behind cell are is_cell span.
+              cells_shown columns one r.options.draw_borders before rows behind cell r.hanging s.hanging span is_cell
+              (each_gives (λ p. CellsFit columns (cells_in p)) (λ p. HasFilledCells columns (made p)) (cells_filled columns one) _
+              (subst (Each (λ p. CellsFit columns (cells_in p))) are (each_unmap (CellsFit columns) cells_in (rows_in along.came.pieces) (subst (Each (CellsFit columns)) (sym along.came.put_rows) fit))))
+              (subst (λ cells. AreApart 0 cells × Each (IsFilled columns) cells) (sym none) (tt, tt))
+              (subst (λ ps. Chain columns r.options.draw_borders r.hanging ps s.hanging) are along.chain);
+          two_columns_are_enough = λ two wide act narrow. act_fits columns two decoration act s (subst (λ n. 2 ≤ n) (sym same) wide) narrow;
+        }

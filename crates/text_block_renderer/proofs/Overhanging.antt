@@ -1,0 +1,99 @@
+-- Rows that follow one another among calls, and what they show of their cells.
+use Rattle.std.proofs.Common.{◌≡◌, ℕ, ◌-◌, Bool, Option, List, [], ◌∷◌, ◌++◌, map, length, refl, ap, sym, ◌∙◌, subst, arith}
+use Rattle.std.specs.List.{AllZip, AllByRecursion as Each}
+use Rattle.std.specs.Prelude.{replicate}
+use Rattle.std.proofs.lemmas.List.{length-append, length-map, length-replicate}
+use Rattle.tbr_model.specs.Run.{items_width}
+use Rattle.tbr_model.proofs.lists.Each.{each_front}
+use Rattle.tbr_lines.specs.Border.{Border}
+use Rattle.tbr_lines.specs.Cell.{horizontal}
+use Rattle.tbr_lines.specs.declared.CellAlign.{CellAlign}
+use Rattle.tbr_lines.specs.declared.RenderLine.{RenderLine}
+use Rattle.tbr_lines.specs.declared.RenderLine.TheVariants.{Text, Line as Rule}
+use Rattle.tbr_rows.specs.declared.LineSet.{LineSet as Cell}
+use Rattle.tbr_rows.specs.Cells.{AreApart}
+use Rattle.tbr_rows.specs.Shown.{DrawsInOne}
+use Rattle.tbr_rows.specs.CellsShown.{Fills, IsFilled, FollowOneAnother, HasFilledCells, ShowsTexts}
+use Rattle.tbr_rows.proofs.CellsOfRows.{aligned_width, all_filled, overhang_apart, overhang_filled, shown_over}
+use Rattle.tbr_renderer.specs.Renderer.{Line, text, border}
+use Rattle.tbr_renderer.specs.Rows.{GivenCell, FillsCell, ComesAs}
+use Rattle.text_block_renderer.specs.Acts.{PutRow}
+use Rattle.text_block_renderer.specs.Headline.{FitsCell, LinesFit, CellsFit, made, IsCellOf}
+
+-- ---- cells whose lines fit
+
+module _ {A : Type 0} (columns : ℕ → Option ℕ) (one : DrawsInOne columns) where
+  line_filled : (align : CellAlign) (width : ℕ) (a : A) (l : Line A) (done : RenderLine A) → FitsCell columns width l → FillsCell columns align width a l done → Fills columns width done
+  line_filled align width a (text is) (Text es) fits h =
+      ap (items_width columns) h.0 ∙ aligned_width columns one align is (width - items_width columns is) a ∙ omega (arith, fits)
+  line_filled align width a (border b) (Rule done) fits h = (
+    ap (λ (c : Border A). length c.cells) h ∙ length-append b.cells (replicate (width - length b.cells) horizontal) ∙ omega (arith, length-replicate (width - length b.cells) horizontal, fits.0),
+    ap (λ (c : Border A). c.holes) h ∙ fits.1,
+  )
+  line_filled align width a (text is) (Rule done) fits h = absurd h
+  line_filled align width a (border b) (Text es) fits h = absurd h
+
+  lines_filled : (align : CellAlign) (width : ℕ) (a : A) (ls : List (Line A)) (done : List (RenderLine A)) → Each (FitsCell columns width) ls → AllZip (FillsCell columns align width a) ls done →
+      Each (Fills columns width) done
+  lines_filled align width a [] [] fits h = tt
+  lines_filled align width a [] (d ∷ done) fits h = absurd h
+  lines_filled align width a (l ∷ ls) [] fits h = absurd h
+  lines_filled align width a (l ∷ ls) (d ∷ done) fits h = (line_filled align width a l d fits.0 h.0, lines_filled align width a ls done fits.1 h.1)
+
+  pub own_filled : (a : A) (given : List (GivenCell A)) (own : List (Cell A)) → Each (LinesFit columns) given → AllZip (ComesAs columns a) given own → Each (IsFilled columns) own
+  own_filled a [] [] fit h = tt
+  own_filled a [] (c ∷ own) fit h = absurd h
+  own_filled a (g ∷ given) [] fit h = absurd h
+  own_filled a (g ∷ given) (c ∷ own) fit h = (
+    subst (λ (w : ℕ). Each (Fills columns w) c.lines) (sym h.0.0) (lines_filled g.align g.width a g.lines c.lines fit.0 h.0.2),
+    own_filled a given own fit.1 h.1,
+  )
+
+-- ---- the cells that overhang
+
+module _ {D A : Type 0} (columns : ℕ → Option ℕ) where
+  -- Rows have what overhung before, and then what overhangs of the row before; other pieces change nothing of it.
+  abbrev pub Chain : Bool → List (Cell (List A)) → List (PutRow D A columns) → List (Cell (List A)) → Type 0
+  Chain draws hanging [] left = left ≡ hanging
+  Chain draws hanging (p ∷ rows) left = (p.before.hanging ≡ hanging) × (p.before.options.draw_borders ≡ draws) × Chain draws p.puts.row.overhang rows left
+
+  pub chain_append : (draws : Bool) (hanging : List (Cell (List A))) (rows : List (PutRow D A columns)) (between : List (Cell (List A))) (others : List (PutRow D A columns)) (left : List (Cell (List A))) →
+      Chain draws hanging rows between → Chain draws between others left → Chain draws hanging (rows ++ others) left
+  chain_append draws hanging [] between others left h k = subst (λ cells. Chain draws cells others left) h k
+  chain_append draws hanging (p ∷ rows) between others left h k = (h.0, h.1, chain_append draws p.puts.row.overhang rows between others left h.2 k)
+
+  chain_front : (draws : Bool) (hanging : List (Cell (List A))) (rows behind : List (PutRow D A columns)) (left : List (Cell (List A))) → Chain draws hanging (rows ++ behind) left →
+      (between : List (Cell (List A))) × Chain draws hanging rows between
+  chain_front draws hanging [] behind left h = (hanging, refl)
+  chain_front draws hanging (p ∷ rows) behind left h =
+      let rest = chain_front draws p.puts.row.overhang rows behind left h.2 in (rest.0, (h.0, h.1, rest.1))
+
+  follow : (draws : Bool) (hanging : List (Cell (List A))) (rows : List (PutRow D A columns)) (left : List (Cell (List A))) → Chain draws hanging rows left → FollowOneAnother columns draws (map made rows)
+  follow draws hanging [] left h = tt
+  follow draws hanging (p ∷ []) left h = h.1
+  follow draws hanging (p ∷ q ∷ rows) left h = (h.1, h.2.0, follow draws p.puts.row.overhang (q ∷ rows) left h.2)
+
+  module _ (one : DrawsInOne columns) where
+    pub cells_filled : (p : PutRow D A columns) → CellsFit columns p.cells → HasFilledCells columns (made p)
+    cells_filled p fit = own_filled columns one p.before.annotations p.cells p.puts.own fit p.puts.come
+
+    all_cells_filled : (rows : List (PutRow D A columns)) → Each (λ p. HasFilledCells columns (made p)) rows → Each (HasFilledCells columns) (map made rows)
+    all_cells_filled [] h = tt
+    all_cells_filled (p ∷ rows) h = (h.0, all_cells_filled rows h.1)
+
+    -- of a stretch of the rows
+    pub cells_shown : (draws : Bool) (before rows behind : List (PutRow D A columns)) (cell : Cell (List A)) (hanging left : List (Cell (List A))) → length rows ≡ cell.span → IsCellOf cell rows →
+        Each (λ p. HasFilledCells columns (made p)) (before ++ rows ++ behind) → AreApart 0 hanging × Each (IsFilled columns) hanging → Chain draws hanging (before ++ rows ++ behind) left →
+        ShowsTexts columns draws (map made rows) cell
+    cells_shown draws [] [] behind cell hanging left span is fill hang chain = elim is [ ]
+    cells_shown draws [] (p ∷ rows) behind cell hanging left span is fill hang chain =
+        let own = each_front (λ q. HasFilledCells columns (made q)) (p ∷ rows) behind fill in
+        let stretch = chain_front draws hanging (p ∷ rows) behind left chain in
+        let first : AreApart 0 p.before.hanging × Each (IsFilled columns) p.before.hanging = subst (λ cells. AreApart 0 cells × Each (IsFilled columns) cells) (sym chain.0) hang in
+        shown_over columns one draws (map made (p ∷ rows)) cell (follow draws hanging (p ∷ rows) stretch.0 stretch.1) (all_cells_filled (p ∷ rows) own) (is, first.0, first.1)
+        (let fewer : length (map made (p ∷ rows)) ≡ cell.span = length-map (p ∷ rows) made ∙ span in fewer)
+    cells_shown draws (q ∷ before) rows behind cell hanging left span is fill hang chain =
+        let first : AreApart 0 q.before.hanging × Each (IsFilled columns) q.before.hanging = subst (λ cells. AreApart 0 cells × Each (IsFilled columns) cells) (sym chain.0) hang in
+        let apart = overhang_apart columns one (made q) first.0 in
+        let filled = overhang_filled columns one (made q) (all_filled columns one (made q) first.1 fill.0) in
+        cells_shown draws before rows behind cell q.puts.row.overhang left span is fill.1 (apart, filled) chain.2

@@ -1,0 +1,58 @@
+-- Lines that stay where rows come: texts as they are, and borders as borders.
+use Rattle.std.proofs.Common.{◌≡◌, ℕ, ◌-◌, Bool, if◌then◌else◌, is_some, Option, Some, None, List, [], ◌∷◌, ◌++◌, take, length, suc, refl, sym, ◌∙◌, subst, arith, append-nil}
+use Rattle.std.specs.List.{AllZip}
+use Rattle.tbr_lines.specs.Border.{Border}
+use Rattle.tbr_rows.specs.declared.LineSet.{LineSet as Cell}
+use Rattle.tbr_rows.specs.Rows.{border_above}
+use Rattle.tbr_renderer.specs.Renderer.{Line, text, border, without_last}
+use Rattle.tbr_renderer.specs.Rows.{last_border, before_border, border_lines}
+use Rattle.text_block_renderer.specs.Acts.{StaysLine}
+
+module _ {T : Type 0} where
+  stays_itself : (l : Line T) → StaysLine l l
+  stays_itself (text is) = refl
+  stays_itself (border b) = tt
+
+  stays_on : (l m n : Line T) → StaysLine l m → StaysLine m n → StaysLine l n
+  stays_on (text is) (text js) (text ks) h k = k ∙ h
+  stays_on (text is) (text js) (border c) h k = elim k [ ]
+  stays_on (text is) (border b) n h k = elim h [ ]
+  stays_on (border b) (text js) n h k = elim h [ ]
+  stays_on (border b) (border c) (text ks) h k = elim k [ ]
+  stays_on (border b) (border c) (border d) h k = tt
+
+  pub all_stay : (ls : List (Line T)) → AllZip StaysLine ls ls
+  all_stay [] = tt
+  all_stay (l ∷ ls) = (stays_itself l, all_stay ls)
+
+  pub stay_on : (ls ms ns : List (Line T)) → AllZip StaysLine ls ms → AllZip StaysLine ms ns → AllZip StaysLine ls ns
+  stay_on [] [] [] h k = tt
+  stay_on [] [] (n ∷ ns) h k = elim k [ ]
+  stay_on [] (m ∷ ms) ns h k = elim h [ ]
+  stay_on (l ∷ ls) [] ns h k = elim h [ ]
+  stay_on (l ∷ ls) (m ∷ ms) [] h k = elim k [ ]
+  stay_on (l ∷ ls) (m ∷ ms) (n ∷ ns) h k = (stays_on l m n h.0 k.0, stay_on ls ms ns h.1 k.1)
+
+  pub stay_append : (ls ms ns os : List (Line T)) → AllZip StaysLine ls ms → AllZip StaysLine ns os → AllZip StaysLine (ls ++ ns) (ms ++ os)
+  stay_append [] [] ns os h k = k
+  stay_append [] (m ∷ ms) ns os h k = elim h [ ]
+  stay_append (l ∷ ls) [] ns os h k = elim h [ ]
+  stay_append (l ∷ ls) (m ∷ ms) ns os h k = (h.0, stay_append ls ms ns os h.1 k)
+
+  -- the border above a row is put back with other cells
+  put_back : (ls : List (Line T)) (b c : Border T) → last_border ls ≡ Some b → AllZip StaysLine ls (without_last ls ++ border c ∷ [])
+  put_back [] b c e = cc
+  put_back (text is ∷ []) b c e = cc
+  put_back (border d ∷ []) b c e =
+      let none : length (border d ∷ []) - 1 ≡ 0 = omega arith in
+      subst (λ (n : ℕ). AllZip StaysLine (border d ∷ []) (take n (border d ∷ []) ++ border c ∷ [])) (sym none) (tt, tt)
+  put_back (l ∷ m ∷ ls) b c e =
+      let next : length (l ∷ m ∷ ls) - 1 ≡ suc (length (m ∷ ls) - 1) = omega arith in
+      subst (λ (n : ℕ). AllZip StaysLine (l ∷ m ∷ ls) (take n (l ∷ m ∷ ls) ++ border c ∷ [])) (sym next) (stays_itself l, put_back (m ∷ ls) b c e)
+
+  pub top_put_back : (collapses : Bool) (cells : List (Cell T)) (ls : List (Line T)) → AllZip StaysLine ls (before_border ls ++ border_lines (border_above collapses cells (last_border ls)))
+  top_put_back collapses cells ls = go (last_border ls) refl
+    where
+      go : (o : Option (Border T)) → last_border ls ≡ o → AllZip StaysLine ls ((if is_some o then without_last ls else ls) ++ border_lines (border_above collapses cells o))
+      go None e = subst (AllZip StaysLine ls) (sym (append-nil ls)) (all_stay ls)
+      go (Some b) e = put_back ls b _ e

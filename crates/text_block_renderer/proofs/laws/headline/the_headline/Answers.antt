@@ -1,0 +1,5 @@
+use Rattle.text_block_renderer.proofs.Heading.{headline}
+use Rattle.text_block_renderer.proofs.laws.headline.the_headline.Goals as goal
+
+pub returns : goal.returns
+returns g c = λ columns decoration acts r s es h. headline columns decoration acts r s es h

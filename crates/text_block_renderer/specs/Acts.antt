@@ -1,0 +1,108 @@
+-- Calls and rows of cells, one after another, and what they add to a renderer's lines.
+use Rattle.std.specs.Prelude.{◌≡◌, ℕ, Bool, ⊤, Option, None, Some, List, [], ◌∷◌, ◌++◌, map, flat_map}
+use Rattle.std.specs.List.{AllZip, AllByRecursion as Each}
+use Rattle.tbr_model.specs.Run.{Entry}
+use Rattle.tbr_model.specs.Layout.{joined}
+use Rattle.tbr_lines.specs.Border.{Border}
+use Rattle.tbr_decor.specs.Decoration.{Decoration}
+use Rattle.tbr_renderer.specs.Renderer.{Line, text, border, Renderer, open_run}
+use Rattle.tbr_renderer.specs.Flush.{Flushes, FlushIsTooNarrow}
+use Rattle.tbr_renderer.specs.Appended.{border_line}
+use Rattle.tbr_renderer.specs.Rows.{GivenCell, PutsRow}
+use Rattle.tbr_renderer.specs.Calls.{Call, Does, IsTooNarrow, entries_brought, laid_entries}
+use Rattle.text_block_renderer.specs.Stretches.{Part, entries_of_part, lines_of_part, lines_laid, IsBetweenBlocks, IsPart}
+
+-- What is done to a renderer: a call, or a row of cells side by side, with whether it collapses.
+pub data Act (T : Type 0) : Type 0 where
+  call : Call T → Act T
+  row : Bool → List (GivenCell T) → Act T
+
+-- the cells of the rows among these, row by row
+abbrev pub rows_of : {T : Type 0} → List (Act T) → List (List (GivenCell T))
+rows_of [] = []
+rows_of (call c ∷ acts) = rows_of acts
+rows_of (row collapses cells ∷ acts) = cells ∷ rows_of acts
+
+module _ {D A : Type 0} (columns : ℕ → Option ℕ) (decoration : Decoration D A) where
+  -- What one that succeeds leaves, and the entries that it brings. A row comes behind a flush, and brings its texts as
+  -- laid ones.
+  abbrev pub ActBrings : Act (List A) → Renderer D A (List A) → List (Entry (List A)) → Renderer D A (List A) → Type 0
+  ActBrings (call c) r es s = Does columns decoration c r s × (es ≡ entries_brought columns decoration c r)
+  ActBrings (row collapses cells) r es s =
+      (m : Renderer D A (List A)) × Flushes columns r m × (puts : PutsRow columns collapses cells m s)
+      × (es ≡ laid_entries (joined puts.row.lines))
+
+  -- and one after another
+  abbrev pub ActsBring :
+      List (Act (List A)) → Renderer D A (List A) → List (Entry (List A)) → Renderer D A (List A) → Type 0
+  ActsBring [] r es s = (s ≡ r) × (es ≡ [])
+  ActsBring (act ∷ acts) r es s =
+      (m : Renderer D A (List A)) × (first rest : List (Entry (List A))) × ActBrings act r first m
+      × ActsBring acts m rest s × (es ≡ first ++ rest)
+
+  -- where one answers `TooNarrow` for its own wrapping
+  abbrev pub ActIsTooNarrow : Act (List A) → Renderer D A (List A) → Type 0
+  ActIsTooNarrow (call c) r = IsTooNarrow columns decoration c r
+  ActIsTooNarrow (row collapses cells) r = FlushIsTooNarrow columns r
+
+-- ---- what adds lines
+
+-- A row that was put: to which renderer, behind the flush, and what came of it.
+pub record PutRow (D A : Type 0) (columns : ℕ → Option ℕ) : Type 0 where
+  pub before : Renderer D A (List A)
+  pub behind : Renderer D A (List A)
+  pub collapses : Bool
+  pub cells : List (GivenCell (List A))
+  pub puts : PutsRow columns collapses cells before behind
+
+-- What adds lines: a part as calls have it, or a row.
+pub data Piece (D A : Type 0) (columns : ℕ → Option ℕ) : Type 0 where
+  part : Part D A → Piece D A columns
+  put : PutRow D A columns → Piece D A columns
+
+module _ {D A : Type 0} {columns : ℕ → Option ℕ} where
+  abbrev pub cells_in : PutRow D A columns → List (GivenCell (List A))
+  cells_in p = p.cells
+
+  -- the rows among pieces
+  abbrev pub rows_in : List (Piece D A columns) → List (PutRow D A columns)
+  rows_in [] = []
+  rows_in (part p ∷ pieces) = rows_in pieces
+  rows_in (put p ∷ pieces) = p ∷ rows_in pieces
+
+module _ {D A : Type 0} (columns : ℕ → Option ℕ) where
+  abbrev pub border_lines_of : Renderer D A (List A) → Option (Border (List A)) → List (Line (List A))
+  border_lines_of r None = []
+  border_lines_of r (Some b) = border_line columns r b ∷ []
+
+  -- of a row its texts, and the border below it, if borders are drawn
+  abbrev pub lines_of_piece : Piece D A columns → List (Line (List A))
+  lines_of_piece (part p) = lines_of_part columns p
+  lines_of_piece (put p) =
+      lines_laid columns p.before p.puts.row.lines ++ border_lines_of p.before p.puts.row.next
+
+  abbrev pub entries_of_piece : Piece D A columns → List (Entry (List A))
+  entries_of_piece (part p) = entries_of_part p
+  entries_of_piece (put p) = laid_entries (joined p.puts.row.lines)
+
+  -- The renderer's width and options are still those of another one, and a row comes where no block is open.
+  abbrev pub IsPiece : Renderer D A (List A) → Piece D A columns → Type 0
+  IsPiece first (part p) = IsPart columns first p
+  IsPiece first (put p) = IsBetweenBlocks first p.before
+
+-- A text stays as it is, and a border stays a border. A row below it gives it other cells.
+abbrev pub StaysLine : {T : Type 0} → Line T → Line T → Type 0
+StaysLine (text is) (text js) = js ≡ is
+StaysLine (border b) (border c) = ⊤
+StaysLine (text is) (border c) = ⊥
+StaysLine (border b) (text js) = ⊥
+
+-- The lines are those that there were and those of the pieces, one behind another. The entries of the pieces, and then
+-- the open run, are what there was of the open run and what came. The rows among the pieces are those of these cells.
+pub record ComesInPieces {D A : Type 0} (columns : ℕ → Option ℕ) (rows : List (List (GivenCell (List A))))
+    (r : Renderer D A (List A)) (es : List (Entry (List A))) (s : Renderer D A (List A)) : Type 0 where
+  pub pieces : List (Piece D A columns)
+  pub are : Each (IsPiece columns r) pieces
+  pub lines : AllZip StaysLine (r.lines ++ flat_map (lines_of_piece columns) pieces) s.lines
+  pub entries : open_run r.block ++ es ≡ flat_map (entries_of_piece columns) pieces ++ open_run s.block
+  pub put_rows : map cells_in (rows_in pieces) ≡ rows

@@ -1,0 +1,83 @@
+-- What the repository promises first: of runs, of cells side by side, and of what wrapping never answers.
+use Rattle.std.specs.Prelude.{◌≡◌, ℕ, ◌≤◌, false, ⊤, Option, IfSome, List, [], ◌∷◌, ◌++◌, length, map}
+use Rattle.std.specs.List.{AllByRecursion as Each}
+use Rattle.tbr_model.specs.Run.{Entry, items_width}
+use Rattle.tbr_model.specs.Hard.{ShowsVisible}
+use Rattle.tbr_model.specs.Shown.{ShowsOwn}
+use Rattle.tbr_lines.specs.State.{IsNormal}
+use Rattle.tbr_rows.specs.declared.LineSet.{LineSet as Cell}
+use Rattle.tbr_rows.specs.Shown.{DrawsInOne}
+use Rattle.tbr_rows.specs.CellsShown.{MadeRow, StandsAmong, ShowsTexts}
+use Rattle.tbr_decor.specs.Decoration.{Decoration}
+use Rattle.tbr_renderer.specs.Renderer.{Line, text, border, Renderer, block_width, may_overflow}
+use Rattle.tbr_renderer.specs.Rows.{GivenCell, last_border, style_in}
+use Rattle.text_block_renderer.specs.Stretches.{ended, NoneIsAhead}
+use Rattle.text_block_renderer.specs.Acts.{Act, rows_of, ActIsTooNarrow, PutRow, Piece, part, rows_in, ComesInPieces}
+
+module _ {D A : Type 0} (columns : ℕ → Option ℕ) where
+  -- Of a `Normal` run that ended, where no line may be wider than the block: after any number of its lines no legal
+  -- layout of it has placed more.
+  abbrev pub NoLayoutIsAhead : Piece D A columns → Type 0
+  NoLayoutIsAhead (part (ended r b texts)) =
+      may_overflow r ≡ false → IsNormal b.run → NoneIsAhead columns (block_width r) b.run texts
+  NoLayoutIsAhead other = ⊤
+
+  -- Of any run that ended: its visible characters stand in its lines once, in order, each under an annotation of its
+  -- call; in a `Normal` run under the main one.
+  abbrev pub StandsOnce : Piece D A columns → Type 0
+  StandsOnce (part (ended r b texts)) =
+      ShowsVisible columns (λ x y. x ≡ y) b.run texts
+      × (IsNormal b.run → ShowsOwn columns (λ x y. x ≡ y) b.run texts)
+  StandsOnce other = ⊤
+
+-- ---- cells side by side
+
+-- a line is no wider than its cell: a text, or a border that nothing stands in front of
+abbrev pub FitsCell : {T : Type 0} → (ℕ → Option ℕ) → ℕ → Line T → Type 0
+FitsCell columns width (text is) = items_width columns is ≤ width
+FitsCell columns width (border b) = (length b.cells ≤ width) × (b.holes ≡ [])
+
+abbrev pub LinesFit : {T : Type 0} → (ℕ → Option ℕ) → GivenCell T → Type 0
+LinesFit columns cell = Each (FitsCell columns cell.width) cell.lines
+
+abbrev pub CellsFit : {T : Type 0} → (ℕ → Option ℕ) → List (GivenCell T) → Type 0
+CellsFit columns cells = Each (LinesFit columns) cells
+
+module _ {D A : Type 0} {columns : ℕ → Option ℕ} where
+  -- a row with the cells of which it was made
+  abbrev pub made : PutRow D A columns → MadeRow (List A) columns
+  made p = record {
+    style = style_in p.before p.collapses;
+    tag = p.before.annotations;
+    hanging = p.before.hanging;
+    own = p.puts.own;
+    side_by_side = p.puts.side_by_side;
+    top = last_border p.before.lines;
+    row = p.puts.row;
+    means = p.puts.means;
+  }
+
+  -- a cell of the first of these rows
+  abbrev pub IsCellOf : Cell (List A) → List (PutRow D A columns) → Type 0
+  IsCellOf cell [] = ⊥
+  IsCellOf cell (p ∷ rows) = StandsAmong cell p.puts.means.cells
+
+-- No character takes more than two columns. This is a law of `CharWidth`, and so is `DrawsInOne`.
+abbrev pub TakeTwoAtMost : (ℕ → Option ℕ) → Type 0
+TakeTwoAtMost columns = (c : ℕ) → IfSome (columns c) (λ n. n ≤ 2)
+
+-- Calls and rows led from a renderer to another, and brought these entries.
+pub record Headline {D A : Type 0} (columns : ℕ → Option ℕ) (decoration : Decoration D A) (acts : List (Act (List A)))
+    (r : Renderer D A (List A)) (es : List (Entry (List A))) (s : Renderer D A (List A)) : Type 0 where
+  -- the lines are those of runs that ended, of laid texts, of borders and of rows
+  pub came : ComesInPieces columns (rows_of acts) r es s
+  pub no_layout_is_ahead : Each (NoLayoutIsAhead columns) came.pieces
+  pub visible_characters_stand_once : Each (StandsOnce columns) came.pieces
+  -- Where no cell overhung before, and the lines of all cells fit: of each cell of a row, over the rows of its span.
+  pub each_cell_shows_its_texts_once : DrawsInOne columns → r.hanging ≡ [] → Each (CellsFit columns) (rows_of acts) →
+      (before rows behind : List (PutRow D A columns)) (cell : Cell (List A)) →
+      rows_in came.pieces ≡ before ++ rows ++ behind → IsCellOf cell rows → length rows ≡ cell.span →
+      ShowsTexts columns r.options.draw_borders (map made rows) cell
+  -- a renderer of two columns or more isn't too narrow for anything that comes next
+  pub two_columns_are_enough : TakeTwoAtMost columns → 2 ≤ block_width r →
+      (act : Act (List A)) → ActIsTooNarrow columns decoration act s → ⊥
