@@ -1,13 +1,16 @@
 //! Scripts that aren't text, and streams that fail.
-use crate::outcome::{Slow, tells};
+use crate::outcome::{Slow, outcome, tells};
+use std::alloc::Global;
 use std::io;
 use std::io::{ErrorKind, Read};
+use std::process::Abort;
 use std::test::Fail;
 
-/// A reader that has these bytes, and fails behind them.
+/// A reader that has these bytes, gives so many of them a call, and fails behind them.
 #[derive(Drop)]
 struct Cut<'a> {
     bytes: &'a [u8],
+    bytes_a_call: usize,
 }
 
 impl<'a> Read for Cut<'a> {
@@ -15,7 +18,8 @@ impl<'a> Read for Cut<'a> {
         if self.bytes.is_empty() {
             return Err(io::Error::from(ErrorKind::BrokenPipe));
         }
-        self.bytes.read(buf)
+        let count = buf.len().min(self.bytes_a_call);
+        self.bytes.read(&mut buf[..count])
     }
 }
 
@@ -75,16 +79,54 @@ fn failing_streams_are_told(rt: HostRuntime) -> Result<(), Fail> {
             example.told,
         )?;
     }
-    let cut = Cut {
-        bytes: b"new 8 plain\n",
-    };
-    let writer = Slow::new(alloc, usize::MAX, usize::MAX);
-    tells(
-        &rt,
-        alloc,
-        "a reader that fails behind a line",
-        cut,
-        writer,
-        "3: read failed\n",
-    )
+    Ok(())
+}
+
+const TEXT: &[u8] = b"Hello,\nworld.\nSuperlon\ngwordrea\nlly\n";
+
+/// What is told of a writer that takes three bytes a call and fails behind so many calls.
+fn told_behind(alloc: Global, calls: usize) -> Result<Vec<u8>, Fail> {
+    let mut told = Vec::new(alloc);
+    for byte in TEXT.iter().take(calls.saturating_mul(3)) {
+        told.push(*byte)?;
+    }
+    if told.len() < TEXT.len() {
+        told.extend_from_slice(b"3: write failed\n")?;
+    }
+    Ok(told)
+}
+
+/// The writer has a beginning of the text, and no more, wherever it fails.
+fn writers_fail(rt: &impl Abort, alloc: Global) -> Result<(), Fail> {
+    for calls in 0..TEXT.len() {
+        let told = outcome(alloc, SCRIPT, Slow::new(alloc, 3, calls))?;
+        let expected = told_behind(alloc, calls)?;
+        assert!(rt;
+            told.as_bytes() == expected.as_slice(),
+            "behind {calls} calls"
+        );
+    }
+    Ok(())
+}
+
+/// Nothing is written, wherever the reader fails.
+fn readers_fail(rt: &impl Abort, alloc: Global) -> Result<(), Fail> {
+    for length in 0..SCRIPT.len() {
+        let reader = Cut {
+            bytes: &SCRIPT[..length],
+            bytes_a_call: 3,
+        };
+        let told = outcome(alloc, reader, Slow::new(alloc, usize::MAX, usize::MAX))?;
+        assert!(rt;
+            told.as_str() == "3: read failed\n",
+            "behind {length} bytes"
+        );
+    }
+    Ok(())
+}
+
+#[test]
+fn streams_that_fail_anywhere_are_told(rt: HostRuntime) -> Result<(), Fail> {
+    writers_fail(&rt, rt.alloc())?;
+    readers_fail(&rt, rt.alloc())
 }

@@ -10,7 +10,7 @@ use std::marker::Model;
 use tbr_lines::OutOfMemory;
 
 /// A renderer of a stack, and the links that are open in it.
-#[derive(Drop)]
+#[derive(Debug, Drop)]
 pub(crate) struct Level<R> {
     renderer: R,
     /// For each open link the place of its target, from 1. The one that was opened last comes last.

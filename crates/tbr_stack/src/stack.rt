@@ -9,6 +9,7 @@ ghost use Rattle.tbr_stack.specs.Stack.{new_stack, top_of, below, with_top, push
 
 use crate::level::Level;
 use std::alloc::Global;
+use std::fmt;
 use std::marker::Model;
 use tbr_lines::{Error, OutOfMemory, UnicodeColumns};
 use tbr_renderer::SubRenderer;
@@ -37,6 +38,17 @@ impl<R> Model for Stack<R> {
     ghost use Rattle.tbr_stack.specs.View.{stack_of};
 
     ghost view = { λ s. stack_of s };
+}
+
+/// Its levels, the top last, the targets, and the depth of tables.
+impl<R: fmt::Debug> fmt::Debug for Stack<R> {
+    fn fmt<W: fmt::Write>(&self, f: &mut fmt::Formatter<W>) -> fmt::Result {
+        f.debug_struct("Stack")
+            .field("levels", &self.levels)
+            .field("links", &self.links)
+            .field("table_depth", &self.table_depth)
+            .finish()
+    }
 }
 
 impl<R: Drop> Stack<R> {

@@ -16,7 +16,8 @@ pub enum Edit<'a> {
     Align(usize, CellAlign, Voice),
 }
 
-fn apply<W: CharWidth>(
+/// Makes an edit.
+pub fn apply<W: CharWidth>(
     line: &mut TaggedLine<Voice>,
     alloc: Global,
     edit: Edit<'_>,

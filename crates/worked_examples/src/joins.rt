@@ -50,7 +50,8 @@ fn put_marker<W: CharWidth>(
     put::<W>(line, pos, marker)
 }
 
-fn apply<W: CharWidth>(
+/// Makes a call.
+pub fn apply<W: CharWidth>(
     line: &mut BorderHoriz<Voice>,
     alloc: Global,
     join: Join<'_>,

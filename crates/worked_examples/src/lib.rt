@@ -19,6 +19,8 @@ mod layouts;
 #[cfg(test)]
 mod markers;
 #[cfg(test)]
+mod memory;
+#[cfg(test)]
 mod preserved;
 #[cfg(test)]
 mod renderers;

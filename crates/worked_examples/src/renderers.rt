@@ -15,6 +15,7 @@ mod narrow;
 mod padding;
 mod prefixes;
 mod preserved;
+mod printed;
 mod refusals;
 mod stacks;
 mod strikeouts;
