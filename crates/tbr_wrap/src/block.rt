@@ -31,7 +31,7 @@ use tbr_tagged::{Error, OutOfMemory, TaggedLine, TaggedLineElement, UnicodeColum
 /// A call that refuses leaves the block failed. It keeps that refusal, which each later call that can refuse answers,
 /// doing nothing else. A contract sees what [`State`] lists.
 ///
-/// What was handed out gives its memory back only with the block.
+/// Text that was handed out gives its memory back as more is; its tags stay in memory until the block is dropped.
 #[derive(Drop)]
 pub struct WrappedBlock<T: Eq + Clone, W: CharWidth = UnicodeColumns> {
     alloc: Global,
@@ -244,6 +244,36 @@ impl<T: Eq + Clone, W: CharWidth> WrappedBlock<T, W> {
         Ok(())
     }
 
+    /// Adds the words to the run that a text begins with, where they go on the open line at once, and answers what is
+    /// left.
+    fn add_words<'a>(
+        &mut self,
+        text: &'a str,
+        mode: WhiteSpace,
+        main_tag: &T,
+        wrap_tag: &T,
+    ) -> Result<&'a str, Error>
+    where
+        T: Drop,
+        requires faithful { CopiesAreEqual T.is_clone T.eq }
+        requires unfailed { self.old.failure ≡ None }
+        ensures ok { IfOk result (λ rest.
+            JoinsFront self.old text.now rest.now main_tag.now wrap_tag.now mode self.new) }
+        ensures rest { IfOk result (λ rest. IsUtf8 rest.now × (length rest.now ≤ length text.now)) }
+        ensures none { IfOk result (λ rest. length rest.now ≡ length text.now → self.new ≡ self.old) }
+        ensures failed { IfErr result (λ e. (e ≡ E.OutOfMemory) × (self.new.failure ≡ Some e)) }
+    {
+        let count = self.wrapper.fitting_words::<W>(text, mode);
+        if count == 0 {
+            return Ok(text);
+        }
+        let (words, rest) = text.split_at(count);
+        let added = self.wrapper.add_words::<W>(words, main_tag, wrap_tag);
+        keep_want(&mut self.failure, added)?;
+        note_ascii(&mut self.changes, words, main_tag, wrap_tag, mode);
+        Ok(rest)
+    }
+
     /// Adds the first character of a text to the run, and answers what is left.
     fn add_first<'a>(
         &mut self,
@@ -297,6 +327,10 @@ impl<T: Eq + Clone, W: CharWidth> WrappedBlock<T, W> {
         ensures normal_too_narrow { let run = run_with self.old (chars text.now) main_tag.now wrap_tag.now mode in
             IsNormal run → result ≡ Err E.TooNarrow → ¬ (EndedWordsFit W.columns self.old.width run) }
     {
+        let rest = self.add_words(text, mode, main_tag, wrap_tag)?;
+        if rest.len() < text.len() {
+            return Ok(rest);
+        }
         let (count, width) = plain_in_front::<W>(text, mode);
         if count == 0 {
             return self.add_first(text, mode, main_tag, wrap_tag);

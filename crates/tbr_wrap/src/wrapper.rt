@@ -7,7 +7,7 @@
 //! - What fits the open line is *placed* on it (`place_pending`, `place_word`). What may not fit is *put* on it and the
 //!   next ones (`put_pending`, `put_fresh`, `put_tab`).
 //! - Ended lines are *taken*, the first one first ([`LaidLines::take_line`]).
-ghost use Rattle.std.specs.Prelude.{◌≡◌, ◌≤◌, ◌<◌, ◌+◌, ◌&&◌, ◌↔◌, [], ℕ, List, fold, length, map, chars, string_bytes, Bool, if◌then◌else◌, IsTrue, Option, None, Some, true, false, OnOk, IfOk, Err};
+ghost use Rattle.std.specs.Prelude.{◌≡◌, ◌≤◌, ◌<◌, ◌+◌, ◌&&◌, ◌↔◌, [], ℕ, List, fold, length, take, map, chars, string_bytes, Bool, if◌then◌else◌, IsTrue, Option, None, Some, true, false, OnOk, IfOk, Err};
 ghost use Rattle.tbr_tagged.specs.Copies.{CopiesAreEqual};
 ghost use Rattle.std.specs.Str.{IsAscii};
 ghost use Rattle.tbr_model.specs.Width.{width_of_text};
@@ -24,6 +24,7 @@ ghost use Rattle.tbr_tagged.specs.View.{element_of};
 ghost use Rattle.tbr_tagged.specs.declared.error.Error.TheVariants as E;
 
 use crate::laid_lines::LaidLines;
+use crate::plain::words_in_front;
 use std::alloc::Global;
 use std::mem;
 use tbr_model::{CharWidth, WhiteSpace};
@@ -101,7 +102,7 @@ impl<T> Wrapper<T> {
 
 impl<T: Eq + Clone + Drop> Wrapper<T> {
     ghost use Rattle.tbr_wrap.specs.LaidLines.{KeepsLimits};
-    ghost use Rattle.tbr_wrap.specs.Plain.{IsPlain};
+    ghost use Rattle.tbr_wrap.specs.Plain.{IsPlain, AreWords};
     ghost use Rattle.tbr_wrap.specs.State.{text_entries};
     ghost use Rattle.tbr_wrap.specs.Wrapper.{IsAtProgress, IsUnderWay, Wherever, WrapperFollows, RunIsFinished, SameSpace, held_width, join_all};
 
@@ -347,6 +348,8 @@ impl<T: Eq + Clone + Drop> Wrapper<T> {
         ensures joined { (columns : ℕ → Option ℕ) (a : T) → width ≡ width_of_text columns (chars text.now) →
             T.eq tag.now a ≡ true →
             WrapperFollows columns T.eq self.old self.new result (join_all (chars text.now) a mode) }
+        ensures pending { OnOk result ((self.new.lines.line_width ≡ self.old.lines.line_width)
+            × (self.new.space ≡ self.old.space) × (self.new.word_width ≡ self.old.word_width + width)) }
         ensures limits { KeepsLimits self.old.lines self.new.lines }
     {
         let Some(word_width) = self.word_width.checked_add(width) else {
@@ -618,6 +621,55 @@ impl<T: Eq + Clone + Drop> Wrapper<T> {
         self.join_ascii(text, width, main_tag, mode)
     }
 
+    /// How many bytes the words take that a text begins with, each with the space behind it, where they go on the open
+    /// line at once.
+    pub fn fitting_words<W: CharWidth>(&self, text: &str, mode: WhiteSpace) -> usize
+        ensures within { result ≤ length text.now }
+        ensures mode { 0 < result → mode ≡ Normal }
+        ensures word { 0 < result → has_character self.now.lines.flat.word ≡ false }
+        ensures words { 0 < result → AreWords W.columns (take result text.now) }
+        ensures room { 0 < result → self.now.lines.line_width + (held_width self.now.space + (self.now.word_width
+            + result)) ≤ self.now.lines.width + 1 }
+    {
+        if !is_normal(mode) || self.lines.flat.has_word() {
+            return 0;
+        }
+        let room = self.lines.width - self.lines.line_width;
+        let pending = self.pending_width();
+        if self.word_width > room || pending > room - self.word_width {
+            return 0;
+        }
+        words_in_front::<W>(text, room - self.word_width - pending)
+    }
+
+    /// Adds words, each with a space behind it, to the open line. The last space waits.
+    pub fn add_words<W: CharWidth>(
+        &mut self,
+        text: &str,
+        main_tag: &T,
+        wrap_tag: &T,
+    ) -> Result<(), OutOfMemory>
+        requires faithful { CopiesAreEqual T.is_clone T.eq }
+        requires word { has_character self.old.lines.flat.word ≡ false }
+        requires words { AreWords W.columns text.now }
+        requires room { self.old.lines.line_width + (held_width self.old.space + (self.old.word_width
+            + length text.now)) ≤ self.old.lines.width + 1 }
+        ensures entered { WrapperFollows W.columns T.eq self.old self.new result (λ p.
+            fold (enter W.columns self.old.lines.width) p
+            (text_entries (chars text.now) main_tag.now wrap_tag.now Normal)) }
+        ensures limits { KeepsLimits self.old.lines self.new.lines }
+    {
+        let tag = if self.in_continuation {
+            wrap_tag
+        } else {
+            main_tag
+        };
+        let words = &text[..text.len() - 1];
+        self.join_ascii(words, words.len(), tag, WhiteSpace::Normal)?;
+        self.lay_here::<W>()?;
+        self.collapse(' ', tag)
+    }
+
     /// Adds a marker to the word.
     pub fn add_marker(&mut self, name: String) -> Result<(), OutOfMemory>
         ensures added { (columns : ℕ → Option ℕ) → WrapperFollows columns T.eq self.old self.new result (λ p.
@@ -662,6 +714,16 @@ impl<T: Eq + Clone + Drop> Wrapper<T> {
         self.continuation_flag = false;
         self.in_continuation = false;
         Ok(())
+    }
+}
+
+/// Whether the mode is `Normal`.
+fn is_normal(mode: WhiteSpace) -> bool
+    ensures { IsTrue result ↔ (mode ≡ Normal) }
+{
+    match mode {
+        WhiteSpace::Normal => true,
+        WhiteSpace::Pre | WhiteSpace::PreWrap => false,
     }
 }
 

@@ -3,12 +3,12 @@ use Rattle.std.proofs.Common.{◌≡◌, ℕ, suc, zero, ◌+◌, ◌-◌, ◌<�
 use Rattle.std.specs.List.{slice_range, slice_get}
 use Rattle.std.specs.Option.{MatchOption}
 use Rattle.std.proofs.Common.{None, Some, add-one}
-use Rattle.std.specs.Str.{IsUtf8, is_utf8, chars, IsCharBoundary}
+use Rattle.std.specs.Str.{IsAscii, IsUtf8, is_utf8, chars, IsCharBoundary}
 use Rattle.std.specs.Char.{IsScalar, len_utf8}
 use Rattle.std.proofs.Math.Seq.{drop-append_seam, take-append_seam}
-use Rattle.std.proofs.lemmas.List.{take-append-drop, length-append, length-take, length-drop}
+use Rattle.std.proofs.lemmas.List.{take-append-drop, length-append, length-take, length-take-le, length-drop}
 use Rattle.std.proofs.lemmas.List.Folds.{drop_split}
-use Rattle.std.proofs.lemmas.Str.{IsUtf8-append, IsUtf8-nil, IsCharBoundary-from_drop, length-le-encodes, encodes-chars, scalars-chars, chars-encodes, encodes-append, IsCharBoundary-at_seam, cons_from_encodes, IsUtf8-encode, IsUtf8-past_char, is_utf8-from_IsUtf8, IsUtf8-from_is_utf8, chars-append, chars-nil, chars_past_char, length-encode}
+use Rattle.std.proofs.lemmas.Str.{IsUtf8-append, IsUtf8-nil, IsCharBoundary-from_drop, length-le-encodes, encodes-chars, scalars-chars, chars-encodes, encodes-append, IsCharBoundary-at_seam, cons_from_encodes, IsUtf8-encode, IsUtf8-past_char, is_utf8-from_IsUtf8, IsUtf8-from_is_utf8, chars-append, chars-nil, chars_past_char, length-encode, IsUtf8-from_ascii, chars-IsAscii, encodes-IsAscii}
 use lib.Utf8.{encodes, scalar, scalars}
 use Rattle.tbr_wrap.specs.Flat.{letters, AreParts}
 use Rattle.tbr_tagged.proofs.TextBehind.{chars_one, chars_push, chars_none}
@@ -374,3 +374,34 @@ pub taken_letters : (bytes : List ℕ) (i j w n k : ℕ) → AreParts bytes i j 
 taken_letters bytes i j w n k h e =
     let s = splits_at (slice_range bytes i j) n (placed_utf8 bytes i j w h) in
     taken (slice_range bytes i j) (encodes (take n (chars (slice_range bytes i j)))) (encodes (drop n (chars (slice_range bytes i j)))) k s.whole e ∙ s.front
+
+-- ---- what was handed out is forgotten
+
+without_gone : (bytes : List ℕ) (i j w : ℕ) → AreParts bytes i j w → IsCut (drop i bytes) 0 (j - i) [] (slice_range bytes i j) (drop j bytes)
+without_gone bytes i j w h =
+    let k = cut bytes i j w h in
+    record {
+      whole = ap (λ n. drop n bytes) (sym k.start) ∙ ap (λ bs. drop (length (take i bytes)) bs) k.whole ∙ drop-append_seam (take i bytes) (slice_range bytes i j ++ drop j bytes);
+      start = refl;
+      end = omega (arith, k.start, k.end);
+    }
+
+pub parts_kept : (bytes : List ℕ) (i j w : ℕ) → AreParts bytes i j w → AreParts (drop i bytes) 0 (j - i) w
+parts_kept bytes i j w h = from_cut (drop i bytes) 0 (j - i) w [] (slice_range bytes i j) (drop j bytes) (without_gone bytes i j w h) (placed_utf8 bytes i j w h) (word_utf8 bytes i j w h) h.word_len
+
+pub letters_kept : (bytes : List ℕ) (i j w : ℕ) → AreParts bytes i j w → letters (drop i bytes) 0 (j - i) ≡ letters bytes i j
+letters_kept bytes i j w h = letters_cut (drop i bytes) 0 (j - i) [] (slice_range bytes i j) (drop j bytes) (without_gone bytes i j w h)
+
+-- ---- characters of one byte each
+
+pub chars_within : (text : List ℕ) → IsUtf8 text → length (chars text) ≤ length text
+chars_within text u = omega (arith, length-le-encodes (chars text), ap length (encodes-chars text u))
+
+pub ascii_bytes : (text : List ℕ) (n : ℕ) → n ≤ length text → IsAscii (take n text) → n ≡ length (encodes (take n (chars text)))
+ascii_bytes text n within ascii =
+    let front = take n text in
+    let long : length front ≡ n = length-take-le n text within in
+    let whole : chars text ≡ front ++ chars (drop n text) =
+    ap chars (sym (take-append-drop n text)) ∙ chars-append front (drop n text) (IsUtf8-from_ascii front ascii) ∙ ap (λ cs. cs ++ chars (drop n text)) (chars-IsAscii front ascii) in
+    let first : take n (chars text) ≡ front = ap (λ cs. take n cs) whole ∙ ap (λ m. take m (front ++ chars (drop n text))) (sym long) ∙ take-append_seam front (chars (drop n text)) in
+    sym long ∙ ap length (sym (encodes-IsAscii front ascii)) ∙ ap (λ cs. length (encodes cs)) (sym first)

@@ -36,10 +36,10 @@ plain_parts columns c h = go (is_ascii_graphic c) (columns c) refl refl h
     go true None e f h = cc
     go false o e f h = cc
 
-graphic_low : (c : ℕ) → is_ascii_graphic c ≡ true → (32 < c) × (c < 127)
+pub graphic_low : (c : ℕ) → is_ascii_graphic c ≡ true → (32 < c) × (c < 127)
 graphic_low c h = (grind (arith, nat_tests), grind (arith, nat_tests))
 
-graphic_joins : (c : ℕ) → is_ascii_graphic c ≡ true → is_break c ≡ false
+pub graphic_joins : (c : ℕ) → is_ascii_graphic c ≡ true → is_break c ≡ false
 graphic_joins c h = grind (arith, nat_tests)
 
 graphic_takes : (c : ℕ) → is_ascii_graphic c ≡ true → always_takes_space c ≡ true

@@ -11,6 +11,9 @@ use std::marker::Model;
 use tbr_model::CharWidth;
 use tbr_tagged::{OutOfMemory, spaces, text_width};
 
+/// So few bytes that are handed out may stay.
+const FEW: usize = 1024;
+
 /// Characters that are placed, and behind them those of the current word. What is handed out is forgotten.
 ///
 /// A contract sees the two lists of characters.
@@ -189,7 +192,24 @@ impl SplitText {
         let bytes = bytes_of(placed, count);
         let taken = String::from_str(*self.text.allocator(), &placed[..bytes])?;
         self.start += bytes;
+        self.give_back();
         Ok(taken)
+    }
+
+    /// Gives back the memory of what was handed out, where that is the greater part and so pays for moving the rest.
+    fn give_back(&mut self)
+        ensures { self.new ≡ self.old }
+    {
+        let left = self.text.len() - self.start;
+        if self.start < FEW || self.start < left {
+            return;
+        }
+        if self.text.replace_range(0..self.start, "").is_err() {
+            return;
+        }
+        self.text.shrink_to_fit();
+        self.word_start -= self.start;
+        self.start = 0;
     }
 
     /// Forgets all characters.
@@ -208,6 +228,10 @@ fn bytes_of(text: &str, count: usize) -> usize
     requires { count ≤ length (chars text.now) }
     ensures { result ≡ length (encodes (take count (chars text.now))) }
 {
+    // Where they are ASCII, they needn't be read one by one.
+    if text.as_bytes()[..count].is_ascii() {
+        return count;
+    }
     let mut rest = text.chars();
     for _ in 0..count {
         let _ = rest.next();

@@ -1,4 +1,4 @@
-use Rattle.std.proofs.Common.{◌++◌, chars, take, drop, length, ap, ◌∙◌, sym, subst, arith}
+use Rattle.std.proofs.Common.{◌≡◌, ◌++◌, chars, take, drop, length, ap, ◌∙◌, sym, subst, arith}
 use Rattle.std.specs.Str.{IsUtf8, IsCharBoundary}
 use Rattle.std.proofs.lemmas.List.{take-append-drop, length-drop}
 use Rattle.std.proofs.lemmas.Str.{chars-append, IsUtf8-from_ascii, IsUtf8-drop, IsCharBoundary-from_take}
@@ -28,8 +28,14 @@ returns-clause-ok g c =
     let n = c.plain_in_front-count.result.0 in
     let front = c.split_at.result.0.now in
     let utf8 : IsUtf8 (take n text) = IsUtf8-from_ascii (take n text) (plain_ascii g.W.CharWidth.columns (take n text) c.plain_in_front-count.ensures.plain) in
+    let whole : length c.in_ok-rest.rest.now ≡ length text = omega (arith, c.in_ok-rest.ensures.rest.1) in
     record {
       front = chars front;
       split = ap chars (sym (take-append-drop n text)) ∙ chars-append (take n text) (drop n text) utf8 ∙ (λ i. chars (sym c.split_at.ensures.front i) ++ chars (sym c.split_at.ensures.back i));
-      joins = c.in_ok-add_plain.ensures.ok;
+      joins = rw (c.in_ok-rest.ensures.none whole) at c.in_ok-add_plain.ensures.ok;
     }
+
+pub returns-then-count-eq0-clause-too_narrow : goal.returns-then-count-eq0-clause-too_narrow
+returns-then-count-eq0-clause-too_narrow g c = λ e.
+    let whole : length c.in_ok-rest.rest.now ≡ length c.args.text.now = omega (arith, c.in_ok-rest.ensures.rest.1) in
+    rw (c.in_ok-rest.ensures.none whole) at (c.add_first.ensures.too_narrow e)

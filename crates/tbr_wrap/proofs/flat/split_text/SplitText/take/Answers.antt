@@ -56,5 +56,6 @@ returns-clause-rest c =
     let placed : c.range-placed.result.now ≡ slice_range bytes i j = c.range-placed.ensures.value ∙ ap (λ bs. slice_range bs i j) c.as_str.ensures.value in
     let k : c.bytes_of-bytes.result ≡ length (encodes (take c.args.count (chars (slice_range bytes i j)))) =
     c.bytes_of-bytes.ensures ∙ ap (λ bs. length (encodes (take c.args.count (chars bs)))) placed in
-    letters_take bytes i j c.self.inside.word c.args.count c.bytes_of-bytes.result c.self.invariant k
+    c.give_back.ensures
+    ∙ letters_take bytes i j c.self.inside.word c.args.count c.bytes_of-bytes.result c.self.invariant k
     ∙ ap (λ (l : Letters). record l { placed = drop c.args.count l.placed }) c.self.view_is

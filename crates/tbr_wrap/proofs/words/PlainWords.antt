@@ -1,0 +1,211 @@
+-- Narrow words with one space between two go on the open line as one word does.
+use Rattle.std.proofs.Common.{◌≡◌, ℕ, suc, ◌+◌, ◌<◌, ◌≤◌, nat_lt, nat_le, ◌==◌, Bool, true, false, if◌then◌else◌, Option, None, Some, unwrap_or, List, [], ◌∷◌, ◌++◌, fold, length, take, slice_range, ◌-◌, refl, ap, sym, ◌∙◌, subst, arith, append_assoc, append-nil}
+use borrow.Author.Tests.{lt-ltb, le-leb}
+use Rattle.std.specs.Char.{is_ascii_graphic}
+use Rattle.std.specs.Str.{IsAscii}
+use Rattle.std.proofs.lemmas.Bool.Decides.{nat_tests}
+use Rattle.std.proofs.lemmas.List.{length-append}
+use Rattle.std.proofs.lemmas.Str.{IsAscii-append}
+use Rattle.std.proofs.lemmas.Str.Ascii.{IsAscii-nil, IsAscii-cons}
+use Rattle.std.proofs.Math.Seq.{take-append_seam}
+use Rattle.std.proofs.Math.Bool.{or-true}
+use Rattle.tbr_model.specs.declared.white_space.WhiteSpace.TheVariants.{Normal}
+use Rattle.tbr_model.specs.Laid.{extended}
+use Rattle.tbr_model.specs.Run.{glyph, character, has_character, items_width}
+use Rattle.tbr_model.specs.Rule.{Progress, enter, join, tag_of, space_text, pending_width, collapse, lay_here, break_word}
+use Rattle.tbr_model.specs.Width.{width_of_text}
+use Rattle.tbr_model.proofs.words.Items.{has_character-append, items_width-append}
+use Rattle.tbr_tagged.specs.Elements.{text_items}
+use Rattle.tbr_tagged.proofs.TextColumns.{items_width-text}
+use Rattle.tbr_wrap.specs.Plain.{is_narrow, reads, AreWords}
+use Rattle.tbr_wrap.specs.State.{text_entries}
+use Rattle.tbr_wrap.specs.Wrapper.{join_all}
+use Rattle.tbr_wrap.proofs.words.ModeCases.{normal_kept, normal_break}
+use Rattle.tbr_wrap.proofs.words.PlainText.{joined_text, graphic_low, graphic_joins}
+use Rattle.tbr_wrap.proofs.words.WordsLaid.{extended_twice}
+
+-- ---- what is read
+
+-- what is known of a narrow character
+pub record Narrow (columns : ℕ → Option ℕ) (c : ℕ) : Type 0 where
+  pub graphic : is_ascii_graphic c ≡ true
+  pub one : columns c ≡ Some 1
+
+narrow_parts : (columns : ℕ → Option ℕ) (c : ℕ) → is_narrow columns c ≡ true → Narrow columns c
+narrow_parts columns c h = go (is_ascii_graphic c) (columns c) refl refl h
+  where
+    go : (g : Bool) (o : Option ℕ) → is_ascii_graphic c ≡ g → columns c ≡ o → (unwrap_or (if g then o else None) 0 == 1) ≡ true → Narrow columns c
+    go true (Some n) e f h = record { graphic = e; one = f ∙ ap Some (grind (arith, nat_tests)) }
+    go true None e f h = cc
+    go false o e f h = cc
+
+reads_none : (columns : ℕ → Option ℕ) (cs : List ℕ) → fold (reads columns) None cs ≡ None
+reads_none columns [] = refl
+reads_none columns (c ∷ cs) = reads_none columns cs
+
+-- the next character is a space behind a word, or narrow
+data NextRead (columns : ℕ → Option ℕ) (inside : Bool) (c : ℕ) (cs : List ℕ) (end : Bool) : Type 0 where
+  space : c ≡ 32 → inside ≡ true → fold (reads columns) (Some false) cs ≡ Some end → NextRead columns inside c cs end
+  narrow : Narrow columns c → fold (reads columns) (Some true) cs ≡ Some end → NextRead columns inside c cs end
+
+next_read : (columns : ℕ → Option ℕ) (inside : Bool) (c : ℕ) (cs : List ℕ) (end : Bool) → fold (reads columns) (reads columns (Some inside) c) cs ≡ Some end → NextRead columns inside c cs end
+next_read columns inside c cs end h = go (c == 32) (is_narrow columns c) inside refl refl refl h
+  where
+    none : fold (reads columns) None cs ≡ Some end → NextRead columns inside c cs end
+    none h = absurd (let e : None ≡ Some end = sym (reads_none columns cs) ∙ h in cc)
+
+    go : (s n w : Bool) → (c == 32) ≡ s → is_narrow columns c ≡ n → inside ≡ w → fold (reads columns) (if s then (if w then Some false else None) else (if n then Some true else None)) cs ≡ Some end → NextRead columns inside c cs end
+    go true n true e f i h = space (grind (arith, nat_tests)) i h
+    go true n false e f i h = none h
+    go false true w e f i h = narrow (narrow_parts columns c f) h
+    go false false w e f i h = none h
+
+pub words_ascii : (columns : ℕ → Option ℕ) (inside : Bool) (cs : List ℕ) (end : Bool) → fold (reads columns) (Some inside) cs ≡ Some end → IsAscii cs
+words_ascii columns inside [] end h = IsAscii-nil
+words_ascii columns inside (c ∷ cs) end h =
+    elim (next_read columns inside c cs end h) [
+      | space e i k ↦ IsAscii-cons c cs (omega (arith, e)) (words_ascii columns false cs end k)
+      | narrow n k ↦ IsAscii-cons c cs (omega (arith, (graphic_low c n.graphic).1)) (words_ascii columns true cs end k)
+    ]
+
+one_wider : (columns : ℕ → Option ℕ) (c : ℕ) (cs : List ℕ) → columns c ≡ Some 1 → width_of_text columns cs ≡ length cs → width_of_text columns (c ∷ cs) ≡ length (c ∷ cs)
+one_wider columns c cs e w = omega (arith, ap (λ o. unwrap_or o 0) e, w)
+
+pub words_width : (columns : ℕ → Option ℕ) → columns 32 ≡ Some 1 → (inside : Bool) (cs : List ℕ) (end : Bool) → fold (reads columns) (Some inside) cs ≡ Some end → width_of_text columns cs ≡ length cs
+words_width columns one inside [] end h = refl
+words_width columns one inside (c ∷ cs) end h =
+    elim (next_read columns inside c cs end h) [
+      | space e i k ↦ one_wider columns c cs (ap columns e ∙ one) (words_width columns one false cs end k)
+      | narrow n k ↦ one_wider columns c cs n.one (words_width columns one true cs end k)
+    ]
+
+pub some_read : (columns : ℕ → Option ℕ) (cs : List ℕ) → fold (reads columns) (Some false) cs ≡ Some true → 0 < length cs
+some_read columns [] h = cc
+some_read columns (c ∷ cs) h = omega arith
+
+-- without the last space
+pub words_front : (columns : ℕ → Option ℕ) (cs : List ℕ) (w : AreWords columns cs) → slice_range cs 0 (length cs - 1) ≡ w.front
+words_front columns cs w =
+    let long : length cs - 1 - 0 ≡ length w.front = omega (arith, ap length w.is, length-append w.front (32 ∷ [])) in
+    (λ i. take (long i) (w.is i)) ∙ take-append_seam w.front (32 ∷ [])
+
+pub all_ascii : (columns : ℕ → Option ℕ) (cs : List ℕ) → AreWords columns cs → IsAscii cs
+all_ascii columns cs w = subst IsAscii (sym w.is) (IsAscii-append w.front (32 ∷ []) (words_ascii columns false w.front true w.read) (IsAscii-cons 32 [] (omega arith) IsAscii-nil))
+
+-- ---- what the rule does with them
+
+module _ {A : Type 0} (columns : ℕ → Option ℕ) (one : columns 32 ≡ Some 1) (width : ℕ) (a b : A) where
+  -- the word stands on the open line, and a space waits behind it
+  abbrev after_word : Progress A → Progress A
+  after_word q = record q {
+    laid = extended q.laid (space_text q.space ++ q.word) (pending_width q.space + items_width columns q.word);
+    space = Some (record { width = 1; tag = tag_of q a b; mode = Normal });
+    word = [];
+    continuation_flag = false;
+  }
+
+  collapsed : (q : Progress A) → 0 < items_width columns q.word → collapse 32 (tag_of q a b) (lay_here columns q) ≡ after_word q
+  collapsed q some =
+      let test : nat_lt 0 (q.laid.width + (pending_width q.space + items_width columns q.word)) ≡ true = lt-ltb _ _ (omega (arith, some)) in
+      rw test refl
+
+  -- a word that fits ends at a space
+  word_ended : (q : Progress A) → 0 < items_width columns q.word → q.laid.width + (pending_width q.space + items_width columns q.word) ≤ width → enter columns width q (character 32 a b Normal) ≡ after_word q
+  word_ended q some fits =
+      let test : nat_lt 0 (items_width columns q.word) ≡ true = lt-ltb _ _ some in
+      let room : nat_le (q.laid.width + (pending_width q.space + items_width columns q.word)) width ≡ true = le-leb _ _ fits in
+      let lays : break_word columns width q ≡ lay_here columns q = rw (test, room) refl in
+      normal_break columns width 32 (tag_of q a b) q refl ∙ ap (collapse 32 (tag_of q a b)) lays ∙ collapsed q some
+
+  -- narrow characters behind the word, and a space behind them
+  abbrev after_words : Progress A → List ℕ → Progress A
+  after_words q cs = record q {
+    laid = extended q.laid (space_text q.space ++ (q.word ++ text_items cs (tag_of q a b))) (pending_width q.space + (items_width columns q.word + length cs));
+    space = Some (record { width = 1; tag = tag_of q a b; mode = Normal });
+    word = [];
+    mode = Normal;
+    continuation_flag = false;
+  }
+
+  -- what is known of the word under way
+  abbrev IsReading : Bool → Progress A → Type 0
+  IsReading true q = (0 < items_width columns q.word) × (has_character q.word ≡ true) × (q.mode ≡ Normal)
+  IsReading false q = has_character q.word ≡ false
+
+  joined_mode : (inside : Bool) (q : Progress A) → IsReading inside q → (if has_character q.word then q.mode else Normal) ≡ Normal
+  joined_mode true q h = ap (λ t. if t then q.mode else Normal) h.1 ∙ h.2
+  joined_mode false q h = ap (λ t. if t then q.mode else Normal) h
+
+  -- one more joins the word
+  after_join : (c : ℕ) (cs : List ℕ) (q : Progress A) → columns c ≡ Some 1 → after_words (join c (tag_of q a b) Normal q) cs ≡ after_words q (c ∷ cs)
+  after_join c cs q is =
+      let t = tag_of q a b in
+      let wide : pending_width q.space + (items_width columns (q.word ++ glyph c t ∷ []) + length cs) ≡ pending_width q.space + (items_width columns q.word + suc (length cs)) =
+      omega (arith, items_width-append columns q.word (glyph c t ∷ []), ap (λ o. unwrap_or o 0) is) in
+      λ i. record q {
+        laid = extended q.laid (space_text q.space ++ append_assoc q.word (glyph c t ∷ []) (text_items cs t) i) (wide i);
+        space = Some (record { width = 1; tag = t; mode = Normal });
+        word = [];
+        mode = Normal;
+        continuation_flag = false;
+      }
+
+  -- a space ends the word, and more follow
+  after_space : (cs : List ℕ) (q : Progress A) → after_words (after_word q) cs ≡ after_words q (32 ∷ cs)
+  after_space cs q =
+      let t = tag_of q a b in
+      let wide : pending_width q.space + items_width columns q.word + (1 + (0 + length cs)) ≡ pending_width q.space + (items_width columns q.word + suc (length cs)) = omega arith in
+      let twice = extended_twice q.laid (space_text q.space ++ q.word) (glyph 32 t ∷ text_items cs t) (pending_width q.space + items_width columns q.word) (1 + (0 + length cs)) in
+      let whole = twice ∙ (λ i. extended q.laid (append_assoc (space_text q.space) q.word (glyph 32 t ∷ text_items cs t) i) (wide i)) in
+      ap (λ l. record q { laid = l; space = Some (record { width = 1; tag = t; mode = Normal }); word = []; mode = Normal; continuation_flag = false }) whole
+
+  after_none : (q : Progress A) → q.mode ≡ Normal → after_word q ≡ after_words q []
+  after_none q e =
+      let wide : pending_width q.space + items_width columns q.word ≡ pending_width q.space + (items_width columns q.word + 0) = omega arith in
+      λ i. record q {
+        laid = extended q.laid (space_text q.space ++ sym (append-nil q.word) i) (wide i);
+        space = Some (record { width = 1; tag = tag_of q a b; mode = Normal });
+        word = [];
+        mode = e i;
+        continuation_flag = false;
+      }
+
+  words_entered : (inside : Bool) (cs : List ℕ) (q : Progress A) → fold (reads columns) (Some inside) cs ≡ Some true → IsReading inside q → q.laid.width + (pending_width q.space + (items_width columns q.word + length cs)) ≤ width →
+      fold (enter columns width) q (text_entries (cs ++ 32 ∷ []) a b Normal) ≡ after_words q cs
+  words_entered true [] q read h fits = word_ended q h.0 (omega (arith, fits)) ∙ after_none q h.2
+  words_entered false [] q read h fits = cc
+  words_entered inside (c ∷ cs) q read h fits =
+      let t = tag_of q a b in
+      let rest = text_entries (cs ++ 32 ∷ []) a b Normal in
+      elim (next_read columns inside c cs true read) [
+        | space e i k ↦
+            let is = subst (λ w. IsReading w q) i h in
+            let ended : enter columns width q (character c a b Normal) ≡ after_word q = ap (λ d. enter columns width q (character d a b Normal)) e ∙ word_ended q is.0 (omega (arith, fits)) in
+            ap (λ r. fold (enter columns width) r rest) ended
+            ∙ words_entered false cs (after_word q) k refl (omega (arith, fits))
+            ∙ after_space cs q
+            ∙ ap (λ d. after_words q (d ∷ cs)) (sym e)
+        | narrow n k ↦
+            let r : Progress A = join c t Normal q in
+            let joins : enter columns width q (character c a b Normal) ≡ r = normal_kept columns width c t q 1 (graphic_joins c n.graphic) n.one in
+            let wide : items_width columns r.word ≡ items_width columns q.word + 1 = omega (arith, items_width-append columns q.word (glyph c t ∷ []), ap (λ o. unwrap_or o 0) n.one) in
+            let some : has_character r.word ≡ true = has_character-append q.word (glyph c t ∷ []) ∙ or-true (has_character q.word) in
+            ap (λ r. fold (enter columns width) r rest) joins
+            ∙ words_entered true cs r k (omega (arith, wide), some, joined_mode inside q h) (omega (arith, fits, wide))
+            ∙ after_join c cs q n.one
+      ]
+
+  -- the words go on the open line as one word does, and the last space waits
+  pub words_laid : (cs : List ℕ) (p : Progress A) → fold (reads columns) (Some false) cs ≡ Some true → has_character p.word ≡ false → p.laid.width + (pending_width p.space + (items_width columns p.word + length cs)) ≤ width →
+      fold (enter columns width) p (text_entries (cs ++ 32 ∷ []) a b Normal) ≡ collapse 32 (tag_of p a b) (lay_here columns (join_all cs (tag_of p a b) Normal p))
+  words_laid cs p read none fits =
+      let t = tag_of p a b in
+      let some : 0 < length cs = some_read columns cs read in
+      let joined : join_all cs t Normal p ≡ record p { word = p.word ++ text_items cs t; mode = Normal } =
+      joined_text cs t Normal p some ∙ ap (λ m. record p { word = p.word ++ text_items cs t; mode = m }) (joined_mode false p none) in
+      let q : Progress A = record p { word = p.word ++ text_items cs t; mode = Normal } in
+      let wide : items_width columns q.word ≡ items_width columns p.word + length cs = items_width-append columns p.word (text_items cs t) ∙ ap (λ n. items_width columns p.word + n) (items_width-text columns cs t ∙ words_width columns one false cs true read) in
+      words_entered false cs p read none fits
+      ∙ sym (ap (λ n. record p { laid = extended p.laid (space_text p.space ++ q.word) (pending_width p.space + n); space = Some (record { width = 1; tag = t; mode = Normal }); word = []; mode = Normal; continuation_flag = false }) wide)
+      ∙ sym (collapsed q (omega (arith, wide, some)))
+      ∙ ap (λ r. collapse 32 t (lay_here columns r)) (sym joined)

@@ -1,0 +1,59 @@
+use Rattle.std.proofs.Common.{◌≡◌, ◌≤◌, ◌+◌, true, ◌++◌, ◌∷◌, [], ◌∙◌, sym, ap, subst, chars, length, fold, arith, refl}
+use Rattle.std.specs.Str.{IsAscii}
+use Rattle.std.proofs.lemmas.Str.{chars-IsAscii}
+use Rattle.std.proofs.lemmas.List.{length-append}
+use Rattle.tbr_model.specs.declared.white_space.WhiteSpace.TheVariants.{Normal}
+use Rattle.tbr_model.specs.Rule.{tag_of, pending_width, lay_here, enter, collapse}
+use Rattle.tbr_model.specs.Run.{items_width}
+use Rattle.tbr_model.specs.Width.{width_of_text}
+use Rattle.tbr_wrap.specs.State.{text_entries}
+use Rattle.tbr_wrap.specs.Wrapper.{join_all}
+use Rattle.tbr_wrap.proofs.words.ModeCases.{tag_wrap, tag_main}
+use Rattle.tbr_wrap.proofs.words.PlainWords.{words_laid, words_ascii, words_width, words_front, some_read, all_ascii}
+use Rattle.tbr_wrap.proofs.words.WordsLaid.{same_held_width}
+use Rattle.tbr_tagged.proofs.SameItems.{same_has}
+use Rattle.tbr_wrap.proofs.wrapper.Wrapper.add_words.Goals as goal
+use Rattle.tbr_wrap.proofs.wrapper.Wrapper.add_words.Goals.{then-self, else-self}
+
+pub join_ascii-requires-clause-some : goal.join_ascii-requires-clause-some
+join_ascii-requires-clause-some g c =
+    let w = c.requires.words in
+    omega (arith, ap length (c.range-words.ensures.value ∙ words_front g.W.CharWidth.columns c.args.text.now w), some_read g.W.CharWidth.columns w.front w.read)
+
+pub join_ascii-requires-clause-ascii : goal.join_ascii-requires-clause-ascii
+join_ascii-requires-clause-ascii g c =
+    let w = c.requires.words in
+    subst IsAscii (sym (c.range-words.ensures.value ∙ words_front g.W.CharWidth.columns c.args.text.now w)) (words_ascii g.W.CharWidth.columns _ w.front _ w.read)
+
+pub lay_here-requires-clause-room : goal.lay_here-requires-clause-room
+lay_here-requires-clause-room g c =
+    let w = c.requires.words in
+    let k = c.in_ok-join_ascii.ensures.pending in
+    rw (k.1) (omega (arith, ap length w.is, length-append w.front (32 ∷ []), k.0, k.2, c.in_ok-join_ascii.ensures.limits.width, c.range-words.ensures.len, c.requires.room))
+
+pub returns-clause-entered : goal.returns-clause-entered
+returns-clause-entered g c = λ before given p s.
+    let columns = g.W.CharWidth.columns in
+    let eq = g.T.PartialEq.eq in
+    let a = c.args.main_tag.now in
+    let b = c.args.wrap_tag.now in
+    let t = tag_of p a b in
+    let text = c.args.text.now in
+    let old = c.args.self.now in
+    let w = c.requires.words in
+    let is = c.range-words.ensures.value ∙ words_front columns text w in
+    let words : chars c.range-words.result.now ≡ w.front = ap chars is ∙ chars-IsAscii w.front (words_ascii columns _ w.front _ w.read) in
+    let whole : chars text ≡ w.front ++ 32 ∷ [] = chars-IsAscii text (all_ascii columns text w) ∙ w.is in
+    let wide : length c.range-words.result.now ≡ width_of_text columns (chars c.range-words.result.now) = ap length is ∙ sym (words_width columns (g.met.W.CharWidth.drawn_in_one 32 refl) _ w.front _ w.read) ∙ sym (ap (width_of_text columns) words) in
+    let same : eq c.if-self.tag.now t ≡ true =
+    elim c.if-self.branch [
+      | then-self w ↦ rw w.tag-is (tag_wrap eq g.met.T.Eq.laws p a b (sym s.in_continuation ∙ w.if-self.true))
+      | else-self w ↦ rw w.tag-is (tag_main eq g.met.T.Eq.laws p a b (sym s.in_continuation ∙ w.if-self.false))
+    ] in
+    let joined = c.in_ok-join_ascii.ensures.joined columns t wide same before given p s in
+    let laid = c.in_ok-lay_here.ensures.laid before given (join_all (chars c.range-words.result.now) t Normal p) joined in
+    let collapsed = c.collapse.ensures.after_change columns t same before given (lay_here columns (join_all (chars c.range-words.result.now) t Normal p)) laid in
+    let fits : p.laid.width + (pending_width p.space + (items_width columns p.word + length w.front)) ≤ old.lines.width = omega (arith, ap length w.is, length-append w.front (32 ∷ []), c.requires.room, s.word_width, s.lays.holds.width, s.lays.shows.width, same_held_width eq old.space p.space s.space) in
+    rw (ap (λ cs. fold (enter columns old.lines.width) p (text_entries cs a b Normal)) whole
+    ∙ words_laid columns (g.met.W.CharWidth.drawn_in_one 32 refl) old.lines.width a b w.front p w.read (sym (same_has eq old.lines.flat.word p.word s.word) ∙ c.requires.word) fits
+    ∙ ap (λ cs. collapse 32 t (lay_here columns (join_all cs t Normal p))) (sym words)) collapsed
