@@ -4,6 +4,7 @@
 //! - A character *joins* the word (`join`). White space that doesn't is pending before it (`collapse`, `keep_space`).
 //! - The word is *laid* where it ends: here, behind what is pending, if both fit the open line (`lay_here`), and else
 //!   afresh, behind what is left of that (`wrap_space`, `lay_fresh`).
+//! - Words that a text begins with, and that fit the open line, are laid here as one word would be (`add_words`).
 //! - What fits the open line is *placed* on it (`place_pending`, `place_word`). What may not fit is *put* on it and the
 //!   next ones (`put_pending`, `put_fresh`, `put_tab`).
 //! - Ended lines are *taken*, the first one first ([`LaidLines::take_line`]).
