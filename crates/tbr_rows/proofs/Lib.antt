@@ -14,4 +14,8 @@ pub mod MeantCells
 pub mod MeantTexts
 pub mod MeantRows
 pub mod OneRow
+pub mod Among
+pub mod LinesOfRows
+pub mod ColumnsOfRows
+pub mod CellsSeated
 pub mod CellsOfRows
