@@ -8,6 +8,7 @@ pub mod LineTexts
 pub mod Appending
 pub mod Fields
 pub mod Lines
+pub mod Footnotes
 pub mod Blank
 pub mod Fits
 pub mod Flushing

@@ -11,3 +11,4 @@ pub mod Rows
 pub mod Decorated
 pub mod Calls
 pub mod Footnotes
+pub mod Cutting

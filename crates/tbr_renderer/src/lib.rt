@@ -5,6 +5,7 @@ pub use options::{ImageRenderMode, RenderOptions};
 pub use renderer::Renderer;
 pub use sub::SubRenderer;
 
+mod footnote;
 mod options;
 mod renderer;
 mod sub;

@@ -32,6 +32,7 @@ mod decorated;
 mod images;
 mod lines;
 mod links;
+mod printed;
 mod rows;
 mod strikeouts;
 mod texts;

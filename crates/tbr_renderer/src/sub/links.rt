@@ -1,12 +1,21 @@
 //! The targets of links, which stand behind a document.
 ghost use Rattle.std.specs.Prelude.{◌≡◌, ◌≢◌, None, Some, Err, map, IfOk, IfErr, OnOk, OnErr};
+ghost use Rattle.std.specs.List.{AllByRecursion as Each};
+ghost use Rattle.tbr_lines.specs.Copies.{equal_lists};
+ghost use Rattle.tbr_lines.specs.Elements.{IsMerged};
 ghost use Rattle.tbr_lines.specs.View.{chars_of};
 ghost use Rattle.tbr_lines.specs.declared.Error.TheVariants as E;
 ghost use Rattle.tbr_decor.specs.Change as change;
 ghost use Rattle.tbr_decor.specs.Meant.{lines_meant};
+ghost use Rattle.tbr_decor.specs.Meant as decor;
 ghost use Rattle.tbr_renderer.specs.Calls.{KeepsFailure};
-ghost use Rattle.tbr_renderer.specs.Footnotes.{listed};
+ghost use Rattle.tbr_renderer.specs.Cutting.{texts_meant};
+ghost use Rattle.tbr_renderer.specs.Footnotes.{listed, with_footnotes};
+ghost use Rattle.tbr_renderer.specs.Footnotes as model;
+ghost use Rattle.tbr_renderer.specs.Meant.{meant};
+ghost use Rattle.tbr_renderer.specs.Renderer.{KeepsSettings};
 
+use crate::footnote::FootnoteLines;
 use crate::sub::SubRenderer;
 use tbr_decor::TextDecorator;
 use tbr_lines::{CharWidth, Error, OutOfMemory, TaggedLine};
@@ -55,5 +64,65 @@ impl<D: TextDecorator, W: CharWidth> SubRenderer<D, W> {
             return self.decorator.finalise(self.alloc, Vec::new(self.alloc));
         }
         self.decorator.finalise(self.alloc, links)
+    }
+
+    /// Adds footnotes behind the lines. Their markers are dropped, newlines become spaces, and each piece stands under the
+    /// list of its one annotation. Where links are wrapped, a line ends before each character that passes the renderer's
+    /// width behind what the line holds, also an empty one. Each footnote begins a line, and an empty one is an empty
+    /// line. The lines come behind the markers that wait, and are filled where lines are padded. The open run stays open.
+    ///
+    /// It refuses only for want of memory, also where the columns of a line pass `usize`, and then the renderer has
+    /// failed. One that had failed answers its refusal.
+    pub fn fmt_links(&mut self, links: Vec<TaggedLine<D::Annotation>>) -> Result<(), Error>
+        ensures ok { OnOk result (meant D.meaning self.new
+            ≡ with_footnotes W.columns (meant D.meaning self.old) (lines_meant D.meaning links.items)) }
+        ensures memory { self.old.failure ≡ None → result ≢ Err E.TooNarrow }
+        ensures left { self.old.failure ≡ None →
+            OnErr result (KeepsSettings (meant D.meaning self.old) (meant D.meaning self.new)) }
+        ensures kept { KeepsFailure (λ r. r.failure) self.old result self.new }
+    {
+        self.refusal()?;
+        let done = self.try_fmt_links(links);
+        self.keep(done)
+    }
+
+    /// Adds footnotes behind the lines.
+    fn try_fmt_links(&mut self, links: Vec<TaggedLine<D::Annotation>>) -> Result<(), Error>
+        requires { self.old.failure ≡ None }
+        ensures ok { OnOk result (meant D.meaning self.new
+            ≡ with_footnotes W.columns (meant D.meaning self.old) (lines_meant D.meaning links.items)) }
+        ensures memory { IfErr result (λ e. e ≡ E.OutOfMemory) }
+        ensures settings { KeepsSettings (meant D.meaning self.old) (meant D.meaning self.new) }
+    {
+        for link in links {
+            let lines = self.footnote_lines(link)?;
+            self.add_texts(lines)?;
+        }
+        Ok(())
+    }
+
+    /// The lines of a footnote.
+    fn footnote_lines(
+        &self,
+        link: TaggedLine<D::Annotation>,
+    ) -> Result<Vec<TaggedLine<Vec<D::Annotation>>>, OutOfMemory>
+        ensures lines { IfOk result (λ lines. texts_meant D.meaning lines.items
+            ≡ model.footnote_lines W.columns (meant D.meaning self.now) (map (decor.meant D.meaning) link)) }
+        ensures merged { IfOk result (λ lines. Each (IsMerged (equal_lists D.Annotation.eq)) lines.items) }
+    {
+        let mut lines = FootnoteLines::<D, W>::new(self.alloc, self.link_width());
+        lines.push_line(link)?;
+        lines.finish()
+    }
+
+    /// The width to which a footnote's lines are cut, where links are wrapped.
+    fn link_width(&self) -> Option<usize>
+        ensures { result ≡ model.link_width self.now.options self.now.width }
+    {
+        if self.options.wrap_links {
+            Some(self.width)
+        } else {
+            None
+        }
     }
 }

@@ -204,7 +204,10 @@ impl<D: TextDecorator, W: CharWidth> SubRenderer<D, W> {
     }
 
     /// Adds lines of text.
-    fn add_texts(&mut self, texts: Vec<TaggedLine<Vec<D::Annotation>>>) -> Result<(), OutOfMemory>
+    pub(crate) fn add_texts(
+        &mut self,
+        texts: Vec<TaggedLine<Vec<D::Annotation>>>,
+    ) -> Result<(), OutOfMemory>
         requires unfailed { self.old.failure ≡ None }
         requires merged { Each (IsMerged (equal_lists D.Annotation.eq)) texts.items }
         ensures lines { OnOk result (meant D.meaning self.new ≡ fold (with_line W.columns) (meant D.meaning self.old)

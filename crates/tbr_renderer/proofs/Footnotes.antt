@@ -1,0 +1,141 @@
+-- Footnotes that are cut into lines.
+use Rattle.std.proofs.Common.{◌≡◌, ℕ, ◌+◌, Bool, true, false, if◌then◌else◌, Option, None, unwrap_or, List, [], ◌∷◌, ◌++◌, map, fold, flat_map, refl, ap, sym, ◌∙◌, subst, append_assoc, append-nil, arith}
+use Rattle.std.specs.Global.{Vec}
+use Rattle.std.proofs.lemmas.List.{map-append}
+use Rattle.std.proofs.lemmas.List.Concat.{flat_map-append}
+use Rattle.std.proofs.lemmas.Grind.{fold-append}
+use Rattle.tbr_model.specs.Run.{Item, glyph, item_width, items_width}
+use Rattle.tbr_model.specs.Mapped.{map_item}
+use Rattle.tbr_model.proofs.words.Items.{items_width-append}
+use Rattle.tbr_lines.specs.Copies.{equal_lists}
+use Rattle.tbr_lines.specs.Elements.{Element, piece, marker_element, text_items, items_of, SameItems}
+use Rattle.tbr_lines.specs.Mapped.{MeansEqual}
+use Rattle.tbr_lines.proofs.MappedTags.{means_same_items}
+use Rattle.tbr_lines.specs.declared.TaggedLineElement.{TaggedLineElement}
+use Rattle.tbr_lines.specs.View.{element_of}
+use Rattle.tbr_decor.specs.Meant.{meant as element_meant}
+use Rattle.tbr_renderer.specs.Cutting.{Cutting, nothing_cut, line_ended, appended, with_item, with_items, cut_meant, texts_meant}
+use Rattle.tbr_renderer.specs.Footnotes.{unbroken, footnote_items, fits_behind, cut_lines, link_width, footnote_lines, with_footnotes}
+use Rattle.tbr_renderer.specs.Meant.{tag_meant, items_meant, meant}
+use Rattle.tbr_renderer.specs.Renderer.{Renderer, Settings, KeepsSettings, with_line}
+use Rattle.tbr_renderer.proofs.Appending.{HasPut}
+
+-- ---- the characters of a footnote
+
+text_items-append : {A : Type 0} (cs ds : List ℕ) (a : A) → text_items (cs ++ ds) a ≡ text_items cs a ++ text_items ds a
+text_items-append cs ds a = map-append (λ c. glyph c a) cs ds
+
+footnote_items-append : {A : Type 0} (es fs : List (Element A)) → footnote_items (es ++ fs) ≡ footnote_items es ++ footnote_items fs
+footnote_items-append [] fs = refl
+footnote_items-append (piece cs a ∷ es) fs =
+    ap (λ is. text_items (map unbroken cs) (a ∷ []) ++ is) (footnote_items-append es fs) ∙ sym (append_assoc (text_items (map unbroken cs) (a ∷ [])) (footnote_items es) (footnote_items fs))
+footnote_items-append (marker_element name ∷ es) fs = footnote_items-append es fs
+
+module _ {T : Type 0} (columns : ℕ → Option ℕ) where
+  -- characters and then characters
+  then_items : (c d e : Cutting T) (is js : List (Item T)) → d ≡ with_items columns c is → e ≡ with_items columns d js → e ≡ with_items columns c (is ++ js)
+  then_items c d e is js first next = next ∙ ap (λ (x : Cutting T). with_items columns x js) first ∙ sym (fold-append (with_item columns) c is js)
+
+  -- one character more of a text
+  pub text_goes_on : (c d e : Cutting T) (tag : T) (cs : List ℕ) (x y : ℕ) → d ≡ with_items columns c (text_items (map unbroken cs) tag) → y ≡ unbroken x → e ≡ with_item columns d (glyph y tag) →
+      e ≡ with_items columns c (text_items (map unbroken (cs ++ x ∷ [])) tag)
+  text_goes_on c d e tag cs x y so_far is next =
+      then_items c d e (text_items (map unbroken cs) tag) (glyph (unbroken x) tag ∷ []) so_far (next ∙ ap (λ z. with_item columns d (glyph z tag)) is)
+      ∙ ap (with_items columns c) (sym (ap (λ zs. text_items zs tag) (map-append unbroken cs (x ∷ [])) ∙ text_items-append (map unbroken cs) (unbroken x ∷ []) tag))
+
+  -- the whole text
+  pub text_ends : (c d : Cutting T) (tag : T) (cs ds : List ℕ) → d ≡ with_items columns c (text_items (map unbroken cs) tag) → cs ≡ ds → d ≡ with_items columns c (text_items (map unbroken ds) tag)
+  text_ends c d tag cs ds so_far all = so_far ∙ ap (λ xs. with_items columns c (text_items (map unbroken xs) tag)) all
+
+  -- one character, whether it fits or not
+  module _ (c : Cutting T) (i : Item T) (is : List (Item T)) where
+    abbrev cutting_after : Bool → Cutting T
+    cutting_after b = with_items columns (appended (if b then c else line_ended c) i) is
+
+    abbrev lines_after : Bool → List (List (Item T))
+    lines_after b = if b then cut_lines columns c.width (c.held ++ i ∷ []) is else c.held ∷ cut_lines columns c.width (i ∷ []) is
+
+    one_by_one : (b : Bool) → fits_behind columns c.width c.held (item_width columns i) ≡ b → (line_ended (cutting_after b)).ended ≡ c.ended ++ lines_after b →
+        (line_ended (with_items columns c (i ∷ is))).ended ≡ c.ended ++ cut_lines columns c.width c.held (i ∷ is)
+    one_by_one b fits h = ap (λ (x : Bool). (line_ended (cutting_after x)).ended) fits ∙ h ∙ ap (λ (x : Bool). c.ended ++ lines_after x) (sym fits)
+
+  -- the lines of all characters
+  pub cut_by_items : (c : Cutting T) (is : List (Item T)) → (line_ended (with_items columns c is)).ended ≡ c.ended ++ cut_lines columns c.width c.held is
+  cut_by_items c [] = refl
+  cut_by_items c (i ∷ is) = go (fits_behind columns c.width c.held (item_width columns i)) refl (cut_by_items (appended c i) is) (cut_by_items (appended (line_ended c) i) is)
+    where
+      go : (b : Bool) → fits_behind columns c.width c.held (item_width columns i) ≡ b →
+          (line_ended (with_items columns (appended c i) is)).ended ≡ c.ended ++ cut_lines columns c.width (c.held ++ i ∷ []) is →
+          (line_ended (with_items columns (appended (line_ended c) i) is)).ended ≡ (c.ended ++ c.held ∷ []) ++ cut_lines columns c.width (i ∷ []) is →
+          (line_ended (with_items columns c (i ∷ is))).ended ≡ c.ended ++ cut_lines columns c.width c.held (i ∷ is)
+      go true fits here fresh = one_by_one c i is true fits here
+      go false fits here fresh = one_by_one c i is false fits (fresh ∙ append_assoc c.ended (c.held ∷ []) (cut_lines columns c.width (i ∷ []) is))
+
+-- one element more
+module _ {A M : Type 0} (f : A → M) (columns : ℕ → Option ℕ) where
+  pub elements_go_on : (c d e : Cutting (List M)) (es : List (TaggedLineElement A)) (x : TaggedLineElement A) → d ≡ with_items columns c (footnote_items (map (element_meant f) (map element_of es))) →
+      e ≡ with_items columns d (footnote_items (element_meant f (element_of x) ∷ [])) → e ≡ with_items columns c (footnote_items (map (element_meant f) (map element_of (es ++ x ∷ []))))
+  elements_go_on c d e es x so_far next =
+      then_items columns c d e (footnote_items (map (element_meant f) (map element_of es))) (footnote_items (element_meant f (element_of x) ∷ [])) so_far next
+      ∙ ap (with_items columns c) (sym (ap (λ xs. footnote_items (map (element_meant f) xs)) (map-append element_of es (x ∷ [])) ∙ ap footnote_items (map-append (element_meant f) (map element_of es) (element_of x ∷ []))
+      ∙ footnote_items-append (map (element_meant f) (map element_of es)) (element_meant f (element_of x) ∷ [])))
+
+  -- the whole line
+  pub elements_end : (c d : Cutting (List M)) (es : List (TaggedLineElement A)) (line : List (Element A)) → d ≡ with_items columns c (footnote_items (map (element_meant f) (map element_of es))) → map element_of es ≡ line →
+      d ≡ with_items columns c (footnote_items (map (element_meant f) line))
+  elements_end c d es line so_far all = so_far ∙ ap (λ xs. with_items columns c (footnote_items (map (element_meant f) xs))) all
+
+  -- the lines of a footnote, from the first character to the last
+  pub cut_whole : (width : Option ℕ) (c d : Cutting (Vec A)) (es : List (Element M)) (lines : List (List (Item (List M)))) → c ≡ nothing_cut width → cut_meant f d ≡ with_items columns (cut_meant f c) (footnote_items es) →
+      lines ≡ (line_ended (cut_meant f d)).ended → lines ≡ cut_lines columns width [] (footnote_items es)
+  cut_whole width c d es lines begun all last =
+      last ∙ ap (λ (x : Cutting (List M)). (line_ended x).ended) (all ∙ ap (λ (x : Cutting (Vec A)). with_items columns (cut_meant f x) (footnote_items es)) begun)
+      ∙ cut_by_items columns (nothing_cut width) (footnote_items es)
+
+-- ---- what stands in the fields
+
+module _ {A M : Type 0} (f : A → M) where
+  pub texts_are : (lines : List (List (Element (Vec A)))) → texts_meant f lines ≡ map (items_meant f) (map items_of lines)
+  texts_are [] = refl
+  texts_are (l ∷ lines) = ap (λ (ls : List (List (Item (List M)))). items_meant f (items_of l) ∷ ls) (texts_are lines)
+
+  -- a character more in the open line
+  pub held_more : (eq : A → A → Bool) (agree : MeansEqual (tag_meant f) (equal_lists eq)) (old new : List (Item (Vec A))) (c : ℕ) (tag : Vec A) → SameItems (equal_lists eq) new (old ++ glyph c tag ∷ []) →
+      items_meant f new ≡ items_meant f old ++ glyph c (tag_meant f tag) ∷ []
+  held_more eq agree old new c tag same = means_same_items (tag_meant f) (equal_lists eq) agree new (old ++ glyph c tag ∷ []) same ∙ map-append (map_item (tag_meant f)) old (glyph c tag ∷ [])
+
+  pub held_width : (widths : ℕ → Option ℕ) (old new : List (Item (List M))) (c : ℕ) (tag : List M) (taken more sum : ℕ) → new ≡ old ++ glyph c tag ∷ [] → taken ≡ items_width widths old → more ≡ unwrap_or (widths c) 0 →
+      sum ≡ taken + more → sum ≡ items_width widths new
+  held_width widths old new c tag taken more sum is before wide plus =
+      let last : items_width widths (old ++ glyph c tag ∷ []) ≡ items_width widths old + (unwrap_or (widths c) 0 + 0) = items_width-append widths old (glyph c tag ∷ []) in
+      let here : sum ≡ items_width widths (old ++ glyph c tag ∷ []) = omega (arith, last, before, wide, plus) in
+      here ∙ ap (items_width widths) (sym is)
+
+-- ---- footnotes behind the lines
+
+module _ {D A M : Type 0} (f : A → M) (columns : ℕ → Option ℕ) (first : Renderer D A (Vec A)) where
+  -- the lines of a footnote are decided by what isn't text
+  same_lines : (now : Renderer D A (Vec A)) (es : List (Element M)) → KeepsSettings (meant f first) (meant f now) → footnote_lines columns (meant f now) es ≡ footnote_lines columns (meant f first) es
+  same_lines now es kept = ap (λ (s : Settings D M). cut_lines columns (link_width s.options s.width) [] (footnote_items es)) kept
+
+  abbrev pub HasFootnotes : List (List (Element A)) → Renderer D A (Vec A) → Type 0
+  HasFootnotes links now = HasPut f columns first (flat_map (footnote_lines columns (meant f first)) (map (map (element_meant f)) links)) now
+
+  pub footnotes_begun : first.failure ≡ None → HasFootnotes [] first
+  footnotes_begun live = record { unfailed = live; settings = refl; lines = refl }
+
+  pub footnotes_go_on : (links : List (List (Element A))) (link : List (Element A)) (texts : List (List (Item (List M)))) (now next : Renderer D A (Vec A)) → HasFootnotes links now →
+      texts ≡ footnote_lines columns (meant f now) (map (element_meant f) link) → meant f next ≡ fold (with_line columns) (meant f now) texts → KeepsSettings (meant f now) (meant f next) → next.failure ≡ None →
+      HasFootnotes (links ++ link ∷ []) next
+  footnotes_go_on links link texts now next h cut put kept live =
+      let lines = footnote_lines columns (meant f first) in
+      let before = flat_map lines (map (map (element_meant f)) links) in
+      let here : texts ≡ lines (map (element_meant f) link) = cut ∙ same_lines now (map (element_meant f) link) h.settings in
+      let all : before ++ texts ≡ flat_map lines (map (map (element_meant f)) (links ++ link ∷ [])) =
+      ap (λ ts. before ++ ts) (here ∙ sym (append-nil (lines (map (element_meant f) link))))
+      ∙ sym (ap (flat_map lines) (map-append (map (element_meant f)) links (link ∷ [])) ∙ flat_map-append lines (map (map (element_meant f)) links) (map (element_meant f) link ∷ [])) in record {
+        unfailed = live;
+        settings = kept ∙ h.settings;
+        lines = put ∙ ap (λ (r : Renderer D M (List M)). fold (with_line columns) r texts) h.lines ∙ sym (fold-append (with_line columns) (meant f first) before texts)
+            ∙ ap (fold (with_line columns) (meant f first)) all;
+      }

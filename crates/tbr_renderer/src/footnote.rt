@@ -1,0 +1,170 @@
+//! The lines of one footnote.
+ghost use Rattle.std.specs.Prelude.{◌≡◌, ◌∷◌, [], unwrap_or, map, chars, IfOk, OnOk};
+ghost use Rattle.std.specs.List.{AllByRecursion as Each};
+ghost use Rattle.tbr_model.specs.Run.{glyph};
+ghost use Rattle.tbr_lines.specs.Copies.{equal_lists};
+ghost use Rattle.tbr_lines.specs.Elements.{text_items, IsMerged};
+ghost use Rattle.tbr_lines.specs.View.{element_of};
+ghost use Rattle.tbr_lines.specs.Walks.{piece_of};
+ghost use Rattle.tbr_decor.specs.Meant.{meant};
+ghost use Rattle.tbr_renderer.specs.Cutting.{nothing_cut, line_ended, appended, with_item, with_items, cut_meant, texts_meant};
+ghost use Rattle.tbr_renderer.specs.Footnotes as model;
+ghost use Rattle.tbr_renderer.specs.Footnotes.{footnote_items, fits_behind};
+ghost use Rattle.tbr_renderer.specs.Meant.{tag_meant};
+
+use std::alloc::Global;
+use std::marker::{Model, PhantomData};
+use std::mem;
+use tbr_decor::TextDecorator;
+use tbr_lines::{CharWidth, OutOfMemory, TaggedLine, TaggedLineElement, TaggedString};
+
+/// The lines of a footnote, whose characters come one by one. Each stands under the list of its one annotation.
+#[derive(Drop)]
+pub struct FootnoteLines<D: TextDecorator, W: CharWidth> {
+    alloc: Global,
+    /// The columns that a line may take, where lines are cut.
+    width: Option<usize>,
+    /// The lines that have ended.
+    ended: Vec<TaggedLine<Vec<D::Annotation>>>,
+    /// The open line.
+    held: TaggedLine<Vec<D::Annotation>>,
+    /// The columns that the open line takes.
+    columns: usize,
+    char_width: PhantomData<W>,
+}
+
+impl<D: TextDecorator, W: CharWidth> Model for FootnoteLines<D, W> {
+    ghost use Rattle.std.specs.Global.{Vec};
+    ghost use Rattle.tbr_renderer.specs.Cutting.{Cutting};
+
+    ghost Value = { Cutting (Vec D.Annotation) };
+
+    ghost use Rattle.tbr_renderer.specs.Cutting.{cutting_of, HoldsCutting};
+
+    ghost view = { λ c. cutting_of c };
+
+    ghost invariant = { λ c. HoldsCutting W.columns D.Annotation.eq D.meaning c };
+}
+
+impl<D: TextDecorator, W: CharWidth> FootnoteLines<D, W> {
+    /// An empty open line. It takes no memory.
+    pub fn new(alloc: Global, width: Option<usize>) -> FootnoteLines<D, W>
+        ensures { result ≡ nothing_cut width }
+    {
+        FootnoteLines {
+            alloc,
+            width,
+            ended: Vec::new(alloc),
+            held: TaggedLine::new(alloc),
+            columns: 0,
+            char_width: PhantomData,
+        }
+    }
+
+    /// Adds a line's characters. Markers are dropped, and newlines become spaces.
+    pub fn push_line(&mut self, line: TaggedLine<D::Annotation>) -> Result<(), OutOfMemory>
+        ensures { OnOk result (cut_meant D.meaning self.new
+            ≡ with_items W.columns (cut_meant D.meaning self.old) (footnote_items (map (meant D.meaning) line))) }
+    {
+        for element in line {
+            self.push_element(element)?;
+        }
+        Ok(())
+    }
+
+    /// Ends the open line, and answers all lines.
+    pub fn finish(mut self) -> Result<Vec<TaggedLine<Vec<D::Annotation>>>, OutOfMemory>
+        ensures lines { IfOk result (λ lines.
+            texts_meant D.meaning lines.items ≡ (line_ended (cut_meant D.meaning self)).ended) }
+        ensures merged { IfOk result (λ lines. Each (IsMerged (equal_lists D.Annotation.eq)) lines.items) }
+    {
+        self.end_line()?;
+        Ok(self.ended)
+    }
+
+    /// Adds the characters of a piece, or drops a marker.
+    fn push_element(&mut self, element: TaggedLineElement<D::Annotation>) -> Result<(), OutOfMemory>
+        ensures { OnOk result (cut_meant D.meaning self.new ≡ with_items W.columns (cut_meant D.meaning self.old)
+            (footnote_items (meant D.meaning (element_of element) ∷ []))) }
+    {
+        match element {
+            TaggedLineElement::Str(piece) => self.push_piece(piece),
+            TaggedLineElement::FragmentStart(_) => Ok(()),
+        }
+    }
+
+    /// Adds the characters of a piece.
+    fn push_piece(&mut self, piece: TaggedString<D::Annotation>) -> Result<(), OutOfMemory>
+        ensures { OnOk result (cut_meant D.meaning self.new ≡ with_items W.columns (cut_meant D.meaning self.old)
+            (footnote_items (meant D.meaning (piece_of piece) ∷ []))) }
+    {
+        let mut tag = Vec::new(self.alloc);
+        tag.push(piece.tag)?;
+        self.push_text(piece.s.as_str(), &tag)
+    }
+
+    /// Adds the characters of a text under these annotations.
+    fn push_text(&mut self, text: &str, tag: &Vec<D::Annotation>) -> Result<(), OutOfMemory>
+        ensures { OnOk result (cut_meant D.meaning self.new ≡ with_items W.columns (cut_meant D.meaning self.old)
+            (text_items (map model.unbroken (chars text.now)) (tag_meant D.meaning tag.now))) }
+    {
+        for c in text.chars() {
+            self.push(unbroken(c), tag)?;
+        }
+        Ok(())
+    }
+
+    /// Adds a character, on a fresh line where it doesn't fit behind what the open one holds.
+    fn push(&mut self, c: char, tag: &Vec<D::Annotation>) -> Result<(), OutOfMemory>
+        ensures { OnOk result (cut_meant D.meaning self.new
+            ≡ with_item W.columns (cut_meant D.meaning self.old) (glyph c (tag_meant D.meaning tag.now))) }
+    {
+        if !self.fits(c) {
+            self.end_line()?;
+        }
+        self.append(c, tag)
+    }
+
+    /// Whether a character fits behind what the open line holds.
+    fn fits(&self, c: char) -> bool
+        ensures { result
+            ≡ fits_behind W.columns self.now.width (cut_meant D.meaning self.now).held (unwrap_or (W.columns c) 0) }
+    {
+        let Some(width) = self.width else {
+            return true;
+        };
+        let more = W::width(c).unwrap_or(0);
+        self.columns <= width && more <= width - self.columns
+    }
+
+    /// Ends the open line.
+    fn end_line(&mut self) -> Result<(), OutOfMemory>
+        ensures { OnOk result (cut_meant D.meaning self.new ≡ line_ended (cut_meant D.meaning self.old)) }
+    {
+        self.columns = 0;
+        let line = mem::replace(&mut self.held, TaggedLine::new(self.alloc));
+        self.ended.push(line)?;
+        Ok(())
+    }
+
+    /// Adds a character to the open line. It refuses too where the line's columns pass `usize`.
+    fn append(&mut self, c: char, tag: &Vec<D::Annotation>) -> Result<(), OutOfMemory>
+        ensures { OnOk result (cut_meant D.meaning self.new
+            ≡ appended (cut_meant D.meaning self.old) (glyph c (tag_meant D.meaning tag.now))) }
+    {
+        let more = W::width(c).unwrap_or(0);
+        let Some(columns) = self.columns.checked_add(more) else {
+            return Err(OutOfMemory);
+        };
+        self.held.push_char(c, tag)?;
+        self.columns = columns;
+        Ok(())
+    }
+}
+
+/// A newline as a space, and any other character as it is.
+fn unbroken(c: char) -> char
+    ensures { result ≡ model.unbroken c }
+{
+    if c == '\n' { ' ' } else { c }
+}
