@@ -1,7 +1,17 @@
-//! Renderers of blocks of text, and what holds of every list of calls. It re-exports the crate that has the calls.
+//! Renderers of blocks of text, and what holds of every list of calls. It re-exports the crates below it, so that a
+//! caller names it alone.
 #![tactic(auto)]
 
+pub use tbr_decor::{
+    Colour, PlainDecorator, RichAnnotation, RichDecorator, TextDecorator, TrivialDecorator,
+};
+pub use tbr_lines::{
+    BorderHoriz, BorderSegHoriz, CellAlign, CharWidth, Chars, Error, Iter, OutOfMemory, RenderLine,
+    TaggedLine, TaggedLineElement, TaggedString, TaggedStrings, TooNarrow, UnicodeColumns,
+    WhiteSpace, WrappedBlock, always_takes_space, is_wordbreak_point, text_width,
+};
 pub use tbr_renderer::{ImageRenderMode, RenderOptions, Renderer, SubRenderer};
-pub use tbr_stack::TextRenderer;
+pub use tbr_rows::LineSet;
+pub use tbr_stack::{Stack, TextRenderer};
 
 pub mod laws;
