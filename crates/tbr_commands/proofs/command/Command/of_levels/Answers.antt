@@ -7,7 +7,7 @@ use Rattle.tbr_commands.proofs.command.Command.of_levels.Goals as goal
 
 pub returns-in_ok-unescape-in-link-clause-none : goal.returns-in_ok-unescape-in-link-clause-none
 returns-in_ok-unescape-in-link-clause-none c =
-    if_none_mapped c.in_ok-unescape-in-link.field-0 c.map-in-link.result c.map-in-link.ensures.variant
+    if_none_mapped c.in_ok-unescape-in-link.field-0 c.map.result c.map.ensures.variant
     (λ n. no_level_argument c.args.line.now c.in-Some-split_once.word c.in-Some-split_once.argument c.in-Some-split_once.ensures.cases c.in_default.ensures.none link_word c.in-link.is (λ t. n t.0 t.1))
     c.in_ok-unescape-in-link.ensures.none
 
