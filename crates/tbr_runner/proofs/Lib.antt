@@ -3,7 +3,7 @@ pub mod Levels
 pub mod Meant
 pub mod Live
 pub mod Links
-pub mod Closing
+pub mod Notes
 pub mod Rows
 pub mod LinesGive
 pub mod OfScript

@@ -22,6 +22,10 @@ module _ {D A : Type 0} (columns : ℕ → Option ℕ) where
   lines_block [] r = refl
   lines_block (t ∷ ts) r = lines_block ts (with_line columns r t)
 
+  lines_failure : (texts : List (List (Item (List A)))) (r : Renderer D A (List A)) → (let s = fold (with_line columns) r texts in s.failure) ≡ r.failure
+  lines_failure [] r = refl
+  lines_failure (t ∷ ts) r = lines_failure ts (with_line columns r t)
+
   begun_block : (r : Renderer D A (List A)) → (let s = block_started columns r in s.block) ≡ r.block
   begun_block r = go (has_content r) refl
     where
@@ -38,7 +42,7 @@ module _ {D A : Type 0} (columns : ℕ → Option ℕ) where
   still : (r s : Renderer D A (List A)) → r.block ≡ None → Flushes columns r s → s ≡ r
   still r s none h = subst (λ (o : Option (Open (List A))). FlushesBlock columns r o s) none h
 
-  pub fits : (r : Renderer D A (List A)) → r.block ≡ None → FlushIsTooNarrow columns r → ⊥
+  fits : (r : Renderer D A (List A)) → r.block ≡ None → FlushIsTooNarrow columns r → ⊥
   fits r none h = subst (λ (o : Option (Open (List A))). BlockIsTooNarrow columns r o) none h
 
 -- ---- with footnotes and without
@@ -56,27 +60,33 @@ module _ {D M : Type 0} (columns : ℕ → Option ℕ) (decoration : Decoration 
   abbrev Text : List (List (Element M)) → Renderer D M (List M) → List ℕ → Type 0
   Text notes s text = chars text ≡ lines_text (let t = with_notes columns notes s in t.lines)
 
-  module _ {A : Type 0} (f : A → M) (lines : List (List (Element A))) (are : lines_meant f lines ≡ footnotes_of columns decoration targets r) (text : List ℕ) (is_text : IsUtf8 text) where
-    closes : (s : Renderer D M (List M)) → Flushes columns (finalised columns decoration targets r) s → Text (lines_meant f lines) s text → ClosesAs columns decoration targets r text
-    closes s flushes is =
+  module _ {A : Type 0} (f : A → M) (lines : List (List (Element A))) where
+    closes : lines_meant f lines ≡ footnotes_of columns decoration targets r → (text : List ℕ) → IsUtf8 text → (s : Renderer D M (List M)) → Flushes columns (finalised columns decoration targets r) s → Text (lines_meant f lines) s text → ClosesAs columns decoration targets r text
+    closes are text is_text s flushes is =
         let here : Text (footnotes_of columns decoration targets r) s text = subst (λ notes. Text notes s text) are is in
         (s, flushes, sym (encodes-chars text is_text) ∙ ap encode_utf8_all here)
 
-    pub closes_without : (length lines == 0) ≡ true → ((s : Renderer D M (List M)) × Flushes columns (finalised columns decoration targets r) s × (chars text ≡ lines_text s.lines)) → ClosesAs columns decoration targets r text
-    closes_without none h = closes h.0 h.1 (subst (λ notes. Text notes h.0 text) (sym (no_lines f lines none)) h.2)
+    pub closes_without : lines_meant f lines ≡ footnotes_of columns decoration targets r → (length lines == 0) ≡ true → (text : List ℕ) → IsUtf8 text →
+        ((s : Renderer D M (List M)) × Flushes columns (finalised columns decoration targets r) s × (chars text ≡ lines_text s.lines)) → ClosesAs columns decoration targets r text
+    closes_without are none text is_text h = closes are text is_text h.0 h.1 (subst (λ notes. Text notes h.0 text) (sym (no_lines f lines none)) h.2)
 
-    pub closes_with : (length lines == 0) ≡ false → (begun noted : Renderer D M (List M)) → StartsBlock columns (finalised columns decoration targets r) begun → noted ≡ with_footnotes columns begun (lines_meant f lines) →
-        ((s : Renderer D M (List M)) × Flushes columns noted s × (chars text ≡ lines_text s.lines)) → ClosesAs columns decoration targets r text
-    closes_with some begun noted starts is h =
-        let notes = lines_meant f lines in
-        let all : noted ≡ with_footnotes columns (block_started columns starts.0) notes = is ∙ ap (λ (q : Renderer D M (List M)). with_footnotes columns q notes) starts.2 in
-        let none = ap (λ (q : Renderer D M (List M)). q.block) all ∙ noted_none columns (finalised columns decoration targets r) starts.0 notes starts.1 in
-        let same = still columns noted h.0 none h.1 ∙ all ∙ sym (some_lines columns f lines starts.0 some) in
-        closes starts.0 starts.1 (h.2 ∙ ap (λ (q : Renderer D M (List M)). lines_text q.lines) same)
+    module _ (begun noted : Renderer D M (List M)) (starts : StartsBlock columns (finalised columns decoration targets r) begun) (is : noted ≡ with_footnotes columns begun (lines_meant f lines)) where
+      all : noted ≡ with_footnotes columns (block_started columns starts.0) (lines_meant f lines)
+      all = is ∙ ap (λ (q : Renderer D M (List M)). with_footnotes columns q (lines_meant f lines)) starts.2
 
-    -- behind footnotes nothing is too narrow
-    pub nothing_narrow : (begun noted : Renderer D M (List M)) → StartsBlock columns (finalised columns decoration targets r) begun → noted ≡ with_footnotes columns begun (lines_meant f lines) → FlushIsTooNarrow columns noted → ⊥
-    nothing_narrow begun noted starts is h =
-        let notes = lines_meant f lines in
-        let all : noted ≡ with_footnotes columns (block_started columns starts.0) notes = is ∙ ap (λ (q : Renderer D M (List M)). with_footnotes columns q notes) starts.2 in
-        fits columns noted (ap (λ (q : Renderer D M (List M)). q.block) all ∙ noted_none columns (finalised columns decoration targets r) starts.0 notes starts.1) h
+      none_open : noted.block ≡ None
+      none_open = ap (λ (q : Renderer D M (List M)). q.block) all ∙ noted_none columns (finalised columns decoration targets r) starts.0 (lines_meant f lines) starts.1
+
+      pub closes_with : lines_meant f lines ≡ footnotes_of columns decoration targets r → (length lines == 0) ≡ false → (text : List ℕ) → IsUtf8 text →
+          ((s : Renderer D M (List M)) × Flushes columns noted s × (chars text ≡ lines_text s.lines)) → ClosesAs columns decoration targets r text
+      closes_with are some text is_text h =
+          let same = still columns noted h.0 none_open h.1 ∙ all ∙ sym (some_lines columns f lines starts.0 some) in
+          closes are text is_text starts.0 starts.1 (h.2 ∙ ap (λ (q : Renderer D M (List M)). lines_text q.lines) same)
+
+      -- behind footnotes nothing is too narrow
+      pub nothing_narrow : FlushIsTooNarrow columns noted → ⊥
+      nothing_narrow h = fits columns noted none_open h
+
+      -- and nothing has failed
+      pub unfailed : begun.failure ≡ None → noted.failure ≡ None
+      unfailed live = ap (λ (q : Renderer D M (List M)). q.failure) is ∙ lines_failure columns (flat_map (footnote_lines columns begun) (lines_meant f lines)) begun ∙ live
