@@ -1,6 +1,5 @@
 -- Links that begin and end on the stack of a program.
-use Rattle.std.proofs.Common.{◌≡◌, ◌≢◌, ◌==◌, ℕ, true, false, Option, None, Some, List, [], ◌∷◌, map, length, chars, refl, sym, ap, ◌∙◌, subst, inl, inr}
-use Rattle.std.proofs.lemmas.Bool.{false≢true, eqb-true}
+use Rattle.std.proofs.Common.{◌≡◌, ◌≢◌, ◌+◌, ℕ, Option, None, Some, List, [], ◌∷◌, map, length, chars, refl, sym, ap, ◌∙◌, subst, inl, inr, arith}
 use Rattle.std.specs.Global.{Vec}
 use Rattle.std.specs.List.{AllZip}
 use Rattle.tbr_decor.specs.Start as start
@@ -85,12 +84,9 @@ module _ {D A M : Type 0} (meaning : A → M) (columns : ℕ → Option ℕ) (de
 
 -- ---- what commands lead to, by what annotations mean
 
-none_open : {X : Type 0} (xs : List X) → (length xs == 0) ≡ true → xs ≡ []
+none_open : {X : Type 0} (xs : List X) → length xs ≡ 0 → xs ≡ []
 none_open [] e = refl
-none_open (x ∷ xs) e = let no : length (x ∷ xs) ≡ 0 = eqb-true (length (x ∷ xs)) 0 e in cc
-
-some_open : {X : Type 0} (xs : List X) → (length xs == 0) ≡ false → xs ≢ []
-some_open xs e is = false≢true (sym e ∙ ap (λ ys. length ys == 0) is)
+none_open (x ∷ xs) e = absurd (omega (arith, e))
 
 module _ {D A M : Type 0} (meaning : A → M) where
   places_meant : (levels : List (Level (Renderer D A (Vec A)))) → open_in_first (map (level_meant meaning) levels) ≡ open_in_first levels
@@ -107,14 +103,14 @@ module _ {D A M : Type 0} (meaning : A → M) where
     pub link_refused : (target : List ℕ) → OfTop (IsTooNarrow columns decoration (begin (start.link (chars target)))) (stack_meant meaning i.stack) → LinkRefuses columns decoration (progress_meant meaning p) target TooNarrow
     link_refused target h = subst (λ (q : Progress D A (Vec A)). LinkRefuses columns decoration (progress_meant meaning q) target TooNarrow) same (h, refl)
 
-    pub none_to_end : (number : ℕ) → (length (open_links i.stack) == 0) ≡ true → EndLinkRefuses columns decoration (progress_meant meaning p) number (NothingToEnd number)
+    pub none_to_end : (number : ℕ) → length (open_links i.stack) ≡ 0 → EndLinkRefuses columns decoration (progress_meant meaning p) number (NothingToEnd number)
     none_to_end number none =
         subst (λ (q : Progress D A (Vec A)). EndLinkRefuses columns decoration (progress_meant meaning q) number (NothingToEnd number)) same
         (inl (places_meant (let s = i.stack in s.levels) ∙ none_open (open_links i.stack) none, refl))
 
-    module _ (some : (length (open_links i.stack) == 0) ≡ false) where
+    module _ (some : length (open_links i.stack) ≢ 0) where
       open_meant : open_links (stack_meant meaning i.stack) ≢ []
-      open_meant is = some_open (open_links i.stack) some (sym (places_meant (let s = i.stack in s.levels)) ∙ is)
+      open_meant is = some (ap length (sym (places_meant (let s = i.stack in s.levels)) ∙ is))
 
       pub link_ended : (next : Stack (Renderer D A (Vec A))) → EndsLink columns decoration (stack_meant meaning i.stack) (stack_meant meaning next) →
           EndLinkDoes columns decoration (progress_meant meaning p) (progress_meant meaning (record { stack = next; pending = i.pending; opened = i.opened }))

@@ -1,4 +1,4 @@
-use Rattle.std.proofs.Common.{◌≡◌, ◌==◌, length, true, false, Err, sym, ap, ◌∙◌}
+use Rattle.std.proofs.Common.{◌≢◌, length, Err, sym, ap, ◌∙◌}
 use Rattle.tbr_decor.specs.Decoration.{decoration_of}
 use Rattle.tbr_stack.specs.Links.{open_links}
 use Rattle.tbr_runner.specs.Progress.{progress_meant}
@@ -18,10 +18,10 @@ end_link-requires g c =
     let i = c.self.inside in
     has_top i.renderers i.pending i.opened c.self.invariant
 
-pub returns-then-open_links-clause-refused : goal.returns-then-open_links-clause-refused
-returns-then-open_links-clause-refused g c = λ _.
+pub returns-then-open_links-eq0-clause-refused : goal.returns-then-open_links-eq0-clause-refused
+returns-then-open_links-eq0-clause-refused g c = λ _.
     none_to_end g.D.TextDecorator.meaning _ c.args.self c.self.view_is g.W.CharWidth.columns (decoration_of g.D.TextDecorator) c.args.number
-    (ap (λ n. n == 0) (sym c.open_links.ensures) ∙ c.if-open_links.true)
+    (sym c.open_links.ensures ∙ c.if-open_links-eq0.true)
 
 pub returns-in_err-end_link-clause-refused : goal.returns-in_err-end_link-clause-refused
 returns-in_err-end_link-clause-refused g c =
@@ -29,7 +29,7 @@ returns-in_err-end_link-clause-refused g c =
     let columns = g.W.CharWidth.columns in
     let decoration = decoration_of g.D.TextDecorator in
     let i = c.self.inside in
-    let some : (length (open_links i.renderers) == 0) ≡ false = ap (λ n. n == 0) (sym c.open_links.ensures) ∙ c.if-open_links.false in
+    let some : length (open_links i.renderers) ≢ 0 = λ e. c.if-open_links-eq0.false (c.open_links.ensures ∙ e) in
     refused_by (EndLinkRefuses columns decoration (progress_meant meaning c.args.self) c.args.number) c.from_residual.result c.in_err-end_link.field-0.0 c.from_residual.ensures.1 (λ e.
     end_refused meaning _ c.args.self c.self.view_is columns decoration some c.args.number
     (c.end_link.ensures.too_narrow (top_unfailed i.renderers i.pending i.opened c.self.invariant) (c.in_err-end_link.was ∙ ap Err e)))
@@ -42,5 +42,5 @@ invariant_of-result g c =
 pub returns-clause-done : goal.returns-clause-done
 returns-clause-done g c =
     let i = c.self.inside in
-    let some : (length (open_links i.renderers) == 0) ≡ false = ap (λ n. n == 0) (sym c.open_links.ensures) ∙ c.if-open_links.false in
+    let some : length (open_links i.renderers) ≢ 0 = λ e. c.if-open_links-eq0.false (c.open_links.ensures ∙ e) in
     link_ended g.D.TextDecorator.meaning _ c.args.self c.self.view_is g.W.CharWidth.columns (decoration_of g.D.TextDecorator) some c.end_link.new.self c.in_ok-end_link.ensures.ok
