@@ -10,6 +10,7 @@ mod cells;
 mod decorated;
 mod first_command;
 mod levels;
+mod links;
 mod prefixed;
 mod rows;
 mod texts;

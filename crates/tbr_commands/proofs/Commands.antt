@@ -10,8 +10,8 @@ use Rattle.tbr_script.specs.Script.{IsText, IsSize, AreSplitTexts}
 use Rattle.tbr_commands.specs.declared.request.layout.Layout.{Layout}
 use Rattle.tbr_commands.specs.declared.request.beginning.Beginning.{Beginning}
 use Rattle.tbr_commands.specs.declared.request.kind.Kind.{Kind}
-use Rattle.tbr_commands.specs.Request.{Request, layout, begin, end, text, fragment, link, image, colour, border}
-use Rattle.tbr_commands.specs.Command.{Command, ask, sub, append, cell, end_cell, row, vertical_row, IsSized}
+use Rattle.tbr_commands.specs.Request.{Request, layout, begin, end, text, fragment, image, colour, border}
+use Rattle.tbr_commands.specs.Command.{Command, ask, link, end_link, sub, append, cell, end_cell, row, vertical_row, IsSized}
 use Rattle.tbr_commands.specs.Syntax.{layout_name, beginning_name, ending_name, IsAlone, Behind, HasArgument, IsColour, AreColumns, IsNewCell, IsRequest, IsOfLevels, IsWritten}
 
 -- ---- a name alone
@@ -25,7 +25,6 @@ no_name line a b c d (border None) k = a k
 no_name line a b c d (border (Some columns)) k = k
 no_name line a b c d (text t) k = k
 no_name line a b c d (fragment t) k = k
-no_name line a b c d (link t) k = k
 no_name line a b c d (image s t) k = k
 no_name line a b c d (colour g c2) k = k
 
@@ -119,7 +118,7 @@ Argument cell_word bs = (width : ℕ) × (span : ℕ) × (align : CellAlign) × 
 
 -- no name alone of a block or a cell
 abbrev pub IsNoLevelName : List ℕ → Type 0
-IsNoLevelName line = (line ≢ codes "endcell") × (line ≢ codes "row") × (line ≢ codes "row collapse") × (line ≢ codes "vrow")
+IsNoLevelName line = (line ≢ codes "endlink") × (line ≢ codes "endcell") × (line ≢ codes "row") × (line ≢ codes "row collapse") × (line ≢ codes "vrow")
 
 -- a line by the word that it begins with
 abbrev pub IsWorded : List ℕ → Type 0
@@ -132,7 +131,6 @@ module _ (line : List ℕ) where
   by_word : (request : Request) → HasArgument line request → IsWorded line
   by_word (text t) k = (text_word, another (codes "text") (λ bs. IsText bs t) (Argument text_word) (λ bs h. (t, h)) k)
   by_word (fragment t) k = (marker_word, another (codes "frag") (λ bs. IsText bs t) (Argument marker_word) (λ bs h. (t, h)) k)
-  by_word (link t) k = (link_word, another (codes "link") (λ bs. IsText bs t) (Argument link_word) (λ bs h. (t, h)) k)
   by_word (image s t) k = (image_word, another (codes "image") (λ bs. AreSplitTexts bs s t) (Argument image_word) (λ bs h. (s, t, h)) k)
   by_word (colour ground.text c) k = (colour_word, another (codes "colour") (λ bs. IsColour bs c) (Argument colour_word) (λ bs h. (c, h)) k)
   by_word (colour ground.background c) k = (ground_word, another (codes "bg") (λ bs. IsColour bs c) (Argument ground_word) (λ bs h. (c, h)) k)
@@ -144,13 +142,15 @@ module _ (line : List ℕ) where
 
   level_by_word : IsNoLevelName line → (command : Command) → IsOfLevels line command → IsWorded line
   level_by_word names (ask request) k = absurd k
+  level_by_word names (link t) k = (link_word, another (codes "link") (λ bs. IsText bs t) (Argument link_word) (λ bs h. (t, h)) k)
+  level_by_word names end_link k = absurd (names.0 k)
   level_by_word names (sub n) k = (sub_word, another (codes "sub") (λ bs. IsSize bs n) (Argument sub_word) (λ bs h. (n, h)) k)
   level_by_word names (append s t) k = (append_word, another (codes "append") (λ bs. AreSplitTexts bs s t) (Argument append_word) (λ bs h. (s, t, h)) k)
   level_by_word names (cell m n a) k = (cell_word, another (codes "cell") (λ bs. IsNewCell bs m n a) (Argument cell_word) (λ bs h. (m, n, a, h)) k)
-  level_by_word names end_cell k = absurd (names.0 k)
-  level_by_word names (row false) k = absurd (names.1 k)
-  level_by_word names (row true) k = absurd (names.2 k)
-  level_by_word names vertical_row k = absurd (names.3 k)
+  level_by_word names end_cell k = absurd (names.1 k)
+  level_by_word names (row false) k = absurd (names.2 k)
+  level_by_word names (row true) k = absurd (names.3 k)
+  level_by_word names vertical_row k = absurd (names.4 k)
 
 parts : (line : List ℕ) (r : Option (Bor (List ℕ) × Bor (List ℕ))) → IsSplitOnceResult 32 line r → (w : Word) → Behind (written_as w) line (Argument w) → MatchOption r ⊥ (λ x. (x.0.now ≡ written_as w) × Argument w x.1.now)
 parts line None h w k = split_after 32 line (written_as w) k.0 None h (lit< tt) k.1 (no_space (written_as w) (spaceless w))
@@ -188,35 +188,38 @@ module _ (line : List ℕ) (word rest : Bor (List ℕ)) (h : IsSplitOnceResult 3
   begins_with v = (parts line (Some (word, rest)) h v.0 v.1).0
 
   -- another word has none
-  pub no_word : word.now ≢ codes "text" → word.now ≢ codes "frag" → word.now ≢ codes "link" → word.now ≢ codes "image" → word.now ≢ codes "colour" → word.now ≢ codes "bg" → word.now ≢ codes "border" → (request : Request) → HasArgument line request → ⊥
+  pub no_word : word.now ≢ codes "text" → word.now ≢ codes "frag" → word.now ≢ codes "image" → word.now ≢ codes "colour" → word.now ≢ codes "bg" → word.now ≢ codes "border" → (request : Request) → HasArgument line request → ⊥
   unfolding by_word
-  no_word a b c d f g n (text t) k = a (begins_with (by_word line (text t) k))
-  no_word a b c d f g n (fragment t) k = b (begins_with (by_word line (fragment t) k))
-  no_word a b c d f g n (link t) k = c (begins_with (by_word line (link t) k))
-  no_word a b c d f g n (image s t) k = d (begins_with (by_word line (image s t) k))
-  no_word a b c d f g n (colour ground.text t) k = f (begins_with (by_word line (colour ground.text t) k))
-  no_word a b c d f g n (colour ground.background t) k = g (begins_with (by_word line (colour ground.background t) k))
-  no_word a b c d f g n (border (Some columns)) k = n (begins_with (by_word line (border (Some columns)) k))
-  no_word a b c d f g n (border None) k = k
-  no_word a b c d f g n (layout what) k = k
-  no_word a b c d f g n (begin what) k = k
-  no_word a b c d f g n (end what) k = k
+  no_word a b d f g n (text t) k = a (begins_with (by_word line (text t) k))
+  no_word a b d f g n (fragment t) k = b (begins_with (by_word line (fragment t) k))
+  no_word a b d f g n (image s t) k = d (begins_with (by_word line (image s t) k))
+  no_word a b d f g n (colour ground.text t) k = f (begins_with (by_word line (colour ground.text t) k))
+  no_word a b d f g n (colour ground.background t) k = g (begins_with (by_word line (colour ground.background t) k))
+  no_word a b d f g n (border (Some columns)) k = n (begins_with (by_word line (border (Some columns)) k))
+  no_word a b d f g n (border None) k = k
+  no_word a b d f g n (layout what) k = k
+  no_word a b d f g n (begin what) k = k
+  no_word a b d f g n (end what) k = k
 
-  pub no_level_word : IsNoLevelName line → word.now ≢ codes "sub" → word.now ≢ codes "append" → word.now ≢ codes "cell" → (command : Command) → IsOfLevels line command → ⊥
+  pub no_level_word : IsNoLevelName line → word.now ≢ codes "link" → word.now ≢ codes "sub" → word.now ≢ codes "append" → word.now ≢ codes "cell" → (command : Command) → IsOfLevels line command → ⊥
   unfolding level_by_word
-  no_level_word names a b c (ask request) k = k
-  no_level_word names a b c (sub n) k = a (begins_with (level_by_word line names (sub n) k))
-  no_level_word names a b c (append s t) k = b (begins_with (level_by_word line names (append s t) k))
-  no_level_word names a b c (cell m n d) k = c (begins_with (level_by_word line names (cell m n d) k))
-  no_level_word names a b c end_cell k = names.0 k
-  no_level_word names a b c (row false) k = names.1 k
-  no_level_word names a b c (row true) k = names.2 k
-  no_level_word names a b c vertical_row k = names.3 k
+  no_level_word names l a b c (ask request) k = k
+  no_level_word names l a b c (link t) k = l (begins_with (level_by_word line names (link t) k))
+  no_level_word names l a b c end_link k = names.0 k
+  no_level_word names l a b c (sub n) k = a (begins_with (level_by_word line names (sub n) k))
+  no_level_word names l a b c (append s t) k = b (begins_with (level_by_word line names (append s t) k))
+  no_level_word names l a b c (cell m n d) k = c (begins_with (level_by_word line names (cell m n d) k))
+  no_level_word names l a b c end_cell k = names.1 k
+  no_level_word names l a b c (row false) k = names.2 k
+  no_level_word names l a b c (row true) k = names.3 k
+  no_level_word names l a b c vertical_row k = names.4 k
 
 -- ---- commands
 
 pub no_command : (line : List ℕ) → ((request : Request) → IsRequest line request → ⊥) → ((command : Command) → IsOfLevels line command → ⊥) → (command : Command) → IsWritten line command → ⊥
 no_command line a b (ask request) k = a request k
+no_command line a b (link t) k = b (link t) k
+no_command line a b end_link k = b end_link k
 no_command line a b (sub n) k = b (sub n) k
 no_command line a b (append s t) k = b (append s t) k
 no_command line a b (cell m n c) k = b (cell m n c) k
@@ -227,6 +230,8 @@ no_command line a b vertical_row k = b vertical_row k
 -- A command has a width and a span of at least 1.
 pub sized : (line : List ℕ) (command : Command) → IsOfLevels line command → IsSized command
 sized line (ask request) k = tt
+sized line (link t) k = tt
+sized line end_link k = tt
 sized line (sub n) k = k.2.2
 sized line (append s t) k = tt
 sized line (cell m n a) k = (k.2.4.2, k.2.5.2)

@@ -13,8 +13,8 @@ use Rattle.tbr_commands.specs.declared.request.beginning.Beginning.{Beginning}
 use Rattle.tbr_commands.specs.declared.request.beginning.Beginning.TheVariants as beginning
 use Rattle.tbr_commands.specs.declared.request.kind.Kind.{Kind}
 use Rattle.tbr_commands.specs.declared.request.kind.Kind.TheVariants as kind
-use Rattle.tbr_commands.specs.Request.{Request, layout, begin, end, text, fragment, link, image, colour, border}
-use Rattle.tbr_commands.specs.Command.{Command, ask, sub, append, cell, end_cell, row, vertical_row}
+use Rattle.tbr_commands.specs.Request.{Request, layout, begin, end, text, fragment, image, colour, border}
+use Rattle.tbr_commands.specs.Command.{Command, ask, link, end_link, sub, append, cell, end_cell, row, vertical_row}
 use Rattle.tbr_script.specs.Script.{Piece, itself, escape, IsPiece, written, meant, IsText, IsSize, AreSplitTexts}
 use Rattle.tbr_commands.specs.Syntax.{layout_name, beginning_name, ending_name, IsAlone, HasArgument, IsColour, AreColumns, IsNewCell, IsWritten, IsCommand}
 use Rattle.tbr_script.proofs.Texts.{one_escape}
@@ -71,7 +71,6 @@ read line =
     else if same line (codes "super") then Some (ask (begin beginning.Superscript))
     else if same line (codes "endws") then Some (ask (end kind.Mode))
     else if same line (codes "endpre") then Some (ask (end kind.Preformat))
-    else if same line (codes "endlink") then Some (ask (end kind.Link))
     else if same line (codes "endem") then Some (ask (end kind.Emphasis))
     else if same line (codes "endstrong") then Some (ask (end kind.Strong))
     else if same line (codes "endstrike") then Some (ask (end kind.Strikeout))
@@ -80,6 +79,7 @@ read line =
     else if same line (codes "endcolour") then Some (ask (end kind.Colour))
     else if same line (codes "endbg") then Some (ask (end kind.Background))
     else if same line (codes "border") then Some (ask (border None))
+    else if same line (codes "endlink") then Some end_link
     else if same line (codes "endcell") then Some end_cell
     else if same line (codes "row") then Some (row false)
     else if same line (codes "row collapse") then Some (row true)
@@ -111,7 +111,6 @@ is_ending : (line : List ℕ) (what : Kind) → line ≡ ending_name what → re
 unfolding read same
 is_ending line kind.Mode e = ap read e
 is_ending line kind.Preformat e = ap read e
-is_ending line kind.Link e = ap read e
 is_ending line kind.Emphasis e = ap read e
 is_ending line kind.Strong e = ap read e
 is_ending line kind.Strikeout e = ap read e
@@ -129,7 +128,6 @@ is_read line (border None) k = ap read k
 is_read line (border (Some n)) k = absurd k
 is_read line (text t) k = absurd k
 is_read line (fragment t) k = absurd k
-is_read line (link t) k = absurd k
 is_read line (image s t) k = absurd k
 is_read line (colour g c) k = absurd k
 
@@ -137,7 +135,7 @@ is_read line (colour g c) k = absurd k
 Argued : Word → List ℕ → Command → Type 0
 Argued text_word bs command = (t : List ℕ) × IsText bs t × (command ≡ ask (text t))
 Argued marker_word bs command = (t : List ℕ) × IsText bs t × (command ≡ ask (fragment t))
-Argued link_word bs command = (t : List ℕ) × IsText bs t × (command ≡ ask (link t))
+Argued link_word bs command = (t : List ℕ) × IsText bs t × (command ≡ link t)
 Argued image_word bs command = (s : List ℕ) × (t : List ℕ) × AreSplitTexts bs s t × (command ≡ ask (image s t))
 Argued colour_word bs command = (c : Colour) × IsColour bs c × (command ≡ ask (colour ground.text c))
 Argued ground_word bs command = (c : Colour) × IsColour bs c × (command ≡ ask (colour ground.background c))
@@ -159,7 +157,6 @@ has_argument : (line : List ℕ) (request : Request) → HasArgument line reques
 unfolding Argued
 has_argument line (text t) k = record { word = text_word; behind = k.0; is = k.1; argued = (t, k.2, refl) }
 has_argument line (fragment t) k = record { word = marker_word; behind = k.0; is = k.1; argued = (t, k.2, refl) }
-has_argument line (link t) k = record { word = link_word; behind = k.0; is = k.1; argued = (t, k.2, refl) }
 has_argument line (image s t) k = record { word = image_word; behind = k.0; is = k.1; argued = (s, t, k.2, refl) }
 has_argument line (colour ground.text c) k = record { word = colour_word; behind = k.0; is = k.1; argued = (c, k.2, refl) }
 has_argument line (colour ground.background c) k = record { word = ground_word; behind = k.0; is = k.1; argued = (c, k.2, refl) }
@@ -173,6 +170,8 @@ is_parted : (line : List ℕ) (command : Command) → IsWritten line command →
 unfolding IsParted Argued read same
 is_parted line (ask request) (inl k) = inl (is_read line request k)
 is_parted line (ask request) (inr k) = inr (has_argument line request k)
+is_parted line (link t) k = inr (record { word = link_word; behind = k.0; is = k.1; argued = (t, k.2, refl) })
+is_parted line end_link k = inl (ap read k)
 is_parted line (sub n) k = inr (record { word = sub_word; behind = k.0; is = k.1; argued = (n, k.2, refl) })
 is_parted line (append s t) k = inr (record { word = append_word; behind = k.0; is = k.1; argued = (s, t, k.2, refl) })
 is_parted line (cell m n x) k = inr (record { word = cell_word; behind = k.0; is = k.1; argued = (m, n, x, k.2, refl) })
@@ -206,7 +205,7 @@ argued_once : (bs : List ℕ) (w : Word) (c d : Command) → Argued w bs c → A
 unfolding Argued
 argued_once bs text_word c d a b = a.2 ∙ ap (λ t. ask (text t)) (text_once bs a.0 b.0 a.1 b.1) ∙ sym b.2
 argued_once bs marker_word c d a b = a.2 ∙ ap (λ t. ask (fragment t)) (text_once bs a.0 b.0 a.1 b.1) ∙ sym b.2
-argued_once bs link_word c d a b = a.2 ∙ ap (λ t. ask (link t)) (text_once bs a.0 b.0 a.1 b.1) ∙ sym b.2
+argued_once bs link_word c d a b = a.2 ∙ ap link (text_once bs a.0 b.0 a.1 b.1) ∙ sym b.2
 argued_once bs image_word c d a b =
     let same = texts_once bs a.0 a.1 b.0 b.1 a.2 b.2 in
     a.3 ∙ ap (λ s. ask (image s a.1)) same.0 ∙ ap (λ t. ask (image b.0 t)) same.1 ∙ sym b.3

@@ -6,7 +6,7 @@ use Rattle.tbr_renderer.specs.Options.{default_options}
 use Rattle.tbr_renderer.specs.declared.RenderOptions.{RenderOptions}
 use Rattle.tbr_renderer.specs.declared.ImageRenderMode.TheVariants.{IgnoreEmpty, ShowAlways, Replace, Filename}
 use Rattle.tbr_commands.specs.declared.options.Setting.{Setting}
-use Rattle.tbr_commands.specs.declared.options.Setting.TheVariants.{Wrap, Overflow, Pad, NoBorders, NoStrike, Images}
+use Rattle.tbr_commands.specs.declared.options.Setting.TheVariants.{Wrap, Overflow, Pad, NoBorders, NoWrapLinks, Footnotes, NoStrike, Images}
 use Rattle.tbr_commands.specs.declared.opening.Decorator.{Decorator}
 use Rattle.tbr_commands.specs.declared.opening.Decorator.TheVariants.{Plain, Trivial, Rich}
 use Rattle.tbr_commands.specs.declared.opening.Opening.{Opening}
@@ -20,6 +20,8 @@ read_setting word =
     if same word (codes "overflow") then Some Overflow
     else if same word (codes "pad") then Some Pad
     else if same word (codes "noborders") then Some NoBorders
+    else if same word (codes "nowraplinks") then Some NoWrapLinks
+    else if same word (codes "footnotes") then Some Footnotes
     else if same word (codes "nostrike") then Some NoStrike
     else if same word (codes "img=ignore") then Some (Images IgnoreEmpty)
     else if same word (codes "img=filename") then Some (Images Filename)
@@ -36,6 +38,8 @@ setting_read word (Wrap n) w = wrapping n w refl
 setting_read word Overflow w = whole_word (ap read_setting w)
 setting_read word Pad w = whole_word (ap read_setting w)
 setting_read word NoBorders w = whole_word (ap read_setting w)
+setting_read word NoWrapLinks w = whole_word (ap read_setting w)
+setting_read word Footnotes w = whole_word (ap read_setting w)
 setting_read word NoStrike w = whole_word (ap read_setting w)
 setting_read word (Images IgnoreEmpty) w = whole_word (ap read_setting w)
 setting_read word (Images Filename) w = whole_word (ap read_setting w)

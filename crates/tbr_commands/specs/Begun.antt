@@ -1,18 +1,17 @@
 -- What a script has begun and not ended yet.
 use Rattle.std.specs.Prelude.{ℕ, suc, ◌-◌, ◌==◌, Bool, false, Option, None, Some}
 use Rattle.tbr_decor.specs.Ground as ground
-use Rattle.tbr_commands.specs.Request.{Request, begin, end, link, colour}
+use Rattle.tbr_commands.specs.Request.{Request, begin, end, colour}
 use Rattle.tbr_commands.specs.declared.begun.Begun.{Begun}
 use Rattle.tbr_commands.specs.declared.request.beginning.Beginning.{Beginning}
 use Rattle.tbr_commands.specs.declared.request.beginning.Beginning.TheVariants as beginning
 use Rattle.tbr_commands.specs.declared.request.kind.Kind.{Kind}
-use Rattle.tbr_commands.specs.declared.request.kind.Kind.TheVariants.{Mode, Preformat, Link, Emphasis, Strong, Strikeout, Code, Superscript, Colour, Background}
+use Rattle.tbr_commands.specs.declared.request.kind.Kind.TheVariants.{Mode, Preformat, Emphasis, Strong, Strikeout, Code, Superscript, Colour, Background}
 
 abbrev pub nothing_begun : Begun
 nothing_begun = record {
   modes = 0;
   preformats = 0;
-  links = 0;
   emphases = 0;
   strongs = 0;
   strikeouts = 0;
@@ -26,7 +25,6 @@ nothing_begun = record {
 abbrev pub count : Begun → Kind → ℕ
 count begun Mode = begun.modes
 count begun Preformat = begun.preformats
-count begun Link = begun.links
 count begun Emphasis = begun.emphases
 count begun Strong = begun.strongs
 count begun Strikeout = begun.strikeouts
@@ -38,7 +36,6 @@ count begun Background = begun.backgrounds
 abbrev pub with_count : Begun → Kind → ℕ → Begun
 with_count begun Mode n = record begun { modes = n }
 with_count begun Preformat n = record begun { preformats = n }
-with_count begun Link n = record begun { links = n }
 with_count begun Emphasis n = record begun { emphases = n }
 with_count begun Strong n = record begun { strongs = n }
 with_count begun Strikeout n = record begun { strikeouts = n }
@@ -64,7 +61,6 @@ in_colour ground.background = Background
 
 abbrev pub begins : Request → Option Kind
 begins (begin what) = Some (kind_of what)
-begins (link target) = Some Link
 begins (colour g c) = Some (in_colour g)
 begins other = None
 

@@ -5,11 +5,14 @@ use Rattle.tbr_commands.specs.Request.{Request, request_of}
 use Rattle.tbr_commands.specs.declared.command.Command as declared
 use Rattle.tbr_commands.specs.declared.command.Command.TheVariants as variant
 
--- A request is one call of the renderer that is open. The others open a block or a cell inside it, close one, or take
--- the cells that wait: side by side, with their borders collapsed or not, or one below another. Prefixes are by their
--- bytes: that of the first line, and that of all others.
+-- A request is one call of the renderer that is open. The others begin a link there and end it, open a block or a cell
+-- inside it, close one, or take the cells that wait: side by side, with their borders collapsed or not, or one below
+-- another. Targets and prefixes are by their bytes; a first prefix is that of the first line, the other that of all
+-- others.
 pub data Command : Type 0 where
   ask : Request → Command
+  link : (target : List ℕ) → Command
+  end_link : Command
   sub : (width : ℕ) → Command
   append : (first others : List ℕ) → Command
   cell : (width span : ℕ) → CellAlign → Command
@@ -27,6 +30,8 @@ IsSized other = Unit {0}
 
 abbrev pub command_of : declared.Command → Command
 command_of (variant.Ask request) = ask (request_of request)
+command_of (variant.Link target) = link (string_bytes target)
+command_of variant.EndLink = end_link
 command_of (variant.Sub width) = sub width
 command_of (variant.Append prefixes) = append (string_bytes prefixes.first) (string_bytes prefixes.second)
 command_of (variant.Cell new) = cell new.width new.span new.align

@@ -7,7 +7,7 @@ use Rattle.tbr_renderer.specs.declared.ImageRenderMode.{ImageRenderMode}
 use Rattle.tbr_renderer.specs.declared.ImageRenderMode.TheVariants.{IgnoreEmpty, ShowAlways, Replace, Filename}
 use Rattle.tbr_script.specs.Script.{IsSize}
 use Rattle.tbr_commands.specs.declared.options.Setting.{Setting}
-use Rattle.tbr_commands.specs.declared.options.Setting.TheVariants.{Wrap, Overflow, Pad, NoBorders, NoStrike, Images}
+use Rattle.tbr_commands.specs.declared.options.Setting.TheVariants.{Wrap, Overflow, Pad, NoBorders, NoWrapLinks, Footnotes, NoStrike, Images}
 
 -- `wrap=` and a number of columns, at least 1
 abbrev pub IsWrap : List ℕ → ℕ → Type 0
@@ -27,6 +27,8 @@ IsSetting word (Wrap columns) = IsWrap word columns
 IsSetting word Overflow = word ≡ codes "overflow"
 IsSetting word Pad = word ≡ codes "pad"
 IsSetting word NoBorders = word ≡ codes "noborders"
+IsSetting word NoWrapLinks = word ≡ codes "nowraplinks"
+IsSetting word Footnotes = word ≡ codes "footnotes"
 IsSetting word NoStrike = word ≡ codes "nostrike"
 IsSetting word (Images mode) = IsImageMode word mode
 
@@ -36,6 +38,8 @@ with_setting options (Wrap columns) = record options { wrap_width = Some columns
 with_setting options Overflow = record options { allow_width_overflow = true }
 with_setting options Pad = record options { pad_block_width = true }
 with_setting options NoBorders = record options { draw_borders = false }
+with_setting options NoWrapLinks = record options { wrap_links = false }
+with_setting options Footnotes = record options { include_link_footnotes = true }
 with_setting options NoStrike = record options { use_unicode_strikeout = false }
 with_setting options (Images mode) = record options { img_mode = mode }
 

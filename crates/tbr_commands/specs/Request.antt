@@ -23,7 +23,6 @@ pub data Request : Type 0 where
   end : Kind → Request
   text : List ℕ → Request
   fragment : List ℕ → Request
-  link : List ℕ → Request
   image : List ℕ → List ℕ → Request
   colour : Ground → Colour → Request
   border : Option ℕ → Request
@@ -50,7 +49,6 @@ begun_by beginning.Superscript = call.begin start.superscript
 abbrev pub end_of : {T : Type 0} → Kind → Call T
 end_of kind.Mode = call.pop_ws
 end_of kind.Preformat = call.pop_preformat
-end_of kind.Link = call.finish end_text.link
 end_of kind.Emphasis = call.finish end_text.emphasis
 end_of kind.Strong = call.finish end_text.strong
 end_of kind.Strikeout = call.end_strikeout
@@ -66,7 +64,6 @@ call_of width (begin what) = begun_by what
 call_of width (end what) = end_of what
 call_of width (text t) = call.add_inline_text (chars t)
 call_of width (fragment name) = call.record_frag_start name
-call_of width (link target) = call.begin (start.link (chars target))
 call_of width (image source title) = call.add_image (chars source) (chars title)
 call_of width (colour g c) = call.push_colour g c
 call_of width (border None) = call.add_border width
@@ -80,7 +77,6 @@ request_of (variant.Begin what) = begin what
 request_of (variant.End what) = end what
 request_of (variant.Text t) = text (string_bytes t)
 request_of (variant.Fragment name) = fragment (string_bytes name)
-request_of (variant.Link target) = link (string_bytes target)
 request_of (variant.Image i) = image (string_bytes i.first) (string_bytes i.second)
 request_of (variant.Colour c) = colour ground.text c
 request_of (variant.Background c) = colour ground.background c

@@ -9,8 +9,8 @@ use Rattle.tbr_lines.specs.declared.CellAlign.TheVariants.{Left, Right, Centre}
 use Rattle.tbr_decor.specs.declared.colour.Colour.{Colour}
 use Rattle.tbr_decor.specs.Ground as ground
 use Rattle.tbr_script.specs.Script.{IsNumber, IsSize, IsByte, IsText, AreSplitTexts, words_of}
-use Rattle.tbr_commands.specs.Request.{Request, layout, begin, end, text, fragment, link, image, colour, border}
-use Rattle.tbr_commands.specs.Command.{Command, ask, sub, append, cell, end_cell, row, vertical_row}
+use Rattle.tbr_commands.specs.Request.{Request, layout, begin, end, text, fragment, image, colour, border}
+use Rattle.tbr_commands.specs.Command.{Command, ask, link, end_link, sub, append, cell, end_cell, row, vertical_row}
 use Rattle.tbr_commands.specs.declared.request.layout.Layout.{Layout}
 use Rattle.tbr_commands.specs.declared.request.layout.Layout.TheVariants.{StartBlock, EndBlock, StartTable, NewLine, HardNewLine, EmptyLine}
 use Rattle.tbr_commands.specs.declared.request.beginning.Beginning.{Beginning}
@@ -60,7 +60,6 @@ beginning_name beginning.Superscript = codes "super"
 abbrev pub ending_name : Kind → List ℕ
 ending_name kind.Mode = codes "endws"
 ending_name kind.Preformat = codes "endpre"
-ending_name kind.Link = codes "endlink"
 ending_name kind.Emphasis = codes "endem"
 ending_name kind.Strong = codes "endstrong"
 ending_name kind.Strikeout = codes "endstrike"
@@ -87,7 +86,6 @@ Behind word line IsArgument = (argument : List ℕ) × (line ≡ word ++ (codes 
 abbrev pub HasArgument : List ℕ → Request → Type 0
 HasArgument line (text t) = Behind (codes "text") line (λ argument. IsText argument t)
 HasArgument line (fragment name) = Behind (codes "frag") line (λ argument. IsText argument name)
-HasArgument line (link target) = Behind (codes "link") line (λ argument. IsText argument target)
 HasArgument line (image source title) = Behind (codes "image") line (λ argument. AreSplitTexts argument source title)
 HasArgument line (colour ground.text c) = Behind (codes "colour") line (λ argument. IsColour argument c)
 HasArgument line (colour ground.background c) = Behind (codes "bg") line (λ argument. IsColour argument c)
@@ -111,9 +109,11 @@ IsNewCell writing width span align =
     (digits : List ℕ) × (others : List ℕ) × (words : List (List ℕ)) × (words_of writing ≡ digits ∷ others ∷ words)
     × IsSize digits width × IsSize others span × IsAlignment words align
 
--- a line that opens or closes a block or a cell, or takes the cells that wait
+-- a line that opens or closes a link, a block or a cell, or takes the cells that wait
 abbrev pub IsOfLevels : List ℕ → Command → Type 0
 IsOfLevels line (ask request) = ⊥
+IsOfLevels line (link target) = Behind (codes "link") line (λ argument. IsText argument target)
+IsOfLevels line end_link = line ≡ codes "endlink"
 IsOfLevels line (sub width) = Behind (codes "sub") line (λ argument. IsSize argument width)
 IsOfLevels line (append first others) = Behind (codes "append") line (λ argument. AreSplitTexts argument first others)
 IsOfLevels line (cell width span align) = Behind (codes "cell") line (λ argument. IsNewCell argument width span align)

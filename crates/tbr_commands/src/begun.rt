@@ -13,8 +13,6 @@ pub struct Begun {
     pub modes: usize,
     /// Preformatted stretches.
     pub preformats: usize,
-    /// Links.
-    pub links: usize,
     /// Stretches of emphasised text.
     pub emphases: usize,
     /// Stretches of strong text.
@@ -39,7 +37,6 @@ impl Begun {
         Begun {
             modes: 0,
             preformats: 0,
-            links: 0,
             emphases: 0,
             strongs: 0,
             strikeouts: 0,
@@ -57,7 +54,6 @@ impl Begun {
         match kind {
             Kind::Mode => self.modes,
             Kind::Preformat => self.preformats,
-            Kind::Link => self.links,
             Kind::Emphasis => self.emphases,
             Kind::Strong => self.strongs,
             Kind::Strikeout => self.strikeouts,
@@ -75,7 +71,6 @@ impl Begun {
         match kind {
             Kind::Mode => self.modes = count,
             Kind::Preformat => self.preformats = count,
-            Kind::Link => self.links = count,
             Kind::Emphasis => self.emphases = count,
             Kind::Strong => self.strongs = count,
             Kind::Strikeout => self.strikeouts = count,

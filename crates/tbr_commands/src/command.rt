@@ -7,7 +7,7 @@ ghost use Rattle.tbr_commands.specs.Syntax.{IsOfLevels, IsCommand};
 use crate::command::new_cell::NewCell;
 use crate::request::Request;
 use std::alloc::{AllocError, Global};
-use tbr_script::{TextPair, parse_size};
+use tbr_script::{TextPair, parse_size, unescape};
 
 pub mod new_cell;
 
@@ -16,6 +16,10 @@ pub mod new_cell;
 pub enum Command {
     /// One call of the renderer that is open.
     Ask(Request),
+    /// A link begins, by its target.
+    Link(String),
+    /// The link that began last ends.
+    EndLink,
     /// A block of so many columns, at least 1, opens inside the renderer that is open.
     Sub(usize),
     /// The block that is open closes. Its lines go into the renderer outside, each behind a prefix: that of the first
@@ -52,7 +56,7 @@ impl Command {
         }
     }
 
-    /// The same of a line that opens or closes a block or a cell, or takes the cells that wait.
+    /// The same of a line that opens or closes a link, a block or a cell, or takes the cells that wait.
     fn of_levels(alloc: Global, line: &str) -> Result<Option<Command>, AllocError>
         ensures found { IfOk result (λ found.
             IfSome found (λ command. IsOfLevels line.now (command_of command))) }
@@ -66,6 +70,7 @@ impl Command {
             return Ok(None);
         };
         match word {
+            "link" => Ok(unescape(alloc, argument)?.map(Command::Link)),
             "sub" => Ok(parse_size(argument).map(Command::Sub)),
             "append" => Ok(TextPair::parse(alloc, argument)?.map(Command::Append)),
             "cell" => Ok(NewCell::parse(argument).map(Command::Cell)),
@@ -76,10 +81,11 @@ impl Command {
     /// The same of such a line without an argument.
     fn alone(line: &str) -> Option<Command>
         ensures found { IfSome result (λ command. IsOfLevels line.now (command_of command)) }
-        ensures none { IfNone result ((line.now ≢ codes "endcell") × (line.now ≢ codes "row")
-            × (line.now ≢ codes "row collapse") × (line.now ≢ codes "vrow")) }
+        ensures none { IfNone result ((line.now ≢ codes "endlink") × (line.now ≢ codes "endcell")
+            × (line.now ≢ codes "row") × (line.now ≢ codes "row collapse") × (line.now ≢ codes "vrow")) }
     {
         match line {
+            "endlink" => Some(Command::EndLink),
             "endcell" => Some(Command::EndCell),
             "row" => Some(Command::Row { collapse: false }),
             "row collapse" => Some(Command::Row { collapse: true }),

@@ -19,6 +19,10 @@ pub enum Setting {
     Pad,
     /// Borders of tables aren't drawn.
     NoBorders,
+    /// Targets behind the text aren't cut.
+    NoWrapLinks,
+    /// Links are numbered, and their targets listed behind the text.
+    Footnotes,
     /// Struck out text has no strokes.
     NoStrike,
     /// What an image without a title shows.
@@ -35,6 +39,8 @@ impl Setting {
             "overflow" => Some(Setting::Overflow),
             "pad" => Some(Setting::Pad),
             "noborders" => Some(Setting::NoBorders),
+            "nowraplinks" => Some(Setting::NoWrapLinks),
+            "footnotes" => Some(Setting::Footnotes),
             "nostrike" => Some(Setting::NoStrike),
             "img=ignore" => Some(Setting::Images(ImageRenderMode::IgnoreEmpty)),
             "img=filename" => Some(Setting::Images(ImageRenderMode::Filename)),
@@ -52,6 +58,8 @@ impl Setting {
             Setting::Overflow => options.allow_width_overflow = true,
             Setting::Pad => options.pad_block_width = true,
             Setting::NoBorders => options.draw_borders = false,
+            Setting::NoWrapLinks => options.wrap_links = false,
+            Setting::Footnotes => options.include_link_footnotes = true,
             Setting::NoStrike => options.use_unicode_strikeout = false,
             Setting::Images(mode) => options.img_mode = mode,
         }

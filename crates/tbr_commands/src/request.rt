@@ -38,8 +38,6 @@ pub enum Request {
     Text(String),
     /// A marker, by its name.
     Fragment(String),
-    /// A link begins, by its target.
-    Link(String),
     /// An image: its source, and its title.
     Image(TextPair),
     /// Text in a colour begins.
@@ -70,7 +68,6 @@ impl Request {
     {
         match self {
             Request::Begin(beginning) => Some(beginning.kind()),
-            Request::Link(_) => Some(Kind::Link),
             Request::Colour(_) => Some(Kind::Colour),
             Request::Background(_) => Some(Kind::Background),
             _ => None,
@@ -109,7 +106,6 @@ impl Request {
             Request::End(kind) => kind.end(renderer),
             Request::Text(text) => renderer.add_inline_text(text.as_str()),
             Request::Fragment(name) => renderer.record_frag_start(name.as_str()),
-            Request::Link(target) => renderer.start_link(target.as_str()),
             Request::Image(image) => {
                 renderer.add_image(image.first.as_str(), image.second.as_str())
             }
@@ -159,7 +155,6 @@ fn with_argument(alloc: Global, line: &str) -> Result<Option<Request>, AllocErro
     match word {
         "text" => Ok(unescape(alloc, argument)?.map(Request::Text)),
         "frag" => Ok(unescape(alloc, argument)?.map(Request::Fragment)),
-        "link" => Ok(unescape(alloc, argument)?.map(Request::Link)),
         "image" => Ok(TextPair::parse(alloc, argument)?.map(Request::Image)),
         "colour" => Ok(colour(argument).map(Request::Colour)),
         "bg" => Ok(colour(argument).map(Request::Background)),

@@ -15,16 +15,16 @@ abbrev pub below_top : {R : Type 0} → List (Level R) → List (Level R)
 below_top levels = drop 1 levels
 
 module _ {D A T : Type 0} where
-  abbrev Zipped : List (Level (Renderer D A T)) → List Begun → Type 0
+  abbrev pub Zipped : List (Level (Renderer D A T)) → List Begun → Type 0
   Zipped levels begun = AllZip (λ level begun. IsLive level.renderer begun) levels begun
 
-  first_live : (levels : List (Level (Renderer D A T))) (r : Renderer D A T) (begun : Begun) (others : List Begun) → Zipped levels (begun ∷ others) → first_renderer levels ≡ Some r → IsLive r begun
+  pub first_live : (levels : List (Level (Renderer D A T))) (r : Renderer D A T) (begun : Begun) (others : List Begun) → Zipped levels (begun ∷ others) → first_renderer levels ≡ Some r → IsLive r begun
   first_live [] r begun others live is = absurd live
   first_live (level ∷ levels) r begun others live is =
       let same : level.renderer ≡ r = cc in
       subst (λ (x : Renderer D A T). IsLive x begun) same live.0
 
-  with_first_live : (levels : List (Level (Renderer D A T))) (s : Renderer D A T) (begun next : Begun) (others : List Begun) → Zipped levels (begun ∷ others) → IsLive s next → Zipped (with_first levels s) (next ∷ others)
+  pub with_first_live : (levels : List (Level (Renderer D A T))) (s : Renderer D A T) (begun next : Begun) (others : List Begun) → Zipped levels (begun ∷ others) → IsLive s next → Zipped (with_first levels s) (next ∷ others)
   with_first_live [] s begun next others live is = absurd live
   with_first_live (level ∷ levels) s begun next others live is = (is, live.1)
 

@@ -2,6 +2,8 @@ pub mod Given
 pub mod Levels
 pub mod Meant
 pub mod Live
+pub mod Links
+pub mod Notes
 pub mod Rows
 pub mod LinesGive
 pub mod OfScript

@@ -32,7 +32,7 @@ module _ {D M : Type 0} (columns : ℕ → Option ℕ) (decoration : Decoration 
   command_refused [] command e some is refuses = absurd (false≢true some)
   command_refused (b ∷ bs) command e some is refuses = inr (command, is, refuses)
 
-  pub at_end : (rest : List ℕ) (outcome : Result (List ℕ) RunError) → true ≡ (length rest == 0) → Ends columns p number outcome → LinesGive columns decoration p number (lines_of rest) outcome
+  pub at_end : (rest : List ℕ) (outcome : Result (List ℕ) RunError) → true ≡ (length rest == 0) → Ends columns decoration p number outcome → LinesGive columns decoration p number (lines_of rest) outcome
   at_end [] outcome none h = h
   at_end (b ∷ bs) outcome none h = absurd (no_length (length bs) none)
 

@@ -22,7 +22,7 @@ use Rattle.tbr_commands.specs.declared.request.beginning.Beginning.{Beginning}
 use Rattle.tbr_commands.specs.declared.request.beginning.Beginning.TheVariants as beginning
 use Rattle.tbr_commands.specs.declared.request.kind.Kind.{Kind}
 use Rattle.tbr_commands.specs.declared.request.kind.Kind.TheVariants as kind
-use Rattle.tbr_commands.specs.Request.{Request, layout, begin, end, text, fragment, link, image, colour, border, call_of}
+use Rattle.tbr_commands.specs.Request.{Request, layout, begin, end, text, fragment, image, colour, border, call_of}
 use Rattle.tbr_commands.specs.Begun.{ends_nothing, counted}
 use Rattle.tbr_runner.specs.Progress.{IsLive}
 
@@ -57,7 +57,6 @@ module _ {D M : Type 0} (columns : ℕ → Option ℕ) (decoration : Decoration 
   ended_preformats : (width : ℕ) (what : Kind) (begun : Begun) → Preformats width (end what) begun
   ended_preformats width kind.Mode begun = refl
   ended_preformats width kind.Preformat begun = refl
-  ended_preformats width kind.Link begun = refl
   ended_preformats width kind.Emphasis begun = refl
   ended_preformats width kind.Strong begun = refl
   ended_preformats width kind.Strikeout begun = refl
@@ -77,7 +76,6 @@ module _ {D M : Type 0} (columns : ℕ → Option ℕ) (decoration : Decoration 
   counted_preformats width (layout EmptyLine) begun = refl
   counted_preformats width (text t) begun = refl
   counted_preformats width (fragment t) begun = refl
-  counted_preformats width (link t) begun = refl
   counted_preformats width (image s t) begun = refl
   counted_preformats width (colour ground.text c) begun = refl
   counted_preformats width (colour ground.background c) begun = refl
@@ -139,7 +137,6 @@ module _ {D M : Type 0} (columns : ℕ → Option ℕ) (decoration : Decoration 
   ended_strikeouts r begun kind.Strikeout on e = rw on (ap (λ n. n - 1) e)
   ended_strikeouts r begun kind.Mode on e = e
   ended_strikeouts r begun kind.Preformat on e = e
-  ended_strikeouts r begun kind.Link on e = e
   ended_strikeouts r begun kind.Emphasis on e = e
   ended_strikeouts r begun kind.Strong on e = e
   ended_strikeouts r begun kind.Code on e = e
@@ -162,7 +159,6 @@ module _ {D M : Type 0} (columns : ℕ → Option ℕ) (decoration : Decoration 
   counted_strikeouts r begun (layout EmptyLine) on e = e
   counted_strikeouts r begun (text t) on e = e
   counted_strikeouts r begun (fragment t) on e = e
-  counted_strikeouts r begun (link t) on e = e
   counted_strikeouts r begun (border None) on e = e
   counted_strikeouts r begun (border (Some n)) on e = e
 
@@ -181,17 +177,25 @@ still_live {D} {A} {M} columns decoration meaning request r s begun next live is
           ap (λ (x : Settings D M). x.strikeouts) settings ∙ counted_strikeouts columns decoration before begun request before_on (live.2 before_on) ∙ ap (λ (b : Begun). b.strikeouts) (sym is),
     )
 
--- a call that changes no setting
-pub steady_live : {D A M : Type 0} (columns : ℕ → Option ℕ) (decoration : Decoration D M) (meaning : A → M) (call : Call (List M)) (r s : Renderer D A (Vec A)) (begun : Begun) →
-    ((x : Renderer D M (List M)) → settled decoration call x ≡ x) → ((n : ℕ) → preformats_behind columns decoration call n ≡ n) →
-    IsLive r begun → Does columns decoration call (meant meaning r) (meant meaning s) → IsLive s begun
-steady_live {D} {A} {M} columns decoration meaning call r s begun settles counts live does =
-    let behind = call_beside columns decoration call (meant meaning r) (meant meaning s) does in
-    let same : settings_of (meant meaning s) ≡ settings_of (meant meaning r) = call_changes columns decoration call (meant meaning r) (meant meaning s) does ∙ ap (λ (x : Renderer D M (List M)). settings_of x) (settles (meant meaning r)) in (
+-- a call that begins and ends no strikeout and no preformatted stretch
+pub uncounted_live : {D M : Type 0} (columns : ℕ → Option ℕ) (decoration : Decoration D M) (call : Call (List M)) (r s : Renderer D M (List M)) (begun : Begun) →
+    ((x : Renderer D M (List M)) → (settled decoration call x).strikeouts ≡ x.strikeouts) → ((n : ℕ) → preformats_behind columns decoration call n ≡ n) →
+    IsLive r begun → Does columns decoration call r s → IsLive s begun
+uncounted_live {D} {M} columns decoration call r s begun strikes counts live does =
+    let behind = call_beside columns decoration call r s does in
+    let settings : settings_of s ≡ settings_of (settled decoration call r) = call_changes columns decoration call r s does in
+    let options = ap (λ (x : Settings D M). x.options) settings ∙ settled_options columns decoration call r in (
       behind.0 ∙ live.0,
       behind.1 ∙ counts r.preformatted ∙ live.1,
-      λ on. ap (λ (x : Settings D M). x.strikeouts) same ∙ live.2 (sym (ap (λ (x : Settings D M). x.options.use_unicode_strikeout) same) ∙ on),
+      λ on. ap (λ (x : Settings D M). x.strikeouts) settings ∙ strikes r ∙ live.2 (sym (ap (λ (x : RenderOptions). x.use_unicode_strikeout) options) ∙ on),
     )
+
+-- lines of other renderers
+pub steady_live : {D A M : Type 0} (columns : ℕ → Option ℕ) (decoration : Decoration D M) (meaning : A → M) (call : Call (List M)) (r s : Renderer D A (Vec A)) (begun : Begun) →
+    ((x : Renderer D M (List M)) → (settled decoration call x).strikeouts ≡ x.strikeouts) → ((n : ℕ) → preformats_behind columns decoration call n ≡ n) →
+    IsLive r begun → Does columns decoration call (meant meaning r) (meant meaning s) → IsLive s begun
+steady_live columns decoration meaning call r s begun strikes counts live does =
+    uncounted_live columns decoration call (meant meaning r) (meant meaning s) begun strikes counts live does
 
 -- a row of cells side by side
 pub row_live : {D A M : Type 0} (columns : ℕ → Option ℕ) (meaning : A → M) (collapse : Bool) (cells : List (GivenCell (List M))) (r s : Renderer D A (Vec A)) (begun : Begun) →

@@ -1,5 +1,5 @@
 -- What commands lead to, by what annotations mean.
-use Rattle.std.proofs.Common.{Bool, true, false, encode_utf8_all, Ok, Err, ◌≡◌, ◌≢◌, ◌⊎◌, ℕ, List, [], ◌∷◌, ◌++◌, map, length, Option, None, Some, refl, sym, ap, ◌∙◌, subst, inl, inr}
+use Rattle.std.proofs.Common.{Bool, true, false, Ok, Err, ◌≡◌, ◌≢◌, ◌⊎◌, ℕ, List, [], ◌∷◌, ◌++◌, map, length, Option, None, Some, refl, sym, ap, ◌∙◌, subst, inl, inr}
 use Rattle.std.specs.Global.{Vec}
 use Rattle.std.specs.List.{AllZip}
 use Rattle.std.proofs.lemmas.List.{map-append}
@@ -7,8 +7,7 @@ use Rattle.tbr_lines.specs.declared.CellAlign.{CellAlign}
 use Rattle.tbr_decor.specs.Decoration.{Decoration}
 use Rattle.text_block_renderer.specs.Renderer.{Renderer, Line}
 use Rattle.text_block_renderer.specs.Meant.{meant}
-use Rattle.text_block_renderer.specs.Flush.{Flushes, FlushIsTooNarrow}
-use Rattle.text_block_renderer.specs.Text.{lines_text}
+use Rattle.text_block_renderer.specs.Flush.{FlushIsTooNarrow}
 use Rattle.text_block_renderer.specs.Decorated.{sub_renderer}
 use Rattle.text_block_renderer.specs.Appended.{HandsOut, HoldsBack, FirstToRefuse}
 use Rattle.text_block_renderer.specs.Calls.{append_subrender, append_vert_row, Does, IsTooNarrow}
@@ -16,12 +15,14 @@ use Rattle.tbr_script.specs.declared.error.RunError.TheVariants.{TooNarrow, NotA
 use Rattle.tbr_commands.specs.Request.{Request, call_of}
 use Rattle.tbr_commands.specs.Begun.{ends_nothing, counted}
 use Rattle.tbr_stack.specs.Stack.{Stack, Level, top_of, with_top, pushed, first_renderer}
+use Rattle.tbr_stack.specs.Top.{ChangesTop, OfTop, level_meant, stack_meant}
 use Rattle.tbr_runner.proofs.Levels.{with_first, below_top}
 use Rattle.tbr_runner.specs.declared.opened.Opener.{Opener}
 use Rattle.tbr_runner.specs.declared.opened.Opener.TheVariants.{Sub, Cell}
 use Rattle.tbr_runner.specs.Prefixes.{prefixes}
-use Rattle.tbr_runner.specs.Progress.{Pending, Opened, Progress, nothing_pending, cell_meant, level_meant, stack_meant, pending_meant, opened_meant, progress_meant}
-use Rattle.tbr_runner.specs.Meaning.{OnTop, TopIs, opener, renderers_of, with_cell, without_cells, Closes, RequestDoes, RequestRefuses, LevelOpens, AppendDoes, AppendRefuses, CellDoes, CellRefuses, VerticalRowDoes, VerticalRowRefuses, Ends}
+use Rattle.tbr_runner.specs.Closing.{ClosesAs, ClosingIsTooNarrow}
+use Rattle.tbr_runner.specs.Progress.{Pending, Opened, Progress, nothing_pending, cell_meant, pending_meant, opened_meant, progress_meant}
+use Rattle.tbr_runner.specs.Meaning.{opener, renderers_of, with_cell, without_cells, Closes, RequestDoes, RequestRefuses, LevelOpens, AppendDoes, AppendRefuses, CellDoes, CellRefuses, VerticalRowDoes, VerticalRowRefuses, Ends}
 
 module _ {D A M : Type 0} (meaning : A → M) where
   -- ---- stacks
@@ -41,11 +42,11 @@ module _ {D A M : Type 0} (meaning : A → M) where
   below_top_meant (level ∷ levels) = refl
 
   -- the renderer on top leads to another
-  pub on_top_meant : (Leads : Renderer D M (List M) → Renderer D M (List M) → Type 0) (stack : Stack (Renderer D A (Vec A))) (r s : Renderer D A (Vec A)) → top_of stack ≡ Some r → Leads (meant meaning r) (meant meaning s) → OnTop Leads (stack_meant meaning stack) (stack_meant meaning (with_top stack s))
+  pub on_top_meant : (Leads : Renderer D M (List M) → Renderer D M (List M) → Type 0) (stack : Stack (Renderer D A (Vec A))) (r s : Renderer D A (Vec A)) → top_of stack ≡ Some r → Leads (meant meaning r) (meant meaning s) → ChangesTop Leads (stack_meant meaning stack) (stack_meant meaning (with_top stack s))
   on_top_meant Leads stack r s is leads =
       (meant meaning r, meant meaning s, first_meant stack.levels r is, leads, ap (λ (ls : List (Level (Renderer D M (List M)))). record (stack_meant meaning stack) { levels = ls }) (with_first_meant stack.levels s))
 
-  pub top_is_meant : (Is : Renderer D M (List M) → Type 0) (stack : Stack (Renderer D A (Vec A))) (r : Renderer D A (Vec A)) → top_of stack ≡ Some r → Is (meant meaning r) → TopIs Is (stack_meant meaning stack)
+  pub top_is_meant : (Is : Renderer D M (List M) → Type 0) (stack : Stack (Renderer D A (Vec A))) (r : Renderer D A (Vec A)) → top_of stack ≡ Some r → Is (meant meaning r) → OfTop Is (stack_meant meaning stack)
   top_is_meant Is stack r is such = (meant meaning r, first_meant stack.levels r is, such)
 
   -- ---- levels and cells
@@ -132,7 +133,7 @@ module _ {D A M : Type 0} (meaning : A → M) where
         pub request_refused : (number : ℕ) → IsTooNarrow columns decoration (call_of top.width request) (meant meaning top) → RequestRefuses columns decoration (progress_meant meaning p) number request TooNarrow
         request_refused number h =
             let here_is = top_is_meant (λ r. IsTooNarrow columns decoration (call_of r.width request) r) i.stack top is_top h in
-            inr (ends_as false some, subst (λ (q : Progress D A (Vec A)). TopIs (λ r. IsTooNarrow columns decoration (call_of r.width request) r) (stack_meant meaning q.stack)) same here_is, refl)
+            inr (ends_as false some, subst (λ (q : Progress D A (Vec A)). OfTop (λ r. IsTooNarrow columns decoration (call_of r.width request) r) (stack_meant meaning q.stack)) same here_is, refl)
 
         pub request_done : (s : Renderer D A (Vec A)) (pending : Pending D A (Vec A)) → pending ≡ record i.pending { begun = counted i.pending.begun request } → Does columns decoration (call_of top.width request) (meant meaning top) (meant meaning s) →
             RequestDoes columns decoration (progress_meant meaning p) request (progress_meant meaning (record { stack = with_top i.stack s; pending = pending; opened = i.opened }))
@@ -173,7 +174,7 @@ module _ {D A M : Type 0} (meaning : A → M) where
             opened = refl;
           })
 
-      vertical_narrow : FlushIsTooNarrow columns (meant meaning top) ⊎ FirstToRefuse (λ r lines. HandsOut columns (meant meaning r) lines) (λ r. HoldsBack columns (meant meaning r)) cols → TopIs (FlushIsTooNarrow columns) (stack_meant meaning i.stack) ⊎ FirstToRefuse (HandsOut columns) (HoldsBack columns) (renderers_of (map (cell_meant meaning) i.pending.cells))
+      vertical_narrow : FlushIsTooNarrow columns (meant meaning top) ⊎ FirstToRefuse (λ r lines. HandsOut columns (meant meaning r) lines) (λ r. HoldsBack columns (meant meaning r)) cols → OfTop (FlushIsTooNarrow columns) (stack_meant meaning i.stack) ⊎ FirstToRefuse (HandsOut columns) (HoldsBack columns) (renderers_of (map (cell_meant meaning) i.pending.cells))
       vertical_narrow (inl h) = inl (top_is_meant (FlushIsTooNarrow columns) i.stack top is_top h)
       vertical_narrow (inr h) = inr (subst (FirstToRefuse (HandsOut columns) (HoldsBack columns)) cols_meant (refusal_meant cols h))
 
@@ -182,24 +183,26 @@ module _ {D A M : Type 0} (meaning : A → M) where
 
     -- ---- the end
 
-    module _ (columns : ℕ → Option ℕ) (number : ℕ) where
-      pub still_open : (i.opened ≢ []) ⊎ (i.pending.cells ≢ []) → Ends columns (progress_meant meaning p) number (Err (NotACommand number))
-      still_open h = subst (λ (q : Progress D A (Vec A)). Ends columns (progress_meant meaning q) number (Err (NotACommand number))) same (inl (go h, refl))
+    module _ (columns : ℕ → Option ℕ) (decoration : Decoration D M) (number : ℕ) where
+      pub still_open : (i.opened ≢ []) ⊎ (i.pending.cells ≢ []) → Ends columns decoration (progress_meant meaning p) number (Err (NotACommand number))
+      still_open h = subst (λ (q : Progress D A (Vec A)). Ends columns decoration (progress_meant meaning q) number (Err (NotACommand number))) same (inl (go h, refl))
         where
           go : (i.opened ≢ []) ⊎ (i.pending.cells ≢ []) → ((progress_meant meaning i).opened ≢ []) ⊎ ((progress_meant meaning i).pending.cells ≢ [])
           go (inl some) = inl (λ none. some (no_opened i.opened none))
           go (inr some) = inr (λ none. some (no_cells i.pending.cells none))
 
-      module _ (top : Renderer D A (Vec A)) (is_top : top_of i.stack ≡ Some top) (closed : i.opened ≡ []) (none : i.pending.cells ≡ []) where
-        pub end_refused : FlushIsTooNarrow columns (meant meaning top) → Ends columns (progress_meant meaning p) number (Err TooNarrow)
+      module _ (targets : List (List ℕ)) (are : targets ≡ (let s = i.stack in s.links)) (top : Renderer D A (Vec A)) (is_top : top_of i.stack ≡ Some top) (closed : i.opened ≡ []) (none : i.pending.cells ≡ []) where
+        pub end_refused : ClosingIsTooNarrow columns decoration targets (meant meaning top) → Ends columns decoration (progress_meant meaning p) number (Err TooNarrow)
         end_refused h =
-            subst (λ (q : Progress D A (Vec A)). Ends columns (progress_meant meaning q) number (Err TooNarrow)) same
-            (inr (ap (map (opened_meant meaning)) closed, ap (map (cell_meant meaning)) none, top_is_meant (FlushIsTooNarrow columns) i.stack top is_top h, refl))
+            let here = subst (λ ts. OfTop (ClosingIsTooNarrow columns decoration ts) (stack_meant meaning i.stack)) are (top_is_meant (ClosingIsTooNarrow columns decoration targets) i.stack top is_top h) in
+            subst (λ (q : Progress D A (Vec A)). Ends columns decoration (progress_meant meaning q) number (Err TooNarrow)) same
+            (inr (ap (map (opened_meant meaning)) closed, ap (map (cell_meant meaning)) none, here, refl))
 
-        pub end_text : (bytes : List ℕ) → ((s : Renderer D M (List M)) × Flushes columns (meant meaning top) s × (bytes ≡ encode_utf8_all (lines_text s.lines))) → Ends columns (progress_meant meaning p) number (Ok bytes)
+        pub end_text : (bytes : List ℕ) → ClosesAs columns decoration targets (meant meaning top) bytes → Ends columns decoration (progress_meant meaning p) number (Ok bytes)
         end_text bytes h =
-            subst (λ (q : Progress D A (Vec A)). Ends columns (progress_meant meaning q) number (Ok bytes)) same
-            (ap (map (opened_meant meaning)) closed, ap (map (cell_meant meaning)) none, top_is_meant (λ r. (s : Renderer D M (List M)) × Flushes columns r s × (bytes ≡ encode_utf8_all (lines_text s.lines))) i.stack top is_top h)
+            let here = subst (λ ts. OfTop (λ r. ClosesAs columns decoration ts r bytes) (stack_meant meaning i.stack)) are (top_is_meant (λ r. ClosesAs columns decoration targets r bytes) i.stack top is_top h) in
+            subst (λ (q : Progress D A (Vec A)). Ends columns decoration (progress_meant meaning q) number (Ok bytes)) same
+            (ap (map (opened_meant meaning)) closed, ap (map (cell_meant meaning)) none, here)
 
     -- ---- the innermost level closes
 
@@ -230,7 +233,7 @@ module _ {D A M : Type 0} (meaning : A → M) where
           opened = refl;
         }
 
-        narrow : FlushIsTooNarrow columns (meant meaning top) ⊎ HoldsBack columns (meant meaning inside) → TopIs (FlushIsTooNarrow columns) (stack_meant meaning j.stack) ⊎ HoldsBack columns (meant meaning inside)
+        narrow : FlushIsTooNarrow columns (meant meaning top) ⊎ HoldsBack columns (meant meaning inside) → OfTop (FlushIsTooNarrow columns) (stack_meant meaning j.stack) ⊎ HoldsBack columns (meant meaning inside)
         narrow (inl h) = inl (top_is_meant (FlushIsTooNarrow columns) j.stack top is_top h)
         narrow (inr h) = inr h
 

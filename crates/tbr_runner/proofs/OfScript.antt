@@ -4,7 +4,7 @@ use Rattle.tbr_decor.specs.Decoration.{Decoration}
 use Rattle.tbr_script.specs.Refusal.{IsOfScript}
 use Rattle.tbr_script.specs.declared.error.RunError.{RunError}
 use Rattle.tbr_script.specs.declared.error.RunError.TheVariants.{TooNarrow, NotACommand, NothingToEnd, RowDoesNotFit}
-use Rattle.tbr_commands.specs.Command.{Command, ask, sub, append, cell, end_cell, row, vertical_row}
+use Rattle.tbr_commands.specs.Command.{Command, ask, link, end_link, sub, append, cell, end_cell, row, vertical_row}
 use Rattle.tbr_runner.specs.Progress.{Progress}
 use Rattle.tbr_runner.specs.Meaning.{CommandRefuses, LineRefuses, Ends}
 
@@ -15,6 +15,9 @@ module _ {D M : Type 0} (columns : ℕ → Option ℕ) (decoration : Decoration 
   command_of_script : (command : Command) (e : RunError) → CommandRefuses columns decoration p number command e → IsOfScript e
   command_of_script (ask request) e (inl h) = as_such e (NothingToEnd number) h.1 tt
   command_of_script (ask request) e (inr h) = as_such e TooNarrow h.2 tt
+  command_of_script (link target) e h = as_such e TooNarrow h.1 tt
+  command_of_script end_link e (inl h) = as_such e (NothingToEnd number) h.1 tt
+  command_of_script end_link e (inr h) = as_such e TooNarrow h.2 tt
   command_of_script (sub width) e h = absurd h
   command_of_script (append first other) e (inl h) = as_such e (NothingToEnd number) h.1 tt
   command_of_script (append first other) e (inr (inl h)) = as_such e (NotACommand number) h.1.1 tt
@@ -31,6 +34,6 @@ module _ {D M : Type 0} (columns : ℕ → Option ℕ) (decoration : Decoration 
   line_of_script (b ∷ bs) e (inl h) = as_such e (NotACommand number) h.1 tt
   line_of_script (b ∷ bs) e (inr h) = command_of_script h.0 e h.2
 
-  pub end_of_script : (e : RunError) → Ends columns p number (Err e) → IsOfScript e
+  pub end_of_script : (e : RunError) → Ends columns decoration p number (Err e) → IsOfScript e
   end_of_script e (inl h) = as_such e (NotACommand number) h.1 tt
   end_of_script e (inr h) = as_such e TooNarrow h.3 tt

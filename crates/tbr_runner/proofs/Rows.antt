@@ -20,8 +20,9 @@ use Rattle.text_block_renderer.specs.Appended.{HandsOut, HoldsBack, FirstToRefus
 use Rattle.text_block_renderer.specs.Rows.{block_is_blank, TellsBlank, looks, spots_of, GivenCell, align_in, GivesCell, AppendsRow}
 use Rattle.tbr_script.specs.declared.error.RunError.TheVariants.{TooNarrow, RowDoesNotFit}
 use Rattle.tbr_stack.specs.Stack.{top_of, with_top}
-use Rattle.tbr_runner.specs.Progress.{Pending, Progress, cell_meant, stack_meant, pending_meant, progress_meant}
-use Rattle.tbr_runner.specs.Meaning.{TopIs, renderers_of, without_cells, with_blank, MayLook, MayFit, CellsAreTooNarrow, RowDoes, RowRefuses}
+use Rattle.tbr_stack.specs.Top.{OfTop, stack_meant}
+use Rattle.tbr_runner.specs.Progress.{Pending, Progress, cell_meant, pending_meant, progress_meant}
+use Rattle.tbr_runner.specs.Meaning.{renderers_of, without_cells, with_blank, MayLook, MayFit, CellsAreTooNarrow, RowDoes, RowRefuses}
 use Rattle.tbr_runner.proofs.Meant.{on_top_meant, top_is_meant}
 
 same_if_some : {X Y : Type 0} (f : X → Y) (xs : List X) → is_some_list xs ≡ is_some_list (map f xs)
@@ -98,7 +99,7 @@ module _ {D A M : Type 0} (meaning : A → M) (columns : ℕ → Option ℕ) whe
 
   module _ (i p : Progress D A (Vec A)) (same : i ≡ p) (top : Renderer D A (Vec A)) (is_top : top_of i.stack ≡ Some top)
       (cols : List (Renderer D A (Vec A) × ℕ)) (are : cols ≡ i.pending.cells) (tells : Each (λ cell. TellsBlank columns cell.0) cols) where
-    fit : (fits : Bool) → row_fits top.hanging (spots_of cols) ≡ fits → TopIs (MayFit columns (map (cell_meant meaning) i.pending.cells) fits) (stack_meant meaning i.stack)
+    fit : (fits : Bool) → row_fits top.hanging (spots_of cols) ≡ fits → OfTop (MayFit columns (map (cell_meant meaning) i.pending.cells) fits) (stack_meant meaning i.stack)
     fit fits is =
         let h = subst (λ (cs : List (Renderer D A (Vec A) × ℕ)). MayFit columns (map (cell_meant meaning) cs) fits (meant meaning top)) are (may_fit top cols fits tells is) in
         top_is_meant meaning (MayFit columns (map (cell_meant meaning) i.pending.cells) fits) i.stack top is_top h

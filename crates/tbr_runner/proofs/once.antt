@@ -5,6 +5,7 @@ pub mod Handed
 pub mod Levels
 pub mod Requests
 pub mod Rows
+pub mod Links
 pub mod Refusals
 pub mod Commands
 pub mod Scripts

@@ -1,5 +1,6 @@
 pub mod Prefixes
 pub mod Progress
 pub mod Decorations
+pub mod Closing
 pub mod Meaning
 pub mod Normal

@@ -1,26 +1,28 @@
 -- The meaning of a script: that of its commands one after another, up to the first line that is faulty or refuses.
-use Rattle.std.specs.Prelude.{◌≡◌, ◌≢◌, ℕ, ◌+◌, ◌⊎◌, Bool, true, false, Option, None, Some, Result, Err, MatchResult, List, [], ◌∷◌, ◌++◌, map, length, encode_utf8_all}
+use Rattle.std.specs.Prelude.{◌≡◌, ◌≢◌, ℕ, ◌+◌, ◌⊎◌, Bool, true, false, Option, None, Some, Result, Err, MatchResult, List, [], ◌∷◌, ◌++◌, map, length, chars}
 use Rattle.std.specs.List.{AllZip}
 use Rattle.std.specs.Option.{option_map}
 use Rattle.tbr_lines.specs.declared.CellAlign.{CellAlign}
 use Rattle.tbr_rows.specs.Cells.{spots_from, row_fits}
+use Rattle.tbr_decor.specs.Start as start
 use Rattle.tbr_decor.specs.Decoration.{Decoration}
 use Rattle.text_block_renderer.specs.Renderer.{Renderer, Line, Open, new_renderer}
-use Rattle.text_block_renderer.specs.Text.{lines_text}
-use Rattle.text_block_renderer.specs.Flush.{Flushes, FlushIsTooNarrow}
+use Rattle.text_block_renderer.specs.Flush.{FlushIsTooNarrow}
 use Rattle.text_block_renderer.specs.Decorated.{sub_renderer}
 use Rattle.text_block_renderer.specs.Appended.{HandsOut, HoldsBack, FirstToRefuse}
-use Rattle.text_block_renderer.specs.Calls.{append_subrender, append_vert_row, Does, IsTooNarrow}
+use Rattle.text_block_renderer.specs.Calls.{begin, append_subrender, append_vert_row, Does, IsTooNarrow}
 use Rattle.text_block_renderer.specs.Rows.{TellsBlank, looks, GivenCell, align_in, GivesCell, AppendsRow}
 use Rattle.tbr_script.specs.declared.error.RunError.{RunError}
 use Rattle.tbr_script.specs.declared.error.RunError.TheVariants.{TooNarrow, NotACommand, NothingToEnd, RowDoesNotFit}
 use Rattle.tbr_script.specs.Script.{lines_of}
-use Rattle.tbr_stack.specs.Stack.{Stack, new_stack, top_of, with_top, pushed, below}
+use Rattle.tbr_stack.specs.Stack.{new_stack, top_of, pushed, below}
+use Rattle.tbr_stack.specs.Top.{ChangesTop, OfTop}
+use Rattle.tbr_stack.specs.Links.{open_links, StartsLink, EndsLink, EndIsTooNarrow}
 use Rattle.tbr_commands.specs.declared.opening.Decorator.{Decorator}
 use Rattle.tbr_commands.specs.declared.opening.Decorator.TheVariants.{Plain, Trivial, Rich}
 use Rattle.tbr_commands.specs.declared.opening.Opening.{Opening}
 use Rattle.tbr_commands.specs.Request.{Request, call_of}
-use Rattle.tbr_commands.specs.Command.{Command, ask, sub, append, cell, end_cell, row, vertical_row}
+use Rattle.tbr_commands.specs.Command.{Command, ask, link, end_link, sub, append, cell, end_cell, row, vertical_row}
 use Rattle.tbr_commands.specs.Syntax.{IsCommand}
 use Rattle.tbr_commands.specs.Opening.{IsOpening}
 use Rattle.tbr_commands.specs.Begun.{ends_nothing, counted}
@@ -29,17 +31,7 @@ use Rattle.tbr_runner.specs.declared.opened.Opener.TheVariants.{Sub, Cell}
 use Rattle.tbr_runner.specs.Prefixes.{prefixes}
 use Rattle.tbr_runner.specs.Progress.{Pending, Opened, Progress, nothing_pending}
 use Rattle.tbr_runner.specs.Decorations.{plain_decoration, trivial_decoration, rich_decoration}
-
--- ---- the renderer on top
-
-module _ {R : Type 0} where
-  -- it leads somewhere, and nothing else of the stack changes
-  abbrev pub OnTop : (R → R → Type 0) → Stack R → Stack R → Type 0
-  OnTop Leads stack next = (r : R) × (s : R) × (top_of stack ≡ Some r) × Leads r s × (next ≡ with_top stack s)
-
-  -- it is such
-  abbrev pub TopIs : (R → Type 0) → Stack R → Type 0
-  TopIs Is stack = (r : R) × (top_of stack ≡ Some r) × Is r
+use Rattle.tbr_runner.specs.Closing.{ClosesAs, ClosingIsTooNarrow}
 
 -- ---- behind the first command, under any decorator
 
@@ -71,17 +63,18 @@ pub record Closes {D A T : Type 0} (p : Progress D A T) (by : Opener) (inside : 
   pub top : top_of p.stack ≡ Some inside
   pub stack : next.stack ≡ below p.stack
 
--- What the end of a script gives, which counts as the line of this number: the text of the lines behind a flush, or
--- that this is too narrow. Where a level is open or a cell waits, it is no command.
+-- What the end of a script gives, which counts as the line of this number: its text with the footnotes of its links, or
+-- that something is too narrow. Where a level is open or a cell waits, it is no command.
 abbrev pub Ends :
-    {D M : Type 0} → (ℕ → Option ℕ) → Progress D M (List M) → ℕ → Result (List ℕ) RunError → Type 0
-Ends {D} {M} columns p number outcome =
+    {D M : Type 0} → (ℕ → Option ℕ) → Decoration D M → Progress D M (List M) → ℕ → Result (List ℕ) RunError → Type 0
+Ends columns decoration p number outcome =
+    let targets = p.stack.links in
     MatchResult outcome
     (λ bytes. (p.opened ≡ []) × (p.pending.cells ≡ [])
-    × TopIs (λ r. (s : Renderer D M (List M)) × Flushes columns r s
-    × (bytes ≡ encode_utf8_all (lines_text s.lines))) p.stack)
+    × OfTop (λ r. ClosesAs columns decoration targets r bytes) p.stack)
     (λ e. (((p.opened ≢ []) ⊎ (p.pending.cells ≢ [])) × (e ≡ NotACommand number))
-    ⊎ ((p.opened ≡ []) × (p.pending.cells ≡ []) × TopIs (FlushIsTooNarrow columns) p.stack × (e ≡ TooNarrow)))
+    ⊎ ((p.opened ≡ []) × (p.pending.cells ≡ []) × OfTop (ClosingIsTooNarrow columns decoration targets) p.stack
+    × (e ≡ TooNarrow)))
 
 -- ---- whether a row fits
 
@@ -105,7 +98,7 @@ module _ {D M : Type 0} (columns : ℕ → Option ℕ) where
 -- A renderer for a block inside comes on top, with nothing pending.
 pub record LevelOpens {D M : Type 0} (decoration : Decoration D M) (p : Progress D M (List M)) (by : Opener)
     (width : ℕ) (next : Progress D M (List M)) : Type 0 where
-  pub stack : TopIs (λ r. next.stack ≡ pushed (sub_renderer decoration width r) p.stack) p.stack
+  pub stack : OfTop (λ r. next.stack ≡ pushed (sub_renderer decoration width r) p.stack) p.stack
   pub pending : next.pending ≡ nothing_pending
   pub opened : next.opened ≡ record { by = by; below = p.pending } ∷ p.opened
 
@@ -120,8 +113,21 @@ module _ {D M : Type 0} (columns : ℕ → Option ℕ) (decoration : Decoration 
   -- The renderer on top does what is asked.
   pub record RequestDoes (p : Progress D M (List M)) (request : Request) (next : Progress D M (List M)) : Type 0 where
     pub ends : ends_nothing p.pending.begun request ≡ false
-    pub does : OnTop (λ r s. Does columns decoration (call_of r.width request) r s) p.stack next.stack
+    pub does : ChangesTop (λ r s. Does columns decoration (call_of r.width request) r s) p.stack next.stack
     pub counts : next.pending ≡ record p.pending { begun = counted p.pending.begun request }
+    pub opened : next.opened ≡ p.opened
+
+  -- A link begins, whose target has these bytes.
+  pub record LinkDoes (p : Progress D M (List M)) (target : List ℕ) (next : Progress D M (List M)) : Type 0 where
+    pub starts : StartsLink columns decoration (chars target) p.stack next.stack
+    pub pending : next.pending ≡ p.pending
+    pub opened : next.opened ≡ p.opened
+
+  -- The link that began last ends. One is open in the innermost level.
+  pub record EndLinkDoes (p next : Progress D M (List M)) : Type 0 where
+    pub open_here : open_links p.stack ≢ []
+    pub ends : EndsLink columns decoration p.stack next.stack
+    pub pending : next.pending ≡ p.pending
     pub opened : next.opened ≡ p.opened
 
   -- The lines of the innermost level join those below it, the first behind one prefix, each other behind another.
@@ -132,7 +138,7 @@ module _ {D M : Type 0} (columns : ℕ → Option ℕ) (decoration : Decoration 
     pub closes : Closes p Sub inside closed
     pub lines : List (Line (List M))
     pub hands_out : HandsOut columns inside lines
-    pub does : OnTop (Does columns decoration (append_subrender (prefixes first other (length lines)) lines))
+    pub does : ChangesTop (Does columns decoration (append_subrender (prefixes first other (length lines)) lines))
         closed.stack next.stack
     pub pending : next.pending ≡ closed.pending
     pub opened : next.opened ≡ closed.opened
@@ -141,22 +147,24 @@ module _ {D M : Type 0} (columns : ℕ → Option ℕ) (decoration : Decoration 
   pub record VerticalRowDoes (p next : Progress D M (List M)) : Type 0 where
     pub cells : List (List (Line (List M)))
     pub hand_out : AllZip (HandsOut columns) (renderers_of p.pending.cells) cells
-    pub does : OnTop (Does columns decoration (append_vert_row cells)) p.stack next.stack
+    pub does : ChangesTop (Does columns decoration (append_vert_row cells)) p.stack next.stack
     pub pending : next.pending ≡ without_cells p.pending
     pub opened : next.opened ≡ p.opened
 
   -- The waiting cells fit as a row and are added side by side, and none waits any more.
   pub record RowDoes (p : Progress D M (List M)) (collapse : Bool) (next : Progress D M (List M)) : Type 0 where
-    pub fits : TopIs (MayFit columns p.pending.cells true) p.stack
+    pub fits : OfTop (MayFit columns p.pending.cells true) p.stack
     pub cells : List (GivenCell (List M))
     pub come : AllZip (GivesCell (λ r. r.width) (HandsOut columns)) p.pending.cells cells
     pub aligned : map align_in cells ≡ p.pending.aligns
-    pub does : OnTop (AppendsRow columns collapse cells) p.stack next.stack
+    pub does : ChangesTop (AppendsRow columns collapse cells) p.stack next.stack
     pub pending : next.pending ≡ without_cells p.pending
     pub opened : next.opened ≡ p.opened
 
   abbrev pub CommandDoes : Progress D M (List M) → Command → Progress D M (List M) → Type 0
   CommandDoes p (ask request) next = RequestDoes p request next
+  CommandDoes p (link target) next = LinkDoes p target next
+  CommandDoes p end_link next = EndLinkDoes p next
   CommandDoes p (sub width) next = LevelOpens decoration p Sub width next
   CommandDoes p (append first other) next = AppendDoes p first other next
   CommandDoes p (cell width span align) next = LevelOpens decoration p (Cell span align) width next
@@ -183,12 +191,12 @@ module _ {D M : Type 0} (columns : ℕ → Option ℕ) where
       ((opener p.opened ≢ Some Sub) × (e ≡ NothingToEnd number))
       ⊎ ((opener p.opened ≡ Some Sub) × CellsWait p number e)
       ⊎ ((inside : Renderer D M (List M)) × (closed : Progress D M (List M)) × Closes p Sub inside closed
-      × (TopIs (FlushIsTooNarrow columns) closed.stack ⊎ HoldsBack columns inside) × (e ≡ TooNarrow))
+      × (OfTop (FlushIsTooNarrow columns) closed.stack ⊎ HoldsBack columns inside) × (e ≡ TooNarrow))
 
   -- The renderer on top is too narrow, or one of the cells.
   abbrev pub CellsAreTooNarrow : Progress D M (List M) → Type 0
   CellsAreTooNarrow p =
-      TopIs (FlushIsTooNarrow columns) p.stack
+      OfTop (FlushIsTooNarrow columns) p.stack
       ⊎ FirstToRefuse (HandsOut columns) (HoldsBack columns) (renderers_of p.pending.cells)
 
   abbrev pub VerticalRowRefuses : Progress D M (List M) → RunError → Type 0
@@ -197,8 +205,8 @@ module _ {D M : Type 0} (columns : ℕ → Option ℕ) where
   -- The waiting cells don't fit as a row, or they do and something is too narrow.
   abbrev pub RowRefuses : Progress D M (List M) → ℕ → RunError → Type 0
   RowRefuses p number e =
-      (TopIs (MayFit columns p.pending.cells false) p.stack × (e ≡ RowDoesNotFit number))
-      ⊎ (TopIs (MayFit columns p.pending.cells true) p.stack × CellsAreTooNarrow p × (e ≡ TooNarrow))
+      (OfTop (MayFit columns p.pending.cells false) p.stack × (e ≡ RowDoesNotFit number))
+      ⊎ (OfTop (MayFit columns p.pending.cells true) p.stack × CellsAreTooNarrow p × (e ≡ TooNarrow))
 
 module _ {D M : Type 0} (columns : ℕ → Option ℕ) (decoration : Decoration D M) where
   -- It ends nothing, or the renderer on top is too narrow.
@@ -206,10 +214,23 @@ module _ {D M : Type 0} (columns : ℕ → Option ℕ) (decoration : Decoration 
   RequestRefuses p number request e =
       ((ends_nothing p.pending.begun request ≡ true) × (e ≡ NothingToEnd number))
       ⊎ ((ends_nothing p.pending.begun request ≡ false)
-      × TopIs (λ r. IsTooNarrow columns decoration (call_of r.width request) r) p.stack × (e ≡ TooNarrow))
+      × OfTop (λ r. IsTooNarrow columns decoration (call_of r.width request) r) p.stack × (e ≡ TooNarrow))
+
+  -- The renderer on top is too narrow for the text that begins a link.
+  abbrev pub LinkRefuses : Progress D M (List M) → List ℕ → RunError → Type 0
+  LinkRefuses p target e =
+      OfTop (IsTooNarrow columns decoration (begin (start.link (chars target)))) p.stack × (e ≡ TooNarrow)
+
+  -- No link is open in the innermost level, or the renderer on top is too narrow for what ends one.
+  abbrev pub EndLinkRefuses : Progress D M (List M) → ℕ → RunError → Type 0
+  EndLinkRefuses p number e =
+      ((open_links p.stack ≡ []) × (e ≡ NothingToEnd number))
+      ⊎ ((open_links p.stack ≢ []) × EndIsTooNarrow columns decoration p.stack × (e ≡ TooNarrow))
 
   abbrev pub CommandRefuses : Progress D M (List M) → ℕ → Command → RunError → Type 0
   CommandRefuses p number (ask request) e = RequestRefuses p number request e
+  CommandRefuses p number (link target) e = LinkRefuses p target e
+  CommandRefuses p number end_link e = EndLinkRefuses p number e
   CommandRefuses p number (sub width) e = ⊥
   CommandRefuses p number (append first other) e = AppendRefuses columns p number e
   CommandRefuses p number (cell width span align) e = ⊥
@@ -234,7 +255,7 @@ module _ {D M : Type 0} (columns : ℕ → Option ℕ) (decoration : Decoration 
 
   -- What lines give that follow here, the first of them with this number.
   abbrev pub LinesGive : Progress D M (List M) → ℕ → List (List ℕ) → Result (List ℕ) RunError → Type 0
-  LinesGive p number [] outcome = Ends columns p number outcome
+  LinesGive p number [] outcome = Ends columns decoration p number outcome
   LinesGive p number (line ∷ lines) outcome =
       ((e : RunError) × LineRefuses p number line e × (outcome ≡ Err e))
       ⊎ ((next : Progress D M (List M)) × LineDoes p line next × LinesGive next (number + 1) lines outcome)

@@ -5,7 +5,8 @@ use Rattle.std.specs.Global.{Vec}
 use Rattle.tbr_lines.specs.declared.CellAlign.{CellAlign}
 use Rattle.text_block_renderer.specs.Renderer.{Renderer}
 use Rattle.text_block_renderer.specs.Meant.{meant}
-use Rattle.tbr_stack.specs.Stack.{Level, Stack}
+use Rattle.tbr_stack.specs.Stack.{Stack}
+use Rattle.tbr_stack.specs.Top.{stack_meant}
 use Rattle.tbr_commands.specs.Begun.{nothing_begun}
 use Rattle.tbr_commands.specs.declared.begun.Begun.{Begun}
 use Rattle.tbr_runner.specs.declared.opened.Opener.{Opener}
@@ -40,12 +41,6 @@ IsSpanned (Cell span align) = 0 < span
 -- ---- the same, each annotation as what it means
 
 module _ {D A M : Type 0} (meaning : A → M) where
-  abbrev pub level_meant : Level (Renderer D A (Vec A)) → Level (Renderer D M (List M))
-  level_meant level = record { renderer = meant meaning level.renderer; open_links = level.open_links }
-
-  abbrev pub stack_meant : Stack (Renderer D A (Vec A)) → Stack (Renderer D M (List M))
-  stack_meant s = record { levels = map level_meant s.levels; links = s.links; table_depth = s.table_depth }
-
   abbrev pub cell_meant : Renderer D A (Vec A) × ℕ → Renderer D M (List M) × ℕ
   cell_meant cell = (meant meaning cell.0, cell.1)
 
@@ -57,7 +52,7 @@ module _ {D A M : Type 0} (meaning : A → M) where
 
   abbrev pub progress_meant : Progress D A (Vec A) → Progress D M (List M)
   progress_meant p = record {
-    stack = stack_meant p.stack;
+    stack = stack_meant meaning p.stack;
     pending = pending_meant p.pending;
     opened = map opened_meant p.opened;
   }

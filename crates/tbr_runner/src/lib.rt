@@ -4,6 +4,7 @@
 pub use laws::a_script_gives_one_thing;
 pub use runner::run;
 
+mod closing;
 mod laws;
 mod opened;
 mod pending;

@@ -8,8 +8,9 @@ ghost use Rattle.tbr_commands.specs.Request.{request_of};
 ghost use Rattle.tbr_commands.specs.Command.{command_of, IsSized};
 ghost use Rattle.tbr_runner.specs.Progress.{progress_meant, nothing_pending, IsSpanned};
 ghost use Rattle.tbr_runner.specs.declared.opened.Opener.{Opener as By};
-ghost use Rattle.tbr_runner.specs.Meaning.{opener, Closes, RequestDoes, RequestRefuses, LevelOpens, AppendDoes, AppendRefuses, CellDoes, CellRefuses, VerticalRowDoes, VerticalRowRefuses, RowDoes, RowRefuses, CommandDoes, CommandRefuses, LineDoes, LineRefuses, Ends};
+ghost use Rattle.tbr_runner.specs.Meaning.{opener, Closes, RequestDoes, RequestRefuses, LinkDoes, LinkRefuses, EndLinkDoes, EndLinkRefuses, LevelOpens, AppendDoes, AppendRefuses, CellDoes, CellRefuses, VerticalRowDoes, VerticalRowRefuses, RowDoes, RowRefuses, CommandDoes, CommandRefuses, LineDoes, LineRefuses, Ends};
 
+use crate::closing::close;
 use crate::opened::{OpenLevels, Opener};
 use crate::pending::Pending;
 use crate::prefixes::append_behind;
@@ -104,6 +105,8 @@ impl<D: TextDecorator, W: CharWidth> Program<D, W> {
     {
         match command {
             Command::Ask(request) => self.call(number, request),
+            Command::Link(target) => self.start_link(target.as_str()),
+            Command::EndLink => self.end_link(number),
             Command::Sub(width) => self.open(alloc, Opener::Sub, *width),
             Command::Append(prefixes) => self.append(number, prefixes),
             Command::Cell(new) => {
@@ -137,6 +140,49 @@ impl<D: TextDecorator, W: CharWidth> Program<D, W> {
         };
         let top = renderers.top_mut();
         request.call(top)?;
+        Ok(Program {
+            renderers,
+            pending,
+            opened,
+        })
+    }
+
+    /// Begins a link to a target.
+    fn start_link(self, target: &str) -> Result<Program<D, W>, RunError>
+        ensures done { IfOk result (λ next. LinkDoes W.columns (decoration_of D.TextDecorator)
+            (progress_meant D.meaning self) target.now (progress_meant D.meaning next)) }
+        ensures refused { IfErr result (λ e. e ≢ RunError.OutOfMemory →
+            LinkRefuses W.columns (decoration_of D.TextDecorator) (progress_meant D.meaning self) target.now e) }
+    {
+        let Program {
+            mut renderers,
+            pending,
+            opened,
+        } = self;
+        renderers.start_link(target)?;
+        Ok(Program {
+            renderers,
+            pending,
+            opened,
+        })
+    }
+
+    /// Ends the link that began last, on the line of this number.
+    fn end_link(self, number: usize) -> Result<Program<D, W>, RunError>
+        ensures done { IfOk result (λ next. EndLinkDoes W.columns (decoration_of D.TextDecorator)
+            (progress_meant D.meaning self) (progress_meant D.meaning next)) }
+        ensures refused { IfErr result (λ e. e ≢ RunError.OutOfMemory →
+            EndLinkRefuses W.columns (decoration_of D.TextDecorator) (progress_meant D.meaning self) number e) }
+    {
+        let Program {
+            mut renderers,
+            pending,
+            opened,
+        } = self;
+        if renderers.open_links() == 0 {
+            return Err(RunError::NothingToEnd(number));
+        }
+        renderers.end_link()?;
         Ok(Program {
             renderers,
             pending,
@@ -290,14 +336,15 @@ impl<D: TextDecorator, W: CharWidth> Program<D, W> {
     /// It refuses as the end of the script does, and with `OutOfMemory` only for want of memory.
     pub fn finish(self, number: usize) -> Result<String, RunError>
         ensures text { IfOk result (λ text.
-            Ends W.columns (progress_meant D.meaning self) number (Ok (string_bytes text))) }
+            Ends W.columns (decoration_of D.TextDecorator) (progress_meant D.meaning self) number
+            (Ok (string_bytes text))) }
         ensures refused { IfErr result (λ e. e ≢ RunError.OutOfMemory →
-            Ends W.columns (progress_meant D.meaning self) number (Err e)) }
+            Ends W.columns (decoration_of D.TextDecorator) (progress_meant D.meaning self) number (Err e)) }
     {
         if !self.opened.is_empty() || self.pending.has_cells() {
             return Err(RunError::NotACommand(number));
         }
-        let (renderer, _) = self.renderers.into_inner();
-        Ok(renderer.into_string()?)
+        let (renderer, targets) = self.renderers.into_inner();
+        Ok(close(renderer, targets)?)
     }
 }

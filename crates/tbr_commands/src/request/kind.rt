@@ -20,8 +20,6 @@ pub enum Kind {
     Mode,
     /// A preformatted stretch.
     Preformat,
-    /// A link.
-    Link,
     /// Emphasised text.
     Emphasis,
     /// Strong text.
@@ -47,7 +45,6 @@ impl Kind {
         match line {
             "endws" => Some(Kind::Mode),
             "endpre" => Some(Kind::Preformat),
-            "endlink" => Some(Kind::Link),
             "endem" => Some(Kind::Emphasis),
             "endstrong" => Some(Kind::Strong),
             "endstrike" => Some(Kind::Strikeout),
@@ -78,7 +75,6 @@ impl Kind {
             Kind::Preformat => renderer.pop_preformat(),
             Kind::Colour => renderer.pop_colour(),
             Kind::Background => renderer.pop_bgcolour(),
-            Kind::Link => return renderer.end_link(),
             Kind::Emphasis => return renderer.end_emphasis(),
             Kind::Strong => return renderer.end_strong(),
             Kind::Strikeout => return renderer.end_strikeout(),

@@ -9,21 +9,23 @@ use Rattle.text_block_renderer.specs.Calls.{Call, append_subrender, append_vert_
 use Rattle.text_block_renderer.specs.Normal.{PushesNormal}
 use Rattle.text_block_renderer.proofs.OneState.{call_once, call_or_not}
 use Rattle.tbr_stack.specs.Stack.{Stack}
+use Rattle.tbr_stack.specs.Top.{ChangesTop, OfTop}
 use Rattle.tbr_script.specs.declared.error.RunError.{RunError}
 use Rattle.tbr_commands.specs.Request.{Request, call_of}
-use Rattle.tbr_commands.specs.Command.{Command, ask, sub, append, cell, end_cell, row, vertical_row}
+use Rattle.tbr_commands.specs.Command.{Command, ask, link, end_link, sub, append, cell, end_cell, row, vertical_row}
 use Rattle.tbr_commands.specs.Syntax.{IsWritten}
 use Rattle.tbr_runner.specs.declared.opened.Opener.TheVariants.{Sub, Cell}
 use Rattle.tbr_runner.specs.Normal.{IsNormalLine}
 use Rattle.tbr_runner.specs.Prefixes.{prefixes}
 use Rattle.tbr_runner.specs.Progress.{Progress, Pending, Opened}
-use Rattle.tbr_runner.specs.Meaning.{OnTop, TopIs, CellDoes, CellRefuses, RequestDoes, AppendDoes, VerticalRowDoes, CommandDoes, AppendRefuses, VerticalRowRefuses, RequestRefuses, CommandRefuses}
+use Rattle.tbr_runner.specs.Meaning.{CellDoes, CellRefuses, RequestDoes, AppendDoes, VerticalRowDoes, CommandDoes, AppendRefuses, VerticalRowRefuses, RequestRefuses, CommandRefuses}
 use Rattle.tbr_runner.proofs.once.Tops.{EachIn, on_top_once, on_top_or_not, on_top_in}
 use Rattle.tbr_runner.proofs.once.Plain.{IsPlain, call_plain}
 use Rattle.tbr_runner.proofs.once.Handed.{handed_once, handed_or_held, all_handed_once, all_handed_or_not}
 use Rattle.tbr_runner.proofs.once.Levels.{one_progress, closes_once, closes_opener, cell_once, AllPlain, PlainCells, PlainBelow, waiting_wrap, top_wraps, closed_plain, still_plain, cell_plain, opens_once, opened_plain}
 use Rattle.tbr_runner.proofs.once.Refusals.{not_waiting}
 use Rattle.tbr_runner.proofs.once.Rows.{row_once, row_or_not, row_plain}
+use Rattle.tbr_runner.proofs.once.Links.{link_once, link_or_not, link_plain, end_link_once, end_link_or_not, end_link_plain}
 use Rattle.tbr_runner.proofs.once.Requests.{pushes_normal}
 
 cell_or_not : {D A T : Type 0} (p x : Progress D A T) (number : ℕ) (e : RunError) → CellDoes p x → CellRefuses p number e → ⊥
@@ -35,13 +37,13 @@ module _ {D M : Type 0} (columns : ℕ → Option ℕ) (decoration : Decoration 
 
   module _ (call : ℕ → Call (List M)) (p : Progress D M (List M)) (all : AllPlain p) where
     abbrev Calls : Stack (Renderer D M (List M)) → Type 0
-    Calls next = OnTop (λ r s. Does columns decoration (call r.width) r s) p.stack next
+    Calls next = ChangesTop (λ r s. Does columns decoration (call r.width) r s) p.stack next
 
     called_once : (x y : Stack (Renderer D M (List M))) → Calls x → Calls y → x ≡ y
     called_once x y a b =
         on_top_once (λ r s. Does columns decoration (call r.width) r s) p.stack x y (λ r s t is. call_once columns decoration (call r.width) r s t (top_wraps p r all is)) a b
 
-    called_or_not : (x : Stack (Renderer D M (List M))) → Calls x → TopIs (λ r. IsTooNarrow columns decoration (call r.width) r) p.stack → ⊥
+    called_or_not : (x : Stack (Renderer D M (List M))) → Calls x → OfTop (λ r. IsTooNarrow columns decoration (call r.width) r) p.stack → ⊥
     called_or_not x a b =
         on_top_or_not (λ r s. Does columns decoration (call r.width) r s) (λ r. IsTooNarrow columns decoration (call r.width) r) p.stack x (λ r s is. call_or_not columns decoration (call r.width) r s (top_wraps p r all is)) a b
 
@@ -80,8 +82,8 @@ module _ {D M : Type 0} (columns : ℕ → Option ℕ) (decoration : Decoration 
         let same = closes_once p Sub Sub a.inside b.inside a.closed b.closed a.closes b.closes in
         let hands = subst (λ (r : Renderer D M (List M)). HandsOut columns r b.lines) (sym same.1) b.hands_out in
         let lines = handed_once columns decoration a.inside a.lines b.lines (top_wraps p a.inside all a.closes.top) a.hands_out hands in
-        let there = subst (λ (q : Progress D M (List M)). OnTop (Does columns decoration (behind b.lines)) q.stack y.stack) (sym same.2) b.does in
-        let does = subst (λ (ls : List (Line (List M))). OnTop (Does columns decoration (behind ls)) a.closed.stack y.stack) (sym lines) there in
+        let there = subst (λ (q : Progress D M (List M)). ChangesTop (Does columns decoration (behind b.lines)) q.stack y.stack) (sym same.2) b.does in
+        let does = subst (λ (ls : List (Line (List M))). ChangesTop (Does columns decoration (behind ls)) a.closed.stack y.stack) (sym lines) there in
         one_progress x y
         (called_once (λ width. behind a.lines) a.closed closed x.stack y.stack a.does does)
         (a.pending ∙ ap (λ (q : Progress D M (List M)). q.pending) same.2 ∙ sym b.pending)
@@ -95,8 +97,8 @@ module _ {D M : Type 0} (columns : ℕ → Option ℕ) (decoration : Decoration 
         same : (Sub ≡ Sub) × (a.inside ≡ b.0) × (a.closed ≡ b.1)
         same = closes_once p Sub Sub a.inside b.0 a.closed b.1 a.closes b.2
 
-        go : TopIs (FlushIsTooNarrow columns) b.1.stack ⊎ HoldsBack columns b.0 → ⊥
-        go (inl k) = called_or_not (λ width. behind a.lines) a.closed closed x.stack a.does (subst (λ (q : Progress D M (List M)). TopIs (FlushIsTooNarrow columns) q.stack) (sym same.2) k)
+        go : OfTop (FlushIsTooNarrow columns) b.1.stack ⊎ HoldsBack columns b.0 → ⊥
+        go (inl k) = called_or_not (λ width. behind a.lines) a.closed closed x.stack a.does (subst (λ (q : Progress D M (List M)). OfTop (FlushIsTooNarrow columns) q.stack) (sym same.2) k)
         go (inr k) =
             handed_or_held columns decoration a.inside a.lines (top_wraps p a.inside all a.closes.top) a.hands_out (subst (λ (r : Renderer D M (List M)). HoldsBack columns r) (sym same.1) k)
 
@@ -111,7 +113,7 @@ module _ {D M : Type 0} (columns : ℕ → Option ℕ) (decoration : Decoration 
     vertical_once : (y : Progress D M (List M)) → VerticalRowDoes columns decoration p y → x ≡ y
     vertical_once y b =
         let cells = all_handed_once columns decoration _ a.cells b.cells (waiting_wrap p all) a.hand_out b.hand_out in
-        let does = subst (λ (cs : List (List (Line (List M)))). OnTop (Does columns decoration (append_vert_row cs)) p.stack y.stack) (sym cells) b.does in
+        let does = subst (λ (cs : List (List (Line (List M)))). ChangesTop (Does columns decoration (append_vert_row cs)) p.stack y.stack) (sym cells) b.does in
         one_progress x y
         (called_once (λ width. append_vert_row a.cells) p all x.stack y.stack a.does does)
         (a.pending ∙ sym b.pending) (a.opened ∙ sym b.opened)
@@ -130,6 +132,8 @@ module _ {D M : Type 0} (columns : ℕ → Option ℕ) (decoration : Decoration 
   module _ (p : Progress D M (List M)) (all : AllPlain p) where
     pub does_once : (command : Command) (x y : Progress D M (List M)) → CommandDoes columns decoration p command x → CommandDoes columns decoration p command y → x ≡ y
     does_once (ask request) x y a b = request_once p x request all a y b
+    does_once (link target) x y a b = link_once columns decoration p x target all a y b
+    does_once end_link x y a b = end_link_once columns decoration p x all a y b
     does_once (sub width) x y a b = opens_once decoration p Sub width x y a b
     does_once (append first other) x y a b = append_once p x first other all a y b
     does_once (cell width span align) x y a b = opens_once decoration p (Cell span align) width x y a b
@@ -139,6 +143,8 @@ module _ {D M : Type 0} (columns : ℕ → Option ℕ) (decoration : Decoration 
 
     pub does_or_not : (number : ℕ) (command : Command) (x : Progress D M (List M)) (e : RunError) → CommandDoes columns decoration p command x → CommandRefuses columns decoration p number command e → ⊥
     does_or_not number (ask request) x e a b = request_or_not p x request all a number e b
+    does_or_not number (link target) x e a b = link_or_not columns decoration p x target all a e b
+    does_or_not number end_link x e a b = end_link_or_not columns decoration p x all a number e b
     does_or_not number (sub width) x e a b = b
     does_or_not number (append first other) x e a b = append_or_not p x first other all a number e b
     does_or_not number (cell width span align) x e a b = b
@@ -148,6 +154,8 @@ module _ {D M : Type 0} (columns : ℕ → Option ℕ) (decoration : Decoration 
 
     pub does_plain : (line : List ℕ) (command : Command) (x : Progress D M (List M)) → IsNormalLine line → IsWritten line command → CommandDoes columns decoration p command x → AllPlain x
     does_plain line (ask request) x is k a = request_plain p x request all a line is k
+    does_plain line (link target) x is k a = link_plain columns decoration p x target all a
+    does_plain line end_link x is k a = end_link_plain columns decoration p x all a
     does_plain line (sub width) x is k a = opened_plain decoration p Sub width x all a
     does_plain line (append first other) x is k a = append_plain p x first other all a
     does_plain line (cell width span align) x is k a = opened_plain decoration p (Cell span align) width x all a

@@ -4,10 +4,10 @@ use Rattle.std.proofs.lemmas.Bool.{false≢true}
 use Rattle.tbr_decor.specs.Decoration.{Decoration}
 use Rattle.tbr_script.specs.declared.error.RunError.{RunError}
 use Rattle.tbr_commands.specs.Request.{Request}
-use Rattle.tbr_commands.specs.Command.{Command, ask, sub, append, cell, end_cell, row, vertical_row}
+use Rattle.tbr_commands.specs.Command.{Command, ask, link, end_link, sub, append, cell, end_cell, row, vertical_row}
 use Rattle.tbr_runner.specs.declared.opened.Opener.TheVariants.{Sub}
 use Rattle.tbr_runner.specs.Progress.{Progress}
-use Rattle.tbr_runner.specs.Meaning.{CellsWait, CellRefuses, AppendRefuses, RequestRefuses, RowRefuses, CommandRefuses}
+use Rattle.tbr_runner.specs.Meaning.{CellsWait, CellRefuses, AppendRefuses, RequestRefuses, EndLinkRefuses, RowRefuses, CommandRefuses}
 use Rattle.tbr_runner.proofs.once.Levels.{closes_opener, AllPlain}
 use Rattle.tbr_runner.proofs.once.Rows.{row_fits_or_not}
 
@@ -40,6 +40,12 @@ module _ {D M : Type 0} (columns : ℕ → Option ℕ) (decoration : Decoration 
   request_refused_once p number request d e (inl a) (inr b) = absurd (false≢true (sym b.0 ∙ a.0))
   request_refused_once p number request d e (inr a) (inl b) = absurd (false≢true (sym a.0 ∙ b.0))
 
+  end_link_refused_once : (p : Progress D M (List M)) (number : ℕ) (d e : RunError) → EndLinkRefuses columns decoration p number d → EndLinkRefuses columns decoration p number e → d ≡ e
+  end_link_refused_once p number d e (inl a) (inl b) = a.1 ∙ sym b.1
+  end_link_refused_once p number d e (inl a) (inr b) = absurd (b.0 a.0)
+  end_link_refused_once p number d e (inr a) (inl b) = absurd (a.0 b.0)
+  end_link_refused_once p number d e (inr a) (inr b) = a.2 ∙ sym b.2
+
   -- a row fits or not, where what stands wraps normally
   row_refused_once : (p : Progress D M (List M)) (number : ℕ) (d e : RunError) → AllPlain p → RowRefuses columns p number d → RowRefuses columns p number e → d ≡ e
   row_refused_once p number d e all (inl a) (inl b) = a.1 ∙ sym b.1
@@ -49,6 +55,8 @@ module _ {D M : Type 0} (columns : ℕ → Option ℕ) (decoration : Decoration 
 
   pub refused_once : (p : Progress D M (List M)) (number : ℕ) (command : Command) (d e : RunError) → AllPlain p → CommandRefuses columns decoration p number command d → CommandRefuses columns decoration p number command e → d ≡ e
   refused_once p number (ask request) d e all a b = request_refused_once p number request d e a b
+  refused_once p number (link target) d e all a b = a.1 ∙ sym b.1
+  refused_once p number end_link d e all a b = end_link_refused_once p number d e a b
   refused_once p number (sub width) d e all a b = absurd a
   refused_once p number (append first other) d e all a b = append_refused_once columns p number d e a b
   refused_once p number (cell width span align) d e all a b = absurd a

@@ -8,7 +8,7 @@ use Rattle.tbr_commands.specs.declared.request.beginning.Beginning.{Beginning}
 use Rattle.tbr_commands.specs.declared.request.beginning.Beginning.TheVariants as beginning
 use Rattle.tbr_commands.specs.declared.request.kind.Kind.{Kind}
 use Rattle.tbr_commands.specs.declared.request.kind.Kind.TheVariants as kind
-use Rattle.tbr_commands.specs.Request.{Request, layout, begin, end, text, fragment, link, image, colour, border, laid_out, begun_by, end_of, call_of}
+use Rattle.tbr_commands.specs.Request.{Request, layout, begin, end, text, fragment, image, colour, border, laid_out, begun_by, end_of, call_of}
 use Rattle.tbr_commands.specs.Syntax.{beginning_name, IsRequest}
 use Rattle.tbr_runner.specs.Normal.{IsNormalLine}
 
@@ -35,7 +35,6 @@ lays_normal T EmptyLine = tt
 ends_normal : (T : Type 0) (what : Kind) → PushesNormal (end_of {T = T} what)
 ends_normal T kind.Mode = tt
 ends_normal T kind.Preformat = tt
-ends_normal T kind.Link = tt
 ends_normal T kind.Emphasis = tt
 ends_normal T kind.Strong = tt
 ends_normal T kind.Strikeout = tt
@@ -51,7 +50,6 @@ pushes_normal T width line is (begin what) (inr k) = absurd k
 pushes_normal T width line is (end what) k = ends_normal T what
 pushes_normal T width line is (text t) k = tt
 pushes_normal T width line is (fragment t) k = tt
-pushes_normal T width line is (link t) k = tt
 pushes_normal T width line is (image s t) k = tt
 pushes_normal T width line is (colour g c) k = tt
 pushes_normal T width line is (border None) k = tt

@@ -18,8 +18,9 @@ use Rattle.text_block_renderer.proofs.OneState.{call_or_not}
 use Rattle.text_block_renderer.proofs.RowsOfCells.{settings_stay, rows_stay_normal, rows_once}
 use Rattle.tbr_script.specs.declared.error.RunError.{RunError}
 use Rattle.tbr_stack.specs.Stack.{Stack}
+use Rattle.tbr_stack.specs.Top.{ChangesTop, OfTop}
 use Rattle.tbr_runner.specs.Progress.{Progress}
-use Rattle.tbr_runner.specs.Meaning.{OnTop, TopIs, renderers_of, with_blank, MayLook, MayFit, RowDoes, RowRefuses}
+use Rattle.tbr_runner.specs.Meaning.{renderers_of, with_blank, MayLook, MayFit, RowDoes, RowRefuses}
 use Rattle.tbr_runner.proofs.once.Tops.{on_top_once, on_top_or_not, on_top_in, top_is_both}
 use Rattle.tbr_runner.proofs.once.Plain.{IsPlain}
 use Rattle.tbr_runner.proofs.once.Handed.{handed_once, handed_or_held}
@@ -70,7 +71,7 @@ module _ {D M : Type 0} (columns : ℕ → Option ℕ) where
       let same = looks_once cells a.0 b.0 all a.1 b.1 in
       false≢true (sym b.2 ∙ ap (λ seen. row_fits r.hanging (spots_from 0 seen)) (sym same) ∙ a.2)
 
-  pub row_fits_or_not : (p : Progress D M (List M)) → AllPlain p → TopIs (MayFit columns p.pending.cells true) p.stack → TopIs (MayFit columns p.pending.cells false) p.stack → ⊥
+  pub row_fits_or_not : (p : Progress D M (List M)) → AllPlain p → OfTop (MayFit columns p.pending.cells true) p.stack → OfTop (MayFit columns p.pending.cells false) p.stack → ⊥
   row_fits_or_not p all a b =
       let both = top_is_both (MayFit columns p.pending.cells true) (MayFit columns p.pending.cells false) p.stack a b in
       fits_or_not p.pending.cells both.0 all.pending both.2.0 both.2.1
@@ -117,12 +118,12 @@ module _ {D M : Type 0} (columns : ℕ → Option ℕ) (decoration : Decoration 
     pub row_once : (y : Progress D M (List M)) → RowDoes columns decoration p collapse y → x ≡ y
     row_once y b =
         let cells = come_once p.pending.cells a.cells b.cells all.pending a.come b.come (a.aligned ∙ sym b.aligned) in
-        let does = subst (λ (cs : List (GivenCell (List M))). OnTop (AppendsRow columns collapse cs) p.stack y.stack) (sym cells) b.does in
+        let does = subst (λ (cs : List (GivenCell (List M))). ChangesTop (AppendsRow columns collapse cs) p.stack y.stack) (sym cells) b.does in
         one_progress x y
         (on_top_once (AppendsRow columns collapse a.cells) p.stack x.stack y.stack (λ r s t is. rows_once columns collapse a.cells r s t (top_wraps p r all is)) a.does does)
         (a.pending ∙ sym b.pending) (a.opened ∙ sym b.opened)
 
-    row_too_narrow : TopIs (FlushIsTooNarrow columns) p.stack ⊎ FirstToRefuse (HandsOut columns) (HoldsBack columns) (renderers_of p.pending.cells) → ⊥
+    row_too_narrow : OfTop (FlushIsTooNarrow columns) p.stack ⊎ FirstToRefuse (HandsOut columns) (HoldsBack columns) (renderers_of p.pending.cells) → ⊥
     row_too_narrow (inl b) =
         on_top_or_not (AppendsRow columns collapse a.cells) (FlushIsTooNarrow columns) p.stack x.stack (λ r s is does. call_or_not columns decoration new_line r does.0 (top_wraps p r all is) does.1) a.does b
     row_too_narrow (inr b) = come_or_not p.pending.cells a.cells all.pending a.come b

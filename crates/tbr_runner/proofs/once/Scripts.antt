@@ -5,6 +5,7 @@ use Rattle.tbr_decor.specs.Decoration.{Decoration}
 use Rattle.text_block_renderer.specs.Renderer.{Renderer}
 use Rattle.text_block_renderer.specs.Text.{lines_text}
 use Rattle.text_block_renderer.specs.Calls.{new_line}
+use Rattle.text_block_renderer.specs.Normal.{WrapsNormally}
 use Rattle.text_block_renderer.proofs.OneState.{call_once, call_or_not}
 use Rattle.tbr_script.specs.declared.error.RunError.{RunError}
 use Rattle.tbr_commands.specs.declared.opening.Decorator.{Decorator}
@@ -13,6 +14,7 @@ use Rattle.tbr_commands.specs.declared.opening.Opening.{Opening}
 use Rattle.tbr_commands.proofs.OneCommand.{command_once}
 use Rattle.tbr_commands.proofs.OneOpening.{opening_once}
 use Rattle.tbr_runner.specs.Decorations.{plain_decoration, trivial_decoration, rich_decoration}
+use Rattle.tbr_runner.specs.Closing.{with_notes, footnotes_of, finalised, ClosesAs, ClosingIsTooNarrow}
 use Rattle.tbr_runner.specs.Progress.{Progress}
 use Rattle.tbr_runner.specs.Normal.{IsNormalLine}
 use Rattle.tbr_runner.specs.Meaning.{CommandDoes, CommandRefuses, LineDoes, LineRefuses, Ends, LinesGive, started, OpensUnder, Begins}
@@ -20,6 +22,9 @@ use Rattle.tbr_runner.proofs.once.Tops.{top_is_both}
 use Rattle.tbr_runner.proofs.once.Levels.{AllPlain, top_wraps}
 use Rattle.tbr_runner.proofs.once.Refusals.{refused_once}
 use Rattle.tbr_runner.proofs.once.Commands.{does_once, does_or_not, does_plain}
+
+finalised_wraps : {D M : Type 0} (columns : ℕ → Option ℕ) (decoration : Decoration D M) (targets : List (List ℕ)) (r : Renderer D M (List M)) → WrapsNormally r → WrapsNormally (finalised columns decoration targets r)
+finalised_wraps columns decoration targets r normal = record { narrow = normal.narrow; modes = normal.modes; run = normal.run }
 
 module _ {D M : Type 0} (columns : ℕ → Option ℕ) (decoration : Decoration D M) where
   -- ---- lines
@@ -53,17 +58,20 @@ module _ {D M : Type 0} (columns : ℕ → Option ℕ) (decoration : Decoration 
   text_or_levels p none empty (inl k) = k none
   text_or_levels p none empty (inr k) = k empty
 
-  ends_or_not : (p : Progress D M (List M)) (number : ℕ) (s : List ℕ) (e : RunError) → AllPlain p → Ends columns p number (Ok s) → Ends columns p number (Err e) → ⊥
+  ends_or_not : (p : Progress D M (List M)) (number : ℕ) (s : List ℕ) (e : RunError) → AllPlain p → Ends columns decoration p number (Ok s) → Ends columns decoration p number (Err e) → ⊥
   ends_or_not p number s e all a (inl b) = text_or_levels p a.0 a.1 b.0
   ends_or_not p number s e all a (inr b) =
-      let both = top_is_both _ _ p.stack a.2 b.2 in
-      call_or_not columns decoration new_line both.0 both.2.0.0 (top_wraps p both.0 all both.1) both.2.0.1 both.2.1
+      let targets = (let t = p.stack in t.links) in
+      let both = top_is_both (λ r. ClosesAs columns decoration targets r s) (ClosingIsTooNarrow columns decoration targets) p.stack a.2 b.2 in
+      call_or_not columns decoration new_line (finalised columns decoration targets both.0) both.2.0.0 (finalised_wraps columns decoration targets both.0 (top_wraps p both.0 all both.1)) both.2.0.1 both.2.1
 
-  ends_once : (p : Progress D M (List M)) (number : ℕ) (x y : Result (List ℕ) RunError) → AllPlain p → Ends columns p number x → Ends columns p number y → x ≡ y
+  ends_once : (p : Progress D M (List M)) (number : ℕ) (x y : Result (List ℕ) RunError) → AllPlain p → Ends columns decoration p number x → Ends columns decoration p number y → x ≡ y
   ends_once p number (Ok s) (Ok t) all a b =
-      let both = top_is_both _ _ p.stack a.2 b.2 in
-      let one = call_once columns decoration new_line both.0 both.2.1.0 both.2.0.0 (top_wraps p both.0 all both.1) both.2.1.1 both.2.0.1 in
-      ap Ok (both.2.0.2 ∙ ap (λ (r : Renderer D M (List M)). encode_utf8_all (lines_text r.lines)) one ∙ sym both.2.1.2)
+      let targets = (let u = p.stack in u.links) in
+      let both = top_is_both (λ r. ClosesAs columns decoration targets r s) (λ r. ClosesAs columns decoration targets r t) p.stack a.2 b.2 in
+      let r = both.0 in
+      let one = call_once columns decoration new_line (finalised columns decoration targets r) both.2.1.0 both.2.0.0 (finalised_wraps columns decoration targets r (top_wraps p r all both.1)) both.2.1.1 both.2.0.1 in
+      ap Ok (both.2.0.2 ∙ ap (λ (q : Renderer D M (List M)). encode_utf8_all (lines_text (let n = with_notes columns (footnotes_of columns decoration targets r) q in n.lines))) one ∙ sym both.2.1.2)
   ends_once p number (Ok s) (Err e) all a b = absurd (ends_or_not p number s e all a b)
   ends_once p number (Err d) (Ok t) all a b = absurd (ends_or_not p number t d all b a)
   ends_once p number (Err d) (Err e) all (inl a) (inl b) = ap Err (a.1 ∙ sym b.1)

@@ -1,7 +1,7 @@
 use Rattle.std.proofs.Common.{◌++◌, ◌∷◌, ap, sym, subst, ◌∙◌}
 use Rattle.tbr_commands.specs.Request.{request_of}
 use Rattle.tbr_commands.specs.Syntax.{HasArgument}
-use Rattle.tbr_commands.proofs.Commands.{no_argument, behind_it, text_word, marker_word, link_word, image_word, colour_word, ground_word, border_word}
+use Rattle.tbr_commands.proofs.Commands.{no_argument, behind_it, text_word, marker_word, image_word, colour_word, ground_word, border_word}
 use Rattle.std.proofs.lemmas.Option.{IfSome_then}
 use Rattle.tbr_script.proofs.Optional.{if_none_weaker, if_none_mapped, if_some_mapped}
 use Rattle.tbr_commands.proofs.request.with_argument.Goals as goal
@@ -17,12 +17,6 @@ returns-in_ok-unescape-in-frag-clause-none c =
     if_none_mapped c.in_ok-unescape-in-frag.field-0 c.map-in-frag.result c.map-in-frag.ensures.variant
     (λ n. no_argument c.args.line.now c.in-Some.word c.in-Some.argument c.in-Some.ensures.cases marker_word c.in-frag.is (λ t. n t.0 t.1))
     c.in_ok-unescape-in-frag.ensures.none
-
-pub returns-in_ok-unescape-in-link-clause-none : goal.returns-in_ok-unescape-in-link-clause-none
-returns-in_ok-unescape-in-link-clause-none c =
-    if_none_mapped c.in_ok-unescape-in-link.field-0 c.map-in-link.result c.map-in-link.ensures.variant
-    (λ n. no_argument c.args.line.now c.in-Some.word c.in-Some.argument c.in-Some.ensures.cases link_word c.in-link.is (λ t. n t.0 t.1))
-    c.in_ok-unescape-in-link.ensures.none
 
 pub returns-in_ok-parse-in-image-clause-none : goal.returns-in_ok-parse-in-image-clause-none
 returns-in_ok-parse-in-image-clause-none c =

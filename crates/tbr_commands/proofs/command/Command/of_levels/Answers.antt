@@ -2,8 +2,14 @@ use Rattle.std.proofs.Common.{◌++◌, ◌∷◌, ap, sym, subst, ◌∙◌}
 use Rattle.tbr_script.proofs.Optional.{if_none_mapped, if_some_mapped}
 use Rattle.tbr_commands.specs.Command.{command_of}
 use Rattle.tbr_commands.specs.Syntax.{IsOfLevels}
-use Rattle.tbr_commands.proofs.Commands.{no_level_argument, behind_it, append_word, cell_word}
+use Rattle.tbr_commands.proofs.Commands.{no_level_argument, behind_it, link_word, append_word, cell_word}
 use Rattle.tbr_commands.proofs.command.Command.of_levels.Goals as goal
+
+pub returns-in_ok-unescape-in-link-clause-none : goal.returns-in_ok-unescape-in-link-clause-none
+returns-in_ok-unescape-in-link-clause-none c =
+    if_none_mapped c.in_ok-unescape-in-link.field-0 c.map.result c.map.ensures.variant
+    (λ n. no_level_argument c.args.line.now c.in-Some-split_once.word c.in-Some-split_once.argument c.in-Some-split_once.ensures.cases c.in_default.ensures.none link_word c.in-link.is (λ t. n t.0 t.1))
+    c.in_ok-unescape-in-link.ensures.none
 
 pub returns-in_ok-parse-in-append-clause-none : goal.returns-in_ok-parse-in-append-clause-none
 returns-in_ok-parse-in-append-clause-none c =

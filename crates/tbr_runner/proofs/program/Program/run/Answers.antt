@@ -1,3 +1,4 @@
+use Rattle.std.proofs.Common.{sym}
 use Rattle.tbr_runner.proofs.Results.{if_err_then}
 use Rattle.tbr_runner.proofs.program.Program.run.Goals as goal
 
@@ -40,3 +41,12 @@ returns-in-VerticalRow-clause-done g c = rw c.in-VerticalRow.is c.add_vertical_r
 
 pub returns-in-VerticalRow-clause-refused : goal.returns-in-VerticalRow-clause-refused
 returns-in-VerticalRow-clause-refused g c = rw c.in-VerticalRow.is c.add_vertical_row.ensures.refused
+
+pub returns-in-Link-clause-refused : goal.returns-in-Link-clause-refused
+returns-in-Link-clause-refused g c = rw c.in-Link.is (rw (sym c.as_str.ensures.value) c.start_link.ensures.refused)
+
+pub returns-in-EndLink-clause-done : goal.returns-in-EndLink-clause-done
+returns-in-EndLink-clause-done g c = rw c.in-EndLink.is c.end_link.ensures.done
+
+pub returns-in-EndLink-clause-refused : goal.returns-in-EndLink-clause-refused
+returns-in-EndLink-clause-refused g c = rw c.in-EndLink.is c.end_link.ensures.refused

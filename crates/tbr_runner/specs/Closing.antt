@@ -1,0 +1,35 @@
+-- What stands at the end of a script.
+use Rattle.std.specs.Prelude.{◌≡◌, ℕ, Option, List, [], ◌∷◌, encode_utf8_all}
+use Rattle.tbr_lines.specs.Elements.{Element}
+use Rattle.tbr_decor.specs.Change as change
+use Rattle.tbr_decor.specs.Decoration.{Decoration}
+use Rattle.tbr_renderer.specs.Footnotes.{listed, with_footnotes}
+use Rattle.text_block_renderer.specs.Renderer.{Renderer}
+use Rattle.text_block_renderer.specs.Steps.{block_started}
+use Rattle.text_block_renderer.specs.Text.{lines_text}
+use Rattle.text_block_renderer.specs.Flush.{Flushes, FlushIsTooNarrow}
+
+-- footnotes come behind the lines as a block of their own, if there are any
+abbrev pub with_notes :
+    {D M : Type 0} → (ℕ → Option ℕ) → List (List (Element M)) → Renderer D M (List M) → Renderer D M (List M)
+with_notes columns [] r = r
+with_notes columns (note ∷ notes) r = with_footnotes columns (block_started columns r) (note ∷ notes)
+
+module _ {D M : Type 0} (columns : ℕ → Option ℕ) (decoration : Decoration D M) (targets : List (List ℕ)) where
+  -- the footnotes of links to these targets
+  abbrev pub footnotes_of : Renderer D M (List M) → List (List (Element M))
+  footnotes_of r = decoration.footnotes r.decorator (listed r.options targets)
+
+  -- the renderer whose decorator was asked for them
+  abbrev pub finalised : Renderer D M (List M) → Renderer D M (List M)
+  finalised r =
+      record r { decorator = decoration.after r.decorator (change.finalise (listed r.options targets)) }
+
+  -- The text of the lines behind a flush, and of the footnotes behind them.
+  abbrev pub ClosesAs : Renderer D M (List M) → List ℕ → Type 0
+  ClosesAs r bytes =
+      (s : Renderer D M (List M)) × Flushes columns (finalised r) s
+      × (bytes ≡ encode_utf8_all (lines_text (let t = with_notes columns (footnotes_of r) s in t.lines)))
+
+  abbrev pub ClosingIsTooNarrow : Renderer D M (List M) → Type 0
+  ClosingIsTooNarrow r = FlushIsTooNarrow columns (finalised r)
