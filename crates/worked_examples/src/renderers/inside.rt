@@ -115,9 +115,9 @@ pub fn append_columns<D: TextDecorator, W: CharWidth>(
     collapse: bool,
 ) -> Result<(), Error> {
     let mut cols = Vec::new(alloc);
-    for Cell(span, block) in cells {
-        let span = *span;
-        cols.push((inside(alloc, r, *block)?, span.max(1)))?;
+    for cell in cells {
+        let Cell(span, block) = *cell;
+        cols.push((inside(alloc, r, block)?, span.max(1)))?;
     }
     if !r.row_fits(&cols) {
         return Ok(());

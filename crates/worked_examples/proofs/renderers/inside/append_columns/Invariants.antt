@@ -2,5 +2,5 @@ use Rattle.std.proofs.Common.{◌<◌}
 use Rattle.std.specs.List.{AllByRecursion as Each}
 use Rattle.worked_examples.proofs.renderers.inside.append_columns.Given as goal
 
-abbrev pub invariant-loop-for : goal.invariant-loop-for
-invariant-loop-for l = Each (λ col. 0 < col.1) l.cols.items
+abbrev pub invariant-loop-cell : goal.invariant-loop-cell
+invariant-loop-cell l = Each (λ col. 0 < col.1) l.cols.items
