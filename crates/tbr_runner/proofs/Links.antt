@@ -1,13 +1,11 @@
 -- Links that begin and end on the stack of a program.
 use Rattle.std.proofs.Common.{◌≡◌, ◌≢◌, ◌+◌, ℕ, Option, None, Some, List, [], ◌∷◌, map, length, chars, refl, sym, ap, ◌∙◌, subst, inl, inr, arith}
 use Rattle.std.specs.Global.{Vec}
-use Rattle.std.specs.List.{AllZip}
 use Rattle.tbr_decor.specs.Start as start
 use Rattle.tbr_decor.specs.End as end_text
 use Rattle.tbr_decor.specs.Decoration.{Decoration}
 use Rattle.text_block_renderer.specs.Renderer.{Renderer}
-use Rattle.text_block_renderer.specs.Meant.{meant}
-use Rattle.text_block_renderer.specs.Calls.{begin, finish, add_inline_text, Does, IsTooNarrow}
+use Rattle.text_block_renderer.specs.Calls.{begin, finish, add_inline_text, IsTooNarrow}
 use Rattle.tbr_script.specs.declared.error.RunError.TheVariants.{TooNarrow, NothingToEnd}
 use Rattle.tbr_stack.specs.Stack.{Stack, Level, in_first}
 use Rattle.tbr_stack.specs.Top.{OfTop, failure_of, failure_of_first, level_meant, stack_meant}
@@ -15,7 +13,7 @@ use Rattle.tbr_stack.specs.Links.{opened, closed, with_link, open_in_first, open
 use Rattle.tbr_commands.specs.declared.begun.Begun.{Begun}
 use Rattle.tbr_runner.specs.Progress.{Pending, Opened, Progress, IsLive, AreLive, begun_on_each, progress_meant}
 use Rattle.tbr_runner.specs.Meaning.{LinkDoes, LinkRefuses, EndLinkDoes, EndLinkRefuses}
-use Rattle.tbr_runner.proofs.Levels.{Zipped, first_live, with_first, with_first_live}
+use Rattle.tbr_runner.proofs.Levels.{Zipped, first_live, with_first_live}
 use Rattle.tbr_runner.proofs.Live.{uncounted_live}
 
 -- ---- what goes on

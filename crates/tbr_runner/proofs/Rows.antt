@@ -3,7 +3,7 @@ use Rattle.std.proofs.Common.{◌≡◌, ◌⊎◌, ◌↔◌, ℕ, Bool, true, 
 use Rattle.std.specs.Global.{Vec}
 use Rattle.std.specs.Option.{option_map}
 use Rattle.std.specs.List.{AllZip, AllByRecursion as Each}
-use Rattle.tbr_model.specs.Run.{Entry, has_character, kept_items}
+use Rattle.tbr_model.specs.Run.{has_character, kept_items}
 use Rattle.tbr_model.specs.Mapped.{map_run}
 use Rattle.tbr_model.proofs.maps.Words.{has_character-map}
 use Rattle.tbr_lines.specs.declared.CellAlign.{CellAlign}
@@ -13,7 +13,7 @@ use Rattle.tbr_rows.specs.Cells.{row_fits}
 use Rattle.tbr_rows.proofs.MeantRows.{fits_mean}
 use Rattle.tbr_renderer.proofs.Fits.{normal_unmap}
 use Rattle.tbr_decor.specs.Decoration.{Decoration}
-use Rattle.text_block_renderer.specs.Renderer.{Renderer, Line, Open, may_overflow}
+use Rattle.text_block_renderer.specs.Renderer.{Renderer, Open, may_overflow}
 use Rattle.text_block_renderer.specs.Meant.{tag_meant, map_line, map_open, meant}
 use Rattle.text_block_renderer.specs.Flush.{FlushIsTooNarrow}
 use Rattle.text_block_renderer.specs.Appended.{HandsOut, HoldsBack, FirstToRefuse}

@@ -17,12 +17,12 @@ use Rattle.tbr_commands.specs.Syntax.{IsWritten}
 use Rattle.tbr_runner.specs.declared.opened.Opener.TheVariants.{Sub, Cell}
 use Rattle.tbr_runner.specs.Normal.{IsNormalLine}
 use Rattle.tbr_runner.specs.Prefixes.{prefixes}
-use Rattle.tbr_runner.specs.Progress.{Progress, Pending, Opened}
+use Rattle.tbr_runner.specs.Progress.{Progress}
 use Rattle.tbr_runner.specs.Meaning.{CellDoes, CellRefuses, RequestDoes, AppendDoes, VerticalRowDoes, CommandDoes, AppendRefuses, VerticalRowRefuses, RequestRefuses, CommandRefuses}
 use Rattle.tbr_runner.proofs.once.Tops.{EachIn, on_top_once, on_top_or_not, on_top_in}
 use Rattle.tbr_runner.proofs.once.Plain.{IsPlain, call_plain}
 use Rattle.tbr_runner.proofs.once.Handed.{handed_once, handed_or_held, all_handed_once, all_handed_or_not}
-use Rattle.tbr_runner.proofs.once.Levels.{one_progress, closes_once, closes_opener, cell_once, AllPlain, PlainCells, PlainBelow, waiting_wrap, top_wraps, closed_plain, still_plain, cell_plain, opens_once, opened_plain}
+use Rattle.tbr_runner.proofs.once.Levels.{one_progress, closes_once, closes_opener, cell_once, AllPlain, waiting_wrap, top_wraps, closed_plain, still_plain, cell_plain, opens_once, opened_plain}
 use Rattle.tbr_runner.proofs.once.Refusals.{not_waiting}
 use Rattle.tbr_runner.proofs.once.Rows.{row_once, row_or_not, row_plain}
 use Rattle.tbr_runner.proofs.once.Links.{link_once, link_or_not, link_plain, end_link_once, end_link_or_not, end_link_plain}

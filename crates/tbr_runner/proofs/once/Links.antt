@@ -1,5 +1,5 @@
 -- Links, where all that stands wraps normally.
-use Rattle.std.proofs.Common.{◌≡◌, ◌+◌, ℕ, Option, None, Some, List, [], ◌∷◌, length, chars, refl, sym, ap, ◌∙◌, subst, inl, inr}
+use Rattle.std.proofs.Common.{◌≡◌, ◌+◌, ℕ, Option, None, Some, List, [], ◌∷◌, length, chars, sym, ap, ◌∙◌, subst, inl, inr}
 use Rattle.tbr_decor.specs.Start as start
 use Rattle.tbr_decor.specs.End as end_text
 use Rattle.tbr_decor.specs.Decoration.{Decoration}
@@ -8,7 +8,7 @@ use Rattle.text_block_renderer.specs.Calls.{Call, begin, finish, add_inline_text
 use Rattle.text_block_renderer.specs.Normal.{WrapsNormally}
 use Rattle.text_block_renderer.proofs.OneState.{call_once, call_or_not, call_normal}
 use Rattle.tbr_stack.specs.Stack.{Stack, Level, top_of, in_first}
-use Rattle.tbr_stack.specs.Links.{opened, closed, with_link, without_open_link, open_links, shown_number, link_number, StartsLink, EndsWith, EndIsTooNarrowWith}
+use Rattle.tbr_stack.specs.Links.{opened, closed, with_link, without_open_link, open_links, shown_number, link_number, EndsWith, EndIsTooNarrowWith}
 use Rattle.tbr_stack.proofs.Tops.{top_linked}
 use Rattle.tbr_script.specs.declared.error.RunError.{RunError}
 use Rattle.tbr_runner.specs.Progress.{Progress}

@@ -3,12 +3,11 @@ use Rattle.std.proofs.Common.{◌≡◌, ◌⊎◌, ℕ, Bool, true, false, ◌&
 use Rattle.std.proofs.lemmas.Bool.{false≢true}
 use Rattle.std.specs.Option.{option_map}
 use Rattle.std.specs.List.{AllZip, AllByRecursion as Each}
-use Rattle.tbr_lines.specs.declared.CellAlign.{CellAlign}
 use Rattle.tbr_lines.specs.declared.Error.{Error}
 use Rattle.tbr_lines.specs.State.{IsNormal, is_some_list}
 use Rattle.tbr_rows.specs.Cells.{spots_from, row_fits}
 use Rattle.tbr_decor.specs.Decoration.{Decoration}
-use Rattle.text_block_renderer.specs.Renderer.{Renderer, Line, Open, Settings, settings_of, open_run}
+use Rattle.text_block_renderer.specs.Renderer.{Renderer, Open, Settings, open_run}
 use Rattle.text_block_renderer.specs.Flush.{FlushIsTooNarrow}
 use Rattle.text_block_renderer.specs.Appended.{HandsOut, HoldsBack, FirstToRefuse}
 use Rattle.text_block_renderer.specs.Calls.{new_line}
@@ -17,7 +16,6 @@ use Rattle.text_block_renderer.specs.Normal.{WrapsNormally}
 use Rattle.text_block_renderer.proofs.OneState.{call_or_not}
 use Rattle.text_block_renderer.proofs.RowsOfCells.{settings_stay, rows_stay_normal, rows_once}
 use Rattle.tbr_script.specs.declared.error.RunError.{RunError}
-use Rattle.tbr_stack.specs.Stack.{Stack}
 use Rattle.tbr_stack.specs.Top.{ChangesTop, OfTop}
 use Rattle.tbr_runner.specs.Progress.{Progress}
 use Rattle.tbr_runner.specs.Meaning.{renderers_of, with_blank, MayLook, MayFit, RowDoes, RowRefuses}
