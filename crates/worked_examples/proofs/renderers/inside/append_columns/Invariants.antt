@@ -3,4 +3,4 @@ use Rattle.std.specs.List.{AllByRecursion as Each}
 use Rattle.worked_examples.proofs.renderers.inside.append_columns.Given as goal
 
 abbrev pub invariant-loop-cell : goal.invariant-loop-cell
-invariant-loop-cell l = Each (λ col. 0 < col.1) l.cols.items
+invariant-loop-cell g l = Each (λ col. 0 < col.1) l.cols.items
