@@ -16,8 +16,7 @@ pub enum Edit<'a> {
     Align(usize, CellAlign, Voice),
 }
 
-/// Makes an edit.
-pub fn apply<W: CharWidth>(
+fn apply<W: CharWidth>(
     line: &mut TaggedLine<Voice>,
     alloc: Global,
     edit: Edit<'_>,

@@ -50,8 +50,7 @@ fn put_marker<W: CharWidth>(
     put::<W>(line, pos, marker)
 }
 
-/// Makes a call.
-pub fn apply<W: CharWidth>(
+fn apply<W: CharWidth>(
     line: &mut BorderHoriz<Voice>,
     alloc: Global,
     join: Join<'_>,

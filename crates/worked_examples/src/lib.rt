@@ -19,8 +19,6 @@ mod layouts;
 #[cfg(test)]
 mod markers;
 #[cfg(test)]
-mod memory;
-#[cfg(test)]
 mod preserved;
 #[cfg(test)]
 mod renderers;

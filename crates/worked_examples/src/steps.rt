@@ -43,7 +43,7 @@ pub fn overflowing(alloc: Global) -> WrappedBlock<Voice> {
 }
 
 /// Takes one step, and appends what it tells.
-pub fn take_step<W: CharWidth + Drop>(
+fn take_step<W: CharWidth + Drop>(
     block: &mut WrappedBlock<Voice, W>,
     alloc: Global,
     step: Step<'_>,

@@ -1,5 +1,5 @@
 //! Renderers that are called call by call, and the lines that they have then.
-use super::inside::{Block, Cell, append_block, append_columns, append_row};
+use super::inside::{Block, append_block, append_row};
 use crate::texts::{append_marked_line, append_pieces};
 use std::alloc::Global;
 use std::collections::LinkedList;
@@ -68,8 +68,6 @@ pub enum Call<'a> {
     Append(Block<'a>, &'a str),
     /// Renderers inside, one below another.
     VertRow(&'a [Block<'a>]),
-    /// Cells, side by side; whether borders of neighbours are merged.
-    Row(&'a [Cell<'a>], bool),
     Ends(End),
 }
 
@@ -145,9 +143,8 @@ pub fn make<D: TextDecorator, W: CharWidth>(
         Call::Background(colour) => r.push_bgcolour(colour),
         Call::Border => r.add_horizontal_border(),
         Call::BorderWidth(width) => r.add_horizontal_border_width(width),
-        Call::Append(block, prefixes) => append_block(alloc, r, block, prefixes),
+        Call::Append(block, prefixes) => append_block(r, block, prefixes),
         Call::VertRow(blocks) => append_row(alloc, r, blocks),
-        Call::Row(cells, collapse) => append_columns(alloc, r, cells, collapse),
         Call::Ends(what) => {
             make_end(r, what);
             Ok(())

@@ -127,10 +127,7 @@ const EXAMPLES: &[Example] = &[
             Closes(Closing::Link),
             Text("c"),
         ],
-        expected: &[
-            Pieces(Under::Odd, "a:[]  b:[Link(\"t\")] c:[] \n"),
-            Pieces(Under::OddOneColumnEach, "a:[]  b:[Link(\"t\")] c:[] \n"),
-        ],
+        expected: &[Pieces(Under::Odd, "a:[]  b:[Link(\"t\")] c:[] \n")],
     },
 ];
 

@@ -40,8 +40,6 @@ pub enum Under {
     Odd,
     /// The plain decorator, where every character takes one column.
     OneColumnEach,
-    /// The odd one, where every character takes one column.
-    OddOneColumnEach,
 }
 
 const EACH: [Under; 4] = [Under::Plain, Under::Trivial, Under::Rich, Under::Marked];
@@ -131,9 +129,6 @@ fn shown_under(alloc: Global, example: Example, shown: Shown, under: Under) -> R
         Under::Odd => shown_by::<_, UnicodeColumns>(alloc, example, shown, OddDecorator::new()),
         Under::OneColumnEach => {
             shown_by::<_, EveryOne>(alloc, example, shown, PlainDecorator::new())
-        }
-        Under::OddOneColumnEach => {
-            shown_by::<_, EveryOne>(alloc, example, shown, OddDecorator::new())
         }
     }
 }

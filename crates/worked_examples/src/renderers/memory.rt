@@ -1,20 +1,20 @@
-//! Calls on a renderer, where memory may be refused: `tools/refused --test` refuses each request of these tests in turn.
+//! Every call on a renderer, where memory may be refused: under `rt try --test --fail-alloc N` the Nth request is.
 use super::calls::Call::{
-    Append, Background, Border, BorderWidth, Closes, Colour, EmptyLine, Ends, HardLine, Image,
-    Line, Marker, Mode, Opens, Preformat, Row, StartBlock, StartTable, Text, VertRow,
+    Append, Background, Border, Closes, Colour, EmptyLine, Ends, HardLine, Image, Line, Marker,
+    Mode, Opens, Preformat, StartBlock, StartTable, Text, VertRow,
 };
 use super::calls::{Call, Closing, End, Opening, Shown, handed_out, make_all};
 use super::colours::RED;
-use super::expected::{Told, Under, options};
-use super::inside::{Block, Cell, Inner};
+use super::expected::{Told, options};
+use super::inside::{Block, Inner};
 use super::prefixes::prefixes_under;
 use super::refusals::keeps;
 use crate::texts::shows;
 use std::alloc::Global;
 use std::process::Abort;
-use tbr_decor::{PlainDecorator, RichDecorator, TextDecorator, TrivialDecorator};
+use tbr_decor::{RichDecorator, TextDecorator};
 use tbr_lines::{Error, WhiteSpace};
-use text_block_renderer::{ImageRenderMode, RenderOptions, Renderer, SubRenderer};
+use text_block_renderer::{RenderOptions, Renderer, SubRenderer};
 
 const CALLS: &[Call<'static>] = &[
     Text("ab cd ef gh"),
@@ -110,17 +110,17 @@ fn renderer<D: TextDecorator>(alloc: Global, told: Told, decorator: D) -> SubRen
 fn shown_or_refused<D: TextDecorator>(
     rt: &impl Abort,
     alloc: Global,
-    mut r: SubRenderer<D>,
+    told: Told,
+    decorator: D,
     calls: &[Call<'_>],
 ) -> Result<String, Error> {
+    let mut r = renderer(alloc, told, decorator);
     if let Err(refusal) = make_all(alloc, &mut r, calls) {
         // What is made for a call may be refused too, and that isn't kept.
         if r.failure().is_none() {
             return Err(refusal);
         }
         keeps(rt, alloc, &mut r, refusal);
-        assert!(rt; handed_out(alloc, Shown::Text, r, &[]).err() == Some(refusal));
-        return Err(refusal);
     }
     handed_out(alloc, Shown::Markers, r, &[])
 }
@@ -137,8 +137,7 @@ fn shows_or_refuses(rt: &impl Abort, text: Result<String, Error>, expected: &str
 fn every_call_leaves_its_lines_or_refuses_for_good(rt: HostRuntime) {
     let alloc = rt.alloc();
     for (told, calls, lines) in EXAMPLES {
-        let r = renderer(alloc, *told, RichDecorator::new());
-        let shown = shown_or_refused(&rt, alloc, r, calls);
+        let shown = shown_or_refused(&rt, alloc, *told, RichDecorator::new(), calls);
         shows_or_refuses(&rt, shown, lines);
     }
 }
@@ -161,143 +160,4 @@ fn prefixes_and_sub_renderers_may_be_refused_and_that_is_not_kept(rt: HostRuntim
     shows_or_refuses(&rt, shown, "## |> |* |-1. ");
     let inside = shown_inside(alloc, RichDecorator::new(), &[Opens(Opening::Link("t"))]);
     shows_or_refuses(&rt, inside, "");
-}
-
-/// Calls on a new renderer under a decorator, and the lines that they leave.
-#[derive(Clone, Copy)]
-struct Worked {
-    under: Under,
-    told: Told,
-    width: usize,
-    calls: &'static [Call<'static>],
-    lines: &'static str,
-}
-
-const WORDS: Worked = Worked {
-    under: Under::Plain,
-    told: Told::Nothing,
-    width: 8,
-    calls: &[Text("Hello, world.  Superlongwordreally")],
-    lines: "Hello,\nworld.\nSuperlon\ngwordrea\nlly\n",
-};
-
-const WORKED: &[Worked] = &[
-    WORDS,
-    Worked {
-        under: Under::Trivial,
-        width: 3,
-        calls: &[
-            Opens(Opening::Strikeout),
-            Text("a b"),
-            Closes(Closing::Strikeout),
-        ],
-        lines: "a\u{336} \u{336}b\u{336}\n",
-        ..WORDS
-    },
-    Worked {
-        under: Under::Trivial,
-        width: 1,
-        calls: &[
-            Opens(Opening::Strikeout),
-            Text("a "),
-            Closes(Closing::Strikeout),
-        ],
-        lines: "a\u{336}\n\u{336}\n",
-        ..WORDS
-    },
-    Worked {
-        width: 12,
-        calls: &[BorderWidth(5), FIRST_ROW, SECOND_ROW],
-        lines: "─┬───\nA│one\nB├───\nC│two\n─┴───\n",
-        ..WORDS
-    },
-    Worked {
-        told: Told::NoBorders,
-        width: 12,
-        calls: &[FIRST_ROW, SECOND_ROW],
-        lines: "A one\nB two\nC    \n",
-        ..WORDS
-    },
-    Worked {
-        width: 3,
-        calls: &[Text("ab "), Marker("x"), Text("cde")],
-        lines: "ab\n<x>cde\n",
-        ..WORDS
-    },
-    Worked {
-        width: 3,
-        calls: &[Text("abc"), Marker("x"), Text("def")],
-        lines: "abc<x>\ndef\n",
-        ..WORDS
-    },
-    Worked {
-        width: 4,
-        calls: &[VertRow(&[Block(4, &[Inner::Text("a")]), Block(4, &[Inner::Text("b")])])],
-        lines: "a\n////\nb\n────\n",
-        ..WORDS
-    },
-    Worked {
-        width: 5,
-        calls: &[
-            Border,
-            Row(&[NESTED, Cell(1, Block(1, &[Inner::Text("xy")]))], true),
-        ],
-        lines: "─┬─┬─\n1│2│x\n │ │y\n─┴─┴─\n",
-        ..WORDS
-    },
-    Worked {
-        told: Told::Images(ImageRenderMode::Filename),
-        width: 80,
-        calls: &[
-            Text("Hello x"),
-            Image("http://www.example.com/path/foo.jpg", ""),
-            Text("y"),
-        ],
-        lines: "Hello x[foo.jpg]y\n",
-        ..WORDS
-    },
-];
-
-/// A cell of two rows, and one of three columns beside it.
-const FIRST_ROW: Call<'static> = Row(
-    &[
-        Cell(2, Block(1, &[Inner::Text("ABC")])),
-        Cell(1, Block(3, &[Inner::Text("one")])),
-    ],
-    false,
-);
-
-const SECOND_ROW: Call<'static> = Row(
-    &[
-        Cell(1, Block(1, &[])),
-        Cell(1, Block(3, &[Inner::Text("two")])),
-    ],
-    false,
-);
-
-/// A cell with a border and a row.
-const NESTED: Cell<'static> = Cell(1, Block(3, &[Inner::Border, Inner::Row("1", "2")]));
-
-/// The lines behind an example's calls, or a refusal that is kept.
-fn worked_or_refused<D: TextDecorator>(
-    rt: &impl Abort,
-    alloc: Global,
-    worked: Worked,
-    decorator: D,
-) -> Result<String, Error> {
-    assert!(rt; 0 < worked.width);
-    let r = SubRenderer::new(alloc, worked.width, options(worked.told), decorator);
-    shown_or_refused(rt, alloc, r, worked.calls)
-}
-
-#[test]
-fn worked_calls_leave_their_lines_or_refuse_for_good(rt: HostRuntime) {
-    let alloc = rt.alloc();
-    for worked in WORKED {
-        let shown = match worked.under {
-            Under::Trivial => worked_or_refused(&rt, alloc, *worked, TrivialDecorator::new()),
-            _ => worked_or_refused(&rt, alloc, *worked, PlainDecorator::new()),
-        };
-        shows_or_refuses(&rt, shown, worked.lines);
-    }
 }

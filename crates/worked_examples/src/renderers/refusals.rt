@@ -1,7 +1,7 @@
 //! What a renderer does that has refused.
 use super::calls::Call::{
     Append, Background, Border, BorderWidth, Closes, Colour, EmptyLine, Ends, HardLine, Image,
-    Line, Marker, Mode, Opens, Preformat, Row, StartBlock, StartTable, Text, VertRow,
+    Line, Marker, Mode, Opens, Preformat, StartBlock, StartTable, Text, VertRow,
 };
 use super::calls::{Call, Closing, End, Opening, Shown, handed_out, make, make_all};
 use super::colours::RED;
@@ -46,7 +46,6 @@ const REFUSING: &[Call<'static>] = &[
     BorderWidth(1),
     Append(Block(1, &[]), "> |"),
     VertRow(&[]),
-    Row(&[], false),
 ];
 
 /// Each call that can't.
@@ -83,7 +82,6 @@ pub fn keeps<D: TextDecorator, W: CharWidth>(
     let before = tells(r);
     refuses_each(rt, alloc, r, refusal);
     assert!(rt; make_all(alloc, r, ENDS).is_ok());
-    assert!(rt; r.width_minus(0, 1).is_ok());
     assert!(rt; before.0 == Some(refusal) && !before.1);
     assert!(rt; tells(r) == before);
 }
