@@ -1,5 +1,5 @@
 //! Lines as a renderer keeps them.
-ghost use Rattle.std.specs.Prelude.{◌≡◌, IfOk};
+ghost use Rattle.std.specs.Prelude.{◌≡◌, ◌++◌, IfOk, OnOk};
 ghost use Rattle.tbr_tagged.specs.Copies.{CopiesAreEqual};
 ghost use Rattle.tbr_tagged.specs.Elements.{items_of, SameItems, IsMerged};
 ghost use Rattle.tbr_tagged.specs.Walks.{item_characters};
@@ -26,6 +26,19 @@ impl<T> RenderLine<T> {
         match self {
             RenderLine::Text(line) => line.to_text(),
             RenderLine::Line(border) => border.to_text(),
+        }
+    }
+
+    /// Appends the line's text to another. Where memory is refused some may be missing.
+    pub fn append_to(&self, text: &mut String) -> Result<(), OutOfMemory>
+        ensures { OnOk result (chars_of text.new ≡ chars_of text.old ++ item_characters (model.line_items self.now)) }
+    {
+        match self {
+            RenderLine::Text(line) => line.append_to(text),
+            RenderLine::Line(border) => {
+                text.push_str(border.to_text()?.as_str())?;
+                Ok(())
+            }
         }
     }
 

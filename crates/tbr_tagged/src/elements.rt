@@ -1,5 +1,5 @@
 //! Lists of pieces and markers.
-ghost use Rattle.std.specs.Prelude.{◌≡◌, ◌<◌, ◌∷◌, [], length, string_len, IfOk, OnOk, OnErr};
+ghost use Rattle.std.specs.Prelude.{◌≡◌, ◌<◌, ◌++◌, ◌∷◌, [], length, string_len, IfOk, OnOk, OnErr};
 ghost use Rattle.std.specs.Option.{option_map};
 ghost use Rattle.tbr_tagged.specs.Copies.{CopiesAreEqual};
 ghost use Rattle.tbr_tagged.specs.Elements.{line_width, characters, push_text, insert_text, SameElements};
@@ -44,16 +44,18 @@ pub fn width_of<T, W: CharWidth>(elements: &[TaggedLineElement<T>]) -> Result<us
     Ok(width)
 }
 
-pub fn text_of<T>(alloc: Global, elements: &[TaggedLineElement<T>]) -> Result<String, OutOfMemory>
-    ensures { IfOk result (λ text. chars_of text ≡ characters (elements_of elements.now)) }
+pub fn append_text<T>(
+    text: &mut String,
+    elements: &[TaggedLineElement<T>],
+) -> Result<(), OutOfMemory>
+    ensures { OnOk result (chars_of text.new ≡ chars_of text.old ++ characters (elements_of elements.now)) }
 {
-    let mut text = String::new(alloc);
     for element in elements {
         if let TaggedLineElement::Str(piece) = element {
             text.push_str(piece.s.as_str())?;
         }
     }
-    Ok(text)
+    Ok(())
 }
 
 /// Appends text that isn't empty.
@@ -70,7 +72,18 @@ pub fn push_piece<T: Eq + Drop>(
         let end = elements.len() - 1;
         return extend(&mut elements[end], ts.s.as_str());
     }
+    reserve_first(elements)?;
     elements.push(TaggedLineElement::Str(ts))?;
+    Ok(())
+}
+
+/// Makes room for the first element alone, as most lines have one piece.
+fn reserve_first<T>(elements: &mut Vec<TaggedLineElement<T>>) -> Result<(), OutOfMemory>
+    ensures { elements.new.items ≡ elements.old.items }
+{
+    if elements.is_empty() {
+        elements.reserve_exact(1)?;
+    }
     Ok(())
 }
 

@@ -12,7 +12,7 @@ ghost use Rattle.tbr_tagged.specs.View.{chars_of, element_of, elements_of};
 ghost use Rattle.tbr_tagged.specs.Walks.{elements_left, strings_left, characters_left, pieces_of, piece_of, item_characters};
 
 use crate::element::{TaggedLineElement, TaggedString};
-use crate::elements::{has_piece, push_glyph, push_piece, put_in_front, text_of, width_of};
+use crate::elements::{append_text, has_piece, push_glyph, push_piece, put_in_front, width_of};
 use crate::error::OutOfMemory;
 use crate::iterators::{Chars, Iter, TaggedStrings};
 use crate::padding::{CellAlign, columns_in_front, pad};
@@ -68,7 +68,16 @@ impl<T> TaggedLine<T> {
     pub fn to_text(&self) -> Result<String, OutOfMemory>
         ensures { IfOk result (λ text. chars_of text ≡ characters self.now) }
     {
-        text_of(*self.elements.allocator(), &self.elements)
+        let mut text = String::new(*self.elements.allocator());
+        self.append_to(&mut text)?;
+        Ok(text)
+    }
+
+    /// Appends the line's characters, without tags and markers, to a text. Where memory is refused some may be missing.
+    pub fn append_to(&self, text: &mut String) -> Result<(), OutOfMemory>
+        ensures { OnOk result (chars_of text.new ≡ chars_of text.old ++ characters self.now) }
+    {
+        append_text(text, &self.elements)
     }
 }
 

@@ -1,5 +1,5 @@
 //! Lines that are laid.
-ghost use Rattle.std.specs.Prelude.{◌≡◌, ◌≤◌, ◌<◌, ◌+◌, ◌++◌, ◌∷◌, ◌⊎◌, [], ℕ, List, Option, None, Some, true, false, OnOk, IfOk, IfSome, MatchOption, Ok, Err, unwrap_or, length, Bool};
+ghost use Rattle.std.specs.Prelude.{◌≡◌, ◌≤◌, ◌<◌, ◌+◌, ◌++◌, ◌∷◌, ◌⊎◌, [], ℕ, List, Option, None, Some, true, false, OnOk, IfOk, IfSome, MatchOption, Ok, Err, unwrap_or, length, take, drop, Bool};
 ghost use Rattle.std.specs.VecDeque.{deque_len};
 ghost use Rattle.tbr_tagged.specs.Copies.{CopiesAreEqual};
 ghost use Rattle.tbr_model.specs.Run.{Item};
@@ -205,7 +205,24 @@ impl<T: Eq + Clone> LaidLines<T> {
         Ok(())
     }
 
-    /// Puts the items of a word, one by one.
+    /// Puts characters that the word begins with on the open line, as many as fit.
+    fn place_fitting<W: CharWidth>(&mut self) -> Result<(), OutOfMemory>
+        ensures placed { (n : ℕ) × OnOk result (self.new.flat.word ≡ drop n self.old.flat.word)
+            × ((js : List (Item T)) → SameItems T.eq self.old.flat.word js → LinesFollow W.columns T.eq self.old self.new
+            result (λ r. put_items W.columns self.old.width r (take n js))) }
+        ensures limits { KeepsLimits self.old self.new }
+    {
+        let room = self.width - self.line_width;
+        let (count, columns) = self.flat.place_fitting::<W>(room)?;
+        let Some(line_len) = self.line_len.checked_add(count) else {
+            return Err(OutOfMemory);
+        };
+        self.line_len = line_len;
+        self.line_width += columns;
+        Ok(())
+    }
+
+    /// Puts the items of a word, line by line.
     pub fn put_word<W: CharWidth>(&mut self) -> Result<(), Error>
         ensures put { (js : List (Item T)) → SameItems T.eq self.old.flat.word js →
             LinesFollow W.columns T.eq self.old self.new result (λ r. put_items W.columns self.old.width r js) }
@@ -216,6 +233,7 @@ impl<T: Eq + Clone> LaidLines<T> {
     {
         while let Some(width) = self.flat.first_width::<W>() {
             self.put_first(width)?;
+            self.place_fitting::<W>()?;
         }
         Ok(())
     }

@@ -83,7 +83,7 @@ fn text_of<T: Drop>(alloc: Global, lines: LinkedList<RenderLine<T>>) -> Result<S
 fn push_line<T>(text: &mut String, line: &RenderLine<T>) -> Result<(), OutOfMemory>
     ensures { OnOk result (chars_of text.new ≡ chars_of text.old ++ line_text (line_seen line.now)) }
 {
-    text.push_str(line.to_text()?.as_str())?;
+    line.append_to(text)?;
     text.push('\n')?;
     Ok(())
 }

@@ -1,12 +1,12 @@
 -- What the fields hold is what the rule lays.
-use Rattle.std.proofs.Common.{◌≡◌, ◌≢◌, None, nat_le, ℕ, zero, suc, Some, ◌+◌, ◌<◌, ◌≤◌, Bool, true, false, Option, List, [], ◌∷◌, ◌++◌, length, refl, ap, sym, ◌∙◌, subst, arith, append_assoc, unwrap_or}
+use Rattle.std.proofs.Common.{◌≡◌, ◌≢◌, None, nat_le, ℕ, zero, suc, Some, ◌+◌, ◌<◌, ◌≤◌, Bool, true, false, Option, List, [], ◌∷◌, ◌++◌, length, take, drop, refl, ap, sym, ◌∙◌, subst, arith, append_assoc, unwrap_or}
 use borrow.Author.Tests.{le-leb, lt-leb}
 use Rattle.std.specs.Cmp.{IsEquivalence}
 use Rattle.std.specs.Prelude.{MatchOption}
 use Rattle.tbr_model.specs.Run.{Item, glyph, marker, item_width, items_width, has_character}
 use Rattle.tbr_model.specs.Greedy.{IsNarrow}
 use Rattle.tbr_model.specs.Rule.{spaces}
-use Rattle.tbr_model.specs.Laid.{Laid, extended, end_line, end_if_character, end_if_columns, put_item}
+use Rattle.tbr_model.specs.Laid.{Laid, extended, end_line, end_if_character, end_if_columns, put_item, put_items}
 use Rattle.tbr_model.proofs.words.Items.{no_character_no_width}
 use Rattle.tbr_tagged.specs.Elements.{SameItem, SameItems}
 use Rattle.tbr_wrap.specs.LaidLines.{HoldsLaid, LaidLikeRule, HoldsRule, KeepsLimits}
@@ -95,6 +95,17 @@ module _ {A : Type 0} (columns : ℕ → Option ℕ) (width : ℕ) (P : Laid A �
 -- a word's first item is as narrow as all of them
 pub narrow_first : {A : Type 0} (columns : ℕ → Option ℕ) (width : ℕ) (word rest : List (Item A)) (i : Item A) → word ≡ i ∷ rest → IsNarrow columns width word → (item_width columns i ≤ width) × IsNarrow columns width rest
 narrow_first columns width word rest i e h = let k = subst (IsNarrow columns width) e h in (k.0, k.1)
+
+pub narrow_rest : {A : Type 0} (columns : ℕ → Option ℕ) (width n : ℕ) (word : List (Item A)) → IsNarrow columns width word → IsNarrow columns width (drop n word)
+narrow_rest columns width zero word h = h
+narrow_rest columns width (suc n) [] h = h
+narrow_rest columns width (suc n) (i ∷ is) h = narrow_rest columns width n is h.1
+
+-- items that are put at two goes
+pub put_parts : {A : Type 0} (columns : ℕ → Option ℕ) (width : ℕ) (l : Laid A) (n : ℕ) (is : List (Item A)) → put_items columns width l is ≡ put_items columns width (put_items columns width l (take n is)) (drop n is)
+put_parts columns width l zero is = refl
+put_parts columns width l (suc n) [] = refl
+put_parts columns width l (suc n) (i ∷ is) = put_parts columns width (put_item columns width l i) n is
 
 -- ---- spaces
 

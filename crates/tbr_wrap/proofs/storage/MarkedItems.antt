@@ -190,14 +190,14 @@ module _ {A : Type 0} where
 -- ---- items that are the same up to equal tags
 
 module _ {A : Type 0} (eq : A → A → Bool) (laws : IsEquivalence eq) where
-  same_take : (n : ℕ) (is js : List (Item A)) → SameItems eq is js → SameItems eq (take n is) (take n js)
+  pub same_take : (n : ℕ) (is js : List (Item A)) → SameItems eq is js → SameItems eq (take n is) (take n js)
   same_take zero is js h = tt
   same_take (suc n) [] [] h = tt
   same_take (suc n) [] (j ∷ js) h = absurd h
   same_take (suc n) (i ∷ is) [] h = absurd h
   same_take (suc n) (i ∷ is) (j ∷ js) h = (h.0, same_take n is js h.1)
 
-  same_drop : (n : ℕ) (is js : List (Item A)) → SameItems eq is js → SameItems eq (drop n is) (drop n js)
+  pub same_drop : (n : ℕ) (is js : List (Item A)) → SameItems eq is js → SameItems eq (drop n is) (drop n js)
   same_drop zero is js h = h
   same_drop (suc n) [] [] h = tt
   same_drop (suc n) [] (j ∷ js) h = absurd h

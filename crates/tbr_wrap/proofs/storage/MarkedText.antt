@@ -8,13 +8,14 @@ use Rattle.std.proofs.lemmas.List.{length-append, length-take, take-append-drop,
 use Rattle.tbr_model.specs.Entry.{is_glyph}
 use Rattle.tbr_model.specs.Run.{Item, marker, has_character}
 use Rattle.tbr_model.specs.Markers.{names_in_items}
+use Rattle.tbr_model.proofs.lists.Each.{each_front}
 use Rattle.tbr_model.proofs.words.Items.{has_character-append}
 use Rattle.tbr_tagged.specs.Elements.{SameItems}
 use Rattle.tbr_wrap.specs.Flat.{Flat, MarkerPlaces, marked, covered, before_first, shortened, followed, before_last}
 use Rattle.tbr_wrap.proofs.storage.StretchTags.{take_behind}
 use Rattle.tbr_wrap.proofs.storage.MarkerPlaces.{covered_followed, covered_push, some_before, no_marks}
 use Rattle.tbr_tagged.proofs.SameItems.{same_items, same_items_trans, same_items_append}
-use Rattle.tbr_wrap.proofs.storage.MarkedItems.{length-marked, marked_more, marked_push, marked_followed, marked_shortened, taken_front, first_marked, no_character, none_at_end, characters_alone}
+use Rattle.tbr_wrap.proofs.storage.MarkedItems.{length-marked, marked_more, marked_push, marked_followed, marked_shortened, taken_front, no_character, none_at_end, characters_alone}
 
 -- characters with the markers of those that are placed and of the word
 abbrev pub with_marks : {A : Type 0} → Flat A → MarkerPlaces → MarkerPlaces → Flat A
@@ -71,19 +72,27 @@ module _ {A : Type 0} where
   pub character_first : (is items : List (Item A)) (m : MarkerPlaces) → covered m ≡ length is → 0 < length items → ((name : List ℕ) (rest : List (ℕ × List ℕ)) → m.markers ≡ (0, name) ∷ rest → ⊥) → marked is m.markers ≡ items → 0 < before_first m
   character_first is items m h some other e = some_before m (omega (arith, h, length-marked is m.markers, ap length e)) other
 
-  -- it is placed
-  pub character_placed : (f g t : Flat A) (p w q v : MarkerPlaces) (i : Item A) (is : List (Item A)) → covered p ≡ length f.placed → 0 < before_first w → Each (λ i. is_glyph i ≡ true) f.word → f.word ≡ i ∷ is → g ≡ record { placed = f.placed ++ i ∷ []; word = is } →
-      q ≡ record p { behind = p.behind + 1 } → v ≡ shortened 1 w → with_marks f p w ≡ t → (i : Item A) × (is : List (Item A)) × (t.word ≡ i ∷ is) × (with_marks g q v ≡ record { placed = t.placed ++ i ∷ []; word = is }) × (0 ≡ length (names_in_items (i ∷ [])))
-  character_placed f g t p w q v i is h some glyphs first d e k view = (
-    i,
-    marked is (shortened 1 w).markers,
-    sym (ap (λ (x : Flat A). x.word) view) ∙ ap (λ js. marked js w.markers) first ∙ first_marked i is w some,
-    ap (λ (x : Flat A). with_marks x q v) d ∙ ap (λ (m : MarkerPlaces). record { placed = marked (f.placed ++ i ∷ []) m.markers; word = marked is v.markers }) e
-        ∙ ap (λ (m : MarkerPlaces). record { placed = marked (f.placed ++ i ∷ []) p.markers; word = marked is m.markers }) k
-        ∙ ap (λ js. record { placed = js; word = marked is (shortened 1 w).markers })
-        (marked_more f.placed (i ∷ []) p.markers (omega (arith, h)) ∙ ap (λ (x : Flat A). x.placed ++ i ∷ []) view),
-    sym (characters_alone (i ∷ []) ((subst (Each (λ i. is_glyph i ≡ true)) first glyphs).0, tt)),
-  )
+  -- characters before the word's first marker are placed
+  pub characters_placed : (f g t : Flat A) (p w q v : MarkerPlaces) (n : ℕ) → covered p ≡ length f.placed → covered w ≡ length f.word → n ≤ before_first w → g ≡ record { placed = f.placed ++ take n f.word; word = drop n f.word } →
+      q ≡ record p { behind = p.behind + n } → v ≡ shortened n w → with_marks f p w ≡ t → with_marks g q v ≡ record { placed = t.placed ++ take n t.word; word = drop n t.word }
+  characters_placed f g t p w q v n h k within d e s view =
+      ap (λ (x : Flat A). with_marks x q v) d ∙ ap (λ (m : MarkerPlaces). with_marks (record { placed = f.placed ++ take n f.word; word = drop n f.word }) m v) e
+      ∙ ap (λ (m : MarkerPlaces). record { placed = marked (f.placed ++ take n f.word) p.markers; word = marked (drop n f.word) m.markers }) s
+      ∙ ap (λ is. record { placed = is; word = marked (drop n f.word) (shortened n w).markers }) (marked_more f.placed (take n f.word) p.markers (omega (arith, h)) ∙ ap (λ is. marked f.placed p.markers ++ is) (sym (taken_front f.word w n within k)))
+      ∙ ap (λ is. record { placed = marked f.placed p.markers ++ take n (marked f.word w.markers); word = is }) (marked_shortened f.word w n within k)
+      ∙ ap (λ (x : Flat A). record { placed = x.placed ++ take n x.word; word = drop n x.word }) view
+
+  -- and no marker is among them
+  pub none_in_front : (is items : List (Item A)) (m : MarkerPlaces) (n : ℕ) → n ≤ before_first m → covered m ≡ length is → Each (λ i. is_glyph i ≡ true) is → marked is m.markers ≡ items →
+      Each (λ i. is_glyph i ≡ true) (take n items)
+  none_in_front is items m n within h glyphs view =
+      let front : take n is ≡ take n items = sym (taken_front is m n within h) ∙ ap (take n) view in
+      subst (Each (λ i. is_glyph i ≡ true)) front (each_front (λ i. is_glyph i ≡ true) (take n is) (drop n is) (subst (Each (λ i. is_glyph i ≡ true)) (sym (take-append-drop n is)) glyphs))
+
+  pub one_in_front : (items : List (Item A)) → 0 < length items → Each (λ i. is_glyph i ≡ true) (take 1 items) →
+      (i : Item A) × (rest : List (Item A)) × (items ≡ i ∷ rest) × (take 1 items ≡ i ∷ []) × (drop 1 items ≡ rest) × (0 ≡ length (names_in_items (i ∷ [])))
+  one_in_front [] h glyphs = absurd (omega arith)
+  one_in_front (i ∷ is) h glyphs = (i, is, refl, refl, refl, sym (characters_alone (i ∷ []) glyphs))
 
 -- ---- elements that are handed out
 

@@ -3,7 +3,7 @@ use Rattle.std.proofs.Common.{◌≡◌, ℕ, suc, zero, ◌+◌, ◌-◌, ◌<�
 use Rattle.std.specs.Option.{MatchOption}
 use Rattle.std.specs.List.{AllZip}
 use Rattle.std.proofs.Math.Seq.{drop-append_seam}
-use Rattle.std.proofs.lemmas.List.{take-append-drop, length-append, length-take, length-drop, length-replicate, drop-append-le}
+use Rattle.std.proofs.lemmas.List.{take-append-drop, length-append, length-take, length-take-le, length-drop, length-replicate, drop-append-le}
 use Rattle.tbr_model.specs.Run.{Item, glyph}
 use Rattle.tbr_model.specs.Rule.{spaces}
 use Rattle.tbr_tagged.specs.Elements.{SameItems, text_items}
@@ -50,6 +50,12 @@ glyphs-drop (suc n) [] ts = refl
 glyphs-drop (suc n) (c ∷ cs) [] = glyphs_none (drop n cs)
 glyphs-drop (suc n) (c ∷ cs) (t ∷ ts) = glyphs-drop n cs ts
 
+pub glyphs-take : {A : Type 0} (n : ℕ) (cs : List ℕ) (ts : List A) → glyphs (take n cs) ts ≡ take n (glyphs cs ts)
+glyphs-take zero cs ts = refl
+glyphs-take (suc n) [] ts = refl
+glyphs-take (suc n) (c ∷ cs) [] = refl
+glyphs-take (suc n) (c ∷ cs) (t ∷ ts) = ap (λ is. glyph c t ∷ is) (glyphs-take n cs ts)
+
 drop_none : {A : Type 0} (n : ℕ) → drop {A = A} n [] ≡ []
 drop_none zero = refl
 drop_none (suc n) = refl
@@ -81,14 +87,13 @@ some_tag (suc n) (t ∷ ts) h = some_tag n ts (omega arith)
 first_glyph : {A : Type 0} (cs rest : List ℕ) (ts : List A) (c : ℕ) (t : A) (us : List A) (n : ℕ) → cs ≡ c ∷ rest → drop n ts ≡ t ∷ us → glyphs cs (drop n ts) ≡ glyph c t ∷ glyphs rest us
 first_glyph cs rest ts c t us n e h = ap (λ ds. glyphs ds (drop n ts)) e ∙ ap (λ vs. glyphs (c ∷ rest) vs) h
 
-pub flat_first : {A : Type 0} (l : Letters) (ts : List A) (c : ℕ) (rest : List ℕ) → length ts ≡ length l.placed + length l.word → l.word ≡ c ∷ rest →
-    (i : Item A) × (is : List (Item A)) × ((flat l ts).word ≡ i ∷ is) × (flat (record { placed = l.placed ++ c ∷ []; word = rest }) ts ≡ record { placed = (flat l ts).placed ++ i ∷ []; word = is })
-flat_first l ts c rest h e =
-    let s = some_tag (length l.placed) ts (omega (arith, h, ap length e)) in
-    let next : length (l.placed ++ c ∷ []) ≡ suc (length l.placed) = omega (arith, length-append l.placed (c ∷ [])) in
-    let behind : drop (length (l.placed ++ c ∷ [])) ts ≡ s.1 =
-    ap (λ n. drop n ts) next ∙ (next_split ts s.1 (length l.placed) s.0 s.2).1 in
-    (glyph c s.0, glyphs rest s.1, first_glyph l.word rest ts c s.0 s.1 (length l.placed) e s.2, rw (glyphs-append l.placed (c ∷ []) ts, s.2, behind) refl)
+pub flat_front : {A : Type 0} (l : Letters) (ts : List A) (n : ℕ) → n ≤ length l.word →
+    flat (record { placed = l.placed ++ take n l.word; word = drop n l.word }) ts ≡ record { placed = (flat l ts).placed ++ take n (flat l ts).word; word = drop n (flat l ts).word }
+flat_front l ts n h =
+    let us = drop (length l.placed) ts in
+    let behind : drop (length (l.placed ++ take n l.word)) ts ≡ drop n us =
+    ap (λ k. drop k ts) (omega (arith, length-append l.placed (take n l.word), length-take-le n l.word h)) ∙ sym (drop_twice (length l.placed) n ts) in
+    rw (glyphs-append l.placed (take n l.word) ts, behind, glyphs-take n l.word us, glyphs-drop n l.word us) refl
 
 pub flat_word_first : {A : Type 0} (l : Letters) (ts : List A) (o : Option ℕ) → length ts ≡ length l.placed + length l.word → MatchOption o (l.word ≡ []) (λ c. (rest : List ℕ) × (l.word ≡ c ∷ rest)) →
     MatchOption o ((flat l ts).word ≡ []) (λ c. (a : A) × (rest : List (Item A)) × ((flat l ts).word ≡ glyph c a ∷ rest))

@@ -209,56 +209,6 @@ pub first_letter : (cs ds : List ℕ) (o : Option ℕ) → o ≡ slice_get cs 0 
 first_letter [] ds o h e = rw h e
 first_letter (c ∷ cs) ds o h e = rw h (cs, e)
 
--- ---- one character of the word is placed
-
--- what is known where the first character of the word is read
-pub record ReadsFirst (bytes rest : List ℕ) (j c n : ℕ) : Type 0 where
-  pub word : drop j bytes ≡ encode_utf8 c ++ rest
-  pub scalar : IsScalar c
-  pub len : n ≡ length (encode_utf8 c)
-
-both_first : (p q : Bool) → p && q ≡ true → p ≡ true
-both_first true q h = refl
-both_first false q h = h
-
-both_second : (p q : Bool) → p && q ≡ true → q ≡ true
-both_second true q h = h
-both_second false q h = cc
-
-scalar_first : (bs rest : List ℕ) (c : ℕ) → IsUtf8 bs → bs ≡ encode_utf8 c ++ rest → IsScalar c
-scalar_first bs rest c u e =
-    let p = cons_from_encodes u.0 rest c (u.1.1 ∙ e) in
-    both_first (scalar c) (scalars p.0) (ap scalars (sym p.1) ∙ u.1.0)
-
-pub reads_first : (bytes rest : List ℕ) (i j w c n : ℕ) → AreParts bytes i j w → drop j bytes ≡ encode_utf8 c ++ rest → n ≡ len_utf8 c → ReadsFirst bytes rest j c n
-reads_first bytes rest i j w c n h e m = record {
-  word = e;
-  scalar = scalar_first (drop j bytes) rest c (word_utf8 bytes i j w h) e;
-  len = m ∙ sym (length-encode c);
-}
-
-pub parts_char : (bytes rest : List ℕ) (i j w c n : ℕ) → AreParts bytes i j w → ReadsFirst bytes rest j c n → AreParts bytes i (j + n) (w - 1)
-parts_char bytes rest i j w c n h r =
-    let u = word_utf8 bytes i j w h in
-    let e : chars (drop j bytes) ≡ c ∷ chars rest = chars_past_char (drop j bytes) rest c u r.word in
-    parts_first bytes (encode_utf8 c) rest i j (j + n) w (w - 1) h r.word (IsUtf8-encode c r.scalar) (IsUtf8-past_char (drop j bytes) rest c u r.word) (ap (λ m. j + m) r.len)
-    (omega (arith, h.word_len, ap length e))
-
-pub letters_char : (bytes rest : List ℕ) (i j w c n : ℕ) → AreParts bytes i j w → ReadsFirst bytes rest j c n →
-    letters bytes i (j + n) ≡ record { placed = chars (slice_range bytes i j) ++ c ∷ []; word = chars rest }
-letters_char bytes rest i j w c n h r =
-    letters_first bytes (encode_utf8 c) rest i j (j + n) w h r.word (ap (λ m. j + m) r.len)
-    ∙ ap (λ cs. record { placed = chars (slice_range bytes i j) ++ cs; word = chars rest }) (chars_one c r.scalar)
-
-pub word_char : (bytes rest : List ℕ) (i j w c n : ℕ) → AreParts bytes i j w → ReadsFirst bytes rest j c n → chars (drop j bytes) ≡ c ∷ chars rest
-word_char bytes rest i j w c n h r = chars_past_char (drop j bytes) rest c (word_utf8 bytes i j w h) r.word
-
-no_letter : (bs word : List ℕ) → word ≡ chars bs → length bs ≡ 0 → length word ≡ 0
-no_letter bs word e n = ap length (e ∙ chars_none bs n)
-
-pub some_letter : (bs word : List ℕ) → word ≡ chars bs → length bs ≡ 0 → 0 < length word → ⊥
-some_letter bs word e n h = omega (arith, no_letter bs word e n, h)
-
 -- ---- characters are counted
 
 -- n characters of a text are read
@@ -298,6 +248,14 @@ pub read_len : (text rest : List ℕ) (n : ℕ) → IsRead text rest n → lengt
 read_len text rest n h = ap length h.whole ∙ length-append (encodes (take n (chars text))) rest
 
 -- ---- the first placed characters are handed out
+
+both_first : (p q : Bool) → p && q ≡ true → p ≡ true
+both_first true q h = refl
+both_first false q h = h
+
+both_second : (p q : Bool) → p && q ≡ true → q ≡ true
+both_second true q h = h
+both_second false q h = cc
 
 scalars_drop : (n : ℕ) (cs : List ℕ) → scalars cs ≡ true → scalars (drop n cs) ≡ true
 scalars_drop zero cs h = h
@@ -374,6 +332,32 @@ pub taken_letters : (bytes : List ℕ) (i j w n k : ℕ) → AreParts bytes i j 
 taken_letters bytes i j w n k h e =
     let s = splits_at (slice_range bytes i j) n (placed_utf8 bytes i j w h) in
     taken (slice_range bytes i j) (encodes (take n (chars (slice_range bytes i j)))) (encodes (drop n (chars (slice_range bytes i j)))) k s.whole e ∙ s.front
+
+-- ---- the word's first characters are placed
+
+module _ (bytes : List ℕ) (i j w n k : ℕ) (h : AreParts bytes i j w) (e : k ≡ length (encodes (take n (chars (drop j bytes))))) where
+  abbrev front : List ℕ
+  front = encodes (take n (chars (drop j bytes)))
+
+  abbrev rest : List ℕ
+  rest = encodes (drop n (chars (drop j bytes)))
+
+  split_word : SplitsAt (drop j bytes) n
+  split_word = splits_at (drop j bytes) n (word_utf8 bytes i j w h)
+
+  pub front_within : j + k ≤ length bytes
+  front_within = omega (arith, h.word_in, e, ap length split_word.whole, length-append front rest, length-drop j bytes)
+
+  pub parts_front : AreParts bytes i (j + k) (w - n)
+  parts_front =
+      parts_first bytes front rest i j (j + k) w (w - n) h split_word.whole split_word.front_utf8 split_word.back_utf8 (ap (λ m. j + m) e)
+      (omega (arith, h.word_len, ap length split_word.back, length-drop n (chars (drop j bytes))))
+
+  pub letters_front : letters bytes i (j + k) ≡ record { placed = chars (slice_range bytes i j) ++ take n (chars (drop j bytes)); word = drop n (chars (drop j bytes)) }
+  letters_front =
+      letters_first bytes front rest i j (j + k) w h split_word.whole (ap (λ m. j + m) e)
+      ∙ ap (λ cs. record { placed = chars (slice_range bytes i j) ++ cs; word = chars rest }) split_word.front
+      ∙ ap (λ cs. record { placed = chars (slice_range bytes i j) ++ take n (chars (drop j bytes)); word = cs }) split_word.back
 
 -- ---- what was handed out is forgotten
 

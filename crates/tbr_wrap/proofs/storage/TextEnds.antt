@@ -1,13 +1,14 @@
 -- What is counted at the end of a text and at its beginning, and what is taken out between.
-use Rattle.std.proofs.Common.{◌≡◌, ℕ, suc, zero, ◌+◌, ◌-◌, ◌<◌, ◌≤◌, List, [], ◌∷◌, ◌++◌, length, take, drop, get_or, replicate, refl, ap, sym, ◌∙◌, subst, arith, append_assoc}
+use Rattle.std.proofs.Common.{◌≡◌, ℕ, suc, zero, ◌+◌, ◌-◌, ◌<◌, ◌≤◌, Option, List, [], ◌∷◌, ◌++◌, length, take, drop, get_or, replicate, refl, ap, sym, ◌∙◌, subst, arith, append_assoc}
 use Rattle.std.specs.List.{AllByRecursion as Each, slice_range}
 use Rattle.std.specs.Str.{IsUtf8, IsAscii, chars, IsCharBoundary}
 use Rattle.std.proofs.Math.Seq.{drop-append_seam, take-append_seam}
 use Rattle.std.proofs.lemmas.List.{take-append-drop, length-append, length-drop, length-replicate}
 use Rattle.std.proofs.lemmas.Str.{IsUtf8-take, IsUtf8-from_ascii, IsCharBoundary-from_drop, IsUtf8-append, chars-append, chars-IsAscii, encodes-chars, encodes-append, encodes-IsAscii}
 use lib.Utf8.{encodes}
+use Rattle.tbr_model.specs.Width.{width_of_text}
 use Rattle.tbr_wrap.specs.Flat.{letters, AreParts}
-use Rattle.tbr_wrap.proofs.storage.TextBytes.{IsCut, cut, take_cut, drop_cut, cut_first, from_cut, letters_cut, word_utf8, placed_utf8, SplitsAt, splits_at}
+use Rattle.tbr_wrap.proofs.storage.TextBytes.{IsCut, cut, take_cut, drop_cut, cut_first, from_cut, letters_cut, word_utf8, placed_utf8, SplitsAt, splits_at, front_within}
 
 -- ---- spaces at the end
 
@@ -58,6 +59,12 @@ seen_first P cs xs rest n e f h =
       subst (λ (ys : List ℕ). Each P ys) (sym front) h,
       ap (λ i. drop i cs) e ∙ ap (λ ys. drop (length xs) ys) f ∙ drop-append_seam xs rest,
     )
+
+-- and have their columns
+pub seen_columns : (columns : ℕ → Option ℕ) (cs xs rest : List ℕ) (n m : ℕ) → cs ≡ xs ++ rest → n ≡ length xs → m ≡ width_of_text columns xs → (n ≤ length cs) × (m ≡ width_of_text columns (take n cs))
+seen_columns columns cs xs rest n m f e h =
+    let front : take n cs ≡ xs = ap (λ i. take i cs) e ∙ ap (λ ys. take (length xs) ys) f ∙ take-append_seam xs rest in
+    (omega (arith, e, ap length f, length-append xs rest), h ∙ ap (width_of_text columns) (sym front))
 
 pub next_other : (P : ℕ → Type 0) (ds rest : List ℕ) (c : ℕ) → ds ≡ c ∷ rest → P c → (d : ℕ) → (more : List ℕ) → ds ≡ d ∷ more → P d
 next_other P ds rest c e h d more f = let k : c ∷ rest ≡ d ∷ more = sym e ∙ f in let same : c ≡ d = cc in subst P same h
@@ -128,9 +135,6 @@ module _ (bytes front : List ℕ) (i j w n b k : ℕ) (h : AreParts bytes i j w)
   cut_blanks : IsCut bytes i (j + k) (take i bytes) (placed ++ blanks) rest
   cut_blanks = cut_first bytes i j (j + k) (take i bytes) placed word blanks rest (cut bytes i j w h) word_split.whole (ap (λ m. j + m) k_is)
 
-  pub blanks_within : j + k ≤ length bytes
-  blanks_within = omega (arith, h.word_in, k_is, ap length word_split.whole, length-append blanks rest, length-drop j bytes)
-
   pub spaces_boundary : IsCharBoundary bytes (j - n)
   spaces_boundary =
       IsCharBoundary-from_drop bytes (j - n) (omega (arith, h.word_in))
@@ -139,7 +143,7 @@ module _ (bytes front : List ℕ) (i j w n b k : ℕ) (h : AreParts bytes i j w)
 
   pub blanks_boundary : IsCharBoundary bytes (j + k)
   blanks_boundary =
-      IsCharBoundary-from_drop bytes (j + k) blanks_within
+      IsCharBoundary-from_drop bytes (j + k) (front_within bytes i j w b k h k_is)
       (subst (λ (bs : List ℕ). IsUtf8 bs) (sym (drop_cut bytes i (j + k) (take i bytes) (placed ++ blanks) rest cut_blanks)) word_split.back_utf8)
 
   cut_removed : (xs : List ℕ) → xs ≡ take (j - n) bytes ++ drop (j + k) bytes → IsCut xs i (j - n) (take i bytes) kept rest

@@ -10,7 +10,7 @@ use Rattle.tbr_model.specs.Entry.{is_glyph}
 use Rattle.tbr_model.specs.Rule.{without_leading, without_trailing, is_space_item, is_white_item}
 use Rattle.tbr_model.specs.Width.{width_of_text}
 use Rattle.tbr_wrap.specs.Flat.{Letters, flat, glyphs}
-use Rattle.tbr_wrap.proofs.storage.TaggedCharacters.{drop_twice, glyphs-drop, length-glyphs}
+use Rattle.tbr_wrap.proofs.storage.TaggedCharacters.{drop_twice, glyphs-drop, glyphs-take, length-glyphs}
 use Rattle.tbr_wrap.proofs.storage.StretchTags.{take_behind}
 
 module _ {A : Type 0} where
@@ -25,6 +25,11 @@ module _ {A : Type 0} where
   glyphs_width columns [] ts h = refl
   glyphs_width columns (c ∷ cs) [] h = absurd (omega arith)
   glyphs_width columns (c ∷ cs) (t ∷ ts) h = omega (arith, glyphs_width columns cs ts (omega arith))
+
+  pub front_columns : (columns : ℕ → Option ℕ) (l : Letters) (ts : List A) (n : ℕ) → length ts ≡ length l.placed + length l.word → width_of_text columns (take n l.word) ≡ items_width columns (take n (flat l ts).word)
+  front_columns columns l ts n h =
+      let us = drop (length l.placed) ts in
+      glyphs_width columns (take n l.word) us (omega (arith, h, length-drop (length l.placed) ts, length-take n l.word)) ∙ ap (items_width columns) (glyphs-take n l.word us)
 
   pub word_columns : (columns : ℕ → Option ℕ) (l : Letters) (ts : List A) → length ts ≡ length l.placed + length l.word → width_of_text columns l.word ≡ items_width columns (flat l ts).word
   word_columns columns l ts h = glyphs_width columns l.word (drop (length l.placed) ts) (omega (arith, h, length-drop (length l.placed) ts))
@@ -78,11 +83,11 @@ module _ {A : Type 0} where
       let white : is_white_item i ≡ true = ap is_white_item first ∙ h.0 in
       rw white (leading_left b n cs ts front rest h.1 most (omega arith) (omega arith) (λ l. omega (arith, all (omega arith))) behind)
 
-  glyphs-take : (m : ℕ) (cs : List ℕ) (ts us : List A) → m ≤ length cs → m ≤ length ts → glyphs (take m cs) (take m ts ++ us) ≡ take m (glyphs cs ts)
-  glyphs-take zero cs ts us h k = refl
-  glyphs-take (suc m) [] ts us h k = absurd (omega arith)
-  glyphs-take (suc m) (c ∷ cs) [] us h k = absurd (omega arith)
-  glyphs-take (suc m) (c ∷ cs) (t ∷ ts) us h k = ap (λ is. glyph c t ∷ is) (glyphs-take m cs ts us (omega arith) (omega arith))
+  glyphs_kept : (m : ℕ) (cs : List ℕ) (ts us : List A) → m ≤ length cs → m ≤ length ts → glyphs (take m cs) (take m ts ++ us) ≡ take m (glyphs cs ts)
+  glyphs_kept zero cs ts us h k = refl
+  glyphs_kept (suc m) [] ts us h k = absurd (omega arith)
+  glyphs_kept (suc m) (c ∷ cs) [] us h k = absurd (omega arith)
+  glyphs_kept (suc m) (c ∷ cs) (t ∷ ts) us h k = ap (λ is. glyph c t ∷ is) (glyphs_kept m cs ts us (omega arith) (omega arith))
 
   -- characters are taken out of the text, and as many tags
   flat_trimmed : (l : Letters) (ts : List A) (n b w count : ℕ) → length ts ≡ length l.placed + length l.word → n ≤ length l.placed → b ≤ length l.word → w ≡ length l.word - b → count ≡ n + b →
@@ -93,7 +98,7 @@ module _ {A : Type 0} where
       let us = drop (length ts - w) ts in
       let first : length ts - (w + count) ≡ m = omega (arith, h, less, within, e, f) in
       let second : length ts - w ≡ length l.placed + b = omega (arith, h, within, e) in
-      let front : glyphs (take m l.placed) (take m ts ++ us) ≡ take m (glyphs l.placed ts) = glyphs-take m l.placed ts us (omega arith) (omega (arith, h)) in
+      let front : glyphs (take m l.placed) (take m ts ++ us) ≡ take m (glyphs l.placed ts) = glyphs_kept m l.placed ts us (omega arith) (omega (arith, h)) in
       let len : length (take m l.placed) ≡ length (take m ts) = omega (arith, length-take m l.placed, length-take m ts, h) in
       let behind : drop (length (take m l.placed)) (take m ts ++ us) ≡ drop b (drop (length l.placed) ts) =
       ap (λ i. drop i (take m ts ++ us)) len ∙ drop-append_seam (take m ts) us ∙ ap (λ i. drop i ts) second ∙ sym (drop_twice (length l.placed) b ts) in

@@ -94,12 +94,23 @@ impl<T> Characters<T> {
         self.text.word_width::<W>()
     }
 
-    /// Places the word's first character. It takes constant time.
-    pub fn place_first(&mut self)
-        requires { 0 < length self.old.word }
-        ensures { (i : Item T) × (rest : List (Item T)) × (self.old.word ≡ i ∷ rest) × (self.new ≡ record { placed = self.old.placed ++ i ∷ []; word = rest }) }
+    /// How many of the word's first `most` characters fit into `room` columns, and their columns.
+    pub fn fitting<W: CharWidth>(&self, most: usize, room: usize) -> (usize, usize)
+        ensures most { result.0 ≤ most }
+        ensures within { result.0 ≤ length self.now.word }
+        ensures room { result.1 ≤ room }
+        ensures columns { result.1 ≡ items_width W.columns (take result.0 self.now.word) }
     {
-        self.text.place_first();
+        let _ = &self.tags;
+        self.text.fitting::<W>(most, room)
+    }
+
+    /// Places the word's first `count` characters. It takes the time of going over them.
+    pub fn place_front(&mut self, count: usize)
+        requires { count ≤ length self.old.word }
+        ensures { self.new ≡ record { placed = self.old.placed ++ take count self.old.word; word = drop count self.old.word } }
+    {
+        self.text.place_front(count);
     }
 }
 

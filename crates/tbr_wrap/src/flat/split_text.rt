@@ -94,16 +94,23 @@ impl SplitText {
         self.word = 0;
     }
 
-    /// Places the word's first character.
-    pub fn place_first(&mut self)
-        requires { 0 < length self.old.word }
-        ensures { (c : ℕ) × (rest : List ℕ) × (self.old.word ≡ c ∷ rest) × (self.new ≡ record { placed = self.old.placed ++ c ∷ []; word = rest }) }
+    /// How many of the word's first `most` characters fit into `room` columns, and their columns.
+    pub fn fitting<W: CharWidth>(&self, most: usize, room: usize) -> (usize, usize)
+        ensures most { result.0 ≤ most }
+        ensures within { result.0 ≤ length self.now.word }
+        ensures room { result.1 ≤ room }
+        ensures columns { result.1 ≡ width_of_text W.columns (take result.0 self.now.word) }
     {
-        let word = &self.text.as_str()[self.word_start..];
-        if let Some(c) = word.chars().next() {
-            self.word_start += c.len_utf8();
-            self.word -= 1;
-        }
+        fitting::<W>(&self.text.as_str()[self.word_start..], most, room)
+    }
+
+    /// Places the word's first `count` characters. It takes the time of going over them.
+    pub fn place_front(&mut self, count: usize)
+        requires { count ≤ length self.old.word }
+        ensures { self.new ≡ record { placed = self.old.placed ++ take count self.old.word; word = drop count self.old.word } }
+    {
+        self.word_start += bytes_of(&self.text.as_str()[self.word_start..], count);
+        self.word -= count;
     }
 
     /// Places `count` spaces before the word. It takes the time of moving the word.
@@ -237,6 +244,26 @@ fn bytes_of(text: &str, count: usize) -> usize
         let _ = rest.next();
     }
     text.len() - rest.as_str().len()
+}
+
+/// How many of the first `most` characters fit into `room` columns, and their columns.
+fn fitting<W: CharWidth>(text: &str, most: usize, room: usize) -> (usize, usize)
+    ensures most { result.0 ≤ most }
+    ensures within { result.0 ≤ length (chars text.now) }
+    ensures room { result.1 ≤ room }
+    ensures columns { result.1 ≡ width_of_text W.columns (take result.0 (chars text.now)) }
+{
+    let mut count = 0;
+    let mut columns = 0;
+    for c in text.chars() {
+        let width = W::width(c).unwrap_or(0);
+        if count == most || width > room - columns {
+            return (count, columns);
+        }
+        count += 1;
+        columns += width;
+    }
+    (count, columns)
 }
 
 /// How many of the last `most` characters are spaces at the end. A space is one byte, and no other character has that

@@ -29,5 +29,6 @@ returns-clause-ok g c =
       push_else g.T.PartialEq.eq element_of c.args.elements.now.items (chars (string_bytes c.args.ts.s)) c.args.ts.tag some
           (rw (← c.deref.ensures.value, ← c.last.ensures.value) (sym c.if-is_under.ensures)),
       c.in_ok-push.ensures.items,
+      c.reserve_first.ensures,
       map_push,
     ) refl

@@ -1,6 +1,6 @@
 use Rattle.std.proofs.Common.{rules, [], ◌∷◌, ◌++◌, chars, ap, sym, ◌∙◌, append_assoc}
 use Rattle.std.specs.String.{string_bytes}
-use Rattle.std.proofs.lemmas.Str.{chars-append, IsUtf8-string_bytes}
+use Rattle.std.proofs.lemmas.Str.{IsUtf8-string_bytes}
 use Rattle.tbr_model.specs.Codes.{newline_character}
 use Rattle.tbr_lines.specs.Walks.{item_characters}
 use Rattle.tbr_lines.proofs.TextBehind.{chars_push}
@@ -11,8 +11,8 @@ use Rattle.tbr_renderer.proofs.sub.lines.push_line.Goals as goal
 
 pub returns : goal.returns
 returns g c =
-    let old = string_bytes c.args.text.now in
-    ap chars c.in_ok-push.ensures.bytes ∙ chars_push (string_bytes c.push_str.new.self) newline_character (IsUtf8-string_bytes c.push_str.new.self) (search rules)
-    ∙ ap (λ cs. cs ++ newline_character ∷ []) (ap chars c.in_ok-push_str.ensures.bytes ∙ chars-append old c.as_str.result.now (IsUtf8-string_bytes c.args.text.now) ∙ ap (λ bytes. chars old ++ chars bytes) c.as_str.ensures.value
-    ∙ ap (λ cs. chars old ++ cs) (c.in_ok-to_text.ensures ∙ ap item_characters (sym (line_seen_shows c.args.line.now))))
-    ∙ append_assoc (chars old) (item_characters (items_shown (line_seen c.args.line.now))) (newline_character ∷ [])
+    let old = chars (string_bytes c.args.text.now) in
+    let behind = string_bytes c.append_to.new.text in
+    ap chars c.in_ok-push.ensures.bytes ∙ chars_push behind newline_character (IsUtf8-string_bytes c.append_to.new.text) (search rules)
+    ∙ ap (λ cs. cs ++ newline_character ∷ []) (c.in_ok-append_to.ensures ∙ ap (λ is. old ++ item_characters is) (sym (line_seen_shows c.args.line.now)))
+    ∙ append_assoc old (item_characters (items_shown (line_seen c.args.line.now))) (newline_character ∷ [])

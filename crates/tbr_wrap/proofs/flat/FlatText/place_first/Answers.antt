@@ -1,8 +1,8 @@
-use Rattle.std.proofs.Common.{ap, ◌∙◌, arith}
+use Rattle.std.proofs.Common.{◌≤◌, ◌++◌, ◌∷◌, [], drop, ap, ◌∙◌, arith}
 use Rattle.std.specs.String.{string_bytes}
 use Rattle.tbr_wrap.specs.Flat.{Flat, MarkerPlaces, covered, before_first, before_last, shortened}
 use Rattle.tbr_wrap.proofs.storage.MarkerPlaces.{first_within}
-use Rattle.tbr_wrap.proofs.storage.MarkedText.{covered_pushed, marker_placed, character_first, character_placed}
+use Rattle.tbr_wrap.proofs.storage.MarkedText.{covered_pushed, marker_placed, character_first, characters_placed, none_in_front, one_in_front}
 use Rattle.tbr_wrap.proofs.flat.FlatText.place_first.Goals as goal
 
 pub invariant_of-self-in-Some : goal.invariant_of-self-in-Some
@@ -17,8 +17,8 @@ returns-in-Some g c =
     let k = c.in-Some.ensures in
     marker_placed c.self.inside.text c.args.self.now c.self.inside.placed c.self.inside.word c.push.new.self c.pop_first.new.self (string_bytes c.in-Some.name) k.0 c.self.invariant.0 k.1 k.2 c.in_ok-push.ensures.ok c.self.view_is
 
-pub place_first-requires : goal.place_first-requires
-place_first-requires g c =
+pub place_front-requires : goal.place_front-requires
+place_front-requires g c =
     let some = character_first c.self.inside.text.word c.args.self.now.word c.self.inside.word c.self.invariant.1 c.requires c.in_default.ensures.1 (ap (λ (f : Flat g.row.T.Denot). f.word) c.self.view_is) in
     omega (arith, some, first_within c.self.inside.word, c.self.invariant.1)
 
@@ -29,7 +29,9 @@ remove_first-requires g c =
 
 pub returns : goal.returns
 returns g c =
-    let some = character_first c.self.inside.text.word c.args.self.now.word c.self.inside.word c.self.invariant.1 c.requires c.in_default.ensures.1 (ap (λ (f : Flat g.row.T.Denot). f.word) c.self.view_is) in
-    let e = c.place_first.ensures in
-    character_placed c.self.inside.text c.place_first.new.self c.args.self.now c.self.inside.placed c.self.inside.word c.add_characters.new.self c.remove_first.new.self e.0 e.1 c.self.invariant.0 some c.holds_characters.ensures.word e.2 e.3 c.in_ok-add_characters.ensures.ok
-    (c.remove_first.ensures ∙ ap (λ (m : MarkerPlaces). shortened 1 m) c.in_default.ensures.0) c.self.view_is
+    let word = ap (λ (f : Flat g.row.T.Denot). f.word) c.self.view_is in
+    let some : 1 ≤ before_first c.self.inside.word = character_first c.self.inside.text.word c.args.self.now.word c.self.inside.word c.self.invariant.1 c.requires c.in_default.ensures.1 word in
+    let w = one_in_front c.args.self.now.word c.requires (none_in_front c.self.inside.text.word c.args.self.now.word c.self.inside.word 1 some c.self.invariant.1 c.holds_characters.ensures.word word) in
+    let placed = characters_placed c.self.inside.text c.place_front.new.self c.args.self.now c.self.inside.placed c.self.inside.word c.add_characters.new.self c.remove_first.new.self 1 c.self.invariant.0 c.self.invariant.1 some
+    c.place_front.ensures c.in_ok-add_characters.ensures.ok (c.remove_first.ensures ∙ ap (λ (m : MarkerPlaces). shortened 1 m) c.in_default.ensures.0) c.self.view_is in
+    (w.0, w.1, w.2, placed ∙ ap (λ is. record { placed = c.args.self.now.placed ++ is; word = drop 1 c.args.self.now.word }) w.3 ∙ ap (λ is. record { placed = c.args.self.now.placed ++ w.0 ∷ []; word = is }) w.4, w.5)

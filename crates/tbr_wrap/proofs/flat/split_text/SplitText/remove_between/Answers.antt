@@ -3,8 +3,8 @@ use Rattle.std.specs.Str.{chars}
 use Rattle.std.specs.String.{string_bytes}
 use lib.Utf8.{encodes}
 use Rattle.tbr_wrap.specs.Flat.{Letters}
-use Rattle.tbr_wrap.proofs.storage.TextBytes.{word_boundary}
-use Rattle.tbr_wrap.proofs.storage.TextEnds.{spaces_within, blanks_within, spaces_boundary, blanks_boundary, parts_removed, letters_removed}
+use Rattle.tbr_wrap.proofs.storage.TextBytes.{word_boundary, front_within}
+use Rattle.tbr_wrap.proofs.storage.TextEnds.{spaces_within, spaces_boundary, blanks_boundary, parts_removed, letters_removed}
 use Rattle.tbr_wrap.proofs.flat.split_text.SplitText.remove_between.Goals as goal
 
 pub overflow_sub-from : goal.overflow_sub-from
@@ -36,7 +36,7 @@ overflow_add-to c =
     let k_is : c.bytes_of.result ≡ length (encodes (take b (chars (drop j bytes)))) = c.bytes_of.ensures ∙ ap (λ bs. length (encodes (take b (chars bs)))) word in
     omega (
       arith,
-      blanks_within bytes spaces.0 i j w n b c.bytes_of.result c.self.invariant e k_is,
+      front_within bytes i j w b c.bytes_of.result c.self.invariant k_is,
       c.self.inside.text.bytes.ok.0,
       c.self.inside.text.bytes.ok.1,
       c.self.inside.text.bytes.small,
@@ -54,7 +54,7 @@ replace_range-requires-clause-in_bounds c =
     let b = c.args.blanks in
     let word : c.range_from.result.now ≡ drop j bytes = c.range_from.ensures.value ∙ ap (λ bs. drop j bs) c.as_str.ensures.value in
     let k_is : c.bytes_of.result ≡ length (encodes (take b (chars (drop j bytes)))) = c.bytes_of.ensures ∙ ap (λ bs. length (encodes (take b (chars bs)))) word in
-    omega (arith, blanks_within bytes spaces.0 i j w n b c.bytes_of.result c.self.invariant e k_is, c.self.inside.text.bytes.ok.0)
+    omega (arith, front_within bytes i j w b c.bytes_of.result c.self.invariant k_is, c.self.inside.text.bytes.ok.0)
 
 pub replace_range-requires-clause-start_boundary : goal.replace_range-requires-clause-start_boundary
 replace_range-requires-clause-start_boundary c =

@@ -1,4 +1,4 @@
-use Rattle.std.proofs.Common.{ap, ◌∙◌, ◌++◌, map, take, append-nil}
+use Rattle.std.proofs.Common.{ap, sym, ◌∙◌, ◌++◌, map, take, append-nil, append_assoc}
 use Rattle.std.specs.String.{string_bytes}
 use Rattle.std.specs.Str.{chars}
 use Rattle.std.proofs.lemmas.Str.{IsUtf8-string_bytes, chars-append}
@@ -6,12 +6,8 @@ use Rattle.std.proofs.lemmas.List.Concat.{flat_map-append}
 use Rattle.tbr_tagged.specs.Elements.{characters, element_characters}
 use Rattle.tbr_tagged.specs.View.{element_of}
 use Rattle.tbr_tagged.proofs.ElementLoops.{one_more}
-use Rattle.tbr_tagged.proofs.elements.text_of.Goals as goal
-use Rattle.tbr_tagged.proofs.elements.text_of.Goals.{in-Str+in_ok-push_str, in_default}
-
-pub loop-element-init : goal.loop-element-init
-unfolding chars
-loop-element-init g c = ap chars c.new-text.ensures.bytes
+use Rattle.tbr_tagged.proofs.elements.append_text.Goals as goal
+use Rattle.tbr_tagged.proofs.elements.append_text.Goals.{in-Str+in_ok-push_str, in_default}
 
 pub loop-element-preserved : goal.loop-element-preserved
 loop-element-preserved g c =
@@ -20,6 +16,7 @@ loop-element-preserved g c =
     elim c.match-element.branch [
       | in-Str+in_ok-push_str w ↦ rw (more, w.in-Str.is, w.text-is, flat_map-append element_characters before, append-nil)
           (ap chars w.in_ok-push_str.ensures.bytes ∙ chars-append (string_bytes c.loop-element.text) w.as_str.result.now (IsUtf8-string_bytes c.loop-element.text)
-          ∙ ap (λ cs. cs ++ chars w.as_str.result.now) c.loop-element.invariant ∙ ap (λ bs. characters before ++ chars bs) w.as_str.ensures.value)
+          ∙ ap (λ cs. cs ++ chars w.as_str.result.now) c.loop-element.invariant ∙ append_assoc (chars (string_bytes c.args.text.now)) (characters before) (chars w.as_str.result.now)
+          ∙ ap (λ bs. chars (string_bytes c.args.text.now) ++ (characters before ++ chars bs)) w.as_str.ensures.value)
       | in_default w ↦ rw (more, w.in_default.is, w.text-is, flat_map-append element_characters before, append-nil) c.loop-element.invariant
     ]
