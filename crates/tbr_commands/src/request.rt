@@ -56,9 +56,9 @@ impl Request {
         ensures none { IfOk result (λ found.
             IfNone found ((request : asked.Request) → IsRequest line.now request → ⊥)) }
     {
-        match alone(line) {
+        match with_argument(alloc, line)? {
             Some(request) => Ok(Some(request)),
-            None => with_argument(alloc, line),
+            None => Ok(alone(line)),
         }
     }
 
