@@ -1,5 +1,5 @@
 -- Footnotes that are cut into lines.
-use Rattle.std.proofs.Common.{◌≡◌, ℕ, ◌+◌, Bool, true, false, if◌then◌else◌, Option, None, unwrap_or, List, [], ◌∷◌, ◌++◌, map, fold, flat_map, refl, ap, sym, ◌∙◌, subst, append_assoc, append-nil, arith}
+use Rattle.std.proofs.Common.{◌≡◌, ℕ, ◌+◌, Bool, true, false, if◌then◌else◌, Option, None, unwrap_or, List, [], ◌∷◌, ◌++◌, map, fold, flat_map, refl, ap, sym, ◌∙◌, append_assoc, append-nil, arith}
 use Rattle.std.specs.Global.{Vec}
 use Rattle.std.proofs.lemmas.List.{map-append}
 use Rattle.std.proofs.lemmas.List.Concat.{flat_map-append}
@@ -15,7 +15,7 @@ use Rattle.tbr_lines.specs.declared.TaggedLineElement.{TaggedLineElement}
 use Rattle.tbr_lines.specs.View.{element_of}
 use Rattle.tbr_decor.specs.Meant.{meant as element_meant}
 use Rattle.tbr_renderer.specs.Cutting.{Cutting, nothing_cut, line_ended, appended, with_item, with_items, cut_meant, texts_meant}
-use Rattle.tbr_renderer.specs.Footnotes.{unbroken, footnote_items, fits_behind, cut_lines, link_width, footnote_lines, with_footnotes}
+use Rattle.tbr_renderer.specs.Footnotes.{unbroken, footnote_items, fits_behind, cut_lines, link_width, footnote_lines}
 use Rattle.tbr_renderer.specs.Meant.{tag_meant, items_meant, meant}
 use Rattle.tbr_renderer.specs.Renderer.{Renderer, Settings, KeepsSettings, with_line}
 use Rattle.tbr_renderer.proofs.Appending.{HasPut}

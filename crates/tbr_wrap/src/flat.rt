@@ -145,13 +145,18 @@ impl<T> FlatText<T> {
     /// how many they are, and their columns.
     ///
     /// Where memory is refused the items stay as they were.
-    pub fn place_fitting<W: CharWidth>(&mut self, room: usize) -> Result<(usize, usize), OutOfMemory>
+    pub fn place_fitting<W: CharWidth>(
+        &mut self,
+        room: usize,
+    ) -> Result<(usize, usize), OutOfMemory>
         ensures within { IfOk result (λ r. r.0 ≤ length self.old.word) }
         ensures room { IfOk result (λ r. r.1 ≤ room) }
         ensures columns { IfOk result (λ r. r.1 ≡ items_width W.columns (take r.0 self.old.word)) }
         ensures markers { IfOk result (λ r. length (names_in_items (take r.0 self.old.word)) ≡ 0) }
         ensures placed { IfOk result (λ r. self.new ≡ record {
-            placed = self.old.placed ++ take r.0 self.old.word; word = drop r.0 self.old.word }) }
+          placed = self.old.placed ++ take r.0 self.old.word;
+          word = drop r.0 self.old.word;
+        }) }
     {
         self.text.holds_characters();
         let (count, columns) = self.text.fitting::<W>(self.word.before(), room);

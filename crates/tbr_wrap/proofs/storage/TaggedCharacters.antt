@@ -8,7 +8,6 @@ use Rattle.tbr_model.specs.Run.{Item, glyph}
 use Rattle.tbr_model.specs.Rule.{spaces}
 use Rattle.tbr_tagged.specs.Elements.{SameItems, text_items}
 use Rattle.tbr_wrap.specs.Flat.{Flat, Letters, flat, glyphs}
-use Rattle.tbr_wrap.proofs.storage.TextBytes.{next_split}
 use Rattle.tbr_tagged.proofs.SameItems.{same_items, same_items_trans, same_items_append}
 use Rattle.std.specs.Cmp.{IsEquivalence}
 use Rattle.std.proofs.Math.Seq.{take-add}

@@ -4,14 +4,14 @@ use Rattle.std.specs.List.{slice_range, slice_get}
 use Rattle.std.specs.Option.{MatchOption}
 use Rattle.std.proofs.Common.{None, Some, add-one}
 use Rattle.std.specs.Str.{IsAscii, IsUtf8, is_utf8, chars, IsCharBoundary}
-use Rattle.std.specs.Char.{IsScalar, len_utf8}
+use Rattle.std.specs.Char.{IsScalar}
 use Rattle.std.proofs.Math.Seq.{drop-append_seam, take-append_seam}
 use Rattle.std.proofs.lemmas.List.{take-append-drop, length-append, length-take, length-take-le, length-drop}
 use Rattle.std.proofs.lemmas.List.Folds.{drop_split}
-use Rattle.std.proofs.lemmas.Str.{IsUtf8-append, IsUtf8-nil, IsCharBoundary-from_drop, length-le-encodes, encodes-chars, scalars-chars, chars-encodes, encodes-append, IsCharBoundary-at_seam, cons_from_encodes, IsUtf8-encode, IsUtf8-past_char, is_utf8-from_IsUtf8, IsUtf8-from_is_utf8, chars-append, chars-nil, chars_past_char, length-encode, IsUtf8-from_ascii, chars-IsAscii, encodes-IsAscii}
+use Rattle.std.proofs.lemmas.Str.{IsUtf8-append, IsUtf8-nil, IsCharBoundary-from_drop, length-le-encodes, encodes-chars, scalars-chars, chars-encodes, encodes-append, IsCharBoundary-at_seam, IsUtf8-encode, IsUtf8-past_char, is_utf8-from_IsUtf8, IsUtf8-from_is_utf8, chars-append, chars-nil, chars_past_char, IsUtf8-from_ascii, chars-IsAscii, encodes-IsAscii}
 use lib.Utf8.{encodes, scalar, scalars}
 use Rattle.tbr_wrap.specs.Flat.{letters, AreParts}
-use Rattle.tbr_tagged.proofs.TextBehind.{chars_one, chars_push, chars_none}
+use Rattle.tbr_tagged.proofs.TextBehind.{chars_push, chars_none}
 
 -- ---- a text in three parts
 

@@ -1,4 +1,4 @@
-use Rattle.std.proofs.Common.{ap, sym, ◌∙◌, ◌++◌, map, take, append-nil, append_assoc}
+use Rattle.std.proofs.Common.{ap, ◌∙◌, ◌++◌, map, take, append-nil, append_assoc}
 use Rattle.std.specs.String.{string_bytes}
 use Rattle.std.specs.Str.{chars}
 use Rattle.std.proofs.lemmas.Str.{IsUtf8-string_bytes, chars-append}

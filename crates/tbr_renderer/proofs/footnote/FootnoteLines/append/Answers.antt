@@ -1,8 +1,8 @@
-use Rattle.std.proofs.Common.{◌∙◌, ◌≡◌, ◌++◌, ◌∷◌, [], List, ap, unwrap_or, rules}
+use Rattle.std.proofs.Common.{◌∙◌, List, ap, unwrap_or, rules}
 use Rattle.tbr_model.specs.Run.{Item, glyph}
 use Rattle.tbr_lines.specs.Elements.{items_of}
 use Rattle.tbr_lines.proofs.Copies.{list_copies_equal}
-use Rattle.tbr_renderer.specs.Cutting.{Cutting, cutting_of, cut_meant, appended}
+use Rattle.tbr_renderer.specs.Cutting.{cutting_of, cut_meant, appended}
 use Rattle.tbr_renderer.specs.Meant.{tag_meant, items_meant}
 use Rattle.tbr_renderer.proofs.Footnotes.{held_more, held_width}
 use Rattle.tbr_renderer.proofs.Meanings.{tags_mean}

@@ -1,8 +1,6 @@
-use Rattle.std.proofs.Common.{◌≡◌, ◌≤◌, ◌++◌, ◌∷◌, ℕ, List, [], unwrap_or, length, take, sym, ap, ◌∙◌, map-id, append-nil, arith, length-append}
-use Rattle.std.specs.Str.{chars}
+use Rattle.std.proofs.Common.{◌≡◌, ◌∷◌, [], unwrap_or, sym, ap, ◌∙◌, map-id, append-nil, arith, length-append}
 use Rattle.std.proofs.lemmas.Iterator.{YieldsList-from_chars}
 use Rattle.std.proofs.lemmas.Iterator.Consumers.{YieldsList-end}
-use Rattle.tbr_model.specs.Width.{width_of_text}
 use Rattle.tbr_tagged.proofs.TextColumns.{turn_and_rest, width_of_text-append}
 use Rattle.tbr_wrap.proofs.storage.TextEnds.{seen_columns}
 use Rattle.tbr_wrap.proofs.flat.split_text.fitting.Goals as goal

@@ -1,4 +1,4 @@
-use Rattle.std.proofs.Common.{◌≡◌, ◌≤◌, ◌++◌, length, take, drop, ap, sym, ◌∙◌, arith}
+use Rattle.std.proofs.Common.{◌≤◌, ◌++◌, length, take, drop, ap, ◌∙◌, arith}
 use Rattle.tbr_wrap.specs.Flat.{Flat, flat}
 use Rattle.tbr_wrap.proofs.storage.TaggedCharacters.{flat_front, flat_word_len}
 use Rattle.tbr_wrap.proofs.flat.characters.Characters.place_front.Goals as goal
