@@ -1,6 +1,7 @@
 -- What the fields of a border mean.
 use Rattle.std.specs.Prelude.{List, map, length}
 use Rattle.tbr_border.specs.declared.border.Span.{Span}
+use Rattle.tbr_border.specs.declared.border.Shape.{Shape}
 use Rattle.tbr_border.specs.declared.border.BorderHoriz.TheInside.{Inside}
 use Rattle.tbr_tagged.specs.View.{element_of}
 use Rattle.tbr_border.specs.Cell.{cells_of}
@@ -12,8 +13,11 @@ hole_of span = record { place = span.place; width = span.width; element = elemen
 abbrev pub holes_of : {A : Type 0} → List (Span A) → List (Hole A)
 holes_of stored = map hole_of stored
 
+abbrev pub shown_by : {A : Type 0} → Shape A → Border A
+shown_by shape = record { cells = cells_of shape.segments.items; tag = shape.tag; holes = holes_of shape.holes.items }
+
 abbrev pub border_of : {A : Type 0} → Inside A → Border A
-border_of b = record { cells = cells_of b.segments.items; tag = b.tag; holes = holes_of b.holes.items }
+border_of b = shown_by b.shape.value
 
 abbrev pub SpansFit : {A : Type 0} → Inside A → Type 0
-SpansFit b = AreInOrder 0 (holes_of b.holes.items) (length b.segments.items)
+SpansFit b = AreInOrder 0 (border_of b).holes (length b.shape.value.segments.items)

@@ -23,6 +23,13 @@ mod cell;
 /// as sets of arms, its tag, and the elements as holes, each with its place and its width in columns.
 #[derive(Debug, Drop)]
 pub struct BorderHoriz<T> {
+    shape: Box<Shape<T>>,
+}
+
+/// What a border has. It stands in a box, so that a border takes no more room in a renderer's list of lines than a line
+/// of text.
+#[derive(Debug, Drop)]
+struct Shape<T> {
     segments: Vec<BorderSegHoriz>,
     tag: T,
     holes: Vec<Span<T>>,
@@ -67,10 +74,13 @@ impl<T: Drop> BorderHoriz<T> {
     {
         let mut segments = Vec::new(alloc);
         segments.resize(width, linetype)?;
-        Ok(BorderHoriz {
+        let shape = Shape {
             segments,
             tag,
             holes: Vec::new(alloc),
+        };
+        Ok(BorderHoriz {
+            shape: Box::new(alloc, shape)?,
         })
     }
 }
@@ -83,7 +93,7 @@ impl<T> BorderHoriz<T> {
         ensures ok { OnOk result (self.new ≡ model.with_cells (model.stretched width self.old.cells) self.old) }
         ensures err { OnErr result (self.new ≡ self.old) }
     {
-        stretch(&mut self.segments, width)
+        stretch(&mut self.shape.segments, width)
     }
 
     /// Stretches the border to `x + 1` cells, and adds the arm up to the cell at `x`.
@@ -93,7 +103,7 @@ impl<T> BorderHoriz<T> {
         ensures ok { OnOk result (self.new ≡ model.with_cells (model.joined_at above x self.old.cells) self.old) }
         ensures err { OnErr result (self.new ≡ self.old) }
     {
-        join_at(&mut self.segments, Side::Above, x)
+        join_at(&mut self.shape.segments, Side::Above, x)
     }
 
     /// Stretches the border to `x + 1` cells, and adds the arm down to the cell at `x`.
@@ -103,7 +113,7 @@ impl<T> BorderHoriz<T> {
         ensures ok { OnOk result (self.new ≡ model.with_cells (model.joined_at below x self.old.cells) self.old) }
         ensures err { OnErr result (self.new ≡ self.old) }
     {
-        join_at(&mut self.segments, Side::Below, x)
+        join_at(&mut self.shape.segments, Side::Below, x)
     }
 
     /// Adds an arm down at `pos + i` for each place `i` where the other border, which is seen from above, has one of `┴
@@ -119,7 +129,12 @@ impl<T> BorderHoriz<T> {
             (self.new ≡ model.with_cells (model.merged below self.old.cells pos other.now.cells) self.old) }
         ensures err { OnErr result (self.new ≡ self.old) }
     {
-        merge(&mut self.segments, Side::Below, &other.segments, pos)
+        merge(
+            &mut self.shape.segments,
+            Side::Below,
+            &other.shape.segments,
+            pos,
+        )
     }
 
     /// Adds an arm up at `pos + i` for each place `i` where the other border, which is seen from below, has one of `┴ ┬
@@ -135,7 +150,12 @@ impl<T> BorderHoriz<T> {
             (self.new ≡ model.with_cells (model.merged above self.old.cells pos other.now.cells) self.old) }
         ensures err { OnErr result (self.new ≡ self.old) }
     {
-        merge(&mut self.segments, Side::Above, &other.segments, pos)
+        merge(
+            &mut self.shape.segments,
+            Side::Above,
+            &other.shape.segments,
+            pos,
+        )
     }
 
     /// Puts an element in front of the cells from `pos` on, for as many columns as it takes. The border is stretched to
@@ -158,16 +178,17 @@ impl<T> BorderHoriz<T> {
         let Some(end) = pos.checked_add(width) else {
             return Err(OutOfMemory);
         };
-        self.holes.push(Span {
+        let shape = &mut *self.shape;
+        shape.holes.push(Span {
             place: pos,
             width,
             element,
         })?;
-        if let Err(e) = stretch(&mut self.segments, end) {
-            self.holes.pop();
+        if let Err(e) = stretch(&mut shape.segments, end) {
+            shape.holes.pop();
             return Err(e);
         }
-        open(&mut self.segments, pos, end);
+        open(&mut shape.segments, pos, end);
         Ok(())
     }
 
@@ -175,7 +196,7 @@ impl<T> BorderHoriz<T> {
     pub fn span_end(&self) -> usize
         ensures { result ≡ model.span_end self.now.holes }
     {
-        match self.holes.last() {
+        match self.shape.holes.last() {
             Some(span) => span.place + span.width,
             None => 0,
         }
@@ -185,29 +206,30 @@ impl<T> BorderHoriz<T> {
     pub fn has_holes(&self) -> bool
         ensures { result ≡ model.has_holes self.now.holes }
     {
-        !self.holes.is_empty()
+        !self.shape.holes.is_empty()
     }
 
     /// How many cells the border has.
     pub fn len(&self) -> usize
         ensures { result ≡ length self.now.cells }
     {
-        self.segments.len()
+        self.shape.segments.len()
     }
 
     /// Whether the border has no cell.
     pub fn is_empty(&self) -> bool
         ensures { result ≡ (length self.now.cells == 0) }
     {
-        self.segments.is_empty()
+        self.shape.segments.is_empty()
     }
 
     /// The text of the line above: `│` above each `┴`, `┼`, `└` and `┘`, also under holes, and spaces else.
     pub fn to_vertical_lines_above(&self) -> Result<String, OutOfMemory>
         ensures { IfOk result (λ text. chars_of text ≡ model.lines_above self.now) }
     {
-        let mut text = String::new(*self.segments.allocator());
-        for cell in &self.segments {
+        let segments = &self.shape.segments;
+        let mut text = String::new(*segments.allocator());
+        for cell in segments {
             text.push(cell.line_above())?;
         }
         Ok(text)
@@ -324,10 +346,11 @@ impl<T> BorderHoriz<T> {
     pub fn to_text(&self) -> Result<String, OutOfMemory>
         ensures { IfOk result (λ text. chars_of text ≡ item_characters (shown self.now.tag self.now)) }
     {
-        let cells = self.segments.as_slice();
-        let mut text = String::new(*self.segments.allocator());
+        let shape = &*self.shape;
+        let cells = shape.segments.as_slice();
+        let mut text = String::new(*shape.segments.allocator());
         let mut at = 0;
-        for span in &self.holes {
+        for span in &shape.holes {
             draw(&mut text, &cells[at..span.place])?;
             text.push_str(span.element.as_str())?;
             at = span.place + span.width;
@@ -345,9 +368,11 @@ impl<T: Eq + Clone + Drop> BorderHoriz<T> {
         ensures items { IfOk result (λ line. SameItems T.eq (items_of line) (shown self.tag self)) }
         ensures merged { IfOk result (λ line. IsMerged T.eq line) }
     {
-        let segments = self.segments;
-        let holes = self.holes;
-        let tag = self.tag;
+        let Shape {
+            segments,
+            tag,
+            holes,
+        } = Box::into_inner(self.shape);
         flattened(&segments, holes, &tag)
     }
 
@@ -358,8 +383,11 @@ impl<T: Eq + Clone + Drop> BorderHoriz<T> {
         ensures items { IfOk result (λ line. SameItems T.eq (items_of line) (shown tag.now self)) }
         ensures merged { IfOk result (λ line. IsMerged T.eq line) }
     {
-        let segments = self.segments;
-        let holes = self.holes;
+        let Shape {
+            segments,
+            holes,
+            ..
+        } = Box::into_inner(self.shape);
         flattened(&segments, holes, tag)
     }
 
@@ -368,13 +396,18 @@ impl<T: Eq + Clone + Drop> BorderHoriz<T> {
         requires { CopiesAreEqual T.is_clone T.eq }
         ensures { IfOk result (λ b. SameBorder T.eq b self.now) }
     {
-        let holes = copied(*self.segments.allocator(), &self.holes)?;
-        let segments = Vec::from_slice(*self.segments.allocator(), &self.segments)?;
-        let tag = self.tag.clone()?;
-        Ok(BorderHoriz {
+        let shape = &*self.shape;
+        let alloc = *shape.segments.allocator();
+        let holes = copied(alloc, &shape.holes)?;
+        let segments = Vec::from_slice(alloc, &shape.segments)?;
+        let tag = shape.tag.clone()?;
+        let copy = Shape {
             segments,
             tag,
             holes,
+        };
+        Ok(BorderHoriz {
+            shape: Box::new(alloc, copy)?,
         })
     }
 }

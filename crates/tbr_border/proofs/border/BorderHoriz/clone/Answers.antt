@@ -6,19 +6,20 @@ use Rattle.tbr_border.specs.BorderView.{hole_of}
 use Rattle.tbr_border.proofs.HolesInOrder.{same_order, in_order_longer}
 use Rattle.tbr_border.proofs.border.BorderHoriz.clone.Goals as goal
 
-same_holes : (g : _) (c : goal.In_ok-tag g) → AllZip (SameHole g.T.PartialEq.eq) (map hole_of c.in_ok-holes.holes.items) (map hole_of c.self.inside.holes.items)
+same_holes : (g : _) (c : goal.In_ok-new g) → AllZip (SameHole g.T.PartialEq.eq) (map hole_of c.in_ok-holes.holes.items) (map hole_of c.deref-shape.result.now.holes.items)
 same_holes g c = rw c.deref.ensures.value at c.in_ok-holes.ensures
 
 pub invariant_of-result : goal.invariant_of-result
 invariant_of-result g c =
-    let long : length c.self.inside.segments.items ≤ length c.in_ok-segments.segments.items = omega (arith, ap length c.in_ok-segments.ensures.items, ap length c.deref-2.ensures.value) in
-    in_order_longer 0 (map hole_of c.in_ok-holes.holes.items) (length c.self.inside.segments.items) (length c.in_ok-segments.segments.items)
-    (same_order g.T.PartialEq.eq 0 (map hole_of c.in_ok-holes.holes.items) (map hole_of c.self.inside.holes.items) (length c.self.inside.segments.items) (same_holes g c) c.self.invariant)
-    long
+    let shape = c.deref-shape.result.now in
+    let cells = length shape.segments.items in
+    let long : cells ≤ length c.in_ok-segments.segments.items = omega (arith, ap length c.in_ok-segments.ensures.items, ap length c.deref-2.ensures.value) in
+    let order = same_order g.T.PartialEq.eq 0 (map hole_of c.in_ok-holes.holes.items) (map hole_of shape.holes.items) cells (same_holes g c) (rw c.deref-shape.ensures c.self.invariant) in
+    rw c.in_ok-new.ensures.ok (in_order_longer 0 (map hole_of c.in_ok-holes.holes.items) cells (length c.in_ok-segments.segments.items) order long)
 
 pub returns : goal.returns
 returns g c =
-    rw (← c.self.view_is) (record {
+    rw (← c.self.view_is, ← c.deref-shape.ensures, c.in_ok-new.ensures.ok) (record {
       cells = ap (map cell_of) (c.in_ok-segments.ensures.items ∙ c.deref-2.ensures.value);
       tag = g.met.T.Eq.laws.symm _ _ ∙ c.requires _ _ c.in_ok-tag.ensures.cases;
       holes = same_holes g c;

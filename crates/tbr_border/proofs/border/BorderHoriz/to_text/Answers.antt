@@ -5,7 +5,7 @@ use Rattle.std.proofs.lemmas.List.{take_all}
 use Rattle.tbr_tagged.specs.Walks.{item_characters}
 use Rattle.tbr_border.specs.Cell.{cell_of, character}
 use Rattle.tbr_border.specs.Border.{shown_from}
-use Rattle.tbr_border.specs.BorderView.{hole_of}
+use Rattle.tbr_border.specs.BorderView.{hole_of, shown_by}
 use Rattle.tbr_tagged.proofs.ElementLoops.{one_more}
 use Rattle.tbr_border.proofs.BorderText.{in_order_within, hole_at, map-slice, cells_from, text_step, text_end}
 use Rattle.tbr_border.proofs.border.BorderHoriz.to_text.Goals as goal
@@ -15,7 +15,7 @@ loop-span-init g c =
     let none = ap chars c.new-text.ensures.bytes ∙ chars-nil in
     record {
       text = λ rest. ap (λ cs. cs ++ item_characters (shown_from c.args.self.now.tag (map cell_of c.as_slice-cells.result.now) 0 rest)) none;
-      fit = rw (c.deref-span-items.ensures.value, c.as_slice-cells.ensures.value) c.self.invariant;
+      fit = rw (c.deref-span-items.ensures.value, c.as_slice-cells.ensures.value, c.deref-shape.ensures) c.self.invariant;
     }
 
 pub slice_bounds-draw-end : goal.slice_bounds-draw-end
@@ -26,7 +26,7 @@ slice_bounds-draw-end g c =
 pub overflow_add-at : goal.overflow_add-at
 overflow_add-at g c =
     let here = hole_at hole_of c.deref-span-items.result.now c.loop-span.span-index c.span-item.result c.loop-span.at (length c.as_slice-cells.result.now) c.loop-span-test.true c.span-item.is c.loop-span.invariant.fit in
-    omega (arith, in_order_within _ _ _ here.1, ap length c.as_slice-cells.ensures.value, c.self.inside.segments.ok.0, c.self.inside.segments.ok.1, c.self.inside.segments.small)
+    omega (arith, in_order_within _ _ _ here.1, ap length c.as_slice-cells.ensures.value, c.self.inside.shape.value.segments.ok.0, c.self.inside.shape.value.segments.ok.1, c.self.inside.shape.value.segments.small)
 
 pub loop-span-preserved : goal.loop-span-preserved
 loop-span-preserved g c =
@@ -56,5 +56,6 @@ returns g c =
     text_end tag cells c.loop-span.at (chars (string_bytes c.loop-span.text)) (chars (string_bytes c.draw-2.new.text)) drew
     ∙ c.loop-span.invariant.text []
     ∙ ap (λ hs. item_characters (shown_from tag cells 0 hs)) (all ∙ ap (map hole_of) c.deref-span-items.ensures.value)
-    ∙ ap (λ xs. item_characters (shown_from tag (map cell_of xs) 0 (map hole_of c.self.inside.holes.items))) c.as_slice-cells.ensures.value
+    ∙ ap (λ xs. item_characters (shown_from tag (map cell_of xs) 0 (map hole_of c.deref-shape.result.now.holes.items))) c.as_slice-cells.ensures.value
+    ∙ ap (λ shape. item_characters (shown_from tag (shown_by shape).cells 0 (shown_by shape).holes)) c.deref-shape.ensures
     ∙ ap (λ b. item_characters (shown_from tag b.cells 0 b.holes)) c.self.view_is
