@@ -1,5 +1,5 @@
 //! The calls of a renderer.
-ghost use Rattle.std.specs.Prelude.{◌≡◌, ◌≢◌, ◌≤◌, ◌<◌, ◌⊎◌, ℕ, Bool, true, List, length, Option, None, Some, Err, OnOk, OnErr, IfOk, IfErr, chars, map, replicate};
+ghost use Rattle.std.specs.Prelude.{◌≡◌, ◌≢◌, ◌≤◌, ◌<◌, ◌⊎◌, ℕ, suc, ◌^◌, Bool, true, List, length, Option, None, Some, Err, OnOk, OnErr, IfOk, IfErr, chars, map, replicate};
 ghost use Rattle.std.specs.List.{AllZip, AllByRecursion as Each};
 ghost use Rattle.tbr_renderer.specs.Renderer.{Line};
 ghost use Rattle.tbr_renderer.specs.Appended.{GivesFirst, texts_of, FirstToRefuse};
@@ -162,6 +162,8 @@ pub trait Renderer {
         ensures memory { kept_refusal self.old ≡ None → result ≢ Err E.TooNarrow }
         ensures left { kept_refusal self.old ≡ None →
             OnErr result (stops_at_stage call.push_preformat self.old self.new) }
+        ensures passes { kept_refusal self.old ≡ None →
+            OnErr result (2 ^ 64 ≤ suc (open_preformats self.old)) }
         ensures kept { KeepsFailure kept_refusal self.old result self.new };
 
     /// Ends a preformatted stretch. It takes no memory.

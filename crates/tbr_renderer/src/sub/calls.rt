@@ -1,5 +1,5 @@
 //! The calls of a renderer.
-ghost use Rattle.std.specs.Prelude.{◌≡◌, ◌≢◌, ◌<◌, ◌++◌, ◌∷◌, [], suc, ◌-◌, not, true, None, Some, Ok, Err, OnOk, OnErr, IfErr, List, map, length, replicate, ◌⊎◌, ◌≤◌};
+ghost use Rattle.std.specs.Prelude.{◌≡◌, ◌≢◌, ◌<◌, ◌++◌, ◌∷◌, [], suc, ◌-◌, ◌^◌, not, true, None, Some, Ok, Err, OnOk, OnErr, IfErr, List, map, length, replicate, ◌⊎◌, ◌≤◌};
 ghost use Rattle.tbr_lines.specs.declared.Error.TheVariants as E;
 ghost use Rattle.tbr_renderer.specs.Renderer.{KeepsSettings, block_width, without_last};
 ghost use Rattle.tbr_renderer.specs.Meant.{meant, tag_meant};
@@ -73,6 +73,7 @@ impl<D: TextDecorator, W: CharWidth> SubRenderer<D, W> {
         ensures ok { OnOk result (self.new ≡ record self.old { preformatted = suc self.old.preformatted }) }
         ensures memory { IfErr result (λ e. e ≡ E.OutOfMemory) }
         ensures stopped { OnErr result (KeepsSettings (meant D.meaning self.old) (meant D.meaning self.new)) }
+        ensures passes { OnErr result (2 ^ 64 ≤ suc self.old.preformatted) }
     {
         let Some(depth) = self.preformatted.checked_add(1) else {
             return Err(Error::OutOfMemory);
