@@ -1,5 +1,5 @@
 -- What a script has begun and not ended yet.
-use Rattle.std.specs.Prelude.{ℕ, suc, ◌-◌, ◌==◌, Bool, false, Option, None, Some}
+use Rattle.std.specs.Prelude.{ℕ, suc, ◌-◌, ◌^◌, ◌≤◌, ◌==◌, Bool, false, Option, None, Some}
 use Rattle.tbr_decor.specs.Ground as ground
 use Rattle.tbr_commands.specs.Request.{Request, begin, end, colour}
 use Rattle.tbr_commands.specs.declared.begun.Begun.{Begun}
@@ -82,6 +82,11 @@ ends_nothing begun request = lacks begun (ends request)
 abbrev pub more : Begun → Option Kind → Begun
 more begun None = begun
 more begun (Some kind) = with_count begun kind (suc (count begun kind))
+
+-- that the count of one more passes `usize`
+abbrev pub MorePasses : Begun → Option Kind → Type 0
+MorePasses begun None = ⊥
+MorePasses begun (Some kind) = 2 ^ 64 ≤ suc (count begun kind)
 
 abbrev pub less : Begun → Option Kind → Begun
 less begun None = begun

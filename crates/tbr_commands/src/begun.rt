@@ -1,6 +1,6 @@
 //! What a script has begun and not ended yet.
-ghost use Rattle.std.specs.Prelude.{◌≡◌, IfSome};
-ghost use Rattle.tbr_commands.specs.Begun.{nothing_begun, count, with_count, ends_nothing, more, less, counted};
+ghost use Rattle.std.specs.Prelude.{◌≡◌, IfSome, IfNone};
+ghost use Rattle.tbr_commands.specs.Begun.{nothing_begun, count, with_count, begins, ends_nothing, more, MorePasses, less, counted};
 ghost use Rattle.tbr_commands.specs.Request.{request_of};
 
 use crate::request::Request;
@@ -93,7 +93,8 @@ impl Begun {
 
     /// One more of a kind, if there is a kind. `None` where its count passes `usize`.
     fn more(mut self, kind: Option<Kind>) -> Option<Begun>
-        ensures { IfSome result (λ begun. begun ≡ more self kind) }
+        ensures counts { IfSome result (λ begun. begun ≡ more self kind) }
+        ensures passes { IfNone result (MorePasses self kind) }
     {
         if let Some(kind) = kind {
             self.set(kind, self.count(kind).checked_add(1)?);
@@ -113,7 +114,8 @@ impl Begun {
 
     /// The counts behind a request. `None` where one passes `usize`.
     pub fn behind(self, request: &Request) -> Option<Begun>
-        ensures { IfSome result (λ begun. begun ≡ counted self (request_of request.now)) }
+        ensures counts { IfSome result (λ begun. begun ≡ counted self (request_of request.now)) }
+        ensures passes { IfNone result (MorePasses self (begins (request_of request.now))) }
     {
         Some(self.more(request.begins())?.less(request.ends()))
     }

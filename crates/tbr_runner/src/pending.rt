@@ -1,7 +1,7 @@
 //! What is pending on a renderer.
-ghost use Rattle.std.specs.Prelude.{◌≡◌, ◌↔◌, ◌<◌, false, [], length, IfOk, IfSome};
+ghost use Rattle.std.specs.Prelude.{◌≡◌, ◌↔◌, ◌<◌, false, [], length, IfOk, IfSome, IfNone};
 ghost use Rattle.std.specs.List.{AllByRecursion as Each};
-ghost use Rattle.tbr_commands.specs.Begun.{ends_nothing, counted};
+ghost use Rattle.tbr_commands.specs.Begun.{begins, ends_nothing, counted, MorePasses};
 ghost use Rattle.tbr_commands.specs.Request.{request_of};
 ghost use Rattle.tbr_runner.specs.Progress.{nothing_pending};
 ghost use Rattle.tbr_runner.specs.Meaning.{renderers_of, with_cell, without_cells};
@@ -60,8 +60,9 @@ impl<D: TextDecorator, W: CharWidth> Pending<D, W> {
 
     /// Counts what a request begins or ends. `None` where a count passes `usize`.
     pub fn behind(self, request: &Request) -> Option<Pending<D, W>>
-        ensures { IfSome result (λ pending.
+        ensures counts { IfSome result (λ pending.
             pending ≡ record self { begun = counted self.begun (request_of request.now) }) }
+        ensures passes { IfNone result (MorePasses self.begun (begins (request_of request.now))) }
     {
         let Pending {
             begun,

@@ -9,6 +9,6 @@ recounted : {D A T : Type 0} (p q : Pending D A T) (begun : Begun) (count : Begu
 recounted {D} {A} {T} p q begun count same is =
     ap (λ (x : Begun). record p { begun = x }) is ∙ ap (λ (r : Pending D A T). record r { begun = count r.begun }) same
 
-pub returns : goal.returns
-returns g c =
-    recounted _ c.args.self c.in_ok-behind.field-0 (λ begun. counted begun (request_of c.args.request.now)) c.self.view_is c.in_ok-behind.ensures
+pub returns-clause-counts : goal.returns-clause-counts
+returns-clause-counts g c =
+    recounted _ c.args.self c.in_ok-behind.field-0 (λ begun. counted begun (request_of c.args.request.now)) c.self.view_is c.in_ok-behind.ensures.counts

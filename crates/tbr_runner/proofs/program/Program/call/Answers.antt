@@ -26,11 +26,11 @@ invariant_of-result g c =
     let i = c.self.inside in
     let live = top_live i.renderers i.pending i.opened c.self.invariant c.top_mut-top.result.now c.top_mut-top.ensures.top in
     with_top_live i.renderers i.pending i.opened c.self.invariant _ c.call.new.renderer c.in-Some.pending refl
-    (still_live g.W.CharWidth.columns (decoration_of g.D.TextDecorator) g.D.TextDecorator.meaning (request_of c.args.request.now) c.top_mut-top.result.now c.call.new.renderer i.pending.begun c.in-Some.pending.begun live (ap (λ p. p.begun) c.in-Some.ensures) c.in_ok-call.ensures.ok)
+    (still_live g.W.CharWidth.columns (decoration_of g.D.TextDecorator) g.D.TextDecorator.meaning (request_of c.args.request.now) c.top_mut-top.result.now c.call.new.renderer i.pending.begun c.in-Some.pending.begun live (ap (λ p. p.begun) c.in-Some.ensures.counts) c.in_ok-call.ensures.ok)
 
 pub returns-clause-done : goal.returns-clause-done
 returns-clause-done g c =
-    request_done g.D.TextDecorator.meaning _ c.args.self c.self.view_is g.W.CharWidth.columns (decoration_of g.D.TextDecorator) (request_of c.args.request.now) c.top_mut-top.result.now c.top_mut-top.ensures.top (sym c.lacks.ensures ∙ c.if-lacks.false) c.call.new.renderer c.in-Some.pending c.in-Some.ensures c.in_ok-call.ensures.ok
+    request_done g.D.TextDecorator.meaning _ c.args.self c.self.view_is g.W.CharWidth.columns (decoration_of g.D.TextDecorator) (request_of c.args.request.now) c.top_mut-top.result.now c.top_mut-top.ensures.top (sym c.lacks.ensures ∙ c.if-lacks.false) c.call.new.renderer c.in-Some.pending c.in-Some.ensures.counts c.in_ok-call.ensures.ok
 
 pub call-requires-clause-live : goal.call-requires-clause-live
 call-requires-clause-live g c =
