@@ -1,5 +1,5 @@
 -- A `Normal` run under way, where no line may be wider than the block.
-use Rattle.std.proofs.Common.{◌≡◌, ℕ, ◌<◌, Bool, true, false, List, [], ◌∷◌, ◌++◌, ap, sym, ◌∙◌, subst, refl}
+use Rattle.std.proofs.Common.{◌≡◌, ℕ, ◌<◌, Bool, true, false, List, [], ◌∷◌, ◌++◌, ap, sym, ◌∙◌, subst, refl, Option}
 use Rattle.std.specs.List.{AllByRecursion as Each}
 use Rattle.tbr_model.specs.Run.{Entry, Item, items_width, is_break_entry, has_character, reading, trailing}
 use Rattle.tbr_model.specs.Markers.{names_in_items}
@@ -7,7 +7,6 @@ use Rattle.tbr_model.specs.Greedy.{IsNarrow}
 use Rattle.tbr_model.specs.Rule.{Progress, progress}
 use Rattle.tbr_model.proofs.normal.BestLines.{NormalBlank}
 use Rattle.tbr_wrap.specs.Wrapped.{FitsBlock, EndedWordsFit, WordsFit}
-use Rattle.std.proofs.Common.{Option}
 use Rattle.std.proofs.lemmas.Bool.{eqb-true, and_parts, not-true}
 use Rattle.tbr_tagged.specs.declared.error.Error.{Error}
 use Rattle.tbr_wrap.specs.State.{IsNormal, CharactersFit, RunDecides}

@@ -7,7 +7,6 @@ use Rattle.tbr_model.specs.Run.{Item, glyph, marker, items_width, has_character}
 use Rattle.tbr_model.specs.Layout.{joined}
 use Rattle.tbr_model.specs.Laid.{Laid, nothing_laid, end_line, end_if_character}
 use Rattle.tbr_model.specs.Rule.{Progress, flush_word, waiting}
-use Rattle.tbr_model.proofs.words.Items.{no_character_no_width}
 use Rattle.tbr_tagged.specs.Elements.{SameItems}
 use Rattle.tbr_wrap.specs.Wrapped.{FitsBlock}
 use Rattle.tbr_wrap.specs.LaidLines.{HoldsRule, KeepsLimits}
@@ -16,7 +15,7 @@ use Rattle.tbr_wrap.specs.declared.laid_lines.LaidLines.{LaidLines}
 use Rattle.tbr_wrap.specs.declared.wrapper.Wrapper.{Wrapper}
 use Rattle.tbr_wrap.proofs.lines.HeldLines.{holds_same}
 use Rattle.tbr_wrap.proofs.lines.LaidByRule.{lays_same}
-use Rattle.tbr_model.proofs.words.Items.{items_width-append}
+use Rattle.tbr_model.proofs.words.Items.{items_width-append, no_character_no_width}
 use Rattle.tbr_tagged.proofs.SameItems.{same_has, same_items_append}
 
 -- a fresh line has no character

@@ -1,6 +1,5 @@
-use Rattle.std.proofs.Common.{◌≡◌, ◌++◌, chars, take, drop, length, ap, ◌∙◌, sym, subst, arith}
+use Rattle.std.proofs.Common.{◌≡◌, ◌++◌, chars, take, drop, length, ap, ◌∙◌, sym, subst, arith, take-append-drop, length-drop}
 use Rattle.std.specs.Str.{IsUtf8, IsCharBoundary}
-use Rattle.std.proofs.lemmas.List.{take-append-drop, length-drop}
 use Rattle.std.proofs.lemmas.Str.{chars-append, IsUtf8-from_ascii, IsUtf8-drop, IsCharBoundary-from_take}
 use Rattle.tbr_wrap.proofs.words.PlainText.{plain_ascii}
 use Rattle.tbr_wrap.proofs.block.WrappedBlock.add_front.Goals as goal

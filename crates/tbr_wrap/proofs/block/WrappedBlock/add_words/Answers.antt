@@ -1,6 +1,5 @@
-use Rattle.std.proofs.Common.{◌≡◌, ◌<◌, List, map, chars, ◌++◌, fold, take, drop, ap, ◌∙◌, sym, subst, arith}
+use Rattle.std.proofs.Common.{◌≡◌, ◌<◌, List, map, chars, ◌++◌, fold, take, drop, ap, ◌∙◌, sym, subst, arith, take-append-drop}
 use Rattle.std.specs.Str.{IsAscii}
-use Rattle.std.proofs.lemmas.List.{take-append-drop}
 use Rattle.std.proofs.lemmas.Str.{chars-IsAscii, chars-append, IsUtf8-from_ascii, IsCharBoundary-from_take}
 use Rattle.tbr_model.specs.Run.{Entry}
 use Rattle.tbr_model.specs.Rule.{entry, enter}

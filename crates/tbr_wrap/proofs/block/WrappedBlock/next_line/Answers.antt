@@ -1,5 +1,4 @@
-use Rattle.std.proofs.Common.{subst}
-use Rattle.std.specs.Prelude.{IsSomeAnd}
+use Rattle.std.proofs.Common.{subst, IsSomeAnd}
 use Rattle.tbr_tagged.specs.Elements.{items_of, SameItems}
 use Rattle.tbr_wrap.proofs.runs.LinesLeft.{shows_padded}
 use Rattle.tbr_wrap.proofs.block.WrappedBlock.next_line.Goals as goal

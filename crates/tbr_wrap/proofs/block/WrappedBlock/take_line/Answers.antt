@@ -1,7 +1,6 @@
-use Rattle.std.proofs.Common.{◌≡◌, ◌<◌, Ok, Some, true, false, [], length, ap, ◌∙◌, sym, subst}
+use Rattle.std.proofs.Common.{◌≡◌, ◌<◌, Ok, Some, true, false, [], length, ap, ◌∙◌, sym, subst, IfSome}
 use Rattle.tbr_tagged.specs.Elements.{items_of, IsMerged}
 use Rattle.tbr_tagged.proofs.SameItems.{same_items_trans}
-use Rattle.std.specs.Prelude.{IfSome}
 use Rattle.tbr_wrap.proofs.runs.LinesLeft.{ok_of}
 use Rattle.tbr_wrap.specs.State.{State}
 use Rattle.tbr_wrap.specs.Course.{course}

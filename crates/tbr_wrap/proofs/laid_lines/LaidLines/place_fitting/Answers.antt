@@ -1,5 +1,4 @@
-use Rattle.std.proofs.Common.{◌≡◌, ◌≤◌, ◌+◌, take, refl, ap, ◌∙◌, arith}
-use Rattle.std.proofs.lemmas.List.{length-take-le}
+use Rattle.std.proofs.Common.{◌≡◌, ◌≤◌, ◌+◌, take, refl, ap, ◌∙◌, arith, length-take-le}
 use Rattle.tbr_model.specs.Run.{items_width}
 use Rattle.tbr_tagged.specs.Elements.{SameItems}
 use Rattle.tbr_tagged.proofs.SameItems.{same_width}

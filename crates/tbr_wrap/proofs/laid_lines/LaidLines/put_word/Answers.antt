@@ -1,5 +1,4 @@
-use Rattle.std.proofs.Common.{◌≡◌, [], length, take, drop, ap, sym, ◌∙◌, arith, subst}
-use Rattle.std.proofs.lemmas.List.{length-drop}
+use Rattle.std.proofs.Common.{◌≡◌, [], length, take, drop, ap, sym, ◌∙◌, arith, subst, length-drop}
 use Rattle.tbr_model.specs.Greedy.{IsNarrow}
 use Rattle.tbr_model.specs.Run.{item_width}
 use Rattle.tbr_model.specs.Laid.{put_item, put_items}

@@ -1,7 +1,6 @@
-use Rattle.std.proofs.Common.{◌≡◌, ◌≤◌, ◌+◌, true, ◌++◌, ◌∷◌, [], ◌∙◌, sym, ap, subst, chars, length, fold, arith, refl}
+use Rattle.std.proofs.Common.{◌≡◌, ◌≤◌, ◌+◌, true, ◌++◌, ◌∷◌, [], ◌∙◌, sym, ap, subst, chars, length, fold, arith, refl, length-append}
 use Rattle.std.specs.Str.{IsAscii}
 use Rattle.std.proofs.lemmas.Str.{chars-IsAscii}
-use Rattle.std.proofs.lemmas.List.{length-append}
 use Rattle.tbr_model.specs.declared.white_space.WhiteSpace.TheVariants.{Normal}
 use Rattle.tbr_model.specs.Rule.{tag_of, pending_width, lay_here, enter, collapse}
 use Rattle.tbr_model.specs.Run.{items_width}

@@ -1,6 +1,5 @@
-use Rattle.std.proofs.Common.{◌≡◌, ℕ, ◌+◌, true, false, OnOk, nat_lt, ap, arith, subst}
+use Rattle.std.proofs.Common.{◌≡◌, ℕ, ◌+◌, true, false, OnOk, nat_lt, ap, arith, subst, lt-ltb, le-ltb}
 use Rattle.std.proofs.lemmas.Result.{on_ok_weaker}
-use borrow.Author.Tests.{lt-ltb, le-ltb}
 use Rattle.tbr_model.specs.Laid.{end_if_character}
 use Rattle.tbr_model.specs.Rule.{pending_width, put_tab}
 use Rattle.tbr_tagged.specs.Elements.{SameItems}

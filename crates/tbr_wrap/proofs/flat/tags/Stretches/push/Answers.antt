@@ -1,7 +1,6 @@
-use Rattle.std.proofs.Common.{◌≡◌, ◌-◌, ◌≤◌, ◌<◌, ◌++◌, suc, length, replicate, ap, ◌∙◌, sym, arith}
+use Rattle.std.proofs.Common.{◌≡◌, ◌-◌, ◌≤◌, ◌<◌, ◌++◌, suc, length, replicate, ap, ◌∙◌, sym, arith, drop}
 use Rattle.std.proofs.lemmas.Result.{on_ok_weaker}
 use Rattle.tbr_wrap.specs.Stretches.{tags_of}
-use Rattle.std.proofs.Common.{drop}
 use Rattle.tbr_wrap.proofs.storage.StretchTags.{push_last, push_new, same_stretch}
 use Rattle.tbr_wrap.proofs.flat.tags.Stretches.push.Goals as goal
 
