@@ -10,7 +10,7 @@ use Rattle.tbr_model.specs.Run.{Item, glyph, marker, is_kept, items_width, kept_
 use Rattle.tbr_model.specs.Markers.{names_in_items, names_in_run, marker_run, marker_items, names_behind, last, without_last_markers}
 use Rattle.tbr_model.specs.Laid.{Laid, end_if_character}
 use Rattle.tbr_model.specs.Layout.{joined}
-use Rattle.tbr_model.specs.Rule.{Event, call, entry, run_of, Progress, at_start, enter, step, progress, finished, waiting, lines_of}
+use Rattle.tbr_model.specs.Rule.{Event, entry, run_of, Progress, at_start, enter, step, progress, finished, waiting, lines_of}
 use Rattle.tbr_model.proofs.rule.DoneLines.{if_same, step_adds, finished_adds}
 use Rattle.tbr_model.proofs.rule.HardLines.{run_of-append, not_flushed}
 use Rattle.tbr_model.proofs.rule.Markers.{markers_run, markers_at_end, waiting_none, marker_items_alone, names_in_items-append, markers_lead, run_of_markers}
@@ -42,6 +42,7 @@ use Rattle.tbr_wrap.specs.declared.run_change.RunChange.{RunChange}
 use Rattle.tbr_wrap.specs.declared.wrapper.Wrapper.{Wrapper}
 use Rattle.tbr_wrap.proofs.runs.EndedRuns.{shown_run, waits_normal}
 use Rattle.tbr_wrap.proofs.runs.FittingLines.{fitting_lines}
+use Rattle.tbr_wrap.proofs.runs.LinesLeft.{first_of}
 
 -- ---- whether there are lines
 
@@ -73,10 +74,6 @@ no_lines (x ∷ xs) h = absurd (h (omega arith))
 first_showing : {X Y : Type 0} (R : X → Y → Type 0) (xs : List X) (ys : List Y) (x : X) (others : List X) → xs ≡ x ∷ others → AllZip R xs ys → (y : Y) × (rest : List Y) × (ys ≡ y ∷ rest) × AllZip R others rest
 first_showing R xs [] x others e h = absurd (subst (λ zs. AllZip R zs []) e h)
 first_showing R xs (y ∷ ys) x others e h = let k = subst (λ zs. AllZip R zs (y ∷ ys)) e h in (y, ys, refl, k.1)
-
-cons_of : {X : Type 0} (xs : List X) → 0 < length xs → (x : X) × (others : List X) × (xs ≡ x ∷ others)
-cons_of [] h = absurd (omega (arith, h))
-cons_of (x ∷ xs) h = (x, xs, refl)
 
 -- ---- what joins
 
@@ -509,7 +506,7 @@ module _ {A : Type 0} (columns : ℕ → Option ℕ) where
       some_held none text others e = omega (arith, held_count, ap length none, ap length e)
 
       pub some_left : 0 < length b.lines.ended.items → (is : List (Item A)) × (more : List (List (Item A))) × (h.before ++ laid.done ≡ is ∷ more)
-      some_left some = cons_of (h.before ++ laid.done) (omega (arith, some, held_count, length_all_zip (SameItems eq) (h.before ++ laid.done) _ left_shown))
+      some_left some = first_of (h.before ++ laid.done) (λ none. omega (arith, some, held_count, length_all_zip (SameItems eq) (h.before ++ laid.done) _ left_shown, ap length none))
 
       -- a line has ended where one is left
       ended_one : 0 < length b.lines.ended.items → c.begun || is_some_list c.progress.laid.done ≡ true

@@ -1,5 +1,5 @@
 -- Lines that are handed out one by one.
-use Rattle.std.proofs.Common.{rules, ◌≡◌, ◌≢◌, ◌↔◌, ℕ, zero, suc, ◌+◌, ◌-◌, inl, inr, Option, None, Some, Result, Ok, IfOk, true, false, Bool, List, [], ◌∷◌, ◌++◌, take, drop, length, refl, ap, sym, ◌∙◌, subst, arith, append_assoc, length-append}
+use Rattle.std.proofs.Common.{rules, ◌≡◌, ◌≢◌, ◌↔◌, ℕ, zero, suc, ◌+◌, ◌-◌, inl, inr, Option, None, Some, Result, Ok, IfOk, Bool, List, [], ◌∷◌, ◌++◌, take, drop, length, refl, ap, sym, ◌∙◌, subst, arith, append_assoc, length-append, add-one}
 use Rattle.std.proofs.lemmas.List.{drop-drop, take-append-drop, drop-append-le}
 use Rattle.std.proofs.lemmas.Bool.{cases_lt, cond_both}
 use Rattle.std.proofs.Math.ListN.{drop_of_length-le}
@@ -11,15 +11,12 @@ use Rattle.tbr_tagged.proofs.SameItems.{same_items_trans, same_items_append, sam
 use Rattle.tbr_wrap.specs.Wrapped.{ShowsText, padding_of}
 use Rattle.tbr_wrap.specs.State.{State, is_some_list, JoinsRun, JoinsAsMarker, EndsRun, lines_left, line_taken, lines_taken, HandsOutEnded}
 
-one_less : {X : Type 0} (n : ℕ) (xs : List X) → drop (suc n) xs ≡ drop 1 (drop n xs)
-one_less n xs = (let e : suc n ≡ n + 1 = omega arith in ap (λ m. drop m xs) e) ∙ sym (drop-drop 1 n xs)
-
 -- handing one out leaves the others
 pub lines_left-taken : {A : Type 0} (s : State A) → lines_left (line_taken s) ≡ drop 1 (lines_left s)
 lines_left-taken {A} s = go s.ended refl
   where
     go : (es : List (List (Item A))) → s.ended ≡ es → lines_left (line_taken s) ≡ drop 1 (lines_left s)
-    go [] e = rw e (one_less s.handed s.lines)
+    go [] e = rw e (ap (λ m. drop m s.lines) (sym (add-one s.handed)) ∙ sym (drop-drop 1 s.handed s.lines))
     go (t ∷ es) e = rw e refl
 
 -- and so one by one

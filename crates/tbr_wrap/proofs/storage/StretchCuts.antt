@@ -1,5 +1,6 @@
 -- The tags that are left where some are taken out.
-use Rattle.std.proofs.Common.{◌≡◌, ℕ, suc, zero, ◌+◌, ◌-◌, ◌<◌, ◌≤◌, List, [], ◌∷◌, ◌++◌, length, take, drop, get_or, set, replicate, refl, ap, sym, ◌∙◌, subst, arith, append_assoc, append-nil, add-one, Bool, true, false, nat_le, leb-true, leb-false, drop-cons, take-suc-set}
+use Rattle.std.proofs.Common.{◌≡◌, ℕ, suc, zero, ◌+◌, ◌-◌, ◌<◌, ◌≤◌, List, [], ◌∷◌, ◌++◌, length, take, drop, get_or, set, replicate, refl, ap, sym, ◌∙◌, subst, arith, append_assoc, append-nil, add-one, drop-cons, take-suc-set, inl, inr}
+use Rattle.std.proofs.lemmas.Bool.{cases_lt}
 use Rattle.std.proofs.lemmas.List.{length-append, length-take, drop-append-le, drop-drop}
 use Rattle.tbr_wrap.proofs.storage.StretchTags.{IsPlace, at_place, offset_in, stretch_len, split_tags, item_tags, set_tags, tags_of-append, take_behind, drop_behind, before_len, take_run, drop_run, replicate_sum, skip_part}
 use Rattle.tbr_wrap.specs.declared.flat.tags.Stretch.{Stretch}
@@ -31,16 +32,10 @@ module _ {A : Type 0} where
 
   -- the place before more tags comes first
   pub in_order : (xs : List (Stretch A)) (i j a b last count : ℕ) → 0 < count → IsPlace xs i a (last + count) → IsPlace xs j b last → i ≤ j
-  in_order xs i j a zero last count some p q = go (nat_le i j) refl
-    where
-      go : (t : Bool) → nat_le i j ≡ t → i ≤ j
-      go true e = leb-true i j e
-      go false e = let less : j < i = leb-false i j e in absurd (omega (arith, some, p.tags, q.tags, fewer xs j i (omega (arith, less)) p.within))
-  in_order xs i j a (suc b) last count some p q = go (nat_le i j) refl
-    where
-      go : (t : Bool) → nat_le i j ≡ t → i ≤ j
-      go true e = leb-true i j e
-      go false e = let less : j < i = leb-false i j e in absurd (omega (arith, some, p.tags, q.offset (omega arith), fewer xs (suc j) i (omega (arith, less)) p.within))
+  in_order xs i j a zero last count some p q =
+      elim (cases_lt j i) [ inl less ↦ absurd (omega (arith, some, p.tags, q.tags, fewer xs j i (omega (arith, less)) p.within)) | inr most ↦ most ]
+  in_order xs i j a (suc b) last count some p q =
+      elim (cases_lt j i) [ inl less ↦ absurd (omega (arith, some, p.tags, q.offset (omega arith), fewer xs (suc j) i (omega (arith, less)) p.within)) | inr most ↦ most ]
 
   -- what a call that ends or begins a stretch at a place asks for
   pub place_inside : (xs : List (Stretch A)) (i o last : ℕ) → IsPlace xs i o last → 0 < o → o + length (tags_of (drop (suc i) xs)) < length (tags_of (drop i xs))

@@ -137,8 +137,7 @@ module _ {A : Type 0} (eq : A → A → Bool) where
   pub space_placed : (l : Letters) (ts behind : List A) (n : ℕ) (a : A) → length ts ≡ length l.placed + length l.word →
       (flat (record l { placed = l.placed ++ replicate n 32 }) (take (length l.placed) ts ++ (replicate n a ++ behind))).placed ≡ (flat l ts).placed ++ spaces n a
   space_placed l ts behind n a h =
-      let m = length l.placed in
-      let us = replicate n a ++ behind in
+      let m = length l.placed in let us = replicate n a ++ behind in
       let len : length (take m ts) ≡ m = omega (arith, h, length-take m ts) in
       let front : glyphs l.placed (take m ts ++ us) ≡ glyphs l.placed ts =
       glyphs_front l.placed (take m ts) us (omega (arith, len)) ∙ sym (glyphs_front l.placed (take m ts) (drop m ts) (omega (arith, len))) ∙ ap (λ vs. glyphs l.placed vs) (take-append-drop m ts) in

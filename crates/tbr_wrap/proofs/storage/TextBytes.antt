@@ -1,5 +1,5 @@
 -- Characters in one text, and their tags.
-use Rattle.std.proofs.Common.{◌≡◌, ℕ, suc, zero, ◌+◌, ◌-◌, ◌<◌, ◌≤◌, Bool, true, false, ◌&&◌, List, [], ◌∷◌, ◌++◌, Option, length, take, drop, encode_utf8, refl, ap, sym, ◌∙◌, arith, append_assoc, append-nil, None, Some, add-one, take-append-drop, length-append, length-take, length-take-le, length-drop}
+use Rattle.std.proofs.Common.{◌≡◌, ℕ, suc, zero, ◌+◌, ◌-◌, ◌<◌, ◌≤◌, true, List, [], ◌∷◌, ◌++◌, Option, length, take, drop, encode_utf8, refl, ap, sym, ◌∙◌, arith, append_assoc, append-nil, None, Some, add-one, take-append-drop, length-append, length-take, length-take-le, length-drop}
 use Rattle.std.specs.List.{slice_range, slice_get}
 use Rattle.std.specs.Option.{MatchOption}
 use Rattle.std.specs.Str.{IsAscii, IsUtf8, is_utf8, chars, IsCharBoundary}
@@ -50,8 +50,7 @@ from_cut bytes i j w gone placed word h p q n = record {
 pub letters_cut : (bytes : List ℕ) (i j : ℕ) (gone placed word : List ℕ) → IsCut bytes i j gone placed word → letters bytes i j ≡ record { placed = chars placed; word = chars word }
 letters_cut bytes i j gone placed word h =
     let p = slice_cut bytes i j gone placed word h in
-    let q = drop_cut bytes i j gone placed word h in
-    rw (p, q) refl
+    let q = drop_cut bytes i j gone placed word h in rw (p, q) refl
 
 -- more text behind the word
 pub cut_push : (bytes ds : List ℕ) (i j : ℕ) (gone placed word : List ℕ) → IsCut bytes i j gone placed word → IsCut (bytes ++ ds) i j gone placed (word ++ ds)

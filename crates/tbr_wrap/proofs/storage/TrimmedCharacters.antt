@@ -114,9 +114,7 @@ module _ {A : Type 0} where
       (n < most → (f : List ℕ) → cs ≡ f ++ replicate (suc n) 32 → ⊥) → glyphs cs ts ≡ before ++ line → length line ≡ most →
       (take (length cs - n) (glyphs cs ts) ≡ before ++ without_trailing line) × (n + length (without_trailing line) ≡ length line)
   line_trimmed cs front ts n most before line h less e all parts len =
-      let k = length before in
-      let mid = drop k front in
-      let us = drop k ts in
+      let k = length before in let mid = drop k front in let us = drop k ts in
       let whole : length cs ≡ k + most = omega (arith, sym (length-glyphs cs ts h), ap length parts, length-append before line, len) in
       let front_len : length front + n ≡ length cs = omega (arith, ap length e, length-append front (replicate n 32), length-replicate {A = ℕ} n 32) in
       let mid_len : length mid + n ≡ most = omega (arith, length-drop k front, front_len, whole, less) in

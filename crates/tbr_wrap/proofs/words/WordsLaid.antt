@@ -1,5 +1,6 @@
 -- The block stands where the rule stands.
-use Rattle.std.proofs.Common.{rules, ◌≡◌, nat_le, ℕ, ◌+◌, ◌<◌, ◌≤◌, Bool, true, false, if◌then◌else◌, Option, None, Some, List, [], ◌∷◌, ◌++◌, refl, sym, ◌∙◌, subst, arith, append_assoc, append-nil, Result, Ok, Err, OnOk, le-leb, leb-true, leb-false}
+use Rattle.std.proofs.Common.{rules, ◌≡◌, nat_le, ℕ, ◌+◌, ◌<◌, ◌≤◌, Bool, true, false, if◌then◌else◌, Option, None, Some, List, [], ◌∷◌, ◌++◌, refl, sym, ◌∙◌, subst, arith, append_assoc, append-nil, Result, Ok, Err, OnOk, le-leb, inl, inr}
+use Rattle.std.proofs.lemmas.Bool.{cases_lt}
 use Rattle.tbr_model.specs.Run.{Item, items_width, item_width, has_character}
 use Rattle.tbr_model.specs.Laid.{Laid, extended, end_if_character, put_items}
 use Rattle.tbr_model.specs.Greedy.{IsNarrow}
@@ -82,8 +83,4 @@ pub flagged_stands : {A : Type 0} (columns : ℕ → Option ℕ) (eq : A → A �
 flagged_stands columns eq b flag before given p x s is = search rules
 
 pub no_room : (m n : ℕ) → (m ≤ n → ⊥) → n < m
-no_room m n h = go (nat_le m n) refl
-  where
-    go : (b : Bool) → nat_le m n ≡ b → n < m
-    go true e = absurd (h (leb-true m n e))
-    go false e = leb-false m n e
+no_room m n h = elim (cases_lt n m) [ inl less ↦ less | inr most ↦ absurd (h most) ]

@@ -6,15 +6,13 @@ use Rattle.tbr_wrap.proofs.block.WrappedBlock.add_front.Goals as goal
 
 pub split_at-requires : goal.split_at-requires
 split_at-requires g c =
-    let text = c.args.text.now in
-    let n = c.plain_in_front-count.result.0 in
+    let text = c.args.text.now in let n = c.plain_in_front-count.result.0 in
     let k = c.plain_in_front-count.ensures in
     IsCharBoundary-from_take text n c.utf8.text k.within (IsUtf8-from_ascii (take n text) (plain_ascii g.W.CharWidth.columns (take n text) k.plain))
 
 pub returns-clause-rest : goal.returns-clause-rest
 returns-clause-rest g c =
-    let text = c.args.text.now in
-    let n = c.plain_in_front-count.result.0 in
+    let text = c.args.text.now in let n = c.plain_in_front-count.result.0 in
     let k = c.plain_in_front-count.ensures in
     let place : IsCharBoundary text n = IsCharBoundary-from_take text n c.utf8.text k.within (IsUtf8-from_ascii (take n text) (plain_ascii g.W.CharWidth.columns (take n text) k.plain)) in (
       subst IsUtf8 (sym c.split_at.ensures.back) (IsUtf8-drop text n c.utf8.text place),
@@ -23,9 +21,7 @@ returns-clause-rest g c =
 
 pub returns-clause-ok : goal.returns-clause-ok
 returns-clause-ok g c =
-    let text = c.args.text.now in
-    let n = c.plain_in_front-count.result.0 in
-    let front = c.split_at.result.0.now in
+    let text = c.args.text.now in let n = c.plain_in_front-count.result.0 in let front = c.split_at.result.0.now in
     let utf8 : IsUtf8 (take n text) = IsUtf8-from_ascii (take n text) (plain_ascii g.W.CharWidth.columns (take n text) c.plain_in_front-count.ensures.plain) in
     let whole : length c.in_ok-rest.rest.now ≡ length text = omega (arith, c.in_ok-rest.ensures.rest.1) in
     record {

@@ -8,8 +8,7 @@ returns-in_default-clause-some g c = λ text rest e. subst (λ o. IsSomeAnd o (�
 
 pub returns-clause-some : goal.returns-clause-some
 returns-clause-some g c = λ text rest e.
-    let columns = g.W.CharWidth.columns in
-    let eq = g.T.PartialEq.eq in
+    let columns = g.W.CharWidth.columns in let eq = g.T.PartialEq.eq in
     let settings = c.in_ok-line.ensures.settings in
     let shown = subst (λ o. IsSomeAnd o (λ l. SameItems eq (items_of l) text)) c.in-Some.is (c.in_ok-line.ensures.some text rest e) in
     let padded = c.in_ok-keep_want.ensures.ok.0 in

@@ -1,4 +1,4 @@
-use Rattle.std.proofs.Common.{refl, sym, ◌∙◌, subst, rules, []}
+use Rattle.std.proofs.Common.{sym, ◌∙◌, subst, rules, []}
 use Rattle.tbr_model.specs.Run.{items_width}
 use Rattle.tbr_model.specs.Laid.{extended}
 use Rattle.tbr_model.specs.Rule.{space_text, pending_width}
@@ -9,8 +9,7 @@ use Rattle.tbr_wrap.proofs.wrapper.Wrapper.lay_here.Goals as goal
 
 pub returns-clause-laid : goal.returns-clause-laid
 returns-clause-laid g c = λ before given p s.
-    let columns = g.W.CharWidth.columns in
-    let eq = g.T.PartialEq.eq in
+    let columns = g.W.CharWidth.columns in let eq = g.T.PartialEq.eq in
     let t = c.in_ok-place_pending.ensures.placed before given p s in
     let r = extended p.laid (space_text p.space) (pending_width p.space) in
     let k = c.in_ok-place_word.ensures in

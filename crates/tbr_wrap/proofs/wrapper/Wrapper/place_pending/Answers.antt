@@ -10,9 +10,7 @@ use Rattle.tbr_wrap.proofs.wrapper.Wrapper.place_pending.Goals as goal
 
 pub returns-in-Some-clause-placed : goal.returns-in-Some-clause-placed
 returns-in-Some-clause-placed g c = λ before given p s.
-    let columns = g.W.CharWidth.columns in
-    let eq = g.T.PartialEq.eq in
-    let new = c.place_spaces.new.self in
+    let columns = g.W.CharWidth.columns in let eq = g.T.PartialEq.eq in let new = c.place_spaces.new.self in
     let k = c.place_spaces.ensures in
     let w = held_some eq c.args.self.now.space c.in-Some.space p.space (sym c.take.ensures.value ∙ c.in-Some.is) s.space in
     let both = on_ok_both c.place_spaces.result _ _ (k.placed columns w.0.tag (g.met.W.CharWidth.drawn_in_one 32 refl) w.3 before given p.laid s.lays) k.word in

@@ -9,9 +9,7 @@ use Rattle.tbr_wrap.proofs.wrapper.Wrapper.put_fresh.Goals as goal
 
 pub returns-then-width-self-clause-put : goal.returns-then-width-self-clause-put
 returns-then-width-self-clause-put g c = λ before given p s.
-    let columns = g.W.CharWidth.columns in
-    let eq = g.T.PartialEq.eq in
-    let b = c.args.self.now.lines in
+    let columns = g.W.CharWidth.columns in let eq = g.T.PartialEq.eq in let b = c.args.self.now.lines in
     let k = c.in_ok-place_word.ensures in
     let laid = k.placed columns p.word s.word (sym s.word_width ∙ sym c.replace-width.ensures.value) before given p.laid s.lays in
     let fits : put_items columns b.width p.laid p.word ≡ extended p.laid p.word (items_width columns p.word) =

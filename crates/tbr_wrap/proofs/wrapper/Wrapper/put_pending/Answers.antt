@@ -9,11 +9,8 @@ use Rattle.tbr_wrap.proofs.wrapper.Wrapper.put_pending.Goals as goal
 
 pub returns-in-Some-clause-put : goal.returns-in-Some-clause-put
 returns-in-Some-clause-put g c = λ before given p s.
-    let columns = g.W.CharWidth.columns in
-    let eq = g.T.PartialEq.eq in
-    let width = c.args.self.now.lines.width in
-    let new = c.put_spaces.new.self in
-    let k = c.put_spaces.ensures in
+    let columns = g.W.CharWidth.columns in let eq = g.T.PartialEq.eq in let width = c.args.self.now.lines.width in
+    let new = c.put_spaces.new.self in let k = c.put_spaces.ensures in
     let w = held_some eq c.args.self.now.space c.in-Some.space p.space (sym c.take.ensures.value ∙ c.in-Some.is) s.space in
     let both = on_ok_both c.put_spaces.result _ _ (k.put columns w.0.tag (g.met.W.CharWidth.drawn_in_one 32 refl) w.3 before given p.laid s.lays) k.word in
     on_ok_weaker c.put_spaces.result (λ b.
