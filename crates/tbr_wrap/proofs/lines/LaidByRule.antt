@@ -1,8 +1,7 @@
 -- What the fields hold is what the rule lays.
-use Rattle.std.proofs.Common.{◌≡◌, ◌≢◌, None, nat_le, ℕ, zero, suc, Some, ◌+◌, ◌<◌, ◌≤◌, Bool, true, false, Option, List, [], ◌∷◌, ◌++◌, length, take, drop, refl, ap, sym, ◌∙◌, subst, arith, append_assoc, unwrap_or}
+use Rattle.std.proofs.Common.{◌≡◌, ◌≢◌, None, nat_le, ℕ, zero, suc, Some, ◌+◌, ◌<◌, ◌≤◌, Bool, true, false, Option, List, [], ◌∷◌, ◌++◌, length, take, drop, refl, ap, sym, ◌∙◌, subst, arith, append_assoc, unwrap_or, MatchOption}
 use borrow.Author.Tests.{le-leb, lt-leb}
 use Rattle.std.specs.Cmp.{IsEquivalence}
-use Rattle.std.specs.Prelude.{MatchOption}
 use Rattle.tbr_model.specs.Run.{Item, glyph, marker, item_width, items_width, has_character}
 use Rattle.tbr_model.specs.Greedy.{IsNarrow}
 use Rattle.tbr_model.specs.Rule.{spaces}
@@ -72,9 +71,6 @@ module _ {A : Type 0} (columns : ℕ → Option ℕ) (eq : A → A → Bool) (la
   -- and one with a character is
   pub lays_some : has_character h.laid.line ≡ true → HoldsRule columns eq c before given (end_line r) → HoldsRule columns eq c before given (end_if_character r)
   lays_some some k = let test : has_character r.line ≡ true = sym (same_has eq h.laid.line r.line h.shows.last) ∙ some in rw test k
-
-  pub is_zero : b.line_width ≡ 0 → r.width ≡ 0
-  is_zero none = omega (arith, none, h.holds.width, h.shows.width)
 
 -- ---- which case of putting an item it is
 

@@ -1,6 +1,5 @@
 -- How wide the lines are that the rule lays.
-use Rattle.std.proofs.Common.{◌≡◌, nat_lt, ℕ, ◌+◌, ◌<◌, ◌≤◌, inl, inr, Bool, true, false, cond, Option, List, [], ◌∷◌, ◌++◌, refl, ap, arith}
-use borrow.Author.Tests.{lt-ltb, le-ltb}
+use Rattle.std.proofs.Common.{◌≡◌, nat_lt, ℕ, ◌+◌, ◌<◌, ◌≤◌, inl, inr, Bool, true, false, cond, Option, List, [], ◌∷◌, ◌++◌, refl, ap, arith, lt-ltb, le-ltb}
 use Rattle.tbr_model.specs.Run.{Item, item_width, items_width}
 use Rattle.tbr_model.specs.Laid.{Laid, extended, end_line}
 use Rattle.tbr_model.proofs.lists.Each.{each_append}

@@ -1,6 +1,5 @@
 -- Spaces put many at a time.
-use Rattle.std.proofs.Common.{◌≡◌, ℕ, zero, suc, ◌+◌, ◌<◌, true, false, [], ◌∷◌, refl, ap, sym, ◌∙◌, arith, append_assoc, append-nil, ◌==◌}
-use borrow.Author.Tests.{eq-eqb, ne_eqb}
+use Rattle.std.proofs.Common.{◌≡◌, ℕ, zero, suc, ◌+◌, ◌<◌, true, false, [], ◌∷◌, refl, ap, sym, ◌∙◌, arith, append_assoc, append-nil, ◌==◌, eq-eqb, ne_eqb}
 use Rattle.tbr_model.specs.Run.{glyph}
 use Rattle.tbr_model.specs.Laid.{Laid, extended, end_line}
 use Rattle.tbr_model.specs.Rule.{spaces, put_space, put_spaces}

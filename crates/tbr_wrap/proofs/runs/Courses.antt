@@ -1,17 +1,16 @@
 -- What each change leaves of a block's course, and what a contract sees of that.
-use Rattle.std.proofs.Common.{◌≡◌, ℕ, zero, suc, ◌+◌, ◌-◌, ◌<◌, ◌==◌, not, ◌&&◌, ◌||◌, ◌⊎◌, inl, inr, Bool, true, false, Option, Some, List, [], ◌∷◌, ◌++◌, fold, map, length, take, drop, refl, ap, sym, ◌∙◌, subst, arith, append_assoc, append-nil, length-append, lt-ltb}
+use Rattle.std.proofs.Common.{◌≡◌, ℕ, zero, suc, ◌+◌, ◌-◌, ◌<◌, ◌==◌, not, ◌&&◌, ◌||◌, ◌⊎◌, inl, inr, Bool, true, false, Option, Some, List, [], ◌∷◌, ◌++◌, fold, map, length, take, drop, refl, ap, sym, ◌∙◌, subst, arith, append_assoc, append-nil, length-append, lt-ltb, nat_lt}
 use Rattle.std.proofs.Math.Bool.{or_assoc, or-false, or-true}
 use Rattle.std.proofs.lemmas.List.{take_at, drop_at, drop-append-le, length-take-le, length-map}
 use Rattle.std.proofs.lemmas.List.Elements.{length_all_zip}
 use Rattle.std.proofs.lemmas.List.Sums.{fold-append}
 use Rattle.std.proofs.lemmas.Bool.{and_left, and_right, and_parts, ne_eqb}
 use Rattle.std.specs.List.{AllZip, AllByRecursion as Each}
-use Rattle.std.specs.Prelude.{nat_lt}
 use Rattle.tbr_model.specs.Run.{Item, glyph, marker, is_kept, items_width, kept_items, Entry, character, marker_entry, has_character}
 use Rattle.tbr_model.specs.Markers.{names_in_items, names_in_run, marker_run, marker_items, names_behind, last, without_last_markers}
 use Rattle.tbr_model.specs.Laid.{Laid, end_if_character}
 use Rattle.tbr_model.specs.Layout.{joined}
-use Rattle.tbr_model.specs.Rule.{Event, call, entry, run_of, Progress, at_start, enter, step, progress, finished, waiting, lines_of}
+use Rattle.tbr_model.specs.Rule.{Event, entry, run_of, Progress, at_start, enter, step, progress, finished, waiting, lines_of}
 use Rattle.tbr_model.proofs.rule.DoneLines.{if_same, step_adds, finished_adds}
 use Rattle.tbr_model.proofs.rule.HardLines.{run_of-append, not_flushed}
 use Rattle.tbr_model.proofs.rule.Markers.{markers_run, markers_at_end, waiting_none, marker_items_alone, names_in_items-append, markers_lead, run_of_markers}
@@ -28,10 +27,9 @@ use Rattle.tbr_model.proofs.lines.NothingInvented.{nothing_invented}
 use Rattle.tbr_model.proofs.lines.OwnAnnotations.{own_shown}
 use Rattle.tbr_model.proofs.lines.RunCharacters.{come_with_run}
 use Rattle.tbr_model.proofs.lines.WaitingMarkers.{waits_behind_visible, waits_behind_kept}
-use Rattle.tbr_model.proofs.words.Items.{no_character_no_width}
 use Rattle.tbr_tagged.specs.Elements.{SameItems}
 use Rattle.tbr_tagged.specs.declared.error.Error.{Error}
-use Rattle.tbr_model.proofs.words.Items.{items_width-append}
+use Rattle.tbr_model.proofs.words.Items.{items_width-append, no_character_no_width}
 use Rattle.tbr_tagged.proofs.SameItems.{all_zip_append, same_has}
 use Rattle.tbr_wrap.specs.Wrapped.{FitsBlock}
 use Rattle.tbr_wrap.specs.State.{State, JoinsRun, JoinsAsMarker, EndsRun, ShowsFitting, AreLastOf, IsShownBy, is_some_list, text_entries, lines_left, loose_taken, line_taken, run_flushed}
@@ -44,6 +42,7 @@ use Rattle.tbr_wrap.specs.declared.run_change.RunChange.{RunChange}
 use Rattle.tbr_wrap.specs.declared.wrapper.Wrapper.{Wrapper}
 use Rattle.tbr_wrap.proofs.runs.EndedRuns.{shown_run, waits_normal}
 use Rattle.tbr_wrap.proofs.runs.FittingLines.{fitting_lines}
+use Rattle.tbr_wrap.proofs.runs.LinesLeft.{first_of}
 
 -- ---- whether there are lines
 
@@ -75,10 +74,6 @@ no_lines (x ∷ xs) h = absurd (h (omega arith))
 first_showing : {X Y : Type 0} (R : X → Y → Type 0) (xs : List X) (ys : List Y) (x : X) (others : List X) → xs ≡ x ∷ others → AllZip R xs ys → (y : Y) × (rest : List Y) × (ys ≡ y ∷ rest) × AllZip R others rest
 first_showing R xs [] x others e h = absurd (subst (λ zs. AllZip R zs []) e h)
 first_showing R xs (y ∷ ys) x others e h = let k = subst (λ zs. AllZip R zs (y ∷ ys)) e h in (y, ys, refl, k.1)
-
-cons_of : {X : Type 0} (xs : List X) → 0 < length xs → (x : X) × (others : List X) × (xs ≡ x ∷ others)
-cons_of [] h = absurd (omega (arith, h))
-cons_of (x ∷ xs) h = (x, xs, refl)
 
 -- ---- what joins
 
@@ -193,10 +188,6 @@ module _ {A : Type 0} (columns : ℕ → Option ℕ) where
 
     pub joins_event : (e : Event A) → JoinsRun (seen c) (run_of (e ∷ [])) (seen (stepped columns width c e))
     joins_event e = joins_events (e ∷ [])
-
-    -- a call alone changes nothing
-    pub call_seen : seen (stepped columns width c call) ≡ seen c
-    call_seen = ap (λ run. record (seen c) { run = run }) (append-nil c.run)
 
     -- the word without its markers
     pub taken_seen : has_character c.progress.word ≡ false → seen (word_taken c) ≡ loose_taken (seen c)
@@ -447,47 +438,38 @@ module _ {A : Type 0} (columns : ℕ → Option ℕ) where
               loose = names i;
             }
 
+        -- what holds of the lines of the events' run holds of this run and its lines
+        as_run : (P : List (Entry A) → List (List (Item A)) → Type 0) → P (run_of h.events) (lines_of columns b.lines.width h.events) → P c.run (c.progress.laid.done ++ added)
+        as_run P holds = subst (P c.run) (lines_of_run ∙ all_is) (subst (λ (es : List (Entry A)). P es (lines_of columns b.lines.width h.events)) h.run_is holds)
+
         pub ends_run : columns 32 ≡ Some 1 → 0 < b.lines.width → Each (FitsBlock columns b.lines.width may) all_lines → EndsRun columns before_end added left_names
         ends_run one_space wide fits =
-            let lines : lines_of columns b.lines.width h.events ≡ c.progress.laid.done ++ added = lines_of_run ∙ all_is in
+            let Same : A → A → Type 0 = λ a b. a ≡ b in
             let fit : Each (FitsBlock columns b.lines.width may) (lines_of columns b.lines.width h.events) = subst (Each (FitsBlock columns b.lines.width may)) (sym lines_of_run) fits in
             let waits : waiting columns b.lines.width (progress columns b.lines.width h.events) ≡ left = ap (waiting columns b.lines.width) h.progress_is in
+            let of_run : (P : List (Entry A) → Type 0) → P c.run → P (run_of h.events) = λ P holds. subst P (sym h.run_is) holds in
             record {
-              shown = subst (λ (ls : List (List (Item A))). IsShownBy columns b.lines.width may c.run ls) lines
-                  (subst (λ (es : List (Entry A)). IsShownBy columns b.lines.width may es (lines_of columns b.lines.width h.events)) h.run_is (shown_run columns b.lines.width one_space wide may h.events fit));
+              shown = as_run (IsShownBy columns b.lines.width may) (shown_run columns b.lines.width one_space wide may h.events fit);
               fits = subst (Each (FitsBlock columns b.lines.width may)) all_is fits;
-              markers = ap (λ ls. names_in_items (joined ls) ++ left_names) (sym lines) ∙ ap (λ is. names_in_items (joined (lines_of columns b.lines.width h.events)) ++ names_in_items is) (sym waits)
-                  ∙ markers_at_end columns b.lines.width h.events ∙ ap names_in_run h.run_is;
-              invents = subst (λ (ls : List (List (Item A))). InventsNothing columns (λ a b. a ≡ b) c.run ls) lines
-                  (subst (λ (es : List (Entry A)). InventsNothing columns (λ a b. a ≡ b) es (lines_of columns b.lines.width h.events)) h.run_is
-                  (nothing_invented columns b.lines.width (λ a b. a ≡ b) (λ a. refl) h.events));
-              come = subst (λ (ls : List (List (Item A))). Each (ComesWithRun (λ a b. a ≡ b) c.run) (joined ls)) lines
-                  (subst (λ (es : List (Entry A)). Each (ComesWithRun (λ a b. a ≡ b) es) (joined (lines_of columns b.lines.width h.events))) h.run_is
-                  (come_with_run columns b.lines.width (λ a b. a ≡ b) (λ a. refl) h.events));
-              order = subst (λ (ls : List (List (Item A))). ShowsInOrder columns (λ a b. a ≡ b) c.run ls left_names) lines
-                  (subst (λ (es : List (Entry A)). ShowsInOrder columns (λ a b. a ≡ b) es (lines_of columns b.lines.width h.events) left_names) h.run_is
-                  (subst (λ (is : List (Item A)). ShowsInOrder columns (λ a b. a ≡ b) (run_of h.events) (lines_of columns b.lines.width h.events) (names_in_items is)) waits
-                  (shown_in_order columns b.lines.width (λ a b. a ≡ b) (λ a. refl) h.events)));
-              own = λ plain.
-                  subst (λ (ls : List (List (Item A))). ShowsOwn columns (λ a b. a ≡ b) c.run ls) lines
-                  (subst (λ (es : List (Entry A)). ShowsOwn columns (λ a b. a ≡ b) es (lines_of columns b.lines.width h.events)) h.run_is
-                  (own_shown columns b.lines.width (λ a b. a ≡ b) (λ a. refl) h.events (subst (λ (es : List (Entry A)). Each IsNotPre es) (sym h.run_is) plain)));
-              fitting = λ pre.
-                  subst (λ (ls : List (List (Item A))). Parted (ShowsFitting columns (λ a b. a ≡ b) b.lines.width) (hard_lines c.run) ls) lines
-                  (subst (λ (es : List (Entry A)). Parted (ShowsFitting columns (λ a b. a ≡ b) b.lines.width) (hard_lines es) (lines_of columns b.lines.width h.events)) h.run_is
-                  (fitting_lines columns (λ a b. a ≡ b) (λ a. refl) b.lines.width h.events (subst (λ (es : List (Entry A)). Each (HasMode Pre) es) (sym h.run_is) pre)));
-              kept = λ normal.
-                  ap (λ ls. without_spaces (joined ls) ++ marker_items left_names) (sym lines) ∙ ap (λ is. without_spaces (joined (lines_of columns b.lines.width h.events)) ++ is) (sym left_is ∙ sym waits)
-                  ∙ normal_keeps columns b.lines.width h.events (subst (λ (es : List (Entry A)). Each (HasMode Normal) es) (sym h.run_is) normal) ∙ ap (kept_items columns) h.run_is;
-              behind = subst (λ (es : List (Entry A)). AreLastOf left_names (names_behind (is_visible columns) es)) h.run_is
+              markers = as_run (λ es ls. names_in_items (joined ls) ++ left_names ≡ names_in_run es)
+                  (ap (λ is. names_in_items (joined (lines_of columns b.lines.width h.events)) ++ names_in_items is) (sym waits) ∙ markers_at_end columns b.lines.width h.events);
+              invents = as_run (InventsNothing columns Same) (nothing_invented columns b.lines.width Same (λ a. refl) h.events);
+              come = as_run (λ es ls. Each (ComesWithRun Same es) (joined ls)) (come_with_run columns b.lines.width Same (λ a. refl) h.events);
+              order = as_run (λ es ls. ShowsInOrder columns Same es ls left_names)
+                  (subst (λ (is : List (Item A)). ShowsInOrder columns Same (run_of h.events) (lines_of columns b.lines.width h.events) (names_in_items is)) waits
+                  (shown_in_order columns b.lines.width Same (λ a. refl) h.events));
+              own = λ plain. as_run (ShowsOwn columns Same) (own_shown columns b.lines.width Same (λ a. refl) h.events (of_run (Each IsNotPre) plain));
+              fitting = λ pre. as_run (λ es. Parted (ShowsFitting columns Same b.lines.width) (hard_lines es))
+                  (fitting_lines columns Same (λ a. refl) b.lines.width h.events (of_run (Each (HasMode Pre)) pre));
+              kept = λ normal. as_run (λ es ls. without_spaces (joined ls) ++ marker_items left_names ≡ kept_items columns es)
+                  (ap (λ is. without_spaces (joined (lines_of columns b.lines.width h.events)) ++ is) (sym left_is ∙ sym waits) ∙ normal_keeps columns b.lines.width h.events (of_run (Each (HasMode Normal)) normal));
+              behind = as_run (λ es _. AreLastOf left_names (names_behind (is_visible columns) es))
                   (subst (λ (is : List (Item A)). AreLastOf (names_in_items is) (names_behind (is_visible columns) (run_of h.events))) waits (waits_behind_visible columns b.lines.width h.events));
-              behind_kept = λ normal.
-                  subst (λ (es : List (Entry A)). AreLastOf left_names (names_behind (is_kept columns) es)) h.run_is
+              behind_kept = λ normal. as_run (λ es _. AreLastOf left_names (names_behind (is_kept columns) es))
                   (subst (λ (is : List (Item A)). AreLastOf (names_in_items is) (names_behind (is_kept columns) (run_of h.events))) waits
-                  (waits_behind_kept columns b.lines.width h.events (subst (λ (es : List (Entry A)). Each (HasMode Normal) es) (sym h.run_is) normal)));
-              alone = λ none. sym lines ∙ no_line_ends columns b.lines.width h.events (ap entry_letters h.run_is ∙ none);
-              waits = λ never normal.
-                  sym left_is ∙ sym waits
+                  (waits_behind_kept columns b.lines.width h.events (of_run (Each (HasMode Normal)) normal)));
+              alone = λ none. sym (lines_of_run ∙ all_is) ∙ no_line_ends columns b.lines.width h.events (ap entry_letters h.run_is ∙ none);
+              waits = λ never normal. sym left_is ∙ sym waits
                   ∙ waits_normal columns b.lines.width h.events (subst (λ o. Each (FitsBlock columns b.lines.width o) (lines_of columns b.lines.width h.events)) never fit) c.run h.run_is normal;
             }
 
@@ -524,7 +506,7 @@ module _ {A : Type 0} (columns : ℕ → Option ℕ) where
       some_held none text others e = omega (arith, held_count, ap length none, ap length e)
 
       pub some_left : 0 < length b.lines.ended.items → (is : List (Item A)) × (more : List (List (Item A))) × (h.before ++ laid.done ≡ is ∷ more)
-      some_left some = cons_of (h.before ++ laid.done) (omega (arith, some, held_count, length_all_zip (SameItems eq) (h.before ++ laid.done) _ left_shown))
+      some_left some = first_of (h.before ++ laid.done) (λ none. omega (arith, some, held_count, length_all_zip (SameItems eq) (h.before ++ laid.done) _ left_shown, ap length none))
 
       -- a line has ended where one is left
       ended_one : 0 < length b.lines.ended.items → c.begun || is_some_list c.progress.laid.done ≡ true
@@ -603,9 +585,6 @@ module _ {A : Type 0} (columns : ℕ → Option ℕ) where
         handed_seen = sym (if_same (state_of columns b.lines.width may padding failure) (is_some_list c.ended) _ _ _ _ refl refl)
 
       -- ---- what is open
-
-      pub no_columns_held : (b.lines.line_width == 0) && (b.word_width == 0) ≡ (c.progress.laid.width == 0) && (items_width columns c.progress.word == 0)
-      no_columns_held = λ i. ((h.stands.lays.holds.width ∙ h.stands.lays.shows.width) i == 0) && (h.stands.word_width i == 0)
 
       pub line_held : has_character laid.line ≡ has_character c.progress.laid.line
       line_held = same_has eq laid.line c.progress.laid.line h.stands.lays.shows.last

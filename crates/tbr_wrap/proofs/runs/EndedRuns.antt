@@ -1,6 +1,5 @@
 -- What a block's lines show of its run.
-use Rattle.std.proofs.Common.{◌≡◌, ◌≢◌, ℕ, ◌<◌, ◌≤◌, inl, inr, Bool, true, false, Option, Some, None, IfSome, unwrap_or, List, [], ◌∷◌, ◌++◌, map, filter, fold, refl, ap, sym, ◌∙◌, subst, arith, lt-ltb}
-use Rattle.std.specs.Prelude.{nat_lt, ◌&&◌, IsTrue}
+use Rattle.std.proofs.Common.{◌≡◌, ◌≢◌, ℕ, ◌<◌, ◌≤◌, inl, inr, Bool, true, false, Option, Some, None, IfSome, unwrap_or, List, [], ◌∷◌, ◌++◌, map, filter, fold, refl, ap, sym, ◌∙◌, subst, arith, lt-ltb, nat_lt, ◌&&◌, IsTrue}
 use Rattle.std.specs.List.{AllZip, AllByRecursion as Each}
 use Rattle.std.proofs.lemmas.Bool.{cond_both}
 use Rattle.std.proofs.lemmas.List.Sums.{fold-append}
@@ -15,8 +14,7 @@ use Rattle.tbr_model.specs.Hard.{HasMode, Preserves, IsNarrowEntry, glyphs_of, i
 use Rattle.tbr_model.proofs.lists.Each.{each_append, each_front, each_back}
 use Rattle.tbr_model.proofs.words.KeptItems.{narrow_markers}
 use Rattle.tbr_model.proofs.words.LinesHaveCharacters.{HasGlyph, best_characters}
-use Rattle.tbr_model.proofs.rule.HardLines.{hard_lines_parted}
-use Rattle.tbr_model.proofs.rule.HardLines.{no_character_after_end}
+use Rattle.tbr_model.proofs.rule.HardLines.{no_character_after_end, hard_lines_parted}
 use Rattle.tbr_model.proofs.rule.VisibleCharacters.{visible_shown, hard_lines_shown}
 use Rattle.tbr_model.proofs.pre.HardLine.{pre_line}
 use Rattle.tbr_model.proofs.prewrap.HardLine.{prewrap_line}

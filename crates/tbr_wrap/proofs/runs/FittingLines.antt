@@ -1,5 +1,5 @@
 -- A hard line of `Pre` that fits isn't cut, and stands under its own annotations.
-use Rattle.std.proofs.Common.{◌≡◌, ℕ, zero, suc, ◌+◌, ◌-◌, ◌%◌, ◌≤◌, ◌==◌, inl, inr, nat_le, nat_lt, Bool, true, false, if◌then◌else◌, Option, Some, None, unwrap_or, List, [], ◌∷◌, ◌++◌, map, fold, length, Contains, refl, ap, sym, ◌∙◌, arith, subst, le-leb, lt-ltb, ltb-true}
+use Rattle.std.proofs.Common.{◌≡◌, ℕ, zero, suc, ◌+◌, ◌-◌, ◌%◌, ◌≤◌, ◌==◌, inl, inr, nat_le, nat_lt, Bool, true, false, if◌then◌else◌, Option, Some, None, unwrap_or, List, [], ◌∷◌, ◌++◌, map, fold, length, Contains, refl, ap, sym, ◌∙◌, arith, subst, le-leb, lt-ltb, le-ltb}
 use Rattle.std.specs.List.{AllZip, AllByRecursion as Each}
 use Rattle.std.proofs.lemmas.Bool.{cond_both}
 use Rattle.std.proofs.lemmas.List.Elements.{All-contains_itself, recursion_from_All}
@@ -151,11 +151,7 @@ module _ {A : Type 0} (columns : ℕ → Option ℕ) (Same : A → A → Type 0)
   tag_own a b p e = rw e refl
 
   not_past : (n m : ℕ) (p : Progress A) → n + m ≤ width → FitsSoFar n p → passes columns width m p ≡ false
-  not_past n m p fits k = go (passes columns width m p) refl
-    where
-      go : (b : Bool) → passes columns width m p ≡ b → passes columns width m p ≡ false
-      go true e = absurd (omega (arith, ltb-true _ _ e, fits, k.reaches))
-      go false e = e
+  not_past n m p fits k = le-ltb _ _ (omega (arith, fits, k.reaches))
 
   character_fits : (c : ℕ) (a b : A) (n : ℕ) (o : Option ℕ) (p : Progress A) → columns c ≡ o → HasOwnAnnotation Same h a → n + unwrap_or o 0 ≤ width → FitsSoFar n p →
       FitsSoFar (n + unwrap_or o 0) (keep_character columns width c a b Pre o p) × (keep_character columns width c a b Pre o p ≡ keep_character columns width c a a Pre o p)
@@ -191,21 +187,15 @@ module _ {A : Type 0} (columns : ℕ → Option ℕ) (Same : A → A → Type 0)
   preserve_fits : (c : ℕ) (a b : A) (n : ℕ) (p : Progress A) → (c == 10) ≡ false → HasOwnAnnotation Same h a → column_behind columns n (character c a b Pre) ≤ width → FitsSoFar n p → GoesOn n p (character c a b Pre)
   preserve_fits c a b n p other has fits k = go (c == 8203) refl (c == 9) refl
     where
-      tag : tag_of p a b ≡ a
-      tag = tag_own a b p k.in_continuation
-
-      tag_alone : tag_of p a a ≡ a
-      tag_alone = tag_own a a p k.in_continuation
-
       go : (u : Bool) → (c == 8203) ≡ u → (t : Bool) → (c == 9) ≡ t → GoesOn n p (character c a b Pre)
       go true e t f = rw e (k, refl)
       go false e true f =
           let small : next_stop n ≤ width = rw (e, f) at fits in
           let flushed = flush_fits n p (omega (arith, small)) k in
-          rw (e, other, f, tag, tag_alone) (tab_fits a n (flush_word columns width p) has small flushed.1 flushed.0, refl)
+          rw (e, other, f, tag_own a b p k.in_continuation, tag_own a a p k.in_continuation) (tab_fits a n (flush_word columns width p) has small flushed.1 flushed.0, refl)
       go false e false f =
           let small : n + unwrap_or (columns c) 0 ≤ width = rw (e, f) at fits in
-          rw (e, other, f, tag, tag_alone) (either (is_blank c) (kept_space_fits c a n (columns c) p refl has k, refl) (character_fits c a b n (columns c) p refl has small k))
+          rw (e, other, f, tag_own a b p k.in_continuation, tag_own a a p k.in_continuation) (either (is_blank c) (kept_space_fits c a n (columns c) p refl has k, refl) (character_fits c a b n (columns c) p refl has small k))
         where
           either : (v : Bool) → {q r s t : Progress A} → FitsSoFar (n + unwrap_or (columns c) 0) q × (q ≡ r) → FitsSoFar (n + unwrap_or (columns c) 0) s × (s ≡ t) →
               FitsSoFar (n + unwrap_or (columns c) 0) (if v then q else s) × ((let x : Progress A = if v then q else s in x) ≡ (if v then r else t))

@@ -1,7 +1,7 @@
 -- Lines that are handed out one by one.
-use Rattle.std.proofs.Common.{◌≡◌, ◌≢◌, ◌↔◌, ℕ, zero, suc, ◌+◌, ◌-◌, inl, inr, Option, None, Some, Result, Ok, IfOk, true, false, Bool, List, [], ◌∷◌, ◌++◌, take, drop, length, refl, ap, sym, ◌∙◌, subst, arith, append_assoc, length-append}
+use Rattle.std.proofs.Common.{rules, ◌≡◌, ◌≢◌, ◌↔◌, ℕ, zero, suc, ◌+◌, ◌-◌, inl, inr, Option, None, Some, Result, Ok, IfOk, Bool, List, [], ◌∷◌, ◌++◌, take, drop, length, refl, ap, sym, ◌∙◌, subst, arith, append_assoc, length-append, add-one}
 use Rattle.std.proofs.lemmas.List.{drop-drop, take-append-drop, drop-append-le}
-use Rattle.std.proofs.lemmas.Bool.{cases_lt}
+use Rattle.std.proofs.lemmas.Bool.{cases_lt, cond_both}
 use Rattle.std.proofs.Math.ListN.{drop_of_length-le}
 use Rattle.tbr_model.specs.Run.{Item, Entry}
 use Rattle.std.specs.Cmp.{IsEquivalence}
@@ -11,15 +11,12 @@ use Rattle.tbr_tagged.proofs.SameItems.{same_items_trans, same_items_append, sam
 use Rattle.tbr_wrap.specs.Wrapped.{ShowsText, padding_of}
 use Rattle.tbr_wrap.specs.State.{State, is_some_list, JoinsRun, JoinsAsMarker, EndsRun, lines_left, line_taken, lines_taken, HandsOutEnded}
 
-one_less : {X : Type 0} (n : ℕ) (xs : List X) → drop (suc n) xs ≡ drop 1 (drop n xs)
-one_less n xs = (let e : suc n ≡ n + 1 = omega arith in ap (λ m. drop m xs) e) ∙ sym (drop-drop 1 n xs)
-
 -- handing one out leaves the others
 pub lines_left-taken : {A : Type 0} (s : State A) → lines_left (line_taken s) ≡ drop 1 (lines_left s)
 lines_left-taken {A} s = go s.ended refl
   where
     go : (es : List (List (Item A))) → s.ended ≡ es → lines_left (line_taken s) ≡ drop 1 (lines_left s)
-    go [] e = rw e (one_less s.handed s.lines)
+    go [] e = rw e (ap (λ m. drop m s.lines) (sym (add-one s.handed)) ∙ sym (drop-drop 1 s.handed s.lines))
     go (t ∷ es) e = rw e refl
 
 -- and so one by one
@@ -41,45 +38,15 @@ taken_one_more (suc n) s = taken_one_more n (line_taken s)
 
 module _ {A : Type 0} (columns : ℕ → Option ℕ) (texts : List (List (Item A))) (names : List (List ℕ)) where
   kept_with : (s : State A) (ended : List (List (Item A))) (handed : ℕ) → EndsRun columns s texts names → EndsRun columns (record s { ended = ended; handed = handed }) texts names
-  kept_with s ended handed e = record {
-    shown = e.shown;
-    fits = e.fits;
-    invents = e.invents;
-    come = e.come;
-    order = e.order;
-    own = e.own;
-    fitting = e.fitting;
-    kept = e.kept;
-    markers = e.markers;
-    behind = e.behind;
-    behind_kept = e.behind_kept;
-    waits = e.waits;
-    alone = e.alone;
-  }
+  kept_with s ended handed e = search rules
 
   told_before : (s : State A) (ended : List (List (Item A))) (handed : ℕ) → EndsRun columns (record s { ended = ended; handed = handed }) texts names → EndsRun columns s texts names
-  told_before s ended handed e = record {
-    shown = e.shown;
-    fits = e.fits;
-    invents = e.invents;
-    come = e.come;
-    order = e.order;
-    own = e.own;
-    fitting = e.fitting;
-    kept = e.kept;
-    markers = e.markers;
-    behind = e.behind;
-    behind_kept = e.behind_kept;
-    waits = e.waits;
-    alone = e.alone;
-  }
+  told_before s ended handed e = search rules
 
   ends_taken : (s : State A) → EndsRun columns s texts names ↔ EndsRun columns (line_taken s) texts names
-  ends_taken s = both (is_some_list s.ended) refl
-    where
-      both : (b : Bool) → is_some_list s.ended ≡ b → EndsRun columns s texts names ↔ EndsRun columns (line_taken s) texts names
-      both true e = rw e (kept_with s (drop 1 s.ended) s.handed, told_before s (drop 1 s.ended) s.handed)
-      both false e = rw e (kept_with s s.ended (suc s.handed), told_before s s.ended (suc s.handed))
+  ends_taken s =
+      cond_both (is_some_list s.ended) _ _ (λ t. EndsRun columns s texts names ↔ EndsRun columns t texts names)
+      (λ _. (kept_with s (drop 1 s.ended) s.handed, told_before s (drop 1 s.ended) s.handed)) (λ _. (kept_with s s.ended (suc s.handed), told_before s s.ended (suc s.handed)))
 
   pub ends_lines_taken : (n : ℕ) (s : State A) → EndsRun columns s texts names ↔ EndsRun columns (lines_taken n s) texts names
   ends_lines_taken zero s = (λ e. e, λ e. e)
@@ -125,25 +92,13 @@ shows_padded {A} columns eq laws padding width es fs is filled merged same = rec
 -- and what else a contract sees
 module _ {A : Type 0} (s : State A) where
   pub taken_failure : (line_taken s).failure ≡ s.failure
-  taken_failure = both (is_some_list s.ended) refl
-    where
-      both : (b : Bool) → is_some_list s.ended ≡ b → (line_taken s).failure ≡ s.failure
-      both true e = rw e refl
-      both false e = rw e refl
+  taken_failure = cond_both (is_some_list s.ended) _ _ (λ (t : State A). t.failure ≡ s.failure) (λ _. refl) (λ _. refl)
 
   pub taken_padding : (line_taken s).padding ≡ s.padding
-  taken_padding = both (is_some_list s.ended) refl
-    where
-      both : (b : Bool) → is_some_list s.ended ≡ b → (line_taken s).padding ≡ s.padding
-      both true e = rw e refl
-      both false e = rw e refl
+  taken_padding = cond_both (is_some_list s.ended) _ _ (λ (t : State A). t.padding ≡ s.padding) (λ _. refl) (λ _. refl)
 
   pub taken_width : (line_taken s).width ≡ s.width
-  taken_width = both (is_some_list s.ended) refl
-    where
-      both : (b : Bool) → is_some_list s.ended ≡ b → (line_taken s).width ≡ s.width
-      both true e = rw e refl
-      both false e = rw e refl
+  taken_width = cond_both (is_some_list s.ended) _ _ (λ (t : State A). t.width ≡ s.width) (λ _. refl) (λ _. refl)
 
 -- so of lines that are handed out one by one
 module _ {A : Type 0} where

@@ -68,8 +68,7 @@ module _ {A B : Type 0} (f : A → B) where
   pub kept_items-map : (columns : ℕ → Option ℕ) (run : List (Entry A)) → kept_items columns (map_run f run) ≡ map_items f (kept_items columns run)
   kept_items-map columns [] = refl
   kept_items-map columns (e ∷ es) =
-      let first = items_of-map f columns e in
-      let rest = kept_items-map columns es in
+      let first = items_of-map f columns e in let rest = kept_items-map columns es in
       rw (first, rest) (sym (map-append (map_item f) _ (kept_items columns es)))
 
   -- ---- items

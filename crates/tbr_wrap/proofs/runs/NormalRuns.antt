@@ -1,5 +1,6 @@
 -- A `Normal` run under way, where no line may be wider than the block.
-use Rattle.std.proofs.Common.{◌≡◌, ℕ, ◌<◌, Bool, true, false, List, [], ◌∷◌, ◌++◌, ap, sym, ◌∙◌, subst, refl}
+use Rattle.std.proofs.Common.{◌≡◌, ℕ, ◌<◌, Bool, true, false, List, [], ◌∷◌, ◌++◌, ap, sym, ◌∙◌, subst, refl, Option}
+use Rattle.tbr_model.proofs.rule.DoneLines.{if_same}
 use Rattle.std.specs.List.{AllByRecursion as Each}
 use Rattle.tbr_model.specs.Run.{Entry, Item, items_width, is_break_entry, has_character, reading, trailing}
 use Rattle.tbr_model.specs.Markers.{names_in_items}
@@ -7,7 +8,6 @@ use Rattle.tbr_model.specs.Greedy.{IsNarrow}
 use Rattle.tbr_model.specs.Rule.{Progress, progress}
 use Rattle.tbr_model.proofs.normal.BestLines.{NormalBlank}
 use Rattle.tbr_wrap.specs.Wrapped.{FitsBlock, EndedWordsFit, WordsFit}
-use Rattle.std.proofs.Common.{Option}
 use Rattle.std.proofs.lemmas.Bool.{eqb-true, and_parts, not-true}
 use Rattle.tbr_tagged.specs.declared.error.Error.{Error}
 use Rattle.tbr_wrap.specs.State.{IsNormal, CharactersFit, RunDecides}
@@ -43,11 +43,7 @@ module _ {A : Type 0} (columns : ℕ → Option ℕ) (eq : A → A → Bool) (b 
 
     -- the markers that trail are those of a word without a character
     pub trailing_so_far : loose_names c.progress.word ≡ names_in_items (trailing columns c.run)
-    trailing_so_far = ap loose_names word_so_far ∙ both (has_character (reading columns c.run).items) refl
-      where
-        both : (t : Bool) → has_character (reading columns c.run).items ≡ t → loose_names (reading columns c.run).items ≡ names_in_items (trailing columns c.run)
-        both true e = rw e refl
-        both false e = rw e refl
+    trailing_so_far = ap loose_names word_so_far ∙ if_same names_in_items (has_character (reading columns c.run).items) [] (reading columns c.run).items _ _ refl refl
 
     pub blank_so_far : NormalBlank columns c.progress c.run
     blank_so_far = subst (λ (q : Progress A). NormalBlank columns q c.run) h.progress_is (blank_normal columns b.lines.width h.events c.run h.run_is normal done fits.small fits.line)

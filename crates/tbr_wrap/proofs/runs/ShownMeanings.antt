@@ -39,6 +39,4 @@ module _ {A B : Type 0} (f : A → B) where
     lines_mean [] (is ∷ texts) h = absurd h
     lines_mean (es ∷ lines) [] h = absurd h
     lines_mean (es ∷ lines) (is ∷ texts) h =
-        let first = line_means es is h.0 in
-        let rest = lines_mean lines texts h.1 in
-        cc
+        let first = line_means es is h.0 in let rest = lines_mean lines texts h.1 in cc

@@ -57,8 +57,7 @@ module _ {A : Type 0} where
   -- a marker more
   pub marked_push : (is : List (Item A)) (m : MarkerPlaces) (name : List ℕ) → covered m ≡ length is → marked is (m.markers ++ (m.behind, name) ∷ []) ≡ marked is m.markers ++ marker name ∷ []
   marked_push is m name h =
-      let s = before_last m.markers in
-      let rest = drop s is in
+      let s = before_last m.markers in let rest = drop s is in
       let len : length rest ≡ m.behind = omega (arith, h, length-drop s is) in
       let all : take m.behind rest ≡ rest = take_all m.behind rest (omega (arith, len)) in
       let none : drop m.behind rest ≡ [] = drop_all m.behind rest (omega (arith, len)) in
@@ -73,8 +72,7 @@ module _ {A : Type 0} where
       go : (ns : List (ℕ × List ℕ)) (k : ℕ) → marked (is ++ js) (followed m (record { markers = ns; behind = k })).markers ≡ marked is m.markers ++ marked js ns
       go [] k = marked_more is js m.markers (omega (arith, h))
       go ((i, name) ∷ ns) k =
-          let s = before_last m.markers in
-          let rest = drop s is in
+          let s = before_last m.markers in let rest = drop s is in
           let len : length rest ≡ m.behind = omega (arith, h, length-drop s is) in
           let front : take s (is ++ js) ≡ take s is = take-append-le s is js (omega (arith, h)) in
           let behind : drop s (is ++ js) ≡ rest ++ js = drop-append-le s is js (omega (arith, h)) in
@@ -159,8 +157,7 @@ module _ {A : Type 0} where
   -- behind the last marker stand characters alone, so a line without a character is empty where there are some
   pub none_at_end : (is : List (Item A)) (m : MarkerPlaces) (before line : List (Item A)) → Each (λ i. is_glyph i ≡ true) is → covered m ≡ length is → marked is m.markers ≡ before ++ line → has_character line ≡ false → 0 < m.behind → line ≡ []
   none_at_end is m before line h e parts none some =
-      let s = before_last m.markers in
-      let rest = drop s is in
+      let s = before_last m.markers in let rest = drop s is in
       let glyphs : Each (λ i. is_glyph i ≡ true) rest = each_back (λ i. is_glyph i ≡ true) (take s is) rest (subst (Each (λ i. is_glyph i ≡ true)) (sym (take-append-drop s is)) h) in
       elim (cut_twice (marked (take s is) m.markers) rest before line (sym (marked_last is m.markers) ∙ parts)) [
         | inl (cut, front, back) ↦ no_character line [] (each_back (λ i. is_glyph i ≡ true) cut line (subst (Each (λ i. is_glyph i ≡ true)) back glyphs)) none

@@ -140,8 +140,7 @@ module _ {A : Type 0} where
   pub marker_left : (is word old before line : List (Item A)) (m : MarkerPlaces) (done : ℕ) → Each (λ i. is_glyph i ≡ true) is → covered m ≡ length is → marked is m.markers ++ word ≡ (before ++ line) ++ old →
       length (marked is m.markers) + done ≡ length (before ++ line) → done < length line → has_character line ≡ false → (0 < m.behind) ⊎ (m.markers ≡ []) → ⊥
   marker_left is word old before line m done glyphs h e len less none stuck =
-      let placed = marked is m.markers in
-      let left = length line - done in
+      let placed = marked is m.markers in let left = length line - done in
       let count : length placed ≡ length before + left = omega (arith, len, length-append before line) in
       let parts : placed ≡ before ++ take left line = same_front placed word (before ++ line) old e (omega (arith, len)) ∙ take_behind before line left (length placed) count in
       let alone : has_character (take left line) ≡ false =

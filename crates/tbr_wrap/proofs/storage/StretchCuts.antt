@@ -1,26 +1,15 @@
 -- The tags that are left where some are taken out.
-use Rattle.std.proofs.Common.{◌≡◌, ℕ, suc, zero, ◌+◌, ◌-◌, ◌<◌, ◌≤◌, List, [], ◌∷◌, ◌++◌, length, take, drop, get_or, set, replicate, refl, ap, sym, ◌∙◌, subst, arith, append_assoc, append-nil, add-one, Bool, true, false, nat_le, leb-true, leb-false}
-use Rattle.std.proofs.lemmas.List.{length-append, length-take, drop-append-le}
-use Rattle.tbr_wrap.proofs.storage.TaggedCharacters.{drop_twice}
-use Rattle.tbr_wrap.proofs.storage.StretchTags.{IsPlace, at_place, offset_in, stretch_len, split_tags, item_tags, set_tags, tags_of-append, take_behind, drop_behind, before_len, take_run, drop_run, replicate_sum, drop-item, skip_part}
+use Rattle.std.proofs.Common.{◌≡◌, ℕ, suc, zero, ◌+◌, ◌-◌, ◌<◌, ◌≤◌, List, [], ◌∷◌, ◌++◌, length, take, drop, get_or, set, replicate, refl, ap, sym, ◌∙◌, subst, arith, append_assoc, append-nil, add-one, drop-cons, take-suc-set, inl, inr}
+use Rattle.std.proofs.lemmas.Bool.{cases_lt}
+use Rattle.std.proofs.lemmas.List.{length-append, length-take, drop-append-le, drop-drop}
+use Rattle.tbr_wrap.proofs.storage.StretchTags.{IsPlace, at_place, offset_in, stretch_len, split_tags, item_tags, set_tags, tags_of-append, take_behind, drop_behind, before_len, take_run, drop_run, replicate_sum, skip_part}
 use Rattle.tbr_wrap.specs.declared.flat.tags.Stretch.{Stretch}
 use Rattle.tbr_wrap.specs.Stretches.{tags_of}
 
 module _ {A : Type 0} where
-  -- the part of a stretch that comes before a place, and where it ends
-  take_set_item : (xs : List (Stretch A)) (i : ℕ) (y : Stretch A) → i < length xs → take (suc i) (set xs i y) ≡ take i xs ++ y ∷ []
-  take_set_item [] i y h = absurd (omega arith)
-  take_set_item (x ∷ xs) zero y h = refl
-  take_set_item (x ∷ xs) (suc i) y h = ap (λ ys. x ∷ ys) (take_set_item xs i y (omega arith))
-
-  drop_suc_set : (xs : List (Stretch A)) (i : ℕ) (y : Stretch A) → drop (suc i) (set xs i y) ≡ drop (suc i) xs
-  drop_suc_set [] i y = refl
-  drop_suc_set (x ∷ xs) zero y = refl
-  drop_suc_set (x ∷ xs) (suc i) y = drop_suc_set xs i y
-
   stretch_parts : (xs : List (Stretch A)) (i : ℕ) (s : Stretch A) → i < length xs → s ≡ get_or xs i s → tags_of (drop i xs) ≡ replicate (s.more + 1) s.tag ++ tags_of (drop (suc i) xs)
   stretch_parts xs i s h is =
-      ap tags_of (drop-item xs i s h) ∙ ap (λ z. tags_of (z ∷ drop (suc i) xs)) (sym is) ∙ ap (λ n. replicate n s.tag ++ tags_of (drop (suc i) xs)) (sym (add-one s.more))
+      ap tags_of (drop-cons xs i s h) ∙ ap (λ z. tags_of (z ∷ drop (suc i) xs)) (sym is) ∙ ap (λ n. replicate n s.tag ++ tags_of (drop (suc i) xs)) (sym (add-one s.more))
 
   -- a stretch ends behind some of its tags
   pub ended : (xs : List (Stretch A)) (k i o : ℕ) (s y : Stretch A) → k ≤ i → i < length xs → s ≡ get_or xs i s → y ≡ record s { more = o - 1 } → 0 < o → o ≤ s.more →
@@ -28,7 +17,7 @@ module _ {A : Type 0} where
   ended xs k i o s y h g is e some less =
       let n : suc (o - 1) ≡ o = omega arith in
       ap (λ j. tags_of (drop k (take j (set xs i y)))) (add-one i)
-      ∙ ap (λ ys. tags_of (drop k ys)) (take_set_item xs i y g)
+      ∙ ap (λ ys. tags_of (drop k ys)) (take-suc-set xs i y g)
       ∙ ap tags_of (drop-append-le k (take i xs) (y ∷ []) (omega (arith, length-take i xs)))
       ∙ tags_of-append (drop k (take i xs)) (y ∷ [])
       ∙ ap (λ z. tags_of (drop k (take i xs)) ++ tags_of (z ∷ [])) e
@@ -43,16 +32,10 @@ module _ {A : Type 0} where
 
   -- the place before more tags comes first
   pub in_order : (xs : List (Stretch A)) (i j a b last count : ℕ) → 0 < count → IsPlace xs i a (last + count) → IsPlace xs j b last → i ≤ j
-  in_order xs i j a zero last count some p q = go (nat_le i j) refl
-    where
-      go : (t : Bool) → nat_le i j ≡ t → i ≤ j
-      go true e = leb-true i j e
-      go false e = let less : j < i = leb-false i j e in absurd (omega (arith, some, p.tags, q.tags, fewer xs j i (omega (arith, less)) p.within))
-  in_order xs i j a (suc b) last count some p q = go (nat_le i j) refl
-    where
-      go : (t : Bool) → nat_le i j ≡ t → i ≤ j
-      go true e = leb-true i j e
-      go false e = let less : j < i = leb-false i j e in absurd (omega (arith, some, p.tags, q.offset (omega arith), fewer xs (suc j) i (omega (arith, less)) p.within))
+  in_order xs i j a zero last count some p q =
+      elim (cases_lt j i) [ inl less ↦ absurd (omega (arith, some, p.tags, q.tags, fewer xs j i (omega (arith, less)) p.within)) | inr most ↦ most ]
+  in_order xs i j a (suc b) last count some p q =
+      elim (cases_lt j i) [ inl less ↦ absurd (omega (arith, some, p.tags, q.offset (omega arith), fewer xs (suc j) i (omega (arith, less)) p.within)) | inr most ↦ most ]
 
   -- what a call that ends or begins a stretch at a place asks for
   pub place_inside : (xs : List (Stretch A)) (i o last : ℕ) → IsPlace xs i o last → 0 < o → o + length (tags_of (drop (suc i) xs)) < length (tags_of (drop i xs))
@@ -108,7 +91,7 @@ module _ {A : Type 0} where
   drop_more : (i j : ℕ) (xs ys : List (Stretch A)) → i ≤ j → drop i xs ≡ drop i ys → drop j xs ≡ drop j ys
   drop_more i j xs ys h e =
       let n : i + (j - i) ≡ j = omega (arith, h) in
-      ap (λ m. drop m xs) (sym n) ∙ sym (drop_twice i (j - i) xs) ∙ ap (λ zs. drop (j - i) zs) e ∙ drop_twice i (j - i) ys ∙ ap (λ m. drop m ys) n
+      ap (λ m. drop m xs) (sym n) ∙ sym (drop-drop (j - i) i xs) ∙ ap (λ zs. drop (j - i) zs) e ∙ drop-drop (j - i) i ys ∙ ap (λ m. drop m ys) n
 
   -- a place stays where a stretch before it is written to
   pub place_kept : (xs one : List (Stretch A)) (i j b last : ℕ) → IsPlace xs j b last → suc i ≤ j → length one ≡ length xs → drop (suc i) one ≡ drop (suc i) xs → IsPlace one j b last

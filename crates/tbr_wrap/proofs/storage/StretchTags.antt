@@ -1,10 +1,9 @@
 -- The tags that stretches stand for.
-use Rattle.std.proofs.Common.{◌≡◌, ℕ, suc, zero, ◌+◌, ◌-◌, ◌<◌, ◌≤◌, Bool, true, List, [], ◌∷◌, ◌++◌, length, take, drop, get_or, set, replicate, refl, ap, sym, ◌∙◌, subst, arith, append_assoc, append-nil, add-one}
-use Rattle.std.proofs.lemmas.List.{take_rest, take-append-drop, drop-set-lt, length-append, length-take, length-drop, drop-append-le, length-replicate, replicate-append-replicate}
-use Rattle.std.proofs.Math.Seq.{drop-append-add}
+use Rattle.std.proofs.Common.{◌≡◌, ℕ, suc, zero, ◌+◌, ◌-◌, ◌<◌, ◌≤◌, Bool, true, List, [], ◌∷◌, ◌++◌, length, take, drop, get_or, set, replicate, refl, ap, sym, ◌∙◌, subst, arith, append_assoc, append-nil, add-one, drop-cons, length-set}
+use Rattle.std.proofs.lemmas.List.{set_split, drop-set, drop_all, drop-drop, take_rest, take-append-drop, drop-set-lt, length-append, length-take, length-drop, drop-append-le, length-replicate, replicate-append-replicate}
+use Rattle.std.proofs.Math.Seq.{take-append-add, drop-append-add}
 use Rattle.std.specs.List.{AllZip}
 use Rattle.std.specs.Cmp.{IsEquivalence}
-use Rattle.tbr_wrap.proofs.storage.TaggedCharacters.{drop_twice}
 use Rattle.tbr_wrap.specs.declared.flat.tags.Stretch.{Stretch}
 use Rattle.tbr_wrap.specs.Stretches.{tags_of}
 
@@ -22,48 +21,21 @@ module _ {A : Type 0} where
       ap (λ ys. tags_of (drop k ys)) (sym (take-append-drop i xs)) ∙ ap tags_of (drop-append-le k (take i xs) (drop i xs) (omega (arith, length-take i xs)))
       ∙ tags_of-append (drop k (take i xs)) (drop i xs)
 
-  pub take-set : (xs : List (Stretch A)) (i : ℕ) (y : Stretch A) → take i (set xs i y) ≡ take i xs
-  take-set [] i y = refl
-  take-set (x ∷ xs) zero y = refl
-  take-set (x ∷ xs) (suc i) y = ap (λ ys. x ∷ ys) (take-set xs i y)
-
-  pub drop-set : (xs : List (Stretch A)) (i : ℕ) (y : Stretch A) → i < length xs → drop i (set xs i y) ≡ y ∷ drop (suc i) xs
-  drop-set [] i y h = absurd (omega arith)
-  drop-set (x ∷ xs) zero y h = refl
-  drop-set (x ∷ xs) (suc i) y h = drop-set xs i y (omega arith)
-
-  pub drop-item : (xs : List (Stretch A)) (i : ℕ) (d : Stretch A) → i < length xs → drop i xs ≡ get_or xs i d ∷ drop (suc i) xs
-  drop-item [] i d h = absurd (omega arith)
-  drop-item (x ∷ xs) zero d h = refl
-  drop-item (x ∷ xs) (suc i) d h = drop-item xs i d (omega arith)
-
-  pub length-set : (xs : List (Stretch A)) (i : ℕ) (y : Stretch A) → length (set xs i y) ≡ length xs
-  length-set [] i y = refl
-  length-set (x ∷ xs) zero y = refl
-  length-set (x ∷ xs) (suc i) y = ap suc (length-set xs i y)
-
   -- the tags after a write to a stretch
   pub set_tags : (xs : List (Stretch A)) (k i : ℕ) (y : Stretch A) → k ≤ i → i < length xs → tags_of (drop k (set xs i y)) ≡ tags_of (drop k (take i xs)) ++ tags_of (y ∷ drop (suc i) xs)
   set_tags xs k i y h g =
-      split_tags (set xs i y) k i h (omega (arith, length-set xs i y))
-      ∙ ap (λ ys. tags_of (drop k ys) ++ tags_of (drop i (set xs i y))) (take-set xs i y)
-      ∙ ap (λ ys. tags_of (drop k (take i xs)) ++ tags_of ys) (drop-set xs i y g)
+      ap (λ ys. tags_of (drop k ys)) (set_split xs i y g) ∙ ap tags_of (drop-append-le k (take i xs) (y ∷ drop (suc i) xs) (omega (arith, length-take i xs)))
+      ∙ tags_of-append (drop k (take i xs)) (y ∷ drop (suc i) xs)
 
   pub item_tags : (xs : List (Stretch A)) (k i : ℕ) (d : Stretch A) → k ≤ i → i < length xs → tags_of (drop k xs) ≡ tags_of (drop k (take i xs)) ++ tags_of (get_or xs i d ∷ drop (suc i) xs)
-  item_tags xs k i d h g = split_tags xs k i h (omega arith) ∙ ap (λ ys. tags_of (drop k (take i xs)) ++ tags_of ys) (drop-item xs i d g)
-
-  drop_all : (xs : List (Stretch A)) (i : ℕ) → length xs ≤ i → drop i xs ≡ []
-  drop_all [] zero h = refl
-  drop_all [] (suc i) h = refl
-  drop_all (x ∷ xs) zero h = absurd (omega arith)
-  drop_all (x ∷ xs) (suc i) h = drop_all xs i (omega arith)
+  item_tags xs k i d h g = split_tags xs k i h (omega arith) ∙ ap (λ ys. tags_of (drop k (take i xs)) ++ tags_of ys) (drop-cons xs i d g)
 
   -- the last stretch is longer
   pub push_last : (xs : List (Stretch A)) (k i n : ℕ) (s y : Stretch A) → k ≤ i → suc i ≡ length xs → s ≡ get_or xs i s → y ≡ record s { more = s.more + n } →
       tags_of (drop k (set xs i y)) ≡ tags_of (drop k xs) ++ replicate n s.tag
   push_last xs k i n s y h g is e =
       let front = tags_of (drop k (take i xs)) in
-      let none : drop (suc i) xs ≡ [] = drop_all xs (suc i) (omega arith) in
+      let none : drop (suc i) xs ≡ [] = drop_all (suc i) xs (omega arith) in
       let new : tags_of (drop k (set xs i y)) ≡ front ++ ((s.tag ∷ replicate s.more s.tag) ++ replicate n s.tag) =
       set_tags xs k i y h (omega arith) ∙ ap (λ z. front ++ tags_of (z ∷ drop (suc i) xs)) e ∙ ap (λ zs. front ++ tags_of (record s { more = s.more + n } ∷ zs)) none
       ∙ ap (λ ts. front ++ (s.tag ∷ ts)) (append-nil (replicate (s.more + n) s.tag) ∙ sym (replicate-append-replicate s.more n s.tag)) in
@@ -85,16 +57,16 @@ module _ {A : Type 0} where
   same_stretch (x ∷ xs) zero d e h p q = p ∙ sym q
   same_stretch (x ∷ xs) (suc i) d e h p q = same_stretch xs i d e (omega arith) p q
 
-  take_one : (n m : ℕ) (t : A) (rest : List A) → n ≤ m → take n (replicate m t ++ rest) ≡ replicate n t
-  take_one zero m t rest h = refl
-  take_one (suc n) zero t rest h = absurd (omega arith)
-  take_one (suc n) (suc m) t rest h = ap (λ ts. t ∷ ts) (take_one n m t rest (omega arith))
+  pub take_run : (o m : ℕ) (t : A) (rest : List A) → o ≤ m → take o (replicate m t ++ rest) ≡ replicate o t
+  take_run zero m t rest h = refl
+  take_run (suc o) zero t rest h = absurd (omega arith)
+  take_run (suc o) (suc m) t rest h = ap (λ ts. t ∷ ts) (take_run o m t rest (omega arith))
 
   -- the first stretch's first tags
   pub first_tags : (xs : List (Stretch A)) (k n : ℕ) (s : Stretch A) → k < length xs → s ≡ get_or xs k s → n ≤ s.more → take (n + 1) (tags_of (drop k xs)) ≡ replicate (n + 1) s.tag
   first_tags xs k n s h is less =
-      let e : drop k xs ≡ s ∷ drop (suc k) xs = drop-item xs k s h ∙ ap (λ z. z ∷ drop (suc k) xs) (sym is) in
-      ap (λ ys. take (n + 1) (tags_of ys)) e ∙ rw add-one (ap (λ ts. s.tag ∷ ts) (take_one n s.more s.tag (tags_of (drop (suc k) xs)) less))
+      let e : drop k xs ≡ s ∷ drop (suc k) xs = drop-cons xs k s h ∙ ap (λ z. z ∷ drop (suc k) xs) (sym is) in
+      ap (λ ys. take (n + 1) (tags_of ys)) e ∙ rw add-one (ap (λ ts. s.tag ∷ ts) (take_run n s.more s.tag (tags_of (drop (suc k) xs)) less))
 
   -- where a tag is left, so is a stretch
   pub has_stretch : (xs : List (Stretch A)) (k : ℕ) → 0 < length (tags_of (drop k xs)) → k < length xs
@@ -112,11 +84,11 @@ module _ {A : Type 0} where
   pub skip_part : (xs : List (Stretch A)) (k n : ℕ) (s y : Stretch A) → k < length xs → s ≡ get_or xs k s → n ≤ s.more → y ≡ record s { more = s.more - n } →
       tags_of (drop k (set xs k y)) ≡ drop n (tags_of (drop k xs))
   skip_part xs k n s y h is less e =
-      let old : drop k xs ≡ s ∷ drop (suc k) xs = drop-item xs k s h ∙ ap (λ z. z ∷ drop (suc k) xs) (sym is) in
-      ap tags_of (drop-set xs k y h) ∙ ap (λ z. tags_of (z ∷ drop (suc k) xs)) e ∙ sym (drop_one n s.more s.tag (tags_of (drop (suc k) xs)) less) ∙ ap (λ ys. drop n (tags_of ys)) (sym old)
+      let old : drop k xs ≡ s ∷ drop (suc k) xs = drop-cons xs k s h ∙ ap (λ z. z ∷ drop (suc k) xs) (sym is) in
+      ap tags_of (drop-set xs k y h ∙ ap (λ i. y ∷ drop i xs) (add-one k)) ∙ ap (λ z. tags_of (z ∷ drop (suc k) xs)) e ∙ sym (drop_one n s.more s.tag (tags_of (drop (suc k) xs)) less) ∙ ap (λ ys. drop n (tags_of ys)) (sym old)
 
   stretch_tags : (xs : List (Stretch A)) (k : ℕ) (s : Stretch A) → k < length xs → s ≡ get_or xs k s → tags_of (drop k xs) ≡ (s.tag ∷ replicate s.more s.tag) ++ tags_of (drop (suc k) xs)
-  stretch_tags xs k s h is = ap tags_of (drop-item xs k s h) ∙ ap (λ z. tags_of (z ∷ drop (suc k) xs)) (sym is)
+  stretch_tags xs k s h is = ap tags_of (drop-cons xs k s h) ∙ ap (λ z. tags_of (z ∷ drop (suc k) xs)) (sym is)
 
   pub stretch_len : (xs : List (Stretch A)) (k : ℕ) (s : Stretch A) → k < length xs → s ≡ get_or xs k s → length (tags_of (drop k xs)) ≡ s.more + 1 + length (tags_of (drop (suc k) xs))
   stretch_len xs k s h is =
@@ -153,7 +125,7 @@ module _ {A : Type 0} where
   stretch_before xs (suc k) left last e most some = omega arith
 
   pub drop_none_len : (xs : List (Stretch A)) (n : ℕ) → n ≡ length xs → length (tags_of (drop n xs)) ≡ 0
-  drop_none_len xs n h = ap (λ ys. length (tags_of ys)) (drop_all xs n (omega arith))
+  drop_none_len xs n h = ap (λ ys. length (tags_of ys)) (drop_all n xs (omega arith))
 
 -- ---- a tag is inserted
 
@@ -174,20 +146,10 @@ module _ {A : Type 0} where
   replicate_sum m (suc n) t rest = let e : m + suc n ≡ suc (m + n) = omega arith in ap (λ i. replicate i t ++ rest) e ∙ ap (λ ts. t ∷ ts) (replicate_sum m n t rest)
 
   pub take_behind : (front ts : List A) (o p : ℕ) → p ≡ length front + o → take p (front ++ ts) ≡ front ++ take o ts
-  take_behind [] ts o p e = ap (λ i. take i ts) (drop_zero p o e)
-    where
-      drop_zero : (p o : ℕ) → p ≡ 0 + o → p ≡ o
-      drop_zero p o e = omega arith
-  take_behind (x ∷ front) ts o zero e = absurd (omega arith)
-  take_behind (x ∷ front) ts o (suc p) e = ap (λ us. x ∷ us) (take_behind front ts o p (omega arith))
+  take_behind front ts o p e = ap (λ i. take i (front ++ ts)) e ∙ take-append-add front ts o
 
   pub drop_behind : (front ts : List A) (o p : ℕ) → p ≡ length front + o → drop p (front ++ ts) ≡ drop o ts
-  drop_behind [] ts o p e = ap (λ i. drop i ts) (drop_zero p o e)
-    where
-      drop_zero : (p o : ℕ) → p ≡ 0 + o → p ≡ o
-      drop_zero p o e = omega arith
-  drop_behind (x ∷ front) ts o zero e = absurd (omega arith)
-  drop_behind (x ∷ front) ts o (suc p) e = drop_behind front ts o p (omega arith)
+  drop_behind front ts o p e = ap (λ i. drop i (front ++ ts)) e ∙ drop-append-add front ts o
 
   insert_behind : (front ts us behind more : List A) (o p : ℕ) → p ≡ length front + o → us ≡ take o ts ++ (more ++ behind) → front ++ us ≡ take p (front ++ ts) ++ (more ++ behind)
   insert_behind front ts us behind more o p e h =
@@ -253,8 +215,8 @@ at_place {A} xs ys k r o last e h g n f =
     let inside : r ≤ length (drop k xs) = subst (λ (zs : List (Stretch A)). r ≤ length zs) live g in
     record {
       within = omega (arith, inside, h, length-drop k xs);
-      tags = ap (λ zs. length (tags_of zs)) (sym (drop_twice k r xs)) ∙ ap (λ zs. length (tags_of (drop r zs))) (sym live) ∙ n;
-      offset = λ some. subst (λ (m : ℕ). m < last) (ap (λ zs. length (tags_of (drop (suc r) zs))) live ∙ ap (λ zs. length (tags_of zs)) (drop_twice k (suc r) xs ∙ ap (λ i. drop i xs) (sym (suc_in k r)))) (f some);
+      tags = ap (λ zs. length (tags_of zs)) (sym (drop-drop r k xs)) ∙ ap (λ zs. length (tags_of (drop r zs))) (sym live) ∙ n;
+      offset = λ some. subst (λ (m : ℕ). m < last) (ap (λ zs. length (tags_of (drop (suc r) zs))) live ∙ ap (λ zs. length (tags_of zs)) (drop-drop (suc r) k xs ∙ ap (λ i. drop i xs) (sym (suc_in k r)))) (f some);
     }
 
 pub offset_in : {A : Type 0} (xs : List (Stretch A)) (i o last : ℕ) (s : Stretch A) → IsPlace xs i o last → i < length xs → s ≡ get_or xs i s → o ≤ s.more
@@ -275,23 +237,13 @@ module _ {A : Type 0} where
   put_behind (x ∷ front) behind y b zero e = absurd (omega arith)
   put_behind (x ∷ front) behind y b (suc n) e = ap (λ ys. x ∷ ys) (put_behind front behind y b n (omega arith))
 
-  set_parts : (xs : List (Stretch A)) (i : ℕ) (y : Stretch A) → i < length xs → set xs i y ≡ take i xs ++ y ∷ drop (suc i) xs
-  set_parts [] i y h = absurd (omega arith)
-  set_parts (x ∷ xs) zero y h = refl
-  set_parts (x ∷ xs) (suc i) y h = ap (λ ys. x ∷ ys) (set_parts xs i y (omega arith))
-
   -- the stretches after one is split and a tag is put between
   pub split_items : (xs one two : List (Stretch A)) (i : ℕ) (y b m : Stretch A) → i < length xs → one ≡ take (i + 1) (set xs i y) ++ b ∷ drop (i + 1) (set xs i y) → two ≡ take (i + 1) one ++ m ∷ drop (i + 1) one →
       two ≡ take i xs ++ y ∷ m ∷ b ∷ drop (suc i) xs
   split_items xs one two i y b m h e f =
       let n : i + 1 ≡ suc (length (take i xs)) = omega (arith, length-take i xs, h) in
-      let first : one ≡ take i xs ++ y ∷ b ∷ drop (suc i) xs = e ∙ ap (λ zs. take (i + 1) zs ++ b ∷ drop (i + 1) zs) (set_parts xs i y h) ∙ put_behind (take i xs) (drop (suc i) xs) y b (i + 1) n in
+      let first : one ≡ take i xs ++ y ∷ b ∷ drop (suc i) xs = e ∙ ap (λ zs. take (i + 1) zs ++ b ∷ drop (i + 1) zs) (set_split xs i y h) ∙ put_behind (take i xs) (drop (suc i) xs) y b (i + 1) n in
       f ∙ ap (λ zs. take (i + 1) zs ++ m ∷ drop (i + 1) zs) first ∙ put_behind (take i xs) (b ∷ drop (suc i) xs) y m (i + 1) n
-
-  pub take_run : (o m : ℕ) (t : A) (rest : List A) → o ≤ m → take o (replicate m t ++ rest) ≡ replicate o t
-  take_run zero m t rest h = refl
-  take_run (suc o) zero t rest h = absurd (omega arith)
-  take_run (suc o) (suc m) t rest h = ap (λ ts. t ∷ ts) (take_run o m t rest (omega arith))
 
   pub drop_run : (o m n : ℕ) (t : A) (rest : List A) → m ≡ o + n → drop o (replicate m t ++ rest) ≡ replicate n t ++ rest
   drop_run zero m n t rest h = let e : m ≡ n = omega arith in ap (λ i. replicate i t ++ rest) e

@@ -2,15 +2,14 @@
 use Rattle.std.proofs.Common.{◌≡◌, ℕ, suc, zero, ◌+◌, ◌-◌, ◌<◌, ◌≤◌, Bool, true, Option, None, Some, List, [], ◌∷◌, ◌++◌, length, take, drop, replicate, refl, ap, sym, ◌∙◌, subst, arith, append_assoc}
 use Rattle.std.specs.Option.{MatchOption}
 use Rattle.std.specs.List.{AllZip}
-use Rattle.std.proofs.Math.Seq.{drop-append_seam}
-use Rattle.std.proofs.lemmas.List.{take-append-drop, length-append, length-take, length-take-le, length-drop, length-replicate, drop-append-le}
+use Rattle.std.proofs.lemmas.List.{take-append-drop, length-append, length-take, length-take-le, length-drop, length-replicate, drop-append-le, drop-drop}
 use Rattle.tbr_model.specs.Run.{Item, glyph}
 use Rattle.tbr_model.specs.Rule.{spaces}
 use Rattle.tbr_tagged.specs.Elements.{SameItems, text_items}
 use Rattle.tbr_wrap.specs.Flat.{Flat, Letters, flat, glyphs}
 use Rattle.tbr_tagged.proofs.SameItems.{same_items, same_items_trans, same_items_append}
 use Rattle.std.specs.Cmp.{IsEquivalence}
-use Rattle.std.proofs.Math.Seq.{take-add}
+use Rattle.std.proofs.Math.Seq.{take-add, drop-append_seam}
 
 glyphs_none : {A : Type 0} (cs : List ℕ) → glyphs {A = A} cs [] ≡ []
 glyphs_none [] = refl
@@ -55,15 +54,6 @@ glyphs-take (suc n) [] ts = refl
 glyphs-take (suc n) (c ∷ cs) [] = refl
 glyphs-take (suc n) (c ∷ cs) (t ∷ ts) = ap (λ is. glyph c t ∷ is) (glyphs-take n cs ts)
 
-drop_none : {A : Type 0} (n : ℕ) → drop {A = A} n [] ≡ []
-drop_none zero = refl
-drop_none (suc n) = refl
-
-pub drop_twice : {A : Type 0} (n m : ℕ) (xs : List A) → drop m (drop n xs) ≡ drop (n + m) xs
-drop_twice zero m xs = ap (λ k. drop k xs) (omega arith)
-drop_twice (suc n) m [] = drop_none m ∙ sym (drop_none (suc n + m))
-drop_twice (suc n) m (x ∷ xs) = let e : suc n + m ≡ suc (n + m) = omega arith in rw e (drop_twice n m xs)
-
 -- ---- the calls
 
 pub flat_push : {A : Type 0} (l : Letters) (ts : List A) (cs : List ℕ) (n : ℕ) (a : A) → length ts ≡ length l.placed + length l.word → n ≡ length cs →
@@ -91,7 +81,7 @@ pub flat_front : {A : Type 0} (l : Letters) (ts : List A) (n : ℕ) → n ≤ le
 flat_front l ts n h =
     let us = drop (length l.placed) ts in
     let behind : drop (length (l.placed ++ take n l.word)) ts ≡ drop n us =
-    ap (λ k. drop k ts) (omega (arith, length-append l.placed (take n l.word), length-take-le n l.word h)) ∙ sym (drop_twice (length l.placed) n ts) in
+    ap (λ k. drop k ts) (omega (arith, length-append l.placed (take n l.word), length-take-le n l.word h)) ∙ sym (drop-drop n (length l.placed) ts) in
     rw (glyphs-append l.placed (take n l.word) ts, behind, glyphs-take n l.word us, glyphs-drop n l.word us) refl
 
 pub flat_word_first : {A : Type 0} (l : Letters) (ts : List A) (o : Option ℕ) → length ts ≡ length l.placed + length l.word → MatchOption o (l.word ≡ []) (λ c. (rest : List ℕ) × (l.word ≡ c ∷ rest)) →
@@ -110,7 +100,7 @@ flat_placed_len l ts h = length-glyphs l.placed ts (omega (arith, h))
 pub flat_take : {A : Type 0} (l : Letters) (ts : List A) (n : ℕ) → n ≤ length l.placed → flat (record l { placed = drop n l.placed }) (drop n ts) ≡ record (flat l ts) { placed = drop n (flat l ts).placed }
 flat_take l ts n h =
     let e : drop (length (drop n l.placed)) (drop n ts) ≡ drop (length l.placed) ts =
-    drop_twice n (length (drop n l.placed)) ts ∙ ap (λ k. drop k ts) (omega (arith, length-drop n l.placed, h)) in
+    drop-drop (length (drop n l.placed)) n ts ∙ ap (λ k. drop k ts) (omega (arith, length-drop n l.placed, h)) in
     rw (glyphs-drop n l.placed ts, e) refl
 
 module _ {A : Type 0} (eq : A → A → Bool) where
@@ -147,8 +137,7 @@ module _ {A : Type 0} (eq : A → A → Bool) where
   pub space_placed : (l : Letters) (ts behind : List A) (n : ℕ) (a : A) → length ts ≡ length l.placed + length l.word →
       (flat (record l { placed = l.placed ++ replicate n 32 }) (take (length l.placed) ts ++ (replicate n a ++ behind))).placed ≡ (flat l ts).placed ++ spaces n a
   space_placed l ts behind n a h =
-      let m = length l.placed in
-      let us = replicate n a ++ behind in
+      let m = length l.placed in let us = replicate n a ++ behind in
       let len : length (take m ts) ≡ m = omega (arith, h, length-take m ts) in
       let front : glyphs l.placed (take m ts ++ us) ≡ glyphs l.placed ts =
       glyphs_front l.placed (take m ts) us (omega (arith, len)) ∙ sym (glyphs_front l.placed (take m ts) (drop m ts) (omega (arith, len))) ∙ ap (λ vs. glyphs l.placed vs) (take-append-drop m ts) in
@@ -189,7 +178,7 @@ module _ {A : Type 0} (eq : A → A → Bool) (laws : IsEquivalence eq) where
 pub rest_turn : {A : Type 0} (start now next : Flat A) (m n k : ℕ) → k ≡ m + n → now ≡ record start { placed = drop m start.placed } → next ≡ record now { placed = drop n now.placed } →
     next ≡ record start { placed = drop k start.placed }
 rest_turn {A} start now next m n k e p q =
-    q ∙ ap (λ (f : Flat A). record f { placed = drop n f.placed }) p ∙ ap (λ xs. record start { placed = xs }) (drop_twice m n start.placed ∙ ap (λ i. drop i start.placed) (sym e))
+    q ∙ ap (λ (f : Flat A). record f { placed = drop n f.placed }) p ∙ ap (λ xs. record start { placed = xs }) (drop-drop n m start.placed ∙ ap (λ i. drop i start.placed) (sym e))
 
 module _ {A : Type 0} (eq : A → A → Bool) where
   pub spaced_placed : (l m : Letters) (ts us behind : List A) (n : ℕ) (a : A) (w : ℕ) → length ts ≡ length l.placed + length l.word → w ≡ length l.word → m ≡ record l { placed = l.placed ++ replicate n 32 } →

@@ -1,12 +1,11 @@
 -- Characters in one text, and their tags.
-use Rattle.std.proofs.Common.{◌≡◌, ℕ, suc, zero, ◌+◌, ◌-◌, ◌<◌, ◌≤◌, Bool, true, false, ◌&&◌, List, [], ◌∷◌, ◌++◌, Option, length, take, drop, encode_utf8, refl, ap, sym, ◌∙◌, arith, append_assoc, append-nil}
+use Rattle.std.proofs.Common.{◌≡◌, ℕ, suc, zero, ◌+◌, ◌-◌, ◌<◌, ◌≤◌, true, List, [], ◌∷◌, ◌++◌, Option, length, take, drop, encode_utf8, refl, ap, sym, ◌∙◌, arith, append_assoc, append-nil, None, Some, add-one, take-append-drop, length-append, length-take, length-take-le, length-drop}
 use Rattle.std.specs.List.{slice_range, slice_get}
 use Rattle.std.specs.Option.{MatchOption}
-use Rattle.std.proofs.Common.{None, Some, add-one}
 use Rattle.std.specs.Str.{IsAscii, IsUtf8, is_utf8, chars, IsCharBoundary}
 use Rattle.std.specs.Char.{IsScalar}
 use Rattle.std.proofs.Math.Seq.{drop-append_seam, take-append_seam}
-use Rattle.std.proofs.lemmas.List.{take-append-drop, length-append, length-take, length-take-le, length-drop}
+use Rattle.std.proofs.lemmas.Bool.{and_parts}
 use Rattle.std.proofs.lemmas.List.Folds.{drop_split}
 use Rattle.std.proofs.lemmas.Str.{IsUtf8-append, IsUtf8-nil, IsCharBoundary-from_drop, length-le-encodes, encodes-chars, scalars-chars, chars-encodes, encodes-append, IsCharBoundary-at_seam, IsUtf8-encode, IsUtf8-past_char, is_utf8-from_IsUtf8, IsUtf8-from_is_utf8, chars-append, chars-nil, chars_past_char, IsUtf8-from_ascii, chars-IsAscii, encodes-IsAscii}
 use lib.Utf8.{encodes, scalar, scalars}
@@ -51,8 +50,7 @@ from_cut bytes i j w gone placed word h p q n = record {
 pub letters_cut : (bytes : List ℕ) (i j : ℕ) (gone placed word : List ℕ) → IsCut bytes i j gone placed word → letters bytes i j ≡ record { placed = chars placed; word = chars word }
 letters_cut bytes i j gone placed word h =
     let p = slice_cut bytes i j gone placed word h in
-    let q = drop_cut bytes i j gone placed word h in
-    rw (p, q) refl
+    let q = drop_cut bytes i j gone placed word h in rw (p, q) refl
 
 -- more text behind the word
 pub cut_push : (bytes ds : List ℕ) (i j : ℕ) (gone placed word : List ℕ) → IsCut bytes i j gone placed word → IsCut (bytes ++ ds) i j gone placed (word ++ ds)
@@ -217,9 +215,6 @@ pub record IsRead (text rest : List ℕ) (n : ℕ) : Type 0 where
   pub left : drop n (chars text) ≡ chars rest
   pub utf8 : IsUtf8 rest
 
-pub read_none : (text : List ℕ) → IsUtf8 text → IsRead text text 0
-read_none text u = record { whole = refl; left = refl; utf8 = u }
-
 pub next_split : {A : Type 0} (xs ys : List A) (n : ℕ) (x : A) → drop n xs ≡ x ∷ ys → (take (suc n) xs ≡ take n xs ++ x ∷ []) × (drop (suc n) xs ≡ ys)
 next_split [] ys zero x h = let no : [] ≡ x ∷ ys = h in absurd (cc)
 next_split [] ys (suc n) x h = let no : [] ≡ x ∷ ys = h in absurd (cc)
@@ -249,26 +244,18 @@ read_len text rest n h = ap length h.whole ∙ length-append (encodes (take n (c
 
 -- ---- the first placed characters are handed out
 
-both_first : (p q : Bool) → p && q ≡ true → p ≡ true
-both_first true q h = refl
-both_first false q h = h
-
-both_second : (p q : Bool) → p && q ≡ true → q ≡ true
-both_second true q h = h
-both_second false q h = cc
-
 scalars_drop : (n : ℕ) (cs : List ℕ) → scalars cs ≡ true → scalars (drop n cs) ≡ true
 scalars_drop zero cs h = h
 scalars_drop (suc n) [] h = h
-scalars_drop (suc n) (c ∷ cs) h = scalars_drop n cs (both_second (scalar c) (scalars cs) h)
+scalars_drop (suc n) (c ∷ cs) h = scalars_drop n cs (and_parts (scalar c) (scalars cs) h).1
 
 scalars_take : (n : ℕ) (cs : List ℕ) → scalars cs ≡ true → scalars (take n cs) ≡ true
 scalars_take zero cs h = refl
 scalars_take (suc n) [] h = refl
 scalars_take (suc n) (c ∷ cs) h =
-    let p : scalar c ≡ true = both_first (scalar c) (scalars cs) h in
-    let q : scalars (take n cs) ≡ true = scalars_take n cs (both_second (scalar c) (scalars cs) h) in
-    rw (p, q) refl
+    let parts = and_parts (scalar c) (scalars cs) h in
+    let q : scalars (take n cs) ≡ true = scalars_take n cs parts.1 in
+    rw (parts.0, q) refl
 
 -- a text parts behind its first n characters
 pub record SplitsAt (text : List ℕ) (n : ℕ) : Type 0 where
@@ -358,23 +345,6 @@ module _ (bytes : List ℕ) (i j w n k : ℕ) (h : AreParts bytes i j w) (e : k 
       letters_first bytes front rest i j (j + k) w h split_word.whole (ap (λ m. j + m) e)
       ∙ ap (λ cs. record { placed = chars (slice_range bytes i j) ++ cs; word = chars rest }) split_word.front
       ∙ ap (λ cs. record { placed = chars (slice_range bytes i j) ++ take n (chars (drop j bytes)); word = cs }) split_word.back
-
--- ---- what was handed out is forgotten
-
-without_gone : (bytes : List ℕ) (i j w : ℕ) → AreParts bytes i j w → IsCut (drop i bytes) 0 (j - i) [] (slice_range bytes i j) (drop j bytes)
-without_gone bytes i j w h =
-    let k = cut bytes i j w h in
-    record {
-      whole = ap (λ n. drop n bytes) (sym k.start) ∙ ap (λ bs. drop (length (take i bytes)) bs) k.whole ∙ drop-append_seam (take i bytes) (slice_range bytes i j ++ drop j bytes);
-      start = refl;
-      end = omega (arith, k.start, k.end);
-    }
-
-pub parts_kept : (bytes : List ℕ) (i j w : ℕ) → AreParts bytes i j w → AreParts (drop i bytes) 0 (j - i) w
-parts_kept bytes i j w h = from_cut (drop i bytes) 0 (j - i) w [] (slice_range bytes i j) (drop j bytes) (without_gone bytes i j w h) (placed_utf8 bytes i j w h) (word_utf8 bytes i j w h) h.word_len
-
-pub letters_kept : (bytes : List ℕ) (i j w : ℕ) → AreParts bytes i j w → letters (drop i bytes) 0 (j - i) ≡ letters bytes i j
-letters_kept bytes i j w h = letters_cut (drop i bytes) 0 (j - i) [] (slice_range bytes i j) (drop j bytes) (without_gone bytes i j w h)
 
 -- ---- characters of one byte each
 

@@ -1,16 +1,15 @@
 -- Characters beside their tags: what they take, and what is left without the spaces and the white space where words part.
-use Rattle.std.proofs.Common.{◌≡◌, ℕ, suc, zero, ◌+◌, ◌-◌, ◌<◌, ◌≤◌, min, if◌then◌else◌, Bool, true, false, Option, List, [], ◌∷◌, ◌++◌, length, take, drop, replicate, refl, ap, sym, ◌∙◌, arith, append_assoc}
+use Rattle.std.proofs.Common.{◌≡◌, ℕ, suc, zero, ◌+◌, ◌-◌, ◌<◌, ◌≤◌, min, if◌then◌else◌, Bool, true, false, Option, List, [], ◌∷◌, ◌++◌, length, take, drop, replicate, refl, ap, sym, ◌∙◌, arith, append_assoc, ne_eqb}
 use Rattle.std.specs.List.{AllByRecursion as Each}
 use Rattle.std.specs.Char.{is_whitespace}
 use Rattle.std.proofs.Math.Seq.{drop-append_seam}
-use Rattle.std.proofs.lemmas.Bool.{ne_eqb}
-use Rattle.std.proofs.lemmas.List.{take-append-drop, length-append, length-take, length-drop, length-replicate, drop-append-le}
+use Rattle.std.proofs.lemmas.List.{take-append-drop, length-append, length-take, length-drop, length-replicate, drop-append-le, drop-drop}
 use Rattle.tbr_model.specs.Run.{Item, glyph, items_width}
 use Rattle.tbr_model.specs.Entry.{is_glyph}
 use Rattle.tbr_model.specs.Rule.{without_leading, without_trailing, is_space_item, is_white_item}
 use Rattle.tbr_model.specs.Width.{width_of_text}
 use Rattle.tbr_wrap.specs.Flat.{Letters, flat, glyphs}
-use Rattle.tbr_wrap.proofs.storage.TaggedCharacters.{drop_twice, glyphs-drop, glyphs-take, length-glyphs}
+use Rattle.tbr_wrap.proofs.storage.TaggedCharacters.{glyphs-drop, glyphs-take, length-glyphs}
 use Rattle.tbr_wrap.proofs.storage.StretchTags.{take_behind}
 
 module _ {A : Type 0} where
@@ -101,7 +100,7 @@ module _ {A : Type 0} where
       let front : glyphs (take m l.placed) (take m ts ++ us) ≡ take m (glyphs l.placed ts) = glyphs_kept m l.placed ts us (omega arith) (omega (arith, h)) in
       let len : length (take m l.placed) ≡ length (take m ts) = omega (arith, length-take m l.placed, length-take m ts, h) in
       let behind : drop (length (take m l.placed)) (take m ts ++ us) ≡ drop b (drop (length l.placed) ts) =
-      ap (λ i. drop i (take m ts ++ us)) len ∙ drop-append_seam (take m ts) us ∙ ap (λ i. drop i ts) second ∙ sym (drop_twice (length l.placed) b ts) in
+      ap (λ i. drop i (take m ts ++ us)) len ∙ drop-append_seam (take m ts) us ∙ ap (λ i. drop i ts) second ∙ sym (drop-drop b (length l.placed) ts) in
       rw (first, front, behind, glyphs-drop b l.word (drop (length l.placed) ts)) refl
 
   pub trimmed_flat : (l m : Letters) (ts us : List A) (n b w count : ℕ) → length ts ≡ length l.placed + length l.word → n ≤ length l.placed → b ≤ length l.word → w ≡ length l.word - b → count ≡ n + b →
@@ -115,9 +114,7 @@ module _ {A : Type 0} where
       (n < most → (f : List ℕ) → cs ≡ f ++ replicate (suc n) 32 → ⊥) → glyphs cs ts ≡ before ++ line → length line ≡ most →
       (take (length cs - n) (glyphs cs ts) ≡ before ++ without_trailing line) × (n + length (without_trailing line) ≡ length line)
   line_trimmed cs front ts n most before line h less e all parts len =
-      let k = length before in
-      let mid = drop k front in
-      let us = drop k ts in
+      let k = length before in let mid = drop k front in let us = drop k ts in
       let whole : length cs ≡ k + most = omega (arith, sym (length-glyphs cs ts h), ap length parts, length-append before line, len) in
       let front_len : length front + n ≡ length cs = omega (arith, ap length e, length-append front (replicate n 32), length-replicate {A = ℕ} n 32) in
       let mid_len : length mid + n ≡ most = omega (arith, length-drop k front, front_len, whole, less) in

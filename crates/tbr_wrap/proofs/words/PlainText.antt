@@ -62,8 +62,7 @@ plain_columns columns c n h = go (is_ascii_graphic c) h
 pub plain_more : (columns : ℕ → Option ℕ) (bs : List ℕ) (k n : ℕ) → k < length bs → plain_width columns (get_or bs k 0) ≡ Some n → IsPlain columns (take k bs) →
     IsPlain columns (take (k + 1) bs) × (width_of_text columns (take (k + 1) bs) ≡ width_of_text columns (take k bs) + n)
 plain_more columns bs k n h e p =
-    let b = get_or bs k 0 in
-    let more = take_more bs k 0 h in
+    let b = get_or bs k 0 in let more = take_more bs k 0 h in
     let plain : is_plain columns b ≡ true = ap is_some e in
     let width : width_of_text columns (b ∷ []) ≡ n = omega (arith, ap (λ o. unwrap_or o 0) (plain_columns columns b n e)) in (
       subst (IsPlain columns) (sym more) (each_append (λ c. is_plain columns c ≡ true) (take k bs) (b ∷ []) p (plain, tt)),
@@ -77,8 +76,7 @@ module _ {A : Type 0} (columns : ℕ → Option ℕ) (width : ℕ) (a b : A) whe
   plain_entered Pre c m h p = cc
   plain_entered Normal c m h p = let k = plain_parts columns c h in normal_kept columns width c (tag_of p a b) p k.width (graphic_joins c k.graphic) k.has_width
   plain_entered PreWrap c m h p =
-      let k = plain_parts columns c h in
-      let low = graphic_low c k.graphic in
+      let k = plain_parts columns c h in let low = graphic_low c k.graphic in
       let joins : is_break c ≡ false = graphic_joins c k.graphic in
       rw joins (preserve_kept columns width c a b PreWrap p (λ e. omega (arith, low.1, e)) (λ e. omega (arith, low.0, e)) (λ e. omega (arith, low.0, e)) k.width (graphic_takes c k.graphic) k.has_width)
 

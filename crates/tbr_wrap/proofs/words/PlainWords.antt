@@ -1,10 +1,8 @@
 -- Narrow words with one space between two go on the open line as one word does.
-use Rattle.std.proofs.Common.{◌≡◌, ℕ, suc, ◌+◌, ◌<◌, ◌≤◌, nat_lt, nat_le, ◌==◌, Bool, true, false, if◌then◌else◌, Option, None, Some, unwrap_or, List, [], ◌∷◌, ◌++◌, fold, length, take, slice_range, ◌-◌, refl, ap, sym, ◌∙◌, subst, arith, append_assoc, append-nil}
-use borrow.Author.Tests.{lt-ltb, le-leb}
+use Rattle.std.proofs.Common.{◌≡◌, ℕ, suc, ◌+◌, ◌<◌, ◌≤◌, nat_lt, nat_le, ◌==◌, Bool, true, false, if◌then◌else◌, Option, None, Some, unwrap_or, List, [], ◌∷◌, ◌++◌, fold, length, take, slice_range, ◌-◌, refl, ap, sym, ◌∙◌, subst, arith, append_assoc, append-nil, length-append, lt-ltb, le-leb}
 use Rattle.std.specs.Char.{is_ascii_graphic}
 use Rattle.std.specs.Str.{IsAscii}
 use Rattle.std.proofs.lemmas.Bool.Decides.{nat_tests}
-use Rattle.std.proofs.lemmas.List.{length-append}
 use Rattle.std.proofs.lemmas.Str.{IsAscii-append}
 use Rattle.std.proofs.lemmas.Str.Ascii.{IsAscii-nil, IsAscii-cons}
 use Rattle.std.proofs.Math.Seq.{take-append_seam}

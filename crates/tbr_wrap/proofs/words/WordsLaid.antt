@@ -1,6 +1,6 @@
 -- The block stands where the rule stands.
-use Rattle.std.proofs.Common.{◌≡◌, nat_le, ℕ, ◌+◌, ◌<◌, ◌≤◌, Bool, true, false, if◌then◌else◌, Option, None, Some, List, [], ◌∷◌, ◌++◌, refl, sym, ◌∙◌, subst, arith, append_assoc, append-nil, Result, Ok, Err, OnOk}
-use borrow.Author.Tests.{le-leb, leb-true, leb-false}
+use Rattle.std.proofs.Common.{rules, ◌≡◌, nat_le, ℕ, ◌+◌, ◌<◌, ◌≤◌, Bool, true, false, if◌then◌else◌, Option, None, Some, List, [], ◌∷◌, ◌++◌, refl, sym, ◌∙◌, subst, arith, append_assoc, append-nil, Result, Ok, Err, OnOk, le-leb, inl, inr}
+use Rattle.std.proofs.lemmas.Bool.{cases_lt}
 use Rattle.tbr_model.specs.Run.{Item, items_width, item_width, has_character}
 use Rattle.tbr_model.specs.Laid.{Laid, extended, end_if_character, put_items}
 use Rattle.tbr_model.specs.Greedy.{IsNarrow}
@@ -49,37 +49,17 @@ mode_given b x y e = rw e refl
 -- more on the lines, and the word as it was
 pub stands_laid : {A : Type 0} (columns : ℕ → Option ℕ) (eq : A → A → Bool) (b : Wrapper A) (lines : LaidLines A) (before given : List (List (Item A))) (p : Progress A) (r : Laid A) → IsAtProgress columns eq b before given p → HoldsRule columns eq lines before given r →
     SameItems eq lines.flat.word p.word → IsAtProgress columns eq (record b { lines = lines }) before given (record p { laid = r })
-stands_laid columns eq b lines before given p r s lays word = record {
-  lays = lays;
-  space = s.space;
-  word = word;
-  word_width = s.word_width;
-  mode = s.mode;
-  continuation_flag = s.continuation_flag;
-  in_continuation = s.in_continuation;
-}
+stands_laid columns eq b lines before given p r s lays word = search rules
 
 -- what is pending, by what is held
 pub held_some : {A : Type 0} (eq : A → A → Bool) (o : Option (HeldSpace A)) (held : HeldSpace A) (space : Option (Space A)) → o ≡ Some held → SameSpace eq o space → (s : Space A) × (space ≡ Some s) × (held.width ≡ s.width) × (eq held.tag s.tag ≡ true) × (held.mode ≡ s.mode)
 held_some eq o held None e h = absurd (subst (λ x. SameSpace eq x None) e h)
 held_some eq o held (Some s) e h = let k = subst (λ x. SameSpace eq x (Some s)) e h in (s, refl, k.0, k.1, k.2)
 
-pub held_none : {A : Type 0} (eq : A → A → Bool) (o : Option (HeldSpace A)) (space : Option (Space A)) → o ≡ None → SameSpace eq o space → space ≡ None
-held_none eq o None e h = refl
-held_none eq o (Some s) e h = absurd (subst (λ x. SameSpace eq x (Some s)) e h)
-
 -- where other space is pending
 pub spaced_stands : {A : Type 0} (columns : ℕ → Option ℕ) (eq : A → A → Bool) (b : Wrapper A) (held : Option (HeldSpace A)) (before given : List (List (Item A))) (p : Progress A) (o : Option (Space A)) → IsAtProgress columns eq b before given p → SameSpace eq held o →
     IsAtProgress columns eq (record b { space = held }) before given (record p { space = o })
-spaced_stands columns eq b held before given p o s space = record {
-  lays = s.lays;
-  space = space;
-  word = s.word;
-  word_width = s.word_width;
-  mode = s.mode;
-  continuation_flag = s.continuation_flag;
-  in_continuation = s.in_continuation;
-}
+spaced_stands columns eq b held before given p o s space = search rules
 
 -- a word with as narrow characters
 pub same_narrow : {A : Type 0} (columns : ℕ → Option ℕ) (eq : A → A → Bool) (width : ℕ) (is js : List (Item A)) → SameItems eq is js → IsNarrow columns width js → IsNarrow columns width is
@@ -100,19 +80,7 @@ lay_fresh_none columns width p e = rw e refl
 -- where the flag for the next call changes
 pub flagged_stands : {A : Type 0} (columns : ℕ → Option ℕ) (eq : A → A → Bool) (b : Wrapper A) (flag : Bool) (before given : List (List (Item A))) (p : Progress A) (x : Bool) → IsAtProgress columns eq b before given p → flag ≡ x →
     IsAtProgress columns eq (record b { continuation_flag = flag }) before given (record p { continuation_flag = x })
-flagged_stands columns eq b flag before given p x s is = record {
-  lays = s.lays;
-  space = s.space;
-  word = s.word;
-  word_width = s.word_width;
-  mode = s.mode;
-  continuation_flag = is;
-  in_continuation = s.in_continuation;
-}
+flagged_stands columns eq b flag before given p x s is = search rules
 
 pub no_room : (m n : ℕ) → (m ≤ n → ⊥) → n < m
-no_room m n h = go (nat_le m n) refl
-  where
-    go : (b : Bool) → nat_le m n ≡ b → n < m
-    go true e = absurd (h (leb-true m n e))
-    go false e = leb-false m n e
+no_room m n h = elim (cases_lt n m) [ inl less ↦ less | inr most ↦ absurd (h most) ]

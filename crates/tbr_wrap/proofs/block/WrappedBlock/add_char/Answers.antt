@@ -15,13 +15,9 @@ use Rattle.tbr_wrap.proofs.block.WrappedBlock.add_char.Goals as goal
 
 pub invariant_of-self-2 : goal.invariant_of-self-2
 invariant_of-self-2 g c = λ live.
-    let columns = g.W.CharWidth.columns in
-    let eq = g.T.PartialEq.eq in
-    let b = c.self.inside.wrapper in
-    let d = c.add_char.new.self in
-    let changes = c.self.inside.changes.items in
-    let now = course columns b.lines.width changes in
-    let done = c.in_ok-keep.ensures.ok in
+    let columns = g.W.CharWidth.columns in let eq = g.T.PartialEq.eq in let b = c.self.inside.wrapper in
+    let d = c.add_char.new.self in let changes = c.self.inside.changes.items in
+    let now = course columns b.lines.width changes in let done = c.in_ok-keep.ensures.ok in
     let k = c.self.invariant (sym done.1 ∙ live) in
     let e : Entry g.row.T.Denot = character c.args.c c.args.main_tag.now c.args.wrap_tag.now c.args.mode in
     let limits = c.add_char.ensures.limits in
@@ -31,14 +27,10 @@ invariant_of-self-2 g c = λ live.
 
 pub returns-clause-ok : goal.returns-clause-ok
 returns-clause-ok g c =
-    let columns = g.W.CharWidth.columns in
-    let b = c.self.inside.wrapper in
-    let d = c.add_char.new.self in
-    let changes = c.self.inside.changes.items in
-    let now = course columns b.lines.width changes in
+    let columns = g.W.CharWidth.columns in let b = c.self.inside.wrapper in let d = c.add_char.new.self in
+    let changes = c.self.inside.changes.items in let now = course columns b.lines.width changes in
     let e : Entry g.row.T.Denot = character c.args.c c.args.main_tag.now c.args.wrap_tag.now c.args.mode in
-    let limits = c.add_char.ensures.limits in
-    let failure = c.self.inside.failure in
+    let limits = c.add_char.ensures.limits in let failure = c.self.inside.failure in
     rw (← c.self.view_is)
     (subst (JoinsRun (state_of columns b.lines.width b.lines.may_overflow _ failure now) (e ∷ []))
     (sym (viewed_after columns b.lines.width d.lines.width changes _ _ limits.width c.appended-self-inside.ensures b.lines.may_overflow d.lines.may_overflow _ failure c.keep.new.failure limits.may_overflow c.in_ok-keep.ensures.ok.1))
@@ -46,29 +38,23 @@ returns-clause-ok g c =
 
 pub returns-in_err-keep-clause-too_narrow : goal.returns-in_err-keep-clause-too_narrow
 returns-in_err-keep-clause-too_narrow g c = λ none e.
-    let columns = g.W.CharWidth.columns in
-    let eq = g.T.PartialEq.eq in
-    let b = c.self.inside.wrapper in
+    let columns = g.W.CharWidth.columns in let eq = g.T.PartialEq.eq in let b = c.self.inside.wrapper in
     let now = course columns b.lines.width c.self.inside.changes.items in
     let k = c.self.invariant (ap (λ (s : State g.row.T.Denot). s.failure) c.self.view_is ∙ none) in
     let p = err_from_is_err_and c.from_residual-in_err-keep.result c.from_residual-in_err-keep.ensures.1 in
-    let was = c.in_err-keep.ensures.failed.0 in
-    let is : c.add_char.result ≡ Err E.TooNarrow = cc (p.1, p.2, e, was) in
+    let is : c.add_char.result ≡ Err E.TooNarrow = cc (p.1, p.2, e, c.in_err-keep.ensures.failed.0) in
     let refused = c.add_char.ensures.too_narrow is k.before (given columns eq b c.self.inside.begun now k) now.progress k.stands in
     rw (← c.self.view_is) (refused.0, λ fit. refused.1 (word_fits columns eq b c.self.inside.begun now k fit))
 
 pub returns-in_err-keep-clause-normal_too_narrow : goal.returns-in_err-keep-clause-normal_too_narrow
 returns-in_err-keep-clause-normal_too_narrow g c = λ none.
-    let columns = g.W.CharWidth.columns in
-    let eq = g.T.PartialEq.eq in
-    let b = c.self.inside.wrapper in
+    let columns = g.W.CharWidth.columns in let eq = g.T.PartialEq.eq in let b = c.self.inside.wrapper in
     let now = course columns b.lines.width c.self.inside.changes.items in
     let k = c.self.invariant (ap (λ (s : State g.row.T.Denot). s.failure) c.self.view_is ∙ none) in
     let last : Entry g.row.T.Denot = character c.args.c c.args.main_tag.now c.args.wrap_tag.now c.args.mode in
     rw (← c.self.view_is) (λ normal e.
     let p = err_from_is_err_and c.from_residual-in_err-keep.result c.from_residual-in_err-keep.ensures.1 in
-    let was = c.in_err-keep.ensures.failed.0 in
-    let is : c.add_char.result ≡ Err E.TooNarrow = cc (p.1, p.2, e, was) in
+    let is : c.add_char.result ≡ Err E.TooNarrow = cc (p.1, p.2, e, c.in_err-keep.ensures.failed.0) in
     let refused = c.add_char.ensures.too_narrow is k.before (given columns eq b c.self.inside.begun now k) now.progress k.stands in
     let broken = refused.2 (each_back (HasMode Normal) now.run (last ∷ []) normal).0 in
     narrow_refused columns eq b c.self.inside.begun now k refused.0 (each_front (HasMode Normal) now.run (last ∷ []) normal) last broken.0 broken.1 refused.1)

@@ -1,21 +1,18 @@
-use Rattle.std.proofs.Common.{◌≡◌, ◌++◌, chars, take, drop, length, ap, ◌∙◌, sym, subst, arith}
+use Rattle.std.proofs.Common.{◌≡◌, ◌++◌, chars, take, drop, length, ap, ◌∙◌, sym, subst, arith, take-append-drop, length-drop}
 use Rattle.std.specs.Str.{IsUtf8, IsCharBoundary}
-use Rattle.std.proofs.lemmas.List.{take-append-drop, length-drop}
 use Rattle.std.proofs.lemmas.Str.{chars-append, IsUtf8-from_ascii, IsUtf8-drop, IsCharBoundary-from_take}
 use Rattle.tbr_wrap.proofs.words.PlainText.{plain_ascii}
 use Rattle.tbr_wrap.proofs.block.WrappedBlock.add_front.Goals as goal
 
 pub split_at-requires : goal.split_at-requires
 split_at-requires g c =
-    let text = c.args.text.now in
-    let n = c.plain_in_front-count.result.0 in
+    let text = c.args.text.now in let n = c.plain_in_front-count.result.0 in
     let k = c.plain_in_front-count.ensures in
     IsCharBoundary-from_take text n c.utf8.text k.within (IsUtf8-from_ascii (take n text) (plain_ascii g.W.CharWidth.columns (take n text) k.plain))
 
 pub returns-clause-rest : goal.returns-clause-rest
 returns-clause-rest g c =
-    let text = c.args.text.now in
-    let n = c.plain_in_front-count.result.0 in
+    let text = c.args.text.now in let n = c.plain_in_front-count.result.0 in
     let k = c.plain_in_front-count.ensures in
     let place : IsCharBoundary text n = IsCharBoundary-from_take text n c.utf8.text k.within (IsUtf8-from_ascii (take n text) (plain_ascii g.W.CharWidth.columns (take n text) k.plain)) in (
       subst IsUtf8 (sym c.split_at.ensures.back) (IsUtf8-drop text n c.utf8.text place),
@@ -24,9 +21,7 @@ returns-clause-rest g c =
 
 pub returns-clause-ok : goal.returns-clause-ok
 returns-clause-ok g c =
-    let text = c.args.text.now in
-    let n = c.plain_in_front-count.result.0 in
-    let front = c.split_at.result.0.now in
+    let text = c.args.text.now in let n = c.plain_in_front-count.result.0 in let front = c.split_at.result.0.now in
     let utf8 : IsUtf8 (take n text) = IsUtf8-from_ascii (take n text) (plain_ascii g.W.CharWidth.columns (take n text) c.plain_in_front-count.ensures.plain) in
     let whole : length c.in_ok-rest.rest.now ≡ length text = omega (arith, c.in_ok-rest.ensures.rest.1) in
     record {

@@ -10,13 +10,9 @@ use Rattle.tbr_wrap.proofs.block.WrappedBlock.add_marker.Goals as goal
 
 pub invariant_of-self-2 : goal.invariant_of-self-2
 invariant_of-self-2 g c = λ live.
-    let columns = g.W.CharWidth.columns in
-    let eq = g.T.PartialEq.eq in
-    let b = c.self.inside.wrapper in
-    let d = c.add_marker-added.new.self in
-    let changes = c.self.inside.changes.items in
-    let now = course columns b.lines.width changes in
-    let done = c.in_ok-keep_want.ensures.ok in
+    let columns = g.W.CharWidth.columns in let eq = g.T.PartialEq.eq in let b = c.self.inside.wrapper in
+    let d = c.add_marker-added.new.self in let changes = c.self.inside.changes.items in
+    let now = course columns b.lines.width changes in let done = c.in_ok-keep_want.ensures.ok in
     let k = c.self.invariant (sym done.1 ∙ live) in
     let behind = given columns eq b c.self.inside.begun now k in
     let limits = c.add_marker-added.ensures.limits in
@@ -27,13 +23,9 @@ invariant_of-self-2 g c = λ live.
 
 pub returns-clause-ok : goal.returns-clause-ok
 returns-clause-ok g c =
-    let columns = g.W.CharWidth.columns in
-    let b = c.self.inside.wrapper in
-    let d = c.add_marker-added.new.self in
-    let changes = c.self.inside.changes.items in
-    let now = course columns b.lines.width changes in
-    let limits = c.add_marker-added.ensures.limits in
-    let failure = c.self.inside.failure in
+    let columns = g.W.CharWidth.columns in let b = c.self.inside.wrapper in let d = c.add_marker-added.new.self in
+    let changes = c.self.inside.changes.items in let now = course columns b.lines.width changes in
+    let limits = c.add_marker-added.ensures.limits in let failure = c.self.inside.failure in
     rw (← c.self.view_is)
     (subst (JoinsAsMarker (state_of columns b.lines.width b.lines.may_overflow _ failure now) (string_bytes c.args.name))
     (sym (viewed_after columns b.lines.width d.lines.width changes _ _ limits.width c.with_marker-changes.ensures.changes b.lines.may_overflow d.lines.may_overflow _ failure c.keep_want.new.failure limits.may_overflow c.in_ok-keep_want.ensures.ok.1))

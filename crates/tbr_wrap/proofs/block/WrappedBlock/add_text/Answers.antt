@@ -11,8 +11,7 @@ use Rattle.tbr_wrap.proofs.block.WrappedBlock.add_text.Goals as goal
 
 pub loop-rest-init : goal.loop-rest-init
 loop-rest-init g c =
-    let a = c.args.main_tag.now in
-    let b = c.args.wrap_tag.now in
+    let a = c.args.main_tag.now in let b = c.args.wrap_tag.now in
     record {
       utf8 = c.utf8.text;
       joins = subst (λ s. JoinsFront c.args.self.now c.args.text.now c.args.text.now a b c.args.ws_mode s) (sym c.begin_call.ensures) (front_none a b c.args.ws_mode c.args.self.now c.args.text.now);
@@ -42,9 +41,7 @@ returns-clause-fit g c = λ never normal.
 
 pub returns-in_err-rest-clause-too_narrow : goal.returns-in_err-rest-clause-too_narrow
 returns-in_err-rest-clause-too_narrow g c = λ none e.
-    let columns = g.W.CharWidth.columns in
-    let old = c.args.self.now in
-    let s = c.loop-rest.self in
+    let columns = g.W.CharWidth.columns in let old = c.args.self.now in let s = c.loop-rest.self in
     let rest = text_entries (chars c.loop-rest.rest.now) c.args.main_tag.now c.args.wrap_tag.now c.args.ws_mode in
     let far = c.loop-rest.invariant.joins in
     let whole = front_run c.args.main_tag.now c.args.wrap_tag.now c.args.ws_mode old s c.args.text.now c.loop-rest.rest.now far in
@@ -59,9 +56,7 @@ returns-in_err-rest-clause-too_narrow g c = λ none e.
 -- the run with what is left is the run with the whole text
 pub returns-in_err-rest-clause-normal_too_narrow : goal.returns-in_err-rest-clause-normal_too_narrow
 returns-in_err-rest-clause-normal_too_narrow g c = λ none normal e fit.
-    let columns = g.W.CharWidth.columns in
-    let old = c.args.self.now in
-    let s = c.loop-rest.self in
+    let columns = g.W.CharWidth.columns in let old = c.args.self.now in let s = c.loop-rest.self in
     let far = c.loop-rest.invariant.joins in
     let whole = front_run c.args.main_tag.now c.args.wrap_tag.now c.args.ws_mode old s c.args.text.now c.loop-rest.rest.now far in
     let p = err_from_is_err_and c.from_residual-in_err-rest.result c.from_residual-in_err-rest.ensures.1 in
@@ -71,8 +66,7 @@ returns-in_err-rest-clause-normal_too_narrow g c = λ none normal e fit.
 
 pub returns-in_err-rest-clause-two_columns : goal.returns-in_err-rest-clause-two_columns
 returns-in_err-rest-clause-two_columns g c = λ none wide e.
-    let columns = g.W.CharWidth.columns in
-    let is = c.loop-rest.invariant.joins.joins.is in
+    let columns = g.W.CharWidth.columns in let is = c.loop-rest.invariant.joins.joins.is in
     let p = err_from_is_err_and c.from_residual-in_err-rest.result c.from_residual-in_err-rest.ensures.1 in
     (c.in_err-rest.ensures.too_narrow (cc (p.1, p.2, e))).1
     (two_columns_characters columns c.loop-rest.self.width g.met.W.CharWidth.at_most_two (rw is wide) c.loop-rest.self.run)

@@ -1,6 +1,5 @@
-use Rattle.std.proofs.Common.{◌≡◌, ◌<◌, List, map, chars, ◌++◌, fold, take, drop, ap, ◌∙◌, sym, subst, arith}
+use Rattle.std.proofs.Common.{◌≡◌, ◌<◌, List, map, chars, ◌++◌, fold, take, drop, ap, ◌∙◌, sym, subst, arith, take-append-drop}
 use Rattle.std.specs.Str.{IsAscii}
-use Rattle.std.proofs.lemmas.List.{take-append-drop}
 use Rattle.std.proofs.lemmas.Str.{chars-IsAscii, chars-append, IsUtf8-from_ascii, IsCharBoundary-from_take}
 use Rattle.tbr_model.specs.Run.{Entry}
 use Rattle.tbr_model.specs.Rule.{entry, enter}
@@ -18,27 +17,19 @@ returns-then-count-eq0-clause-ok g c = front_none c.args.main_tag.now c.args.wra
 
 pub split_at-requires : goal.split_at-requires
 split_at-requires g c =
-    let text = c.args.text.now in
-    let n = c.fitting_words-count.result in
-    let k = c.fitting_words-count.ensures in
+    let text = c.args.text.now in let n = c.fitting_words-count.result in let k = c.fitting_words-count.ensures in
     let some : 0 < n = omega (arith, c.if-count-eq0.false) in
     IsCharBoundary-from_take text n c.utf8.text k.within (IsUtf8-from_ascii (take n text) (all_ascii g.W.CharWidth.columns (take n text) (k.words some)))
 
 pub invariant_of-self-2 : goal.invariant_of-self-2
 invariant_of-self-2 g c = λ live.
-    let columns = g.W.CharWidth.columns in
-    let eq = g.T.PartialEq.eq in
-    let b = c.self.inside.wrapper in
-    let d = c.add_words-added.new.self in
-    let main = c.args.main_tag.now in
-    let wrap = c.args.wrap_tag.now in
-    let mode = c.args.mode in
-    let changes = c.self.inside.changes.items in
+    let columns = g.W.CharWidth.columns in let eq = g.T.PartialEq.eq in let b = c.self.inside.wrapper in
+    let d = c.add_words-added.new.self in let main = c.args.main_tag.now in let wrap = c.args.wrap_tag.now in
+    let mode = c.args.mode in let changes = c.self.inside.changes.items in
     let now = course columns b.lines.width changes in
     let k = c.self.invariant (sym c.in_ok-keep_want.ensures.ok.1 ∙ live) in
     let far = given columns eq b c.self.inside.begun now k in
-    let words = c.split_at.result.0.now in
-    let n = c.fitting_words-count.result in
+    let words = c.split_at.result.0.now in let n = c.fitting_words-count.result in
     let fit = c.fitting_words-count.ensures in
     let some : 0 < n = omega (arith, c.if-count-eq0.false) in
     let ascii : IsAscii words = subst IsAscii (sym c.split_at.ensures.front) (all_ascii columns (take n c.args.text.now) (fit.words some)) in
@@ -56,17 +47,10 @@ invariant_of-self-2 g c = λ live.
 
 pub returns-clause-ok : goal.returns-clause-ok
 returns-clause-ok g c =
-    let columns = g.W.CharWidth.columns in
-    let b = c.self.inside.wrapper in
-    let d = c.add_words-added.new.self in
-    let main = c.args.main_tag.now in
-    let wrap = c.args.wrap_tag.now in
-    let mode = c.args.mode in
-    let changes = c.self.inside.changes.items in
-    let now = course columns b.lines.width changes in
-    let text = c.args.text.now in
-    let words = c.split_at.result.0.now in
-    let n = c.fitting_words-count.result in
+    let columns = g.W.CharWidth.columns in let b = c.self.inside.wrapper in let d = c.add_words-added.new.self in
+    let main = c.args.main_tag.now in let wrap = c.args.wrap_tag.now in let mode = c.args.mode in
+    let changes = c.self.inside.changes.items in let now = course columns b.lines.width changes in
+    let text = c.args.text.now in let words = c.split_at.result.0.now in let n = c.fitting_words-count.result in
     let some : 0 < n = omega (arith, c.if-count-eq0.false) in
     let front_ascii : IsAscii (take n text) = all_ascii columns (take n text) (c.fitting_words-count.ensures.words some) in
     let ascii : IsAscii words = subst IsAscii (sym c.split_at.ensures.front) front_ascii in
@@ -74,8 +58,7 @@ returns-clause-ok g c =
     let same : words ≡ cs = sym (chars-IsAscii words ascii) in
     let more = c.note_ascii.ensures ∙ ap (λ ds. changes ++ text_changes ds main wrap mode) same in
     let entries : List (Entry g.row.T.Denot) = text_entries cs main wrap mode in
-    let limits = c.add_words-added.ensures.limits in
-    let failure = c.self.inside.failure in
+    let limits = c.add_words-added.ensures.limits in let failure = c.self.inside.failure in
     record {
       front = cs;
       split = ap chars (sym (take-append-drop n text)) ∙ chars-append (take n text) (drop n text) (IsUtf8-from_ascii (take n text) front_ascii) ∙ (λ i. chars (sym c.split_at.ensures.front i) ++ chars (sym c.split_at.ensures.back i));

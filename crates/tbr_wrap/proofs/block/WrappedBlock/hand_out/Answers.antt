@@ -1,5 +1,4 @@
-use Rattle.std.proofs.Common.{◌≡◌, [], ◌∷◌, ◌++◌, drop, length, ap, ◌∙◌, sym, refl, subst, arith, append_assoc, append-nil}
-use Rattle.std.specs.Prelude.{IsTrue, IsSomeAnd, is_some}
+use Rattle.std.proofs.Common.{◌≡◌, [], ◌∷◌, ◌++◌, drop, length, ap, ◌∙◌, sym, refl, subst, arith, append_assoc, append-nil, IsTrue, IsSomeAnd, is_some}
 use Rattle.tbr_wrap.specs.State.{State, lines_left, line_taken}
 use Rattle.tbr_wrap.specs.Wrapped.{ShowsText}
 use Rattle.tbr_wrap.proofs.runs.LinesLeft.{lines_left-taken, taken_failure, taken_padding, taken_width, first_of, none_of}

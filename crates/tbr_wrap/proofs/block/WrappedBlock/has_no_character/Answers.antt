@@ -7,9 +7,7 @@ use Rattle.tbr_wrap.proofs.block.WrappedBlock.has_no_character.Goals as goal
 
 pub returns-then-not-has_line : goal.returns-then-not-has_line
 returns-then-not-has_line g c =
-    let columns = g.W.CharWidth.columns in
-    let eq = g.T.PartialEq.eq in
-    let b = c.self.inside.wrapper in
+    let columns = g.W.CharWidth.columns in let eq = g.T.PartialEq.eq in let b = c.self.inside.wrapper in
     let now = course columns b.lines.width c.self.inside.changes.items in
     let k = c.self.invariant (ap (λ (s : State g.row.T.Denot). s.failure) c.self.view_is ∙ c.requires) in
     let line = sym (line_held columns eq b c.self.inside.begun now k) ∙ sym (c.has_line.ensures k.before k.stands.lays.laid k.stands.lays.holds) in
@@ -18,9 +16,7 @@ returns-then-not-has_line g c =
 
 pub returns-else-not-has_line : goal.returns-else-not-has_line
 returns-else-not-has_line g c =
-    let columns = g.W.CharWidth.columns in
-    let eq = g.T.PartialEq.eq in
-    let b = c.self.inside.wrapper in
+    let columns = g.W.CharWidth.columns in let eq = g.T.PartialEq.eq in let b = c.self.inside.wrapper in
     let now = course columns b.lines.width c.self.inside.changes.items in
     let k = c.self.invariant (ap (λ (s : State g.row.T.Denot). s.failure) c.self.view_is ∙ c.requires) in
     let line = sym (line_held columns eq b c.self.inside.begun now k) ∙ sym (c.has_line.ensures k.before k.stands.lays.laid k.stands.lays.holds) in

@@ -1,5 +1,4 @@
-use Rattle.std.proofs.Common.{subst}
-use Rattle.std.specs.Prelude.{IsSomeAnd}
+use Rattle.std.proofs.Common.{subst, IsSomeAnd}
 use Rattle.tbr_tagged.specs.Elements.{items_of, SameItems}
 use Rattle.tbr_wrap.proofs.runs.LinesLeft.{shows_padded}
 use Rattle.tbr_wrap.proofs.block.WrappedBlock.next_line.Goals as goal
@@ -9,8 +8,7 @@ returns-in_default-clause-some g c = λ text rest e. subst (λ o. IsSomeAnd o (�
 
 pub returns-clause-some : goal.returns-clause-some
 returns-clause-some g c = λ text rest e.
-    let columns = g.W.CharWidth.columns in
-    let eq = g.T.PartialEq.eq in
+    let columns = g.W.CharWidth.columns in let eq = g.T.PartialEq.eq in
     let settings = c.in_ok-line.ensures.settings in
     let shown = subst (λ o. IsSomeAnd o (λ l. SameItems eq (items_of l) text)) c.in-Some.is (c.in_ok-line.ensures.some text rest e) in
     let padded = c.in_ok-keep_want.ensures.ok.0 in

@@ -1,7 +1,6 @@
-use Rattle.std.proofs.Common.{◌≡◌, ◌<◌, Ok, Some, true, false, [], length, ap, ◌∙◌, sym, subst}
+use Rattle.std.proofs.Common.{◌≡◌, ◌<◌, Ok, Some, true, false, [], length, ap, ◌∙◌, sym, subst, IfSome}
 use Rattle.tbr_tagged.specs.Elements.{items_of, IsMerged}
 use Rattle.tbr_tagged.proofs.SameItems.{same_items_trans}
-use Rattle.std.specs.Prelude.{IfSome}
 use Rattle.tbr_wrap.proofs.runs.LinesLeft.{ok_of}
 use Rattle.tbr_wrap.specs.State.{State}
 use Rattle.tbr_wrap.specs.Course.{course}
@@ -18,9 +17,7 @@ returns-in_err-line-clause-none g c =
 
 pub invariant_of-self-in_default : goal.invariant_of-self-in_default
 invariant_of-self-in_default g c = λ live.
-    let columns = g.W.CharWidth.columns in
-    let eq = g.T.PartialEq.eq in
-    let b = c.self.inside.wrapper in
+    let columns = g.W.CharWidth.columns in let eq = g.T.PartialEq.eq in let b = c.self.inside.wrapper in
     let now = course columns b.lines.width c.self.inside.changes.items in
     let k = c.self.invariant (sym c.in_ok-line.ensures.ok.1 ∙ live) in
     let was = c.in_ok-line.ensures.ok.0 ∙ ap Ok c.in_default.is in
@@ -31,9 +28,7 @@ invariant_of-self-in_default g c = λ live.
 
 pub returns-in_default-clause-some : goal.returns-in_default-clause-some
 returns-in_default-clause-some g c =
-    let columns = g.W.CharWidth.columns in
-    let eq = g.T.PartialEq.eq in
-    let b = c.self.inside.wrapper in
+    let columns = g.W.CharWidth.columns in let eq = g.T.PartialEq.eq in let b = c.self.inside.wrapper in
     let now = course columns b.lines.width c.self.inside.changes.items in
     let k = c.self.invariant (ap (λ (s : State g.row.T.Denot). s.failure) c.self.view_is ∙ c.requires.unfailed) in
     let was = c.in_ok-line.ensures.ok.0 ∙ ap Ok c.in_default.is in
@@ -44,11 +39,8 @@ returns-in_default-clause-some g c =
 
 pub invariant_of-self-2 : goal.invariant_of-self-2
 invariant_of-self-2 g c = λ live.
-    let columns = g.W.CharWidth.columns in
-    let eq = g.T.PartialEq.eq in
-    let b = c.self.inside.wrapper in
-    let changes = c.self.inside.changes.items in
-    let now = course columns b.lines.width changes in
+    let columns = g.W.CharWidth.columns in let eq = g.T.PartialEq.eq in let b = c.self.inside.wrapper in
+    let changes = c.self.inside.changes.items in let now = course columns b.lines.width changes in
     let k = c.self.invariant (sym c.in_ok-line.ensures.ok.1 ∙ live) in
     let was = c.in_ok-line.ensures.ok.0 ∙ ap Ok c.in-Some.is in
     let some = ok_of c.take_line-taken.result (Some c.in-Some.line) (λ o. IfSome o (λ _. 0 < length b.lines.ended.items)) was c.take_line-taken.ensures.some in
@@ -60,9 +52,7 @@ invariant_of-self-2 g c = λ live.
 
 pub returns-clause-some : goal.returns-clause-some
 returns-clause-some g c =
-    let columns = g.W.CharWidth.columns in
-    let eq = g.T.PartialEq.eq in
-    let b = c.self.inside.wrapper in
+    let columns = g.W.CharWidth.columns in let eq = g.T.PartialEq.eq in let b = c.self.inside.wrapper in
     let now = course columns b.lines.width c.self.inside.changes.items in
     let k = c.self.invariant (ap (λ (s : State g.row.T.Denot). s.failure) c.self.view_is ∙ c.requires.unfailed) in
     let was = c.in_ok-line.ensures.ok.0 ∙ ap Ok c.in-Some.is in
@@ -73,9 +63,7 @@ returns-clause-some g c =
 
 pub returns-clause-merged : goal.returns-clause-merged
 returns-clause-merged g c =
-    let columns = g.W.CharWidth.columns in
-    let eq = g.T.PartialEq.eq in
-    let b = c.self.inside.wrapper in
+    let columns = g.W.CharWidth.columns in let eq = g.T.PartialEq.eq in let b = c.self.inside.wrapper in
     let now = course columns b.lines.width c.self.inside.changes.items in
     let k = c.self.invariant (ap (λ (s : State g.row.T.Denot). s.failure) c.self.view_is ∙ c.requires.unfailed) in
     let was = c.in_ok-line.ensures.ok.0 ∙ ap Ok c.in-Some.is in
@@ -86,14 +74,10 @@ returns-clause-merged g c =
 
 pub returns-clause-taken : goal.returns-clause-taken
 returns-clause-taken g c = λ _.
-    let columns = g.W.CharWidth.columns in
-    let eq = g.T.PartialEq.eq in
-    let b = c.self.inside.wrapper in
-    let changes = c.self.inside.changes.items in
-    let now = course columns b.lines.width changes in
+    let columns = g.W.CharWidth.columns in let eq = g.T.PartialEq.eq in let b = c.self.inside.wrapper in
+    let changes = c.self.inside.changes.items in let now = course columns b.lines.width changes in
     let k = c.self.invariant (ap (λ (s : State g.row.T.Denot). s.failure) c.self.view_is ∙ c.requires.unfailed) in
-    let limits = c.take_line-taken.ensures.limits in
-    let failure = c.self.inside.failure in
+    let limits = c.take_line-taken.ensures.limits in let failure = c.self.inside.failure in
     rw (← c.self.view_is)
     (viewed_after columns b.lines.width c.take_line-taken.new.self.width changes _ _ limits.width c.appended-self-inside.ensures b.lines.may_overflow c.take_line-taken.new.self.may_overflow _ failure c.keep_want.new.failure limits.may_overflow c.in_ok-line.ensures.ok.1
     ∙ handed_seen columns eq b c.self.inside.begun now k b.lines.may_overflow _ failure)

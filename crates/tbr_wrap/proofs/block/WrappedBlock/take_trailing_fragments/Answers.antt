@@ -6,53 +6,47 @@ use Rattle.tbr_wrap.specs.Course.{course}
 use Rattle.tbr_wrap.specs.Held.{HoldsCourse}
 use Rattle.tbr_wrap.proofs.runs.Courses.{course_after, viewed_after, holds_taken, taken_seen, kept_seen, loose_last, loose_behind, no_loose, word_held, word_names_held, given}
 use Rattle.tbr_wrap.proofs.runs.NormalRuns.{trailing_so_far}
+use Rattle.tbr_wrap.proofs.block.WrappedBlock.take_trailing_fragments.Given.{Over}
+use Rattle.tbr_wrap.proofs.block.WrappedBlock.take_trailing_fragments.Goals.{In_ok-refusal}
 use Rattle.tbr_wrap.proofs.block.WrappedBlock.take_trailing_fragments.Goals as goal
+
+-- a block that hasn't failed holds its course
+held : (g : Over) (c : In_ok-refusal g) →
+    HoldsCourse g.W.CharWidth.columns g.T.PartialEq.eq c.self.inside.wrapper c.self.inside.begun (course g.W.CharWidth.columns c.self.inside.wrapper.lines.width c.self.inside.changes.items)
+held g c = c.self.invariant (ap (λ (s : State g.row.T.Denot). s.failure) c.self.view_is ∙ c.in_ok-refusal.ensures)
 
 pub returns-then-has_word-clause-taken : goal.returns-then-has_word-clause-taken
 returns-then-has_word-clause-taken g c =
-    let columns = g.W.CharWidth.columns in
-    let eq = g.T.PartialEq.eq in
-    let b = c.self.inside.wrapper in
+    let columns = g.W.CharWidth.columns in let b = c.self.inside.wrapper in
     let now = course columns b.lines.width c.self.inside.changes.items in
-    let k = c.self.invariant (ap (λ (s : State g.row.T.Denot). s.failure) c.self.view_is ∙ c.in_ok-refusal.ensures) in
-    let some = sym (word_held columns eq b c.self.inside.begun now k) ∙ sym c.has_word.ensures ∙ c.if-has_word.true in
+    let k = held g (goal.at.returns-then-has_word-clause-taken g c).In_ok-refusal in
+    let some = sym (word_held columns g.T.PartialEq.eq b c.self.inside.begun now k) ∙ sym c.has_word.ensures ∙ c.if-has_word.true in
     rw (← c.self.view_is) (kept_seen columns b.lines.width b.lines.may_overflow _ c.self.inside.failure now some).1
 
 pub returns-then-has_word-clause-markers : goal.returns-then-has_word-clause-markers
 returns-then-has_word-clause-markers g c =
-    let columns = g.W.CharWidth.columns in
-    let eq = g.T.PartialEq.eq in
-    let b = c.self.inside.wrapper in
+    let columns = g.W.CharWidth.columns in let b = c.self.inside.wrapper in
     let now = course columns b.lines.width c.self.inside.changes.items in
-    let k = c.self.invariant (ap (λ (s : State g.row.T.Denot). s.failure) c.self.view_is ∙ c.in_ok-refusal.ensures) in
-    let some = sym (word_held columns eq b c.self.inside.begun now k) ∙ sym c.has_word.ensures ∙ c.if-has_word.true in
+    let k = held g (goal.at.returns-then-has_word-clause-markers g c).In_ok-refusal in
+    let some = sym (word_held columns g.T.PartialEq.eq b c.self.inside.begun now k) ∙ sym c.has_word.ensures ∙ c.if-has_word.true in
     rw (← c.self.view_is) (ap (map element_of) c.new.ensures.items ∙ sym (ap (map marker_element) (no_loose now.progress.word some)))
 
 pub returns-then-has_word-clause-last : goal.returns-then-has_word-clause-last
 returns-then-has_word-clause-last g c =
-    let columns = g.W.CharWidth.columns in
-    let eq = g.T.PartialEq.eq in
-    let b = c.self.inside.wrapper in
-    let now = course columns b.lines.width c.self.inside.changes.items in
-    let k = c.self.invariant (ap (λ (s : State g.row.T.Denot). s.failure) c.self.view_is ∙ c.in_ok-refusal.ensures) in
-    rw (← c.self.view_is) (loose_last columns eq b c.self.inside.begun now k)
+    rw (← c.self.view_is) (loose_last _ _ _ _ _ (held g (goal.at.returns-then-has_word-clause-last g c).In_ok-refusal))
 
 pub returns-then-has_word-clause-trailing : goal.returns-then-has_word-clause-trailing
-returns-then-has_word-clause-trailing g c =
-    let columns = g.W.CharWidth.columns in
-    let b = c.self.inside.wrapper in
-    let now = course columns b.lines.width c.self.inside.changes.items in
-    rw (← c.self.view_is) (λ h. trailing_so_far columns g.T.PartialEq.eq b c.self.inside.begun now (c.self.invariant h.0) h.1 h.2)
+returns-then-has_word-clause-trailing g c = rw (← c.self.view_is) (λ h. trailing_so_far _ _ _ _ _ (c.self.invariant h.0) h.1 h.2)
+
+pub returns-then-has_word-clause-behind : goal.returns-then-has_word-clause-behind
+returns-then-has_word-clause-behind g c =
+    rw (← c.self.view_is) (loose_behind _ _ _ _ _ (held g (goal.at.returns-then-has_word-clause-behind g c).In_ok-refusal))
 
 pub invariant_of-self-2 : goal.invariant_of-self-2
 invariant_of-self-2 g c = λ live.
-    let columns = g.W.CharWidth.columns in
-    let eq = g.T.PartialEq.eq in
-    let b = c.self.inside.wrapper in
-    let d = c.take_markers-taken.new.self in
-    let changes = c.self.inside.changes.items in
-    let now = course columns b.lines.width changes in
-    let done = c.in_ok-markers.ensures.ok in
+    let columns = g.W.CharWidth.columns in let eq = g.T.PartialEq.eq in let b = c.self.inside.wrapper in
+    let d = c.take_markers-taken.new.self in let changes = c.self.inside.changes.items in
+    let now = course columns b.lines.width changes in let done = c.in_ok-markers.ensures.ok in
     let k = c.self.invariant (sym done.1 ∙ live) in
     let none = sym (word_held columns eq b c.self.inside.begun now k) ∙ sym c.has_word.ensures ∙ c.if-has_word.false in
     let limits = c.take_markers-taken.ensures.limits in
@@ -62,57 +56,27 @@ invariant_of-self-2 g c = λ live.
 
 pub returns-clause-taken : goal.returns-clause-taken
 returns-clause-taken g c =
-    let columns = g.W.CharWidth.columns in
-    let eq = g.T.PartialEq.eq in
-    let b = c.self.inside.wrapper in
-    let d = c.take_markers-taken.new.self in
-    let changes = c.self.inside.changes.items in
+    let columns = g.W.CharWidth.columns in let eq = g.T.PartialEq.eq in let b = c.self.inside.wrapper in
+    let d = c.take_markers-taken.new.self in let changes = c.self.inside.changes.items in
     let now = course columns b.lines.width changes in
     let k = c.self.invariant (ap (λ (s : State g.row.T.Denot). s.failure) c.self.view_is ∙ c.in_ok-refusal.ensures) in
     let none = sym (word_held columns eq b c.self.inside.begun now k) ∙ sym c.has_word.ensures ∙ c.if-has_word.false in
-    let limits = c.take_markers-taken.ensures.limits in
-    let failure = c.self.inside.failure in
+    let limits = c.take_markers-taken.ensures.limits in let failure = c.self.inside.failure in
     rw (← c.self.view_is)
     (viewed_after columns b.lines.width d.lines.width changes _ _ limits.width c.appended-self-inside.ensures b.lines.may_overflow d.lines.may_overflow _ failure c.keep_want.new.failure limits.may_overflow c.in_ok-markers.ensures.ok.1
     ∙ taken_seen columns b.lines.width b.lines.may_overflow _ failure now none)
 
 pub returns-clause-markers : goal.returns-clause-markers
 returns-clause-markers g c =
-    let columns = g.W.CharWidth.columns in
-    let eq = g.T.PartialEq.eq in
-    let b = c.self.inside.wrapper in
-    let now = course columns b.lines.width c.self.inside.changes.items in
-    let k = c.self.invariant (ap (λ (s : State g.row.T.Denot). s.failure) c.self.view_is ∙ c.in_ok-refusal.ensures) in
-    let none = sym (word_held columns eq b c.self.inside.begun now k) ∙ sym c.has_word.ensures ∙ c.if-has_word.false in
-    rw (← c.self.view_is) (rw c.in_ok-markers.ensures.ok.0 at c.take_markers-taken.ensures.markers ∙ ap (map marker_element) (word_names_held columns eq b c.self.inside.begun now k none))
+    let k = held g (goal.at.returns-clause-markers g c).In_ok-refusal in
+    let none = sym (word_held _ _ _ _ _ k) ∙ sym c.has_word.ensures ∙ c.if-has_word.false in
+    rw (← c.self.view_is) (rw c.in_ok-markers.ensures.ok.0 at c.take_markers-taken.ensures.markers ∙ ap (map marker_element) (word_names_held _ _ _ _ _ k none))
 
 pub returns-clause-last : goal.returns-clause-last
-returns-clause-last g c =
-    let columns = g.W.CharWidth.columns in
-    let b = c.self.inside.wrapper in
-    let now = course columns b.lines.width c.self.inside.changes.items in
-    let k = c.self.invariant (ap (λ (s : State g.row.T.Denot). s.failure) c.self.view_is ∙ c.in_ok-refusal.ensures) in
-    rw (← c.self.view_is) (loose_last columns g.T.PartialEq.eq b c.self.inside.begun now k)
+returns-clause-last g c = rw (← c.self.view_is) (loose_last _ _ _ _ _ (held g (goal.at.returns-clause-last g c).In_ok-refusal))
 
 pub returns-clause-trailing : goal.returns-clause-trailing
-returns-clause-trailing g c =
-    let columns = g.W.CharWidth.columns in
-    let b = c.self.inside.wrapper in
-    let now = course columns b.lines.width c.self.inside.changes.items in
-    rw (← c.self.view_is) (λ h. trailing_so_far columns g.T.PartialEq.eq b c.self.inside.begun now (c.self.invariant h.0) h.1 h.2)
-
-pub returns-then-has_word-clause-behind : goal.returns-then-has_word-clause-behind
-returns-then-has_word-clause-behind g c =
-    let columns = g.W.CharWidth.columns in
-    let b = c.self.inside.wrapper in
-    let now = course columns b.lines.width c.self.inside.changes.items in
-    let k = c.self.invariant (ap (λ (s : State g.row.T.Denot). s.failure) c.self.view_is ∙ c.in_ok-refusal.ensures) in
-    rw (← c.self.view_is) (loose_behind columns g.T.PartialEq.eq b c.self.inside.begun now k)
+returns-clause-trailing g c = rw (← c.self.view_is) (λ h. trailing_so_far _ _ _ _ _ (c.self.invariant h.0) h.1 h.2)
 
 pub returns-clause-behind : goal.returns-clause-behind
-returns-clause-behind g c =
-    let columns = g.W.CharWidth.columns in
-    let b = c.self.inside.wrapper in
-    let now = course columns b.lines.width c.self.inside.changes.items in
-    let k = c.self.invariant (ap (λ (s : State g.row.T.Denot). s.failure) c.self.view_is ∙ c.in_ok-refusal.ensures) in
-    rw (← c.self.view_is) (loose_behind columns g.T.PartialEq.eq b c.self.inside.begun now k)
+returns-clause-behind g c = rw (← c.self.view_is) (loose_behind _ _ _ _ _ (held g (goal.at.returns-clause-behind g c).In_ok-refusal))

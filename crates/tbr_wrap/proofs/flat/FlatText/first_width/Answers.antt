@@ -25,8 +25,7 @@ returns-in_err-c g c =
 
 pub returns : goal.returns
 returns g c =
-    let m = c.self.inside.word in
-    let k = c.in_ok-c.ensures in
+    let m = c.self.inside.word in let k = c.in_ok-c.ensures in
     let other : (name : List ℕ) (rest : List (ℕ × List ℕ)) → m.markers ≡ (0, name) ∷ rest → ⊥ = λ name rest e. false≢true (sym c.if-begins_with_marker.false ∙ c.begins_with_marker.ensures.1 (name, rest, e)) in
     let first = some_before m (omega (arith, c.self.invariant.1, ap length k.2)) other in (
       glyph c.in_ok-c.c k.0,

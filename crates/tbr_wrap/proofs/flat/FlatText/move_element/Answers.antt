@@ -15,8 +15,7 @@ take_piece-requires-clause-some g c =
 
 pub returns-clause-items : goal.returns-clause-items
 returns-clause-items g c =
-    let count = c.in_ok-count.count in
-    let piece = c.in_ok-count.piece in
+    let count = c.in_ok-count.count in let piece = c.in_ok-count.piece in
     let within : count ≤ before_first c.self.inside.placed = omega (arith, c.in_ok-count.ensures.some.1, c.min.ensures, c.before-2.ensures, ap before_first c.in_default.ensures.0) in
     piece_handed g.T.PartialEq.eq g.met.T.Eq.laws (items_of c.args.line.now) (items_of c.push_str.new.self) (text_items (chars (string_bytes piece.s)) piece.tag) c.self.inside.text.placed c.args.self.now.placed
     c.self.inside.placed count within c.self.invariant.0 (ap (λ (f : Flat g.row.T.Denot). f.placed) c.self.view_is) c.in_ok-count.ensures.items.1 c.in_ok-push_str.ensures.items

@@ -9,9 +9,7 @@ use Rattle.tbr_wrap.proofs.flat.FlatText.push_ascii.Goals as goal
 
 pub invariant_of-self-in_default : goal.invariant_of-self-in_default
 invariant_of-self-in_default g c =
-    let p = c.in_default.ensures in
-    let old = c.self.inside in
-    let cs = chars c.args.text.now in
+    let p = c.in_default.ensures in let old = c.self.inside in let cs = chars c.args.text.now in
     let count : length cs ≡ length c.args.text.now = ap length (chars-IsAscii c.args.text.now c.requires.ascii) in
     let placed : length c.push_ascii.new.self.placed ≡ length old.text.placed = ap (λ (f : Flat g.row.T.Denot). length f.placed) p.2 in
     let word : length c.push_ascii.new.self.word ≡ length (old.text.word ++ text_items cs p.0) = ap (λ (f : Flat g.row.T.Denot). length f.word) p.2 in (

@@ -7,9 +7,7 @@ use Rattle.tbr_wrap.proofs.flat.FlatText.take_line.Goals as goal
 
 pub loop-left-preserved : goal.loop-left-preserved
 loop-left-preserved g c =
-    let n = c.in_ok-left.field-0 in
-    let m = c.args.items - c.loop-left.left in
-    let inv = c.loop-left.invariant in
+    let n = c.in_ok-left.field-0 in let m = c.args.items - c.loop-left.left in let inv = c.loop-left.invariant in
     let k : c.args.items - (c.loop-left.left - n) ≡ m + n = omega (arith, inv.within, c.in_ok-left.ensures.some.1) in
     record {
       within = omega (arith, inv.within);

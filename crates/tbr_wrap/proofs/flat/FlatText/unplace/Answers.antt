@@ -8,8 +8,7 @@ use Rattle.tbr_wrap.proofs.flat.FlatText.unplace.Goals as goal
 
 pub returns-in_default : goal.returns-in_default
 returns-in_default g c = λ before line parts len none.
-    let now = c.loop.self-inside in
-    let inv = c.loop.invariant in
+    let now = c.loop.self-inside in let inv = c.loop.invariant in
     let glyphs : Each (λ i. is_glyph i ≡ true) now.text.placed = subst (λ (f : Flat g.row.T.Denot). Each (λ i. is_glyph i ≡ true) f.placed) (sym inv.text) c.holds_characters.ensures.placed in
     absurd
     (marker_left now.text.placed (marked now.text.word now.word.markers) c.args.self.now.word before line now.placed c.loop.counter glyphs inv.placed_fits (inv.items ∙ ap (λ is. is ++ c.args.self.now.word) parts)
@@ -17,17 +16,13 @@ returns-in_default g c = λ before line parts len none.
 
 pub invariant_of-self-in_err-push_first : goal.invariant_of-self-in_err-push_first
 invariant_of-self-in_err-push_first g c =
-    let now = c.loop.self-inside in
-    let inv = c.loop.invariant in
-    let e = c.in-Some.ensures in
+    let now = c.loop.self-inside in let inv = c.loop.invariant in let e = c.in-Some.ensures in
     let t = marker_back now.text.placed now.text.word now.placed c.pop_last.new.self e.0 now.word.markers e.1 (string_bytes c.in-Some.name) inv.placed_fits e.2 e.3 in
     (t.0, ap covered c.in_err-push_first.ensures.err ∙ inv.word_fits)
 
 pub loop-preserved : goal.loop-preserved
 loop-preserved g c =
-    let now = c.loop.self-inside in
-    let inv = c.loop.invariant in
-    let e = c.in-Some.ensures in
+    let now = c.loop.self-inside in let inv = c.loop.invariant in let e = c.in-Some.ensures in
     let t = marker_back now.text.placed now.text.word now.placed c.pop_last.new.self e.0 now.word.markers e.1 (string_bytes c.in-Some.name) inv.placed_fits e.2 e.3 in
     let p = c.in_ok-push_first.ensures.ok in
     record {
@@ -40,8 +35,7 @@ loop-preserved g c =
 
 pub returns : goal.returns
 returns g c = λ before line parts len none.
-    let now = c.loop.self-inside in
-    let inv = c.loop.invariant in
+    let now = c.loop.self-inside in let inv = c.loop.invariant in
     let t =
     line_back (marked now.text.placed now.placed.markers) (marked now.text.word now.word.markers) c.args.self.now.word before line c.loop.counter (inv.items ∙ ap (λ is. is ++ c.args.self.now.word) parts)
     (inv.moved ∙ ap length parts) (omega (arith, len)) in

@@ -1,7 +1,6 @@
-use Rattle.std.proofs.Common.{◌≡◌, ◌≤◌, length, take, chars, sym, ap, subst, arith}
+use Rattle.std.proofs.Common.{◌≡◌, ◌≤◌, length, take, chars, sym, ap, subst, arith, length-take-le}
 use lib.Utf8.{encodes}
 use Rattle.std.specs.Str.{IsAscii}
-use Rattle.std.proofs.lemmas.List.{length-take-le}
 use Rattle.tbr_wrap.proofs.storage.TextBytes.{read_next, read_len, chars_within, ascii_bytes}
 use Rattle.tbr_wrap.proofs.flat.split_text.bytes_of.Goals as goal
 

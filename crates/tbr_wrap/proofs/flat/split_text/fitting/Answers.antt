@@ -17,8 +17,7 @@ returns-then-count-most-clause-columns g c =
 
 pub loop-c-preserved : goal.loop-c-preserved
 loop-c-preserved g c =
-    let columns = g.W.CharWidth.columns in
-    let inv = c.loop-c.invariant in
+    let columns = g.W.CharWidth.columns in let inv = c.loop-c.invariant in
     let one : c.unwrap_or-width.result ≡ unwrap_or (columns c.in-Some.c) 0 = c.unwrap_or-width.ensures ∙ ap (λ o. unwrap_or o 0) c.width.ensures in
     record {
       count = omega (arith, inv.count, length-append c.loop-c.yielded (c.in-Some.c ∷ []));

@@ -14,5 +14,4 @@ returns-clause-spaces c = end_spaces c.args.text.now c.loop-count.count c.utf8.t
 
 pub returns-clause-all : goal.returns-clause-all
 returns-clause-all c = λ less front e.
-    let more = (more_spaces c.args.text.now front c.loop-count.count c.utf8.text e).0 in
-    omega (arith, more, less)
+    let more = (more_spaces c.args.text.now front c.loop-count.count c.utf8.text e).0 in omega (arith, more, less)

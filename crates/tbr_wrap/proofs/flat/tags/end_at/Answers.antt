@@ -5,9 +5,7 @@ use Rattle.tbr_wrap.proofs.flat.tags.end_at.Goals as goal
 
 pub returns-clause-front : goal.returns-clause-front
 returns-clause-front g c = λ k h.
-    let xs = c.args.stretches.now.items in
-    let i = c.args.place.stretch in
-    let o = c.args.place.offset in
+    let xs = c.args.stretches.now.items in let i = c.args.place.stretch in let o = c.args.place.offset in
     let s = c.index_mut.result.now in
     let some : 0 < o = omega (arith, c.if-place-eq0.false) in
     let inside = c.requires.offset some in

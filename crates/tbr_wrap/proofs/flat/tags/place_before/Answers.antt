@@ -16,8 +16,7 @@ overflow_sub-stretch g c =
 
 pub loop-left-preserved : goal.loop-left-preserved
 loop-left-preserved g c =
-    let inv = c.loop-left.invariant in
-    let stretch = c.index-stretches-stretch.result in
+    let inv = c.loop-left.invariant in let stretch = c.index-stretches-stretch.result in
     let some = stretch_before c.args.stretches.now c.loop-left.stretch c.loop-left.left c.args.last inv.reached c.requires c.loop-left-test.true in
     let len = count_len c.args.stretches.now c.loop-left.stretch (c.loop-left.stretch - 1) stretch (omega (arith, some)) inv.within c.index-stretches-stretch.is in
     record {
@@ -27,8 +26,7 @@ loop-left-preserved g c =
 
 pub returns-then-left-more : goal.returns-then-left-more
 returns-then-left-more g c =
-    let inv = c.loop-left.invariant in
-    let stretch = c.index-stretches-stretch.result in
+    let inv = c.loop-left.invariant in let stretch = c.index-stretches-stretch.result in
     let some = stretch_before c.args.stretches.now c.loop-left.stretch c.loop-left.left c.args.last inv.reached c.requires c.loop-left-test.true in
     let next : c.loop-left.stretch ≡ suc (c.loop-left.stretch - 1) = omega (arith, some) in
     let len = count_len c.args.stretches.now c.loop-left.stretch (c.loop-left.stretch - 1) stretch next inv.within c.index-stretches-stretch.is in

@@ -1,5 +1,4 @@
-use Rattle.std.proofs.Common.{◌≡◌, ◌≤◌, ◌+◌, take, refl, ap, ◌∙◌, arith}
-use Rattle.std.proofs.lemmas.List.{length-take-le}
+use Rattle.std.proofs.Common.{◌≡◌, ◌≤◌, ◌+◌, take, refl, ap, ◌∙◌, arith, length-take-le}
 use Rattle.tbr_model.specs.Run.{items_width}
 use Rattle.tbr_tagged.specs.Elements.{SameItems}
 use Rattle.tbr_tagged.proofs.SameItems.{same_width}
@@ -11,11 +10,8 @@ use Rattle.tbr_wrap.proofs.laid_lines.LaidLines.place_fitting.Goals as goal
 
 pub returns-clause-placed : goal.returns-clause-placed
 returns-clause-placed g c =
-    let columns = g.W.CharWidth.columns in
-    let eq = g.T.PartialEq.eq in
-    let laws = g.met.T.Eq.laws in
-    let old = c.args.self.now in
-    let n = c.in_ok-count.count in
+    let columns = g.W.CharWidth.columns in let eq = g.T.PartialEq.eq in let laws = g.met.T.Eq.laws in
+    let old = c.args.self.now in let n = c.in_ok-count.count in
     let e = c.in_ok-count.ensures in (
       n,
       ap (λ f. f.word) e.placed,

@@ -7,9 +7,7 @@ use Rattle.tbr_wrap.proofs.laid_lines.LaidLines.place_spaces.Goals as goal
 
 pub returns-clause-placed : goal.returns-clause-placed
 returns-clause-placed g c = λ columns a one same before given r h.
-    let eq = g.T.PartialEq.eq in
-    let laws = g.met.T.Eq.laws in
-    let p = c.in_ok-push_spaces.ensures.placed in
+    let eq = g.T.PartialEq.eq in let laws = g.met.T.Eq.laws in let p = c.in_ok-push_spaces.ensures.placed in
     let n = c.args.count in
     lays_extended columns eq laws c.args.self.now _ (record { width = refl; may_overflow = refl }) before given r h (spaces n p.0) (spaces n a) n
     (same_spaces eq n p.0 a (laws.congr p.0 c.args.tag a p.1 ∙ same)) (sym (spaces_width columns one n a)) c.requires.room

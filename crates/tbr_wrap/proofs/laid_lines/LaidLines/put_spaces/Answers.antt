@@ -25,11 +25,8 @@ loop-left-init g c =
 
 pub loop-left-preserved : goal.loop-left-preserved
 loop-left-preserved g c =
-    let eq = g.T.PartialEq.eq in
-    let inv = c.loop-left.invariant in
-    let k = c.in_ok-take_spaces.ensures in
-    let taken = c.min-taken.result in
-    let rest = c.loop-left.left - taken in
+    let eq = g.T.PartialEq.eq in let inv = c.loop-left.invariant in let k = c.in_ok-take_spaces.ensures in
+    let taken = c.min-taken.result in let rest = c.loop-left.left - taken in
     let parts : c.loop-left.left ≡ taken + rest = omega (arith, c.min-taken.ensures) in
     record {
       put = λ columns before given r a one h same.
@@ -48,8 +45,7 @@ loop-left-preserved g c =
 
 pub returns-clause-put : goal.returns-clause-put
 returns-clause-put g c = λ columns a one same before given r h.
-    let eq = g.T.PartialEq.eq in
-    let b = c.loop-left.self in
+    let eq = g.T.PartialEq.eq in let b = c.loop-left.self in
     let n = c.loop-left.invariant.put columns before given r a one h same in
     let none : c.loop-left.left ≡ 0 = omega (arith, c.loop-left-test.false) in
     let all = all_taken columns eq b before given n.0 (subst (λ m. HoldsRuleBefore columns eq b before given n.0 (spaces m n.1)) none n.3) in

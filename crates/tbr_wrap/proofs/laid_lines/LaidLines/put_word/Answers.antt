@@ -1,5 +1,4 @@
-use Rattle.std.proofs.Common.{◌≡◌, [], length, take, drop, ap, sym, ◌∙◌, arith, subst}
-use Rattle.std.proofs.lemmas.List.{length-drop}
+use Rattle.std.proofs.Common.{◌≡◌, [], length, take, drop, ap, sym, ◌∙◌, arith, subst, length-drop}
 use Rattle.tbr_model.specs.Greedy.{IsNarrow}
 use Rattle.tbr_model.specs.Run.{item_width}
 use Rattle.tbr_model.specs.Laid.{put_item, put_items}
@@ -12,15 +11,9 @@ use Rattle.tbr_wrap.proofs.laid_lines.LaidLines.put_word.Goals as goal
 
 pub loop-width-preserved : goal.loop-width-preserved
 loop-width-preserved g c =
-    let columns = g.W.CharWidth.columns in
-    let eq = g.T.PartialEq.eq in
-    let laws = g.met.T.Eq.laws in
-    let width = c.args.self.now.width in
-    let now = c.loop-width.self in
-    let then = c.put_first.new.self in
-    let w = c.in_ok-put_first.ensures.word in
-    let first = c.in-Some.ensures in
-    let inv = c.loop-width.invariant in
+    let columns = g.W.CharWidth.columns in let eq = g.T.PartialEq.eq in let laws = g.met.T.Eq.laws in
+    let width = c.args.self.now.width in let now = c.loop-width.self in let then = c.put_first.new.self in
+    let w = c.in_ok-put_first.ensures.word in let first = c.in-Some.ensures in let inv = c.loop-width.invariant in
     let f = c.in_ok-place_fitting.ensures.placed in
     record {
       put = λ before given r js h word.
@@ -42,8 +35,7 @@ loop-width-preserved g c =
 
 pub loop-width-smaller : goal.loop-width-smaller
 loop-width-smaller g c =
-    let w = c.in_ok-put_first.ensures.word in
-    let f = c.in_ok-place_fitting.ensures.placed in
+    let w = c.in_ok-put_first.ensures.word in let f = c.in_ok-place_fitting.ensures.placed in
     omega (arith, ap length w.2, ap length w.3, ap length f.1, length-drop f.0 c.put_first.new.self.flat.word)
 
 pub returns-clause-put : goal.returns-clause-put

@@ -10,20 +10,17 @@ trim-requires g c =
 
 pub overflow_sub-self : goal.overflow_sub-self
 overflow_sub-self g c =
-    let w = c.requires.lays in
-    let h = w.5 in
+    let w = c.requires.lays in let h = w.5 in
     removed_len w.0 w.4 g.T.PartialEq.eq c.args.self.now w.1 w.2 w.3 h c.in_ok-removed.removed (c.in_ok-removed.ensures.placed (joined (w.1 ++ h.laid.done)) h.laid.line h.holds.placed (sym h.holds.len)).1
 
 pub invariant_of-self-2-clause-marked : goal.invariant_of-self-2-clause-marked
 invariant_of-self-2-clause-marked g c =
-    let w = c.requires.lays in
-    let h = w.5 in
+    let w = c.requires.lays in let h = w.5 in
     markers_left w.0 w.4 g.T.PartialEq.eq c.args.self.now w.1 w.2 w.3 h c.in_ok-removed.removed (c.in_ok-removed.ensures.placed (joined (w.1 ++ h.laid.done)) h.laid.line h.holds.placed (sym h.holds.len)).1
 
 pub overflow_sub-self-2 : goal.overflow_sub-self-2
 overflow_sub-self-2 g c =
-    let w = c.requires.lays in
-    let h = w.5 in
+    let w = c.requires.lays in let h = w.5 in
     removed_width w.0 w.4 g.T.PartialEq.eq c.args.self.now w.1 w.2 w.3 h c.in_ok-removed.removed (c.in_ok-removed.ensures.placed (joined (w.1 ++ h.laid.done)) h.laid.line h.holds.placed (sym h.holds.len)).1
 
 pub returns-clause-trimmed : goal.returns-clause-trimmed

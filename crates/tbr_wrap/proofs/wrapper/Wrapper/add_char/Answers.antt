@@ -8,28 +8,23 @@ use Rattle.tbr_wrap.proofs.wrapper.Wrapper.add_char.Goals as goal
 
 pub returns-then-self-clause-too_narrow : goal.returns-then-self-clause-too_narrow
 returns-then-self-clause-too_narrow g c = λ e before given p s.
-    let k = c.enter_normal.ensures.too_narrow e before given p s in
-    (k.0, k.3, λ m. (k.1, k.2))
+    let k = c.enter_normal.ensures.too_narrow e before given p s in (k.0, k.3, λ m. (k.1, k.2))
 
 pub returns-else-self-clause-too_narrow : goal.returns-else-self-clause-too_narrow
 returns-else-self-clause-too_narrow g c = λ e before given p s.
-    let k = c.enter_normal-in-Normal.ensures.too_narrow e before given p s in
-    (k.0, k.3, λ m. (k.1, k.2))
+    let k = c.enter_normal-in-Normal.ensures.too_narrow e before given p s in (k.0, k.3, λ m. (k.1, k.2))
 
 pub returns-in-Pre-clause-too_narrow : goal.returns-in-Pre-clause-too_narrow
 returns-in-Pre-clause-too_narrow g c = λ e before given p s.
     let k = c.preserve.ensures.too_narrow e before given p s in
-    let mode = c.in-Pre.is in
-    (k.0, k.1, λ m. cc)
+    let mode = c.in-Pre.is in (k.0, k.1, λ m. cc)
 
 pub returns-in_err-break_word-in-PreWrap-clause-too_narrow : goal.returns-in_err-break_word-in-PreWrap-clause-too_narrow
 returns-in_err-break_word-in-PreWrap-clause-too_narrow g c = λ e before given p s.
     let q = err_from_is_err_and c.from_residual.result c.from_residual.ensures.1 in
-    let was = c.in_err-break_word-in-PreWrap.was in
-    let is : c.break_word.result ≡ Err E.TooNarrow = cc (q.1, q.2, e, was) in
+    let is : c.break_word.result ≡ Err E.TooNarrow = cc (q.1, q.2, e, c.in_err-break_word-in-PreWrap.was) in
     let k = c.break_word.ensures.too_narrow is before given p s in
-    let mode = c.in-PreWrap.is in
-    (k.0, k.2, λ m. cc)
+    let mode = c.in-PreWrap.is in (k.0, k.2, λ m. cc)
 
 pub preserve-requires-then-is_wordbreak_point-clause-stands : goal.preserve-requires-then-is_wordbreak_point-clause-stands
 preserve-requires-then-is_wordbreak_point-clause-stands g c =
@@ -38,8 +33,7 @@ preserve-requires-then-is_wordbreak_point-clause-stands g c =
 
 pub returns-then-is_wordbreak_point-clause-too_narrow : goal.returns-then-is_wordbreak_point-clause-too_narrow
 returns-then-is_wordbreak_point-clause-too_narrow g c = λ e before given p s.
-    let columns = g.W.CharWidth.columns in
-    let width = c.args.self.now.lines.width in
+    let columns = g.W.CharWidth.columns in let width = c.args.self.now.lines.width in
     let b = c.in_ok-break_word-in-PreWrap.ensures in
     let k = c.preserve-then-is_wordbreak_point.ensures.too_narrow e before given (break_word columns width p) (b.laid before given p s) in
     let mode = c.in-PreWrap.is in
@@ -48,5 +42,4 @@ returns-then-is_wordbreak_point-clause-too_narrow g c = λ e before given p s.
 pub returns-else-is_wordbreak_point-clause-too_narrow : goal.returns-else-is_wordbreak_point-clause-too_narrow
 returns-else-is_wordbreak_point-clause-too_narrow g c = λ e before given p s.
     let k = c.preserve-in-PreWrap.ensures.too_narrow e before given p s in
-    let mode = c.in-PreWrap.is in
-    (k.0, k.1, λ m. cc)
+    let mode = c.in-PreWrap.is in (k.0, k.1, λ m. cc)

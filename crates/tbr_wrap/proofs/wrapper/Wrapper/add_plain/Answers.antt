@@ -9,9 +9,7 @@ use Rattle.tbr_wrap.proofs.wrapper.Wrapper.add_plain.Goals as goal
 
 pub returns-then-self-clause-entered : goal.returns-then-self-clause-entered
 returns-then-self-clause-entered g c = λ before given p s.
-    let columns = g.W.CharWidth.columns in
-    let text = c.args.text.now in
-    let a = c.args.main_tag.now in
+    let columns = g.W.CharWidth.columns in let text = c.args.text.now in let a = c.args.main_tag.now in
     let b = c.args.wrap_tag.now in
     let same : chars text ≡ text = chars-IsAscii text (plain_ascii columns text c.requires.plain) in
     let plain : IsPlain columns (chars text) = subst (IsPlain columns) (sym same) c.requires.plain in
@@ -21,9 +19,7 @@ returns-then-self-clause-entered g c = λ before given p s.
 
 pub returns-clause-entered : goal.returns-clause-entered
 returns-clause-entered g c = λ before given p s.
-    let columns = g.W.CharWidth.columns in
-    let text = c.args.text.now in
-    let a = c.args.main_tag.now in
+    let columns = g.W.CharWidth.columns in let text = c.args.text.now in let a = c.args.main_tag.now in
     let b = c.args.wrap_tag.now in
     let same : chars text ≡ text = chars-IsAscii text (plain_ascii columns text c.requires.plain) in
     let plain : IsPlain columns (chars text) = subst (IsPlain columns) (sym same) c.requires.plain in

@@ -1,7 +1,6 @@
-use Rattle.std.proofs.Common.{◌≡◌, ◌≤◌, ◌+◌, true, ◌++◌, ◌∷◌, [], ◌∙◌, sym, ap, subst, chars, length, fold, arith, refl}
+use Rattle.std.proofs.Common.{◌≡◌, ◌≤◌, ◌+◌, true, ◌++◌, ◌∷◌, [], ◌∙◌, sym, ap, subst, chars, length, fold, arith, refl, length-append}
 use Rattle.std.specs.Str.{IsAscii}
 use Rattle.std.proofs.lemmas.Str.{chars-IsAscii}
-use Rattle.std.proofs.lemmas.List.{length-append}
 use Rattle.tbr_model.specs.declared.white_space.WhiteSpace.TheVariants.{Normal}
 use Rattle.tbr_model.specs.Rule.{tag_of, pending_width, lay_here, enter, collapse}
 use Rattle.tbr_model.specs.Run.{items_width}
@@ -27,20 +26,14 @@ join_ascii-requires-clause-ascii g c =
 
 pub lay_here-requires-clause-room : goal.lay_here-requires-clause-room
 lay_here-requires-clause-room g c =
-    let w = c.requires.words in
-    let k = c.in_ok-join_ascii.ensures.pending in
+    let w = c.requires.words in let k = c.in_ok-join_ascii.ensures.pending in
     rw (k.1) (omega (arith, ap length w.is, length-append w.front (32 ∷ []), k.0, k.2, c.in_ok-join_ascii.ensures.limits.width, c.range-words.ensures.len, c.requires.room))
 
 pub returns-clause-entered : goal.returns-clause-entered
 returns-clause-entered g c = λ before given p s.
-    let columns = g.W.CharWidth.columns in
-    let eq = g.T.PartialEq.eq in
-    let a = c.args.main_tag.now in
-    let b = c.args.wrap_tag.now in
-    let t = tag_of p a b in
-    let text = c.args.text.now in
-    let old = c.args.self.now in
-    let w = c.requires.words in
+    let columns = g.W.CharWidth.columns in let eq = g.T.PartialEq.eq in let a = c.args.main_tag.now in
+    let b = c.args.wrap_tag.now in let t = tag_of p a b in let text = c.args.text.now in
+    let old = c.args.self.now in let w = c.requires.words in
     let is = c.range-words.ensures.value ∙ words_front columns text w in
     let words : chars c.range-words.result.now ≡ w.front = ap chars is ∙ chars-IsAscii w.front (words_ascii columns _ w.front _ w.read) in
     let whole : chars text ≡ w.front ++ 32 ∷ [] = chars-IsAscii text (all_ascii columns text w) ∙ w.is in

@@ -1,5 +1,4 @@
-use Rattle.std.proofs.Common.{◌≡◌, true, false, nat_lt, arith}
-use borrow.Author.Tests.{lt-ltb, le-ltb}
+use Rattle.std.proofs.Common.{◌≡◌, true, false, nat_lt, arith, lt-ltb, le-ltb}
 use Rattle.tbr_model.specs.Run.{items_width}
 use Rattle.tbr_wrap.proofs.wrapper.Wrapper.break_word.Goals as goal
 

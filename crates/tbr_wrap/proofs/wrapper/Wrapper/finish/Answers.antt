@@ -15,21 +15,15 @@ use Rattle.tbr_wrap.proofs.wrapper.Wrapper.finish.Goals as goal
 pub returns-in_err-flush_word-clause-too_narrow : goal.returns-in_err-flush_word-clause-too_narrow
 returns-in_err-flush_word-clause-too_narrow g c = λ e before given p s.
     let q = err_from_is_err_and c.from_residual.result c.from_residual.ensures.1 in
-    let was = c.in_err-flush_word.was in
-    let is : c.flush_word.result ≡ Err E.TooNarrow = cc (q.1, q.2, e, was) in
+    let is : c.flush_word.result ≡ Err E.TooNarrow = cc (q.1, q.2, e, c.in_err-flush_word.was) in
     c.flush_word.ensures.too_narrow is before given p s
 
 pub returns-clause-finished : goal.returns-clause-finished
 returns-clause-finished g c = λ before given p s.
-    let columns = g.W.CharWidth.columns in
-    let eq = g.T.PartialEq.eq in
-    let b = c.args.self.now in
-    let d = c.end_if_character.new.self in
-    let q = flush_word columns b.lines.width p in
-    let k = c.in_ok-flush_word.ensures in
-    let f = c.in_ok-end_if_character.ensures in
-    let t = k.laid before given p s in
-    let l = f.ended columns before given q.laid t.lays in
+    let columns = g.W.CharWidth.columns in let eq = g.T.PartialEq.eq in let b = c.args.self.now in
+    let d = c.end_if_character.new.self in let q = flush_word columns b.lines.width p in
+    let k = c.in_ok-flush_word.ensures in let f = c.in_ok-end_if_character.ensures in
+    let t = k.laid before given p s in let l = f.ended columns before given q.laid t.lays in
     let word = subst (λ is. SameItems eq is q.word) (sym (ap (λ x. x.word) f.flat)) t.word in
     let none = append_none (end_if_character q.laid).line q.word (fresh_none q.laid) (flush_flushes columns b.lines.width p) in
     let u = c.in_ok-unplace.ensures (joined (before ++ l.0.laid.done)) l.0.laid.line l.0.holds.placed (sym l.0.holds.len) (same_has eq l.0.laid.line (end_if_character q.laid).line l.0.shows.last ∙ fresh_none q.laid) in

@@ -8,9 +8,7 @@ use Rattle.tbr_wrap.proofs.wrapper.Wrapper.join.Goals as goal
 
 pub returns-clause-joined : goal.returns-clause-joined
 returns-clause-joined g c = λ columns a wide same before given p s.
-    let eq = g.T.PartialEq.eq in
-    let laws = g.met.T.Eq.laws in
-    let k = c.in_ok-push.ensures in
+    let eq = g.T.PartialEq.eq in let laws = g.met.T.Eq.laws in let k = c.in_ok-push.ensures in
     record {
       lays = lays_same columns eq laws c.args.self.now.lines _ (record { width = refl; may_overflow = refl }) before given p.laid s.lays
           (holds_same c.args.self.now.lines _ before s.lays.laid s.lays.holds (ap (λ f. f.placed) k.2) refl refl refl refl);

@@ -12,11 +12,8 @@ use Rattle.tbr_wrap.proofs.wrapper.Wrapper.join_ascii.Goals as goal
 
 pub returns-clause-joined : goal.returns-clause-joined
 returns-clause-joined g c = λ columns a wide same before given p s.
-    let eq = g.T.PartialEq.eq in
-    let laws = g.met.T.Eq.laws in
-    let old = c.args.self.now in
-    let cs = chars c.args.text.now in
-    let k = c.in_ok-push_ascii.ensures in
+    let eq = g.T.PartialEq.eq in let laws = g.met.T.Eq.laws in let old = c.args.self.now in
+    let cs = chars c.args.text.now in let k = c.in_ok-push_ascii.ensures in
     let some : 0 < length cs = omega (arith, ap length (chars-IsAscii c.args.text.now c.requires.ascii), c.requires.some) in
     rw (joined_text cs a c.args.mode p some)
     (record {

@@ -1,4 +1,4 @@
-use Rattle.std.proofs.Common.{◌≡◌, ◌&&◌, true, false, refl, ◌∙◌, sym}
+use Rattle.std.proofs.Common.{◌≡◌, ◌&&◌, true, false, refl, ◌∙◌, sym, rules}
 use Rattle.tbr_model.specs.Rule.{is_pre, passes, tag_of}
 use Rattle.tbr_wrap.proofs.words.ModeCases.{tag_wrap, tag_main}
 use Rattle.tbr_wrap.proofs.wrapper.Wrapper.keep_character.Goals as goal
@@ -6,16 +6,7 @@ use Rattle.tbr_wrap.proofs.wrapper.Wrapper.keep_character.Goals as goal
 pub returns-then-begins_continuation-clause-kept : goal.returns-then-begins_continuation-clause-kept
 returns-then-begins_continuation-clause-kept g c = λ columns wide before given p s.
     let test : (is_pre c.args.mode && passes columns c.args.self.now.lines.width c.args.width p) ≡ true = sym (c.begins_continuation.ensures columns before given p s) ∙ c.if-begins_continuation.true in
-    rw test (c.join.ensures.joined columns c.args.wrap_tag.now wide (g.met.T.Eq.laws.refl c.args.wrap_tag.now) before given (record p { continuation_flag = true; in_continuation = true })
-    (record {
-      lays = s.lays;
-      space = s.space;
-      word = s.word;
-      word_width = s.word_width;
-      mode = s.mode;
-      continuation_flag = refl;
-      in_continuation = refl;
-    }))
+    rw test (c.join.ensures.joined columns c.args.wrap_tag.now wide (g.met.T.Eq.laws.refl c.args.wrap_tag.now) before given (record p { continuation_flag = true; in_continuation = true }) (search rules))
 
 pub returns-then-self-clause-kept : goal.returns-then-self-clause-kept
 returns-then-self-clause-kept g c = λ columns wide before given p s.

@@ -11,8 +11,7 @@ use Rattle.tbr_wrap.proofs.wrapper.Wrapper.lay.Goals as goal
 
 pub returns-then-has_room-clause-laid : goal.returns-then-has_room-clause-laid
 returns-then-has_room-clause-laid g c = λ before given p s.
-    let columns = g.W.CharWidth.columns in
-    let b = c.args.self.now in
+    let columns = g.W.CharWidth.columns in let b = c.args.self.now in
     let fits : nat_le (p.laid.width + (pending_width p.space + items_width columns p.word)) b.lines.width ≡ true =
     le-leb _ _ (omega (arith, c.has_room.ensures.0 c.if-has_room.true, same_held_width g.T.PartialEq.eq b.space p.space s.space, s.word_width, s.lays.holds.width, s.lays.shows.width)) in
     rw fits (c.in_ok-lay_here.ensures.laid before given p s)
@@ -24,9 +23,7 @@ lay_fresh-requires-clause-stands g c =
 
 pub returns-clause-laid : goal.returns-clause-laid
 returns-clause-laid g c = λ before given p s.
-    let columns = g.W.CharWidth.columns in
-    let eq = g.T.PartialEq.eq in
-    let b = c.args.self.now in
+    let columns = g.W.CharWidth.columns in let eq = g.T.PartialEq.eq in let b = c.args.self.now in
     let q = wrap_space columns b.lines.width p p.space in
     let full : nat_le (p.laid.width + (pending_width p.space + items_width columns p.word)) b.lines.width ≡ false =
     lt-leb _ _ (let past : b.lines.width < b.lines.line_width + (held_width b.space + b.word_width) = no_room _ _ (λ h. let room : c.has_room.result ≡ true = c.has_room.ensures.1 h in let none : c.has_room.result ≡ false = c.if-has_room.false in absurd (let e : true ≡ false = sym room ∙ none in cc)) in
@@ -35,8 +32,7 @@ returns-clause-laid g c = λ before given p s.
 
 pub returns-clause-too_narrow : goal.returns-clause-too_narrow
 returns-clause-too_narrow g c = λ refused before given p s.
-    let columns = g.W.CharWidth.columns in
-    let b = c.args.self.now in
+    let columns = g.W.CharWidth.columns in let b = c.args.self.now in
     let q = wrap_space columns b.lines.width p p.space in
     let n = c.lay_fresh.ensures.too_narrow refused before given q (c.in_ok-wrap_space.ensures.wrapped before given p s) in
     (sym c.in_ok-wrap_space.ensures.limits.may_overflow ∙ n.0, λ h. n.1 (subst (λ x. IsNarrow columns x q.word) (sym c.in_ok-wrap_space.ensures.limits.width) (narrow_wrap_space columns b.lines.width p p.space h)))

@@ -16,9 +16,7 @@ put_pending-requires-clause-room g c =
 
 pub returns-clause-laid : goal.returns-clause-laid
 returns-clause-laid g c = λ before given p s.
-    let columns = g.W.CharWidth.columns in
-    let eq = g.T.PartialEq.eq in
-    let b = c.args.self.now in
+    let columns = g.W.CharWidth.columns in let eq = g.T.PartialEq.eq in let b = c.args.self.now in
     let k = c.in_ok-end_if_character.ensures in
     let t = stands_laid columns eq b c.end_if_character.new.self before given p (end_if_character p.laid) s (k.ended columns before given p.laid s.lays).0 (rw k.flat s.word) in
     let u = c.in_ok-put_pending.ensures.put before given (record p { laid = end_if_character p.laid }) t in
@@ -29,9 +27,7 @@ returns-clause-laid g c = λ before given p s.
 
 pub returns-then-has_word-clause-laid : goal.returns-then-has_word-clause-laid
 returns-then-has_word-clause-laid g c = λ before given p s.
-    let columns = g.W.CharWidth.columns in
-    let eq = g.T.PartialEq.eq in
-    let b = c.args.self.now in
+    let columns = g.W.CharWidth.columns in let eq = g.T.PartialEq.eq in let b = c.args.self.now in
     let k = c.in_ok-end_if_character.ensures in
     let t = stands_laid columns eq b c.end_if_character.new.self before given p (end_if_character p.laid) s (k.ended columns before given p.laid s.lays).0 (rw k.flat s.word) in
     let u = c.in_ok-put_pending.ensures.put before given (record p { laid = end_if_character p.laid }) t in
@@ -45,9 +41,7 @@ returns-then-has_word-clause-laid g c = λ before given p s.
 
 pub returns-then-has_word-clause-too_narrow : goal.returns-then-has_word-clause-too_narrow
 returns-then-has_word-clause-too_narrow g c = λ refused before given p s.
-    let columns = g.W.CharWidth.columns in
-    let eq = g.T.PartialEq.eq in
-    let b = c.args.self.now in
+    let columns = g.W.CharWidth.columns in let eq = g.T.PartialEq.eq in let b = c.args.self.now in
     let k = c.in_ok-end_if_character.ensures in
     let t = stands_laid columns eq b c.end_if_character.new.self before given p (end_if_character p.laid) s (k.ended columns before given p.laid s.lays).0 (rw k.flat s.word) in
     let u = c.in_ok-put_pending.ensures.put before given (record p { laid = end_if_character p.laid }) t in

@@ -1,25 +1,19 @@
-use Rattle.std.proofs.Common.{refl, sym, ◌∙◌, subst}
+use Rattle.std.proofs.Common.{sym, ◌∙◌, subst, rules, []}
 use Rattle.tbr_model.specs.Run.{items_width}
 use Rattle.tbr_model.specs.Laid.{extended}
 use Rattle.tbr_model.specs.Rule.{space_text, pending_width}
+use Rattle.tbr_tagged.specs.Elements.{SameItems}
 use Rattle.tbr_wrap.specs.LaidLines.{HoldsRule}
 use Rattle.tbr_wrap.proofs.words.WordsLaid.{extended_twice}
 use Rattle.tbr_wrap.proofs.wrapper.Wrapper.lay_here.Goals as goal
 
 pub returns-clause-laid : goal.returns-clause-laid
 returns-clause-laid g c = λ before given p s.
-    let columns = g.W.CharWidth.columns in
-    let eq = g.T.PartialEq.eq in
+    let columns = g.W.CharWidth.columns in let eq = g.T.PartialEq.eq in
     let t = c.in_ok-place_pending.ensures.placed before given p s in
     let r = extended p.laid (space_text p.space) (pending_width p.space) in
     let k = c.in_ok-place_word.ensures in
     let laid = k.placed columns p.word t.word (sym t.word_width ∙ sym c.replace-width.ensures.value) before given r t.lays in
-    record {
-      lays = subst (λ q. HoldsRule columns eq c.place_word.new.self before given q) (extended_twice p.laid (space_text p.space) p.word (pending_width p.space) (items_width columns p.word)) laid;
-      space = t.space;
-      word = rw k.word tt;
-      word_width = c.replace-width.ensures.after;
-      mode = t.mode;
-      continuation_flag = refl;
-      in_continuation = t.in_continuation;
-    }
+    let lays = subst (λ q. HoldsRule columns eq c.place_word.new.self before given q) (extended_twice p.laid (space_text p.space) p.word (pending_width p.space) (items_width columns p.word)) laid in
+    let word : SameItems eq c.place_word.new.self.flat.word [] = rw k.word tt in
+    search (rules, lays, word, c.replace-width.ensures.after)

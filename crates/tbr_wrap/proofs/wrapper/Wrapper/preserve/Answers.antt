@@ -10,23 +10,18 @@ use Rattle.tbr_wrap.proofs.wrapper.Wrapper.preserve.Goals.{then-self, else-self}
 pub returns-in_err-flush_word-clause-too_narrow : goal.returns-in_err-flush_word-clause-too_narrow
 returns-in_err-flush_word-clause-too_narrow g c = λ e before given p s.
     let q = err_from_is_err_and c.from_residual.result c.from_residual.ensures.1 in
-    let was = c.in_err-flush_word.was in
-    let is : c.flush_word.result ≡ Err E.TooNarrow = cc (q.1, q.2, e, was) in
-    let k = c.flush_word.ensures.too_narrow is before given p s in
-    (k.0, k.2)
+    let is : c.flush_word.result ≡ Err E.TooNarrow = cc (q.1, q.2, e, c.in_err-flush_word.was) in
+    let k = c.flush_word.ensures.too_narrow is before given p s in (k.0, k.2)
 
 pub returns-in_err-flush_word-2-clause-too_narrow : goal.returns-in_err-flush_word-2-clause-too_narrow
 returns-in_err-flush_word-2-clause-too_narrow g c = λ e before given p s.
     let q = err_from_is_err_and c.from_residual-in_err-flush_word-2.result c.from_residual-in_err-flush_word-2.ensures.1 in
-    let was = c.in_err-flush_word-2.was in
-    let is : c.flush_word-then-c-eq9.result ≡ Err E.TooNarrow = cc (q.1, q.2, e, was) in
-    let k = c.flush_word-then-c-eq9.ensures.too_narrow is before given p s in
-    (k.0, k.2)
+    let is : c.flush_word-then-c-eq9.result ≡ Err E.TooNarrow = cc (q.1, q.2, e, c.in_err-flush_word-2.was) in
+    let k = c.flush_word-then-c-eq9.ensures.too_narrow is before given p s in (k.0, k.2)
 
 pub returns-then-c-eq10-clause-preserved : goal.returns-then-c-eq10-clause-preserved
 returns-then-c-eq10-clause-preserved g c = λ before given p s.
-    let columns = g.W.CharWidth.columns in
-    let width = c.args.self.now.lines.width in
+    let columns = g.W.CharWidth.columns in let width = c.args.self.now.lines.width in
     rw (preserve_newline columns width c.args.c c.args.main_tag.now c.args.wrap_tag.now c.args.mode p c.if-c-eq10.true)
     (c.in_ok-newline.ensures.ended columns before given (flush_word columns width p) (c.in_ok-flush_word.ensures.laid before given p s))
 
@@ -37,12 +32,8 @@ tab-requires-clause-stands g c =
 
 pub returns-then-c-eq9-clause-preserved : goal.returns-then-c-eq9-clause-preserved
 returns-then-c-eq9-clause-preserved g c = λ before given p s.
-    let columns = g.W.CharWidth.columns in
-    let eq = g.T.PartialEq.eq in
-    let laws = g.met.T.Eq.laws in
-    let width = c.args.self.now.lines.width in
-    let a = c.args.main_tag.now in
-    let b = c.args.wrap_tag.now in
+    let columns = g.W.CharWidth.columns in let eq = g.T.PartialEq.eq in let laws = g.met.T.Eq.laws in
+    let width = c.args.self.now.lines.width in let a = c.args.main_tag.now in let b = c.args.wrap_tag.now in
     let same : eq c.if-self.tag.now (tag_of p a b) ≡ true =
     elim c.if-self.branch [
       | then-self w ↦ rw w.tag-is (tag_wrap eq laws p a b (sym s.in_continuation ∙ w.if-self.true))
@@ -66,11 +57,8 @@ returns-then-always_takes_space-clause-preserved g c = λ before given p s.
 
 pub returns-clause-preserved : goal.returns-clause-preserved
 returns-clause-preserved g c = λ before given p s.
-    let columns = g.W.CharWidth.columns in
-    let eq = g.T.PartialEq.eq in
-    let laws = g.met.T.Eq.laws in
-    let a = c.args.main_tag.now in
-    let b = c.args.wrap_tag.now in
+    let columns = g.W.CharWidth.columns in let eq = g.T.PartialEq.eq in let laws = g.met.T.Eq.laws in
+    let a = c.args.main_tag.now in let b = c.args.wrap_tag.now in
     let is = sym c.width.ensures ∙ c.in-Some.is in
     let same : eq c.if-self.tag.now (tag_of p a b) ≡ true =
     elim c.if-self.branch [

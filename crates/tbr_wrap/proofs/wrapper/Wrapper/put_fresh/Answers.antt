@@ -1,42 +1,27 @@
-use Rattle.std.proofs.Common.{◌≡◌, sym, ◌∙◌, arith, subst}
+use Rattle.std.proofs.Common.{◌≡◌, sym, ◌∙◌, arith, subst, rules, []}
 use Rattle.std.proofs.lemmas.Result.{on_ok_weaker}
 use Rattle.tbr_model.specs.Run.{items_width}
 use Rattle.tbr_model.specs.Laid.{extended, put_items}
+use Rattle.tbr_tagged.specs.Elements.{SameItems}
 use Rattle.tbr_wrap.specs.LaidLines.{HoldsRule}
 use Rattle.tbr_wrap.proofs.words.WordsLaid.{put_fitting, same_narrow, on_ok_both}
 use Rattle.tbr_wrap.proofs.wrapper.Wrapper.put_fresh.Goals as goal
 
 pub returns-then-width-self-clause-put : goal.returns-then-width-self-clause-put
 returns-then-width-self-clause-put g c = λ before given p s.
-    let columns = g.W.CharWidth.columns in
-    let eq = g.T.PartialEq.eq in
-    let b = c.args.self.now.lines in
+    let columns = g.W.CharWidth.columns in let eq = g.T.PartialEq.eq in let b = c.args.self.now.lines in
     let k = c.in_ok-place_word.ensures in
     let laid = k.placed columns p.word s.word (sym s.word_width ∙ sym c.replace-width.ensures.value) before given p.laid s.lays in
     let fits : put_items columns b.width p.laid p.word ≡ extended p.laid p.word (items_width columns p.word) =
     put_fitting columns b.width p.laid p.word (omega (arith, c.if-width-self.true, c.replace-width.ensures.value, s.word_width, s.lays.holds.width, s.lays.shows.width, b.fits)) in
-    record {
-      lays = subst (λ q. HoldsRule columns eq c.place_word.new.self before given q) (sym fits) laid;
-      space = s.space;
-      word = rw k.word tt;
-      word_width = c.replace-width.ensures.after;
-      mode = s.mode;
-      continuation_flag = s.continuation_flag;
-      in_continuation = s.in_continuation;
-    }
+    let word : SameItems eq c.place_word.new.self.flat.word [] = rw k.word tt in
+    search (rules, subst (λ q. HoldsRule columns eq c.place_word.new.self before given q) (sym fits) laid, word, c.replace-width.ensures.after)
 
 pub returns-clause-put : goal.returns-clause-put
 returns-clause-put g c = λ before given p s.
     let k = c.put_word.ensures in
-    on_ok_weaker c.put_word.result (λ x. record {
-      lays = x.0;
-      space = s.space;
-      word = rw x.1 tt;
-      word_width = c.replace-width.ensures.after;
-      mode = s.mode;
-      continuation_flag = s.continuation_flag;
-      in_continuation = s.in_continuation;
-    }) (on_ok_both c.put_word.result _ _ (k.put p.word s.word before given p.laid s.lays) k.word)
+    on_ok_weaker c.put_word.result (λ x. let word : SameItems g.T.PartialEq.eq c.put_word.new.self.flat.word [] = rw x.1 tt in search (rules, x.0, word, c.replace-width.ensures.after))
+    (on_ok_both c.put_word.result _ _ (k.put p.word s.word before given p.laid s.lays) k.word)
 
 pub returns-clause-too_narrow : goal.returns-clause-too_narrow
 returns-clause-too_narrow g c = λ refused before given p s.

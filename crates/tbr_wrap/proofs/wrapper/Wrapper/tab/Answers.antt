@@ -1,6 +1,5 @@
-use Rattle.std.proofs.Common.{◌≡◌, ℕ, ◌+◌, true, false, OnOk, nat_lt, ap, arith, subst}
+use Rattle.std.proofs.Common.{◌≡◌, ℕ, ◌+◌, true, false, OnOk, nat_lt, ap, arith, subst, lt-ltb, le-ltb}
 use Rattle.std.proofs.lemmas.Result.{on_ok_weaker}
-use borrow.Author.Tests.{lt-ltb, le-ltb}
 use Rattle.tbr_model.specs.Laid.{end_if_character}
 use Rattle.tbr_model.specs.Rule.{pending_width, put_tab}
 use Rattle.tbr_tagged.specs.Elements.{SameItems}
@@ -12,9 +11,7 @@ use Rattle.tbr_wrap.proofs.wrapper.Wrapper.tab.Goals as goal
 
 pub returns-then-pending-self-clause-put : goal.returns-then-pending-self-clause-put
 returns-then-pending-self-clause-put g c = λ columns a one h before given p s.
-    let eq = g.T.PartialEq.eq in
-    let laws = g.met.T.Eq.laws in
-    let b = c.args.self.now in
+    let eq = g.T.PartialEq.eq in let laws = g.met.T.Eq.laws in let b = c.args.self.now in
     let k = c.put_tab.ensures in
     let is : b.lines.line_width + c.pending_width-pending.result ≡ p.laid.width + pending_width p.space = omega (arith, s.lays.holds.width, s.lays.shows.width, c.pending_width-pending.ensures, same_held_width eq b.space p.space s.space) in
     let test : nat_lt (p.laid.width + pending_width p.space) b.lines.width ≡ true = lt-ltb _ _ (omega (arith, is, c.if-pending-self.true)) in
@@ -29,11 +26,8 @@ put_tab-requires-2-clause-behind g c =
 
 pub returns-clause-put : goal.returns-clause-put
 returns-clause-put g c = λ columns a one h before given p s.
-    let eq = g.T.PartialEq.eq in
-    let laws = g.met.T.Eq.laws in
-    let b = c.args.self.now in
-    let f = c.in_ok-end_if_character.ensures in
-    let k = c.put_tab-2.ensures in
+    let eq = g.T.PartialEq.eq in let laws = g.met.T.Eq.laws in let b = c.args.self.now in
+    let f = c.in_ok-end_if_character.ensures in let k = c.put_tab-2.ensures in
     let is : b.lines.line_width + c.pending_width-pending.result ≡ p.laid.width + pending_width p.space = omega (arith, s.lays.holds.width, s.lays.shows.width, c.pending_width-pending.ensures, same_held_width eq b.space p.space s.space) in
     let test : nat_lt (p.laid.width + pending_width p.space) b.lines.width ≡ false = le-ltb _ _ (omega (arith, is, c.if-pending-self.false)) in
     let put = subst (λ (n : ℕ). OnOk c.put_tab-2.result (HoldsRule columns eq c.put_tab-2.new.self before given (put_tab n 0 a (end_if_character p.laid)))) f.limits.width (k.put columns a one h before given (end_if_character p.laid) (f.ended columns before given p.laid s.lays).0) in

@@ -1,4 +1,4 @@
-use Rattle.std.proofs.Common.{refl, ◌∙◌}
+use Rattle.std.proofs.Common.{refl, ◌∙◌, rules}
 use Rattle.tbr_model.specs.Rule.{without_leading}
 use Rattle.tbr_tagged.proofs.SameItems.{same_width}
 use Rattle.tbr_wrap.proofs.wrapper.Wrapper.trim_word.Goals as goal
@@ -10,16 +10,8 @@ trim-requires g c =
 
 pub returns-clause-trimmed : goal.returns-clause-trimmed
 returns-clause-trimmed g c = λ before given p s t.
-    let columns = g.W.CharWidth.columns in
-    let eq = g.T.PartialEq.eq in
-    let k = c.in_ok-trim.ensures in
+    let columns = g.W.CharWidth.columns in let eq = g.T.PartialEq.eq in let k = c.in_ok-trim.ensures in
     let word = k.word p.word t.word in
-    record {
-      lays = k.trimmed columns (g.met.W.CharWidth.drawn_in_one 32 refl) before given p.laid t.lays;
-      space = t.space;
-      word = word;
-      word_width = c.in_ok-self.ensures ∙ same_width columns eq c.trim.new.self.flat.word (without_leading p.word) word;
-      mode = t.mode;
-      continuation_flag = t.continuation_flag;
-      in_continuation = t.in_continuation;
-    }
+    let lays = k.trimmed columns (g.met.W.CharWidth.drawn_in_one 32 refl) before given p.laid t.lays in
+    let wide = c.in_ok-self.ensures ∙ same_width columns eq c.trim.new.self.flat.word (without_leading p.word) word in
+    search (rules, lays, word, wide)

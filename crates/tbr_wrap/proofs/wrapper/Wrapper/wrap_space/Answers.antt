@@ -9,8 +9,7 @@ trim_word-requires-clause-stands g c =
 
 pub returns-in-PreWrap-clause-wrapped : goal.returns-in-PreWrap-clause-wrapped
 returns-in-PreWrap-clause-wrapped g c = λ before given p s.
-    let columns = g.W.CharWidth.columns in
-    let eq = g.T.PartialEq.eq in
+    let columns = g.W.CharWidth.columns in let eq = g.T.PartialEq.eq in
     let w = held_some eq c.args.self.now.space c.in-Some.space p.space (sym c.take.ensures.value ∙ c.in-Some.is) s.space in
     let taken = spaced_stands columns eq c.args.self.now _ before given p None s (rw c.take.ensures.after tt) in
     rw w.1 (rw (sym w.4 ∙ c.in-PreWrap.is) (c.trim_word.ensures.trimmed before given p w.0 taken))

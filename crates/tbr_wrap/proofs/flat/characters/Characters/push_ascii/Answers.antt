@@ -8,9 +8,7 @@ use Rattle.tbr_wrap.proofs.flat.characters.Characters.push_ascii.Goals as goal
 
 pub invariant_of-self-in_default : goal.invariant_of-self-in_default
 invariant_of-self-in_default g c =
-    let p = c.in_ok-push.ensures.ok in
-    let old = c.self.inside in
-    let cs = chars c.args.text.now in
+    let p = c.in_ok-push.ensures.ok in let old = c.self.inside in let cs = chars c.args.text.now in
     let n = length c.args.text.now in
     let count : length cs ≡ n = ap length (chars-IsAscii c.args.text.now c.requires.ascii) in
     let word : length c.push_ascii.new.self.word ≡ length (old.text.word ++ cs) = ap (λ (l : Letters). length l.word) c.in_default.ensures in
@@ -19,9 +17,7 @@ invariant_of-self-in_default g c =
 
 pub returns : goal.returns
 returns g c =
-    let p = c.in_ok-push.ensures.ok in
-    let old = c.self.inside in
-    let cs = chars c.args.text.now in
+    let p = c.in_ok-push.ensures.ok in let old = c.self.inside in let cs = chars c.args.text.now in
     let count = ap length (sym (chars-IsAscii c.args.text.now c.requires.ascii)) in (
       p.0,
       p.1,

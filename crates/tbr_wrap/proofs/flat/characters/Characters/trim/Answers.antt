@@ -6,11 +6,8 @@ use Rattle.tbr_wrap.proofs.flat.characters.Characters.trim.Goals as goal
 
 pub returns-clause-placed : goal.returns-clause-placed
 returns-clause-placed g c = λ before line parts len.
-    let l = c.self.inside.text in
-    let ts = c.self.inside.tags in
-    let n = c.trailing_spaces-spaces.result in
-    let b = c.min-blanks.result in
-    let spaces = c.trailing_spaces-spaces.ensures.spaces in
+    let l = c.self.inside.text in let ts = c.self.inside.tags in let n = c.trailing_spaces-spaces.result in
+    let b = c.min-blanks.result in let spaces = c.trailing_spaces-spaces.ensures.spaces in
     let less : n ≤ length l.placed = omega (arith, ap length spaces.1, length-append spaces.0 (replicate n 32), length-replicate {A = ℕ} n 32) in
     let within : b ≤ length l.word = omega (arith, c.min-blanks.ensures) in
     let trimmed = trimmed_flat l c.remove_between.new.self ts c.remove_before.new.self n b (c.word_len.result - b) (n + b) c.self.invariant less within
@@ -21,11 +18,8 @@ returns-clause-placed g c = λ before line parts len.
 
 pub returns-clause-word : goal.returns-clause-word
 returns-clause-word g c = λ front rest parts len.
-    let l = c.self.inside.text in
-    let ts = c.self.inside.tags in
-    let n = c.trailing_spaces-spaces.result in
-    let b = c.min-blanks.result in
-    let spaces = c.trailing_spaces-spaces.ensures.spaces in
+    let l = c.self.inside.text in let ts = c.self.inside.tags in let n = c.trailing_spaces-spaces.result in
+    let b = c.min-blanks.result in let spaces = c.trailing_spaces-spaces.ensures.spaces in
     let less : n ≤ length l.placed = omega (arith, ap length spaces.1, length-append spaces.0 (replicate n 32), length-replicate {A = ℕ} n 32) in
     let within : b ≤ length l.word = omega (arith, c.min-blanks.ensures) in
     let trimmed = trimmed_flat l c.remove_between.new.self ts c.remove_before.new.self n b (c.word_len.result - b) (n + b) c.self.invariant less within

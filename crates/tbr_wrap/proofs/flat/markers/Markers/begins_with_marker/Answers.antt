@@ -6,7 +6,6 @@ use Rattle.tbr_wrap.proofs.flat.markers.Markers.begins_with_marker.Goals as goal
 
 pub returns-in-Some : goal.returns-in-Some
 returns-in-Some c =
-    let m = c.in-Some.marker.now in
-    let items = c.self.inside.markers.items in
+    let m = c.in-Some.marker.now in let items = c.self.inside.markers.items in
     begins_with_marker c.args.self.now.markers (map mark_of (drop 1 items)) m.before (string_bytes m.name)
     (sym (ap (λ (k : MarkerPlaces). k.markers) c.self.view_is) ∙ map_first mark_of items m c.in-Some.ensures.item.3.0 c.in-Some.ensures.lookup)

@@ -12,8 +12,7 @@ range_from-requires c =
 
 pub overflow_add-self : goal.overflow_add-self
 overflow_add-self c =
-    let bytes = string_bytes c.self.inside.text in
-    let j = c.self.inside.word_start in
+    let bytes = string_bytes c.self.inside.text in let j = c.self.inside.word_start in
     let word : c.range_from.result.now ≡ drop j bytes = c.range_from.ensures.value ∙ ap (λ bs. drop j bs) c.as_str.ensures.value in
     let k : c.bytes_of.result ≡ length (encodes (take c.args.count (chars (drop j bytes)))) = c.bytes_of.ensures ∙ ap (λ bs. length (encodes (take c.args.count (chars bs)))) word in
     omega (
@@ -26,16 +25,14 @@ overflow_add-self c =
 
 pub invariant_of-self : goal.invariant_of-self
 invariant_of-self c =
-    let bytes = string_bytes c.self.inside.text in
-    let j = c.self.inside.word_start in
+    let bytes = string_bytes c.self.inside.text in let j = c.self.inside.word_start in
     let word : c.range_from.result.now ≡ drop j bytes = c.range_from.ensures.value ∙ ap (λ bs. drop j bs) c.as_str.ensures.value in
     let k : c.bytes_of.result ≡ length (encodes (take c.args.count (chars (drop j bytes)))) = c.bytes_of.ensures ∙ ap (λ bs. length (encodes (take c.args.count (chars bs)))) word in
     parts_front bytes c.self.inside.start j c.self.inside.word c.args.count c.bytes_of.result c.self.invariant k
 
 pub returns : goal.returns
 returns c =
-    let bytes = string_bytes c.self.inside.text in
-    let j = c.self.inside.word_start in
+    let bytes = string_bytes c.self.inside.text in let j = c.self.inside.word_start in
     let word : c.range_from.result.now ≡ drop j bytes = c.range_from.ensures.value ∙ ap (λ bs. drop j bs) c.as_str.ensures.value in
     let k : c.bytes_of.result ≡ length (encodes (take c.args.count (chars (drop j bytes)))) = c.bytes_of.ensures ∙ ap (λ bs. length (encodes (take c.args.count (chars bs)))) word in
     letters_front bytes c.self.inside.start j c.self.inside.word c.args.count c.bytes_of.result c.self.invariant k

@@ -7,9 +7,7 @@ use Rattle.tbr_wrap.proofs.flat.split_text.SplitText.push_ascii.Goals as goal
 
 pub overflow_add-self : goal.overflow_add-self
 overflow_add-self c =
-    let bytes = string_bytes c.self.inside.text in
-    let ds = c.args.text.now in
-    let n = length ds in
+    let bytes = string_bytes c.self.inside.text in let ds = c.args.text.now in let n = length ds in
     let e : string_bytes c.push_str.new.self ≡ bytes ++ ds = c.in_ok-push_str.ensures.bytes in
     let short : c.self.inside.word + n ≤ length (bytes ++ ds) =
     word_short (bytes ++ ds) c.self.inside.start c.self.inside.word_start (c.self.inside.word + n)
@@ -19,9 +17,7 @@ overflow_add-self c =
 
 pub invariant_of-self-2 : goal.invariant_of-self-2
 invariant_of-self-2 c =
-    let bytes = string_bytes c.self.inside.text in
-    let ds = c.args.text.now in
-    let n = length ds in
+    let bytes = string_bytes c.self.inside.text in let ds = c.args.text.now in let n = length ds in
     subst (λ bs. AreParts bs c.self.inside.start c.self.inside.word_start (c.self.inside.word + n)) (sym c.in_ok-push_str.ensures.bytes)
     (parts_behind bytes ds c.self.inside.start c.self.inside.word_start c.self.inside.word n c.self.invariant (IsUtf8-from_ascii ds c.requires) (ap length (sym (chars-IsAscii ds c.requires))))
 

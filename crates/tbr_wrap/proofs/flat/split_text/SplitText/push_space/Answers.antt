@@ -14,16 +14,14 @@ insert-requires c =
 pub invariant_of-self-2 : goal.invariant_of-self-2
 unfolding encode
 invariant_of-self-2 c =
-    let bytes = string_bytes c.self.inside.text in
-    let j = c.self.inside.word_start in
+    let bytes = string_bytes c.self.inside.text in let j = c.self.inside.word_start in
     let e : string_bytes c.insert.new.self ≡ take j bytes ++ ((32 ∷ []) ++ drop j bytes) = c.in_ok-insert.ensures.bytes ∙ append_assoc (take j bytes) (32 ∷ []) (drop j bytes) in
     parts_insert bytes (string_bytes c.insert.new.self) (32 ∷ []) c.self.inside.start j (j + 1) c.self.inside.word c.self.invariant (32 ∷ [], (refl, refl)) e refl
 
 pub returns-clause-ok : goal.returns-clause-ok
 unfolding encode chars
 returns-clause-ok c =
-    let bytes = string_bytes c.self.inside.text in
-    let i = c.self.inside.start in
+    let bytes = string_bytes c.self.inside.text in let i = c.self.inside.start in
     let j = c.self.inside.word_start in
     let e : string_bytes c.insert.new.self ≡ take j bytes ++ ((32 ∷ []) ++ drop j bytes) = c.in_ok-insert.ensures.bytes ∙ append_assoc (take j bytes) (32 ∷ []) (drop j bytes) in
     letters_insert bytes (string_bytes c.insert.new.self) (32 ∷ []) i j (j + 1) c.self.inside.word c.self.invariant e refl

@@ -13,8 +13,7 @@ insert_str-requires c =
 
 pub invariant_of-self-2 : goal.invariant_of-self-2
 invariant_of-self-2 c =
-    let bytes = string_bytes c.self.inside.text in
-    let j = c.self.inside.word_start in
+    let bytes = string_bytes c.self.inside.text in let j = c.self.inside.word_start in
     let ds = string_bytes c.in_ok-spaces.spaces in
     let e : string_bytes c.insert_str.new.self ≡ take j bytes ++ (ds ++ drop j bytes) =
     c.in_ok-insert_str.ensures.bytes ∙ ap (λ bs. (take j bytes ++ bs) ++ drop j bytes) c.as_str.ensures.value ∙ append_assoc (take j bytes) ds (drop j bytes) in
@@ -23,10 +22,8 @@ invariant_of-self-2 c =
 
 pub returns-clause-ok : goal.returns-clause-ok
 returns-clause-ok c =
-    let bytes = string_bytes c.self.inside.text in
-    let i = c.self.inside.start in
-    let j = c.self.inside.word_start in
-    let ds = string_bytes c.in_ok-spaces.spaces in
+    let bytes = string_bytes c.self.inside.text in let i = c.self.inside.start in
+    let j = c.self.inside.word_start in let ds = string_bytes c.in_ok-spaces.spaces in
     let e : string_bytes c.insert_str.new.self ≡ take j bytes ++ (ds ++ drop j bytes) =
     c.in_ok-insert_str.ensures.bytes ∙ ap (λ bs. (take j bytes ++ bs) ++ drop j bytes) c.as_str.ensures.value ∙ append_assoc (take j bytes) ds (drop j bytes) in
     let k : j + c.len.result ≡ j + length ds = omega (arith, c.len.ensures) in

@@ -6,12 +6,9 @@ use Rattle.tbr_wrap.proofs.flat.tags.Stretches.insert_before.Goals as goal
 
 pub returns-then-eq : goal.returns-then-eq
 returns-then-eq g c =
-    let xs = c.self.inside.stretches.items in
-    let k = c.self.inside.skipped in
-    let i = k + c.place_before-place.result.stretch in
-    let o = c.place_before-place.result.offset in
-    let at : IsPlace xs i o c.args.last =
-    at_place xs c.deref.result.now k c.place_before-place.result.stretch o c.args.last c.deref.ensures.value c.self.invariant c.place_before-place.ensures.stretch c.place_before-place.ensures.tags c.place_before-place.ensures.offset in
+    let xs = c.self.inside.stretches.items in let k = c.self.inside.skipped in let place = c.place_before-place in
+    let i = k + place.result.stretch in let o = place.result.offset in
+    let at : IsPlace xs i o c.args.last = at_place _ _ _ _ _ _ c.deref.ensures.value c.self.invariant place.ensures.stretch place.ensures.tags place.ensures.offset in
     let s = c.index_mut.result.now in
     let in_xs : i < length xs = omega (arith, c.if-index-len.true, c.len.ensures, c.self.inside.stretches.ok.0) in
     let same : c.index.result.now ≡ s = same_stretch xs i c.index.result.now s in_xs c.index.ensures c.index_mut.ensures.value in
@@ -22,29 +19,22 @@ returns-then-eq g c =
 
 pub split_off-requires-clause-within : goal.split_off-requires-clause-within
 split_off-requires-clause-within g c =
-    let xs = c.self.inside.stretches.items in
-    let k = c.self.inside.skipped in
-    let i = k + c.place_before-place.result.stretch in
-    let o = c.place_before-place.result.offset in
-    let at : IsPlace xs i o c.args.last =
-    at_place xs c.deref.result.now k c.place_before-place.result.stretch o c.args.last c.deref.ensures.value c.self.invariant c.place_before-place.ensures.stretch c.place_before-place.ensures.tags c.place_before-place.ensures.offset in
+    let xs = c.self.inside.stretches.items in let k = c.self.inside.skipped in let place = c.place_before-place in
+    let i = k + place.result.stretch in let o = place.result.offset in
+    let at : IsPlace xs i o c.args.last = at_place _ _ _ _ _ _ c.deref.ensures.value c.self.invariant place.ensures.stretch place.ensures.tags place.ensures.offset in
     let some : 0 < length (tags_of (drop i xs)) = omega (arith, at.tags, c.if-place-gt0.true) in
     offset_in xs i o c.args.last c.index_mut-then-place-gt0.result.now at (has_stretch xs i some) c.index_mut-then-place-gt0.ensures.value
 
 pub returns-then-place-gt0 : goal.returns-then-place-gt0
 returns-then-place-gt0 g c =
-    let xs = c.self.inside.stretches.items in
-    let k = c.self.inside.skipped in
-    let i = k + c.place_before-place.result.stretch in
-    let o = c.place_before-place.result.offset in
-    let at : IsPlace xs i o c.args.last =
-    at_place xs c.deref.result.now k c.place_before-place.result.stretch o c.args.last c.deref.ensures.value c.self.invariant c.place_before-place.ensures.stretch c.place_before-place.ensures.tags c.place_before-place.ensures.offset in
+    let xs = c.self.inside.stretches.items in let k = c.self.inside.skipped in let place = c.place_before-place in
+    let i = k + place.result.stretch in let o = place.result.offset in
+    let at : IsPlace xs i o c.args.last = at_place _ _ _ _ _ _ c.deref.ensures.value c.self.invariant place.ensures.stretch place.ensures.tags place.ensures.offset in
     let some : 0 < length (tags_of (drop i xs)) = omega (arith, at.tags, c.if-place-gt0.true) in
     let in_xs : i < length xs = has_stretch xs i some in
     let s = c.index_mut-then-place-gt0.result.now in
     let less : o ≤ s.more = offset_in xs i o c.args.last s at in_xs c.index_mut-then-place-gt0.ensures.value in
-    let back = c.in_ok-back.back in
-    let two = c.insert-then-place-gt0.new.self.items in
+    let back = c.in_ok-back.back in let two = c.insert-then-place-gt0.new.self.items in
     let items = split_items xs c.insert.new.self.items two i c.split_off.new.stretch back (record { more = c.args.count - 1; tag = c.args.tag }) in_xs c.in_ok-insert.ensures.items c.in_ok-insert-2.ensures.items
     ∙ ap (λ y. take i xs ++ y ∷ record { more = c.args.count - 1; tag = c.args.tag } ∷ back ∷ drop (suc i) xs) c.in_ok-back.ensures.front in
     nearly g.T.PartialEq.eq (tags_of (drop k xs)) c.args.self.now (tags_of (drop k two)) (tags_of (back ∷ drop (suc i) xs)) c.args.last c.args.count c.args.tag c.args.tag c.self.view_is (g.met.T.Eq.laws.refl c.args.tag)
@@ -54,14 +44,10 @@ returns-then-place-gt0 g c =
 
 pub returns-then-eq-2 : goal.returns-then-eq-2
 returns-then-eq-2 g c =
-    let xs = c.self.inside.stretches.items in
-    let k = c.self.inside.skipped in
-    let i = k + c.place_before-place.result.stretch in
-    let o = c.place_before-place.result.offset in
-    let at : IsPlace xs i o c.args.last =
-    at_place xs c.deref.result.now k c.place_before-place.result.stretch o c.args.last c.deref.ensures.value c.self.invariant c.place_before-place.ensures.stretch c.place_before-place.ensures.tags c.place_before-place.ensures.offset in
-    let j = i - 1 in
-    let s = c.index_mut-then-eq-2.result.now in
+    let xs = c.self.inside.stretches.items in let k = c.self.inside.skipped in let place = c.place_before-place in
+    let i = k + place.result.stretch in let o = place.result.offset in
+    let at : IsPlace xs i o c.args.last = at_place _ _ _ _ _ _ c.deref.ensures.value c.self.invariant place.ensures.stretch place.ensures.tags place.ensures.offset in
+    let j = i - 1 in let s = c.index_mut-then-eq-2.result.now in
     let next : i ≡ suc j = omega (arith, c.if-place-gt0-2.true) in
     let in_xs : j < length xs = omega (arith, next, at.within) in
     let none : length (tags_of (drop i xs)) ≡ c.args.last = omega (arith, at.tags, c.if-place-gt0.false) in
@@ -73,12 +59,9 @@ returns-then-eq-2 g c =
 
 pub returns : goal.returns
 returns g c =
-    let xs = c.self.inside.stretches.items in
-    let k = c.self.inside.skipped in
-    let i = k + c.place_before-place.result.stretch in
-    let o = c.place_before-place.result.offset in
-    let at : IsPlace xs i o c.args.last =
-    at_place xs c.deref.result.now k c.place_before-place.result.stretch o c.args.last c.deref.ensures.value c.self.invariant c.place_before-place.ensures.stretch c.place_before-place.ensures.tags c.place_before-place.ensures.offset in
+    let xs = c.self.inside.stretches.items in let k = c.self.inside.skipped in let place = c.place_before-place in
+    let i = k + place.result.stretch in let o = place.result.offset in
+    let at : IsPlace xs i o c.args.last = at_place _ _ _ _ _ _ c.deref.ensures.value c.self.invariant place.ensures.stretch place.ensures.tags place.ensures.offset in
     let none : length (tags_of (drop i xs)) ≡ c.args.last = omega (arith, at.tags, c.if-place-gt0.false) in
     exactly g.T.PartialEq.eq g.met.T.Eq.laws (tags_of (drop k xs)) c.args.self.now (tags_of (drop k c.insert-2.new.self.items)) c.args.last c.args.count c.args.tag c.args.tag c.self.view_is (g.met.T.Eq.laws.refl c.args.tag)
     (ap (λ ys. tags_of (drop k ys)) c.in_ok-insert-3.ensures.items ∙ inserted xs k i c.args.last c.args.count (c.args.count - 1) c.args.tag (omega arith) at.within none (omega (arith, c.requires.some)))

@@ -1,14 +1,12 @@
-use Rattle.std.proofs.Common.{◌≡◌, ◌-◌, ◌≤◌, ◌<◌, ◌++◌, suc, length, replicate, ap, ◌∙◌, sym, arith}
+use Rattle.std.proofs.Common.{◌≡◌, ◌-◌, ◌≤◌, ◌<◌, ◌++◌, suc, length, replicate, ap, ◌∙◌, sym, arith, drop}
 use Rattle.std.proofs.lemmas.Result.{on_ok_weaker}
 use Rattle.tbr_wrap.specs.Stretches.{tags_of}
-use Rattle.std.proofs.Common.{drop}
 use Rattle.tbr_wrap.proofs.storage.StretchTags.{push_last, push_new, same_stretch}
 use Rattle.tbr_wrap.proofs.flat.tags.Stretches.push.Goals as goal
 
 pub returns-then-eq-clause-ok : goal.returns-then-eq-clause-ok
 returns-then-eq-clause-ok g c =
-    let xs = c.self.inside.stretches.items in
-    let i = c.len-len.result - 1 in
+    let xs = c.self.inside.stretches.items in let i = c.len-len.result - 1 in
     let last : suc i ≡ length xs = omega (arith, c.len-len.ensures, c.self.inside.stretches.ok.0, c.if-self-len.true) in
     let k : c.self.inside.skipped ≤ i = omega (arith, c.if-self-len.true) in
     let in_xs : i < length xs = omega (arith, last) in

@@ -6,16 +6,9 @@ use Rattle.tbr_wrap.proofs.flat.tags.Stretches.remove_before.Goals as goal
 
 pub overflow_sub-index_mut : goal.overflow_sub-index_mut
 overflow_sub-index_mut g c =
-    let xs = c.self.inside.stretches.items in
-    let k = c.self.inside.skipped in
-    let from = c.place_before-from in
-    let to = c.place_before-to in
-    let i = from.result.stretch + k in
-    let j = to.result.stretch + k in
-    let a = from.result.offset in
-    let b = to.result.offset in
-    let last = c.args.last in
-    let count = c.args.count in
+    let xs = c.self.inside.stretches.items in let k = c.self.inside.skipped in let from = c.place_before-from in
+    let to = c.place_before-to in let i = from.result.stretch + k in let j = to.result.stretch + k in
+    let a = from.result.offset in let b = to.result.offset in let last = c.args.last in let count = c.args.count in
     let p : IsPlace xs i a (last + count) = place_at xs c.deref.result.now k from.result.stretch a (last + count) c.deref.ensures.value c.self.invariant from.ensures.stretch from.ensures.tags from.ensures.offset in
     let q : IsPlace xs j b last = place_at xs c.deref.result.now k to.result.stretch b last c.deref.ensures.value c.self.invariant to.ensures.stretch to.ensures.tags to.ensures.offset in
     let some : 0 < count = omega (arith, c.if-count-eq0.false) in
@@ -25,16 +18,9 @@ overflow_sub-index_mut g c =
 
 pub returns-then-from-to : goal.returns-then-from-to
 returns-then-from-to g c =
-    let xs = c.self.inside.stretches.items in
-    let k = c.self.inside.skipped in
-    let from = c.place_before-from in
-    let to = c.place_before-to in
-    let i = from.result.stretch + k in
-    let j = to.result.stretch + k in
-    let a = from.result.offset in
-    let b = to.result.offset in
-    let last = c.args.last in
-    let count = c.args.count in
+    let xs = c.self.inside.stretches.items in let k = c.self.inside.skipped in let from = c.place_before-from in
+    let to = c.place_before-to in let i = from.result.stretch + k in let j = to.result.stretch + k in
+    let a = from.result.offset in let b = to.result.offset in let last = c.args.last in let count = c.args.count in
     let p : IsPlace xs i a (last + count) = place_at xs c.deref.result.now k from.result.stretch a (last + count) c.deref.ensures.value c.self.invariant from.ensures.stretch from.ensures.tags from.ensures.offset in
     let q : IsPlace xs j b last = place_at xs c.deref.result.now k to.result.stretch b last c.deref.ensures.value c.self.invariant to.ensures.stretch to.ensures.tags to.ensures.offset in
     let some : 0 < count = omega (arith, c.if-count-eq0.false) in
@@ -45,31 +31,15 @@ returns-then-from-to g c =
 
 pub end_at-first-requires-clause-offset : goal.end_at-first-requires-clause-offset
 end_at-first-requires-clause-offset g c =
-    let xs = c.self.inside.stretches.items in
-    let k = c.self.inside.skipped in
-    let from = c.place_before-from in
-    let to = c.place_before-to in
-    let i = from.result.stretch + k in
-    let j = to.result.stretch + k in
-    let a = from.result.offset in
-    let b = to.result.offset in
-    let last = c.args.last in
-    let count = c.args.count in
-    let p : IsPlace xs i a (last + count) = place_at xs c.deref.result.now k from.result.stretch a (last + count) c.deref.ensures.value c.self.invariant from.ensures.stretch from.ensures.tags from.ensures.offset in
-    place_inside xs i a (last + count) p
+    let xs = c.self.inside.stretches.items in let k = c.self.inside.skipped in let from = c.place_before-from in
+    let i = from.result.stretch + k in let a = from.result.offset in let last = c.args.last + c.args.count in
+    place_inside xs i a last (place_at xs c.deref.result.now k from.result.stretch a last c.deref.ensures.value c.self.invariant from.ensures.stretch from.ensures.tags from.ensures.offset)
 
 pub begin_at-requires-clause-offset : goal.begin_at-requires-clause-offset
 begin_at-requires-clause-offset g c =
-    let xs = c.self.inside.stretches.items in
-    let k = c.self.inside.skipped in
-    let from = c.place_before-from in
-    let to = c.place_before-to in
-    let i = from.result.stretch + k in
-    let j = to.result.stretch + k in
-    let a = from.result.offset in
-    let b = to.result.offset in
-    let last = c.args.last in
-    let count = c.args.count in
+    let xs = c.self.inside.stretches.items in let k = c.self.inside.skipped in let from = c.place_before-from in
+    let to = c.place_before-to in let i = from.result.stretch + k in let j = to.result.stretch + k in
+    let a = from.result.offset in let b = to.result.offset in let last = c.args.last in let count = c.args.count in
     let p : IsPlace xs i a (last + count) = place_at xs c.deref.result.now k from.result.stretch a (last + count) c.deref.ensures.value c.self.invariant from.ensures.stretch from.ensures.tags from.ensures.offset in
     let q : IsPlace xs j b last = place_at xs c.deref.result.now k to.result.stretch b last c.deref.ensures.value c.self.invariant to.ensures.stretch to.ensures.tags to.ensures.offset in
     let some : 0 < count = omega (arith, c.if-count-eq0.false) in
@@ -79,16 +49,9 @@ begin_at-requires-clause-offset g c =
 
 pub drain-requires-clause-start_le_end : goal.drain-requires-clause-start_le_end
 drain-requires-clause-start_le_end g c =
-    let xs = c.self.inside.stretches.items in
-    let k = c.self.inside.skipped in
-    let from = c.place_before-from in
-    let to = c.place_before-to in
-    let i = from.result.stretch + k in
-    let j = to.result.stretch + k in
-    let a = from.result.offset in
-    let b = to.result.offset in
-    let last = c.args.last in
-    let count = c.args.count in
+    let xs = c.self.inside.stretches.items in let k = c.self.inside.skipped in let from = c.place_before-from in
+    let to = c.place_before-to in let i = from.result.stretch + k in let j = to.result.stretch + k in
+    let a = from.result.offset in let b = to.result.offset in let last = c.args.last in let count = c.args.count in
     let p : IsPlace xs i a (last + count) = place_at xs c.deref.result.now k from.result.stretch a (last + count) c.deref.ensures.value c.self.invariant from.ensures.stretch from.ensures.tags from.ensures.offset in
     let q : IsPlace xs j b last = place_at xs c.deref.result.now k to.result.stretch b last c.deref.ensures.value c.self.invariant to.ensures.stretch to.ensures.tags to.ensures.offset in
     let some : 0 < count = omega (arith, c.if-count-eq0.false) in
@@ -97,24 +60,15 @@ drain-requires-clause-start_le_end g c =
 
 pub returns : goal.returns
 returns g c =
-    let xs = c.self.inside.stretches.items in
-    let k = c.self.inside.skipped in
-    let from = c.place_before-from in
-    let to = c.place_before-to in
-    let i = from.result.stretch + k in
-    let j = to.result.stretch + k in
-    let a = from.result.offset in
-    let b = to.result.offset in
-    let last = c.args.last in
-    let count = c.args.count in
+    let xs = c.self.inside.stretches.items in let k = c.self.inside.skipped in let from = c.place_before-from in
+    let to = c.place_before-to in let i = from.result.stretch + k in let j = to.result.stretch + k in
+    let a = from.result.offset in let b = to.result.offset in let last = c.args.last in let count = c.args.count in
     let p : IsPlace xs i a (last + count) = place_at xs c.deref.result.now k from.result.stretch a (last + count) c.deref.ensures.value c.self.invariant from.ensures.stretch from.ensures.tags from.ensures.offset in
     let q : IsPlace xs j b last = place_at xs c.deref.result.now k to.result.stretch b last c.deref.ensures.value c.self.invariant to.ensures.stretch to.ensures.tags to.ensures.offset in
     let some : 0 < count = omega (arith, c.if-count-eq0.false) in
     let next : suc i ≤ j = omega (arith, in_order xs i j a b last count some p q, c.if-from-to.false) in
-    let one = c.end_at-first.new.stretches.items in
-    let two = c.begin_at.new.stretches.items in
-    let first = c.end_at-first.result in
-    let e = c.end_at-first.ensures in
+    let one = c.end_at-first.new.stretches.items in let two = c.begin_at.new.stretches.items in
+    let first = c.end_at-first.result in let e = c.end_at-first.ensures in
     let low : k ≤ i = omega arith in
     let inside : first ≤ length two = omega (arith, e.next.2, c.begin_at.ensures.len) in
     ap (λ ys. tags_of (drop k ys)) (c.drop-drain.ensures.items ∙ c.drain.ensures.kept)
