@@ -1,0 +1,126 @@
+//! Renderers inside others, which take their lines.
+use std::alloc::Global;
+use tbr_decor::TextDecorator;
+use tbr_lines::{CharWidth, Error};
+use tbr_renderer::{Renderer, SubRenderer};
+
+/// A call on a renderer inside.
+#[derive(Clone, Copy)]
+pub enum Inner<'a> {
+    Text(&'a str),
+    Marker(&'a str),
+    Line,
+    EmptyLine,
+    Border,
+    Strong,
+    EndStrong,
+    /// A row of two cells of one column, with these texts.
+    Row(&'a str, &'a str),
+}
+
+/// A renderer inside: its columns, of which it has one at least, and the calls on it.
+#[derive(Clone, Copy)]
+pub struct Block<'a>(pub usize, pub &'a [Inner<'a>]);
+
+/// A cell: how many rows it spans, of which it has one at least, and the renderer inside.
+#[derive(Clone, Copy)]
+pub struct Cell<'a>(pub usize, pub Block<'a>);
+
+fn make_inner<D: TextDecorator, W: CharWidth>(
+    alloc: Global,
+    r: &mut SubRenderer<D, W>,
+    call: Inner<'_>,
+) -> Result<(), Error> {
+    match call {
+        Inner::Text(text) => r.add_inline_text(text),
+        Inner::Marker(name) => r.record_frag_start(name),
+        Inner::Line => r.new_line(),
+        Inner::EmptyLine => r.add_empty_line(),
+        Inner::Border => r.add_horizontal_border(),
+        Inner::Strong => r.start_strong(),
+        Inner::EndStrong => r.end_strong(),
+        Inner::Row(first, second) => append_two(alloc, r, first, second),
+    }
+}
+
+/// A cell of one column with a text, which may have been refused.
+fn narrow_cell<D: TextDecorator, W: CharWidth>(
+    r: &SubRenderer<D, W>,
+    text: &str,
+) -> Result<SubRenderer<D, W>, Error> {
+    let mut cell = r.new_sub_renderer(1)?;
+    let _ = cell.add_inline_text(text);
+    Ok(cell)
+}
+
+/// Appends two cells of one column, side by side, where these fit.
+fn append_two<D: TextDecorator, W: CharWidth>(
+    alloc: Global,
+    r: &mut SubRenderer<D, W>,
+    first: &str,
+    second: &str,
+) -> Result<(), Error> {
+    let mut cols = Vec::new(alloc);
+    cols.push((narrow_cell(r, first)?, 1))?;
+    cols.push((narrow_cell(r, second)?, 1))?;
+    if !r.row_fits(&cols) {
+        return Ok(());
+    }
+    r.append_columns_with_borders(cols, false)
+}
+
+/// A renderer inside behind its calls, one of which may have refused.
+fn inside<D: TextDecorator, W: CharWidth>(
+    alloc: Global,
+    r: &SubRenderer<D, W>,
+    block: Block<'_>,
+) -> Result<SubRenderer<D, W>, Error> {
+    let Block(width, calls) = block;
+    let mut inside = r.new_sub_renderer(width.max(1))?;
+    for call in calls {
+        let _ = make_inner(alloc, &mut inside, *call);
+    }
+    Ok(inside)
+}
+
+/// Appends the lines of a renderer inside, behind prefixes, each of which has a bar behind it.
+pub fn append_block<D: TextDecorator, W: CharWidth>(
+    alloc: Global,
+    r: &mut SubRenderer<D, W>,
+    block: Block<'_>,
+    prefixes: &str,
+) -> Result<(), Error> {
+    let inside = inside(alloc, r, block)?;
+    r.append_subrender(inside, prefixes.split_terminator('|'))
+}
+
+/// Appends renderers inside, one below another.
+pub fn append_row<D: TextDecorator, W: CharWidth>(
+    alloc: Global,
+    r: &mut SubRenderer<D, W>,
+    blocks: &[Block<'_>],
+) -> Result<(), Error> {
+    let mut cols = Vec::new(alloc);
+    for block in blocks {
+        cols.push(inside(alloc, r, *block)?)?;
+    }
+    r.append_vert_row(cols)
+}
+
+/// Appends cells as a row side by side, where it fits.
+pub fn append_columns<D: TextDecorator, W: CharWidth>(
+    alloc: Global,
+    r: &mut SubRenderer<D, W>,
+    cells: &[Cell<'_>],
+    collapse: bool,
+) -> Result<(), Error> {
+    let mut cols = Vec::new(alloc);
+    for cell in cells {
+        let Cell(span, block) = *cell;
+        cols.push((inside(alloc, r, block)?, span.max(1)))?;
+    }
+    if !r.row_fits(&cols) {
+        return Ok(());
+    }
+    r.append_columns_with_borders(cols, collapse)
+}

@@ -1,0 +1,6 @@
+//! What tests of renderers share: calls as values, what renderers show and tell behind them, and what they are told.
+#![tactic(auto)]
+
+pub mod calls;
+pub mod inside;
+pub mod told;

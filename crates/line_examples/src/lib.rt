@@ -1,0 +1,30 @@
+//! Tests of wrapped text: worked examples by calls on blocks, tagged lines and borders, worked layouts, a second width
+//! instance, a second type of tags, and every short text against the plain program for the best layout.
+#![tactic(auto)]
+
+#[cfg(test)]
+mod blocks;
+#[cfg(test)]
+mod borders;
+#[cfg(test)]
+mod compared;
+#[cfg(test)]
+mod edits;
+#[cfg(test)]
+mod joins;
+#[cfg(test)]
+mod layouts;
+#[cfg(test)]
+mod markers;
+#[cfg(test)]
+mod memory;
+#[cfg(test)]
+mod preserved;
+#[cfg(test)]
+mod short_texts;
+#[cfg(test)]
+mod steps;
+#[cfg(test)]
+mod tagged;
+#[cfg(test)]
+mod wrapping;
