@@ -1,5 +1,5 @@
-//! What tests of several crates share: texts of lines, width instances whose widths need no table, and decorators that none
-//! of the shipped ones is.
+//! What tests of several crates share: texts of lines, width instances whose widths need no table, and decorators
+//! beside those that are shipped.
 #![tactic(auto)]
 
 pub mod columns;

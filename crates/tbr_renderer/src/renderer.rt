@@ -377,10 +377,12 @@ pub trait Renderer {
     /// prefixes. Where borders are drawn, one of slashes stands between each two, and a plain one behind all, also
     /// where there are none. A refusal of one of them is passed on, the first in order.
     fn append_vert_row(&mut self, cols: Vec<Self>) -> Result<(), Error>
-        ensures ok { OnOk result ((cells : List (List (Line Tag))) × AllZip (λ col lines. hands_out col lines) cols.items cells
+        ensures ok { OnOk result ((cells : List (List (Line Tag)))
+            × AllZip (λ col lines. hands_out col lines) cols.items cells
             × does (call.append_vert_row cells) self.old self.new) }
         ensures too_narrow { kept_refusal self.old ≡ None → result ≡ Err E.TooNarrow →
-            is_too_narrow call.new_line self.old ⊎ FirstToRefuse (λ col lines. hands_out col lines) (λ col. holds_back col) cols.items }
+            is_too_narrow call.new_line self.old
+            ⊎ FirstToRefuse (λ col lines. hands_out col lines) (λ col. holds_back col) cols.items }
         ensures two_columns { kept_refusal self.old ≡ None → 2 ≤ block_columns self.old →
             Each (λ col. (kept_refusal col ≡ None) × (2 ≤ block_columns col)) cols.items → result ≢ Err E.TooNarrow }
         ensures left { kept_refusal self.old ≡ None →

@@ -41,7 +41,10 @@ impl<T> Model for FlatText<T> {
 
     ghost Value = { Flat T };
 
-    ghost view = { λ a. record { placed = marked a.text.placed a.placed.markers; word = marked a.text.word a.word.markers } };
+    ghost view = { λ a. record {
+      placed = marked a.text.placed a.placed.markers;
+      word = marked a.text.word a.word.markers;
+    } };
 
     ghost invariant = { λ a. (covered a.placed ≡ length a.text.placed) × (covered a.word ≡ length a.text.word) };
 }
@@ -88,7 +91,8 @@ impl<T> FlatText<T> {
 
     /// The columns of the word's first item.
     pub fn first_width<W: CharWidth>(&self) -> Option<usize>
-        ensures { MatchOption result (self.now.word ≡ []) (λ n. (i : Item T) × (rest : List (Item T)) × (self.now.word ≡ i ∷ rest) × (n ≡ item_width W.columns i)) }
+        ensures { MatchOption result (self.now.word ≡ []) (λ n. (i : Item T) × (rest : List (Item T))
+            × (self.now.word ≡ i ∷ rest) × (n ≡ item_width W.columns i)) }
     {
         if self.word.begins_with_marker() {
             return Some(0);
@@ -170,7 +174,8 @@ impl<T> FlatText<T> {
     ///
     /// Where memory is refused a marker may be lost.
     pub fn unplace(&mut self, last: usize) -> Result<(), OutOfMemory>
-        ensures { (before line : List (Item T)) → self.old.placed ≡ before ++ line → length line ≡ last → has_character line ≡ false →
+        ensures { (before line : List (Item T)) → self.old.placed ≡ before ++ line →
+            length line ≡ last → has_character line ≡ false →
             OnOk result (self.new ≡ record { placed = before; word = line ++ self.old.word }) }
     {
         self.text.holds_characters();
@@ -188,7 +193,8 @@ impl<T: Drop> FlatText<T> {
     /// Takes the markers out that the word begins with.
     pub fn take_markers(&mut self) -> Result<Vec<TaggedLineElement<T>>, OutOfMemory>
         requires { has_character self.old.word ≡ false }
-        ensures markers { IfOk result (λ es. map element_of es.items ≡ map marker_element (names_in_items self.old.word)) }
+        ensures markers { IfOk result (λ es.
+            map element_of es.items ≡ map marker_element (names_in_items self.old.word)) }
         ensures rest { OnOk result (self.new ≡ record self.old { word = [] }) }
     {
         let mut markers = Vec::new(self.alloc);
@@ -207,7 +213,8 @@ impl<T: Drop> FlatText<T> {
     pub fn trim(&mut self, most: usize) -> Result<usize, OutOfMemory>
         requires { most ≤ length self.old.placed }
         ensures placed { (before line : List (Item T)) → self.old.placed ≡ before ++ line → length line ≡ most →
-            IfOk result (λ n. (self.new.placed ≡ before ++ without_trailing line) × (n + length (without_trailing line) ≡ length line)) }
+            IfOk result (λ n. (self.new.placed ≡ before ++ without_trailing line)
+            × (n + length (without_trailing line) ≡ length line)) }
         ensures word { OnOk result (self.new.word ≡ without_leading self.old.word) }
     {
         let last = most.min(self.placed.behind());
@@ -224,7 +231,8 @@ impl<T: Eq + Clone> FlatText<T> {
     /// Where memory is refused the items may be lost.
     pub fn push(&mut self, c: char, tag: &T) -> Result<(), OutOfMemory>
         requires { CopiesAreEqual T.is_clone T.eq }
-        ensures { OnOk result ((a : T) × (T.eq a tag.now ≡ true) × (self.new ≡ record self.old { word = self.old.word ++ glyph c a ∷ [] })) }
+        ensures { OnOk result ((a : T) × (T.eq a tag.now ≡ true)
+            × (self.new ≡ record self.old { word = self.old.word ++ glyph c a ∷ [] })) }
     {
         self.word.add_characters(1)?;
         if let Err(e) = self.text.push(c, tag) {
@@ -241,7 +249,8 @@ impl<T: Eq + Clone> FlatText<T> {
         requires faithful { CopiesAreEqual T.is_clone T.eq }
         requires some { 0 < length text.now }
         requires ascii { IsAscii text.now }
-        ensures { OnOk result ((a : T) × (T.eq a tag.now ≡ true) × (self.new ≡ record self.old { word = self.old.word ++ text_items (chars text.now) a })) }
+        ensures { OnOk result ((a : T) × (T.eq a tag.now ≡ true)
+            × (self.new ≡ record self.old { word = self.old.word ++ text_items (chars text.now) a })) }
     {
         self.word.add_characters(text.len())?;
         if let Err(e) = self.text.push_ascii(text, tag) {
@@ -258,7 +267,8 @@ impl<T: Eq + Clone> FlatText<T> {
     pub fn push_spaces(&mut self, count: usize, tag: T) -> Result<(), OutOfMemory>
         requires faithful { CopiesAreEqual T.is_clone T.eq }
         requires some { 0 < count }
-        ensures placed { OnOk result ((a : T) × (T.eq a tag ≡ true) × (self.new.placed ≡ self.old.placed ++ spaces count a)) }
+        ensures placed { OnOk result ((a : T) × (T.eq a tag ≡ true)
+            × (self.new.placed ≡ self.old.placed ++ spaces count a)) }
         ensures word { OnOk result (SameItems T.eq self.new.word self.old.word) }
     {
         self.placed.add_characters(count)?;
@@ -292,7 +302,8 @@ impl<T: Eq + Clone> FlatText<T> {
         requires some { 0 < most }
         requires placed { most ≤ length self.old.placed }
         ensures some { IfOk result (λ n. (0 < n) × (n ≤ most)) }
-        ensures items { IfOk result (λ n. SameItems T.eq (items_of line.new) (items_of line.old ++ take n self.old.placed)) }
+        ensures items { IfOk result (λ n.
+            SameItems T.eq (items_of line.new) (items_of line.old ++ take n self.old.placed)) }
         ensures merged { IsMerged T.eq line.old → OnOk result (IsMerged T.eq line.new) }
         ensures rest { IfOk result (λ n. self.new ≡ record self.old { placed = drop n self.old.placed }) }
     {

@@ -97,7 +97,8 @@ impl<T: Eq + Clone> LaidLines<T> {
     pub fn end_if_character(&mut self) -> Result<(), OutOfMemory>
         ensures ended { (columns : ℕ → Option ℕ) (before given : List (List (Item T))) (r : Laid T) →
             HoldsRule columns T.eq self.old before given r →
-            OnOk result (HoldsRule columns T.eq self.new before given (end_if_character r) × (self.new.line_width ≡ 0)) }
+            OnOk result (HoldsRule columns T.eq self.new before given (end_if_character r)
+            × (self.new.line_width ≡ 0)) }
         ensures flat { self.new.flat ≡ self.old.flat }
         ensures limits { KeepsLimits self.old self.new }
     {
@@ -208,7 +209,8 @@ impl<T: Eq + Clone> LaidLines<T> {
     /// Puts characters that the word begins with on the open line, as many as fit.
     fn place_fitting<W: CharWidth>(&mut self) -> Result<(), OutOfMemory>
         ensures placed { (n : ℕ) × OnOk result (self.new.flat.word ≡ drop n self.old.flat.word)
-            × ((js : List (Item T)) → SameItems T.eq self.old.flat.word js → LinesFollow W.columns T.eq self.old self.new
+            × ((js : List (Item T)) → SameItems T.eq self.old.flat.word js →
+            LinesFollow W.columns T.eq self.old self.new
             result (λ r. put_items W.columns self.old.width r (take n js))) }
         ensures limits { KeepsLimits self.old self.new }
     {

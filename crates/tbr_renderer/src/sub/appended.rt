@@ -113,7 +113,8 @@ impl<D: TextDecorator, W: CharWidth> SubRenderer<D, W> {
         requires prefixes { I.can_next prefixes }
         ensures ok { OnOk result ((lines : List (Line (List D.Meaning))) × (given : List P)
             × HandsOut W.columns (meant D.meaning other) lines × GivesFirst I.next_gives (length lines) prefixes given
-            × AppendsLines W.columns (texts_of P.text given) lines (meant D.meaning self.old) (meant D.meaning self.new)) }
+            × AppendsLines W.columns (texts_of P.text given) lines (meant D.meaning self.old)
+            (meant D.meaning self.new)) }
         ensures too_narrow { result ≡ Err E.TooNarrow → FlushIsTooNarrow W.columns (meant D.meaning self.old)
             ⊎ (Flushes W.columns (meant D.meaning self.old) (meant D.meaning self.new)
             × HoldsBack W.columns (meant D.meaning other)) }

@@ -65,7 +65,8 @@ impl<T> Characters<T> {
 
     /// The word's first character.
     pub fn first(&self) -> Option<char>
-        ensures { MatchOption result (self.now.word ≡ []) (λ c. (a : T) × (rest : List (Item T)) × (self.now.word ≡ glyph c a ∷ rest)) }
+        ensures { MatchOption result (self.now.word ≡ [])
+            (λ c. (a : T) × (rest : List (Item T)) × (self.now.word ≡ glyph c a ∷ rest)) }
     {
         let _ = &self.tags;
         self.text.first()
@@ -108,7 +109,8 @@ impl<T> Characters<T> {
     /// Places the word's first `count` characters. It takes the time of going over them.
     pub fn place_front(&mut self, count: usize)
         requires { count ≤ length self.old.word }
-        ensures { self.new ≡ record { placed = self.old.placed ++ take count self.old.word; word = drop count self.old.word } }
+        ensures { self.new
+            ≡ record { placed = self.old.placed ++ take count self.old.word; word = drop count self.old.word } }
     {
         self.text.place_front(count);
     }
@@ -124,9 +126,11 @@ impl<T: Drop> Characters<T> {
         requires last { last ≤ length self.old.placed }
         requires first { first ≤ length self.old.word }
         ensures placed { (before line : List (Item T)) → self.old.placed ≡ before ++ line → length line ≡ last →
-            IfOk result (λ n. (self.new.placed ≡ before ++ without_trailing line) × (n.0 + length (without_trailing line) ≡ length line)) }
+            IfOk result (λ n. (self.new.placed ≡ before ++ without_trailing line)
+            × (n.0 + length (without_trailing line) ≡ length line)) }
         ensures word { (front rest : List (Item T)) → self.old.word ≡ front ++ rest → length front ≡ first →
-            IfOk result (λ n. (self.new.word ≡ without_leading front ++ rest) × (n.1 + length (without_leading front) ≡ length front)) }
+            IfOk result (λ n. (self.new.word ≡ without_leading front ++ rest)
+            × (n.1 + length (without_leading front) ≡ length front)) }
         ensures err { OnErr result (self.new ≡ self.old) }
     {
         let spaces = self.text.trailing_spaces(last);
@@ -144,7 +148,8 @@ impl<T: Eq + Clone> Characters<T> {
     /// Where memory is refused the characters may be lost.
     pub fn push(&mut self, c: char, tag: &T) -> Result<(), OutOfMemory>
         requires { CopiesAreEqual T.is_clone T.eq }
-        ensures { OnOk result ((a : T) × (T.eq a tag.now ≡ true) × (self.new ≡ record self.old { word = self.old.word ++ glyph c a ∷ [] })) }
+        ensures { OnOk result ((a : T) × (T.eq a tag.now ≡ true)
+            × (self.new ≡ record self.old { word = self.old.word ++ glyph c a ∷ [] })) }
     {
         self.tags.push(tag, 1)?;
         if let Err(e) = self.text.push(c) {
@@ -161,7 +166,8 @@ impl<T: Eq + Clone> Characters<T> {
         requires faithful { CopiesAreEqual T.is_clone T.eq }
         requires some { 0 < length text.now }
         requires ascii { IsAscii text.now }
-        ensures { OnOk result ((a : T) × (T.eq a tag.now ≡ true) × (self.new ≡ record self.old { word = self.old.word ++ text_items (chars text.now) a })) }
+        ensures { OnOk result ((a : T) × (T.eq a tag.now ≡ true)
+            × (self.new ≡ record self.old { word = self.old.word ++ text_items (chars text.now) a })) }
     {
         self.tags.push(tag, text.len())?;
         if let Err(e) = self.text.push_ascii(text) {
@@ -178,7 +184,8 @@ impl<T: Eq + Clone> Characters<T> {
     pub fn push_spaces(&mut self, count: usize, tag: T) -> Result<(), OutOfMemory>
         requires faithful { CopiesAreEqual T.is_clone T.eq }
         requires some { 0 < count }
-        ensures placed { OnOk result ((a : T) × (T.eq a tag ≡ true) × (self.new.placed ≡ self.old.placed ++ spaces count a)) }
+        ensures placed { OnOk result ((a : T) × (T.eq a tag ≡ true)
+            × (self.new.placed ≡ self.old.placed ++ spaces count a)) }
         ensures word { OnOk result (SameItems T.eq self.new.word self.old.word) }
     {
         let word = self.text.word_len();
@@ -201,7 +208,8 @@ impl<T: Eq + Clone> Characters<T> {
         requires some { 0 < most }
         requires placed { most ≤ length self.old.placed }
         ensures some { IfOk result (λ r. (0 < r.0) × (r.0 ≤ most)) }
-        ensures items { IfOk result (λ r. (length (chars (string_bytes r.1.s)) ≡ r.0) × SameItems T.eq (text_items (chars (string_bytes r.1.s)) r.1.tag) (take r.0 self.old.placed)) }
+        ensures items { IfOk result (λ r. (length (chars (string_bytes r.1.s)) ≡ r.0)
+            × SameItems T.eq (text_items (chars (string_bytes r.1.s)) r.1.tag) (take r.0 self.old.placed)) }
         ensures rest { IfOk result (λ r. self.new ≡ record self.old { placed = drop r.0 self.old.placed }) }
         ensures err { OnErr result (self.new ≡ self.old) }
     {

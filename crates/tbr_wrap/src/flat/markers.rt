@@ -32,7 +32,10 @@ impl Model for Markers {
 
     ghost Value = { MarkerPlaces };
 
-    ghost view = { λ a. record { markers = map (λ m. (m.before, string_bytes m.name)) a.markers.items; behind = a.behind } };
+    ghost view = { λ a. record {
+      markers = map (λ m. (m.before, string_bytes m.name)) a.markers.items;
+      behind = a.behind;
+    } };
 
     ghost invariant = { λ a. deque_len a.markers ≡ length a.markers.items };
 }
@@ -74,7 +77,8 @@ impl Markers {
 
     /// Whether a marker stands before all characters.
     pub fn begins_with_marker(&self) -> bool
-        ensures { IsTrue result ↔ ((name : List ℕ) × (rest : List (ℕ × List ℕ)) × (self.now.markers ≡ (0, name) ∷ rest)) }
+        ensures { IsTrue result ↔ ((name : List ℕ) × (rest : List (ℕ × List ℕ))
+            × (self.now.markers ≡ (0, name) ∷ rest)) }
     {
         match self.markers.front() {
             Some(marker) => marker.before == 0,
@@ -96,7 +100,8 @@ impl Markers {
 
     /// Notes a marker behind all characters. Where memory is refused it changes nothing.
     pub fn push(&mut self, name: String) -> Result<(), OutOfMemory>
-        ensures ok { OnOk result (self.new ≡ record { markers = self.old.markers ++ (self.old.behind, string_bytes name) ∷ []; behind = 0 }) }
+        ensures ok { OnOk result (self.new
+            ≡ record { markers = self.old.markers ++ (self.old.behind, string_bytes name) ∷ []; behind = 0 }) }
         ensures err { OnErr result (self.new ≡ self.old) }
     {
         let before = self.behind;
@@ -116,8 +121,11 @@ impl Markers {
 
     /// Takes the first marker, if it stands before all characters.
     pub fn pop_first(&mut self) -> Option<String>
-        ensures { MatchOption result ((self.new ≡ self.old) × ((name : List ℕ) (rest : List (ℕ × List ℕ)) → self.old.markers ≡ (0, name) ∷ rest → ⊥))
-            (λ name. (rest : List (ℕ × List ℕ)) × (self.old.markers ≡ (0, string_bytes name) ∷ rest) × (self.new ≡ record self.old { markers = rest })) }
+        ensures { MatchOption result
+            ((self.new ≡ self.old)
+            × ((name : List ℕ) (rest : List (ℕ × List ℕ)) → self.old.markers ≡ (0, name) ∷ rest → ⊥))
+            (λ name. (rest : List (ℕ × List ℕ)) × (self.old.markers ≡ (0, string_bytes name) ∷ rest)
+            × (self.new ≡ record self.old { markers = rest })) }
     {
         if !self.begins_with_marker() {
             return None;
@@ -129,7 +137,9 @@ impl Markers {
     /// Takes the last marker, if no character stands behind it.
     pub fn pop_last(&mut self) -> Option<String>
         ensures { MatchOption result ((self.new ≡ self.old) × ((0 < self.old.behind) ⊎ (self.old.markers ≡ [])))
-            (λ name. (front : List (ℕ × List ℕ)) × (n : ℕ) × (self.old ≡ record { markers = front ++ (n, string_bytes name) ∷ []; behind = 0 }) × (self.new ≡ record { markers = front; behind = n })) }
+            (λ name. (front : List (ℕ × List ℕ)) × (n : ℕ)
+            × (self.old ≡ record { markers = front ++ (n, string_bytes name) ∷ []; behind = 0 })
+            × (self.new ≡ record { markers = front; behind = n })) }
     {
         if self.behind > 0 {
             return None;
@@ -160,7 +170,8 @@ impl Markers {
 
     /// Notes the characters and markers of another behind its own ones. Where memory is refused markers may be lost.
     pub fn append(&mut self, other: &mut Markers) -> Result<(), OutOfMemory>
-        ensures ok { OnOk result ((self.new ≡ followed self.old other.old) × (other.new ≡ record { markers = []; behind = 0 })) }
+        ensures ok { OnOk result ((self.new ≡ followed self.old other.old)
+            × (other.new ≡ record { markers = []; behind = 0 })) }
     {
         if let Some(first) = other.markers.pop_front() {
             self.add_characters(first.before)?;

@@ -107,7 +107,8 @@ impl SplitText {
     /// Places the word's first `count` characters. It takes the time of going over them.
     pub fn place_front(&mut self, count: usize)
         requires { count ≤ length self.old.word }
-        ensures { self.new ≡ record { placed = self.old.placed ++ take count self.old.word; word = drop count self.old.word } }
+        ensures { self.new
+            ≡ record { placed = self.old.placed ++ take count self.old.word; word = drop count self.old.word } }
     {
         self.word_start += bytes_of(&self.text.as_str()[self.word_start..], count);
         self.word -= count;
@@ -165,7 +166,10 @@ impl SplitText {
     pub fn remove_between(&mut self, spaces: usize, blanks: usize) -> Result<(), OutOfMemory>
         requires spaces { (front : List ℕ) × (self.old.placed ≡ front ++ replicate spaces 32) }
         requires blanks { blanks ≤ length self.old.word }
-        ensures ok { OnOk result (self.new ≡ record { placed = take (length self.old.placed - spaces) self.old.placed; word = drop blanks self.old.word }) }
+        ensures ok { OnOk result (self.new ≡ record {
+          placed = take (length self.old.placed - spaces) self.old.placed;
+          word = drop blanks self.old.word;
+        }) }
         ensures err { OnErr result (self.new ≡ self.old) }
     {
         if spaces == 0 && blanks == 0 {

@@ -79,7 +79,8 @@ impl<T: Drop> Stretches<T> {
     pub fn remove_before(&mut self, last: usize, count: usize)
         requires within { last + count ≤ length self.old }
         requires fits { last + count ≤ usize.MAX }
-        ensures { self.new ≡ take (length self.old - (last + count)) self.old ++ drop (length self.old - last) self.old }
+        ensures { self.new
+            ≡ take (length self.old - (last + count)) self.old ++ drop (length self.old - last) self.old }
     {
         if count == 0 {
             return;
@@ -140,7 +141,8 @@ impl<T: Eq + Clone> Stretches<T> {
         requires faithful { CopiesAreEqual T.is_clone T.eq }
         requires within { last ≤ length self.old }
         requires some { 0 < count }
-        ensures { OnOk result ((a : T) × (behind : List T) × (T.eq a tag ≡ true) × (self.new ≡ take (length self.old - last) self.old ++ (replicate count a ++ behind))
+        ensures { OnOk result ((a : T) × (behind : List T) × (T.eq a tag ≡ true)
+            × (self.new ≡ take (length self.old - last) self.old ++ (replicate count a ++ behind))
             × AllZip (λ x y. T.eq x y ≡ true) behind (drop (length self.old - last) self.old)) }
     {
         let place = place_before(&self.stretches[self.skipped..], last);
@@ -206,10 +208,14 @@ fn place_before<T>(stretches: &[Stretch<T>], last: usize) -> Place
 /// Ends the stretch that a place parts there, and answers which stretch comes next.
 fn end_at<T>(stretches: &mut Vec<Stretch<T>>, place: Place) -> usize
     requires within { place.stretch ≤ length stretches.old.items }
-    requires offset { 0 < place.offset → place.offset + length (tags_of (drop (suc place.stretch) stretches.old.items)) < length (tags_of (drop place.stretch stretches.old.items)) }
+    requires offset { 0 < place.offset →
+        place.offset + length (tags_of (drop (suc place.stretch) stretches.old.items))
+        < length (tags_of (drop place.stretch stretches.old.items)) }
     ensures next { (place.stretch ≤ result) × (result ≤ suc place.stretch) × (result ≤ length stretches.new.items) }
     ensures len { length stretches.new.items ≡ length stretches.old.items }
-    ensures front { (k : ℕ) → k ≤ place.stretch → tags_of (drop k (take result stretches.new.items)) ≡ tags_of (drop k (take place.stretch stretches.old.items)) ++ take place.offset (tags_of (drop place.stretch stretches.old.items)) }
+    ensures front { (k : ℕ) → k ≤ place.stretch → tags_of (drop k (take result stretches.new.items))
+        ≡ tags_of (drop k (take place.stretch stretches.old.items))
+        ++ take place.offset (tags_of (drop place.stretch stretches.old.items)) }
     ensures behind { drop (suc place.stretch) stretches.new.items ≡ drop (suc place.stretch) stretches.old.items }
 {
     if place.offset == 0 {
@@ -222,10 +228,13 @@ fn end_at<T>(stretches: &mut Vec<Stretch<T>>, place: Place) -> usize
 /// Begins the stretch that a place parts there.
 fn begin_at<T>(stretches: &mut Vec<Stretch<T>>, place: Place)
     requires within { place.stretch ≤ length stretches.old.items }
-    requires offset { 0 < place.offset → place.offset + length (tags_of (drop (suc place.stretch) stretches.old.items)) < length (tags_of (drop place.stretch stretches.old.items)) }
+    requires offset { 0 < place.offset →
+        place.offset + length (tags_of (drop (suc place.stretch) stretches.old.items))
+        < length (tags_of (drop place.stretch stretches.old.items)) }
     ensures len { length stretches.new.items ≡ length stretches.old.items }
     ensures front { take place.stretch stretches.new.items ≡ take place.stretch stretches.old.items }
-    ensures tags { tags_of (drop place.stretch stretches.new.items) ≡ drop place.offset (tags_of (drop place.stretch stretches.old.items)) }
+    ensures tags { tags_of (drop place.stretch stretches.new.items)
+        ≡ drop place.offset (tags_of (drop place.stretch stretches.old.items)) }
 {
     if place.offset > 0 {
         stretches[place.stretch].more -= place.offset;
@@ -243,7 +252,8 @@ fn split_off<T: Eq + Clone>(
     requires some { 0 < offset }
     requires within { offset ≤ stretch.old.more }
     ensures front { OnOk result (stretch.new ≡ record stretch.old { more = offset - 1 }) }
-    ensures back { IfOk result (λ back. (back.more ≡ stretch.old.more - offset) × (T.eq back.tag stretch.old.tag ≡ true)) }
+    ensures back { IfOk result (λ back. (back.more ≡ stretch.old.more - offset)
+        × (T.eq back.tag stretch.old.tag ≡ true)) }
     ensures err { OnErr result (stretch.new ≡ stretch.old) }
 {
     let tag = stretch.tag.clone()?;
