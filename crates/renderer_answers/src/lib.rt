@@ -1,4 +1,4 @@
-//! Tests of what renderers answer beside their lines, of what they refuse, and of stacks of them.
+//! Tests of what renderers answer beside their lines, and of what they refuse.
 #![tactic(auto)]
 
 #[cfg(test)]
@@ -12,8 +12,4 @@ mod memory;
 #[cfg(test)]
 mod prefixes;
 #[cfg(test)]
-mod printed;
-#[cfg(test)]
 mod refusals;
-#[cfg(test)]
-mod stacks;

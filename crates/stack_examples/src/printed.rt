@@ -1,5 +1,4 @@
 //! Worked examples of renderers and stacks of them that are printed.
-use crate::compared::shows;
 use example_calls::calls::Call::{Border, Line, Marker, Mode, Text};
 use example_calls::calls::{Call, make_all};
 use example_calls::told::{Told, plain};
@@ -23,17 +22,19 @@ fn displayed(alloc: Global, calls: &[Call<'_>]) -> Result<String, Error> {
 }
 
 #[test]
-fn lines_of_a_renderer_are_displayed(rt: HostRuntime) {
+fn lines_of_a_renderer_are_displayed(rt: HostRuntime) -> Result<(), Fail> {
     let alloc = rt.alloc();
-    shows(&rt, displayed(alloc, &[]), "4 columns\n");
-    shows(
-        &rt,
-        displayed(
-            alloc,
-            &[Marker("x"), Text("ab cd"), Line, Border, Text("e")],
-        ),
-        "4 columns\n<ab>\n<cd>\n[────]\nand an open block\n",
+    let new = displayed(alloc, &[])?;
+    assert_eq!(rt; new.as_str(), "4 columns\n");
+    let called = displayed(
+        alloc,
+        &[Marker("x"), Text("ab cd"), Line, Border, Text("e")],
+    )?;
+    assert_eq!(rt;
+        called.as_str(),
+        "4 columns\n<ab>\n<cd>\n[────]\nand an open block\n"
     );
+    Ok(())
 }
 
 #[test]
