@@ -1,4 +1,4 @@
-use Rattle.std.proofs.Common.{◌≡◌, ◌&&◌, true, false, refl, ◌∙◌, sym, rules}
+use Rattle.std.proofs.Common.{◌≡◌, ◌&&◌, true, false, ◌∙◌, sym, rules}
 use Rattle.tbr_model.specs.Rule.{is_pre, passes, tag_of}
 use Rattle.tbr_wrap.proofs.words.ModeCases.{tag_wrap, tag_main}
 use Rattle.tbr_wrap.proofs.wrapper.Wrapper.keep_character.Goals as goal
