@@ -69,7 +69,7 @@ fn append_two<D: TextDecorator, W: CharWidth>(
     r.append_columns_with_borders(cols, false)
 }
 
-/// A renderer inside behind its calls, one of which may have refused.
+/// A renderer inside behind its calls, one of which may have refused; a refusal that it doesn't keep is passed on.
 fn inside<D: TextDecorator, W: CharWidth>(
     alloc: Global,
     r: &SubRenderer<D, W>,
@@ -78,7 +78,11 @@ fn inside<D: TextDecorator, W: CharWidth>(
     let Block(width, calls) = block;
     let mut inside = r.new_sub_renderer(width.max(1))?;
     for call in calls {
-        let _ = make_inner(alloc, &mut inside, *call);
+        if let Err(refusal) = make_inner(alloc, &mut inside, *call)
+            && inside.failure().is_none()
+        {
+            return Err(refusal);
+        }
     }
     Ok(inside)
 }
