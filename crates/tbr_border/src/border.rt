@@ -1,5 +1,5 @@
 //! Horizontal borders, with text in front of them.
-ghost use Rattle.std.specs.Prelude.{◌≡◌, ◌==◌, ◌+◌, ◌≤◌, ◌++◌, map, length, replicate, IfOk, OnOk, OnErr};
+ghost use Rattle.std.specs.Prelude.{◌≡◌, ◌==◌, ◌+◌, ◌<◌, ◌≤◌, ◌++◌, map, length, replicate, IfOk, OnOk, OnErr};
 ghost use Rattle.tbr_tagged.specs.Elements.{items_of, SameItems, IsMerged};
 ghost use Rattle.tbr_tagged.specs.View.{chars_of, element_of};
 ghost use Rattle.tbr_tagged.specs.Walks.{item_characters};
@@ -88,30 +88,35 @@ impl<T: Drop> BorderHoriz<T> {
 impl<T> BorderHoriz<T> {
     /// Appends cells `─` up to `width` cells.
     ///
-    /// Where memory is refused the border stays as it was.
+    /// Where memory is refused the border stays as it was. A border that is as long already takes none.
     pub fn stretch_to(&mut self, width: usize) -> Result<(), OutOfMemory>
         ensures ok { OnOk result (self.new ≡ model.with_cells (model.stretched width self.old.cells) self.old) }
         ensures err { OnErr result (self.new ≡ self.old) }
+        ensures grows { OnErr result (length self.old.cells < width) }
     {
         stretch(&mut self.shape.segments, width)
     }
 
     /// Stretches the border to `x + 1` cells, and adds the arm up to the cell at `x`.
     ///
-    /// Where memory is refused, or `x + 1` passes `usize`, the border stays as it was.
+    /// Where memory is refused, or `x + 1` passes `usize`, the border stays as it was. A border that has the cell takes
+    /// no memory.
     pub fn join_above(&mut self, x: usize) -> Result<(), OutOfMemory>
         ensures ok { OnOk result (self.new ≡ model.with_cells (model.joined_at above x self.old.cells) self.old) }
         ensures err { OnErr result (self.new ≡ self.old) }
+        ensures grows { OnErr result (length self.old.cells ≤ x) }
     {
         join_at(&mut self.shape.segments, Side::Above, x)
     }
 
     /// Stretches the border to `x + 1` cells, and adds the arm down to the cell at `x`.
     ///
-    /// Where memory is refused, or `x + 1` passes `usize`, the border stays as it was.
+    /// Where memory is refused, or `x + 1` passes `usize`, the border stays as it was. A border that has the cell takes
+    /// no memory.
     pub fn join_below(&mut self, x: usize) -> Result<(), OutOfMemory>
         ensures ok { OnOk result (self.new ≡ model.with_cells (model.joined_at below x self.old.cells) self.old) }
         ensures err { OnErr result (self.new ≡ self.old) }
+        ensures grows { OnErr result (length self.old.cells ≤ x) }
     {
         join_at(&mut self.shape.segments, Side::Below, x)
     }
@@ -119,7 +124,8 @@ impl<T> BorderHoriz<T> {
     /// Adds an arm down at `pos + i` for each place `i` where the other border, which is seen from above, has one of `┴
     /// ┬ ┼ └ ┘`, also under its holes. The border is stretched as far as joins come.
     ///
-    /// Where memory is refused, or a place passes `usize`, the border stays as it was.
+    /// Where memory is refused, or a place passes `usize`, the border stays as it was. A border that reaches the last
+    /// join takes no memory.
     pub fn merge_from_below(
         &mut self,
         other: &BorderHoriz<T>,
@@ -128,6 +134,7 @@ impl<T> BorderHoriz<T> {
         ensures ok { OnOk result
             (self.new ≡ model.with_cells (model.merged below self.old.cells pos other.now.cells) self.old) }
         ensures err { OnErr result (self.new ≡ self.old) }
+        ensures grows { OnErr result (length self.old.cells < pos + model.joins_end below other.now.cells) }
     {
         merge(
             &mut self.shape.segments,
@@ -140,7 +147,8 @@ impl<T> BorderHoriz<T> {
     /// Adds an arm up at `pos + i` for each place `i` where the other border, which is seen from below, has one of `┴ ┬
     /// ┼ ┌ ┐`, also under its holes. The border is stretched as far as joins come.
     ///
-    /// Where memory is refused, or a place passes `usize`, the border stays as it was.
+    /// Where memory is refused, or a place passes `usize`, the border stays as it was. A border that reaches the last
+    /// join takes no memory.
     pub fn merge_from_above(
         &mut self,
         other: &BorderHoriz<T>,
@@ -149,6 +157,7 @@ impl<T> BorderHoriz<T> {
         ensures ok { OnOk result
             (self.new ≡ model.with_cells (model.merged above self.old.cells pos other.now.cells) self.old) }
         ensures err { OnErr result (self.new ≡ self.old) }
+        ensures grows { OnErr result (length self.old.cells < pos + model.joins_end above other.now.cells) }
     {
         merge(
             &mut self.shape.segments,
@@ -241,6 +250,7 @@ fn stretch(segments: &mut Vec<BorderSegHoriz>, width: usize) -> Result<(), OutOf
     ensures len { OnOk result (width ≤ length segments.new.items) }
     ensures longer { length segments.old.items ≤ length segments.new.items }
     ensures err { OnErr result (segments.new.items ≡ segments.old.items) }
+    ensures grows { OnErr result (length segments.old.items < width) }
 {
     if segments.len() < width {
         segments.resize(width, BorderSegHoriz::Horiz)?;
@@ -253,6 +263,7 @@ fn join_at(segments: &mut Vec<BorderSegHoriz>, side: Side, x: usize) -> Result<(
         (cells_of segments.new.items ≡ model.joined_at (side_of side) x (cells_of segments.old.items)) }
     ensures longer { length segments.old.items ≤ length segments.new.items }
     ensures err { OnErr result (segments.new.items ≡ segments.old.items) }
+    ensures grows { OnErr result (length segments.old.items ≤ x) }
 {
     let Some(width) = x.checked_add(1) else {
         return Err(OutOfMemory);
@@ -272,6 +283,8 @@ fn merge(
         ≡ model.merged (side_of side) (cells_of segments.old.items) pos (cells_of other.now)) }
     ensures longer { length segments.old.items ≤ length segments.new.items }
     ensures err { OnErr result (segments.new.items ≡ segments.old.items) }
+    ensures grows { OnErr result
+        (length segments.old.items < pos + model.joins_end (side_of side) (cells_of other.now)) }
 {
     let count = joins_end(side, other);
     if count == 0 {

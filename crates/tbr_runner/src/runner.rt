@@ -6,7 +6,7 @@ ghost use Rattle.tbr_script.specs.Streams.{AppendsBeginning};
 ghost use Rattle.tbr_decor.specs.Decoration.{decoration_of};
 ghost use Rattle.tbr_script.specs.Script.{lines_of};
 ghost use Rattle.tbr_runner.specs.Progress.{progress_meant};
-ghost use Rattle.tbr_runner.specs.Meaning.{LinesGive, started, Opens, Gives};
+ghost use Rattle.tbr_runner.specs.Meaning.{Ends, LinesGive, started, Opens, Gives};
 ghost use Rattle.tbr_script.specs.declared.error.RunError.{RunError as Refusal};
 ghost use Rattle.tbr_script.specs.Refusal.{IsOfScript};
 
@@ -55,7 +55,7 @@ pub fn run<R: Source, S: Sink>(
         × AppendsBeginning (S.contents writer.old) (S.contents writer.new) text) }
 {
     let script = read_script(alloc, reader)?;
-    let text = render::<UnicodeColumns>(alloc, &script)?;
+    let text = render::<UnicodeColumns>(alloc, script)?;
     write_all(writer, text.as_bytes()).map_err(|_| RunError::WriteFailed)
 }
 
@@ -79,51 +79,71 @@ fn read_script<R: Source>(alloc: Global, reader: &mut R) -> Result<Vec<u8>, RunE
     }
 }
 
-/// The text of a script.
-fn render<W: CharWidth>(alloc: Global, script: &[u8]) -> Result<String, RunError>
-    ensures text { IfOk result (λ text. Gives W.columns script.now (Ok (string_bytes text))) }
-    ensures refusal { IfErr result (λ e. e ≢ RunError.OutOfMemory → Gives W.columns script.now (Err e)) }
+/// The text of a script, whose memory is given back before its lines are made text.
+fn render<W: CharWidth>(alloc: Global, script: Vec<u8>) -> Result<String, RunError>
+    ensures text { IfOk result (λ text. Gives W.columns script.items (Ok (string_bytes text))) }
+    ensures refusal { IfErr result (λ e. e ≢ RunError.OutOfMemory → Gives W.columns script.items (Err e)) }
     ensures of_script { IfErr result (λ e. e ≢ RunError.OutOfMemory → IsOfScript e) }
 {
-    let (opening, number, rest) = first_command(script)?;
+    let (opening, number, rest) = first_command(&script)?;
     match opening.decorator {
         Decorator::Plain => {
-            render_under::<PlainDecorator, W>(alloc, opening, PlainDecorator::new(), number, rest)
+            let decorator = PlainDecorator::new();
+            let (program, end) = run_under::<_, W>(alloc, opening, decorator, number, rest)?;
+            finish(program, end, script)
         }
         Decorator::Trivial => {
-            render_under::<TrivialDecorator, W>(
-                alloc,
-                opening,
-                TrivialDecorator::new(),
-                number,
-                rest,
-            )
+            let decorator = TrivialDecorator::new();
+            let (program, end) = run_under::<_, W>(alloc, opening, decorator, number, rest)?;
+            finish(program, end, script)
         }
         Decorator::Rich => {
-            render_under::<RichDecorator, W>(alloc, opening, RichDecorator::new(), number, rest)
+            let decorator = RichDecorator::new();
+            let (program, end) = run_under::<_, W>(alloc, opening, decorator, number, rest)?;
+            finish(program, end, script)
         }
     }
 }
 
-/// The text of a script behind its first command, under the decorator that this names.
-fn render_under<D: TextDecorator, W: CharWidth>(
+/// A program under the decorator that a first command names, to which the rest of the script was told, and the number
+/// of the line behind it.
+fn run_under<D: TextDecorator, W: CharWidth>(
     alloc: Global,
     opening: Opening,
     decorator: D,
     number: usize,
     script: &[u8],
-) -> Result<String, RunError>
+) -> Result<(Program<D, W>, usize), RunError>
     requires width { 0 < opening.width }
     requires wrap_width { opening.options.wrap_width ≢ Some 0 }
     requires number { number + length script.now < 2 ^ 64 }
-    ensures text { IfOk result (λ text. LinesGive W.columns (decoration_of D.TextDecorator)
-        (started opening decorator) number (lines_of script.now) (Ok (string_bytes text))) }
+    ensures told { IfOk result (λ told. (outcome : Result (List ℕ) Refusal) →
+        Ends W.columns (decoration_of D.TextDecorator) (progress_meant D.meaning told.0) told.1 outcome →
+        LinesGive W.columns (decoration_of D.TextDecorator)
+        (started opening decorator) number (lines_of script.now) outcome) }
     ensures refusal { IfErr result (λ e. e ≢ RunError.OutOfMemory → LinesGive W.columns (decoration_of D.TextDecorator)
         (started opening decorator) number (lines_of script.now) (Err e)) }
     ensures of_script { IfErr result (λ e. e ≢ RunError.OutOfMemory → IsOfScript e) }
 {
     let program = Program::<D, W>::new(alloc, opening.width, opening.options, decorator)?;
-    render_with(alloc, program, number, script)
+    run_lines(alloc, program, number, script)
+}
+
+/// The text of a program to which a whole script was told. The script isn't needed any more.
+fn finish<D: TextDecorator, W: CharWidth>(
+    program: Program<D, W>,
+    number: usize,
+    script: Vec<u8>,
+) -> Result<String, RunError>
+    ensures text { IfOk result (λ text.
+        Ends W.columns (decoration_of D.TextDecorator) (progress_meant D.meaning program) number
+        (Ok (string_bytes text))) }
+    ensures refused { IfErr result (λ e. e ≢ RunError.OutOfMemory →
+        Ends W.columns (decoration_of D.TextDecorator) (progress_meant D.meaning program) number (Err e)) }
+    ensures of_script { IfErr result (λ e. e ≢ RunError.OutOfMemory → IsOfScript e) }
+{
+    drop(script);
+    program.finish(number)
 }
 
 /// The first command of a script, the number of the line behind it, and what follows it.
@@ -152,16 +172,18 @@ fn first_command(script: &[u8]) -> Result<(Opening, usize, &[u8]), RunError>
     Err(RunError::NotACommand(number))
 }
 
-/// The text of a program to which the rest of a script is told, whose first line has this number.
-fn render_with<D: TextDecorator, W: CharWidth>(
+/// A program to which lines are told, the first of them with this number, and the number of the line behind them.
+fn run_lines<D: TextDecorator, W: CharWidth>(
     alloc: Global,
     program: Program<D, W>,
     number: usize,
     script: &[u8],
-) -> Result<String, RunError>
+) -> Result<(Program<D, W>, usize), RunError>
     requires { number + length script.now < 2 ^ 64 }
-    ensures text { IfOk result (λ text. LinesGive W.columns (decoration_of D.TextDecorator)
-        (progress_meant D.meaning program) number (lines_of script.now) (Ok (string_bytes text))) }
+    ensures told { IfOk result (λ told. (outcome : Result (List ℕ) Refusal) →
+        Ends W.columns (decoration_of D.TextDecorator) (progress_meant D.meaning told.0) told.1 outcome →
+        LinesGive W.columns (decoration_of D.TextDecorator)
+        (progress_meant D.meaning program) number (lines_of script.now) outcome) }
     ensures refusal { IfErr result (λ e. e ≢ RunError.OutOfMemory → LinesGive W.columns (decoration_of D.TextDecorator)
         (progress_meant D.meaning program) number (lines_of script.now) (Err e)) }
     ensures of_script { IfErr result (λ e. e ≢ RunError.OutOfMemory → IsOfScript e) }
@@ -175,5 +197,5 @@ fn render_with<D: TextDecorator, W: CharWidth>(
         rest = behind;
         number += 1;
     }
-    program.finish(number)
+    Ok((program, number))
 }

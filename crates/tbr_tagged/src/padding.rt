@@ -1,5 +1,5 @@
 //! Spaces behind and in front of a line.
-ghost use Rattle.std.specs.Prelude.{◌≡◌, ◌+◌, ◌≤◌, true, IfOk, OnOk, OnErr};
+ghost use Rattle.std.specs.Prelude.{◌≡◌, ◌+◌, ◌<◌, ◌≤◌, true, IfOk, OnOk, OnErr};
 ghost use Rattle.tbr_tagged.specs.Copies.{CopiesAreEqual};
 ghost use Rattle.tbr_tagged.specs.Elements.{push_text, SameElements};
 ghost use Rattle.tbr_tagged.specs.declared.padding.CellAlign.TheVariants as A;
@@ -54,6 +54,7 @@ pub fn pad<T: Eq + Clone + Drop>(
         (model.padded T.eq (elements_of elements.old.items) front behind tag.now)) }
     ensures unchanged_by_none { front + behind ≡ 0 → elements_of elements.new.items ≡ elements_of elements.old.items }
     ensures err { OnErr result (elements_of elements.new.items ≡ elements_of elements.old.items) }
+    ensures some { OnErr result (0 < front + behind) }
 {
     if front == 0 {
         return push_spaces(elements, behind, tag);
@@ -78,6 +79,7 @@ fn push_spaces<T: Eq + Clone + Drop>(
         (push_text T.eq (elements_of elements.old.items) (model.spaces count) tag.now)) }
     ensures unchanged_by_none { count ≡ 0 → elements_of elements.new.items ≡ elements_of elements.old.items }
     ensures err { OnErr result (elements_of elements.new.items ≡ elements_of elements.old.items) }
+    ensures some { OnErr result (0 < count) }
 {
     if count == 0 {
         return Ok(());

@@ -1,5 +1,5 @@
 //! Lines of text under tags.
-ghost use Rattle.std.specs.Prelude.{◌≡◌, ℕ, ◌^◌, ◌≤◌, ◌<◌, ◌++◌, ◌∷◌, [], true, max, not, Option, map, length, string_len, IfOk, OnOk, OnErr};
+ghost use Rattle.std.specs.Prelude.{◌≡◌, ℕ, ◌^◌, ◌≤◌, ◌<◌, ◌++◌, ◌∷◌, ◌⊎◌, [], true, max, not, Option, map, length, string_len, IfOk, OnOk, OnErr};
 ghost use Rattle.tbr_tagged.specs.Copies.{CopiesAreEqual};
 ghost use Rattle.tbr_model.specs.Run.{glyph};
 ghost use Rattle.tbr_tagged.specs.Elements.{items_of, line_width, element_items, characters, piece, push_text, push_element, insert_text, text_items, SameItems, SameElements, IsMerged};
@@ -132,7 +132,7 @@ impl<T: Eq> TaggedLine<T> {
     /// Appends text. It extends the last piece if that stands under an equal tag, and else is a piece of its own. The
     /// empty text does nothing.
     ///
-    /// Where memory is refused the line stays as it was, and the text is dropped.
+    /// Where memory is refused the line stays as it was, and the text is dropped. The empty text takes none.
     pub fn push_str(&mut self, ts: TaggedString<T>) -> Result<(), OutOfMemory>
     where
         T: Drop,
@@ -141,6 +141,7 @@ impl<T: Eq> TaggedLine<T> {
             (SameItems T.eq (items_of self.new) (items_of self.old ++ text_items (chars_of ts.s) ts.tag)) }
         ensures merged { IsMerged T.eq self.old → OnOk result (IsMerged T.eq self.new) }
         ensures err { OnErr result (self.new ≡ self.old) }
+        ensures some { OnErr result (0 < string_len ts.s) }
     {
         if ts.s.is_empty() {
             return Ok(());
@@ -208,7 +209,8 @@ impl<T: Eq + Clone + Drop> TaggedLine<T> {
     /// Fills the line up to `width` columns with spaces behind it, under a copy of the tag. A line that is as wide
     /// already stays as it is.
     ///
-    /// It refuses where memory is refused, or where the line's columns pass `usize`. The line then stays as it was.
+    /// It refuses where memory is refused, or where the line's columns pass `usize`. The line then stays as it was. A
+    /// line that is as wide already takes no memory.
     pub fn pad_to<W: CharWidth>(&mut self, width: usize, tag: &T) -> Result<(), OutOfMemory>
         requires { CopiesAreEqual T.is_clone T.eq }
         ensures ok { OnOk result (SameElements T.eq self.new
@@ -219,6 +221,8 @@ impl<T: Eq + Clone + Drop> TaggedLine<T> {
         ensures merged { IsMerged T.eq self.old → OnOk result (IsMerged T.eq self.new) }
         ensures unchanged_if_as_wide { width ≤ line_width W.columns self.old → self.new ≡ self.old }
         ensures err { OnErr result (self.new ≡ self.old) }
+        ensures narrow { OnErr result
+            (line_width W.columns self.old < width ⊎ 2 ^ 64 ≤ line_width W.columns self.old) }
     {
         self.pad_aligned::<W>(width, CellAlign::Left, tag)
     }
@@ -227,7 +231,8 @@ impl<T: Eq + Clone + Drop> TaggedLine<T> {
     /// sides, as the alignment says. Spaces in front stand before the first element, markers included. A line that is
     /// as wide already stays as it is.
     ///
-    /// It refuses where memory is refused, or where the line's columns pass `usize`. The line then stays as it was.
+    /// It refuses where memory is refused, or where the line's columns pass `usize`. The line then stays as it was. A
+    /// line that is as wide already takes no memory.
     pub fn pad_aligned<W: CharWidth>(
         &mut self,
         width: usize,
@@ -243,6 +248,8 @@ impl<T: Eq + Clone + Drop> TaggedLine<T> {
         ensures merged { IsMerged T.eq self.old → OnOk result (IsMerged T.eq self.new) }
         ensures unchanged_if_as_wide { width ≤ line_width W.columns self.old → self.new ≡ self.old }
         ensures err { OnErr result (self.new ≡ self.old) }
+        ensures narrow { OnErr result
+            (line_width W.columns self.old < width ⊎ 2 ^ 64 ≤ line_width W.columns self.old) }
     {
         let missing = width.saturating_sub(self.width::<W>()?);
         let front = columns_in_front(align, missing);

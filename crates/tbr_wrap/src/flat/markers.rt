@@ -1,5 +1,5 @@
 //! Where markers stand among characters.
-ghost use Rattle.std.specs.Prelude.{◌≡◌, ◌≤◌, ◌<◌, ◌+◌, ◌-◌, ◌++◌, ◌∷◌, ◌⊎◌, [], ℕ, List, length, string_bytes, OnOk, OnErr, MatchOption, IsTrue, ◌↔◌};
+ghost use Rattle.std.specs.Prelude.{◌≡◌, ◌≤◌, ◌<◌, ◌+◌, ◌-◌, ◌^◌, ◌++◌, ◌∷◌, ◌⊎◌, [], ℕ, List, length, string_bytes, OnOk, OnErr, MatchOption, IsTrue, ◌↔◌};
 ghost use Rattle.tbr_wrap.specs.Flat.{MarkerPlaces, before_first, shortened, followed};
 
 use std::alloc::Global;
@@ -90,6 +90,7 @@ impl Markers {
     pub fn add_characters(&mut self, count: usize) -> Result<(), OutOfMemory>
         ensures ok { OnOk result (self.new ≡ record self.old { behind = self.old.behind + count }) }
         ensures err { OnErr result (self.new ≡ self.old) }
+        ensures passes { OnErr result (2 ^ 64 ≤ self.old.behind + count) }
     {
         let Some(behind) = self.behind.checked_add(count) else {
             return Err(OutOfMemory);

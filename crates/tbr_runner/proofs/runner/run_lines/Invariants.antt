@@ -4,7 +4,7 @@ use Rattle.tbr_script.specs.declared.error.RunError.{RunError}
 use Rattle.tbr_script.specs.Script.{lines_of}
 use Rattle.tbr_runner.specs.Progress.{progress_meant}
 use Rattle.tbr_runner.specs.Meaning.{LinesGive}
-use Rattle.tbr_runner.proofs.runner.render_with.Given as goal
+use Rattle.tbr_runner.proofs.runner.run_lines.Given as goal
 
 abbrev pub invariant-loop-rest : goal.invariant-loop-rest
 invariant-loop-rest g l = record {

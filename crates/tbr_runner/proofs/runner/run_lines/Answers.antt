@@ -1,11 +1,11 @@
-use Rattle.std.proofs.Common.{◌≡◌, Ok, Err, arith, string_bytes}
+use Rattle.std.proofs.Common.{◌≡◌, Err, arith}
 use Rattle.std.proofs.lemmas.Result.{err_from_is_err_and}
 use Rattle.tbr_decor.specs.Decoration.{decoration_of}
 use Rattle.tbr_runner.specs.Progress.{progress_meant}
 use Rattle.tbr_runner.proofs.LinesGive.{at_end, line_done, line_refused}
-use Rattle.tbr_runner.proofs.OfScript.{line_of_script, end_of_script}
-use Rattle.tbr_runner.proofs.Results.{if_ok_then, if_err_then, if_err_is}
-use Rattle.tbr_runner.proofs.runner.render_with.Goals as goal
+use Rattle.tbr_runner.proofs.OfScript.{line_of_script}
+use Rattle.tbr_runner.proofs.Results.{if_err_is}
+use Rattle.tbr_runner.proofs.runner.run_lines.Goals as goal
 
 pub returns-in_err-program-clause-refusal : goal.returns-in_err-program-clause-refusal
 returns-in_err-program-clause-refusal g c =
@@ -24,15 +24,10 @@ loop-rest-preserved g c =
       bound = omega (arith, c.loop-rest.invariant.bound, c.split_line.ensures.shorter);
     }
 
-pub returns-clause-text : goal.returns-clause-text
-returns-clause-text g c =
+pub returns-clause-told : goal.returns-clause-told
+returns-clause-told g c = λ outcome ends.
     let here = progress_meant g.D.TextDecorator.meaning c.loop-rest.program in
-    if_ok_then c.finish.result (λ text ends. c.loop-rest.invariant.so_far (Ok (string_bytes text)) (at_end g.W.CharWidth.columns (decoration_of g.D.TextDecorator) here c.loop-rest.number c.loop-rest.rest.now (Ok (string_bytes text)) c.loop-rest-test.ensures ends)) c.finish.ensures.text
-
-pub returns-clause-refusal : goal.returns-clause-refusal
-returns-clause-refusal g c =
-    let here = progress_meant g.D.TextDecorator.meaning c.loop-rest.program in
-    if_err_then c.finish.result (λ e ends found. c.loop-rest.invariant.so_far (Err e) (at_end g.W.CharWidth.columns (decoration_of g.D.TextDecorator) here c.loop-rest.number c.loop-rest.rest.now (Err e) c.loop-rest-test.ensures (ends found))) c.finish.ensures.refused
+    c.loop-rest.invariant.so_far outcome (at_end g.W.CharWidth.columns (decoration_of g.D.TextDecorator) here c.loop-rest.number c.loop-rest.rest.now outcome c.loop-rest-test.ensures ends)
 
 pub returns-in_err-program-clause-of_script : goal.returns-in_err-program-clause-of_script
 returns-in_err-program-clause-of_script g c =
@@ -41,8 +36,3 @@ returns-in_err-program-clause-of_script g c =
     let same : c.from_residual.result ≡ Err c.in_err-program.field-0.0 = cc (p.1, p.2) in
     if_err_is _ c.from_residual.result c.in_err-program.field-0.0 same (λ found.
     line_of_script g.W.CharWidth.columns (decoration_of g.D.TextDecorator) here c.loop-rest.number c.split_line.result.0.now c.in_err-program.field-0.0 (c.in_err-program.ensures.refused found))
-
-pub returns-clause-of_script : goal.returns-clause-of_script
-returns-clause-of_script g c =
-    let here = progress_meant g.D.TextDecorator.meaning c.loop-rest.program in
-    if_err_then c.finish.result (λ e ends found. end_of_script g.W.CharWidth.columns (decoration_of g.D.TextDecorator) here c.loop-rest.number e (ends found)) c.finish.ensures.refused

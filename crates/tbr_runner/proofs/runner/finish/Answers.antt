@@ -1,0 +1,10 @@
+use Rattle.tbr_decor.specs.Decoration.{decoration_of}
+use Rattle.tbr_runner.specs.Progress.{progress_meant}
+use Rattle.tbr_runner.proofs.OfScript.{end_of_script}
+use Rattle.tbr_runner.proofs.Results.{if_err_then}
+use Rattle.tbr_runner.proofs.runner.finish.Goals as goal
+
+pub returns-clause-of_script : goal.returns-clause-of_script
+returns-clause-of_script g c =
+    let here = progress_meant g.D.TextDecorator.meaning c.args.program in
+    if_err_then c.finish.result (λ e ends found. end_of_script g.W.CharWidth.columns (decoration_of g.D.TextDecorator) here c.args.number e (ends found)) c.finish.ensures.refused
