@@ -5,12 +5,13 @@ use Rattle.tbr_decor.specs.Decoration.{Decoration}
 use Rattle.tbr_commands.specs.Command.{Command}
 use Rattle.tbr_script.specs.declared.error.RunError.{RunError}
 use Rattle.tbr_script.specs.declared.error.RunError.TheVariants.{NotACommand}
+use Rattle.tbr_commands.specs.declared.opening.Decorator.{Decorator}
 use Rattle.tbr_commands.specs.declared.opening.Opening.{Opening}
 use Rattle.tbr_script.specs.Script.{lines_of}
 use Rattle.tbr_commands.specs.Syntax.{IsCommand}
 use Rattle.tbr_commands.specs.Opening.{IsOpening}
 use Rattle.tbr_runner.specs.Progress.{Progress}
-use Rattle.tbr_runner.specs.Meaning.{CommandDoes, CommandRefuses, LineDoes, LineRefuses, Ends, LinesGive, Opens, Begins}
+use Rattle.tbr_runner.specs.Meaning.{CommandDoes, CommandRefuses, LineDoes, LineRefuses, Ends, LinesGive, OpensUnder, Opens, Begins, Gives}
 
 no_length : (n : ℕ) → true ≡ (suc n == 0) → ⊥
 no_length n e = let none : suc n ≡ 0 = eqb-true (suc n) 0 (sym e) in omega (arith, none)
@@ -61,3 +62,11 @@ module _ (columns : ℕ → Option ℕ) (number : ℕ) where
   pub opened_at : (opening : Opening) (rest line behind : List ℕ) (outcome : Result (List ℕ) RunError) → false ≡ (length line == 0) → lines_of rest ≡ line ∷ lines_of behind → IsOpening line opening → Opens columns opening (number + 1) (lines_of behind) outcome → Begins columns number (lines_of rest) outcome
   opened_at opening rest [] behind outcome some is opens h = absurd (false≢true some)
   opened_at opening rest (b ∷ bs) behind outcome some is opens h = subst (λ ls. Begins columns number ls outcome) (sym is) (inr (opening, opens, h))
+
+-- ---- the first command
+
+-- what follows under the decorator that it names, follows it; the script is another list with the same bytes
+pub opened_under : (columns : ℕ → Option ℕ) (decorator : Decorator) (opening : Opening) (number : ℕ) (lines : List (List ℕ)) (outcome : Result (List ℕ) RunError) (script same : List ℕ) → script ≡ same → opening.decorator ≡ decorator →
+    (Opens columns opening number lines outcome → Gives columns script outcome) → OpensUnder columns decorator opening number lines outcome → Gives columns same outcome
+opened_under columns decorator opening number lines outcome script same are is found gives =
+    subst (λ s. Gives columns s outcome) are (found (subst (λ d. OpensUnder columns d opening number lines outcome) (sym is) gives))
