@@ -1,57 +1,78 @@
 //! Worked examples of blocks that pad, overflow, and hand out their lines one at a time.
 use crate::compared::counts;
+use crate::expected::Expected::{Lines, Pieces};
+use crate::expected::On::{Columns, Overflowing, Padding};
+use crate::expected::{Example, meet_all};
 use crate::steps::Step::{Ask, Flush, Next, Normal, Pre};
-use crate::steps::{expect, expect_of, expect_pieces, overflowing, plain, told};
-use example_parts::texts::Voice;
+use crate::steps::{plain, told};
 use std::alloc::{AllocError, Global};
 use std::test::Fail;
-use tbr_lines::{UnicodeColumns, WrappedBlock};
+use tbr_lines::UnicodeColumns;
+
+const EXAMPLES: &[Example] = &[
+    Example {
+        name: "lines are padded under the default tag",
+        on: Padding,
+        steps: &[Normal("ab")],
+        expected: Pieces("ab:First    :Second \n"),
+    },
+    Example {
+        name: "a wide character overflows",
+        on: Overflowing,
+        steps: &[Normal("漢")],
+        expected: Lines("漢\n"),
+    },
+    Example {
+        name: "it stands on a line of its own",
+        on: Overflowing,
+        steps: &[Normal("a漢b")],
+        expected: Lines("a\n漢\nb\n"),
+    },
+    Example {
+        name: "behind the characters of no width",
+        on: Overflowing,
+        steps: &[Normal("\u{336}漢b")],
+        expected: Lines("\u{336}漢\nb\n"),
+    },
+    Example {
+        name: "those behind it begin the next line",
+        on: Overflowing,
+        steps: &[Normal("漢\u{336}b")],
+        expected: Lines("漢\n\u{336}b\n"),
+    },
+    Example {
+        name: "ended lines come one at a time: at first the last word isn't placed, and at the end nothing is flushed",
+        on: Columns(5),
+        steps: &[Normal("ab cd ef"), Next, Normal(" "), Next, Next],
+        expected: Lines("next none\nnext ab cd\nnext none\nef\n"),
+    },
+    Example {
+        name: "a stroke takes no column, but is a character, and a line that has ended counts, also where it is handed out",
+        on: Columns(5),
+        steps: &[
+            Ask,
+            Normal("\u{336}"),
+            Ask,
+            Normal("ab"),
+            Ask,
+            Flush,
+            Ask,
+            Next,
+            Ask,
+        ],
+        expected: Lines("empty start blank \nempty start \n\nstart \nnext \u{336}ab\nstart \n"),
+    },
+    Example {
+        name: "a newline begins a line",
+        on: Columns(5),
+        steps: &[Pre("a\n"), Ask],
+        expected: Lines("start \na\n"),
+    },
+];
 
 #[test]
-fn lines_are_padded_under_the_default_tag(rt: HostRuntime) {
-    let alloc = rt.alloc();
-    let block = WrappedBlock::new(alloc, 5, true, false, Voice::Second);
-    expect_pieces(&rt, alloc, block, &[Normal("ab")], "ab:First    :Second \n");
-}
-
-#[test]
-fn a_wide_character_overflows_on_a_line_of_its_own(rt: HostRuntime) {
-    let alloc = rt.alloc();
-    expect_of(&rt, alloc, overflowing(alloc), &[Normal("漢")], "漢\n");
-    expect_of(
-        &rt,
-        alloc,
-        overflowing(alloc),
-        &[Normal("a漢b")],
-        "a\n漢\nb\n",
-    );
-    // Behind the characters of no width.
-    expect_of(
-        &rt,
-        alloc,
-        overflowing(alloc),
-        &[Normal("\u{336}漢b")],
-        "\u{336}漢\nb\n",
-    );
-    expect_of(
-        &rt,
-        alloc,
-        overflowing(alloc),
-        &[Normal("漢\u{336}b")],
-        "漢\n\u{336}b\n",
-    );
-}
-
-#[test]
-fn ended_lines_come_one_at_a_time(rt: HostRuntime) {
-    // At first the last word isn't placed, and at the end nothing is flushed.
-    expect(
-        &rt,
-        rt.alloc(),
-        5,
-        &[Normal("ab cd ef"), Next, Normal(" "), Next, Next],
-        "next none\nnext ab cd\nnext none\nef\n",
-    );
+fn blocks_pad_overflow_and_hand_out_lines(rt: HostRuntime) {
+    meet_all(&rt, rt.alloc(), EXAMPLES)
 }
 
 /// A word of that many letters.
@@ -73,31 +94,4 @@ fn a_word_of_many_letters_is_cut_into_full_lines(rt: HostRuntime) -> Result<(), 
     counts(&rt, lines.len(), 100_000 + 14_286);
     assert!(rt; lines.as_str().ends_with("\nxxxxx\n"));
     Ok(())
-}
-
-#[test]
-fn a_block_tells_what_it_holds(rt: HostRuntime) {
-    // A stroke takes no column, but is a character. A line that has ended counts, also where it is handed out.
-    expect(
-        &rt,
-        rt.alloc(),
-        5,
-        &[
-            Ask,
-            Normal("\u{336}"),
-            Ask,
-            Normal("ab"),
-            Ask,
-            Flush,
-            Ask,
-            Next,
-            Ask,
-        ],
-        "empty start blank \nempty start \n\nstart \nnext \u{336}ab\nstart \n",
-    );
-}
-
-#[test]
-fn a_newline_begins_a_line(rt: HostRuntime) {
-    expect(&rt, rt.alloc(), 5, &[Pre("a\n"), Ask], "start \na\n");
 }

@@ -1,78 +1,104 @@
 //! Worked examples of fragment markers among a block's text.
+use crate::expected::Expected::Lines;
+use crate::expected::On::{Columns, Overflowing};
+use crate::expected::{Example, meet_all};
+use crate::steps::Step;
 use crate::steps::Step::{Ask, Flush, Marker, Normal, Pre, PreWrap, Take};
-use crate::steps::{expect, expect_of, overflowing};
 
-#[test]
-fn a_marker_goes_where_its_word_goes(rt: HostRuntime) {
-    let alloc = rt.alloc();
-    expect(
-        &rt,
-        alloc,
-        3,
-        &[Normal("ab "), Marker("x"), Normal("cde")],
-        "ab\n<x>cde\n",
-    );
-    // Where the word is cut it stays behind the character before.
-    expect(
-        &rt,
-        alloc,
-        3,
-        &[Normal("abc"), Marker("x"), Normal("def")],
-        "abc<x>\ndef\n",
-    );
-}
+const AMONG_WORDS: &[Step<'_>] = &[
+    Marker("x"),
+    Normal("ab"),
+    Marker("y"),
+    Normal(" cd"),
+    Marker("z"),
+    Normal("ef"),
+];
 
-#[test]
-fn a_marker_stands_between_the_same_characters(rt: HostRuntime) {
-    let alloc = rt.alloc();
-    let row = [
-        Marker("x"),
-        Normal("ab"),
-        Marker("y"),
-        Normal(" cd"),
-        Marker("z"),
-        Normal("ef"),
-    ];
-    expect(&rt, alloc, 9, &row, "<x>ab<y> cd<z>ef\n");
-    expect(&rt, alloc, 4, &row, "<x>ab<y>\ncd<z>ef\n");
-    expect(&rt, alloc, 3, &row, "<x>ab<y>\ncd<z>e\nf\n");
-    // Behind a space it joins the next word.
-    expect(
-        &rt,
-        alloc,
-        9,
-        &[Normal("ab "), Marker("x"), Normal(" cd")],
-        "ab <x>cd\n",
-    );
-    // It ends no word, and what ends one doesn't move it.
-    let broken = [Normal("ab"), Marker("x"), Normal("\u{200b}cd")];
-    expect(&rt, alloc, 9, &broken, "ab<x>cd\n");
-    expect(&rt, alloc, 3, &broken, "ab<x>\ncd\n");
-}
+const BEFORE_A_BREAK: &[Step<'_>] = &[Normal("ab"), Marker("x"), Normal("\u{200b}cd")];
 
-#[test]
-fn a_word_of_markers_alone_is_not_placed(rt: HostRuntime) {
-    let alloc = rt.alloc();
-    expect(&rt, alloc, 9, &[Marker("x")], "");
-    expect(&rt, alloc, 9, &[Marker("x"), Normal("  "), Marker("y")], "");
-    expect(&rt, alloc, 9, &[Normal("ab "), Marker("x")], "ab\n");
-}
-
-#[test]
-fn a_newline_leaves_a_marker_to_the_next_word(rt: HostRuntime) {
-    let alloc = rt.alloc();
-    expect(&rt, alloc, 9, &[Marker("x"), Pre("\na")], "\n<x>a\n");
-    expect(&rt, alloc, 20, &[Marker("x"), Pre("\ta")], "        <x>a\n");
-}
-
-#[test]
-fn markers_that_trail_can_be_taken(rt: HostRuntime) {
-    // And are gone then.
-    expect(
-        &rt,
-        rt.alloc(),
-        9,
-        &[
+const EXAMPLES: &[Example] = &[
+    Example {
+        name: "a marker goes where its word goes",
+        on: Columns(3),
+        steps: &[Normal("ab "), Marker("x"), Normal("cde")],
+        expected: Lines("ab\n<x>cde\n"),
+    },
+    Example {
+        name: "where the word is cut it stays behind the character before",
+        on: Columns(3),
+        steps: &[Normal("abc"), Marker("x"), Normal("def")],
+        expected: Lines("abc<x>\ndef\n"),
+    },
+    Example {
+        name: "markers stand between the same characters on one line",
+        on: Columns(9),
+        steps: AMONG_WORDS,
+        expected: Lines("<x>ab<y> cd<z>ef\n"),
+    },
+    Example {
+        name: "and on two",
+        on: Columns(4),
+        steps: AMONG_WORDS,
+        expected: Lines("<x>ab<y>\ncd<z>ef\n"),
+    },
+    Example {
+        name: "and where a word is cut",
+        on: Columns(3),
+        steps: AMONG_WORDS,
+        expected: Lines("<x>ab<y>\ncd<z>e\nf\n"),
+    },
+    Example {
+        name: "behind a space it joins the next word",
+        on: Columns(9),
+        steps: &[Normal("ab "), Marker("x"), Normal(" cd")],
+        expected: Lines("ab <x>cd\n"),
+    },
+    Example {
+        name: "it ends no word",
+        on: Columns(9),
+        steps: BEFORE_A_BREAK,
+        expected: Lines("ab<x>cd\n"),
+    },
+    Example {
+        name: "what ends a word doesn't move it",
+        on: Columns(3),
+        steps: BEFORE_A_BREAK,
+        expected: Lines("ab<x>\ncd\n"),
+    },
+    Example {
+        name: "a marker alone is not placed",
+        on: Columns(9),
+        steps: &[Marker("x")],
+        expected: Lines(""),
+    },
+    Example {
+        name: "nor are two with white space between them",
+        on: Columns(9),
+        steps: &[Marker("x"), Normal("  "), Marker("y")],
+        expected: Lines(""),
+    },
+    Example {
+        name: "nor is one behind the last word",
+        on: Columns(9),
+        steps: &[Normal("ab "), Marker("x")],
+        expected: Lines("ab\n"),
+    },
+    Example {
+        name: "a newline leaves a marker to the next word",
+        on: Columns(9),
+        steps: &[Marker("x"), Pre("\na")],
+        expected: Lines("\n<x>a\n"),
+    },
+    Example {
+        name: "so does a tab",
+        on: Columns(20),
+        steps: &[Marker("x"), Pre("\ta")],
+        expected: Lines("        <x>a\n"),
+    },
+    Example {
+        name: "markers that trail can be taken, and are gone then",
+        on: Columns(9),
+        steps: &[
             Normal("ab "),
             Marker("x"),
             Marker("y"),
@@ -81,31 +107,18 @@ fn markers_that_trail_can_be_taken(rt: HostRuntime) {
             Take,
             Normal("cd"),
         ],
-        "taken x,y,\ntaken \nab\ncd\n",
-    );
-}
-
-#[test]
-fn markers_that_nobody_takes_begin_the_next_run(rt: HostRuntime) {
-    // Their word has a character then.
-    expect(
-        &rt,
-        rt.alloc(),
-        9,
-        &[Normal("ab "), Marker("x"), Flush, Normal("cd"), Take],
-        "taken \nab\n<x>cd\n",
-    );
-}
-
-#[test]
-fn markers_of_a_line_without_a_character_wait(rt: HostRuntime) {
-    let alloc = rt.alloc();
-    // First those of the line.
-    expect_of(
-        &rt,
-        alloc,
-        overflowing(alloc),
-        &[
+        expected: Lines("taken x,y,\ntaken \nab\ncd\n"),
+    },
+    Example {
+        name: "markers that nobody takes begin the next run, whose word has a character",
+        on: Columns(9),
+        steps: &[Normal("ab "), Marker("x"), Flush, Normal("cd"), Take],
+        expected: Lines("taken \nab\n<x>cd\n"),
+    },
+    Example {
+        name: "markers of a line without a character wait, those of the line first",
+        on: Overflowing,
+        steps: &[
             Normal("漢"),
             Marker("x"),
             Normal(" "),
@@ -113,47 +126,35 @@ fn markers_of_a_line_without_a_character_wait(rt: HostRuntime) {
             Flush,
             Take,
         ],
-        "taken x,y,\n漢\n",
-    );
-}
+        expected: Lines("taken x,y,\n漢\n"),
+    },
+    Example {
+        name: "white space is removed up to a marker",
+        on: Columns(6),
+        steps: &[Pre("cdefgh "), Marker("i"), PreWrap("    za")],
+        expected: Lines("cdefgh\n <i>\nza\n"),
+    },
+    Example {
+        name: "without the marker all of it is removed",
+        on: Columns(6),
+        steps: &[Pre("cdefgh "), PreWrap("    za")],
+        expected: Lines("cdefgh\nza\n"),
+    },
+    Example {
+        name: "a word that lost its characters keeps its markers",
+        on: Columns(2),
+        steps: &[PreWrap("ab "), PreWrap("\u{a0}"), Marker("x"), Flush, Take],
+        expected: Lines("taken x,\nab\n"),
+    },
+    Example {
+        name: "a line of markers is no line",
+        on: Columns(9),
+        steps: &[Marker("x"), Ask, Normal("a"), Ask],
+        expected: Lines("empty start blank \n\n<x>a\n"),
+    },
+];
 
 #[test]
-fn white_space_is_removed_up_to_a_marker(rt: HostRuntime) {
-    let alloc = rt.alloc();
-    expect(
-        &rt,
-        alloc,
-        6,
-        &[Pre("cdefgh "), Marker("i"), PreWrap("    za")],
-        "cdefgh\n <i>\nza\n",
-    );
-    expect(
-        &rt,
-        alloc,
-        6,
-        &[Pre("cdefgh "), PreWrap("    za")],
-        "cdefgh\nza\n",
-    );
-}
-
-#[test]
-fn a_word_that_lost_its_characters_keeps_its_markers(rt: HostRuntime) {
-    expect(
-        &rt,
-        rt.alloc(),
-        2,
-        &[PreWrap("ab "), PreWrap("\u{a0}"), Marker("x"), Flush, Take],
-        "taken x,\nab\n",
-    );
-}
-
-#[test]
-fn a_line_of_markers_is_no_line(rt: HostRuntime) {
-    expect(
-        &rt,
-        rt.alloc(),
-        9,
-        &[Marker("x"), Ask, Normal("a"), Ask],
-        "empty start blank \n\n<x>a\n",
-    );
+fn markers_stand_among_text(rt: HostRuntime) {
+    meet_all(&rt, rt.alloc(), EXAMPLES)
 }

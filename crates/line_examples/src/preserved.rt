@@ -1,106 +1,216 @@
 //! Worked examples of the modes that preserve white space, by calls on a block.
+use crate::expected::Expected::{Lines, Pieces};
+use crate::expected::On::{Columns, EveryOne, NoEmSpace};
+use crate::expected::{Example, meet_all};
+use crate::steps::Step;
 use crate::steps::Step::{Normal, Pre, PreWrap};
-use crate::steps::{expect, expect_of, expect_pieces, plain};
-use example_parts::columns::{EveryOne, NoEmSpace};
+
+const BEHIND_AN_EM_SPACE: &[Step<'_>] = &[PreWrap("ab\u{2003}"), Pre("\u{a0}cd")];
+
+const WHITE_SPACE: &[Example] = &[
+    Example {
+        name: "newlines end lines",
+        on: Columns(20),
+        steps: &[Pre("foo\nbar\nwib   asdf;\n")],
+        expected: Lines("foo\nbar\nwib   asdf;\n"),
+    },
+    Example {
+        name: "a newline ends an empty line",
+        on: Columns(5),
+        steps: &[Pre("a\n\nb")],
+        expected: Lines("a\n\nb\n"),
+    },
+    Example {
+        name: "spaces alone are an empty line",
+        on: Columns(5),
+        steps: &[Pre("   \n")],
+        expected: Lines("\n"),
+    },
+    Example {
+        name: "a full line of spaces before a word isn't written",
+        on: Columns(5),
+        steps: &[Pre("       ab")],
+        expected: Lines("  ab\n"),
+    },
+    Example {
+        name: "fewer spaces are written at the line's end",
+        on: Columns(5),
+        steps: &[Pre("  "), Normal("abcd")],
+        expected: Lines("  \nabcd\n"),
+    },
+    Example {
+        name: "a tab goes to the next multiple of eight",
+        on: Columns(20),
+        steps: &[Pre("ab\tc")],
+        expected: Lines("ab      c\n"),
+    },
+    Example {
+        name: "or to the line's end",
+        on: Columns(5),
+        steps: &[Pre("ab\tc")],
+        expected: Lines("ab   \nc\n"),
+    },
+    Example {
+        name: "or fills a line",
+        on: Columns(5),
+        steps: &[Pre("\tb")],
+        expected: Lines("     \nb\n"),
+    },
+    Example {
+        name: "from the first column where the line is full",
+        on: Columns(8),
+        steps: &[Pre("abcdefgh\tb")],
+        expected: Lines("abcdefgh\n        \nb\n"),
+    },
+    Example {
+        name: "white space vanishes where a word is moved",
+        on: Columns(5),
+        steps: &[PreWrap("ab  cd")],
+        expected: Lines("ab\ncd\n"),
+    },
+    Example {
+        name: "also where a word of wide characters is moved",
+        on: Columns(5),
+        steps: &[PreWrap("漢字  é")],
+        expected: Lines("漢字\né\n"),
+    },
+    Example {
+        name: "that of the word's beginning too",
+        on: Columns(5),
+        steps: &[PreWrap("ab \u{a0}cdef")],
+        expected: Lines("ab\ncdef\n"),
+    },
+    Example {
+        name: "white space of no width is no pending space, and takes nothing from the word behind it",
+        on: NoEmSpace(3),
+        steps: BEHIND_AN_EM_SPACE,
+        expected: Lines("ab\n\u{a0}cd\n"),
+    },
+    Example {
+        name: "white space of a column does",
+        on: EveryOne(3),
+        steps: BEHIND_AN_EM_SPACE,
+        expected: Lines("ab\ncd\n"),
+    },
+];
+
+const CONTINUED: &[Example] = &[
+    Example {
+        name: "a hard line goes on under the continuation tag up to its newline",
+        on: Columns(3),
+        steps: &[Pre("abcde\nf")],
+        expected: Pieces("abc:First \nde:Second \nf:First \n"),
+    },
+    Example {
+        name: "a newline that collapses doesn't switch back",
+        on: Columns(3),
+        steps: &[Pre("abcd"), Normal("\nef")],
+        expected: Pieces("abc:First \nd:Second \nef:Second \n"),
+    },
+    Example {
+        name: "a call begins under the main tag behind a word that fits",
+        on: Columns(9),
+        steps: &[Pre("abcdefghij\tx\t"), Pre("y")],
+        expected: Pieces("abcdefghi:First \nj       x:Second \n        :Second y:First \n"),
+    },
+    Example {
+        name: "a word fills the line",
+        on: Columns(3),
+        steps: &[Pre("abc")],
+        expected: Pieces("abc:First \n"),
+    },
+    Example {
+        name: "a word passes the line by a column",
+        on: Columns(3),
+        steps: &[Pre("abcd")],
+        expected: Pieces("abc:First \nd:Second \n"),
+    },
+    Example {
+        name: "a space and a word fill the line",
+        on: Columns(3),
+        steps: &[Pre(" ab")],
+        expected: Pieces(" ab:First \n"),
+    },
+    Example {
+        name: "they pass it by a column",
+        on: Columns(3),
+        steps: &[Pre(" abc")],
+        expected: Pieces(" :First \nab:First c:Second \n"),
+    },
+    Example {
+        name: "they pass it by two",
+        on: Columns(3),
+        steps: &[Pre(" abcd")],
+        expected: Pieces(" :First \nab:First c:Second \nd:Second \n"),
+    },
+    Example {
+        name: "a space in a word fills the line with it",
+        on: Columns(3),
+        steps: &[Pre("a b")],
+        expected: Pieces("a b:First \n"),
+    },
+    Example {
+        name: "and passes it by a column",
+        on: Columns(3),
+        steps: &[Pre("a bc")],
+        expected: Pieces("a b:First \nc:Second \n"),
+    },
+    Example {
+        name: "a space that passes the line doesn't begin the continuation tag",
+        on: Columns(3),
+        steps: &[Pre("abc ")],
+        expected: Pieces("abc:First \n :First \n"),
+    },
+    Example {
+        name: "the character behind it does",
+        on: Columns(3),
+        steps: &[Pre("abc d")],
+        expected: Pieces("abc:First \n :First d:Second \n"),
+    },
+    Example {
+        name: "a space under the continuation tag",
+        on: Columns(3),
+        steps: &[Pre("abcd ef")],
+        expected: Pieces("abc:First \nd e:Second \nf:Second \n"),
+    },
+    Example {
+        name: "columns of the open line count too",
+        on: Columns(9),
+        steps: &[Pre("a\tb")],
+        expected: Pieces("a       b:First \n"),
+    },
+    Example {
+        name: "and are passed by one",
+        on: Columns(9),
+        steps: &[Pre("a\tbc")],
+        expected: Pieces("a       :First \nb:First c:Second \n"),
+    },
+    Example {
+        name: "both columns of a wide character fit",
+        on: Columns(4),
+        steps: &[Pre("漢漢")],
+        expected: Pieces("漢漢:First \n"),
+    },
+    Example {
+        name: "one of them passes the line",
+        on: Columns(3),
+        steps: &[Pre("漢漢")],
+        expected: Pieces("漢:First \n漢:Second \n"),
+    },
+    Example {
+        name: "also behind a no-break space",
+        on: Columns(3),
+        steps: &[Pre("漢\u{a0}漢")],
+        expected: Pieces("漢\u{a0}:First \n漢:Second \n"),
+    },
+];
 
 #[test]
-fn newlines_end_lines(rt: HostRuntime) {
-    let alloc = rt.alloc();
-    expect(
-        &rt,
-        alloc,
-        20,
-        &[Pre("foo\nbar\nwib   asdf;\n")],
-        "foo\nbar\nwib   asdf;\n",
-    );
-    // Even of an empty line; spaces alone are one.
-    expect(&rt, alloc, 5, &[Pre("a\n\nb")], "a\n\nb\n");
-    expect(&rt, alloc, 5, &[Pre("   \n")], "\n");
-}
-
-#[test]
-fn spaces_before_a_word_that_does_not_fit_fill_the_line(rt: HostRuntime) {
-    let alloc = rt.alloc();
-    // A full line isn't written, fewer are written at the line's end.
-    expect(&rt, alloc, 5, &[Pre("       ab")], "  ab\n");
-    expect(&rt, alloc, 5, &[Pre("  "), Normal("abcd")], "  \nabcd\n");
-}
-
-#[test]
-fn tabs_go_to_the_next_multiple_of_eight(rt: HostRuntime) {
-    let alloc = rt.alloc();
-    expect(&rt, alloc, 20, &[Pre("ab\tc")], "ab      c\n");
-    // Or to the line's end.
-    expect(&rt, alloc, 5, &[Pre("ab\tc")], "ab   \nc\n");
-    expect(&rt, alloc, 5, &[Pre("\tb")], "     \nb\n");
-    // From the first column where the line is full.
-    expect(
-        &rt,
-        alloc,
-        8,
-        &[Pre("abcdefgh\tb")],
-        "abcdefgh\n        \nb\n",
-    );
-}
-
-#[test]
-fn white_space_vanishes_where_a_word_is_moved(rt: HostRuntime) {
-    let alloc = rt.alloc();
-    expect(&rt, alloc, 5, &[PreWrap("ab  cd")], "ab\ncd\n");
-    // That of the word's beginning too.
-    expect(&rt, alloc, 5, &[PreWrap("ab \u{a0}cdef")], "ab\ncdef\n");
+fn white_space_is_preserved(rt: HostRuntime) {
+    meet_all(&rt, rt.alloc(), WHITE_SPACE)
 }
 
 #[test]
 fn a_hard_line_goes_on_under_the_continuation_tag(rt: HostRuntime) {
-    let alloc = rt.alloc();
-    expect_pieces(
-        &rt,
-        alloc,
-        plain(alloc, 3),
-        &[Pre("abcde\nf")],
-        "abc:First \nde:Second \nf:First \n",
-    );
-    expect_pieces(
-        &rt,
-        alloc,
-        plain(alloc, 3),
-        &[Pre(" abcd")],
-        " :First \nab:First c:Second \nd:Second \n",
-    );
-    // A newline that collapses doesn't switch back.
-    expect_pieces(
-        &rt,
-        alloc,
-        plain(alloc, 3),
-        &[Pre("abcd"), Normal("\nef")],
-        "abc:First \nd:Second \nef:Second \n",
-    );
-}
-
-#[test]
-fn a_call_begins_under_the_main_tag_behind_a_word_that_fits(rt: HostRuntime) {
-    let alloc = rt.alloc();
-    expect_pieces(
-        &rt,
-        alloc,
-        plain(alloc, 9),
-        &[Pre("abcdefghij\tx\t"), Pre("y")],
-        "abcdefghi:First \nj       x:Second \n        :Second y:First \n",
-    );
-}
-
-#[test]
-fn white_space_of_no_width_is_no_pending_space(rt: HostRuntime) {
-    let alloc = rt.alloc();
-    let calls = [PreWrap("ab\u{2003}"), Pre("\u{a0}cd")];
-    // So it takes nothing from the word behind it. One of a column does.
-    expect_of(
-        &rt,
-        alloc,
-        plain::<NoEmSpace>(alloc, 3),
-        &calls,
-        "ab\n\u{a0}cd\n",
-    );
-    expect_of(&rt, alloc, plain::<EveryOne>(alloc, 3), &calls, "ab\ncd\n");
+    meet_all(&rt, rt.alloc(), CONTINUED)
 }

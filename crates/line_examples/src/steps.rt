@@ -3,13 +3,10 @@ ghost use Rattle.std.specs.Prelude.{◌<◌, ◌≡◌, ℕ, List, IfOk};
 ghost use Rattle.tbr_lines.specs.Elements.{marker_element};
 ghost use Rattle.tbr_lines.specs.View.{element_of};
 
-use crate::compared::shows;
 use example_parts::texts::{Voice, append_marked_line, append_pieces};
 use std::alloc::Global;
-use std::process::Abort;
 use tbr_lines::{
-    CharWidth, Error, OutOfMemory, TaggedLine, TaggedLineElement, UnicodeColumns, WhiteSpace,
-    WrappedBlock,
+    CharWidth, Error, OutOfMemory, TaggedLine, TaggedLineElement, WhiteSpace, WrappedBlock,
 };
 
 /// A call on a block.
@@ -41,6 +38,11 @@ pub fn plain<W: CharWidth + Drop>(alloc: Global, width: usize) -> WrappedBlock<V
 /// A block of one column, where lines may be wider.
 pub fn overflowing(alloc: Global) -> WrappedBlock<Voice> {
     WrappedBlock::new(alloc, 1, false, true, Voice::First)
+}
+
+/// A block of five columns, whose lines are padded under the second tag.
+pub fn padding(alloc: Global) -> WrappedBlock<Voice> {
+    WrappedBlock::new(alloc, 5, true, false, Voice::Second)
 }
 
 /// Takes one step, and appends what it tells.
@@ -174,7 +176,7 @@ pub fn told<W: CharWidth + Drop>(
 }
 
 /// The pieces of the block's lines behind the steps, each with its tag.
-fn pieces<W: CharWidth + Drop>(
+pub fn pieces<W: CharWidth + Drop>(
     alloc: Global,
     mut block: WrappedBlock<Voice, W>,
     steps: &[Step<'_>],
@@ -184,34 +186,4 @@ fn pieces<W: CharWidth + Drop>(
         append_pieces(&mut all, alloc, line)?;
     }
     Ok(all)
-}
-
-/// The steps on a block tell this, and then it has these lines.
-pub fn expect_of<W: CharWidth + Drop>(
-    rt: &impl Abort,
-    alloc: Global,
-    block: WrappedBlock<Voice, W>,
-    steps: &[Step<'_>],
-    expected: &str,
-) {
-    shows(rt, told(alloc, block, steps), expected)
-}
-
-/// As [`expect_of`], of a plain block of that width.
-pub fn expect(rt: &impl Abort, alloc: Global, width: usize, steps: &[Step<'_>], expected: &str)
-    requires { 0 < width }
-{
-    let block = plain::<UnicodeColumns>(alloc, width);
-    expect_of(rt, alloc, block, steps, expected)
-}
-
-/// The lines of a block have these pieces, each with its tag.
-pub fn expect_pieces(
-    rt: &impl Abort,
-    alloc: Global,
-    block: WrappedBlock<Voice>,
-    steps: &[Step<'_>],
-    expected: &str,
-) {
-    shows(rt, pieces(alloc, block, steps), expected)
 }

@@ -1,100 +1,132 @@
 //! Worked examples of wrapping, by calls on a block.
 use crate::compared::counts;
+use crate::expected::Expected::Lines;
+use crate::expected::On::{Columns, EveryOne};
+use crate::expected::{Example, meet_all};
 use crate::steps::Step::{Flush, Normal};
-use crate::steps::{expect, expect_of, plain, told};
-use example_parts::columns::EveryOne;
+use crate::steps::{plain, told};
 use example_parts::texts::{Voice, piece};
 use std::alloc::Global;
 use std::process::Abort;
 use std::test::Fail;
 use tbr_lines::{Error, OutOfMemory, TaggedLine, UnicodeColumns, WhiteSpace, WrappedBlock};
 
-#[test]
-fn words_go_where_they_fit_and_wider_ones_are_cut(rt: HostRuntime) {
-    let alloc = rt.alloc();
-    expect(
-        &rt,
-        alloc,
-        8,
-        &[Normal("Hello, world.  Superlongwordreally")],
-        "Hello,\nworld.\nSuperlon\ngwordrea\nlly\n",
-    );
-    // A wider word never fills the line behind another.
-    expect(
-        &rt,
-        alloc,
-        4,
-        &[Normal("Hello there boo")],
-        "Hell\no\nther\ne\nboo\n",
-    );
-    // Two texts make one run.
-    expect(&rt, alloc, 9, &[Normal("ab"), Normal("c d")], "abc d\n");
-}
-
-#[test]
-fn a_zero_width_space_breaks_and_a_no_break_space_does_not(rt: HostRuntime) {
-    let alloc = rt.alloc();
-    expect(
-        &rt,
-        alloc,
-        40,
-        &[Normal(
+const EXAMPLES: &[Example] = &[
+    Example {
+        name: "words go where they fit, and wider ones are cut",
+        on: Columns(8),
+        steps: &[Normal("Hello, world.  Superlongwordreally")],
+        expected: Lines("Hello,\nworld.\nSuperlon\ngwordrea\nlly\n"),
+    },
+    Example {
+        name: "a wider word never fills the line behind another",
+        on: Columns(4),
+        steps: &[Normal("Hello there boo")],
+        expected: Lines("Hell\no\nther\ne\nboo\n"),
+    },
+    Example {
+        name: "two texts make one run",
+        on: Columns(9),
+        steps: &[Normal("ab"), Normal("c d")],
+        expected: Lines("abc d\n"),
+    },
+    Example {
+        name: "a flush ends the run",
+        on: Columns(9),
+        steps: &[Normal("ab "), Flush, Normal("cd")],
+        expected: Lines("ab\ncd\n"),
+    },
+    Example {
+        name: "a zero width space breaks",
+        on: Columns(40),
+        steps: &[Normal(
             "Do break a line somewhere in foo\u{200b}bar\u{200b}foo\u{200b}bar\u{200b}foo\u{200b}bar\u{200b}foo\u{200b}bar\u{200b}foo\u{200b}bar\u{200b}foo\u{200b}bar",
         )],
-        "Do break a line somewhere in foobarfoo\nbarfoobarfoobarfoobarfoobar\n",
-    );
-    expect(
-        &rt,
-        alloc,
-        40,
-        &[Normal("Don't break a line between the words Foo\u{a0}and\u{a0}Bar")],
-        "Don't break a line between the words\nFoo\u{a0}and\u{a0}Bar\n",
-    );
-}
+        expected: Lines("Do break a line somewhere in foobarfoo\nbarfoobarfoobarfoobarfoobar\n"),
+    },
+    Example {
+        name: "a no-break space does not",
+        on: Columns(40),
+        steps: &[Normal("Don't break a line between the words Foo\u{a0}and\u{a0}Bar")],
+        expected: Lines("Don't break a line between the words\nFoo\u{a0}and\u{a0}Bar\n"),
+    },
+    Example {
+        name: "wide characters take two columns",
+        on: Columns(3),
+        steps: &[Normal("漢漢漢")],
+        expected: Lines("漢\n漢\n漢\n"),
+    },
+    Example {
+        name: "or one, by the second width instance",
+        on: EveryOne(3),
+        steps: &[Normal("漢漢漢")],
+        expected: Lines("漢漢漢\n"),
+    },
+    Example {
+        name: "a wide character fills a line of two columns",
+        on: Columns(2),
+        steps: &[Normal("a漢b")],
+        expected: Lines("a\n漢\nb\n"),
+    },
+    Example {
+        name: "words of wide characters end at white space of any width",
+        on: Columns(7),
+        steps: &[Normal("a漢 b漢\u{3000}漢c")],
+        expected: Lines("a漢 b漢\n漢c\n"),
+    },
+    Example {
+        name: "and at a zero width space",
+        on: Columns(4),
+        steps: &[Normal("漢\u{200b}字é")],
+        expected: Lines("漢\n字é\n"),
+    },
+    Example {
+        name: "characters of no width stay with what stands before",
+        on: Columns(2),
+        steps: &[Normal("a\u{336}b\u{336}c")],
+        expected: Lines("a\u{336}b\u{336}\nc\n"),
+    },
+    Example {
+        name: "a space behind one begins no line",
+        on: Columns(9),
+        steps: &[Normal("\u{336} a")],
+        expected: Lines("\u{336}a\n"),
+    },
+    Example {
+        name: "one stands behind a space",
+        on: Columns(9),
+        steps: &[Normal("b \u{336} a")],
+        expected: Lines("b \u{336}a\n"),
+    },
+    Example {
+        name: "a zero width space vanishes, and a no-break space stays",
+        on: Columns(9),
+        steps: &[Normal("a\u{200b}b\u{a0}c")],
+        expected: Lines("ab\u{a0}c\n"),
+    },
+    Example {
+        name: "a last word of no width",
+        on: Columns(1),
+        steps: &[Normal("a\u{336} \u{336}")],
+        expected: Lines("a\u{336}\n\u{336}\n"),
+    },
+    Example {
+        name: "the empty text gives no line",
+        on: Columns(5),
+        steps: &[Normal("")],
+        expected: Lines(""),
+    },
+    Example {
+        name: "white space alone gives no line",
+        on: Columns(5),
+        steps: &[Normal("   ")],
+        expected: Lines(""),
+    },
+];
 
 #[test]
-fn wide_characters_take_two_columns(rt: HostRuntime) {
-    let alloc = rt.alloc();
-    expect(&rt, alloc, 3, &[Normal("漢漢漢")], "漢\n漢\n漢\n");
-    expect(&rt, alloc, 2, &[Normal("a漢b")], "a\n漢\nb\n");
-    // One column each by the second width instance.
-    expect_of(
-        &rt,
-        alloc,
-        plain::<EveryOne>(alloc, 3),
-        &[Normal("漢漢漢")],
-        "漢漢漢\n",
-    );
-}
-
-#[test]
-fn zero_width_characters_stay_with_what_stands_before(rt: HostRuntime) {
-    let alloc = rt.alloc();
-    expect(
-        &rt,
-        alloc,
-        2,
-        &[Normal("a\u{336}b\u{336}c")],
-        "a\u{336}b\u{336}\nc\n",
-    );
-    expect(&rt, alloc, 9, &[Normal("\u{336} a")], "\u{336}a\n");
-    expect(&rt, alloc, 9, &[Normal("b \u{336} a")], "b \u{336}a\n");
-    expect(&rt, alloc, 9, &[Normal("a\u{200b}b\u{a0}c")], "ab\u{a0}c\n");
-    // A last word of width 0.
-    expect(
-        &rt,
-        alloc,
-        1,
-        &[Normal("a\u{336} \u{336}")],
-        "a\u{336}\n\u{336}\n",
-    );
-}
-
-#[test]
-fn white_space_alone_gives_no_line(rt: HostRuntime) {
-    let alloc = rt.alloc();
-    expect(&rt, alloc, 5, &[Normal("")], "");
-    expect(&rt, alloc, 5, &[Normal("   ")], "");
+fn text_is_wrapped(rt: HostRuntime) {
+    meet_all(&rt, rt.alloc(), EXAMPLES)
 }
 
 /// Whether a call refused, since a character is too wide.
@@ -125,17 +157,6 @@ fn refuses_for_good(rt: &impl Abort, mut block: WrappedBlock<u8>) {
     assert!(rt; block.failure() == Some(Error::TooNarrow));
     assert!(rt; is_too_narrow(block.add_text("a", WhiteSpace::Normal, &1, &1)));
     assert!(rt; is_too_narrow(block.into_lines()));
-}
-
-#[test]
-fn a_flush_ends_the_run(rt: HostRuntime) {
-    expect(
-        &rt,
-        rt.alloc(),
-        9,
-        &[Normal("ab "), Flush, Normal("cd")],
-        "ab\ncd\n",
-    );
 }
 
 /// The lines of two texts under tags of their own.

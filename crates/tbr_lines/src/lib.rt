@@ -4,9 +4,9 @@
 pub use tbr_border::{BorderHoriz, BorderSegHoriz, RenderLine};
 pub use tbr_model::{CharWidth, WhiteSpace};
 pub use tbr_tagged::{
-    CellAlign, Chars, Error, Iter, OutOfMemory, TaggedLine, TaggedLineElement, TaggedString,
-    TaggedStrings, TooNarrow, UnicodeColumns, always_takes_space, is_wordbreak_point, spaces,
-    text_width,
+    CellAlign, Chars, Error, IntoIter, Iter, OutOfMemory, TaggedLine, TaggedLineElement,
+    TaggedString, TaggedStrings, TooNarrow, UnicodeColumns, always_takes_space, is_wordbreak_point,
+    spaces, text_width,
 };
 pub use tbr_wrap::WrappedBlock;
 

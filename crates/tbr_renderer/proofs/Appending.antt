@@ -10,9 +10,7 @@ use Rattle.std.proofs.iter.Next.{Yields-more}
 use Rattle.std.proofs.IntoIterSteps.{All-taken}
 use Rattle.std.proofs.lemmas.Bool.{eqb-true}
 use Rattle.std.proofs.lemmas.Str.{chars-nil}
-use Rattle.std.specs.Map.Iter.{TakesFirst}
-use Rattle.std.proofs.lemmas.Map.Iter.{rest_so_far}
-use Rattle.std.proofs.lemmas.List.{map-append, map-id}
+use Rattle.std.proofs.lemmas.List.{map-append}
 use Rattle.std.proofs.lemmas.Grind.{fold-append}
 use Rattle.tbr_model.specs.Run.{Item}
 use Rattle.tbr_lines.specs.declared.Error.{Error}
@@ -48,10 +46,6 @@ prefixed-front tag (p ∷ prefixes) (l ∷ lines) more same = ap (λ ts. (text_i
 pub no_prefix : {T : Type 0} (prefix : List ℕ) (tag : T) (is : List (Item T)) → (length prefix == 0) ≡ true → is ≡ text_items (chars prefix) tag ++ is
 no_prefix [] tag is empty = ap (λ cs. text_items cs tag ++ is) (sym chars-nil)
 no_prefix (b ∷ prefix) tag is empty = let none = eqb-true (length (b ∷ prefix)) 0 empty in absurd (omega (arith, none))
-
--- what is left where the first items were taken, and then one more
-pub lines_left : {X : Type 0} (all s xs t : List X) (x : X) (u : List X) → s ≡ all → Yields (TakesFirst (λ y. y)) s xs t → t ≡ x ∷ u → all ≡ xs ++ x ∷ u
-lines_left all s xs t x u is taken next = sym is ∙ rest_so_far (λ y. y) xs s t taken ∙ ap (λ ys. ys ++ t) (map-id xs) ∙ ap (λ ys. xs ++ ys) next
 
 length-last : {X : Type 0} (xs : List X) (x : X) → length (xs ++ x ∷ []) ≡ suc (length xs)
 length-last [] x = refl

@@ -1,9 +1,10 @@
 -- What the fields of a renderer hold after they change.
 use Rattle.std.proofs.Common.{◌≡◌, ℕ, ◌+◌, ◌-◌, ◌≤◌, arith, not, None, if◌then◌else◌, Bool, true, false, ◌||◌, List, [], ◌∷◌, ◌++◌, map, length, refl, ap, sym, ◌∙◌, subst, length-append, lt-ltb}
-use Rattle.std.specs.Prelude.{filter, nat_lt}
+use Rattle.std.specs.Prelude.{filter, nat_lt, ◌==◌}
 use mir.Val.{bool_byte}
 use Rattle.std.specs.Global.{Vec}
 use Rattle.std.specs.List.{AllByRecursion as Each, list_any}
+use Rattle.std.proofs.lemmas.Bool.{eqb-true}
 use Rattle.std.proofs.lemmas.List.{map-append}
 use Rattle.std.proofs.lemmas.List.Elements.{filter-append}
 use Rattle.tbr_lines.specs.Copies.{equal_lists}
@@ -11,6 +12,7 @@ use Rattle.tbr_lines.specs.Elements.{Element, piece, marker_element}
 use Rattle.tbr_lines.specs.RenderLine.{IsMergedText, has_content as line_holds}
 use Rattle.tbr_lines.specs.declared.RenderLine.{RenderLine}
 use Rattle.tbr_lines.specs.declared.RenderLine.TheVariants.{Text, Line as Rule}
+use Rattle.tbr_lines.specs.State.{is_some_list}
 use Rattle.tbr_lines.specs.View.{element_of}
 use Rattle.tbr_lines.proofs.MappedTags.{merged_piece_has}
 use Rattle.tbr_lines.specs.declared.TaggedLineElement.{TaggedLineElement}
@@ -54,6 +56,15 @@ module _ {D W A : Type 0} (eq : A → A → Bool) (r : Inside D W A) (more : Lis
 
 -- ---- lines
 
+-- none is seen where none is kept
+pub none_kept : {X Y : Type 0} (f : X → Y) (xs : List X) (n : ℕ) → n ≡ length xs → (n == 0) ≡ not (is_some_list (map f xs))
+none_kept f [] n is = ap (λ k. k == 0) is
+none_kept f (x ∷ xs) n is = go (n == 0) refl
+  where
+    go : (zero : Bool) → (n == 0) ≡ zero → (n == 0) ≡ false
+    go true h = let none = eqb-true n 0 h in absurd (omega (arith, is, none))
+    go false h = h
+
 each_behind : {X : Type 0} (P : X → Type 0) (xs : List X) (x : X) → Each P xs → P x → Each P (xs ++ x ∷ [])
 each_behind P [] x h k = (k, tt)
 each_behind P (y ∷ xs) x h k = (h.0, each_behind P xs x h.1 k)
@@ -87,12 +98,12 @@ each_front : {X : Type 0} (P : X → Type 0) (xs : List X) (x : X) → Each P (x
 each_front P [] x h = tt
 each_front P (y ∷ xs) x h = (h.0, each_front P xs x h.1)
 
-module _ {D W A : Type 0} (eq : A → A → Bool) (r : Inside D W A) (b : Border (Vec A)) (lines : List (RenderLine (Vec A))) (is : r.lines ≡ lines ++ Rule b ∷ []) where
+module _ {D W A : Type 0} (eq : A → A → Bool) (r : Inside D W A) (b : Border (Vec A)) (lines : Vec (RenderLine (Vec A))) (is : r.lines.items ≡ lines.items ++ Rule b ∷ []) where
   -- lines with content, and a border behind them
-  counted : length (filter line_has_content (map line_seen r.lines)) ≡ length (filter line_has_content (map line_seen lines)) + (if not (has_holes b.holes) then 1 else 0)
+  counted : length (filter line_has_content (map line_seen r.lines.items)) ≡ length (filter line_has_content (map line_seen lines.items)) + (if not (has_holes b.holes) then 1 else 0)
   counted =
-      ap (λ ls. length (filter line_has_content (map line_seen ls))) is ∙ ap (λ ls. length (filter line_has_content ls)) (map-append line_seen lines (Rule b ∷ []))
-      ∙ count_behind line_has_content (map line_seen lines) (border b)
+      ap (λ ls. length (filter line_has_content (map line_seen ls))) is ∙ ap (λ ls. length (filter line_has_content ls)) (map-append line_seen lines.items (Rule b ∷ []))
+      ∙ count_behind line_has_content (map line_seen lines.items) (border b)
 
   -- a border without holes counts
   pub some_counted : HoldsFresh eq r → has_holes b.holes ≡ false → 1 ≤ r.with_content
@@ -117,24 +128,24 @@ module _ {D W A : Type 0} (eq : A → A → Bool) (r : Inside D W A) (b : Border
     fresh = λ none. let f = h.fresh live in record {
       opened = f.opened;
       markers = f.markers;
-      merged = each_front (IsMergedText (equal_lists eq)) lines (Rule b) (subst (λ ls. Each (IsMergedText (equal_lists eq)) ls) is f.merged);
-      content = let n : with_content ≡ length (filter line_has_content (map line_seen lines)) = omega (arith, one, f.content, counted) in n;
+      merged = each_front (IsMergedText (equal_lists eq)) lines.items (Rule b) (subst (λ ls. Each (IsMergedText (equal_lists eq)) ls) is f.merged);
+      content = let n : with_content ≡ length (filter line_has_content (map line_seen lines.items)) = omega (arith, one, f.content, counted) in n;
     };
   }
 
-module _ {D W A : Type 0} (eq : A → A → Bool) (r : Inside D W A) (line : RenderLine (Vec A)) (lines : List (RenderLine (Vec A))) (with_content : ℕ) where
+module _ {D W A : Type 0} (eq : A → A → Bool) (r : Inside D W A) (line : RenderLine (Vec A)) (lines : Vec (RenderLine (Vec A))) (with_content : ℕ) where
   -- one more line
-  pub holds_line : HoldsRenderer eq r → IsMergedText (equal_lists eq) line → lines ≡ r.lines ++ line ∷ [] → with_content ≡ r.with_content + (if line_holds line then 1 else 0) →
+  pub holds_line : HoldsRenderer eq r → IsMergedText (equal_lists eq) line → lines.items ≡ r.lines.items ++ line ∷ [] → with_content ≡ r.with_content + (if line_holds line then 1 else 0) →
       HoldsRenderer eq (record r { lines = lines; with_content = with_content })
   holds_line h merged is content = record {
     columns = h.columns;
     fresh = λ live. let f = h.fresh live in record {
       opened = f.opened;
       markers = f.markers;
-      merged = subst (λ ls. Each (IsMergedText (equal_lists eq)) ls) (sym is) (each_behind (IsMergedText (equal_lists eq)) r.lines line f.merged merged);
+      merged = subst (λ ls. Each (IsMergedText (equal_lists eq)) ls) (sym is) (each_behind (IsMergedText (equal_lists eq)) r.lines.items line f.merged merged);
       content = content ∙ ap (λ n. n + (if line_holds line then 1 else 0)) f.content
-          ∙ ap (λ (b : Bool). length (filter line_has_content (map line_seen r.lines)) + (if b then 1 else 0)) (content_seen (equal_lists eq) line merged)
-          ∙ sym (count_behind line_has_content (map line_seen r.lines) (line_seen line))
-          ∙ ap (λ ls. length (filter line_has_content ls)) (sym (map-append line_seen r.lines (line ∷ [])) ∙ ap (map line_seen) (sym is));
+          ∙ ap (λ (b : Bool). length (filter line_has_content (map line_seen r.lines.items)) + (if b then 1 else 0)) (content_seen (equal_lists eq) line merged)
+          ∙ sym (count_behind line_has_content (map line_seen r.lines.items) (line_seen line))
+          ∙ ap (λ ls. length (filter line_has_content ls)) (sym (map-append line_seen r.lines.items (line ∷ [])) ∙ ap (map line_seen) (sym is));
     };
   }

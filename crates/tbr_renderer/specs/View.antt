@@ -2,7 +2,7 @@
 use Rattle.std.specs.Prelude.{◌≡◌, ◌<◌, ℕ, Bool, false, not, ◌&&◌, ⊤, Option, Some, None, List, [], ◌∷◌, map, filter, length, chars}
 use Rattle.std.specs.Option.{option_map}
 use Rattle.std.specs.List.{AllByRecursion as Each}
-use Rattle.std.specs.Global.{Vec}
+use Rattle.std.specs.Global.{Box, Vec}
 use Rattle.tbr_lines.specs.Copies.{equal_lists}
 use Rattle.tbr_lines.specs.View.{element_of}
 use Rattle.tbr_renderer.specs.Meant.{tag_meant, map_open}
@@ -29,6 +29,10 @@ line_seen (Rule b) = border b
 
 abbrev pub open_seen : {T : Type 0} → State T → Open T
 open_seen b = record { padding = b.padding; run = b.run; blank = not (has_begun b) && b.no_character }
+
+-- what stands in a box, if there is one
+abbrev pub unboxed : {T : Type 0} → Option (Box T) → Option T
+unboxed boxed = option_map (λ b. b.value) boxed
 
 abbrev pub block_seen : {T : Type 0} → Option (State T) → Option (Open T)
 block_seen block = option_map open_seen block
@@ -65,8 +69,8 @@ renderer_of r = record {
   width = r.width;
   options = r.options;
   decorator = r.decorator;
-  lines = map line_seen r.lines;
-  block = block_seen r.wrapping;
+  lines = map line_seen r.lines.items;
+  block = block_seen (unboxed r.wrapping);
   waiting = names_of (map element_of r.waiting.items);
   block_ended = r.block_ended;
   annotations = r.annotations.items;
@@ -81,10 +85,10 @@ renderer_of r = record {
 -- the longest stretches under equal annotations, and how many of them have content.
 pub record HoldsFresh {D W A : Type 0} (eq : A → A → Bool) (r : Inside D W A) : Type 0 where
   pub opened : IsOpened (least r.width r.options.wrap_width)
-      (overflows r.options (least r.width r.options.wrap_width)) r.wrapping
+      (overflows r.options (least r.width r.options.wrap_width)) (unboxed r.wrapping)
   pub markers : AreMarkers (map element_of r.waiting.items)
-  pub merged : Each (IsMergedText (equal_lists eq)) r.lines
-  pub content : r.with_content ≡ length (filter line_has_content (map line_seen r.lines))
+  pub merged : Each (IsMergedText (equal_lists eq)) r.lines.items
+  pub content : r.with_content ≡ length (filter line_has_content (map line_seen r.lines.items))
 
 -- and what those of any renderer do
 pub record HoldsRenderer {D W A : Type 0} (eq : A → A → Bool) (r : Inside D W A) : Type 0 where

@@ -3,7 +3,7 @@ ghost use Rattle.std.specs.Prelude.{◌≡◌, ◌≢◌, ◌<◌, ◌≤◌, []
 ghost use Rattle.tbr_lines.specs.declared.Error.{Error as Refusal};
 ghost use Rattle.tbr_lines.specs.declared.Error.TheVariants as E;
 ghost use Rattle.tbr_renderer.specs.Renderer.{Renderer as Model, KeepsSettings, new_renderer, has_content, text, line_padding, with_line, block_width, may_overflow};
-ghost use Rattle.tbr_renderer.specs.View.{line_seen, block_seen, IsFresh, IsOpened, AreMarkers, names_of};
+ghost use Rattle.tbr_renderer.specs.View.{line_seen, unboxed, block_seen, IsFresh, IsOpened, AreMarkers, names_of};
 ghost use Rattle.tbr_lines.specs.View.{element_of};
 ghost use Rattle.tbr_lines.specs.Copies.{equal_lists};
 ghost use Rattle.tbr_lines.specs.Elements.{items_of, SameItems, IsMerged};
@@ -13,7 +13,6 @@ ghost use Rattle.tbr_renderer.specs.Meant.{meant, items_meant};
 use crate::options::RenderOptions;
 use crate::renderer::Renderer;
 use std::alloc::Global;
-use std::collections::LinkedList;
 use std::marker::Model;
 use std::mem;
 use tbr_decor::TextDecorator;
@@ -44,11 +43,11 @@ pub struct SubRenderer<D: TextDecorator, W: CharWidth = UnicodeColumns> {
     width: usize,
     options: RenderOptions,
     decorator: D,
-    lines: LinkedList<RenderLine<Vec<D::Annotation>>>,
+    lines: Vec<RenderLine<Vec<D::Annotation>>>,
     /// How many lines have content.
     with_content: usize,
-    /// The open block.
-    wrapping: Option<WrappedBlock<Vec<D::Annotation>, W>>,
+    /// The open block. It stands in a box, so that it is taken and put back for each text without a copy of its fields.
+    wrapping: Option<Box<WrappedBlock<Vec<D::Annotation>, W>>>,
     /// Markers that wait for a line of text.
     waiting: Vec<TaggedLineElement<Vec<D::Annotation>>>,
     /// Whether text that comes begins a block.
@@ -93,7 +92,7 @@ impl<D: TextDecorator, W: CharWidth> SubRenderer<D, W> {
             width,
             options,
             decorator,
-            lines: LinkedList::new(alloc),
+            lines: Vec::new(alloc),
             with_content: 0,
             wrapping: None,
             waiting: Vec::new(alloc),
@@ -188,19 +187,19 @@ impl<D: TextDecorator, W: CharWidth> SubRenderer<D, W> {
     }
 
     /// Takes the open block.
-    fn take_block(&mut self) -> Option<WrappedBlock<Vec<D::Annotation>, W>>
+    fn take_block(&mut self) -> Option<Box<WrappedBlock<Vec<D::Annotation>, W>>>
         requires { self.old.failure ≡ None }
-        ensures block { block_seen result ≡ self.old.block }
-        ensures opened { IsOpened (block_width self.old) (may_overflow self.old) result }
+        ensures block { block_seen (unboxed result) ≡ self.old.block }
+        ensures opened { IsOpened (block_width self.old) (may_overflow self.old) (unboxed result) }
         ensures rest { self.new ≡ record self.old { block = None } }
     {
         self.wrapping.take()
     }
 
     /// Opens a block again.
-    fn put_block(&mut self, block: WrappedBlock<Vec<D::Annotation>, W>)
-        requires { IsFresh (block_width self.old) (may_overflow self.old) block }
-        ensures { self.new ≡ record self.old { block = block_seen (Some block) } }
+    fn put_block(&mut self, block: Box<WrappedBlock<Vec<D::Annotation>, W>>)
+        requires { IsFresh (block_width self.old) (may_overflow self.old) block.value }
+        ensures { self.new ≡ record self.old { block = block_seen (Some block.value) } }
     {
         self.wrapping = Some(block);
     }
@@ -254,7 +253,7 @@ impl<D: TextDecorator, W: CharWidth> SubRenderer<D, W> {
         let Some(with_content) = self.with_content.checked_add(more) else {
             return Err(OutOfMemory);
         };
-        self.lines.push_back(line)?;
+        self.lines.push(line)?;
         self.with_content = with_content;
         Ok(())
     }

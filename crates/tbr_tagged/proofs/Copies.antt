@@ -1,5 +1,5 @@
 -- Copies of lists of tags.
-use Rattle.std.proofs.Common.{◌≡◌, Bool, true, List, [], ◌∷◌, refl}
+use Rattle.std.proofs.Common.{Bool, [], ◌∷◌, refl}
 use Rattle.std.specs.List.{AllZip}
 use Rattle.std.specs.Cmp.Lexicographic.{pointwise}
 use Rattle.tbr_tagged.specs.Copies.{CopiesAreEqual}

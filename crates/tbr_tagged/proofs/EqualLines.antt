@@ -1,10 +1,9 @@
 -- Equality of lines, element by element.
-use Rattle.std.proofs.Common.{◌≡◌, ℕ, ◌&&◌, Bool, true, false, List, [], ◌∷◌, map, refl, ap, sym, ◌∙◌, nat_eq}
-use Rattle.std.specs.Cmp.{both_ways, first_so, second_so}
+use Rattle.std.proofs.Common.{◌≡◌, ℕ, ◌&&◌, Bool, true, false, List, [], ◌∷◌, map, length, get_or, refl, ap, sym, ◌∙◌, arith}
+use Rattle.std.specs.Cmp.{both_ways}
 use Rattle.std.specs.Cmp.Lexicographic.{pointwise, nat_list_eq_equiv}
 use Rattle.std.specs.Cmp.Lexicographic as lists
 use Rattle.std.specs.Str.{IsUtf8, chars}
-use Rattle.std.proofs.lemmas.Bool.{eqb-true}
 use Rattle.std.proofs.lemmas.Str.{chars-encodes}
 use lib.Utf8.{encodes}
 use Rattle.std.specs.String.{string_bytes}
@@ -45,6 +44,10 @@ same_element_equal eq (marker_element m) (piece ds b) h = absurd h
 pub same_lines_equal : {A : Type 0} (eq : A → A → Bool) (es fs : List (Element A)) → SameElements eq es fs → equal_lines eq es fs ≡ true
 same_lines_equal eq = list_copies_equal (SameElement eq) (equal_elements eq) (same_element_equal eq)
 
+and_true : (b : Bool) → b ≡ (b && true)
+and_true true = refl
+and_true false = refl
+
 module _ {A : Type 0} (eq : A → A → Bool) (E : TaggedLineElement A → TaggedLineElement A → Bool)
     (pieces : (s t : TaggedString A) → E (Str s) (Str t) ≡ (same_text (string_bytes s.s) (string_bytes t.s) && eq s.tag t.tag))
     (marks : (m n : String Global) → E (FragmentStart m) (FragmentStart n) ≡ same_text (string_bytes m) (string_bytes n))
@@ -55,6 +58,20 @@ module _ {A : Type 0} (eq : A → A → Bool) (E : TaggedLineElement A → Tagge
   same_stored (FragmentStart m) (FragmentStart n) = marks m n
   same_stored (Str s) (FragmentStart n) = left s n
   same_stored (FragmentStart m) (Str t) = right m t
+
+  -- so are elements that stand alone
+  pub same_alone : (x y : TaggedLineElement A) → E x y ≡ equal_lines eq (element_of x ∷ []) (element_of y ∷ [])
+  same_alone x y = same_stored x y ∙ and_true (equal_elements eq (element_of x) (element_of y))
+
+  pub same_before_one : (x y : TaggedLineElement A) (ys : List (TaggedLineElement A)) → length ys ≡ 1 → y ≡ get_or ys 0 y → E x y ≡ equal_lines eq (element_of x ∷ []) (map element_of ys)
+  same_before_one x y [] one is = absurd (omega arith)
+  same_before_one x y (z ∷ []) one is = ap (E x) is ∙ same_alone x z
+  same_before_one x y (z ∷ w ∷ ys) one is = absurd (omega arith)
+
+  pub one_before_same : (x y : TaggedLineElement A) (xs : List (TaggedLineElement A)) → length xs ≡ 1 → x ≡ get_or xs 0 x → E x y ≡ equal_lines eq (map element_of xs) (element_of y ∷ [])
+  one_before_same x y [] one is = absurd (omega arith)
+  one_before_same x y (z ∷ []) one is = ap (λ w. E w y) is ∙ same_alone z y
+  one_before_same x y (z ∷ w ∷ xs) one is = absurd (omega arith)
 
   -- lines are equal by what is stored as by their elements
   pub same_lines : (xs ys : List (TaggedLineElement A)) → pointwise E xs ys ≡ equal_lines eq (map element_of xs) (map element_of ys)

@@ -1,5 +1,5 @@
 -- What walks over a line give.
-use Rattle.std.proofs.Common.{◌≡◌, ℕ, ◌≤◌, arith, length, List, [], ◌∷◌, ◌++◌, map, refl, ap, ◌∙◌, append-nil, encode_utf8}
+use Rattle.std.proofs.Common.{◌≡◌, ℕ, ◌<◌, ◌≤◌, ◌^◌, arith, length, List, [], ◌∷◌, ◌++◌, map, refl, ap, ◌∙◌, append-nil, encode_utf8}
 use Rattle.std.specs.Str.{IsUtf8, chars}
 use Rattle.std.specs.Char.{IsScalar}
 use Rattle.std.proofs.lemmas.Str.{chars-append}
@@ -7,10 +7,18 @@ use Rattle.std.proofs.lemmas.List.Concat.{flat_map-append}
 use Rattle.tbr_model.specs.Run.{glyph}
 use Rattle.tbr_tagged.specs.declared.element.TaggedLineElement.{TaggedLineElement}
 use Rattle.tbr_tagged.specs.declared.element.TaggedLineElement.TheVariants.{Str, FragmentStart}
+use Rattle.tbr_tagged.specs.declared.element_list.ElementList.{ElementList}
+use Rattle.tbr_tagged.specs.declared.element_list.ElementList.TheVariants.{Alone, Listed}
 use Rattle.tbr_tagged.specs.Elements.{Element, piece, marker_element, element_items, element_characters, items_of, characters}
+use Rattle.tbr_tagged.specs.Stored.{stored}
 use Rattle.tbr_tagged.specs.View.{element_of}
 use Rattle.tbr_tagged.specs.Walks.{strings_of, piece_of, pieces_of, item_character, item_characters}
 use Rattle.tbr_tagged.proofs.TextBehind.{chars_one}
+
+-- a line has no more elements than `usize` counts
+pub few_stored : {A : Type 0} (list : ElementList A) → length (stored list) < 2 ^ 64
+few_stored (Alone element) = omega arith
+few_stored (Listed list) = omega (arith, list.ok.0, list.ok.1, list.small)
 
 pub strings_are_pieces : {A : Type 0} (es : List (TaggedLineElement A)) → map piece_of (strings_of es) ≡ pieces_of (map element_of es)
 strings_are_pieces [] = refl

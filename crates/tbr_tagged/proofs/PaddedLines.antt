@@ -1,7 +1,7 @@
 -- Lines with spaces in front and behind.
 use Rattle.std.proofs.Common.{◌≡◌, ℕ, zero, suc, ◌+◌, ◌<◌, ◌≤◌, Bool, true, false, Option, Some, unwrap_or, List, [], ◌∷◌, ◌++◌, refl, ap, ◌∙◌, arith, cond}
 use Rattle.std.specs.Cmp.{IsEquivalence}
-use Rattle.tbr_model.specs.Run.{Item, glyph, marker, items_width}
+use Rattle.tbr_model.specs.Run.{Item, items_width}
 use Rattle.tbr_tagged.specs.Elements.{Element, piece, marker_element, text_items, items_of, SameItems, SameElement, SameElements, is_piece_under, with_text, last_of, extend_last, push_text, text_before, insert_text, IsMerged}
 use Rattle.tbr_tagged.specs.declared.padding.CellAlign.{CellAlign}
 use Rattle.tbr_tagged.specs.declared.padding.CellAlign.TheVariants.{Left, Right, Centre}

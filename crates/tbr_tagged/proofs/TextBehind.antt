@@ -1,5 +1,5 @@
 -- Text behind a line of pieces.
-use Rattle.std.proofs.Common.{◌≡◌, ℕ, suc, ◌-◌, ◌<◌, Bool, true, false, Option, None, Some, is_some, option_map, zero, List, [], ◌∷◌, ◌++◌, map, length, get_or, set, encode_utf8, refl, ap, sym, ◌∙◌, arith, append-nil}
+use Rattle.std.proofs.Common.{◌≡◌, ℕ, suc, ◌-◌, ◌<◌, Bool, true, false, Some, option_map, List, [], ◌∷◌, ◌++◌, map, length, get_or, set, encode_utf8, refl, ap, sym, ◌∙◌, arith, append-nil}
 use Rattle.std.specs.List.{slice_get}
 use Rattle.std.proofs.lemmas.Bool.{cond_both}
 use Rattle.std.specs.Str.{IsUtf8, chars}
@@ -38,6 +38,9 @@ module _ {A : Type 0} (eq : A → A → Bool) (laws : IsEquivalence eq) where
   same_elements [] = tt
   same_elements (e ∷ es) = (same_element e, same_elements es)
 
+  pub same_from_equal : (es fs : List (Element A)) → es ≡ fs → SameElements eq es fs
+  same_from_equal es fs e = rw e (same_elements fs)
+
 -- the last element of a list, as `last` gives it
 pub last_of-map : {X : Type 0} {A : Type 0} (f : X → A) (xs : List X) → last_of (map f xs) ≡ option_map f (slice_get xs (length xs - 1))
 last_of-map f [] = refl
@@ -47,7 +50,7 @@ last_of-map f (x ∷ y ∷ xs) =
     rw e (last_of-map f (y ∷ xs))
 
 -- a write to the last element
-pub extend-set : {X : Type 0} {A : Type 0} (f : X → Element A) (xs : List X) (ds : List ℕ) (d y : X) → 0 < length xs → f y ≡ with_text (f (get_or xs (length xs - 1) d)) ds →
+extend-set : {X : Type 0} {A : Type 0} (f : X → Element A) (xs : List X) (ds : List ℕ) (d y : X) → 0 < length xs → f y ≡ with_text (f (get_or xs (length xs - 1) d)) ds →
     map f (set xs (length xs - 1) y) ≡ extend_last (map f xs) ds
 extend-set f [] ds d y some h = absurd (omega arith)
 extend-set f (x ∷ []) ds d y some h = ap (λ e. e ∷ []) h
@@ -55,32 +58,20 @@ extend-set f (x ∷ z ∷ xs) ds d y some h =
     let e : length (x ∷ z ∷ xs) - 1 ≡ suc (length (z ∷ xs) - 1) = omega arith in
     rw e (ap (λ es. f x ∷ es) (extend-set f (z ∷ xs) ds d y (omega arith) (rw e at h)))
 
-some_under : {A : Type 0} (eq : A → A → Bool) (o : Option (Element A)) (a : A) → is_piece_under eq o a ≡ true → is_some o ≡ true
-some_under eq None a h = cc
-some_under eq (Some e) a h = refl
-
-has_some : {X : Type 0} {A : Type 0} (f : X → A) (xs : List X) (i : ℕ) → is_some (option_map f (slice_get xs i)) ≡ true → 0 < length xs
-has_some f [] i h = cc
-has_some f (x ∷ xs) i h = omega arith
+-- a write to the last of n elements
+pub extended_at : {X : Type 0} {A : Type 0} (f : X → Element A) (xs : List X) (n : ℕ) (ds : List ℕ) (d y : X) → n ≡ length xs → 0 < n → f y ≡ with_text (f (get_or xs (n - 1) d)) ds →
+    map f (set xs (n - 1) y) ≡ extend_last (map f xs) ds
+extended_at f xs n ds d y count some h = rw count (extend-set f xs ds d y (omega arith) (rw count at h))
 
 -- what pushing leaves where the last piece stands under an equal tag
-pub push_under : {X : Type 0} {A : Type 0} (eq : A → A → Bool) (f : X → Element A) (xs : List X) (n : ℕ) (cs : List ℕ) (a : A) (d y : X) → 0 < length cs →
-    n ≡ length xs → is_piece_under eq (option_map f (slice_get xs (length xs - 1))) a ≡ true → f y ≡ with_text (f (get_or xs (n - 1) d)) cs →
-    map f (set xs (n - 1) y) ≡ push_text eq (map f xs) cs a
-push_under eq f xs n [] a d y text count test h = absurd (omega arith)
-push_under eq f xs n (c ∷ cs) a d y text count test h =
-    let some : 0 < length xs = has_some f xs (length xs - 1) (some_under eq (option_map f (slice_get xs (length xs - 1))) a test) in
-    let under : is_piece_under eq (last_of (map f xs)) a ≡ true = ap (λ o. is_piece_under eq o a) (last_of-map f xs) ∙ test in
-    let is : map f (set xs (n - 1) y) ≡ extend_last (map f xs) (c ∷ cs) = rw count (extend-set f xs (c ∷ cs) d y some (rw count at h)) in
-    rw (under, is) refl
+pub push_extends : {A : Type 0} (eq : A → A → Bool) (es : List (Element A)) (cs : List ℕ) (a : A) → 0 < length cs → is_piece_under eq (last_of es) a ≡ true → push_text eq es cs a ≡ extend_last es cs
+push_extends eq es [] a text under = absurd (omega arith)
+push_extends eq es (c ∷ cs) a text under = rw under refl
 
 -- and where it doesn't
-pub push_else : {X : Type 0} {A : Type 0} (eq : A → A → Bool) (f : X → Element A) (xs : List X) (cs : List ℕ) (a : A) → 0 < length cs →
-    is_piece_under eq (option_map f (slice_get xs (length xs - 1))) a ≡ false → push_text eq (map f xs) cs a ≡ map f xs ++ piece cs a ∷ []
-push_else eq f xs [] a text test = absurd (omega arith)
-push_else eq f xs (c ∷ cs) a text test =
-    let under : is_piece_under eq (last_of (map f xs)) a ≡ false = ap (λ o. is_piece_under eq o a) (last_of-map f xs) ∙ test in
-    rw under refl
+pub push_behind : {A : Type 0} (eq : A → A → Bool) (es : List (Element A)) (cs : List ℕ) (a : A) → 0 < length cs → is_piece_under eq (last_of es) a ≡ false → push_text eq es cs a ≡ es ++ piece cs a ∷ []
+push_behind eq es [] a text under = absurd (omega arith)
+push_behind eq es (c ∷ cs) a text under = rw under refl
 
 -- ---- pushing keeps pieces the longest stretches
 

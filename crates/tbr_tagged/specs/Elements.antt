@@ -108,6 +108,11 @@ abbrev pub text_before : {A : Type 0} → List ℕ → Element A → Element A
 text_before cs (piece ds b) = piece (cs ++ ds) b
 text_before cs (marker_element name) = marker_element name
 
+-- the first element with more text in front
+abbrev pub extend_first : {A : Type 0} → List ℕ → List (Element A) → List (Element A)
+extend_first cs [] = []
+extend_first cs (e ∷ es) = text_before cs e ∷ es
+
 -- Text in front of a line: it extends the first piece if that stands under an equal tag, and else is a piece of its
 -- own, also the empty text.
 abbrev pub insert_text : {A : Type 0} → (A → A → Bool) → List (Element A) → List ℕ → A → List (Element A)

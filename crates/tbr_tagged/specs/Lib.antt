@@ -1,6 +1,7 @@
 pub mod Copies
 pub mod Elements
 pub mod View
+pub mod Stored
 pub mod Mapped
 pub mod Walks
 pub mod Restored

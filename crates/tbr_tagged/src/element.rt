@@ -4,12 +4,15 @@ ghost use Rattle.std.specs.Option.{option_copied, option_map};
 ghost use Rattle.tbr_tagged.specs.Copies.{CopiesAreEqual};
 ghost use Rattle.tbr_model.specs.Width.{width_of_text};
 ghost use Rattle.tbr_tagged.specs.Elements.{piece, element_width, element_characters, is_piece_under, with_text, text_before, SameElement};
+ghost use Rattle.tbr_tagged.specs.Elements as model;
 ghost use Rattle.tbr_tagged.specs.Mapped.{MapsElement};
+ghost use Rattle.tbr_tagged.specs.Padding as padding;
 ghost use Rattle.tbr_tagged.specs.Restored.{with_characters};
 ghost use Rattle.tbr_tagged.specs.Sums.{GivesSum};
 ghost use Rattle.tbr_tagged.specs.View.{chars_of, element_of};
 
 use crate::error::OutOfMemory;
+use crate::space::append_spaces;
 use crate::width::text_width;
 use std::alloc::Global;
 use std::mem;
@@ -82,6 +85,21 @@ impl<T> TaggedLineElement<T> {
         }
     }
 
+    /// Whether it is a piece, and no marker.
+    pub(crate) fn is_piece(&self) -> bool
+        ensures { result ≡ model.has_piece (element_of self.now ∷ []) }
+    {
+        matches!(self, TaggedLineElement::Str(_))
+    }
+
+    /// The allocator of its text.
+    pub(crate) fn allocator(&self) -> Global {
+        match self {
+            TaggedLineElement::Str(piece) => *piece.s.allocator(),
+            TaggedLineElement::FragmentStart(name) => *name.allocator(),
+        }
+    }
+
     /// The element's text, which is empty for a marker.
     pub fn as_str(&self) -> &str
         ensures { chars result.now ≡ element_characters (element_of self.now) }
@@ -147,6 +165,19 @@ pub fn extend_by_char<T>(element: &mut TaggedLineElement<T>, c: char) -> Result<
 {
     if let TaggedLineElement::Str(last) = element {
         last.s.push(c)?;
+    }
+    Ok(())
+}
+
+pub fn extend_by_spaces<T>(
+    element: &mut TaggedLineElement<T>,
+    count: usize,
+) -> Result<(), OutOfMemory>
+    ensures ok { OnOk result (element_of element.new ≡ with_text (element_of element.old) (padding.spaces count)) }
+    ensures err { OnErr result (element_of element.new ≡ element_of element.old) }
+{
+    if let TaggedLineElement::Str(last) = element {
+        append_spaces(&mut last.s, count)?;
     }
     Ok(())
 }

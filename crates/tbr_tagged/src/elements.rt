@@ -1,20 +1,19 @@
 //! Lists of pieces and markers.
-ghost use Rattle.std.specs.Prelude.{◌≡◌, ◌<◌, ◌++◌, ◌∷◌, [], length, string_len, IfOk, OnOk, OnErr};
-ghost use Rattle.std.specs.Option.{option_map};
+ghost use Rattle.std.specs.Prelude.{◌≡◌, ◌++◌, ◌∷◌, [], Some, chars, IfOk, OnOk, OnErr};
 ghost use Rattle.tbr_tagged.specs.Copies.{CopiesAreEqual};
-ghost use Rattle.tbr_tagged.specs.Elements.{line_width, characters, push_text, insert_text, SameElements};
+ghost use Rattle.tbr_tagged.specs.Elements.{line_width, characters, SameElements};
 ghost use Rattle.tbr_tagged.specs.Elements as model;
+ghost use Rattle.tbr_tagged.specs.Mapped.{MapsElements};
+ghost use Rattle.tbr_tagged.specs.Padding as padding;
 ghost use Rattle.tbr_tagged.specs.Restored.{restored};
 ghost use Rattle.tbr_tagged.specs.Sums.{GivesSum};
 ghost use Rattle.tbr_tagged.specs.View.{chars_of, elements_of};
 
 use crate::element::{
-    TaggedLineElement, TaggedString, extend, extend_by_char, extend_front, is_under, new_piece,
-    set_text,
+    TaggedLineElement, extend, extend_by_char, extend_by_spaces, extend_front, set_text,
 };
 use crate::error::OutOfMemory;
 use crate::width::text_width;
-use std::alloc::Global;
 use tbr_model::CharWidth;
 
 pub fn has_piece<T>(elements: &[TaggedLineElement<T>]) -> bool
@@ -58,82 +57,106 @@ pub fn append_text<T>(
     Ok(())
 }
 
-/// Appends text that isn't empty.
-pub fn push_piece<T: Eq + Drop>(
+/// Appends text to the last element, if that is a piece. Where memory is refused nothing changes.
+pub fn extend_last<T>(
     elements: &mut Vec<TaggedLineElement<T>>,
-    ts: TaggedString<T>,
+    text: &str,
 ) -> Result<(), OutOfMemory>
-    requires { 0 < string_len ts.s }
     ensures ok { OnOk result
-        (elements_of elements.new.items ≡ push_text T.eq (elements_of elements.old.items) (chars_of ts.s) ts.tag) }
+        (elements_of elements.new.items ≡ model.extend_last (elements_of elements.old.items) (chars text.now)) }
     ensures err { OnErr result (elements_of elements.new.items ≡ elements_of elements.old.items) }
-{
-    if is_under(elements.last(), &ts.tag) {
-        let end = elements.len() - 1;
-        return extend(&mut elements[end], ts.s.as_str());
-    }
-    reserve_first(elements)?;
-    elements.push(TaggedLineElement::Str(ts))?;
-    Ok(())
-}
-
-/// Makes room for the first element alone, as most lines have one piece.
-fn reserve_first<T>(elements: &mut Vec<TaggedLineElement<T>>) -> Result<(), OutOfMemory>
-    ensures { elements.new.items ≡ elements.old.items }
 {
     if elements.is_empty() {
-        elements.reserve_exact(1)?;
+        return Ok(());
     }
-    Ok(())
+    let end = elements.len() - 1;
+    extend(&mut elements[end], text)
 }
 
-pub fn push_glyph<T: Eq + Clone>(
+/// Appends a character to the last element, if that is a piece. Where memory is refused nothing changes.
+pub fn extend_last_by_char<T>(
     elements: &mut Vec<TaggedLineElement<T>>,
     c: char,
-    tag: &T,
 ) -> Result<(), OutOfMemory>
-    requires { CopiesAreEqual T.is_clone T.eq }
-    ensures ok { OnOk result (SameElements T.eq (elements_of elements.new.items)
-        (push_text T.eq (elements_of elements.old.items) (c ∷ []) tag.now)) }
-    ensures err { OnErr result (elements_of elements.new.items ≡ elements_of elements.old.items) }
-{
-    if is_under(elements.last(), tag) {
-        let end = elements.len() - 1;
-        return extend_by_char(&mut elements[end], c);
-    }
-    let piece = new_piece(*elements.allocator(), c, tag)?;
-    elements.push(piece)?;
-    Ok(())
-}
-
-/// Puts text in front. It answers the text of the first piece where that piece was extended.
-pub fn put_in_front<T: Eq + Drop>(
-    elements: &mut Vec<TaggedLineElement<T>>,
-    ts: TaggedString<T>,
-) -> Result<Option<String>, OutOfMemory>
     ensures ok { OnOk result
-        (elements_of elements.new.items ≡ insert_text T.eq (elements_of elements.old.items) (chars_of ts.s) ts.tag) }
-    ensures restores { IfOk result (λ text.
-        restored (elements_of elements.new.items) (option_map chars_of text) ≡ elements_of elements.old.items) }
+        (elements_of elements.new.items ≡ model.extend_last (elements_of elements.old.items) (c ∷ [])) }
     ensures err { OnErr result (elements_of elements.new.items ≡ elements_of elements.old.items) }
 {
-    if is_under(elements.first(), &ts.tag) {
-        let text = extend_front(&mut elements[0], ts.s)?;
-        return Ok(Some(text));
+    if elements.is_empty() {
+        return Ok(());
     }
-    elements.insert(0, TaggedLineElement::Str(ts))?;
-    Ok(None)
+    let end = elements.len() - 1;
+    extend_by_char(&mut elements[end], c)
 }
 
-/// Undoes [`put_in_front`], which answered this text.
-pub fn take_from_front<T: Drop>(elements: &mut Vec<TaggedLineElement<T>>, text: Option<String>)
-    requires { 0 < length elements.old.items }
-    ensures { elements_of elements.new.items ≡ restored (elements_of elements.old.items) (option_map chars_of text) }
+/// Appends spaces to the last element, if that is a piece. Where memory is refused nothing changes.
+pub fn extend_last_by_spaces<T>(
+    elements: &mut Vec<TaggedLineElement<T>>,
+    count: usize,
+) -> Result<(), OutOfMemory>
+    ensures ok { OnOk result
+        (elements_of elements.new.items ≡ model.extend_last (elements_of elements.old.items) (padding.spaces count)) }
+    ensures err { OnErr result (elements_of elements.new.items ≡ elements_of elements.old.items) }
 {
-    match text {
-        Some(text) => set_text(&mut elements[0], text),
-        None => {
-            elements.remove(0);
-        }
+    if elements.is_empty() {
+        return Ok(());
     }
+    let end = elements.len() - 1;
+    extend_by_spaces(&mut elements[end], count)
+}
+
+/// Puts text in front of the first element's, if that is a piece. It answers the text that the piece had.
+pub fn extend_first<T>(
+    elements: &mut Vec<TaggedLineElement<T>>,
+    text: String,
+) -> Result<String, OutOfMemory>
+    ensures ok { OnOk result
+        (elements_of elements.new.items ≡ model.extend_first (chars_of text) (elements_of elements.old.items)) }
+    ensures restores { IfOk result (λ had.
+        restored (elements_of elements.new.items) (Some (chars_of had)) ≡ elements_of elements.old.items) }
+    ensures err { OnErr result (elements_of elements.new.items ≡ elements_of elements.old.items) }
+{
+    if elements.is_empty() {
+        return Ok(text);
+    }
+    extend_front(&mut elements[0], text)
+}
+
+/// Gives the first element another text, if that is a piece.
+pub fn set_first_text<T>(elements: &mut Vec<TaggedLineElement<T>>, text: String)
+    ensures { elements_of elements.new.items ≡ restored (elements_of elements.old.items) (Some (chars_of text)) }
+{
+    if !elements.is_empty() {
+        set_text(&mut elements[0], text);
+    }
+}
+
+/// The elements with each tag replaced by what `f` makes of it.
+pub fn map_tag<T: Drop, U: Drop, F: Fn(T) -> U>(
+    elements: Vec<TaggedLineElement<T>>,
+    f: &F,
+) -> Result<Vec<TaggedLineElement<U>>, OutOfMemory>
+    requires { F.IsAlwaysCallable f.now }
+    ensures { IfOk result (λ mapped.
+        MapsElements (F.post f.now) (elements_of elements.items) (elements_of mapped.items)) }
+{
+    let mut mapped = Vec::with_capacity(*elements.allocator(), elements.len())?;
+    for element in elements {
+        mapped.push(element.map_tag(f))?;
+    }
+    Ok(mapped)
+}
+
+/// The same elements, each piece under a copy of its tag.
+pub fn clone<T: Eq + Clone + Drop>(
+    elements: &Vec<TaggedLineElement<T>>,
+) -> Result<Vec<TaggedLineElement<T>>, OutOfMemory>
+    requires { CopiesAreEqual T.is_clone T.eq }
+    ensures { IfOk result (λ copy. SameElements T.eq (elements_of copy.items) (elements_of elements.now.items)) }
+{
+    let mut copy = Vec::with_capacity(*elements.allocator(), elements.len())?;
+    for element in elements {
+        copy.push(element.clone()?)?;
+    }
+    Ok(copy)
 }

@@ -1,25 +1,42 @@
 //! Walks over the elements, the pieces and the characters of a line.
 
 use crate::element::{TaggedLineElement, TaggedString};
-use std::str;
+use std::{str, vec};
 
 /// The elements of a line, in order.
 #[derive(Drop)]
 pub struct Iter<'a, T> {
+    /// An element that stands before those of the slice.
+    pub(crate) first: Option<&'a TaggedLineElement<T>>,
     pub(crate) rest: &'a [TaggedLineElement<T>],
+}
+
+/// The elements of a line itself, in order.
+#[derive(Drop)]
+pub struct IntoIter<T> {
+    pub(crate) rest: Rest<T>,
+}
+
+/// The elements that are still to come, as a line had them.
+#[derive(Drop)]
+pub enum Rest<T> {
+    /// From in place.
+    Alone(Option<TaggedLineElement<T>>),
+    /// From a list.
+    Listed(vec::IntoIter<TaggedLineElement<T>>),
 }
 
 /// The pieces of a line without its markers, in order.
 #[derive(Drop)]
 pub struct TaggedStrings<'a, T> {
-    pub(crate) rest: &'a [TaggedLineElement<T>],
+    pub(crate) rest: Iter<'a, T>,
 }
 
 /// The characters of a line, in order.
 #[derive(Drop)]
 pub struct Chars<'a, T> {
     pub(crate) text: str::Chars<'a>,
-    pub(crate) rest: &'a [TaggedLineElement<T>],
+    pub(crate) rest: Iter<'a, T>,
 }
 
 impl<'a, T> Iterator for Iter<'a, T> {
@@ -33,9 +50,39 @@ impl<'a, T> Iterator for Iter<'a, T> {
     ghost remaining = { item_count elements_left };
 
     fn next(&mut self) -> Option<&'a TaggedLineElement<T>> {
+        if let Some(first) = self.first.take() {
+            return Some(first);
+        }
         let (first, rest) = self.rest.split_first()?;
         self.rest = rest;
         Some(first)
+    }
+}
+
+impl<T: Drop> Iterator for IntoIter<T> {
+    type Item = TaggedLineElement<T>;
+
+    ghost use Rattle.std.specs.Iterator.{YieldsFirst, item_count};
+    ghost use Rattle.tbr_tagged.specs.Walks.{elements_to_come};
+
+    ghost next_gives = { YieldsFirst elements_to_come };
+
+    ghost remaining = { item_count elements_to_come };
+
+    fn next(&mut self) -> Option<TaggedLineElement<T>> {
+        match &mut self.rest {
+            Rest::Alone(element) => element.take(),
+            Rest::Listed(list) => list.next(),
+        }
+    }
+}
+
+impl<T: Drop> ExactSizeIterator for IntoIter<T> {
+    fn len(&self) -> usize {
+        match &self.rest {
+            Rest::Alone(element) => element.is_some() as usize,
+            Rest::Listed(list) => list.len(),
+        }
     }
 }
 
@@ -51,9 +98,8 @@ impl<'a, T> Iterator for TaggedStrings<'a, T> {
 
     fn next(&mut self) -> Option<&'a TaggedString<T>> {
         loop {
-            let (first, rest) = self.rest.split_first()?;
-            self.rest = rest;
-            if let TaggedLineElement::Str(piece) = first {
+            let element = self.rest.next()?;
+            if let TaggedLineElement::Str(piece) = element {
                 return Some(piece);
             }
         }
@@ -75,9 +121,8 @@ impl<'a, T> Iterator for Chars<'a, T> {
             if let Some(c) = self.text.next() {
                 return Some(c);
             }
-            let (first, rest) = self.rest.split_first()?;
-            self.text = first.as_str().chars();
-            self.rest = rest;
+            let element = self.rest.next()?;
+            self.text = element.as_str().chars();
         }
     }
 }

@@ -3,13 +3,15 @@
 
 pub use element::{TaggedLineElement, TaggedString};
 pub use error::{Error, OutOfMemory, TooNarrow};
-pub use iterators::{Chars, Iter, TaggedStrings};
+pub use iterators::{Chars, IntoIter, Iter, TaggedStrings};
 pub use padding::CellAlign;
 pub use space::{always_takes_space, is_wordbreak_point, spaces};
 pub use tagged_line::TaggedLine;
 pub use width::{UnicodeColumns, text_width};
 
+mod edits;
 mod element;
+mod element_list;
 mod elements;
 mod error;
 mod iterators;

@@ -4,10 +4,12 @@ ghost use Rattle.tbr_tagged.specs.Copies.{CopiesAreEqual};
 ghost use Rattle.tbr_tagged.specs.Elements.{push_text, SameElements};
 ghost use Rattle.tbr_tagged.specs.declared.padding.CellAlign.TheVariants as A;
 ghost use Rattle.tbr_tagged.specs.Padding as model;
+ghost use Rattle.tbr_tagged.specs.Stored.{stored};
 ghost use Rattle.tbr_tagged.specs.View.{chars_of, elements_of};
 
-use crate::element::{TaggedLineElement, TaggedString, extend, is_under};
-use crate::elements::{put_in_front, take_from_front};
+use crate::edits::{put_in_front, take_from_front};
+use crate::element::{TaggedLineElement, TaggedString};
+use crate::element_list::ElementList;
 use crate::error::OutOfMemory;
 use crate::space::spaces;
 use std::alloc::Global;
@@ -44,22 +46,23 @@ pub fn columns_in_front(align: CellAlign, missing: usize) -> usize
 }
 
 pub fn pad<T: Eq + Clone + Drop>(
-    elements: &mut Vec<TaggedLineElement<T>>,
+    elements: &mut ElementList<T>,
     front: usize,
     behind: usize,
     tag: &T,
 ) -> Result<(), OutOfMemory>
     requires { CopiesAreEqual T.is_clone T.eq }
-    ensures ok { OnOk result (SameElements T.eq (elements_of elements.new.items)
-        (model.padded T.eq (elements_of elements.old.items) front behind tag.now)) }
-    ensures unchanged_by_none { front + behind ≡ 0 → elements_of elements.new.items ≡ elements_of elements.old.items }
-    ensures err { OnErr result (elements_of elements.new.items ≡ elements_of elements.old.items) }
+    ensures ok { OnOk result (SameElements T.eq (elements_of (stored elements.new))
+        (model.padded T.eq (elements_of (stored elements.old)) front behind tag.now)) }
+    ensures unchanged_by_none { front + behind ≡ 0 →
+        elements_of (stored elements.new) ≡ elements_of (stored elements.old) }
+    ensures err { OnErr result (elements_of (stored elements.new) ≡ elements_of (stored elements.old)) }
     ensures some { OnErr result (0 < front + behind) }
 {
     if front == 0 {
         return push_spaces(elements, behind, tag);
     }
-    let piece = spaces_under(*elements.allocator(), front, tag)?;
+    let piece = spaces_under(elements.allocator(), front, tag)?;
     let had = put_in_front(elements, piece)?;
     if let Err(e) = push_spaces(elements, behind, tag) {
         take_from_front(elements, had);
@@ -70,28 +73,26 @@ pub fn pad<T: Eq + Clone + Drop>(
 
 /// Appends spaces.
 fn push_spaces<T: Eq + Clone + Drop>(
-    elements: &mut Vec<TaggedLineElement<T>>,
+    elements: &mut ElementList<T>,
     count: usize,
     tag: &T,
 ) -> Result<(), OutOfMemory>
     requires { CopiesAreEqual T.is_clone T.eq }
-    ensures ok { OnOk result (SameElements T.eq (elements_of elements.new.items)
-        (push_text T.eq (elements_of elements.old.items) (model.spaces count) tag.now)) }
-    ensures unchanged_by_none { count ≡ 0 → elements_of elements.new.items ≡ elements_of elements.old.items }
-    ensures err { OnErr result (elements_of elements.new.items ≡ elements_of elements.old.items) }
+    ensures ok { OnOk result (SameElements T.eq (elements_of (stored elements.new))
+        (push_text T.eq (elements_of (stored elements.old)) (model.spaces count) tag.now)) }
+    ensures unchanged_by_none { count ≡ 0 →
+        elements_of (stored elements.new) ≡ elements_of (stored elements.old) }
+    ensures err { OnErr result (elements_of (stored elements.new) ≡ elements_of (stored elements.old)) }
     ensures some { OnErr result (0 < count) }
 {
     if count == 0 {
         return Ok(());
     }
-    if is_under(elements.last(), tag) {
-        let s = spaces(*elements.allocator(), count)?;
-        let end = elements.len() - 1;
-        return extend(&mut elements[end], s.as_str());
+    if elements.ends_under(tag) {
+        return elements.extend_last_by_spaces(count);
     }
-    let piece = spaces_under(*elements.allocator(), count, tag)?;
-    elements.push(TaggedLineElement::Str(piece))?;
-    Ok(())
+    let piece = spaces_under(elements.allocator(), count, tag)?;
+    elements.push(TaggedLineElement::Str(piece))
 }
 
 fn spaces_under<T: Eq + Clone>(

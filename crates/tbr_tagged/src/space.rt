@@ -1,5 +1,5 @@
 //! White space.
-ghost use Rattle.std.specs.Prelude.{◌≡◌, IfOk};
+ghost use Rattle.std.specs.Prelude.{◌≡◌, ◌++◌, IfOk, OnOk, OnErr};
 ghost use Rattle.tbr_model.specs.Run as model;
 ghost use Rattle.tbr_tagged.specs.Padding as padding;
 ghost use Rattle.tbr_tagged.specs.View.{chars_of};
@@ -26,8 +26,18 @@ pub fn spaces(alloc: Global, count: usize) -> Result<String, OutOfMemory>
     ensures { IfOk result (λ s. chars_of s ≡ padding.spaces count) }
 {
     let mut s = String::with_capacity(alloc, count)?;
-    for _ in 0..count {
-        s.push(' ')?;
-    }
+    append_spaces(&mut s, count)?;
     Ok(s)
+}
+
+/// Appends `count` spaces to a text. Where memory is refused the text stays as it was.
+pub(crate) fn append_spaces(text: &mut String, count: usize) -> Result<(), OutOfMemory>
+    ensures ok { OnOk result (chars_of text.new ≡ chars_of text.old ++ padding.spaces count) }
+    ensures err { OnErr result (chars_of text.new ≡ chars_of text.old) }
+{
+    text.reserve(count)?;
+    for _ in 0..count {
+        text.push(' ')?;
+    }
+    Ok(())
 }

@@ -11,20 +11,20 @@ ghost use Rattle.tbr_tagged.specs.Sums.{GivesSum};
 ghost use Rattle.tbr_tagged.specs.View.{chars_of, element_of, elements_of};
 ghost use Rattle.tbr_tagged.specs.Walks.{elements_left, strings_left, characters_left, pieces_of, piece_of, item_characters};
 
+use crate::edits::{push_glyph, push_piece, put_in_front};
 use crate::element::{TaggedLineElement, TaggedString};
-use crate::elements::{append_text, has_piece, push_glyph, push_piece, put_in_front, width_of};
+use crate::element_list::ElementList;
 use crate::error::OutOfMemory;
-use crate::iterators::{Chars, Iter, TaggedStrings};
+use crate::iterators::{Chars, IntoIter, Iter, TaggedStrings};
 use crate::padding::{CellAlign, columns_in_front, pad};
 use std::alloc::Global;
 use std::marker::Model;
-use std::vec;
 use tbr_model::CharWidth;
 
 /// A line of pieces of text, each under its tag, and of markers. A contract sees the list of these elements.
 #[derive(Debug, Drop)]
 pub struct TaggedLine<T> {
-    elements: Vec<TaggedLineElement<T>>,
+    elements: ElementList<T>,
 }
 
 impl<T> Model for TaggedLine<T> {
@@ -33,9 +33,10 @@ impl<T> Model for TaggedLine<T> {
 
     ghost Value = { List (Element T) };
 
+    ghost use Rattle.tbr_tagged.specs.Stored.{stored};
     ghost use Rattle.tbr_tagged.specs.View.{elements_of};
 
-    ghost view = { λ a. elements_of a.elements.items };
+    ghost view = { λ a. elements_of (stored a.elements) };
 }
 
 impl<T> TaggedLine<T> {
@@ -44,7 +45,7 @@ impl<T> TaggedLine<T> {
         ensures { result ≡ [] }
     {
         TaggedLine {
-            elements: Vec::new(alloc),
+            elements: ElementList::new(alloc),
         }
     }
 
@@ -52,7 +53,7 @@ impl<T> TaggedLine<T> {
     pub fn is_empty(&self) -> bool
         ensures { result ≡ not (model.has_piece self.now) }
     {
-        !has_piece(&self.elements)
+        !self.elements.has_piece()
     }
 
     /// The columns that the line takes: the sum over its characters, one without a width counting 0.
@@ -61,14 +62,14 @@ impl<T> TaggedLine<T> {
     pub fn width<W: CharWidth>(&self) -> Result<usize, OutOfMemory>
         ensures { GivesSum result (line_width W.columns self.now) }
     {
-        width_of::<T, W>(&self.elements)
+        self.elements.width::<W>()
     }
 
     /// The line's characters, without tags and markers.
     pub fn to_text(&self) -> Result<String, OutOfMemory>
         ensures { IfOk result (λ text. chars_of text ≡ characters self.now) }
     {
-        let mut text = String::new(*self.elements.allocator());
+        let mut text = String::new(self.elements.allocator());
         self.append_to(&mut text)?;
         Ok(text)
     }
@@ -77,7 +78,7 @@ impl<T> TaggedLine<T> {
     pub fn append_to(&self, text: &mut String) -> Result<(), OutOfMemory>
         ensures { OnOk result (chars_of text.new ≡ chars_of text.old ++ characters self.now) }
     {
-        append_text(text, &self.elements)
+        self.elements.append_to(text)
     }
 }
 
@@ -90,7 +91,7 @@ impl<T> TaggedLine<T> {
         ensures { IfOk result (λ line. SameElements T.eq line (piece (chars_of s) tag.now ∷ [])) }
     {
         let tag = tag.clone()?;
-        let mut elements = Vec::new(alloc);
+        let mut elements = ElementList::new(alloc);
         elements.push(TaggedLineElement::Str(TaggedString { s, tag }))?;
         Ok(TaggedLine { elements })
     }
@@ -105,10 +106,7 @@ impl<T> TaggedLine<T> {
         ensures width { IfOk result (λ line.
             (columns : ℕ → Option ℕ) → line_width columns line ≡ line_width columns self) }
     {
-        let mut elements = Vec::with_capacity(*self.elements.allocator(), self.elements.len())?;
-        for element in self.elements {
-            elements.push(element.map_tag(f))?;
-        }
+        let elements = self.elements.map_tag(f)?;
         Ok(TaggedLine { elements })
     }
 
@@ -120,10 +118,7 @@ impl<T> TaggedLine<T> {
         ensures elements { IfOk result (λ line. SameElements T.eq line self.now) }
         ensures equal { IfOk result (λ line. equal_lines T.eq line self.now ≡ true) }
     {
-        let mut elements = Vec::with_capacity(*self.elements.allocator(), self.elements.len())?;
-        for element in &self.elements {
-            elements.push(element.clone()?)?;
-        }
+        let elements = self.elements.clone()?;
         Ok(TaggedLine { elements })
     }
 }
@@ -181,8 +176,7 @@ impl<T: Eq + Drop> TaggedLine<T> {
         match element {
             TaggedLineElement::Str(ts) => self.push_str(ts),
             TaggedLineElement::FragmentStart(name) => {
-                self.elements.push(TaggedLineElement::FragmentStart(name))?;
-                Ok(())
+                self.elements.push(TaggedLineElement::FragmentStart(name))
             }
         }
     }
@@ -263,9 +257,7 @@ impl<T> TaggedLine<T> {
         ensures elements { elements_of (elements_left result) ≡ self.now }
         ensures len { length (elements_left result) ≡ length self.now }
     {
-        Iter {
-            rest: self.elements.as_slice(),
-        }
+        self.elements.iter()
     }
 
     /// The pieces of the line without its markers, in order.
@@ -275,7 +267,7 @@ impl<T> TaggedLine<T> {
         ensures fits { length (pieces_of self.now) < 2 ^ 64 }
     {
         TaggedStrings {
-            rest: self.elements.as_slice(),
+            rest: self.elements.iter(),
         }
     }
 
@@ -286,7 +278,7 @@ impl<T> TaggedLine<T> {
     {
         Chars {
             text: "".chars(),
-            rest: self.elements.as_slice(),
+            rest: self.elements.iter(),
         }
     }
 }
@@ -300,23 +292,23 @@ impl<T: PartialEq> PartialEq for TaggedLine<T> {
     ghost laws = { equal_lines_laws T.laws };
 
     fn eq(&self, other: &Self) -> bool {
-        self.elements == other.elements
+        self.elements.equals(&other.elements)
     }
 }
 
 impl<T: Drop> IntoIterator for TaggedLine<T> {
     type Item = TaggedLineElement<T>;
 
-    type IntoIter = vec::IntoIter<TaggedLineElement<T>>;
+    type IntoIter = IntoIter<T>;
 
     ghost use Rattle.std.specs.Prelude.{◌≡◌, length};
-    ghost use Rattle.std.specs.Vec.Iter.{into_iter_items, into_iter_len};
     ghost use Rattle.tbr_tagged.specs.View.{elements_of};
+    ghost use Rattle.tbr_tagged.specs.Walks.{elements_to_come};
 
     ghost into_iter_gives = { λ line walk.
-        (elements_of (into_iter_items walk) ≡ line) × (into_iter_len walk ≡ length line) };
+        (elements_of (elements_to_come walk) ≡ line) × (length (elements_to_come walk) ≡ length line) };
 
-    fn into_iter(self) -> vec::IntoIter<TaggedLineElement<T>> {
+    fn into_iter(self) -> IntoIter<T> {
         self.elements.into_iter()
     }
 }

@@ -1,21 +1,41 @@
 -- Characters that join a word where they are, at which no word ends, and words of them that go on a line at once.
-use Rattle.std.specs.Prelude.{◌≡◌, ◌==◌, ℕ, Bool, true, false, if◌then◌else◌, Option, None, Some, is_some, unwrap_or, List, [], ◌∷◌, ◌++◌, fold}
+use Rattle.std.specs.Prelude.{◌≡◌, ◌≤◌, ◌==◌, ℕ, Bool, true, false, ◌&&◌, ◌||◌, if◌then◌else◌, Option, None, Some, unwrap_or, List, [], ◌∷◌, ◌++◌, fold, length, take, chars}
 use Rattle.std.specs.Char.{is_ascii_graphic}
 use Rattle.std.specs.List.{AllByRecursion as Each}
+use Rattle.std.specs.Str.{IsUtf8}
 use Rattle.tbr_model.specs.Codes.{space_character}
+use Rattle.tbr_model.specs.Run.{is_kept, is_break}
+use Rattle.tbr_model.specs.Width.{width_of_text}
+use Rattle.tbr_wrap.specs.declared.plain.Stretch.{Stretch}
 
 -- the columns of printable ASCII but for the space
 abbrev pub plain_width : (ℕ → Option ℕ) → ℕ → Option ℕ
 plain_width columns c = if is_ascii_graphic c then columns c else None
 
--- printable ASCII, other than the space, that has a width
-abbrev pub is_plain : (ℕ → Option ℕ) → ℕ → Bool
-is_plain columns c = is_some (plain_width columns c)
+-- the same, and of the space where it joins a word too
+abbrev pub stretch_width : (ℕ → Option ℕ) → Bool → ℕ → Option ℕ
+stretch_width columns spaced c = if spaced && c == space_character then columns c else plain_width columns c
 
-abbrev pub IsPlain : (ℕ → Option ℕ) → List ℕ → Type 0
-IsPlain columns cs = Each (λ c. is_plain columns c ≡ true) cs
+-- A character joins the word where it is: one at which no word ends, or the space where it joins a word too.
+abbrev pub joins : (ℕ → Option ℕ) → Bool → ℕ → Bool
+joins columns spaced c = is_kept columns c || (spaced && c == space_character)
 
--- the same of one column
+abbrev pub JoinWord : (ℕ → Option ℕ) → Bool → List ℕ → Type 0
+JoinWord columns spaced cs = Each (λ c. joins columns spaced c ≡ true) cs
+
+-- the columns of a character at which no word ends
+abbrev pub kept_width : (ℕ → Option ℕ) → ℕ → Option ℕ
+kept_width columns c = if is_break c then None else columns c
+
+-- What a text begins with, by its bytes, its characters and their columns: characters at which no word ends.
+pub record AreLetters (columns : ℕ → Option ℕ) (text : List ℕ) (s : Stretch) : Type 0 where
+  pub within : s.bytes ≤ length text
+  pub utf8 : IsUtf8 (take s.bytes text)
+  pub number : s.count ≡ length (chars (take s.bytes text))
+  pub width : s.columns ≡ width_of_text columns (chars (take s.bytes text))
+  pub join : JoinWord columns false (chars (take s.bytes text))
+
+-- printable ASCII, other than the space, of one column
 abbrev pub is_narrow : (ℕ → Option ℕ) → ℕ → Bool
 is_narrow columns c = unwrap_or (plain_width columns c) 0 == 1
 

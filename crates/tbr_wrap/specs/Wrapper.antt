@@ -1,9 +1,9 @@
 -- What the fields of a wrapper say of the pending space and of the word under way.
-use Rattle.std.specs.Prelude.{◌≡◌, ℕ, Bool, true, Option, None, Some, List, [], ◌++◌, fold, Result, OnOk}
+use Rattle.std.specs.Prelude.{◌≡◌, ◌≤◌, ◌+◌, ◌⊎◌, ℕ, Bool, true, Option, None, Some, List, [], ◌++◌, fold, Result, OnOk}
 use Rattle.std.specs.List.{AllZip, AllByRecursion as Each}
 use Rattle.tbr_model.specs.declared.white_space.WhiteSpace.{WhiteSpace}
 use Rattle.tbr_model.specs.Run.{Item, items_width}
-use Rattle.tbr_model.specs.Rule.{Space, Progress, at_start, join, finished, waiting}
+use Rattle.tbr_model.specs.Rule.{Space, Progress, at_start, is_pre, join, finished, waiting}
 use Rattle.tbr_tagged.specs.Elements.{SameItems}
 use Rattle.tbr_wrap.specs.Wrapped.{FitsBlock}
 use Rattle.tbr_wrap.specs.LaidLines.{HoldsRule}
@@ -20,6 +20,13 @@ SameSpace eq (Some s) None = ⊥
 abbrev pub held_width : {A : Type 0} → Option (HeldSpace A) → ℕ
 held_width None = 0
 held_width (Some s) = s.width
+
+-- Characters of so many columns change no tag: in `Pre` the open line has room for them behind the pending space and
+-- the word, or the continuation tag has begun, for this call and the next.
+abbrev pub KeepsTag : {A : Type 0} → Wrapper A → WhiteSpace → ℕ → Type 0
+KeepsTag b mode n = is_pre mode ≡ true →
+    (b.lines.line_width + (held_width b.space + (b.word_width + n)) ≤ b.lines.width)
+    ⊎ ((b.continuation_flag ≡ true) × (b.in_continuation ≡ true))
 
 -- The wrapper stands where the rule stands.
 pub record IsAtProgress {A : Type 0} (columns : ℕ → Option ℕ) (eq : A → A → Bool) (b : Wrapper A)

@@ -7,15 +7,11 @@ ghost use Rattle.tbr_model.specs.Hard.{is_visible};
 ghost use Rattle.tbr_model.specs.Shown.{run_shows_columns};
 ghost use Rattle.tbr_tagged.specs.Copies.{CopiesAreEqual};
 ghost use Rattle.tbr_tagged.specs.Elements.{Element, items_of, SameItems, IsMerged};
-ghost use Rattle.tbr_model.specs.Rule as model;
-ghost use Rattle.tbr_model.specs.Width.{width_of_text};
-ghost use Rattle.tbr_wrap.specs.Plain.{IsPlain};
 ghost use Rattle.tbr_wrap.specs.Wrapped.{WordsFit, EndedWordsFit, ShowsText, padding_of};
 ghost use Rattle.tbr_wrap.specs.State.{IsNormal, CharactersFit, VisibleFit, is_some_list};
 ghost use Rattle.tbr_tagged.specs.declared.error.Error.TheVariants as E;
 
-use crate::plain::plain_in_front;
-use crate::run_change::{RunChange, RunHistory, note_ascii, with_marker};
+use crate::run_change::{RunChange, RunHistory, note_ascii, note_text, with_marker};
 use crate::wrapper::Wrapper;
 use std::alloc::Global;
 use std::marker::{Model, PhantomData};
@@ -215,35 +211,6 @@ impl<T: Eq + Clone, W: CharWidth> WrappedBlock<T, W> {
         Ok(())
     }
 
-    /// Adds plain characters, of `width` columns, to the run.
-    fn add_plain(
-        &mut self,
-        text: &str,
-        width: usize,
-        main_tag: &T,
-        wrap_tag: &T,
-        mode: WhiteSpace,
-    ) -> Result<(), Error>
-    where
-        T: Drop,
-        requires faithful { CopiesAreEqual T.is_clone T.eq }
-        requires unfailed { self.old.failure ≡ None }
-        requires some { 0 < length text.now }
-        requires plain { IsPlain W.columns text.now }
-        requires width { width ≡ width_of_text W.columns text.now }
-        requires mode { model.is_pre mode ≡ false }
-        ensures ok { let more = text_entries (chars text.now) main_tag.now wrap_tag.now mode in
-            OnOk result (JoinsRun self.old more self.new) }
-        ensures failed { IfErr result (λ e. (e ≡ E.OutOfMemory) × (self.new.failure ≡ Some e)) }
-    {
-        let added = self
-            .wrapper
-            .add_plain::<W>(text, width, main_tag, wrap_tag, mode);
-        keep_want(&mut self.failure, added)?;
-        note_ascii(&mut self.changes, text, main_tag, wrap_tag, mode);
-        Ok(())
-    }
-
     /// Adds the words to the run that a text begins with, where they go on the open line at once, and answers what is
     /// left.
     fn add_words<'a>(
@@ -271,6 +238,70 @@ impl<T: Eq + Clone, W: CharWidth> WrappedBlock<T, W> {
         let added = self.wrapper.add_words::<W>(words, main_tag, wrap_tag);
         keep_want(&mut self.failure, added)?;
         note_ascii(&mut self.changes, words, main_tag, wrap_tag, mode);
+        Ok(rest)
+    }
+
+    /// Adds the plain characters to the run that a text begins with, where these join the word under one tag, and
+    /// answers what is left.
+    fn add_plain<'a>(
+        &mut self,
+        text: &'a str,
+        mode: WhiteSpace,
+        main_tag: &T,
+        wrap_tag: &T,
+    ) -> Result<&'a str, Error>
+    where
+        T: Drop,
+        requires faithful { CopiesAreEqual T.is_clone T.eq }
+        requires unfailed { self.old.failure ≡ None }
+        ensures ok { IfOk result (λ rest.
+            JoinsFront self.old text.now rest.now main_tag.now wrap_tag.now mode self.new) }
+        ensures rest { IfOk result (λ rest. IsUtf8 rest.now × (length rest.now ≤ length text.now)) }
+        ensures none { IfOk result (λ rest. length rest.now ≡ length text.now → self.new ≡ self.old) }
+        ensures failed { IfErr result (λ e. (e ≡ E.OutOfMemory) × (self.new.failure ≡ Some e)) }
+    {
+        let (count, width) = self.wrapper.fitting_plain::<W>(text, mode);
+        if count == 0 {
+            return Ok(text);
+        }
+        let (front, rest) = text.split_at(count);
+        let added = self
+            .wrapper
+            .add_stretch::<W>(front, count, width, main_tag, wrap_tag, mode);
+        keep_want(&mut self.failure, added)?;
+        note_ascii(&mut self.changes, front, main_tag, wrap_tag, mode);
+        Ok(rest)
+    }
+
+    /// Adds the characters to the run that a text begins with and at which no word ends, where these join the word
+    /// under one tag, and answers what is left.
+    fn add_letters<'a>(
+        &mut self,
+        text: &'a str,
+        mode: WhiteSpace,
+        main_tag: &T,
+        wrap_tag: &T,
+    ) -> Result<&'a str, Error>
+    where
+        T: Drop,
+        requires faithful { CopiesAreEqual T.is_clone T.eq }
+        requires unfailed { self.old.failure ≡ None }
+        ensures ok { IfOk result (λ rest.
+            JoinsFront self.old text.now rest.now main_tag.now wrap_tag.now mode self.new) }
+        ensures rest { IfOk result (λ rest. IsUtf8 rest.now × (length rest.now ≤ length text.now)) }
+        ensures none { IfOk result (λ rest. length rest.now ≡ length text.now → self.new ≡ self.old) }
+        ensures failed { IfErr result (λ e. (e ≡ E.OutOfMemory) × (self.new.failure ≡ Some e)) }
+    {
+        let Some(letters) = self.wrapper.fitting_letters::<W>(text, mode) else {
+            return Ok(text);
+        };
+        let (front, rest) = text.split_at(letters.bytes);
+        let (count, width) = (letters.count, letters.columns);
+        let added = self
+            .wrapper
+            .add_stretch::<W>(front, count, width, main_tag, wrap_tag, mode);
+        keep_want(&mut self.failure, added)?;
+        note_text(&mut self.changes, front, count, main_tag, wrap_tag, mode);
         Ok(rest)
     }
 
@@ -304,8 +335,9 @@ impl<T: Eq + Clone, W: CharWidth> WrappedBlock<T, W> {
         Ok(rest.as_str())
     }
 
-    /// Adds the beginning of a text to the run, and answers what is left: the plain characters that it begins with,
-    /// where these join the word wherever the line ends, and else its first character.
+    /// Adds the beginning of a text to the run, and answers what is left. That are the words that it begins with, where
+    /// they go on the open line at once, else the plain characters, and else those of any script at which no word ends,
+    /// where these join the word under one tag, and else its first character.
     fn add_front<'a>(
         &mut self,
         text: &'a str,
@@ -331,13 +363,15 @@ impl<T: Eq + Clone, W: CharWidth> WrappedBlock<T, W> {
         if rest.len() < text.len() {
             return Ok(rest);
         }
-        let (count, width) = plain_in_front::<W>(text, mode);
-        if count == 0 {
-            return self.add_first(text, mode, main_tag, wrap_tag);
+        let rest = self.add_plain(text, mode, main_tag, wrap_tag)?;
+        if rest.len() < text.len() {
+            return Ok(rest);
         }
-        let (front, rest) = text.split_at(count);
-        self.add_plain(front, width, main_tag, wrap_tag, mode)?;
-        Ok(rest)
+        let rest = self.add_letters(text, mode, main_tag, wrap_tag)?;
+        if rest.len() < text.len() {
+            return Ok(rest);
+        }
+        self.add_first(text, mode, main_tag, wrap_tag)
     }
 
     /// Does nothing. It tells what the fields of a `Normal` run say of it.

@@ -1,6 +1,5 @@
 //! Characters under tags and markers, in one text.
 ghost use Rattle.std.specs.Prelude.{◌≡◌, ◌<◌, ◌≤◌, ◌+◌, ◌++◌, ◌∷◌, [], true, false, List, length, map, take, drop, chars, string_bytes, MatchOption, OnOk, IfOk};
-ghost use Rattle.std.specs.Str.{IsAscii};
 ghost use Rattle.tbr_tagged.specs.Copies.{CopiesAreEqual};
 ghost use Rattle.tbr_model.specs.Run.{Item, glyph, marker, item_width, items_width, has_character};
 ghost use Rattle.tbr_model.specs.Rule.{spaces, without_leading, without_trailing};
@@ -242,18 +241,18 @@ impl<T: Eq + Clone> FlatText<T> {
         Ok(())
     }
 
-    /// Adds a text of ASCII to the word. The tag is copied only where a stretch of it begins.
+    /// Adds a text of `count` characters to the word. The tag is copied only where a stretch of it begins.
     ///
     /// Where memory is refused the items may be lost.
-    pub fn push_ascii(&mut self, text: &str, tag: &T) -> Result<(), OutOfMemory>
+    pub fn push_text(&mut self, text: &str, count: usize, tag: &T) -> Result<(), OutOfMemory>
         requires faithful { CopiesAreEqual T.is_clone T.eq }
-        requires some { 0 < length text.now }
-        requires ascii { IsAscii text.now }
+        requires some { 0 < count }
+        requires count { count ≡ length (chars text.now) }
         ensures { OnOk result ((a : T) × (T.eq a tag.now ≡ true)
             × (self.new ≡ record self.old { word = self.old.word ++ text_items (chars text.now) a })) }
     {
-        self.word.add_characters(text.len())?;
-        if let Err(e) = self.text.push_ascii(text, tag) {
+        self.word.add_characters(count)?;
+        if let Err(e) = self.text.push_text(text, count, tag) {
             clear(&mut self.text, &mut self.placed, &mut self.word);
             return Err(e);
         }

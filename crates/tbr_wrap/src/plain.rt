@@ -1,42 +1,82 @@
-//! Plain characters, which join a word where they are.
-ghost use Rattle.std.specs.Prelude.{◌≡◌, ◌≤◌, ◌<◌, ◌+◌, ◌∷◌, ℕ, List, length, take, drop, IfSome, Some, false};
-ghost use Rattle.tbr_model.specs.Rule as model;
+//! Characters that join a word where they are, and words of them.
+ghost use Rattle.std.specs.Prelude.{◌≡◌, ◌≤◌, ◌<◌, ◌+◌, ◌∷◌, ℕ, List, length, take, drop, IfSome, Some};
+ghost use Rattle.std.specs.Str.{IsAscii};
 ghost use Rattle.tbr_model.specs.Width.{width_of_text};
 ghost use Rattle.tbr_wrap.specs.Plain as plain;
-ghost use Rattle.tbr_wrap.specs.Plain.{IsPlain, AreWords};
+ghost use Rattle.tbr_wrap.specs.Plain.{JoinWord, AreLetters, AreWords};
 
-use crate::wrapper::is_pre;
-use tbr_model::{CharWidth, WhiteSpace};
+use tbr_model::CharWidth;
+use tbr_tagged::is_wordbreak_point;
 
-/// How many bytes of plain characters a text begins with, and the columns that these take.
+/// How many bytes of plain characters a text begins with that fit into `room` columns, and the columns that these take.
 ///
-/// A plain character is printable ASCII, other than the space, that has a width. The one behind these isn't plain, or
-/// the columns with it pass `usize`. In `Pre`, where a character may begin the continuation tag, it looks for none.
-pub fn plain_in_front<W: CharWidth>(text: &str, mode: WhiteSpace) -> (usize, usize)
-    ensures mode { 0 < result.0 → model.is_pre mode ≡ false }
+/// A plain character is printable ASCII that has a width; the space is one only if `spaced`. The one behind these isn't
+/// plain, or doesn't fit.
+pub fn plain_in_front<W: CharWidth>(text: &str, spaced: bool, room: usize) -> (usize, usize)
     ensures within { result.0 ≤ length text.now }
-    ensures plain { IsPlain W.columns (take result.0 text.now) }
+    ensures ascii { IsAscii (take result.0 text.now) }
+    ensures join { JoinWord W.columns spaced (take result.0 text.now) }
+    ensures room { result.1 ≤ room }
     ensures columns { result.1 ≡ width_of_text W.columns (take result.0 text.now) }
-    ensures all { model.is_pre mode ≡ false → (b : ℕ) (rest : List ℕ) → drop result.0 text.now ≡ b ∷ rest →
-        IfSome (plain.plain_width W.columns b) (λ n. usize.MAX < result.1 + n) }
+    ensures all { (b : ℕ) (rest : List ℕ) → drop result.0 text.now ≡ b ∷ rest →
+        IfSome (plain.stretch_width W.columns spaced b) (λ n. room < result.1 + n) }
 {
-    if is_pre(mode) {
-        return (0, 0);
-    }
     let bytes = text.as_bytes();
-    let mut columns = 0usize;
+    let mut columns = 0;
     let mut count = 0;
     while count < bytes.len() {
-        let Some(width) = plain_width::<W>(bytes[count]) else {
+        let Some(width) = stretch_width::<W>(bytes[count], spaced) else {
             return (count, columns);
         };
-        let Some(sum) = columns.checked_add(width) else {
+        if width > room - columns {
             return (count, columns);
-        };
-        columns = sum;
+        }
+        columns += width;
         count += 1;
     }
     (count, columns)
+}
+
+/// The beginning of a text: its bytes, its characters and the columns that these take.
+#[derive(Clone, Copy)]
+pub struct Stretch {
+    pub bytes: usize,
+    pub count: usize,
+    pub columns: usize,
+}
+
+/// The characters that a text begins with at which no word ends, as many as fit into `room` columns. Each has a width.
+pub fn letters_in_front<W: CharWidth>(text: &str, room: usize) -> Stretch
+    ensures letters { AreLetters W.columns text.now result }
+    ensures room { result.columns ≤ room }
+{
+    let mut front = Stretch {
+        bytes: 0,
+        count: 0,
+        columns: 0,
+    };
+    for c in text.chars() {
+        let Some(width) = kept_width::<W>(c) else {
+            return front;
+        };
+        if width > room - front.columns {
+            return front;
+        }
+        front.bytes += c.len_utf8();
+        front.count += 1;
+        front.columns += width;
+    }
+    front
+}
+
+/// The columns of a character at which no word ends.
+fn kept_width<W: CharWidth>(c: char) -> Option<usize>
+    ensures { result ≡ plain.kept_width W.columns c }
+{
+    if is_wordbreak_point(c) {
+        return None;
+    }
+    W::width(c)
 }
 
 /// How many bytes the words take that a text begins with, each with the space behind it. Their characters are plain, of
@@ -85,7 +125,18 @@ fn is_narrow<W: CharWidth>(byte: u8) -> bool
     }
 }
 
-/// The columns of a plain character.
+/// The columns of a plain character, among which the space is one only if `spaced`.
+fn stretch_width<W: CharWidth>(byte: u8, spaced: bool) -> Option<usize>
+    ensures { result ≡ plain.stretch_width W.columns spaced byte }
+{
+    if spaced && byte == b' ' {
+        W::width(' ')
+    } else {
+        plain_width::<W>(byte)
+    }
+}
+
+/// The columns of a plain character other than the space.
 fn plain_width<W: CharWidth>(byte: u8) -> Option<usize>
     ensures { result ≡ plain.plain_width W.columns byte }
 {

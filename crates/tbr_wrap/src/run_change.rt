@@ -1,5 +1,5 @@
 //! What happens to the runs of a block, which only contracts read.
-ghost use Rattle.std.specs.Prelude.{◌≡◌, ◌++◌, ◌∷◌, []};
+ghost use Rattle.std.specs.Prelude.{◌≡◌, ◌++◌, ◌∷◌, [], length, chars};
 ghost use Rattle.tbr_wrap.specs.Course.{text_changes};
 
 use std::marker::Model;
@@ -38,6 +38,28 @@ pub fn note_ascii<T>(
     for &byte in text.as_bytes() {
         let change = RunChange::Character(char::from(byte), mode);
         *changes = changes.appended(&change, main_tag, wrap_tag);
+    }
+}
+
+/// Notes the `count` characters of a text.
+pub fn note_text<T>(
+    changes: &mut RunHistory<T>,
+    text: &str,
+    count: usize,
+    main_tag: &T,
+    wrap_tag: &T,
+    mode: WhiteSpace,
+)
+    requires { count ≡ length (chars text.now) }
+    ensures { changes.new.items ≡ changes.old.items
+        ++ text_changes (chars text.now) main_tag.now wrap_tag.now mode }
+{
+    let mut rest = text.chars();
+    for _ in 0..count {
+        if let Some(c) = rest.next() {
+            let change = RunChange::Character(c, mode);
+            *changes = changes.appended(&change, main_tag, wrap_tag);
+        }
     }
 }
 

@@ -1,14 +1,15 @@
 //! Lays the characters of a run on lines, one after another.
 //!
 //! Its stages, in the words of its functions:
-//! - A character *joins* the word (`join`). White space that doesn't is pending before it (`collapse`, `keep_space`).
+//! - A character *joins* the word (`join`), or a stretch of them does at which no word ends (`add_stretch`). White space
+//!   that doesn't is pending before it (`collapse`, `keep_space`).
 //! - The word is *laid* where it ends: here, behind what is pending, if both fit the open line (`lay_here`), and else
 //!   afresh, behind what is left of that (`wrap_space`, `lay_fresh`).
 //! - Words that a text begins with, and that fit the open line, are laid here as one word would be (`add_words`).
 //! - What fits the open line is *placed* on it (`place_pending`, `place_word`). What may not fit is *put* on it and the
 //!   next ones (`put_pending`, `put_fresh`, `put_tab`).
 //! - Ended lines are *taken*, the first one first ([`LaidLines::take_line`]).
-ghost use Rattle.std.specs.Prelude.{◌≡◌, ◌≤◌, ◌<◌, ◌+◌, ◌&&◌, ◌↔◌, [], ℕ, List, fold, length, take, map, chars, string_bytes, Bool, if◌then◌else◌, IsTrue, Option, None, Some, true, false, OnOk, IfOk, Err};
+ghost use Rattle.std.specs.Prelude.{◌≡◌, ◌≤◌, ◌<◌, ◌+◌, ◌&&◌, ◌↔◌, [], ℕ, List, fold, length, take, map, chars, string_bytes, Bool, if◌then◌else◌, IsTrue, Option, None, Some, true, false, OnOk, IfOk, IfSome, Err};
 ghost use Rattle.tbr_tagged.specs.Copies.{CopiesAreEqual};
 ghost use Rattle.std.specs.Str.{IsAscii};
 ghost use Rattle.tbr_model.specs.Width.{width_of_text};
@@ -25,7 +26,7 @@ ghost use Rattle.tbr_tagged.specs.View.{element_of};
 ghost use Rattle.tbr_tagged.specs.declared.error.Error.TheVariants as E;
 
 use crate::laid_lines::LaidLines;
-use crate::plain::words_in_front;
+use crate::plain::{Stretch, letters_in_front, plain_in_front, words_in_front};
 use std::alloc::Global;
 use std::mem;
 use tbr_model::{CharWidth, WhiteSpace};
@@ -103,9 +104,9 @@ impl<T> Wrapper<T> {
 
 impl<T: Eq + Clone + Drop> Wrapper<T> {
     ghost use Rattle.tbr_wrap.specs.LaidLines.{KeepsLimits};
-    ghost use Rattle.tbr_wrap.specs.Plain.{IsPlain, AreWords};
+    ghost use Rattle.tbr_wrap.specs.Plain.{JoinWord, AreLetters, AreWords};
     ghost use Rattle.tbr_wrap.specs.State.{text_entries};
-    ghost use Rattle.tbr_wrap.specs.Wrapper.{IsAtProgress, IsUnderWay, Wherever, WrapperFollows, RunIsFinished, SameSpace, held_width, join_all};
+    ghost use Rattle.tbr_wrap.specs.Wrapper.{IsAtProgress, IsUnderWay, Wherever, WrapperFollows, RunIsFinished, SameSpace, KeepsTag, held_width, join_all};
 
     /// Puts the pending space on the open line, where it fits.
     fn place_pending<W: CharWidth>(&mut self) -> Result<(), OutOfMemory>
@@ -335,17 +336,18 @@ impl<T: Eq + Clone + Drop> Wrapper<T> {
         Ok(())
     }
 
-    /// Adds a text of ASCII, of `width` columns, to the word.
-    fn join_ascii(
+    /// Adds a text of `count` characters, of `width` columns, to the word.
+    fn join_text(
         &mut self,
         text: &str,
+        count: usize,
         width: usize,
         tag: &T,
         mode: WhiteSpace,
     ) -> Result<(), OutOfMemory>
         requires faithful { CopiesAreEqual T.is_clone T.eq }
-        requires some { 0 < length text.now }
-        requires ascii { IsAscii text.now }
+        requires some { 0 < count }
+        requires count { count ≡ length (chars text.now) }
         ensures joined { (columns : ℕ → Option ℕ) (a : T) → width ≡ width_of_text columns (chars text.now) →
             T.eq tag.now a ≡ true →
             WrapperFollows columns T.eq self.old self.new result (join_all (chars text.now) a mode) }
@@ -357,7 +359,7 @@ impl<T: Eq + Clone + Drop> Wrapper<T> {
             return Err(OutOfMemory);
         };
         let word_mode = self.mode_with(mode);
-        self.lines.flat.push_ascii(text, tag)?;
+        self.lines.flat.push_text(text, count, tag)?;
         self.word_width = word_width;
         self.word_mode = word_mode;
         Ok(())
@@ -597,29 +599,87 @@ impl<T: Eq + Clone + Drop> Wrapper<T> {
         }
     }
 
-    /// Adds plain characters of a run, of `width` columns. No word ends there.
-    pub fn add_plain<W: CharWidth>(
+    /// The columns that the open line has left behind the pending space and the word. None where these pass it.
+    fn room(&self) -> Option<usize>
+        ensures { IfSome result (λ room. self.now.lines.line_width + (held_width self.now.space + (self.now.word_width
+            + room)) ≡ self.now.lines.width) }
+    {
+        let room = self.lines.width - self.lines.line_width;
+        let pending = self.pending_width();
+        if self.word_width > room || pending > room - self.word_width {
+            return None;
+        }
+        Some(room - self.word_width - pending)
+    }
+
+    /// How many columns may join the word without a change of the tag. None where no character may.
+    fn room_under_tag(&self, mode: WhiteSpace) -> Option<usize>
+        ensures { IfSome result (λ room. KeepsTag self.now mode room) }
+    {
+        if !is_pre(mode) || self.continuation_flag && self.in_continuation {
+            return Some(usize::MAX);
+        }
+        self.room()
+    }
+
+    /// How many bytes of plain characters a text begins with that join the word under the tag of this call, and the
+    /// columns that these take. In `Pre` the spaces behind a character of the word are among them.
+    pub fn fitting_plain<W: CharWidth>(&self, text: &str, mode: WhiteSpace) -> (usize, usize)
+        ensures within { result.0 ≤ length text.now }
+        ensures ascii { IsAscii (take result.0 text.now) }
+        ensures join { JoinWord W.columns (model.is_pre mode && has_character self.now.lines.flat.word)
+            (take result.0 text.now) }
+        ensures columns { result.1 ≡ width_of_text W.columns (take result.0 text.now) }
+        ensures tag { 0 < result.0 → KeepsTag self.now mode result.1 }
+    {
+        let Some(room) = self.room_under_tag(mode) else {
+            return (0, 0);
+        };
+        let spaced = is_pre(mode) && self.lines.flat.has_word();
+        plain_in_front::<W>(text, spaced, room)
+    }
+
+    /// The characters that a text begins with at which no word ends, as many as join the word under the tag of this
+    /// call. None where there are none.
+    pub fn fitting_letters<W: CharWidth>(&self, text: &str, mode: WhiteSpace) -> Option<Stretch>
+        ensures some { IfSome result (λ s. 0 < s.count) }
+        ensures letters { IfSome result (λ s. AreLetters W.columns text.now s) }
+        ensures tag { IfSome result (λ s. KeepsTag self.now mode s.columns) }
+    {
+        let room = self.room_under_tag(mode)?;
+        let letters = letters_in_front::<W>(text, room);
+        if letters.count == 0 {
+            return None;
+        }
+        Some(letters)
+    }
+
+    /// Adds `count` characters of a run, of `width` columns. No word ends there, and no continuation begins.
+    pub fn add_stretch<W: CharWidth>(
         &mut self,
         text: &str,
+        count: usize,
         width: usize,
         main_tag: &T,
         wrap_tag: &T,
         mode: WhiteSpace,
     ) -> Result<(), OutOfMemory>
         requires faithful { CopiesAreEqual T.is_clone T.eq }
-        requires some { 0 < length text.now }
-        requires plain { IsPlain W.columns text.now }
-        requires width { width ≡ width_of_text W.columns text.now }
-        requires mode { model.is_pre mode ≡ false }
+        requires some { 0 < count }
+        requires count { count ≡ length (chars text.now) }
+        requires join { JoinWord W.columns (model.is_pre mode && has_character self.old.lines.flat.word)
+            (chars text.now) }
+        requires width { width ≡ width_of_text W.columns (chars text.now) }
+        requires tag { KeepsTag self.old mode width }
         ensures entered { WrapperFollows W.columns T.eq self.old self.new result (λ p.
             fold (enter W.columns self.old.lines.width) p
             (text_entries (chars text.now) main_tag.now wrap_tag.now mode)) }
         ensures limits { KeepsLimits self.old.lines self.new.lines }
     {
         if self.in_continuation {
-            return self.join_ascii(text, width, wrap_tag, mode);
+            return self.join_text(text, count, width, wrap_tag, mode);
         }
-        self.join_ascii(text, width, main_tag, mode)
+        self.join_text(text, count, width, main_tag, mode)
     }
 
     /// How many bytes the words take that a text begins with, each with the space behind it, where they go on the open
@@ -635,12 +695,10 @@ impl<T: Eq + Clone + Drop> Wrapper<T> {
         if !is_normal(mode) || self.lines.flat.has_word() {
             return 0;
         }
-        let room = self.lines.width - self.lines.line_width;
-        let pending = self.pending_width();
-        if self.word_width > room || pending > room - self.word_width {
-            return 0;
+        match self.room() {
+            Some(room) => words_in_front::<W>(text, room),
+            None => 0,
         }
-        words_in_front::<W>(text, room - self.word_width - pending)
     }
 
     /// Adds words, each with a space behind it, to the open line. The last space waits.
@@ -666,7 +724,7 @@ impl<T: Eq + Clone + Drop> Wrapper<T> {
             main_tag
         };
         let words = &text[..text.len() - 1];
-        self.join_ascii(words, words.len(), tag, WhiteSpace::Normal)?;
+        self.join_text(words, words.len(), words.len(), tag, WhiteSpace::Normal)?;
         self.lay_here::<W>()?;
         self.collapse(' ', tag)
     }
@@ -729,7 +787,7 @@ fn is_normal(mode: WhiteSpace) -> bool
 }
 
 /// Whether the mode is `Pre`.
-pub fn is_pre(mode: WhiteSpace) -> bool
+fn is_pre(mode: WhiteSpace) -> bool
     ensures { result ≡ model.is_pre mode }
 {
     match mode {

@@ -13,7 +13,6 @@ ghost use Rattle.tbr_renderer.specs.Flush.{Flushes, FlushIsTooNarrow};
 ghost use Rattle.tbr_renderer.specs.Appended.{GivesFirst, texts_of, as_text, prefixed, with_cell, with_cell_below, with_cells, AppendsLines, AppendsCells, HandsOut, HoldsBack, FirstToRefuse};
 
 use crate::sub::SubRenderer;
-use std::collections::LinkedList;
 use std::convert::AsStr;
 use std::vec::IntoIter;
 use tbr_decor::TextDecorator;
@@ -61,16 +60,16 @@ impl<D: TextDecorator, W: CharWidth> SubRenderer<D, W> {
     /// Adds each line behind its prefix, as long as there are both.
     fn add_prefixed<P: AsStr + Drop, I: Iterator<Item = P>>(
         &mut self,
-        lines: LinkedList<RenderLine<Vec<D::Annotation>>>,
+        lines: Vec<RenderLine<Vec<D::Annotation>>>,
         mut prefixes: I,
     ) -> Result<(), OutOfMemory>
         requires unfailed { self.old.failure ≡ None }
-        requires merged { Each (IsMergedText (equal_lists D.Annotation.eq)) lines }
+        requires merged { Each (IsMergedText (equal_lists D.Annotation.eq)) lines.items }
         requires prefixes { I.can_next prefixes }
-        ensures lines { OnOk result ((given : List P) × GivesFirst I.next_gives (length lines) prefixes given
+        ensures lines { OnOk result ((given : List P) × GivesFirst I.next_gives (length lines.items) prefixes given
             × (meant D.meaning self.new ≡ fold (with_line W.columns) (meant D.meaning self.old)
             (prefixed (map D.meaning self.old.annotations) (texts_of P.text given)
-            (map (map_line (tag_meant D.meaning)) (map line_seen lines))))) }
+            (map (map_line (tag_meant D.meaning)) (map line_seen lines.items))))) }
         ensures settings { KeepsSettings (meant D.meaning self.old) (meant D.meaning self.new) }
     {
         for line in lines {
@@ -85,14 +84,11 @@ impl<D: TextDecorator, W: CharWidth> SubRenderer<D, W> {
     }
 
     /// Adds each line as text.
-    fn add_cell(
-        &mut self,
-        lines: LinkedList<RenderLine<Vec<D::Annotation>>>,
-    ) -> Result<(), OutOfMemory>
+    fn add_cell(&mut self, lines: Vec<RenderLine<Vec<D::Annotation>>>) -> Result<(), OutOfMemory>
         requires unfailed { self.old.failure ≡ None }
-        requires merged { Each (IsMergedText (equal_lists D.Annotation.eq)) lines }
+        requires merged { Each (IsMergedText (equal_lists D.Annotation.eq)) lines.items }
         ensures lines { OnOk result (meant D.meaning self.new ≡ with_cell W.columns (meant D.meaning self.old)
-            (map (map_line (tag_meant D.meaning)) (map line_seen lines))) }
+            (map (map_line (tag_meant D.meaning)) (map line_seen lines.items))) }
         ensures unfailed { OnOk result (self.new.failure ≡ None) }
         ensures settings { KeepsSettings (meant D.meaning self.old) (meant D.meaning self.new) }
     {
@@ -123,7 +119,7 @@ impl<D: TextDecorator, W: CharWidth> SubRenderer<D, W> {
         ensures settings { KeepsSettings (meant D.meaning self.old) (meant D.meaning self.new) }
     {
         self.try_flush()?;
-        let lines = other.into_lines()?;
+        let lines = other.into_vec()?;
         self.add_prefixed(lines, prefixes)?;
         Ok(())
     }
@@ -165,7 +161,7 @@ impl<D: TextDecorator, W: CharWidth> SubRenderer<D, W> {
         let Some(first) = cols.next() else {
             return Ok(());
         };
-        let lines = first.into_lines()?;
+        let lines = first.into_vec()?;
         self.add_cell(lines)?;
         self.add_cells_below(cols)
     }
@@ -186,7 +182,7 @@ impl<D: TextDecorator, W: CharWidth> SubRenderer<D, W> {
     {
         for col in cols {
             self.add_divider(BorderSegHoriz::HorizVert)?;
-            let lines = col.into_lines()?;
+            let lines = col.into_vec()?;
             self.add_cell(lines)?;
         }
         Ok(())

@@ -41,9 +41,10 @@ impl<D: TextDecorator, W: CharWidth> SubRenderer<D, W> {
         ensures two_columns { 2 ≤ block_width self.old → result ≢ Err E.TooNarrow }
         ensures settings { KeepsSettings (meant D.meaning self.old) (meant D.meaning self.new) }
     {
-        let Some(mut block) = self.take_block() else {
+        let Some(boxed) = self.take_block() else {
             return Ok(());
         };
+        let mut block = Box::into_inner(boxed);
         block.flush()?;
         let markers = block.take_trailing_fragments()?;
         self.add_lines_of(block)?;

@@ -24,13 +24,32 @@ impl<D: TextDecorator, W: CharWidth> SubRenderer<D, W> {
     /// Ends the open line, and hands out all lines. Their pieces are the longest stretches under equal annotations. There
     /// are none where nothing stands in the renderer.
     ///
-    /// It refuses as `new_line` does.
-    pub fn into_lines(mut self) -> Result<LinkedList<RenderLine<Vec<D::Annotation>>>, Error>
+    /// It refuses as `new_line` does. The list takes memory for each line.
+    pub fn into_lines(self) -> Result<LinkedList<RenderLine<Vec<D::Annotation>>>, Error>
         ensures lines { IfOk result (λ lines. (s : Seen D D.Meaning (List D.Meaning))
             × Flushes W.columns (meant D.meaning self) s
             × (map (map_line (tag_meant D.meaning)) (map line_seen lines) ≡ s.lines)) }
         ensures merged { IfOk result (λ lines. Each (IsMergedText (equal_lists D.Annotation.eq)) lines) }
         ensures blank { is_blank self ≡ true → IfOk result (λ lines. lines ≡ []) }
+        ensures too_narrow { self.failure ≡ None → result ≡ Err E.TooNarrow →
+            FlushIsTooNarrow W.columns (meant D.meaning self) }
+        ensures two_columns { self.failure ≡ None → 2 ≤ block_width self → result ≢ Err E.TooNarrow }
+        ensures kept { (e : Refusal) → self.failure ≡ Some e → result ≡ Err e }
+    {
+        let alloc = self.alloc;
+        let lines = self.into_vec()?;
+        Ok(listed(alloc, lines)?)
+    }
+
+    /// Ends the open line, and hands out all lines, as they are kept.
+    ///
+    /// It refuses as `new_line` does.
+    pub(crate) fn into_vec(mut self) -> Result<Vec<RenderLine<Vec<D::Annotation>>>, Error>
+        ensures lines { IfOk result (λ lines. (s : Seen D D.Meaning (List D.Meaning))
+            × Flushes W.columns (meant D.meaning self) s
+            × (map (map_line (tag_meant D.meaning)) (map line_seen lines.items) ≡ s.lines)) }
+        ensures merged { IfOk result (λ lines. Each (IsMergedText (equal_lists D.Annotation.eq)) lines.items) }
+        ensures blank { is_blank self ≡ true → IfOk result (λ lines. lines.items ≡ []) }
         ensures too_narrow { self.failure ≡ None → result ≡ Err E.TooNarrow →
             FlushIsTooNarrow W.columns (meant D.meaning self) }
         ensures two_columns { self.failure ≡ None → 2 ≤ block_width self → result ≢ Err E.TooNarrow }
@@ -43,7 +62,7 @@ impl<D: TextDecorator, W: CharWidth> SubRenderer<D, W> {
 
     /// Ends the open line, and writes all lines, each with a newline.
     ///
-    /// It refuses as [`into_lines`](SubRenderer::into_lines) does.
+    /// It refuses as `new_line` does.
     pub fn into_string(self) -> Result<String, Error>
         ensures text { IfOk result (λ text. (s : Seen D D.Meaning (List D.Meaning))
             × Flushes W.columns (meant D.meaning self) s × (chars_of text ≡ lines_text s.lines)) }
@@ -53,24 +72,34 @@ impl<D: TextDecorator, W: CharWidth> SubRenderer<D, W> {
         ensures kept { (e : Refusal) → self.failure ≡ Some e → result ≡ Err e }
     {
         let alloc = self.alloc;
-        let lines = self.into_lines()?;
+        let lines = self.into_vec()?;
         Ok(text_of(alloc, lines)?)
     }
 
     /// Takes all lines.
-    fn take_lines(&mut self) -> LinkedList<RenderLine<Vec<D::Annotation>>>
+    fn take_lines(&mut self) -> Vec<RenderLine<Vec<D::Annotation>>>
         requires { self.old.failure ≡ None }
-        ensures lines { map line_seen result ≡ self.old.lines }
-        ensures merged { Each (IsMergedText (equal_lists D.Annotation.eq)) result }
+        ensures lines { map line_seen result.items ≡ self.old.lines }
+        ensures merged { Each (IsMergedText (equal_lists D.Annotation.eq)) result.items }
     {
         self.with_content = 0;
-        mem::replace(&mut self.lines, LinkedList::new(self.alloc))
+        mem::replace(&mut self.lines, Vec::new(self.alloc))
     }
 }
 
+/// The same lines in a list.
+fn listed<T: Drop>(
+    alloc: Global,
+    lines: Vec<RenderLine<T>>,
+) -> Result<LinkedList<RenderLine<T>>, OutOfMemory>
+    ensures { IfOk result (λ list. list ≡ lines.items) }
+{
+    Ok(lines.into_iter().collect(alloc)?)
+}
+
 /// The text of lines, each with a newline.
-fn text_of<T: Drop>(alloc: Global, lines: LinkedList<RenderLine<T>>) -> Result<String, OutOfMemory>
-    ensures { IfOk result (λ text. chars_of text ≡ lines_text (map line_seen lines)) }
+fn text_of<T: Drop>(alloc: Global, lines: Vec<RenderLine<T>>) -> Result<String, OutOfMemory>
+    ensures { IfOk result (λ text. chars_of text ≡ lines_text (map line_seen lines.items)) }
 {
     let mut text = String::new(alloc);
     for line in lines {

@@ -18,7 +18,6 @@ ghost use Rattle.tbr_renderer.specs.Rows.{GivenCell, GivesCell, ComesAs, PutsRow
 
 use crate::renderer::Renderer;
 use crate::sub::SubRenderer;
-use std::collections::LinkedList;
 use std::mem;
 use tbr_decor::TextDecorator;
 use tbr_lines::{BorderHoriz, CellAlign, CharWidth, Error, OutOfMemory, RenderLine, TaggedLine};
@@ -239,14 +238,22 @@ impl<D: TextDecorator, W: CharWidth> SubRenderer<D, W> {
 }
 
 /// Takes the last line, if it is a border.
-fn take_last_border<T: Drop>(lines: &mut LinkedList<RenderLine<T>>) -> Option<BorderHoriz<T>>
-    ensures some { IfSome result (λ border. lines.old ≡ lines.new ++ Rule border ∷ []) }
-    ensures none { result ≡ None → (lines.new ≡ lines.old) × (model.last_border (map line_seen lines.old) ≡ None) }
+fn take_last_border<T: Drop>(lines: &mut Vec<RenderLine<T>>) -> Option<BorderHoriz<T>>
+    ensures some { IfSome result (λ border. lines.old.items ≡ lines.new.items ++ Rule border ∷ []) }
+    ensures none { result ≡ None → (lines.new ≡ lines.old) × (model.last_border (map line_seen lines.old.items) ≡ None) }
 {
-    if !is_border(lines.back()) {
+    if !is_border(lines.last()) {
         return None;
     }
-    match lines.pop_back() {
+    border_in(lines.pop())
+}
+
+/// The border that a line is, if it is one.
+fn border_in<T: Drop>(line: Option<RenderLine<T>>) -> Option<BorderHoriz<T>>
+    ensures some { IfSome result (λ border. line ≡ Some (Rule border)) }
+    ensures none { result ≡ None → (border : _) → line ≢ Some (Rule border) }
+{
+    match line {
         Some(RenderLine::Line(border)) => Some(border),
         Some(RenderLine::Text(_)) | None => None,
     }

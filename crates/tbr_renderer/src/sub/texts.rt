@@ -48,26 +48,27 @@ impl<D: TextDecorator, W: CharWidth> SubRenderer<D, W> {
     }
 
     /// A block without text.
-    fn new_block(&self) -> Result<WrappedBlock<Vec<D::Annotation>, W>, OutOfMemory>
-        ensures fresh { IfOk result (λ b. IsFresh (block_width self.now) (may_overflow self.now) b) }
+    fn new_block(&self) -> Result<Box<WrappedBlock<Vec<D::Annotation>, W>>, OutOfMemory>
+        ensures fresh { IfOk result (λ b. IsFresh (block_width self.now) (may_overflow self.now) b.value) }
         ensures block { IfOk result (λ b.
-            map_open (tag_meant D.meaning) (open_seen b) ≡ new_block (meant D.meaning self.now)) }
+            map_open (tag_meant D.meaning) (open_seen b.value) ≡ new_block (meant D.meaning self.now)) }
     {
-        Ok(WrappedBlock::new(
+        let block = WrappedBlock::new(
             self.alloc,
             self.block_columns(),
             self.options.pad_block_width,
             self.options.allow_width_overflow,
             self.tag()?,
-        ))
+        );
+        Ok(Box::new(self.alloc, block)?)
     }
 
     /// Takes the open block, or a new one.
-    fn take_or_new_block(&mut self) -> Result<WrappedBlock<Vec<D::Annotation>, W>, OutOfMemory>
+    fn take_or_new_block(&mut self) -> Result<Box<WrappedBlock<Vec<D::Annotation>, W>>, OutOfMemory>
         requires { self.old.failure ≡ None }
-        ensures fresh { IfOk result (λ b. IsFresh (block_width self.old) (may_overflow self.old) b) }
+        ensures fresh { IfOk result (λ b. IsFresh (block_width self.old) (may_overflow self.old) b.value) }
         ensures block { IfOk result (λ b.
-            map_open (tag_meant D.meaning) (open_seen b) ≡ open_block (meant D.meaning self.old)) }
+            map_open (tag_meant D.meaning) (open_seen b.value) ≡ open_block (meant D.meaning self.old)) }
         ensures rest { OnOk result (self.new ≡ record self.old { block = None }) }
         ensures settings { KeepsSettings (meant D.meaning self.old) (meant D.meaning self.new) }
     {

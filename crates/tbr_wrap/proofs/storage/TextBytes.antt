@@ -239,6 +239,16 @@ read_next P text rest after n count None h less within e =
     absurd (omega (arith, length-drop n (chars text), ap length (h.left ∙ chars_none rest e.0), less, within))
 read_next P text rest after n count (Some c) h less within e = rw add-one (read_one text rest after n c h e)
 
+-- with the next one, that is the character behind the others
+pub read_more : (text rest after : List ℕ) (n c : ℕ) → IsRead text rest n → rest ≡ encode_utf8 c ++ after → IsRead text after (n + 1) × (take (n + 1) (chars text) ≡ take n (chars text) ++ c ∷ [])
+read_more text rest after n c h e =
+    let k = next_split (chars text) (chars after) n c (h.left ∙ chars_past_char rest after c h.utf8 e) in
+    (rw add-one (read_one text rest after n c h e), rw add-one k.0)
+
+-- all are read where none is next
+pub all_read : (text rest : List ℕ) (n : ℕ) → IsRead text rest n → length rest ≡ 0 → length (chars text) ≤ n
+all_read text rest n h none = omega (arith, length-drop n (chars text), ap length (h.left ∙ chars_none rest none))
+
 pub read_len : (text rest : List ℕ) (n : ℕ) → IsRead text rest n → length text ≡ length (encodes (take n (chars text))) + length rest
 read_len text rest n h = ap length h.whole ∙ length-append (encodes (take n (chars text))) rest
 

@@ -1,40 +1,28 @@
--- Plain characters join the word, one behind the other.
-use Rattle.std.proofs.Common.{◌≡◌, ℕ, ◌+◌, ◌<◌, Bool, true, false, if◌then◌else◌, Option, None, Some, is_some, unwrap_or, List, [], ◌∷◌, ◌++◌, fold, length, get_or, take, refl, ap, sym, ◌∙◌, subst, arith, append_assoc}
-use Rattle.std.specs.Char.{is_ascii_graphic}
+-- Characters at which no word ends join the word, one behind the other.
+use Rattle.std.proofs.Common.{◌≡◌, ◌≢◌, ℕ, ◌+◌, ◌<◌, ◌≤◌, ◌==◌, Bool, true, false, not, ◌&&◌, ◌||◌, if◌then◌else◌, Option, None, Some, is_some, unwrap_or, List, [], ◌∷◌, ◌++◌, fold, length, get_or, take, refl, ap, sym, ◌∙◌, subst, arith, append_assoc, le-ltb}
+use Rattle.std.specs.Char.{is_ascii_graphic, is_whitespace}
 use Rattle.std.specs.Str.{IsAscii}
+use Rattle.std.proofs.lemmas.Bool.{and_left, and_right, and_parts}
 use Rattle.std.proofs.lemmas.Bool.Decides.{nat_tests}
 use Rattle.std.proofs.lemmas.List.{take_more}
+use Rattle.std.proofs.lemmas.Str.{IsAscii-append}
 use Rattle.std.proofs.lemmas.Str.Ascii.{IsAscii-nil, IsAscii-cons}
 use Rattle.std.proofs.Math.Bool.{or-true}
 use Rattle.tbr_model.specs.declared.white_space.WhiteSpace.{WhiteSpace}
 use Rattle.tbr_model.specs.declared.white_space.WhiteSpace.TheVariants.{Normal, Pre, PreWrap}
-use Rattle.tbr_model.specs.Run.{glyph, character, has_character, is_break, always_takes_space}
-use Rattle.tbr_model.specs.Rule.{Progress, enter, is_pre, join, tag_of}
+use Rattle.tbr_model.specs.Run.{glyph, character, has_character, items_width, is_break, is_kept, always_takes_space}
+use Rattle.tbr_model.specs.Rule.{Progress, enter, is_pre, join, tag_of, pending_width, passes, keep_character}
 use Rattle.tbr_model.specs.Width.{width_of_text}
 use Rattle.tbr_model.proofs.lists.Each.{each_append}
-use Rattle.tbr_model.proofs.words.Items.{has_character-append}
+use Rattle.tbr_model.proofs.words.Items.{has_character-append, items_width-append}
 use Rattle.tbr_tagged.specs.Elements.{text_items}
 use Rattle.tbr_tagged.proofs.TextColumns.{width_of_text-append}
-use Rattle.tbr_wrap.specs.Plain.{plain_width, is_plain, IsPlain}
+use Rattle.tbr_wrap.specs.Plain.{stretch_width, joins, JoinWord}
 use Rattle.tbr_wrap.specs.State.{text_entries}
 use Rattle.tbr_wrap.specs.Wrapper.{join_all}
-use Rattle.tbr_wrap.proofs.words.ModeCases.{normal_kept, preserve_kept}
+use Rattle.tbr_wrap.proofs.words.ModeCases.{normal_kept, preserve_kept, preserve_space, keep_joins}
 
--- ---- what a plain character is
-
--- what is known of one
-pub record Plain (columns : ℕ → Option ℕ) (c : ℕ) : Type 0 where
-  pub graphic : is_ascii_graphic c ≡ true
-  pub width : ℕ
-  pub has_width : columns c ≡ Some width
-
-pub plain_parts : (columns : ℕ → Option ℕ) (c : ℕ) → is_plain columns c ≡ true → Plain columns c
-plain_parts columns c h = go (is_ascii_graphic c) (columns c) refl refl h
-  where
-    go : (g : Bool) (o : Option ℕ) → is_ascii_graphic c ≡ g → columns c ≡ o → is_some (if g then o else None) ≡ true → Plain columns c
-    go true (Some n) e f h = record { graphic = e; width = n; has_width = f }
-    go true None e f h = cc
-    go false o e f h = cc
+-- ---- what is plain
 
 pub graphic_low : (c : ℕ) → is_ascii_graphic c ≡ true → (32 < c) × (c < 127)
 graphic_low c h = (grind (arith, nat_tests), grind (arith, nat_tests))
@@ -42,48 +30,147 @@ graphic_low c h = (grind (arith, nat_tests), grind (arith, nat_tests))
 pub graphic_joins : (c : ℕ) → is_ascii_graphic c ≡ true → is_break c ≡ false
 graphic_joins c h = grind (arith, nat_tests)
 
-graphic_takes : (c : ℕ) → is_ascii_graphic c ≡ true → always_takes_space c ≡ true
-graphic_takes c h = grind (arith, nat_tests)
+-- what is known of a character of a stretch
+record Plain (columns : ℕ → Option ℕ) (spaced : Bool) (c n : ℕ) : Type 0 where
+  pub ascii : c < 128
+  pub joins_word : joins columns spaced c ≡ true
+  pub has_width : columns c ≡ Some n
 
-pub plain_ascii : (columns : ℕ → Option ℕ) (cs : List ℕ) → IsPlain columns cs → IsAscii cs
-plain_ascii columns [] h = IsAscii-nil
-plain_ascii columns (c ∷ cs) h = IsAscii-cons c cs (omega (arith, (graphic_low c (plain_parts columns c h.0).graphic).1)) (plain_ascii columns cs h.1)
+plain_parts : (columns : ℕ → Option ℕ) (spaced : Bool) (c n : ℕ) → stretch_width columns spaced c ≡ Some n → Plain columns spaced c n
+plain_parts columns spaced c n h = go (spaced && c == 32) (is_ascii_graphic c) refl refl h
+  where
+    go : (s g : Bool) → (spaced && c == 32) ≡ s → is_ascii_graphic c ≡ g → (if s then columns c else (if g then columns c else None)) ≡ Some n → Plain columns spaced c n
+    go true g e f h = record {
+      ascii = grind (arith, nat_tests, (and_parts spaced (c == 32) e).1);
+      joins_word = ap (λ s. is_kept columns c || s) e ∙ or-true (is_kept columns c);
+      has_width = h;
+    }
+    go false true e f h = record {
+      ascii = omega (arith, (graphic_low c f).1);
+      joins_word = ap (λ o. (is_some o && not (is_break c)) || (spaced && c == 32)) h ∙ ap (λ t. not t || (spaced && c == 32)) (graphic_joins c f);
+      has_width = h;
+    }
+    go false false e f h = cc
 
 -- ---- going over them
 
-plain_columns : (columns : ℕ → Option ℕ) (c n : ℕ) → plain_width columns c ≡ Some n → columns c ≡ Some n
-plain_columns columns c n h = go (is_ascii_graphic c) h
-  where
-    go : (g : Bool) → (if g then columns c else None) ≡ Some n → columns c ≡ Some n
-    go true h = h
-    go false h = cc
-
 -- one more
-pub plain_more : (columns : ℕ → Option ℕ) (bs : List ℕ) (k n : ℕ) → k < length bs → plain_width columns (get_or bs k 0) ≡ Some n → IsPlain columns (take k bs) →
-    IsPlain columns (take (k + 1) bs) × (width_of_text columns (take (k + 1) bs) ≡ width_of_text columns (take k bs) + n)
-plain_more columns bs k n h e p =
+pub plain_more : (columns : ℕ → Option ℕ) (spaced : Bool) (bs : List ℕ) (k n : ℕ) → k < length bs → stretch_width columns spaced (get_or bs k 0) ≡ Some n → IsAscii (take k bs) → JoinWord columns spaced (take k bs) →
+    IsAscii (take (k + 1) bs) × JoinWord columns spaced (take (k + 1) bs) × (width_of_text columns (take (k + 1) bs) ≡ width_of_text columns (take k bs) + n)
+plain_more columns spaced bs k n h e ascii plain =
     let b = get_or bs k 0 in let more = take_more bs k 0 h in
-    let plain : is_plain columns b ≡ true = ap is_some e in
-    let width : width_of_text columns (b ∷ []) ≡ n = omega (arith, ap (λ o. unwrap_or o 0) (plain_columns columns b n e)) in (
-      subst (IsPlain columns) (sym more) (each_append (λ c. is_plain columns c ≡ true) (take k bs) (b ∷ []) p (plain, tt)),
+    let p = plain_parts columns spaced b n e in
+    let width : width_of_text columns (b ∷ []) ≡ n = omega (arith, ap (λ o. unwrap_or o 0) p.has_width) in (
+      subst IsAscii (sym more) (IsAscii-append (take k bs) (b ∷ []) ascii (IsAscii-cons b [] p.ascii IsAscii-nil)),
+      subst (JoinWord columns spaced) (sym more) (each_append (λ c. joins columns spaced c ≡ true) (take k bs) (b ∷ []) plain (p.joins_word, tt)),
       omega (arith, ap (width_of_text columns) more, width_of_text-append columns (take k bs) (b ∷ []), width),
     )
 
 -- ---- what the rule does with them
 
-module _ {A : Type 0} (columns : ℕ → Option ℕ) (width : ℕ) (a b : A) where
-  plain_entered : (mode : WhiteSpace) (c : ℕ) → is_pre mode ≡ false → is_plain columns c ≡ true → (p : Progress A) → enter columns width p (character c a b mode) ≡ join c (tag_of p a b) mode p
-  plain_entered Pre c m h p = cc
-  plain_entered Normal c m h p = let k = plain_parts columns c h in normal_kept columns width c (tag_of p a b) p k.width (graphic_joins c k.graphic) k.has_width
-  plain_entered PreWrap c m h p =
-      let k = plain_parts columns c h in let low = graphic_low c k.graphic in
-      let joins : is_break c ≡ false = graphic_joins c k.graphic in
-      rw joins (preserve_kept columns width c a b PreWrap p (λ e. omega (arith, low.1, e)) (λ e. omega (arith, low.0, e)) (λ e. omega (arith, low.0, e)) k.width (graphic_takes c k.graphic) k.has_width)
+-- a character at which no word ends, of a width, or the space
+data Joining (columns : ℕ → Option ℕ) (spaced : Bool) (c : ℕ) : Type 0 where
+  kept : (n : ℕ) → columns c ≡ Some n → is_break c ≡ false → Joining columns spaced c
+  space : spaced ≡ true → c ≡ 32 → Joining columns spaced c
 
-  pub plain_joins : (mode : WhiteSpace) (cs : List ℕ) → is_pre mode ≡ false → IsPlain columns cs → (p : Progress A) → fold (enter columns width) p (text_entries cs a b mode) ≡ join_all cs (tag_of p a b) mode p
-  plain_joins mode [] m h p = refl
-  plain_joins mode (c ∷ cs) m h p =
-      ap (λ q. fold (enter columns width) q (text_entries cs a b mode)) (plain_entered mode c m h.0 p) ∙ plain_joins mode cs m h.1 (join c (tag_of p a b) mode p)
+joining : (columns : ℕ → Option ℕ) (spaced : Bool) (c : ℕ) → joins columns spaced c ≡ true → Joining columns spaced c
+joining columns spaced c h = go (columns c) (is_break c) (spaced && c == 32) refl refl refl h
+  where
+    spaces : (spaced && c == 32) ≡ true → Joining columns spaced c
+    spaces e = let k = and_parts spaced (c == 32) e in space k.0 (grind (arith, nat_tests, k.1))
+
+    go : (o : Option ℕ) (b s : Bool) → columns c ≡ o → is_break c ≡ b → (spaced && c == 32) ≡ s → ((is_some o && not b) || s) ≡ true → Joining columns spaced c
+    go (Some n) false s e f g h = kept n e f
+    go (Some n) true s e f g h = spaces (g ∙ h)
+    go None b s e f g h = spaces (g ∙ h)
+
+takes_space : (z w n : Bool) → (z || (w && not n)) ≡ false → (not w || n) ≡ true
+takes_space false true true e = refl
+takes_space false true false e = cc
+takes_space false false n e = refl
+takes_space true w n e = cc
+
+kept_takes : (c : ℕ) → is_break c ≡ false → always_takes_space c ≡ true
+kept_takes c h = takes_space (c == 8203) (is_whitespace c) (c == 160) h
+
+-- a break point is none of these
+no_break : (c d : ℕ) → is_break c ≡ false → is_break d ≡ true → c ≢ d
+no_break c d e f is = let g : is_break c ≡ is_break d = ap is_break is in cc
+
+-- Columns more change no tag: no continuation begins there, or it has begun, for this call and the next.
+pub data StaysUnder {A : Type 0} (width : ℕ) (columns : ℕ → Option ℕ) (mode : WhiteSpace) (n : ℕ) (p : Progress A) : Type 0 where
+  elsewhere : is_pre mode ≡ false → StaysUnder width columns mode n p
+  fits : p.laid.width + (pending_width p.space + (items_width columns p.word + n)) ≤ width → StaysUnder width columns mode n p
+  goes_on : p.continuation_flag ≡ true → p.in_continuation ≡ true → StaysUnder width columns mode n p
+
+-- the first of them, and the rest
+stays_first : {A : Type 0} (width : ℕ) (columns : ℕ → Option ℕ) (mode : WhiteSpace) (m n : ℕ) (p : Progress A) → m ≤ n → StaysUnder width columns mode n p → StaysUnder width columns mode m p
+stays_first width columns mode m n p less h =
+    elim h [
+      | elsewhere e ↦ elsewhere e
+      | fits e ↦ fits (omega (arith, e, less))
+      | goes_on e f ↦ goes_on e f
+    ]
+
+stays_behind : {A : Type 0} (width : ℕ) (columns : ℕ → Option ℕ) (mode : WhiteSpace) (c n : ℕ) (a : A) (p : Progress A) → StaysUnder width columns mode (unwrap_or (columns c) 0 + n) p → StaysUnder width columns mode n (join c a mode p)
+stays_behind width columns mode c n a p h =
+    elim h [
+      | elsewhere e ↦ elsewhere e
+      | fits e ↦ fits (omega (arith, e, items_width-append columns p.word (glyph c a ∷ [])))
+      | goes_on e f ↦ goes_on e f
+    ]
+
+module _ {A : Type 0} (columns : ℕ → Option ℕ) (width : ℕ) (a b : A) (mode : WhiteSpace) where
+  -- where the continuation goes on, it begins anew without a change
+  begun : (c : ℕ) (t : Bool) (p : Progress A) → p.continuation_flag ≡ true → p.in_continuation ≡ true →
+      (if t then join c b mode (record p { continuation_flag = true; in_continuation = true }) else join c (tag_of p a b) mode p) ≡ join c (tag_of p a b) mode p
+  begun c true p e f = λ i. join c (if sym f i then b else a) mode (record p { continuation_flag = sym e i; in_continuation = sym f i })
+  begun c false p e f = refl
+
+  keeps_tag : (c n : ℕ) (p : Progress A) → StaysUnder width columns mode n p → keep_character columns width c a b mode (Some n) p ≡ join c (tag_of p a b) mode p
+  keeps_tag c n p h =
+      elim h [
+        | elsewhere e ↦ stays (and_left (is_pre mode) (passes columns width n p) e)
+        | fits e ↦ stays (and_right (is_pre mode) (passes columns width n p) (le-ltb _ _ e))
+        | goes_on e f ↦ begun c (is_pre mode && passes columns width n p) p e f
+      ]
+    where
+      stays : (is_pre mode && passes columns width n p) ≡ false → keep_character columns width c a b mode (Some n) p ≡ join c (tag_of p a b) mode p
+      stays test = ap (λ t. if t then join c b mode (record p { continuation_flag = true; in_continuation = true }) else join c (tag_of p a b) mode p) test
+
+module _ {A : Type 0} (columns : ℕ → Option ℕ) (width : ℕ) (a b : A) where
+  kept_entered : (mode : WhiteSpace) (c n : ℕ) (p : Progress A) → columns c ≡ Some n → is_break c ≡ false → StaysUnder width columns mode n p → enter columns width p (character c a b mode) ≡ join c (tag_of p a b) mode p
+  kept_entered Normal c n p has_width is h = normal_kept columns width c (tag_of p a b) p n is has_width
+  kept_entered Pre c n p has_width is h = preserve_kept columns width c a b Pre p (no_break c 8203 is refl) (no_break c 10 is refl) (no_break c 9 is refl) n (kept_takes c is) has_width ∙ keeps_tag columns width a b Pre c n p h
+  kept_entered PreWrap c n p has_width is h =
+      rw is (preserve_kept columns width c a b PreWrap p (no_break c 8203 is refl) (no_break c 10 is refl) (no_break c 9 is refl) n (kept_takes c is) has_width ∙ keeps_tag columns width a b PreWrap c n p h)
+
+  -- behind a character of the word
+  space_entered : (mode : WhiteSpace) (p : Progress A) → columns 32 ≡ Some 1 → is_pre mode ≡ true → has_character p.word ≡ true → enter columns width p (character 32 a b mode) ≡ join 32 (tag_of p a b) mode p
+  space_entered Normal p one is some = cc
+  space_entered PreWrap p one is some = cc
+  space_entered Pre p one is some =
+      preserve_space columns width 32 a b Pre p (λ e. omega (arith, e)) (λ e. omega (arith, e)) (λ e. omega (arith, e)) 1 refl one ∙ keep_joins 32 (tag_of p a b) Pre 1 p some
+
+  module _ (mode : WhiteSpace) (spaced : Bool) (one : columns 32 ≡ Some 1) where
+    -- spaces join where white space is kept, behind a character of the word
+    abbrev pub SpacesJoin : Progress A → Type 0
+    SpacesJoin p = spaced ≡ true → (is_pre mode ≡ true) × (has_character p.word ≡ true)
+
+    joins_entered : (c : ℕ) (p : Progress A) → joins columns spaced c ≡ true → SpacesJoin p → StaysUnder width columns mode (unwrap_or (columns c) 0) p → enter columns width p (character c a b mode) ≡ join c (tag_of p a b) mode p
+    joins_entered c p h spaces stays =
+        elim (joining columns spaced c h) [
+          | kept n has_width is ↦ kept_entered mode c n p has_width is (subst (λ o. StaysUnder width columns mode (unwrap_or o 0) p) has_width stays)
+          | space e is ↦ let k = spaces e in ap (λ d. enter columns width p (character d a b mode)) is ∙ space_entered mode p one k.0 k.1 ∙ ap (λ d. join d (tag_of p a b) mode p) (sym is)
+        ]
+
+    pub all_join : (cs : List ℕ) (p : Progress A) → JoinWord columns spaced cs → SpacesJoin p → StaysUnder width columns mode (width_of_text columns cs) p → fold (enter columns width) p (text_entries cs a b mode) ≡ join_all cs (tag_of p a b) mode p
+    all_join [] p h spaces stays = refl
+    all_join (c ∷ cs) p h spaces stays =
+        let t = tag_of p a b in let q : Progress A = join c t mode p in
+        let some : has_character q.word ≡ true = has_character-append p.word (glyph c t ∷ []) ∙ or-true (has_character p.word) in
+        ap (λ r. fold (enter columns width) r (text_entries cs a b mode)) (joins_entered c p h.0 spaces (stays_first width columns mode _ _ p (omega arith) stays))
+        ∙ all_join cs q h.1 (λ e. ((spaces e).0, some)) (stays_behind width columns mode c (width_of_text columns cs) t p stays)
 
 -- all of them at once
 joined_all : {A : Type 0} (c : ℕ) (cs : List ℕ) (a : A) (mode : WhiteSpace) (p : Progress A) →

@@ -1,7 +1,6 @@
 //! Characters under tags, in one text.
 ghost use Rattle.std.specs.Prelude.{◌≡◌, ◌<◌, ◌≤◌, ◌+◌, ◌++◌, ◌∷◌, [], true, List, length, take, drop, chars, string_bytes, MatchOption, OnOk, OnErr, IfOk, IsTrue, ◌↔◌};
 ghost use Rattle.std.specs.List.{AllByRecursion as Each};
-ghost use Rattle.std.specs.Str.{IsAscii};
 ghost use Rattle.tbr_tagged.specs.Copies.{CopiesAreEqual};
 ghost use Rattle.tbr_model.specs.Run.{Item, glyph, items_width};
 ghost use Rattle.tbr_model.specs.Entry.{is_glyph};
@@ -159,18 +158,18 @@ impl<T: Eq + Clone> Characters<T> {
         Ok(())
     }
 
-    /// Adds a text of ASCII to the word. The tag is copied only where a stretch of it begins.
+    /// Adds a text of `count` characters to the word. The tag is copied only where a stretch of it begins.
     ///
     /// Where memory is refused the characters may be lost.
-    pub fn push_ascii(&mut self, text: &str, tag: &T) -> Result<(), OutOfMemory>
+    pub fn push_text(&mut self, text: &str, count: usize, tag: &T) -> Result<(), OutOfMemory>
         requires faithful { CopiesAreEqual T.is_clone T.eq }
-        requires some { 0 < length text.now }
-        requires ascii { IsAscii text.now }
+        requires some { 0 < count }
+        requires count { count ≡ length (chars text.now) }
         ensures { OnOk result ((a : T) × (T.eq a tag.now ≡ true)
             × (self.new ≡ record self.old { word = self.old.word ++ text_items (chars text.now) a })) }
     {
-        self.tags.push(tag, text.len())?;
-        if let Err(e) = self.text.push_ascii(text) {
+        self.tags.push(tag, count)?;
+        if let Err(e) = self.text.push_text(text, count) {
             clear(&mut self.text, &mut self.tags);
             return Err(e);
         }

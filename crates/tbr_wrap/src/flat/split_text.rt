@@ -3,7 +3,7 @@ ghost use Rattle.std.specs.Prelude.{◌≡◌, ◌<◌, ◌≤◌, ◌+◌, ◌-
 ghost use lib.Utf8.{encodes};
 ghost use Rattle.std.specs.Char.{is_whitespace};
 ghost use Rattle.std.specs.List.{AllByRecursion as Each};
-ghost use Rattle.std.specs.Str.{IsAscii, IsUtf8};
+ghost use Rattle.std.specs.Str.{IsUtf8};
 ghost use Rattle.tbr_model.specs.Width.{width_of_text};
 
 use std::alloc::Global;
@@ -76,13 +76,13 @@ impl SplitText {
         Ok(())
     }
 
-    /// Adds a text of ASCII to the word. Where memory is refused the text stays as it was.
-    pub fn push_ascii(&mut self, text: &str) -> Result<(), OutOfMemory>
-        requires { IsAscii text.now }
+    /// Adds a text of `count` characters to the word. Where memory is refused the text stays as it was.
+    pub fn push_text(&mut self, text: &str, count: usize) -> Result<(), OutOfMemory>
+        requires { count ≡ length (chars text.now) }
         ensures { OnOk result (self.new ≡ record self.old { word = self.old.word ++ chars text.now }) }
     {
         self.text.push_str(text)?;
-        self.word += text.len();
+        self.word += count;
         Ok(())
     }
 

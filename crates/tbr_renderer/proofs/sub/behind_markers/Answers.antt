@@ -1,8 +1,10 @@
-use Rattle.std.proofs.Common.{[], map, sym, ◌∙◌}
+use Rattle.std.proofs.Common.{[], ◌++◌, map, map-id, ap, subst, refl, sym, ◌∙◌}
 use Rattle.std.proofs.lemmas.Bool.{eqb-true}
+use Rattle.std.proofs.lemmas.Iterator.Consumers.{YieldsList-from_first, YieldsList-end}
 use Rattle.std.proofs.lemmas.List.{nil_from_length}
-use Rattle.tbr_lines.specs.Elements.{items_of}
+use Rattle.tbr_lines.specs.Elements.{items_of, SameItems}
 use Rattle.tbr_lines.specs.View.{element_of}
+use Rattle.tbr_lines.specs.Walks.{elements_to_come}
 use Rattle.tbr_renderer.proofs.Lines.{nothing_in_front, one_more}
 use Rattle.tbr_renderer.proofs.sub.behind_markers.Goals as goal
 
@@ -18,3 +20,12 @@ pub loop-element-preserved : goal.loop-element-preserved
 loop-element-preserved g c =
     let inv = c.loop-element.invariant in
     (one_more g.T.PartialEq.eq g.met.T.Eq.laws c.loop-element.whole c.push-in-loop-element.new.self (items_of (map element_of c.args.markers.items)) c.loop-element.yielded c.in-Some-element.element inv.0 c.in_ok-push-2.ensures.items, c.in_ok-push-2.ensures.merged inv.1)
+
+pub returns-clause-items : goal.returns-clause-items
+returns-clause-items g c =
+    let walk = c.into_iter-element-iterator.result in
+    let given = c.into_iter-element-iterator.ensures.into_iter_gives in
+    let list = YieldsList-from_first (λ x. x) elements_to_come (elements_to_come walk) refl in
+    let end = YieldsList-end list c.loop-element.yielded c.loop-element.element-iterator c.loop-element.yielded_by c.next-in-loop-element.result c.next-in-loop-element.new.self c.in-None-element.is c.next-in-loop-element.ensures.steps in
+    let all = ap (map element_of) (sym (map-id c.loop-element.yielded) ∙ end.0) ∙ given.0 in
+    subst (λ es. SameItems g.T.PartialEq.eq (items_of c.loop-element.whole) (items_of (map element_of c.args.markers.items) ++ items_of es)) all c.loop-element.invariant.0

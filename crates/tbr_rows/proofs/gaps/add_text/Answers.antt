@@ -1,9 +1,7 @@
-use Rattle.std.proofs.Common.{ap, sym, map-id, ◌∙◌, map, refl, length}
-use Rattle.std.specs.Vec.Iter.{into_iter_items}
-use Rattle.std.proofs.lemmas.List.{length-map}
-use Rattle.std.proofs.lemmas.Iterator.Adapters.{YieldsList-from_vec}
-use Rattle.std.proofs.lemmas.Iterator.Consumers.{YieldsList-end}
+use Rattle.std.proofs.Common.{ap, sym, map-id, ◌∙◌, map, refl}
+use Rattle.std.proofs.lemmas.Iterator.Consumers.{YieldsList-from_first, YieldsList-end}
 use Rattle.tbr_tagged.specs.View.{element_of}
+use Rattle.tbr_tagged.specs.Walks.{elements_to_come}
 use Rattle.tbr_rows.specs.Gaps.{with_elements}
 use Rattle.tbr_rows.proofs.gaps.add_text.Goals as goal
 
@@ -11,7 +9,7 @@ pub returns : goal.returns
 returns g c =
     let walk = c.into_iter-element-iterator.result in
     let given = c.into_iter-element-iterator.ensures.into_iter_gives in
-    let list = YieldsList-from_vec (into_iter_items walk) refl (given.1 ∙ ap length (sym given.0) ∙ length-map (into_iter_items walk) element_of) in
+    let list = YieldsList-from_first (λ x. x) elements_to_come (elements_to_come walk) refl in
     let end = YieldsList-end list c.loop-element.yielded c.loop-element.element-iterator c.loop-element.yielded_by c.next.result c.next.new.self c.in-None.is c.next.ensures.steps in
     let all = ap (map element_of) (sym (map-id c.loop-element.yielded) ∙ end.0) ∙ given.0 in
     c.loop-element.invariant ∙ ap (with_elements g.W.CharWidth.columns c.args.place c.args.border.now) all

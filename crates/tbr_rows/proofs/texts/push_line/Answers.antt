@@ -1,9 +1,7 @@
-use Rattle.std.proofs.Common.{ap, subst, sym, map-id, ◌∙◌, ◌++◌, map, refl, length}
-use Rattle.std.specs.Vec.Iter.{into_iter_items}
-use Rattle.std.proofs.lemmas.List.{length-map}
-use Rattle.std.proofs.lemmas.Iterator.Adapters.{YieldsList-from_vec}
+use Rattle.std.proofs.Common.{ap, subst, sym, map-id, ◌∙◌, ◌++◌, map, refl}
 use Rattle.tbr_tagged.specs.View.{element_of}
-use Rattle.std.proofs.lemmas.Iterator.Consumers.{YieldsList-end}
+use Rattle.tbr_tagged.specs.Walks.{elements_to_come}
+use Rattle.std.proofs.lemmas.Iterator.Consumers.{YieldsList-from_first, YieldsList-end}
 use Rattle.tbr_tagged.specs.Elements.{items_of, SameItems}
 use Rattle.tbr_rows.proofs.RowTexts.{behind_nothing, one_more}
 use Rattle.tbr_rows.proofs.texts.push_line.Goals as goal
@@ -21,7 +19,7 @@ pub returns-clause-items : goal.returns-clause-items
 returns-clause-items g c =
     let walk = c.into_iter-element-iterator.result in
     let given = c.into_iter-element-iterator.ensures.into_iter_gives in
-    let list = YieldsList-from_vec (into_iter_items walk) refl (given.1 ∙ ap length (sym given.0) ∙ length-map (into_iter_items walk) element_of) in
+    let list = YieldsList-from_first (λ x. x) elements_to_come (elements_to_come walk) refl in
     let end = YieldsList-end list c.loop-element.yielded c.loop-element.element-iterator c.loop-element.yielded_by c.next.result c.next.new.self c.in-None.is c.next.ensures.steps in
     let all = ap (map element_of) (sym (map-id c.loop-element.yielded) ∙ end.0) ∙ given.0 in
     subst (λ es. SameItems g.T.PartialEq.eq (items_of c.loop-element.line) (items_of c.args.line.now ++ items_of es)) all c.loop-element.invariant.items

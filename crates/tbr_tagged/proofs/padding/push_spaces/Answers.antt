@@ -1,41 +1,35 @@
-use Rattle.std.proofs.Common.{◌≡◌, ◌-◌, ◌<◌, sym, ◌∙◌, ap, length, true, arith, option_map, slice_get, map, chars}
-use Rattle.std.specs.String.{string_bytes}
+use Rattle.std.proofs.Common.{◌<◌, sym, ◌∙◌, ap, length, arith, map, [], ◌∷◌, ◌++◌, subst}
 use Rattle.std.proofs.lemmas.List.{map_push, length-replicate}
-use Rattle.std.proofs.lemmas.Result.{on_ok_weaker, on_err_weaker}
-use Rattle.tbr_tagged.specs.Elements.{SameElement, is_piece_under, with_text, push_text, piece}
-use Rattle.tbr_tagged.specs.Padding.{spaces}
-use Rattle.tbr_tagged.specs.View.{element_of}
 use Rattle.std.proofs.lemmas.List.Elements.{AllZip-push}
-use Rattle.std.proofs.Math.Seq.{map-set_same}
-use Rattle.tbr_tagged.proofs.TextBehind.{push_under, push_else, same_elements}
+use Rattle.std.proofs.lemmas.Result.{on_ok_weaker}
+use Rattle.tbr_tagged.specs.declared.element.TaggedLineElement.TheVariants.{Str}
+use Rattle.tbr_tagged.specs.Elements.{SameElement, SameElements, piece, push_text}
+use Rattle.tbr_tagged.specs.Padding.{spaces}
+use Rattle.tbr_tagged.specs.Stored.{stored}
+use Rattle.tbr_tagged.specs.View.{element_of}
+use Rattle.tbr_tagged.proofs.TextBehind.{push_extends, push_behind, same_elements, same_from_equal}
 use Rattle.tbr_tagged.proofs.padding.push_spaces.Goals as goal
 
 pub returns-then-count-eq0-clause-ok : goal.returns-then-count-eq0-clause-ok
 returns-then-count-eq0-clause-ok g c =
-    rw c.if-count-eq0.true (same_elements g.T.PartialEq.eq g.met.T.Eq.laws (map element_of c.args.elements.now.items))
+    rw c.if-count-eq0.true (same_elements g.T.PartialEq.eq g.met.T.Eq.laws (map element_of (stored c.args.elements.now)))
 
-pub returns-then-is_under-clause-ok : goal.returns-then-is_under-clause-ok
-returns-then-is_under-clause-ok g c =
+pub returns-then-ends_under-clause-ok : goal.returns-then-ends_under-clause-ok
+returns-then-ends_under-clause-ok g c =
     let eq = g.T.PartialEq.eq in
+    let es = map element_of (stored c.args.elements.now) in
     let some : 0 < length (spaces c.args.count) = rw length-replicate (omega arith) in
-    let test : is_piece_under g.T.PartialEq.eq (option_map element_of (slice_get c.args.elements.now.items (length c.args.elements.now.items - 1))) c.args.tag.now ≡ true =
-    rw (← c.deref.ensures.value, ← c.last.ensures.value) (sym c.if-is_under.ensures) in
-    on_ok_weaker c.extend.result (λ h. rw (push_under eq element_of c.args.elements.now.items c.len-end.result (spaces c.args.count) c.args.tag.now c.index_mut.result.now c.extend.new.element
-    some (c.len-end.ensures ∙ c.args.elements.now.ok.0) test
-    (h ∙ ap (with_text (element_of c.index_mut.result.now)) (ap chars c.as_str.ensures.value ∙ c.in_ok-s.ensures) ∙ ap (λ e. with_text (element_of e) (spaces c.args.count)) c.index_mut.ensures.value))
-    (same_elements eq g.met.T.Eq.laws (push_text eq (map element_of c.args.elements.now.items) (spaces c.args.count) c.args.tag.now))) c.extend.ensures.ok
-
-pub returns-then-is_under-clause-err : goal.returns-then-is_under-clause-err
-returns-then-is_under-clause-err g c =
-    on_err_weaker c.extend.result (λ h. map-set_same element_of c.args.elements.now.items (c.len-end.result - 1) c.extend.new.element c.index_mut.result.now (h ∙ ap element_of c.index_mut.ensures.value)) c.extend.ensures.err
+    let pushed = push_extends eq es (spaces c.args.count) c.args.tag.now some (sym c.if-ends_under.ensures) in
+    on_ok_weaker c.extend_last_by_spaces.result (λ h. same_from_equal eq g.met.T.Eq.laws _ _ (h ∙ sym pushed)) c.extend_last_by_spaces.ensures.ok
 
 pub returns-clause-ok : goal.returns-clause-ok
 returns-clause-ok g c =
     let eq = g.T.PartialEq.eq in
+    let es = map element_of (stored c.args.elements.now) in
     let some : 0 < length (spaces c.args.count) = rw length-replicate (omega arith) in
-    rw (
-      push_else eq element_of c.args.elements.now.items (spaces c.args.count) c.args.tag.now some (rw (← c.deref.ensures.value, ← c.last.ensures.value) (sym c.if-is_under.ensures)),
-      c.in_ok-push.ensures.items,
-      map_push,
-    )
-    (AllZip-push (SameElement eq) (map element_of c.args.elements.now.items) (map element_of c.args.elements.now.items) (piece (chars (string_bytes c.in_ok-piece.piece.s)) c.in_ok-piece.piece.tag) (piece (spaces c.args.count) c.args.tag.now) (same_elements eq g.met.T.Eq.laws (map element_of c.args.elements.now.items)) (c.in_ok-piece.ensures.text, c.in_ok-piece.ensures.tag))
+    let pushed = push_behind eq es (spaces c.args.count) c.args.tag.now some (sym c.if-ends_under.ensures) in
+    let ts = c.in_ok-piece.piece in
+    let behind : SameElements eq (es ++ element_of (Str ts) ∷ []) (push_text eq es (spaces c.args.count) c.args.tag.now) =
+    rw pushed (AllZip-push (SameElement eq) es es (element_of (Str ts)) (piece (spaces c.args.count) c.args.tag.now) (same_elements eq g.met.T.Eq.laws es) (c.in_ok-piece.ensures.text, c.in_ok-piece.ensures.tag)) in
+    on_ok_weaker c.push.result (λ h.
+    subst (λ fs. SameElements eq fs (push_text eq es (spaces c.args.count) c.args.tag.now)) (sym (ap (map element_of) h ∙ map_push element_of (stored c.args.elements.now) (Str ts))) behind) c.push.ensures.ok

@@ -13,19 +13,19 @@ pub returns-in_err-lines-clause-too_narrow : goal.returns-in_err-lines-clause-to
 returns-in_err-lines-clause-too_narrow g c = λ is.
     let f = g.D.TextDecorator.meaning in
     let columns = g.W.CharWidth.columns in
-    let e = passed_on c.from_residual.result c.into_lines.result c.in_err-lines.field-0.0 TooNarrow is c.from_residual.ensures.1 c.in_err-lines.was in
+    let e = passed_on c.from_residual.result c.into_vec.result c.in_err-lines.field-0.0 TooNarrow is c.from_residual.ensures.1 c.in_err-lines.was in
     let whole : c.args.cols.items ≡ c.in-Some.first ∷ into_iter_items c.next.new.self = sym c.into_iter-cols.ensures.rest ∙ c.in-Some.ensures.items in
     subst (λ cols. FirstToRefuse (Hands f columns c.args.self.now) (λ col. HoldsBack columns (meant f col)) cols) (sym whole)
-    (inl (held_back columns (meant f c.in-Some.first) c.into_lines.result e c.into_lines.ensures.too_narrow c.into_lines.ensures.kept))
+    (inl (held_back columns (meant f c.in-Some.first) c.into_vec.result e c.into_vec.ensures.too_narrow c.into_vec.ensures.kept))
 
 pub returns-clause-too_narrow : goal.returns-clause-too_narrow
 returns-clause-too_narrow g c = λ is.
     let f = g.D.TextDecorator.meaning in
     let columns = g.W.CharWidth.columns in
-    let lines = c.in_ok-lines.lines in
+    let lines = c.in_ok-lines.lines.items in
     let whole : c.args.cols.items ≡ c.in-Some.first ∷ into_iter_items c.next.new.self = sym c.into_iter-cols.ensures.rest ∙ c.in-Some.ensures.items in
     subst (λ cols. FirstToRefuse (Hands f columns c.args.self.now) (λ col. HoldsBack columns (meant f col)) cols) (sym whole)
-    (inr (map (map_line (tag_meant f)) (map line_seen lines), (unfailed c.in-Some.first.failure c.into_lines.result lines c.in_ok-lines.was c.into_lines.ensures.kept, c.in_ok-lines.ensures.lines), c.add_cells_below.ensures.too_narrow is))
+    (inr (map (map_line (tag_meant f)) (map line_seen lines), (unfailed c.in-Some.first.failure c.into_vec.result c.in_ok-lines.lines c.in_ok-lines.was c.into_vec.ensures.kept, c.in_ok-lines.ensures.lines), c.add_cells_below.ensures.too_narrow is))
 
 pub returns-clause-two_columns : goal.returns-clause-two_columns
 returns-clause-two_columns g c = λ wide is.
@@ -37,13 +37,13 @@ pub returns-clause-ok : goal.returns-clause-ok
 returns-clause-ok g c =
     let f = g.D.TextDecorator.meaning in
     let columns = g.W.CharWidth.columns in
-    let lines = c.in_ok-lines.lines in
+    let lines = c.in_ok-lines.lines.items in
     let seen = map (map_line (tag_meant f)) (map line_seen lines) in
     let whole : c.args.cols.items ≡ c.in-Some.first ∷ into_iter_items c.next.new.self = sym c.into_iter-cols.ensures.rest ∙ c.in-Some.ensures.items in
     on_ok_weaker c.add_cells_below.result (λ h. (
       seen ∷ h.0,
       subst (λ cols. AllZip (Hands f columns c.args.self.now) cols (seen ∷ h.0)) (sym whole)
-          ((unfailed c.in-Some.first.failure c.into_lines.result lines c.in_ok-lines.was c.into_lines.ensures.kept, c.in_ok-lines.ensures.lines), h.1),
+          ((unfailed c.in-Some.first.failure c.into_vec.result c.in_ok-lines.lines c.in_ok-lines.was c.into_vec.ensures.kept, c.in_ok-lines.ensures.lines), h.1),
       h.2 ∙ ap (λ r. fold (with_cell_below columns) r h.0) c.in_ok-add_cell.ensures.lines,
     ))
     c.add_cells_below.ensures.ok

@@ -15,25 +15,25 @@ pub returns-in_err-lines-clause-too_narrow : goal.returns-in_err-lines-clause-to
 returns-in_err-lines-clause-too_narrow g c = λ is.
     let f = g.D.TextDecorator.meaning in
     let columns = g.W.CharWidth.columns in
-    let e = passed_on c.from_residual-in_err-lines.result c.into_lines.result c.in_err-lines.field-0.0 TooNarrow is c.from_residual-in_err-lines.ensures.1 c.in_err-lines.was in
+    let e = passed_on c.from_residual-in_err-lines.result c.into_vec.result c.in_err-lines.field-0.0 TooNarrow is c.from_residual-in_err-lines.ensures.1 c.in_err-lines.was in
     let whole = cols_left c.args.cols c.into_iter-col-iterator.result c.loop-col.col-iterator c.next.new.self c.loop-col.yielded c.in-Some.col c.into_iter-col-iterator.ensures.into_iter_gives c.loop-col.yielded_by c.in-Some.ensures.steps.0 in
     subst (λ cols. FirstToRefuse (Hands f columns c.args.self.now) (λ col. HoldsBack columns (meant f col)) cols) (sym whole)
     (refuses_behind (Hands f columns c.args.self.now) (λ col. HoldsBack columns (meant f col)) c.loop-col.yielded c.in-Some.col (into_iter_items c.next.new.self) c.loop-col.invariant.cells c.loop-col.invariant.hand
-    (held_back columns (meant f c.in-Some.col) c.into_lines.result e c.into_lines.ensures.too_narrow c.into_lines.ensures.kept))
+    (held_back columns (meant f c.in-Some.col) c.into_vec.result e c.into_vec.ensures.too_narrow c.into_vec.ensures.kept))
 
 pub returns-in_err-lines-clause-two_columns : goal.returns-in_err-lines-clause-two_columns
 returns-in_err-lines-clause-two_columns g c = λ wide is.
-    let e = passed_on c.from_residual-in_err-lines.result c.into_lines.result c.in_err-lines.field-0.0 TooNarrow is c.from_residual-in_err-lines.ensures.1 c.in_err-lines.was in
+    let e = passed_on c.from_residual-in_err-lines.result c.into_vec.result c.in_err-lines.field-0.0 TooNarrow is c.from_residual-in_err-lines.ensures.1 c.in_err-lines.was in
     let whole = cols_left c.args.cols c.into_iter-col-iterator.result c.loop-col.col-iterator c.next.new.self c.loop-col.yielded c.in-Some.col c.into_iter-col-iterator.ensures.into_iter_gives c.loop-col.yielded_by c.in-Some.ensures.steps.0 in
     let here = each_at _ c.loop-col.yielded c.in-Some.col (into_iter_items c.next.new.self) (subst (Each _) whole wide) in
-    c.into_lines.ensures.two_columns here.0 here.1 e
+    c.into_vec.ensures.two_columns here.0 here.1 e
 
 pub loop-col-preserved : goal.loop-col-preserved
 loop-col-preserved g c =
     let f = g.D.TextDecorator.meaning in
-    let lines = c.in_ok-lines.lines in
+    let lines = c.in_ok-lines.lines.items in
     cells_go_on f g.W.CharWidth.columns c.args.self.now c.loop-col.yielded c.in-Some.col (map (map_line (tag_meant f)) (map line_seen lines)) c.loop-col.self c.add_divider.new.self c.add_cell.new.self c.loop-col.invariant
-    (unfailed c.in-Some.col.failure c.into_lines.result lines c.in_ok-lines.was c.into_lines.ensures.kept, c.in_ok-lines.ensures.lines)
+    (unfailed c.in-Some.col.failure c.into_vec.result c.in_ok-lines.lines c.in_ok-lines.was c.into_vec.ensures.kept, c.in_ok-lines.ensures.lines)
     c.in_ok-add_divider.ensures.divider c.in_ok-add_cell.ensures.lines c.in_ok-add_divider.ensures.settings c.in_ok-add_cell.ensures.settings c.in_ok-add_cell.ensures.unfailed
 
 pub returns-clause-ok : goal.returns-clause-ok

@@ -10,4 +10,4 @@ pub returns : goal.returns
 returns g c =
     let R = Renderer g.row.D.Denot g.row.D-Annotation.Denot (Vec g.row.D-Annotation.Denot) in
     let live = ap (λ (r : R). r.failure) c.self.view_is ∙ c.requires in
-    ap (nat_lt 0) (c.self.invariant.fresh live).content ∙ any_counted line_has_content (map line_seen c.self.inside.lines) ∙ ap (λ (r : R). has_content r) c.self.view_is
+    ap (nat_lt 0) (c.self.invariant.fresh live).content ∙ any_counted line_has_content (map line_seen c.self.inside.lines.items) ∙ ap (λ (r : R). has_content r) c.self.view_is

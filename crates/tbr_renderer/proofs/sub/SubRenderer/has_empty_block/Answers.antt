@@ -1,7 +1,7 @@
 use Rattle.std.proofs.Common.{ap, sym, ◌∙◌, subst}
 use Rattle.std.specs.Global.{Vec}
 use Rattle.tbr_renderer.specs.Renderer.{Renderer, block_width, may_overflow}
-use Rattle.tbr_renderer.specs.View.{block_seen, IsOpened}
+use Rattle.tbr_renderer.specs.View.{unboxed, block_seen, IsOpened}
 use Rattle.tbr_renderer.proofs.Writing.{block_empty}
 use Rattle.tbr_renderer.proofs.sub.SubRenderer.has_empty_block.Goals as goal
 
@@ -9,7 +9,7 @@ pub returns-in-Some : goal.returns-in-Some
 returns-in-Some g c =
     let R = Renderer g.row.D.Denot g.row.D-Annotation.Denot (Vec g.row.D-Annotation.Denot) in
     let live = ap (λ (r : R). r.failure) c.self.view_is ∙ c.requires in
-    let seen = ap block_seen (sym c.in-Some.is) ∙ ap (λ (r : R). r.block) c.self.view_is in
-    let opened = subst (λ (r : R). IsOpened (block_width r) (may_overflow r) c.self.inside.wrapping) c.self.view_is (c.self.invariant.fresh live).opened in
-    let fresh = subst (λ o. IsOpened (block_width c.args.self.now) (may_overflow c.args.self.now) o) c.in-Some.is opened in
-    block_empty g.D.TextDecorator.meaning g.W.CharWidth.columns c.args.self.now c.in-Some.block c.is_empty.result seen fresh c.is_empty.ensures.asks c.is_empty.ensures.normal c.is_empty.ensures.shows
+    let seen = ap (λ o. block_seen (unboxed o)) (sym c.in-Some.is) ∙ ap (λ (r : R). r.block) c.self.view_is in
+    let opened = subst (λ (r : R). IsOpened (block_width r) (may_overflow r) (unboxed c.self.inside.wrapping)) c.self.view_is (c.self.invariant.fresh live).opened in
+    let fresh = subst (λ o. IsOpened (block_width c.args.self.now) (may_overflow c.args.self.now) (unboxed o)) c.in-Some.is opened in
+    block_empty g.D.TextDecorator.meaning g.W.CharWidth.columns c.args.self.now c.in-Some.block.value c.is_empty.result seen fresh (rw c.deref.ensures at c.is_empty.ensures.asks) (rw c.deref.ensures at c.is_empty.ensures.normal) (rw c.deref.ensures at c.is_empty.ensures.shows)

@@ -1,12 +1,9 @@
-use Rattle.std.proofs.Common.{map, ap}
-use Rattle.tbr_renderer.specs.Meant.{tag_meant, map_line, meant}
-use Rattle.tbr_renderer.proofs.Blank.{none_handed}
+use Rattle.std.proofs.Common.{map, ap, ◌∙◌}
+use Rattle.tbr_renderer.specs.Meant.{tag_meant, map_line}
+use Rattle.tbr_renderer.specs.View.{line_seen}
 use Rattle.tbr_renderer.proofs.sub.SubRenderer.into_lines.Goals as goal
 
 pub returns-clause-lines : goal.returns-clause-lines
 returns-clause-lines g c =
-    let f = g.D.TextDecorator.meaning in
-    (meant f c.try_flush.new.self, c.in_ok-try_flush.ensures.ok, ap (map (map_line (tag_meant f))) c.take_lines.ensures.lines)
-
-pub returns-clause-blank : goal.returns-clause-blank
-returns-clause-blank g c = λ blank. none_handed g.D.TextDecorator.meaning c.args.self c.try_flush.new.self c.take_lines.result blank c.in_ok-try_flush.ensures.blank c.take_lines.ensures.lines
+    let kept = c.in_ok-lines.ensures.lines in
+    (kept.0, kept.1, ap (λ lines. map (map_line (tag_meant g.D.TextDecorator.meaning)) (map line_seen lines)) c.in_ok-listed.ensures ∙ kept.2)

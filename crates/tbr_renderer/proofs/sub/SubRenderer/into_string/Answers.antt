@@ -8,4 +8,4 @@ use Rattle.tbr_renderer.proofs.sub.SubRenderer.into_string.Goals as goal
 pub returns-clause-text : goal.returns-clause-text
 returns-clause-text g c =
     let lines = c.in_ok-lines.ensures.lines in
-    (lines.0, lines.1, c.in_ok-text_of.ensures ∙ sym (lines_same (tag_meant g.D.TextDecorator.meaning) (map line_seen c.in_ok-lines.lines)) ∙ ap lines_text lines.2)
+    (lines.0, lines.1, c.in_ok-text_of.ensures ∙ sym (lines_same (tag_meant g.D.TextDecorator.meaning) (map line_seen c.in_ok-lines.lines.items)) ∙ ap lines_text lines.2)

@@ -44,16 +44,16 @@ returns-clause-border g c =
     let R = Renderer g.row.D.Denot g.row.D-Annotation.Denot (Vec g.row.D-Annotation.Denot) in
     let T = Vec g.row.D-Annotation.Denot in
     let b = c.in_ok-border.border in
-    let front = map line_seen c.take_last_border.new.lines in
-    let seen : c.args.self.now.lines ≡ front ++ border b ∷ [] = ap (λ (r : R). r.lines) (sym c.self.view_is) ∙ ap (map line_seen) c.in_ok-border.ensures.some ∙ map-append line_seen c.take_last_border.new.lines (Rule b ∷ []) in
+    let front = map line_seen c.take_last_border.new.lines.items in
+    let seen : c.args.self.now.lines ≡ front ++ border b ∷ [] = ap (λ (r : R). r.lines) (sym c.self.view_is) ∙ ap (map line_seen) c.in_ok-border.ensures.some ∙ map-append line_seen c.take_last_border.new.lines.items (Rule b ∷ []) in
     sym (border_is c.args.self.now.lines front b seen)
 
 pub returns-clause-rest : goal.returns-clause-rest
 returns-clause-rest g c =
     let R = Renderer g.row.D.Denot g.row.D-Annotation.Denot (Vec g.row.D-Annotation.Denot) in
     let b = c.in_ok-border.border in
-    let front = map line_seen c.take_last_border.new.lines in
-    let seen : map line_seen c.self.inside.lines ≡ front ++ border b ∷ [] = ap (map line_seen) c.in_ok-border.ensures.some ∙ map-append line_seen c.take_last_border.new.lines (Rule b ∷ []) in
+    let front = map line_seen c.take_last_border.new.lines.items in
+    let seen : map line_seen c.self.inside.lines.items ≡ front ++ border b ∷ [] = ap (map line_seen) c.in_ok-border.ensures.some ∙ map-append line_seen c.take_last_border.new.lines.items (Rule b ∷ []) in
     let cut : record (renderer_of c.self.inside) { lines = front } ≡ record c.args.self.now { lines = before_border c.args.self.now.lines } =
-    ap (λ ls. record (renderer_of c.self.inside) { lines = ls }) (sym (front_is (map line_seen c.self.inside.lines) front b seen)) ∙ ap (λ (r : R). record r { lines = before_border r.lines }) c.self.view_is in
+    ap (λ ls. record (renderer_of c.self.inside) { lines = ls }) (sym (front_is (map line_seen c.self.inside.lines.items) front b seen)) ∙ ap (λ (r : R). record r { lines = before_border r.lines }) c.self.view_is in
     elim c.if-not-has_holes.branch [ then-not-has_holes w ↦ w.self-is ∙ cut | else-not-has_holes w ↦ w.self-is ∙ cut ]

@@ -11,12 +11,12 @@ returns-clause-ok g c =
     let f = g.D.TextDecorator.meaning in
     let columns = g.W.CharWidth.columns in
     let flushed = c.try_flush.new.self in
-    let lines = c.in_ok-lines.lines in
+    let lines = c.in_ok-lines.lines.items in
     let seen = map (map_line (tag_meant f)) (map line_seen lines) in
     let (given, gives, is) = c.in_ok-add_prefixed.ensures.lines in (
       seen,
       given,
-      (unfailed c.args.other.failure c.into_lines.result lines c.in_ok-lines.was c.into_lines.ensures.kept, c.in_ok-lines.ensures.lines),
+      (unfailed c.args.other.failure c.into_vec.result c.in_ok-lines.lines c.in_ok-lines.was c.into_vec.ensures.kept, c.in_ok-lines.ensures.lines),
       subst (λ n. GivesFirst g.I.Iterator.next_gives n c.args.prefixes given) (sym (length-seen f columns flushed lines)) gives,
       (
         meant f flushed,

@@ -1,9 +1,9 @@
 use Rattle.std.proofs.Common.{◌≡◌, length}
-use Rattle.tbr_tagged.specs.Walks.{strings_left}
+use Rattle.tbr_tagged.specs.Walks.{elements_left, strings_left}
 use Rattle.tbr_tagged.proofs.iterators.TaggedStringsIterator.next.Given as goal
 
-abbrev pub invariant-loop-first : goal.invariant-loop-first
-invariant-loop-first g l = strings_left l.self ≡ strings_left l.fn.self
+abbrev pub invariant-loop-element : goal.invariant-loop-element
+invariant-loop-element g l = strings_left l.self ≡ strings_left l.fn.self
 
-abbrev pub decreases-loop-first : goal.decreases-loop-first
-decreases-loop-first g l = length l.self.rest.now
+abbrev pub decreases-loop-element : goal.decreases-loop-element
+decreases-loop-element g l = length (elements_left l.self.rest)

@@ -1,28 +1,14 @@
-use Rattle.std.proofs.Common.{◌≡◌, map, map-id, sym, ◌∙◌}
-use Rattle.std.proofs.lemmas.Iterator.Adapters.{YieldsList-from_vec}
-use Rattle.std.proofs.lemmas.Iterator.Consumers.{YieldsList-end}
-use Rattle.std.proofs.lemmas.List.{map_push}
-use Rattle.std.proofs.lemmas.Slice.Zip.{all_zipped_more}
+use Rattle.std.proofs.Common.{map}
+use Rattle.tbr_tagged.specs.Stored.{stored}
 use Rattle.tbr_tagged.specs.View.{element_of}
 use Rattle.tbr_tagged.proofs.MappedTags.{mapped_characters, mapped_width}
 use Rattle.tbr_tagged.proofs.tagged_line.TaggedLine.map_tag.Goals as goal
 
-pub loop-element-preserved : goal.loop-element-preserved
-loop-element-preserved g c =
-    rw (c.in_ok-push.ensures.items, map_push, map_push)
-    (all_zipped_more _ (map element_of c.loop-element.yielded) (map element_of c.loop-element.elements.items) (element_of c.in-Some.element) (element_of c.map_tag.result)
-    c.loop-element.invariant c.map_tag.ensures.mapped)
-
 pub returns-clause-mapped : goal.returns-clause-mapped
-returns-clause-mapped g c =
-    let given = c.into_iter-element-iterator.ensures.into_iter_gives in
-    let list = YieldsList-from_vec c.self.inside.elements.items given.0 (given.1 ∙ c.self.inside.elements.ok.0) in
-    let end = YieldsList-end list c.loop-element.yielded c.loop-element.element-iterator c.loop-element.yielded_by c.next.result c.next.new.self c.in-None.is c.next.ensures.steps in
-    let all : c.loop-element.yielded ≡ c.self.inside.elements.items = sym (map-id c.loop-element.yielded) ∙ end.0 in
-    rw (← c.self.view_is, ← all) c.loop-element.invariant
+returns-clause-mapped g c = rw (← c.self.view_is) c.in_ok-elements.ensures
 
 pub returns-clause-text : goal.returns-clause-text
-returns-clause-text g c = mapped_characters _ c.args.self (map element_of c.loop-element.elements.items) (returns-clause-mapped g c)
+returns-clause-text g c = mapped_characters _ c.args.self (map element_of (stored c.in_ok-elements.elements)) (returns-clause-mapped g c)
 
 pub returns-clause-width : goal.returns-clause-width
-returns-clause-width g c = λ columns. mapped_width _ columns c.args.self (map element_of c.loop-element.elements.items) (returns-clause-mapped g c)
+returns-clause-width g c = λ columns. mapped_width _ columns c.args.self (map element_of (stored c.in_ok-elements.elements)) (returns-clause-mapped g c)

@@ -3,6 +3,7 @@ use Rattle.std.proofs.lemmas.Result.{on_ok_weaker}
 use Rattle.tbr_model.specs.Run.{items_width}
 use Rattle.tbr_tagged.specs.Elements.{text_items, items_of}
 use Rattle.tbr_tagged.specs.Padding.{spaces, columns_in_front, aligned}
+use Rattle.tbr_tagged.specs.Stored.{stored}
 use Rattle.tbr_tagged.specs.View.{element_of}
 use Rattle.tbr_tagged.proofs.SameItems.{same_items_trans, same_items_of}
 use Rattle.tbr_tagged.proofs.PaddedLines.{front_within, padded_items, padded_merged, padded_columns}
@@ -17,10 +18,10 @@ returns-clause-items g c =
     let missing = c.args.width - items_width g.W.CharWidth.columns (items_of c.args.self.now) in
     let front = columns_in_front c.args.align missing in
     on_ok_weaker c.pad.result (λ same. same_items_trans eq g.met.T.Eq.laws
-    (items_of (map element_of c.pad.new.elements.items))
+    (items_of (map element_of (stored c.pad.new.elements)))
     (items_of (aligned eq c.args.align c.args.self.now missing c.args.tag.now))
     (text_items (spaces front) c.args.tag.now ++ items_of c.args.self.now ++ text_items (spaces (missing - front)) c.args.tag.now)
-    (same_items_of eq g.met.T.Eq.laws (map element_of c.pad.new.elements.items) (aligned eq c.args.align c.args.self.now missing c.args.tag.now) same)
+    (same_items_of eq g.met.T.Eq.laws (map element_of (stored c.pad.new.elements)) (aligned eq c.args.align c.args.self.now missing c.args.tag.now) same)
     (padded_items eq g.met.T.Eq.laws c.args.self.now front (missing - front) c.args.tag.now)) (returns-clause-ok g c)
 
 pub returns-clause-width : goal.returns-clause-width
@@ -29,7 +30,7 @@ returns-clause-width g c =
     let missing = c.args.width - items_width columns (items_of c.args.self.now) in
     let front = columns_in_front c.args.align missing in
     on_ok_weaker c.pad.result (λ same.
-    let sum = padded_columns g.T.PartialEq.eq g.met.T.Eq.laws columns (items_of (map element_of c.pad.new.elements.items)) (items_of c.args.self.now) front (missing - front) c.args.tag.now (g.met.W.CharWidth.drawn_in_one 32 refl) same in
+    let sum = padded_columns g.T.PartialEq.eq g.met.T.Eq.laws columns (items_of (map element_of (stored c.pad.new.elements))) (items_of c.args.self.now) front (missing - front) c.args.tag.now (g.met.W.CharWidth.drawn_in_one 32 refl) same in
     omega (arith, sum, front_within c.args.align missing)) (returns-clause-items g c)
 
 pub returns-clause-merged : goal.returns-clause-merged
@@ -37,4 +38,4 @@ returns-clause-merged g c = λ merged.
     let missing = c.args.width - items_width g.W.CharWidth.columns (items_of c.args.self.now) in
     let front = columns_in_front c.args.align missing in
     on_ok_weaker c.pad.result (λ same.
-    padded_merged g.T.PartialEq.eq g.met.T.Eq.laws c.args.self.now (map element_of c.pad.new.elements.items) front (missing - front) c.args.tag.now same merged) (returns-clause-ok g c)
+    padded_merged g.T.PartialEq.eq g.met.T.Eq.laws c.args.self.now (map element_of (stored c.pad.new.elements)) front (missing - front) c.args.tag.now same merged) (returns-clause-ok g c)

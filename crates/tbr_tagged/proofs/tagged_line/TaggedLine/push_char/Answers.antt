@@ -1,6 +1,7 @@
 use Rattle.std.proofs.Common.{map, [], ◌∷◌}
 use Rattle.std.proofs.lemmas.Result.{on_ok_weaker}
 use Rattle.tbr_tagged.specs.Elements.{push_text}
+use Rattle.tbr_tagged.specs.Stored.{stored}
 use Rattle.tbr_tagged.specs.View.{element_of}
 use Rattle.tbr_tagged.proofs.SameItems.{push_items}
 use Rattle.tbr_tagged.proofs.TextBehind.{merged_push, same_merged}
@@ -9,12 +10,12 @@ use Rattle.tbr_tagged.proofs.tagged_line.TaggedLine.push_char.Goals as goal
 pub returns-clause-items : goal.returns-clause-items
 returns-clause-items g c =
     rw (← c.self.view_is) (on_ok_weaker c.push_glyph.result
-    (push_items g.T.PartialEq.eq g.met.T.Eq.laws (map element_of c.self.inside.elements.items) (map element_of c.push_glyph.new.elements.items) (c.args.c ∷ []) c.args.tag.now)
+    (push_items g.T.PartialEq.eq g.met.T.Eq.laws (map element_of (stored c.self.inside.elements)) (map element_of (stored c.push_glyph.new.elements)) (c.args.c ∷ []) c.args.tag.now)
     c.push_glyph.ensures.ok)
 
 pub returns-clause-merged : goal.returns-clause-merged
 returns-clause-merged g c = λ merged.
     on_ok_weaker c.push_glyph.result
-    (λ same. same_merged g.T.PartialEq.eq g.met.T.Eq.laws (map element_of c.push_glyph.new.elements.items) (push_text g.T.PartialEq.eq (map element_of c.self.inside.elements.items) (c.args.c ∷ []) c.args.tag.now) same
-    (merged_push g.T.PartialEq.eq (map element_of c.self.inside.elements.items) (c.args.c ∷ []) c.args.tag.now (rw (← c.self.view_is) at merged)))
+    (λ same. same_merged g.T.PartialEq.eq g.met.T.Eq.laws (map element_of (stored c.push_glyph.new.elements)) (push_text g.T.PartialEq.eq (map element_of (stored c.self.inside.elements)) (c.args.c ∷ []) c.args.tag.now) same
+    (merged_push g.T.PartialEq.eq (map element_of (stored c.self.inside.elements)) (c.args.c ∷ []) c.args.tag.now (rw (← c.self.view_is) at merged)))
     c.push_glyph.ensures.ok

@@ -3,6 +3,7 @@ use Rattle.std.specs.String.{string_bytes, string_len}
 use Rattle.std.proofs.lemmas.Bool.{eqb-true}
 use Rattle.std.proofs.lemmas.Result.{on_ok_weaker}
 use Rattle.tbr_tagged.specs.Elements.{push_text, text_items, items_of, IsMerged}
+use Rattle.tbr_tagged.specs.Stored.{stored}
 use Rattle.tbr_tagged.specs.View.{element_of}
 use Rattle.tbr_tagged.proofs.TextBehind.{chars_none, merged_push}
 use Rattle.tbr_tagged.proofs.SameItems.{items_push, same_from_path}
@@ -24,13 +25,13 @@ returns-then-is_empty-clause-items g c =
 pub returns-clause-items : goal.returns-clause-items
 returns-clause-items g c =
     rw (← c.self.view_is) (on_ok_weaker c.push_piece.result (λ is.
-    rw is (items_push g.T.PartialEq.eq g.met.T.Eq.laws (map element_of c.self.inside.elements.items) (chars (string_bytes c.args.ts.s)) c.args.ts.tag))
+    rw is (items_push g.T.PartialEq.eq g.met.T.Eq.laws (map element_of (stored c.self.inside.elements)) (chars (string_bytes c.args.ts.s)) c.args.ts.tag))
     c.push_piece.ensures.ok)
 
 pub returns-clause-merged : goal.returns-clause-merged
 returns-clause-merged g c = λ merged.
     on_ok_weaker c.push_piece.result (λ is.
-    let pushed : IsMerged g.T.PartialEq.eq (push_text g.T.PartialEq.eq (map element_of c.self.inside.elements.items) (chars (string_bytes c.args.ts.s)) c.args.ts.tag) =
-    merged_push g.T.PartialEq.eq (map element_of c.self.inside.elements.items) (chars (string_bytes c.args.ts.s)) c.args.ts.tag (rw (← c.self.view_is) at merged) in
+    let pushed : IsMerged g.T.PartialEq.eq (push_text g.T.PartialEq.eq (map element_of (stored c.self.inside.elements)) (chars (string_bytes c.args.ts.s)) c.args.ts.tag) =
+    merged_push g.T.PartialEq.eq (map element_of (stored c.self.inside.elements)) (chars (string_bytes c.args.ts.s)) c.args.ts.tag (rw (← c.self.view_is) at merged) in
     rw is pushed)
     c.push_piece.ensures.ok

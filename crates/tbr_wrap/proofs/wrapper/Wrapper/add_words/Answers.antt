@@ -1,5 +1,4 @@
-use Rattle.std.proofs.Common.{◌≡◌, ◌≤◌, ◌+◌, true, ◌++◌, ◌∷◌, [], ◌∙◌, sym, ap, subst, chars, length, fold, arith, refl, length-append}
-use Rattle.std.specs.Str.{IsAscii}
+use Rattle.std.proofs.Common.{◌≡◌, ◌≤◌, ◌+◌, true, ◌++◌, ◌∷◌, [], ◌∙◌, sym, ap, chars, length, fold, arith, refl, length-append}
 use Rattle.std.proofs.lemmas.Str.{chars-IsAscii}
 use Rattle.tbr_model.specs.declared.white_space.WhiteSpace.TheVariants.{Normal}
 use Rattle.tbr_model.specs.Rule.{tag_of, pending_width, lay_here, enter, collapse}
@@ -14,20 +13,20 @@ use Rattle.tbr_tagged.proofs.SameItems.{same_has}
 use Rattle.tbr_wrap.proofs.wrapper.Wrapper.add_words.Goals as goal
 use Rattle.tbr_wrap.proofs.wrapper.Wrapper.add_words.Goals.{then-self, else-self}
 
-pub join_ascii-requires-clause-some : goal.join_ascii-requires-clause-some
-join_ascii-requires-clause-some g c =
+pub join_text-requires-clause-some : goal.join_text-requires-clause-some
+join_text-requires-clause-some g c =
     let w = c.requires.words in
     omega (arith, ap length (c.range-words.ensures.value ∙ words_front g.W.CharWidth.columns c.args.text.now w), some_read g.W.CharWidth.columns w.front w.read)
 
-pub join_ascii-requires-clause-ascii : goal.join_ascii-requires-clause-ascii
-join_ascii-requires-clause-ascii g c =
-    let w = c.requires.words in
-    subst IsAscii (sym (c.range-words.ensures.value ∙ words_front g.W.CharWidth.columns c.args.text.now w)) (words_ascii g.W.CharWidth.columns _ w.front _ w.read)
+pub join_text-requires-clause-count : goal.join_text-requires-clause-count
+join_text-requires-clause-count g c =
+    let w = c.requires.words in let is = c.range-words.ensures.value ∙ words_front g.W.CharWidth.columns c.args.text.now w in
+    ap length (is ∙ sym (ap chars is ∙ chars-IsAscii w.front (words_ascii g.W.CharWidth.columns _ w.front _ w.read)))
 
 pub lay_here-requires-clause-room : goal.lay_here-requires-clause-room
 lay_here-requires-clause-room g c =
-    let w = c.requires.words in let k = c.in_ok-join_ascii.ensures.pending in
-    rw (k.1) (omega (arith, ap length w.is, length-append w.front (32 ∷ []), k.0, k.2, c.in_ok-join_ascii.ensures.limits.width, c.range-words.ensures.len, c.requires.room))
+    let w = c.requires.words in let k = c.in_ok-join_text.ensures.pending in
+    rw (k.1) (omega (arith, ap length w.is, length-append w.front (32 ∷ []), k.0, k.2, c.in_ok-join_text.ensures.limits.width, c.range-words.ensures.len, c.requires.room))
 
 pub returns-clause-entered : goal.returns-clause-entered
 returns-clause-entered g c = λ before given p s.
@@ -43,7 +42,7 @@ returns-clause-entered g c = λ before given p s.
       | then-self w ↦ rw w.tag-is (tag_wrap eq g.met.T.Eq.laws p a b (sym s.in_continuation ∙ w.if-self.true))
       | else-self w ↦ rw w.tag-is (tag_main eq g.met.T.Eq.laws p a b (sym s.in_continuation ∙ w.if-self.false))
     ] in
-    let joined = c.in_ok-join_ascii.ensures.joined columns t wide same before given p s in
+    let joined = c.in_ok-join_text.ensures.joined columns t wide same before given p s in
     let laid = c.in_ok-lay_here.ensures.laid before given (join_all (chars c.range-words.result.now) t Normal p) joined in
     let collapsed = c.collapse.ensures.after_change columns t same before given (lay_here columns (join_all (chars c.range-words.result.now) t Normal p)) laid in
     let fits : p.laid.width + (pending_width p.space + (items_width columns p.word + length w.front)) ≤ old.lines.width = omega (arith, ap length w.is, length-append w.front (32 ∷ []), c.requires.room, s.word_width, s.lays.holds.width, s.lays.shows.width, same_held_width eq old.space p.space s.space) in

@@ -1,0 +1,7 @@
+use Rattle.std.proofs.Common.{map}
+use Rattle.tbr_tagged.specs.Mapped.{MapsElements}
+use Rattle.tbr_tagged.specs.View.{element_of}
+use Rattle.tbr_tagged.proofs.elements.map_tag.Given as goal
+
+abbrev pub invariant-loop-element : goal.invariant-loop-element
+invariant-loop-element g l = MapsElements (goal.F-post g l.f) (map element_of l.yielded) (map element_of l.mapped.items)

@@ -1,7 +1,0 @@
-use Rattle.std.proofs.Common.{map, take}
-use Rattle.tbr_tagged.specs.Elements.{SameElements}
-use Rattle.tbr_tagged.specs.View.{element_of}
-use Rattle.tbr_tagged.proofs.tagged_line.TaggedLine.clone.Given as goal
-
-abbrev pub invariant-loop-element : goal.invariant-loop-element
-invariant-loop-element g l = SameElements g.T.PartialEq.eq (map element_of l.elements.items) (map element_of (take l.element-index l.element-items))

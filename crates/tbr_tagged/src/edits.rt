@@ -1,0 +1,75 @@
+//! Text behind and in front of the elements of a line.
+ghost use Rattle.std.specs.Prelude.{◌≡◌, ◌<◌, ◌∷◌, [], string_len, IfOk, OnOk, OnErr};
+ghost use Rattle.std.specs.Option.{option_map};
+ghost use Rattle.tbr_tagged.specs.Copies.{CopiesAreEqual};
+ghost use Rattle.tbr_tagged.specs.Elements.{push_text, insert_text, SameElements};
+ghost use Rattle.tbr_tagged.specs.Restored.{restored};
+ghost use Rattle.tbr_tagged.specs.Stored.{stored};
+ghost use Rattle.tbr_tagged.specs.View.{chars_of, elements_of};
+
+use crate::element::{TaggedLineElement, TaggedString, new_piece};
+use crate::element_list::ElementList;
+use crate::error::OutOfMemory;
+
+/// Appends text that isn't empty.
+pub fn push_piece<T: Eq + Drop>(
+    elements: &mut ElementList<T>,
+    ts: TaggedString<T>,
+) -> Result<(), OutOfMemory>
+    requires { 0 < string_len ts.s }
+    ensures ok { OnOk result (elements_of (stored elements.new)
+        ≡ push_text T.eq (elements_of (stored elements.old)) (chars_of ts.s) ts.tag) }
+    ensures err { OnErr result (elements_of (stored elements.new) ≡ elements_of (stored elements.old)) }
+{
+    if elements.ends_under(&ts.tag) {
+        return elements.extend_last(ts.s.as_str());
+    }
+    elements.push(TaggedLineElement::Str(ts))
+}
+
+pub fn push_glyph<T: Eq + Clone>(
+    elements: &mut ElementList<T>,
+    c: char,
+    tag: &T,
+) -> Result<(), OutOfMemory>
+    requires { CopiesAreEqual T.is_clone T.eq }
+    ensures ok { OnOk result (SameElements T.eq (elements_of (stored elements.new))
+        (push_text T.eq (elements_of (stored elements.old)) (c ∷ []) tag.now)) }
+    ensures err { OnErr result (elements_of (stored elements.new) ≡ elements_of (stored elements.old)) }
+{
+    if elements.ends_under(tag) {
+        return elements.extend_last_by_char(c);
+    }
+    let piece = new_piece(elements.allocator(), c, tag)?;
+    elements.push(piece)
+}
+
+/// Puts text in front. It answers the text of the first piece where that piece was extended.
+pub fn put_in_front<T: Eq + Drop>(
+    elements: &mut ElementList<T>,
+    ts: TaggedString<T>,
+) -> Result<Option<String>, OutOfMemory>
+    ensures ok { OnOk result (elements_of (stored elements.new)
+        ≡ insert_text T.eq (elements_of (stored elements.old)) (chars_of ts.s) ts.tag) }
+    ensures restores { IfOk result (λ text. restored (elements_of (stored elements.new)) (option_map chars_of text)
+        ≡ elements_of (stored elements.old)) }
+    ensures err { OnErr result (elements_of (stored elements.new) ≡ elements_of (stored elements.old)) }
+{
+    if elements.begins_under(&ts.tag) {
+        let text = elements.extend_first(ts.s)?;
+        return Ok(Some(text));
+    }
+    elements.insert_front(TaggedLineElement::Str(ts))?;
+    Ok(None)
+}
+
+/// Undoes [`put_in_front`], which answered this text.
+pub fn take_from_front<T: Drop>(elements: &mut ElementList<T>, text: Option<String>)
+    ensures { elements_of (stored elements.new)
+        ≡ restored (elements_of (stored elements.old)) (option_map chars_of text) }
+{
+    match text {
+        Some(text) => elements.set_first_text(text),
+        None => elements.remove_front(),
+    }
+}

@@ -1,0 +1,26 @@
+-- Where no character changes the tag.
+use Rattle.std.proofs.Common.{◌≡◌, ◌&&◌, ℕ, Bool, true, false, Option, List, inl, inr, refl, sym, ◌∙◌, arith}
+use Rattle.std.proofs.lemmas.Bool.{and_parts}
+use Rattle.tbr_model.specs.declared.white_space.WhiteSpace.{WhiteSpace}
+use Rattle.tbr_model.specs.Run.{Item, has_character}
+use Rattle.tbr_model.specs.Rule.{Progress, is_pre}
+use Rattle.tbr_tagged.proofs.SameItems.{same_has}
+use Rattle.tbr_wrap.specs.declared.wrapper.Wrapper.{Wrapper}
+use Rattle.tbr_wrap.specs.Wrapper.{IsAtProgress, KeepsTag}
+use Rattle.tbr_wrap.proofs.words.PlainText.{StaysUnder, elsewhere, fits, goes_on}
+use Rattle.tbr_wrap.proofs.words.WordsLaid.{same_held_width}
+
+module _ {A : Type 0} (columns : ℕ → Option ℕ) (eq : A → A → Bool) (b : Wrapper A) (before given : List (List (Item A))) (p : Progress A) (mode : WhiteSpace) where
+  pub stays_under : (n : ℕ) → IsAtProgress columns eq b before given p → KeepsTag b mode n → StaysUnder b.lines.width columns mode n p
+  stays_under n s h = go (is_pre mode) refl
+    where
+      go : (t : Bool) → is_pre mode ≡ t → StaysUnder b.lines.width columns mode n p
+      go false e = elsewhere e
+      go true e =
+          elim (h e) [
+            | inl room ↦ fits (omega (arith, room, s.word_width, s.lays.holds.width, s.lays.shows.width, same_held_width eq b.space p.space s.space))
+            | inr on ↦ goes_on (sym s.continuation_flag ∙ on.0) (sym s.in_continuation ∙ on.1)
+          ]
+
+  pub spaces_join : IsAtProgress columns eq b before given p → (is_pre mode && has_character b.lines.flat.word) ≡ true → (is_pre mode ≡ true) × (has_character p.word ≡ true)
+  spaces_join s h = let k = and_parts (is_pre mode) (has_character b.lines.flat.word) h in (k.0, sym (same_has eq b.lines.flat.word p.word s.word) ∙ k.1)
