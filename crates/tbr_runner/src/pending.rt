@@ -59,21 +59,13 @@ impl<D: TextDecorator, W: CharWidth> Pending<D, W> {
     }
 
     /// Counts what a request begins or ends. `None` where a count passes `usize`.
-    pub fn behind(self, request: &Request) -> Option<Pending<D, W>>
+    pub fn behind(mut self, request: &Request) -> Option<Pending<D, W>>
         ensures counts { IfSome result (λ pending.
             pending ≡ record self { begun = counted self.begun (request_of request.now) }) }
         ensures passes { IfNone result (MorePasses self.begun (begins (request_of request.now))) }
     {
-        let Pending {
-            begun,
-            cells,
-            aligns,
-        } = self;
-        Some(Pending {
-            begun: begun.behind(request)?,
-            cells,
-            aligns,
-        })
+        self.begun = self.begun.behind(request)?;
+        Some(self)
     }
 
     /// Whether a cell waits.
