@@ -158,16 +158,6 @@ parts line (Some x) h w k =
     let p = split_after 32 line (written_as w) k.0 (Some x) h (lit< tt) k.1 (no_space (written_as w) (spaceless w)) in
     (p.0, subst (Argument w) (sym p.1) k.2)
 
--- without a space there is no argument
-no_space_no_word : (line : List ℕ) → IsSplitOnceResult 32 line None → IsWorded line → ⊥
-no_space_no_word line h w = parts line None h w.0 w.1
-
-pub no_space_no_argument : (line : List ℕ) → IsSplitOnceResult 32 line None → (request : Request) → HasArgument line request → ⊥
-no_space_no_argument line h request k = no_space_no_word line h (by_word line request k)
-
-pub no_space_of_levels : (line : List ℕ) → IsNoLevelName line → IsSplitOnceResult 32 line None → (command : Command) → IsOfLevels line command → ⊥
-no_space_of_levels line names h command k = no_space_no_word line h (level_by_word line names command k)
-
 module _ (line : List ℕ) (word rest : Bor (List ℕ)) (h : IsSplitOnceResult 32 line (Some (word, rest))) where
   pub behind_it : line ≡ word.now ++ (32 ∷ rest.now)
   behind_it = (split_parts 32 line (Some (word, rest)) h (lit< tt)).0
@@ -200,19 +190,6 @@ module _ (line : List ℕ) (word rest : Bor (List ℕ)) (h : IsSplitOnceResult 3
   no_word a b d f g n (layout what) k = k
   no_word a b d f g n (begin what) k = k
   no_word a b d f g n (end what) k = k
-
-  pub no_level_word : IsNoLevelName line → word.now ≢ codes "link" → word.now ≢ codes "sub" → word.now ≢ codes "append" → word.now ≢ codes "cell" → (command : Command) → IsOfLevels line command → ⊥
-  unfolding level_by_word
-  no_level_word names l a b c (ask request) k = k
-  no_level_word names l a b c (link t) k = l (begins_with (level_by_word line names (link t) k))
-  no_level_word names l a b c end_link k = names.0 k
-  no_level_word names l a b c (sub n) k = a (begins_with (level_by_word line names (sub n) k))
-  no_level_word names l a b c (append s t) k = b (begins_with (level_by_word line names (append s t) k))
-  no_level_word names l a b c (cell m n d) k = c (begins_with (level_by_word line names (cell m n d) k))
-  no_level_word names l a b c end_cell k = names.1 k
-  no_level_word names l a b c (row false) k = names.2 k
-  no_level_word names l a b c (row true) k = names.3 k
-  no_level_word names l a b c vertical_row k = names.4 k
 
 -- ---- commands
 

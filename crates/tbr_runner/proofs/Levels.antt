@@ -2,11 +2,10 @@
 use Rattle.std.proofs.Common.{◌≡◌, ◌<◌, List, [], ◌∷◌, length, drop, Some, refl, sym, subst, arith}
 use Rattle.std.specs.List.{AllZip}
 use Rattle.text_block_renderer.specs.Renderer.{Renderer}
-use Rattle.tbr_stack.specs.Stack.{Stack, Level, top_of, with_top, pushed, below, first_renderer, in_first}
-use Rattle.tbr_commands.specs.Begun.{nothing_begun}
+use Rattle.tbr_stack.specs.Stack.{Stack, Level, top_of, with_top, below, first_renderer, in_first}
 use Rattle.tbr_commands.specs.declared.begun.Begun.{Begun}
 use Rattle.tbr_runner.specs.declared.opened.Opener.{Opener}
-use Rattle.tbr_runner.specs.Progress.{Pending, Opened, IsLive, AreLive, begun_on_each, nothing_pending}
+use Rattle.tbr_runner.specs.Progress.{Pending, Opened, IsLive, AreLive, begun_on_each}
 
 abbrev pub with_first : {R : Type 0} → List (Level R) → R → List (Level R)
 with_first levels r = in_first (λ level. record level { renderer = r }) levels
@@ -51,10 +50,6 @@ module _ {D A T : Type 0} where
     pub with_top_live : (next : Stack (Renderer D A T)) (s : Renderer D A T) (left : Pending D A T) → next ≡ with_top stack s → IsLive s left.begun → AreLive next left opened
     with_top_live next s left is live_here =
         subst (λ (x : Stack (Renderer D A T)). AreLive x left opened) (sym is) (with_first_live stack.levels s pending.begun left.begun _ live live_here)
-
-    pub pushed_live : (next : Stack (Renderer D A T)) (r : Renderer D A T) (by : Opener) → next ≡ pushed r stack → IsLive r nothing_begun → AreLive next nothing_pending (record { by = by; below = pending } ∷ opened)
-    pushed_live next r by is live_here =
-        subst (λ (x : Stack (Renderer D A T)). AreLive x nothing_pending (record { by = by; below = pending } ∷ opened)) (sym is) (live_here, live)
 
     pub below_live : (next : Stack (Renderer D A T)) (left : Pending D A T) (others : List (Opened D A T)) → next ≡ below stack → ((by : Opener) × (opened ≡ record { by = by; below = left } ∷ others)) → AreLive next left others
     below_live next left others is closed =

@@ -51,17 +51,9 @@ module _ (columns : ℕ → Option ℕ) (number : ℕ) where
   nothing_begun [] none = refl
   nothing_begun (b ∷ bs) none = absurd (no_length (length bs) none)
 
-  pub line_skipped : (rest line behind : List ℕ) (outcome : Result (List ℕ) RunError) → true ≡ (length line == 0) → lines_of rest ≡ line ∷ lines_of behind → Begins columns (number + 1) (lines_of behind) outcome → Begins columns number (lines_of rest) outcome
-  line_skipped rest [] behind outcome none is h = subst (λ ls. Begins columns number ls outcome) (sym is) h
-  line_skipped rest (b ∷ bs) behind outcome none is h = absurd (no_length (length bs) none)
-
   pub no_opening : (rest line behind : List ℕ) → false ≡ (length line == 0) → lines_of rest ≡ line ∷ lines_of behind → ((opening : Opening) → IsOpening line opening → ⊥) → Begins columns number (lines_of rest) (Err (NotACommand number))
   no_opening rest [] behind some is none = absurd (false≢true some)
   no_opening rest (b ∷ bs) behind some is none = subst (λ ls. Begins columns number ls (Err (NotACommand number))) (sym is) (inl (none, refl))
-
-  pub opened_at : (opening : Opening) (rest line behind : List ℕ) (outcome : Result (List ℕ) RunError) → false ≡ (length line == 0) → lines_of rest ≡ line ∷ lines_of behind → IsOpening line opening → Opens columns opening (number + 1) (lines_of behind) outcome → Begins columns number (lines_of rest) outcome
-  opened_at opening rest [] behind outcome some is opens h = absurd (false≢true some)
-  opened_at opening rest (b ∷ bs) behind outcome some is opens h = subst (λ ls. Begins columns number ls outcome) (sym is) (inr (opening, opens, h))
 
 -- ---- the first command
 

@@ -1,27 +1,16 @@
 -- One write after another.
-use Rattle.std.proofs.Common.{◌≡◌, ℕ, ◌-◌, length, Option, Some, None, List, [], ◌++◌, sym, ap, ◌∙◌, append_assoc, Result, Ok, Err, take, drop, append-nil}
+use Rattle.std.proofs.Common.{◌≡◌, ℕ, ◌-◌, length, Option, Some, None, List, ◌++◌, sym, ap, ◌∙◌, append_assoc, Result, Ok, Err, take, drop}
 use Rattle.std.proofs.Common.{arith}
 use Rattle.std.proofs.lemmas.Grind.{common_steps}
 use Rattle.std.specs.Result.{IsErrAnd}
-use Rattle.std.specs.Io.KnownBytes.{Appends, Keeps}
+use Rattle.std.specs.Io.KnownBytes.{Appends}
 use Rattle.tbr_script.specs.Streams.{AppendsBeginning, WritesAll}
-
-pub appends_none : (old : Option (List ℕ)) → Appends old old []
-appends_none None = tt
-appends_none (Some xs) = sym (append-nil xs)
 
 pub appends_more : (old mid new : Option (List ℕ)) (xs ys : List ℕ) → Appends old mid xs → Appends mid new ys → Appends old new (xs ++ ys)
 appends_more None mid new xs ys h k = tt
 appends_more (Some held) None new xs ys h k = absurd h
 appends_more (Some held) (Some mid) None xs ys h k = absurd k
 appends_more (Some held) (Some mid) (Some new) xs ys h k = k ∙ ap (λ zs. zs ++ ys) h ∙ append_assoc held xs ys
-
--- nothing more was written
-pub appends_kept : (old mid new : Option (List ℕ)) (xs : List ℕ) → Appends old mid xs → Keeps mid new → Appends old new xs
-appends_kept None mid new xs h k = tt
-appends_kept (Some held) None new xs h k = absurd h
-appends_kept (Some held) (Some mid) None xs h k = absurd k
-appends_kept (Some held) (Some mid) (Some new) xs h k = k ∙ h
 
 -- a beginning of what follows was written
 pub beginning_after : (old mid new : Option (List ℕ)) (xs ys : List ℕ) → Appends old mid xs → AppendsBeginning mid new ys → AppendsBeginning old new (xs ++ ys)

@@ -7,7 +7,7 @@ use Rattle.tbr_tagged.specs.declared.padding.CellAlign.{CellAlign}
 use Rattle.tbr_tagged.specs.declared.padding.CellAlign.TheVariants.{Left, Right, Centre}
 use Rattle.tbr_tagged.specs.Padding.{spaces, columns_in_front, spaces_before, padded}
 use Rattle.tbr_tagged.proofs.SameItems.{all_zip_append, same_items, same_items_append, same_items_trans, items_push, same_width}
-use Rattle.tbr_tagged.proofs.TextBehind.{same_element, same_elements, same_merged, merged_push}
+use Rattle.tbr_tagged.proofs.TextBehind.{same_elements, same_merged, merged_push}
 use Rattle.tbr_tagged.proofs.TextInFront.{items_inserted, merged_inserted}
 use Rattle.tbr_model.proofs.words.Items.{items_width-append}
 
@@ -78,9 +78,6 @@ module _ {A : Type 0} (eq : A → A → Bool) (laws : IsEquivalence eq) where
       go : (t : Bool) → SameElements eq (cond t (extend_last es (c ∷ cs)) (es ++ piece (c ∷ cs) a ∷ [])) (cond t (extend_last fs (c ∷ cs)) (fs ++ piece (c ∷ cs) a ∷ []))
       go true = same_extended es fs (c ∷ cs) h
       go false = all_zip_append (SameElement eq) es (piece (c ∷ cs) a ∷ []) fs (piece (c ∷ cs) a ∷ []) h (same_elements eq laws (piece (c ∷ cs) a ∷ []))
-
-  same_before : (cs : List ℕ) (e : Element A) → SameElement eq (text_before cs e) (text_before cs e)
-  same_before cs e = same_element eq laws (text_before cs e)
 
   under_equal : (e : Element A) (a b : A) → eq a b ≡ true → is_piece_under eq (Some e) a ≡ is_piece_under eq (Some e) b
   under_equal (piece cs x) a b h = laws.symm x a ∙ laws.congr a b x h ∙ laws.symm b x

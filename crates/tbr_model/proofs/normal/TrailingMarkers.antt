@@ -1,4 +1,4 @@
--- Markers that are left in a run of Normal mode: where it stands, and where it ends.
+-- Markers that are left where a run of Normal mode ends.
 use Rattle.std.proofs.Common.{◌≡◌, ℕ, Bool, true, false, if◌then◌else◌, Option, List, [], ◌∷◌, ◌++◌, refl, ap, sym, ◌∙◌, subst}
 use Rattle.std.specs.List.{AllByRecursion as Each}
 use Rattle.tbr_model.specs.declared.white_space.WhiteSpace.TheVariants.{Normal}
@@ -13,19 +13,6 @@ use Rattle.tbr_model.proofs.normal.StaysLaid.{AllLaid, IsNarrowItem, laid_end_if
 use Rattle.tbr_model.proofs.normal.LayoutSoFar.{Lined, state_of, lay_narrow, lay_reading, wrapped-push, normal_state}
 
 module _ {A : Type 0} (columns : ℕ → Option ℕ) (width : ℕ) where
-  module _ (es : List (Event A)) (modes : Each (HasMode Normal) (run_of es)) (narrow : AllLaid (IsNarrowItem columns width) (progress columns width es).laid) where
-    -- the word under way holds the items behind the last working break point
-    pub normal_items : (progress columns width es).word ≡ (reading columns (run_of es)).items
-    normal_items = ap (λ (p : Progress A). p.word) (normal_state columns width es modes narrow).0
-
-    -- if it has no character, these are the trailing markers
-    pub normal_word : has_character (progress columns width es).word ≡ false → (progress columns width es).word ≡ trailing columns (run_of es)
-    normal_word h =
-        let bare : has_character (reading columns (run_of es)).items ≡ false = ap has_character (sym normal_items) ∙ h in
-        rw bare normal_items
-
-  -- ---- the end
-
   -- where a reading stands, with its word laid if it has a character
   abbrev flushed : Reading A → Bool → Progress A
   flushed r b = if b then lay columns width (state_of columns width r) else state_of columns width r

@@ -84,7 +84,3 @@ kept_one columns c a h = rw h refl
 pub kept-spaces : {A : Type 0} (columns : ℕ → Option ℕ) (n : ℕ) (a : A) → kept_of columns (spaces n a) ≡ []
 kept-spaces columns zero a = refl
 kept-spaces columns (suc n) a = let e : is_kept columns 32 ≡ false = break_lost columns 32 refl in rw e (kept-spaces columns n a)
-
-pub kept-space_text : {A : Type 0} (columns : ℕ → Option ℕ) (o : Option (Space A)) → kept_of columns (space_text o) ≡ []
-kept-space_text columns None = refl
-kept-space_text columns (Some s) = kept-spaces columns s.width s.tag
