@@ -26,7 +26,7 @@ pub struct BorderHoriz<T> {
     shape: Box<Shape<T>>,
 }
 
-/// What a border has. It stands in a box, so that a border takes no more room in a renderer's list of lines than a line
+/// What a border has. It stands in a box, so that a border takes no more room among a renderer's lines than a line
 /// of text.
 #[derive(Debug, Drop)]
 struct Shape<T> {

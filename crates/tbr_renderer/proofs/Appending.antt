@@ -96,18 +96,6 @@ module _ {D A M : Type 0} (f : A → M) (columns : ℕ → Option ℕ) (first : 
   abbrev pub HasCell : List (RenderLine (Vec A)) → Renderer D A (Vec A) → Type 0
   HasCell lines now = HasPut (map (as_text (map f first.annotations)) (seen lines)) now
 
-  pub cell_begun : first.failure ≡ None → HasCell [] first
-  cell_begun live = put_none live
-
-  pub cell_goes_on : (lines : List (RenderLine (Vec A))) (line : RenderLine (Vec A)) (text : List (Item (List M))) (now next : Renderer D A (Vec A)) → HasCell lines now →
-      text ≡ as_text (map f now.annotations) (map_line (tag_meant f) (line_seen line)) → meant f next ≡ with_line columns (meant f now) text → KeepsSettings (meant f now) (meant f next) → HasCell (lines ++ line ∷ []) next
-  cell_goes_on lines line text now next h is put kept =
-      let tag = map f first.annotations in
-      let here : text ≡ as_text tag (map_line (tag_meant f) (line_seen line)) = is ∙ ap (λ t. as_text t (map_line (tag_meant f) (line_seen line))) (under now h.settings) in
-      let all : map (as_text tag) (seen lines) ++ text ∷ [] ≡ map (as_text tag) (seen (lines ++ line ∷ [])) =
-      ap (λ t. map (as_text tag) (seen lines) ++ t ∷ []) here ∙ sym (ap (map (as_text tag)) (seen-last lines line) ∙ map-append (as_text tag) (seen lines) (map_line (tag_meant f) (line_seen line) ∷ [])) in
-      subst (λ (ts : List (List (Item (List M)))). HasPut ts next) all (put_more (map (as_text tag) (seen lines)) text now next h put kept)
-
   -- ---- lines behind prefixes
 
   module _ {S X : Type 0} (can : S → Type 0) (gives : S → Option X → S → Type 0) (read : X → List ℕ) (it : S) where
@@ -117,9 +105,6 @@ module _ {D A M : Type 0} (f : A → M) (columns : ℕ → Option ℕ) (first : 
       pub yields : Yields gives it given left
       pub as_many : length given ≡ length lines
       pub put : HasPut (prefixed (map f first.annotations) (texts_of read given) (seen lines)) now
-
-    pub prefixed_begun : can it → first.failure ≡ None → HasPrefixed [] it first
-    prefixed_begun h live = record { can_go_on = h; given = []; yields = refl; as_many = refl; put = put_none live }
 
     same_length : (given : List X) (lines : List (RenderLine (Vec A))) → length given ≡ length lines → length (texts_of read given) ≡ length (seen lines)
     same_length given lines same = length-map (λ x. chars (read x)) given ∙ same ∙ sym (length-seen lines)
@@ -148,9 +133,6 @@ module _ {D A M : Type 0} (f : A → M) (columns : ℕ → Option ℕ) (first : 
     Prefixes lines now =
         (given : List X) × GivesFirst gives (length lines) it given
         × (meant f now ≡ fold (with_line columns) (meant f first) (prefixed (map f first.annotations) (texts_of read given) (seen lines)))
-
-    pub all_prefixed : (lines : List (RenderLine (Vec A))) (left : S) (now : Renderer D A (Vec A)) → HasPrefixed lines left now → Prefixes lines now
-    all_prefixed lines left now h = (h.given, (left, h.yields, inl h.as_many), h.put.lines)
 
     -- the prefixes ran out before a line
     pub ran_out : (lines : List (RenderLine (Vec A))) (line : RenderLine (Vec A)) (more : List (RenderLine (Vec A))) (left end : S) (now : Renderer D A (Vec A)) → HasPrefixed lines left now → gives left None end → Prefixes (lines ++ line ∷ more) now

@@ -1,25 +1,20 @@
 -- Renderers in which nothing stands.
-use Rattle.std.proofs.Common.{◌≡◌, ℕ, ◌&&◌, ◌||◌, ◌↔◌, not, IsTrue, Bool, true, false, is_none, Option, None, Some, List, [], ◌∷◌, ◌++◌, map, fold, drop, refl, ap, ◌∙◌, subst}
+use Rattle.std.proofs.Common.{◌≡◌, ℕ, ◌&&◌, ◌||◌, ◌↔◌, not, IsTrue, Bool, true, false, is_none, Option, None, Some, List, [], ◌∷◌, map, refl, ap, ◌∙◌, subst}
 use Rattle.std.specs.Global.{Vec}
 use Rattle.std.proofs.lemmas.Bool.{and_parts}
 use Rattle.tbr_model.specs.Run.{kept_items, has_character}
 use Rattle.tbr_model.proofs.words.Items.{no_character_no_width}
 use Rattle.tbr_lines.specs.declared.Error.{Error}
 use Rattle.tbr_lines.specs.declared.RenderLine.{RenderLine}
-use Rattle.tbr_lines.specs.State.{State, IsNormal, WrapsNormally, RunDecides, has_begun, is_some_list, lines_left, loose_taken}
-use Rattle.tbr_renderer.specs.Renderer.{Open, Renderer, with_line, block_width, may_overflow}
+use Rattle.tbr_lines.specs.State.{State, IsNormal, WrapsNormally, RunDecides, has_begun, is_some_list}
+use Rattle.tbr_renderer.specs.Renderer.{Open, Renderer, block_width, may_overflow}
 use Rattle.tbr_renderer.specs.Meant.{tag_meant, map_line, meant}
 use Rattle.tbr_renderer.specs.View.{line_seen, IsFresh, block_seen}
-use Rattle.tbr_renderer.specs.Flush.{line_meant}
 use Rattle.tbr_renderer.specs.Rows.{block_is_blank, is_blank, TellsBlank}
 
 none_of_not : {X : Type 0} (xs : List X) → not (is_some_list xs) ≡ true → xs ≡ []
 none_of_not [] h = refl
 none_of_not (x ∷ xs) h = cc
-
-no_other : (a b : Bool) → not (a || b) ≡ true → not b ≡ true
-no_other true b h = cc
-no_other false b h = h
 
 none_mapped : {X Y : Type 0} (f : X → Y) (xs : List X) → map f xs ≡ [] → xs ≡ []
 none_mapped f [] h = refl
@@ -49,25 +44,7 @@ module _ {D A : Type 0} (columns : ℕ → Option ℕ) (r : Renderer D A (Vec A)
                 ∙ known.no_character.1 none,
           )
 
--- where no block is open
-pub no_block_tells : {D A : Type 0} (columns : ℕ → Option ℕ) (r : Renderer D A (Vec A)) → r.block ≡ None → TellsBlank columns r
-no_block_tells columns r none live o is narrow normal = absurd (let no : ⊥ = cc in no)
-
--- ---- a flush of a blank block adds no line
-
-module _ {D A M : Type 0} (f : A → M) (columns : ℕ → Option ℕ) (r s0 s1 s2 : Renderer D A (Vec A)) (b after behind : State (Vec A)) (width : ℕ) (overflows : Bool) (waiting : List (List ℕ)) where
-  pub nothing_flushed : IsFresh width overflows b → block_seen (Some b) ≡ r.block → block_is_blank r.block ≡ true → (b.no_character ≡ true → lines_left after ≡ lines_left b) → behind ≡ loose_taken after → s0 ≡ record r { block = None } →
-      meant f s1 ≡ fold (with_line columns) (meant f s0) (map (line_meant columns f behind) (lines_left behind)) → s2 ≡ record s1 { waiting = waiting } → (meant f s2).lines ≡ (meant f r).lines
-  nothing_flushed fresh seen blank alone taken emptied lines waits =
-      let (unbegun, none) = and_parts (not (has_begun b)) b.no_character (ap block_is_blank seen ∙ blank) in
-      let no_line : b.lines ≡ [] = none_of_not b.lines (no_other b.begun (is_some_list b.lines) unbegun) in
-      let before : lines_left b ≡ [] = ap (λ ls. ls ++ drop b.handed b.lines) fresh.ended ∙ ap (λ n. drop n b.lines) fresh.handed ∙ no_line in
-      let left : lines_left behind ≡ [] = ap lines_left taken ∙ alone none ∙ before in
-      ap (λ (q : Renderer D A (Vec A)). (meant f q).lines) waits
-      ∙ ap (λ (q : Renderer D M (List M)). q.lines) (lines ∙ ap (λ ls. fold (with_line columns) (meant f s0) (map (line_meant columns f behind) ls)) left)
-      ∙ ap (λ (q : Renderer D A (Vec A)). (meant f q).lines) emptied
-
--- and none is handed out
+-- a blank renderer, whose flush adds no line, hands out none
 pub none_handed : {D A M : Type 0} (f : A → M) (r s : Renderer D A (Vec A)) (lines : List (RenderLine (Vec A))) → is_blank r ≡ true → (block_is_blank r.block ≡ true → (meant f s).lines ≡ (meant f r).lines) → map line_seen lines ≡ s.lines → lines ≡ []
 none_handed f r s lines blank flushed seen =
     let rest = (and_parts (is_none r.failure) (block_is_blank r.block && not (is_some_list r.lines)) blank).1 in

@@ -120,9 +120,6 @@ module _ {T : Type 0} (columns : ℕ → Option ℕ) (b after behind : State T) 
   pub width_left : behind.width ≡ width
   width_left = ap (λ (s : State T). s.width) (taken ∙ ap loose_taken flushed_is) ∙ fresh.width_is
 
-  pub unfailed_left : behind.failure ≡ None
-  unfailed_left = ap (λ (s : State T). s.failure) (taken ∙ ap loose_taken flushed_is) ∙ fresh.unfailed
-
 module _ {D A M : Type 0} (f : A → M) (columns : ℕ → Option ℕ) (r : Renderer D A (Vec A)) (b : State (Vec A)) (seen : block_seen (Some b) ≡ r.block) (fresh : IsFresh (block_width r) (may_overflow r) b) where
   -- a flush where a block is open
   pub block_flushed : (after behind : State (Vec A)) (texts : List (List (Item (Vec A)))) (names waiting : List (List ℕ)) (s0 s1 s2 : Renderer D A (Vec A)) →

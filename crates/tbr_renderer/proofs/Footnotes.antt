@@ -121,9 +121,6 @@ module _ {D A M : Type 0} (f : A → M) (columns : ℕ → Option ℕ) (first : 
   abbrev pub HasFootnotes : List (List (Element A)) → Renderer D A (Vec A) → Type 0
   HasFootnotes links now = HasPut f columns first (flat_map (footnote_lines columns (meant f first)) (map (map (element_meant f)) links)) now
 
-  pub footnotes_begun : first.failure ≡ None → HasFootnotes [] first
-  footnotes_begun live = record { unfailed = live; settings = refl; lines = refl }
-
   pub footnotes_go_on : (links : List (List (Element A))) (link : List (Element A)) (texts : List (List (Item (List M)))) (now next : Renderer D A (Vec A)) → HasFootnotes links now →
       texts ≡ footnote_lines columns (meant f now) (map (element_meant f) link) → meant f next ≡ fold (with_line columns) (meant f now) texts → KeepsSettings (meant f now) (meant f next) → next.failure ≡ None →
       HasFootnotes (links ++ link ∷ []) next

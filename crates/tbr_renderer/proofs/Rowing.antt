@@ -101,9 +101,6 @@ module _ {T : Type 0} (ls front : List (Line T)) (b : Border T) (is : ls ≡ fro
   pub front_is : before_border ls ≡ front
   front_is = ap before_border is ∙ ap (λ (o : Option (Border T)). if is_some o then without_last (front ++ border b ∷ []) else front ++ border b ∷ []) (last_behind front (border b)) ∙ front_behind front (border b)
 
-pub no_border_is : {T : Type 0} (ls : List (Line T)) → last_border ls ≡ None → before_border ls ≡ ls
-no_border_is ls none = ap (λ (o : Option (Border _)). if is_some o then without_last ls else ls) none
-
 -- no border where the last line in memory is none
 pub no_last_border : {T : Type 0} (ls : List (RenderLine T)) (x : RenderLine T) → x ≡ get_or ls (length ls - 1) x → last_border (line_seen x ∷ []) ≡ None → last_border (map line_seen ls) ≡ None
 no_last_border [] x is none = refl
