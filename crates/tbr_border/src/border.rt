@@ -26,8 +26,8 @@ pub struct BorderHoriz<T> {
     shape: Box<Shape<T>>,
 }
 
-/// What a border has. It stands in a box, so that a border takes no more room among a renderer's lines than a line
-/// of text.
+/// What a border has. It stands in a box, so that a border takes no more room among a renderer's lines than a line of
+/// text.
 #[derive(Debug, Drop)]
 struct Shape<T> {
     segments: Vec<BorderSegHoriz>,
