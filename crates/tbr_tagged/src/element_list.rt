@@ -226,10 +226,19 @@ impl<T: Drop> ElementList<T> {
         ensures ok { OnOk result (stored self.new ≡ stored self.old ++ element ∷ []) }
         ensures err { OnErr result (stored self.new ≡ stored self.old) }
     {
-        if self.is_empty() {
-            *self = ElementList::Alone(element);
-            return Ok(());
+        match self {
+            ElementList::Listed(list) if list.is_empty() => *self = ElementList::Alone(element),
+            ElementList::Listed(list) => list.push(element)?,
+            ElementList::Alone(_) => self.push_beside(element)?,
         }
+        Ok(())
+    }
+
+    /// Appends an element to a single one, and lists both. Where memory is refused nothing changes.
+    fn push_beside(&mut self, element: TaggedLineElement<T>) -> Result<(), OutOfMemory>
+        ensures ok { OnOk result (stored self.new ≡ stored self.old ++ element ∷ []) }
+        ensures err { OnErr result (stored self.new ≡ stored self.old) }
+    {
         let mut list = self.take_list()?;
         let pushed = list.push(element);
         *self = ElementList::Listed(list);
