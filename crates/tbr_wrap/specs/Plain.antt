@@ -27,13 +27,17 @@ JoinWord columns spaced cs = Each (λ c. joins columns spaced c ≡ true) cs
 abbrev pub kept_width : (ℕ → Option ℕ) → ℕ → Option ℕ
 kept_width columns c = if is_break c then None else columns c
 
--- What a text begins with, by its bytes, its characters and their columns: characters at which no word ends.
-pub record AreLetters (columns : ℕ → Option ℕ) (text : List ℕ) (s : Stretch) : Type 0 where
-  pub within : s.bytes ≤ length text
-  pub utf8 : IsUtf8 (take s.bytes text)
-  pub number : s.count ≡ length (chars (take s.bytes text))
+-- What a text begins with, by its bytes, and how many characters these are.
+pub record IsFront (text : List ℕ) (bytes count : ℕ) : Type 0 where
+  pub within : bytes ≤ length text
+  pub utf8 : IsUtf8 (take bytes text)
+  pub number : count ≡ length (chars (take bytes text))
+
+-- The same with the columns, of characters that join the word where it is.
+pub record IsStretch (columns : ℕ → Option ℕ) (spaced : Bool) (text : List ℕ) (s : Stretch) : Type 0 where
+  pub front : IsFront text s.bytes s.count
   pub width : s.columns ≡ width_of_text columns (chars (take s.bytes text))
-  pub join : JoinWord columns false (chars (take s.bytes text))
+  pub join : JoinWord columns spaced (chars (take s.bytes text))
 
 -- printable ASCII, other than the space, of one column
 abbrev pub is_narrow : (ℕ → Option ℕ) → ℕ → Bool

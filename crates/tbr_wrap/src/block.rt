@@ -11,7 +11,7 @@ ghost use Rattle.tbr_wrap.specs.Wrapped.{WordsFit, EndedWordsFit, ShowsText, pad
 ghost use Rattle.tbr_wrap.specs.State.{IsNormal, CharactersFit, VisibleFit, is_some_list};
 ghost use Rattle.tbr_tagged.specs.declared.error.Error.TheVariants as E;
 
-use crate::run_change::{RunChange, RunHistory, note_ascii, note_text, with_marker};
+use crate::run_change::{RunChange, RunHistory, note_text, with_marker};
 use crate::wrapper::Wrapper;
 use std::alloc::Global;
 use std::marker::{Model, PhantomData};
@@ -181,163 +181,7 @@ impl<T: Eq + Clone, W: CharWidth> WrappedBlock<T, W> {
             .appended(&RunChange::Called, &self.default_tag, &self.default_tag);
     }
 
-    /// Adds a character to the run.
-    fn add_char(
-        &mut self,
-        c: char,
-        main_tag: &T,
-        wrap_tag: &T,
-        mode: WhiteSpace,
-    ) -> Result<(), Error>
-    where
-        T: Drop,
-        requires { CopiesAreEqual T.is_clone T.eq }
-        ensures ok { OnOk result (JoinsRun self.old (character c main_tag.now wrap_tag.now mode ∷ []) self.new) }
-        ensures kept { KeepsRefusal self.old result self.new }
-        ensures too_narrow { self.old.failure ≡ None → result ≡ Err E.TooNarrow →
-            (self.old.may_overflow ≡ false) × ¬ (CharactersFit W.columns self.old.width self.old.run) }
-        ensures normal_too_narrow { let run = self.old.run ++ character c main_tag.now wrap_tag.now mode ∷ [] in
-            self.old.failure ≡ None → IsNormal run → result ≡ Err E.TooNarrow →
-            ¬ (EndedWordsFit W.columns self.old.width run) }
-    {
-        self.refusal()?;
-        keep(
-            &mut self.failure,
-            self.wrapper.add_char::<W>(c, main_tag, wrap_tag, mode),
-        )?;
-        self.changes = self
-            .changes
-            .appended(&RunChange::Character(c, mode), main_tag, wrap_tag);
-        Ok(())
-    }
-
-    /// Adds the words to the run that a text begins with, where they go on the open line at once, and answers what is
-    /// left.
-    fn add_words<'a>(
-        &mut self,
-        text: &'a str,
-        mode: WhiteSpace,
-        main_tag: &T,
-        wrap_tag: &T,
-    ) -> Result<&'a str, Error>
-    where
-        T: Drop,
-        requires faithful { CopiesAreEqual T.is_clone T.eq }
-        requires unfailed { self.old.failure ≡ None }
-        ensures ok { IfOk result (λ rest.
-            JoinsFront self.old text.now rest.now main_tag.now wrap_tag.now mode self.new) }
-        ensures rest { IfOk result (λ rest. IsUtf8 rest.now × (length rest.now ≤ length text.now)) }
-        ensures none { IfOk result (λ rest. length rest.now ≡ length text.now → self.new ≡ self.old) }
-        ensures failed { IfErr result (λ e. (e ≡ E.OutOfMemory) × (self.new.failure ≡ Some e)) }
-    {
-        let count = self.wrapper.fitting_words::<W>(text, mode);
-        if count == 0 {
-            return Ok(text);
-        }
-        let (words, rest) = text.split_at(count);
-        let added = self.wrapper.add_words::<W>(words, main_tag, wrap_tag);
-        keep_want(&mut self.failure, added)?;
-        note_ascii(&mut self.changes, words, main_tag, wrap_tag, mode);
-        Ok(rest)
-    }
-
-    /// Adds the plain characters to the run that a text begins with, where these join the word under one tag, and
-    /// answers what is left.
-    fn add_plain<'a>(
-        &mut self,
-        text: &'a str,
-        mode: WhiteSpace,
-        main_tag: &T,
-        wrap_tag: &T,
-    ) -> Result<&'a str, Error>
-    where
-        T: Drop,
-        requires faithful { CopiesAreEqual T.is_clone T.eq }
-        requires unfailed { self.old.failure ≡ None }
-        ensures ok { IfOk result (λ rest.
-            JoinsFront self.old text.now rest.now main_tag.now wrap_tag.now mode self.new) }
-        ensures rest { IfOk result (λ rest. IsUtf8 rest.now × (length rest.now ≤ length text.now)) }
-        ensures none { IfOk result (λ rest. length rest.now ≡ length text.now → self.new ≡ self.old) }
-        ensures failed { IfErr result (λ e. (e ≡ E.OutOfMemory) × (self.new.failure ≡ Some e)) }
-    {
-        let (count, width) = self.wrapper.fitting_plain::<W>(text, mode);
-        if count == 0 {
-            return Ok(text);
-        }
-        let (front, rest) = text.split_at(count);
-        let added = self
-            .wrapper
-            .add_stretch::<W>(front, count, width, main_tag, wrap_tag, mode);
-        keep_want(&mut self.failure, added)?;
-        note_ascii(&mut self.changes, front, main_tag, wrap_tag, mode);
-        Ok(rest)
-    }
-
-    /// Adds the characters to the run that a text begins with and at which no word ends, where these join the word
-    /// under one tag, and answers what is left.
-    fn add_letters<'a>(
-        &mut self,
-        text: &'a str,
-        mode: WhiteSpace,
-        main_tag: &T,
-        wrap_tag: &T,
-    ) -> Result<&'a str, Error>
-    where
-        T: Drop,
-        requires faithful { CopiesAreEqual T.is_clone T.eq }
-        requires unfailed { self.old.failure ≡ None }
-        ensures ok { IfOk result (λ rest.
-            JoinsFront self.old text.now rest.now main_tag.now wrap_tag.now mode self.new) }
-        ensures rest { IfOk result (λ rest. IsUtf8 rest.now × (length rest.now ≤ length text.now)) }
-        ensures none { IfOk result (λ rest. length rest.now ≡ length text.now → self.new ≡ self.old) }
-        ensures failed { IfErr result (λ e. (e ≡ E.OutOfMemory) × (self.new.failure ≡ Some e)) }
-    {
-        let Some(letters) = self.wrapper.fitting_letters::<W>(text, mode) else {
-            return Ok(text);
-        };
-        let (front, rest) = text.split_at(letters.bytes);
-        let (count, width) = (letters.count, letters.columns);
-        let added = self
-            .wrapper
-            .add_stretch::<W>(front, count, width, main_tag, wrap_tag, mode);
-        keep_want(&mut self.failure, added)?;
-        note_text(&mut self.changes, front, count, main_tag, wrap_tag, mode);
-        Ok(rest)
-    }
-
-    /// Adds the first character of a text to the run, and answers what is left.
-    fn add_first<'a>(
-        &mut self,
-        text: &'a str,
-        mode: WhiteSpace,
-        main_tag: &T,
-        wrap_tag: &T,
-    ) -> Result<&'a str, Error>
-    where
-        T: Drop,
-        requires faithful { CopiesAreEqual T.is_clone T.eq }
-        requires unfailed { self.old.failure ≡ None }
-        requires some { 0 < length text.now }
-        ensures ok { IfOk result (λ rest.
-            JoinsFront self.old text.now rest.now main_tag.now wrap_tag.now mode self.new) }
-        ensures rest { IfOk result (λ rest. IsUtf8 rest.now × (length rest.now < length text.now)) }
-        ensures failed { IfErr result (λ e. self.new.failure ≡ Some e) }
-        ensures too_narrow { result ≡ Err E.TooNarrow →
-            (self.old.may_overflow ≡ false) × ¬ (CharactersFit W.columns self.old.width self.old.run) }
-        ensures normal_too_narrow { let run = run_with self.old (chars text.now) main_tag.now wrap_tag.now mode in
-            IsNormal run → result ≡ Err E.TooNarrow → ¬ (EndedWordsFit W.columns self.old.width run) }
-    {
-        let mut rest = text.chars();
-        let Some(c) = rest.next() else {
-            return Ok(text);
-        };
-        self.add_char(c, main_tag, wrap_tag, mode)?;
-        Ok(rest.as_str())
-    }
-
-    /// Adds the beginning of a text to the run, and answers what is left. That are the words that it begins with, where
-    /// they go on the open line at once, else the plain characters, and else those of any script at which no word ends,
-    /// where these join the word under one tag, and else its first character.
+    /// Adds the beginning of a text to the run, as much as goes at one go, and answers what is left.
     fn add_front<'a>(
         &mut self,
         text: &'a str,
@@ -359,19 +203,11 @@ impl<T: Eq + Clone, W: CharWidth> WrappedBlock<T, W> {
         ensures normal_too_narrow { let run = run_with self.old (chars text.now) main_tag.now wrap_tag.now mode in
             IsNormal run → result ≡ Err E.TooNarrow → ¬ (EndedWordsFit W.columns self.old.width run) }
     {
-        let rest = self.add_words(text, mode, main_tag, wrap_tag)?;
-        if rest.len() < text.len() {
-            return Ok(rest);
-        }
-        let rest = self.add_plain(text, mode, main_tag, wrap_tag)?;
-        if rest.len() < text.len() {
-            return Ok(rest);
-        }
-        let rest = self.add_letters(text, mode, main_tag, wrap_tag)?;
-        if rest.len() < text.len() {
-            return Ok(rest);
-        }
-        self.add_first(text, mode, main_tag, wrap_tag)
+        let added = self.wrapper.add_front::<W>(text, main_tag, wrap_tag, mode);
+        let (bytes, count) = keep(&mut self.failure, added)?;
+        let (front, rest) = text.split_at(bytes);
+        note_text(&mut self.changes, front, count, main_tag, wrap_tag, mode);
+        Ok(rest)
     }
 
     /// Does nothing. It tells what the fields of a `Normal` run say of it.

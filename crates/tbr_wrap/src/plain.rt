@@ -1,9 +1,9 @@
 //! Characters that join a word where they are, and words of them.
-ghost use Rattle.std.specs.Prelude.{◌≡◌, ◌≤◌, ◌<◌, ◌+◌, ◌∷◌, ℕ, List, length, take, drop, IfSome, Some};
+ghost use Rattle.std.specs.Prelude.{◌≡◌, ◌≤◌, ◌<◌, ◌+◌, ◌∷◌, ℕ, List, length, take, drop, IfSome, Some, false};
 ghost use Rattle.std.specs.Str.{IsAscii};
 ghost use Rattle.tbr_model.specs.Width.{width_of_text};
 ghost use Rattle.tbr_wrap.specs.Plain as plain;
-ghost use Rattle.tbr_wrap.specs.Plain.{JoinWord, AreLetters, AreWords};
+ghost use Rattle.tbr_wrap.specs.Plain.{JoinWord, IsStretch, AreWords};
 
 use tbr_model::CharWidth;
 use tbr_tagged::is_wordbreak_point;
@@ -47,7 +47,7 @@ pub struct Stretch {
 
 /// The characters that a text begins with at which no word ends, as many as fit into `room` columns. Each has a width.
 pub fn letters_in_front<W: CharWidth>(text: &str, room: usize) -> Stretch
-    ensures letters { AreLetters W.columns text.now result }
+    ensures letters { IsStretch W.columns false text.now result }
     ensures room { result.columns ≤ room }
 {
     let mut front = Stretch {

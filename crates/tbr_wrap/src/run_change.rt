@@ -25,22 +25,6 @@ pub enum RunChange {
 /// What happened to the runs of a block.
 pub type RunHistory<T> = History<RunChange, T, T>;
 
-/// Notes each byte of a text of ASCII as a character.
-pub fn note_ascii<T>(
-    changes: &mut RunHistory<T>,
-    text: &str,
-    main_tag: &T,
-    wrap_tag: &T,
-    mode: WhiteSpace,
-)
-    ensures { changes.new.items ≡ changes.old.items ++ text_changes text.now main_tag.now wrap_tag.now mode }
-{
-    for &byte in text.as_bytes() {
-        let change = RunChange::Character(char::from(byte), mode);
-        *changes = changes.appended(&change, main_tag, wrap_tag);
-    }
-}
-
 /// Notes the `count` characters of a text.
 pub fn note_text<T>(
     changes: &mut RunHistory<T>,

@@ -1,6 +1,7 @@
 //! Lays the characters of a run on lines, one after another.
 //!
 //! Its stages, in the words of its functions:
+//! - The beginning of a text is *added* as it goes at one go: words, a stretch of characters, or one (`add_front`).
 //! - A character *joins* the word (`join`), or a stretch of them does at which no word ends (`add_stretch`). White space
 //!   that doesn't is pending before it (`collapse`, `keep_space`).
 //! - The word is *laid* where it ends: here, behind what is pending, if both fit the open line (`lay_here`), and else
@@ -104,9 +105,21 @@ impl<T> Wrapper<T> {
 
 impl<T: Eq + Clone + Drop> Wrapper<T> {
     ghost use Rattle.tbr_wrap.specs.LaidLines.{KeepsLimits};
-    ghost use Rattle.tbr_wrap.specs.Plain.{JoinWord, AreLetters, AreWords};
+    ghost use Rattle.tbr_wrap.specs.Plain.{JoinWord, IsFront, IsStretch, AreWords};
     ghost use Rattle.tbr_wrap.specs.State.{text_entries};
-    ghost use Rattle.tbr_wrap.specs.Wrapper.{IsAtProgress, IsUnderWay, Wherever, WrapperFollows, RunIsFinished, SameSpace, KeepsTag, held_width, join_all};
+    ghost use Rattle.tbr_wrap.specs.Wrapper.{IsAtProgress, IsUnderWay, Wherever, WrapperFollows, Enters, EndsWideWord, RunIsFinished, SameSpace, KeepsTag, held_width, join_all};
+
+    /// The tag that a call's characters come under where no continuation begins.
+    fn call_tag<'a>(&self, main_tag: &'a T, wrap_tag: &'a T) -> &'a T
+        ensures { (columns : ℕ → Option ℕ) → Wherever columns T.eq self.now (λ p.
+            T.eq result.now (model.tag_of p main_tag.now wrap_tag.now) ≡ true) }
+    {
+        if self.in_continuation {
+            wrap_tag
+        } else {
+            main_tag
+        }
+    }
 
     /// Puts the pending space on the open line, where it fits.
     fn place_pending<W: CharWidth>(&mut self) -> Result<(), OutOfMemory>
@@ -491,10 +504,8 @@ impl<T: Eq + Clone + Drop> Wrapper<T> {
             self.in_continuation = true;
             return self.join(c, width, wrap_tag, mode);
         }
-        if self.in_continuation {
-            return self.join(c, width, wrap_tag, mode);
-        }
-        self.join(c, width, main_tag, mode)
+        let tag = self.call_tag(main_tag, wrap_tag);
+        self.join(c, width, tag, mode)
     }
 
     /// Adds a character in a preserving mode, before which no word ends.
@@ -521,11 +532,7 @@ impl<T: Eq + Clone + Drop> Wrapper<T> {
             self.newline()?;
             return Ok(());
         }
-        let tag = if self.in_continuation {
-            wrap_tag
-        } else {
-            main_tag
-        };
+        let tag = self.call_tag(main_tag, wrap_tag);
         if c == '\t' {
             self.flush_word::<W>()?;
             self.tab(tag)?;
@@ -565,7 +572,7 @@ impl<T: Eq + Clone + Drop> Wrapper<T> {
     }
 
     /// Adds a character of a run.
-    pub fn add_char<W: CharWidth>(
+    fn add_char<W: CharWidth>(
         &mut self,
         c: char,
         main_tag: &T,
@@ -583,10 +590,8 @@ impl<T: Eq + Clone + Drop> Wrapper<T> {
     {
         match mode {
             WhiteSpace::Normal => {
-                if self.in_continuation {
-                    return self.enter_normal::<W>(c, wrap_tag);
-                }
-                self.enter_normal::<W>(c, main_tag)
+                let tag = self.call_tag(main_tag, wrap_tag);
+                self.enter_normal::<W>(c, tag)
             }
             WhiteSpace::Pre => self.preserve::<W>(c, main_tag, wrap_tag, mode),
             WhiteSpace::PreWrap => {
@@ -622,40 +627,30 @@ impl<T: Eq + Clone + Drop> Wrapper<T> {
         self.room()
     }
 
-    /// How many bytes of plain characters a text begins with that join the word under the tag of this call, and the
-    /// columns that these take. In `Pre` the spaces behind a character of the word are among them.
-    pub fn fitting_plain<W: CharWidth>(&self, text: &str, mode: WhiteSpace) -> (usize, usize)
-        ensures within { result.0 ≤ length text.now }
-        ensures ascii { IsAscii (take result.0 text.now) }
-        ensures join { JoinWord W.columns (model.is_pre mode && has_character self.now.lines.flat.word)
-            (take result.0 text.now) }
-        ensures columns { result.1 ≡ width_of_text W.columns (take result.0 text.now) }
-        ensures tag { 0 < result.0 → KeepsTag self.now mode result.1 }
-    {
-        let Some(room) = self.room_under_tag(mode) else {
-            return (0, 0);
-        };
-        let spaced = is_pre(mode) && self.lines.flat.has_word();
-        plain_in_front::<W>(text, spaced, room)
-    }
-
-    /// The characters that a text begins with at which no word ends, as many as join the word under the tag of this
-    /// call. None where there are none.
-    pub fn fitting_letters<W: CharWidth>(&self, text: &str, mode: WhiteSpace) -> Option<Stretch>
+    /// The characters that a text begins with that join the word under the tag of this call: as many as are plain, and
+    /// where there are none of these, as many of any script. In `Pre` the spaces behind a character of the word are plain.
+    /// None where there are none.
+    fn fitting_stretch<W: CharWidth>(&self, text: &str, mode: WhiteSpace) -> Option<Stretch>
         ensures some { IfSome result (λ s. 0 < s.count) }
-        ensures letters { IfSome result (λ s. AreLetters W.columns text.now s) }
+        ensures stretch { IfSome result (λ s.
+            IsStretch W.columns (model.is_pre mode && has_character self.now.lines.flat.word) text.now s) }
         ensures tag { IfSome result (λ s. KeepsTag self.now mode s.columns) }
     {
         let room = self.room_under_tag(mode)?;
-        let letters = letters_in_front::<W>(text, room);
-        if letters.count == 0 {
-            return None;
+        let spaced = is_pre(mode) && self.lines.flat.has_word();
+        let (count, columns) = plain_in_front::<W>(text, spaced, room);
+        if count > 0 {
+            return Some(Stretch { bytes: count, count, columns });
         }
-        Some(letters)
+        let letters = letters_in_front::<W>(text, room);
+        if letters.count > 0 {
+            return Some(letters);
+        }
+        None
     }
 
     /// Adds `count` characters of a run, of `width` columns. No word ends there, and no continuation begins.
-    pub fn add_stretch<W: CharWidth>(
+    fn add_stretch<W: CharWidth>(
         &mut self,
         text: &str,
         count: usize,
@@ -676,15 +671,13 @@ impl<T: Eq + Clone + Drop> Wrapper<T> {
             (text_entries (chars text.now) main_tag.now wrap_tag.now mode)) }
         ensures limits { KeepsLimits self.old.lines self.new.lines }
     {
-        if self.in_continuation {
-            return self.join_text(text, count, width, wrap_tag, mode);
-        }
-        self.join_text(text, count, width, main_tag, mode)
+        let tag = self.call_tag(main_tag, wrap_tag);
+        self.join_text(text, count, width, tag, mode)
     }
 
     /// How many bytes the words take that a text begins with, each with the space behind it, where they go on the open
     /// line at once.
-    pub fn fitting_words<W: CharWidth>(&self, text: &str, mode: WhiteSpace) -> usize
+    fn fitting_words<W: CharWidth>(&self, text: &str, mode: WhiteSpace) -> usize
         ensures within { result ≤ length text.now }
         ensures mode { 0 < result → mode ≡ Normal }
         ensures word { 0 < result → has_character self.now.lines.flat.word ≡ false }
@@ -702,7 +695,7 @@ impl<T: Eq + Clone + Drop> Wrapper<T> {
     }
 
     /// Adds words, each with a space behind it, to the open line. The last space waits.
-    pub fn add_words<W: CharWidth>(
+    fn add_words<W: CharWidth>(
         &mut self,
         text: &str,
         main_tag: &T,
@@ -718,15 +711,71 @@ impl<T: Eq + Clone + Drop> Wrapper<T> {
             (text_entries (chars text.now) main_tag.now wrap_tag.now Normal)) }
         ensures limits { KeepsLimits self.old.lines self.new.lines }
     {
-        let tag = if self.in_continuation {
-            wrap_tag
-        } else {
-            main_tag
-        };
+        let tag = self.call_tag(main_tag, wrap_tag);
         let words = &text[..text.len() - 1];
         self.join_text(words, words.len(), words.len(), tag, WhiteSpace::Normal)?;
         self.lay_here::<W>()?;
         self.collapse(' ', tag)
+    }
+
+    /// Adds the first character of a text to a run, and answers how many bytes and characters that is.
+    fn add_first<W: CharWidth>(
+        &mut self,
+        text: &str,
+        main_tag: &T,
+        wrap_tag: &T,
+        mode: WhiteSpace,
+    ) -> Result<(usize, usize), Error>
+        requires faithful { CopiesAreEqual T.is_clone T.eq }
+        requires stands { IsUnderWay W.columns T.eq self.old }
+        requires some { 0 < length text.now }
+        ensures some { IfOk result (λ n. 0 < n.0) }
+        ensures front { IfOk result (λ n. IsFront text.now n.0 n.1) }
+        ensures entered { IfOk result (λ n. Enters W.columns T.eq self.old self.new
+            (text_entries (chars (take n.0 text.now)) main_tag.now wrap_tag.now mode)) }
+        ensures too_narrow { result ≡ Err E.TooNarrow → Wherever W.columns T.eq self.old (λ p.
+            (self.old.lines.may_overflow ≡ false) × EndsWideWord W.columns self.old.lines.width mode text.now p) }
+        ensures limits { KeepsLimits self.old.lines self.new.lines }
+    {
+        let Some(c) = text.chars().next() else {
+            return Ok((0, 0));
+        };
+        self.add_char::<W>(c, main_tag, wrap_tag, mode)?;
+        Ok((c.len_utf8(), 1))
+    }
+
+    /// Adds the beginning of a text to a run, and answers how many bytes and characters that is. That are the words
+    /// that it begins with, where they go on the open line at once, else the characters that join the word under the tag
+    /// of this call, and else its first character.
+    pub fn add_front<W: CharWidth>(
+        &mut self,
+        text: &str,
+        main_tag: &T,
+        wrap_tag: &T,
+        mode: WhiteSpace,
+    ) -> Result<(usize, usize), Error>
+        requires faithful { CopiesAreEqual T.is_clone T.eq }
+        requires stands { IsUnderWay W.columns T.eq self.old }
+        requires some { 0 < length text.now }
+        ensures some { IfOk result (λ n. 0 < n.0) }
+        ensures front { IfOk result (λ n. IsFront text.now n.0 n.1) }
+        ensures entered { IfOk result (λ n. Enters W.columns T.eq self.old self.new
+            (text_entries (chars (take n.0 text.now)) main_tag.now wrap_tag.now mode)) }
+        ensures too_narrow { result ≡ Err E.TooNarrow → Wherever W.columns T.eq self.old (λ p.
+            (self.old.lines.may_overflow ≡ false) × EndsWideWord W.columns self.old.lines.width mode text.now p) }
+        ensures limits { KeepsLimits self.old.lines self.new.lines }
+    {
+        let words = self.fitting_words::<W>(text, mode);
+        if words > 0 {
+            self.add_words::<W>(&text[..words], main_tag, wrap_tag)?;
+            return Ok((words, words));
+        }
+        if let Some(s) = self.fitting_stretch::<W>(text, mode) {
+            let front = &text[..s.bytes];
+            self.add_stretch::<W>(front, s.count, s.columns, main_tag, wrap_tag, mode)?;
+            return Ok((s.bytes, s.count));
+        }
+        self.add_first::<W>(text, main_tag, wrap_tag, mode)
     }
 
     /// Adds a marker to the word.

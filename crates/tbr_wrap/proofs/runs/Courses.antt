@@ -186,9 +186,6 @@ module _ {A : Type 0} (columns : ℕ → Option ℕ) where
     pub joins_entries : (es : List (Entry A)) → JoinsRun (seen c) es (seen (went width c (map entry es)))
     joins_entries es = subst (λ (fs : List (Entry A)). JoinsRun (seen c) fs (seen (went width c (map entry es)))) (entries_run es) (joins_events (map entry es))
 
-    pub joins_event : (e : Event A) → JoinsRun (seen c) (run_of (e ∷ [])) (seen (stepped columns width c e))
-    joins_event e = joins_events (e ∷ [])
-
     -- the word without its markers
     pub taken_seen : has_character c.progress.word ≡ false → seen (word_taken c) ≡ loose_taken (seen c)
     taken_seen none =

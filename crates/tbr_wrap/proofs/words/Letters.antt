@@ -1,15 +1,15 @@
--- Characters that a text begins with, at which no word ends.
-use Rattle.std.proofs.Common.{◌≡◌, ℕ, ◌+◌, ◌≤◌, Bool, true, false, not, ◌&&◌, ◌||◌, if◌then◌else◌, Option, None, Some, is_some, unwrap_or, List, [], ◌∷◌, ◌++◌, length, take, drop, chars, encode_utf8, refl, ap, sym, ◌∙◌, subst, arith, append-nil, length-append}
+-- Characters that a text begins with, and that join a word where it is.
+use Rattle.std.proofs.Common.{◌≡◌, ℕ, ◌+◌, ◌≤◌, ◌==◌, Bool, true, false, not, ◌&&◌, ◌||◌, if◌then◌else◌, Option, None, Some, is_some, unwrap_or, List, [], ◌∷◌, ◌++◌, length, take, drop, chars, encode_utf8, refl, ap, sym, ◌∙◌, subst, arith, append-nil, length-append, length-take-le}
 use lib.Utf8.{encodes}
 use Rattle.std.specs.Char.{len_utf8}
-use Rattle.std.specs.Str.{IsUtf8}
+use Rattle.std.specs.Str.{IsUtf8, IsAscii}
 use Rattle.std.proofs.Math.Seq.{take-append_seam}
-use Rattle.std.proofs.lemmas.Str.{encodes-append, encodes-chars, length-encode}
-use Rattle.tbr_model.specs.Run.{is_break}
+use Rattle.std.proofs.lemmas.Str.{encodes-append, encodes-chars, length-encode, chars-IsAscii, IsUtf8-from_ascii}
+use Rattle.tbr_model.specs.Run.{is_break, is_kept}
 use Rattle.tbr_model.specs.Width.{width_of_text}
 use Rattle.tbr_model.proofs.lists.Each.{each_append}
 use Rattle.tbr_tagged.proofs.TextColumns.{width_of_text-append}
-use Rattle.tbr_wrap.specs.Plain.{kept_width, joins, JoinWord, AreLetters}
+use Rattle.tbr_wrap.specs.Plain.{kept_width, joins, JoinWord, IsFront, IsStretch}
 use Rattle.tbr_wrap.specs.declared.plain.Stretch.{Stretch}
 use Rattle.tbr_wrap.proofs.storage.TextBytes.{splits_at}
 
@@ -21,21 +21,31 @@ pub record Seen (columns : ℕ → Option ℕ) (room : ℕ) (cs : List ℕ) (s :
   pub join : JoinWord columns false cs
   pub fits : s.columns ≤ room
 
--- they are what the text begins with
-pub seen_letters : (columns : ℕ → Option ℕ) (room : ℕ) (text cs rest : List ℕ) (s : Stretch) → IsUtf8 text → chars text ≡ cs ++ rest → Seen columns room cs s → AreLetters columns text s
-seen_letters columns room text cs rest s utf8 split h =
-    let n = length cs in let at = splits_at text n utf8 in
-    let first : take n (chars text) ≡ cs = ap (λ ds. take n ds) split ∙ take-append_seam cs rest in
-    let back = encodes (drop n (chars text)) in
+-- the first characters of a text, by their bytes
+pub front_of : (text cs rest : List ℕ) (n : ℕ) → IsUtf8 text → chars text ≡ cs ++ rest → n ≡ length (encodes cs) → IsFront text n (length cs) × (chars (take n text) ≡ cs)
+front_of text cs rest n utf8 split is =
+    let m = length cs in let at = splits_at text m utf8 in
+    let first : take m (chars text) ≡ cs = ap (λ ds. take m ds) split ∙ take-append_seam cs rest in
+    let back = encodes (drop m (chars text)) in
     let whole : text ≡ encodes cs ++ back = at.whole ∙ ap (λ ds. encodes ds ++ back) first in
-    let front : take s.bytes text ≡ encodes cs = ap (λ m. take m text) h.bytes ∙ ap (λ bs. take (length (encodes cs)) bs) whole ∙ take-append_seam (encodes cs) back in
-    let letters : chars (take s.bytes text) ≡ cs = ap chars front ∙ ap (λ ds. chars (encodes ds)) (sym first) ∙ at.front ∙ first in
+    let front : take n text ≡ encodes cs = ap (λ k. take k text) is ∙ ap (λ bs. take (length (encodes cs)) bs) whole ∙ take-append_seam (encodes cs) back in
+    let letters : chars (take n text) ≡ cs = ap chars front ∙ ap (λ ds. chars (encodes ds)) (sym first) ∙ at.front ∙ first in (
+      record {
+        within = omega (arith, is, ap length whole, length-append (encodes cs) back);
+        utf8 = subst IsUtf8 (ap encodes first ∙ sym front) at.front_utf8;
+        number = ap length (sym letters);
+      },
+      letters,
+    )
+
+-- what was seen is what the text begins with
+pub seen_letters : (columns : ℕ → Option ℕ) (room : ℕ) (text cs rest : List ℕ) (s : Stretch) → IsUtf8 text → chars text ≡ cs ++ rest → Seen columns room cs s → IsStretch columns false text s
+seen_letters columns room text cs rest s utf8 split h =
+    let k = front_of text cs rest s.bytes utf8 split h.bytes in
     record {
-      within = omega (arith, h.bytes, ap length whole, length-append (encodes cs) back);
-      utf8 = subst IsUtf8 (ap encodes first ∙ sym front) at.front_utf8;
-      number = h.number ∙ ap length (sym letters);
-      width = h.width ∙ ap (width_of_text columns) (sym letters);
-      join = subst (JoinWord columns false) (sym letters) h.join;
+      front = subst (IsFront text s.bytes) (sym h.number) k.0;
+      width = h.width ∙ ap (width_of_text columns) (sym k.1);
+      join = subst (JoinWord columns false) (sym k.1) h.join;
     }
 
 kept_parts : (columns : ℕ → Option ℕ) (c n : ℕ) → kept_width columns c ≡ Some n → (joins columns false c ≡ true) × (columns c ≡ Some n)
@@ -46,7 +56,7 @@ kept_parts columns c n h = go (is_break c) (columns c) refl refl h
     go false None e f h = cc
     go true o e f h = cc
 
-encoded_one : (cs : List ℕ) (c : ℕ) → length (encodes (cs ++ c ∷ [])) ≡ length (encodes cs) + len_utf8 c
+pub encoded_one : (cs : List ℕ) (c : ℕ) → length (encodes (cs ++ c ∷ [])) ≡ length (encodes cs) + len_utf8 c
 encoded_one cs c = omega (arith, ap length (encodes-append cs (c ∷ [])), length-append (encodes cs) (encodes (c ∷ [])), ap length (append-nil (encode_utf8 c)), length-encode c)
 
 -- the next one takes no more bytes than the text has
@@ -67,3 +77,35 @@ seen_more columns room cs c n s t h e fits is =
       join = each_append (λ d. joins columns false d ≡ true) cs (c ∷ []) h.join (k.0, tt);
       fits = fits;
     })
+
+-- ---- stretches
+
+pub ascii_front : (text : List ℕ) (n : ℕ) → n ≤ length text → IsAscii (take n text) → IsFront text n n
+ascii_front text n within ascii = record {
+  within = within;
+  utf8 = IsUtf8-from_ascii (take n text) ascii;
+  number = sym (ap length (chars-IsAscii (take n text) ascii) ∙ length-take-le n text within);
+}
+
+-- plain characters
+pub plain_stretch : (columns : ℕ → Option ℕ) (spaced : Bool) (text : List ℕ) (n m : ℕ) → n ≤ length text → IsAscii (take n text) → JoinWord columns spaced (take n text) → m ≡ width_of_text columns (take n text) →
+    IsStretch columns spaced text (record { bytes = n; count = n; columns = m })
+plain_stretch columns spaced text n m within ascii join width =
+    let same : take n text ≡ chars (take n text) = sym (chars-IsAscii (take n text) ascii) in
+    record {
+      front = ascii_front text n within ascii;
+      width = width ∙ ap (width_of_text columns) same;
+      join = subst (JoinWord columns spaced) same join;
+    }
+
+unspaced : (columns : ℕ → Option ℕ) (spaced : Bool) (cs : List ℕ) → JoinWord columns false cs → JoinWord columns spaced cs
+unspaced columns spaced [] h = h
+unspaced columns spaced (c ∷ cs) h = (or_left (is_kept columns c) (spaced && c == 32) h.0, unspaced columns spaced cs h.1)
+  where
+    or_left : (b s : Bool) → b || false ≡ true → b || s ≡ true
+    or_left true s e = refl
+    or_left false s e = cc
+
+-- where no space joins, also where one would
+pub letters_stretch : (columns : ℕ → Option ℕ) (spaced : Bool) (text : List ℕ) (s : Stretch) → IsStretch columns false text s → IsStretch columns spaced text s
+letters_stretch columns spaced text s h = record { front = h.front; width = h.width; join = unspaced columns spaced _ h.join }

@@ -1,18 +1,19 @@
 use Rattle.std.proofs.Common.{◌≡◌, ℕ, ◌∙◌, sym, subst, Err}
 use Rattle.std.proofs.lemmas.Result.{err_from_is_err_and}
 use Rattle.tbr_model.specs.Greedy.{IsNarrow}
-use Rattle.tbr_model.specs.Rule.{break_word}
+use Rattle.tbr_model.specs.Rule.{break_word, tag_of}
 use Rattle.tbr_model.proofs.rule.NarrowWords.{narrow_break}
 use Rattle.tbr_tagged.specs.declared.error.Error.TheVariants as E
 use Rattle.tbr_wrap.proofs.wrapper.Wrapper.add_char.Goals as goal
 
-pub returns-then-self-clause-too_narrow : goal.returns-then-self-clause-too_narrow
-returns-then-self-clause-too_narrow g c = λ e before given p s.
+pub returns-in-Normal-clause-too_narrow : goal.returns-in-Normal-clause-too_narrow
+returns-in-Normal-clause-too_narrow g c = λ e before given p s.
     let k = c.enter_normal.ensures.too_narrow e before given p s in (k.0, k.3, λ m. (k.1, k.2))
 
-pub returns-else-self-clause-too_narrow : goal.returns-else-self-clause-too_narrow
-returns-else-self-clause-too_narrow g c = λ e before given p s.
-    let k = c.enter_normal-in-Normal.ensures.too_narrow e before given p s in (k.0, k.3, λ m. (k.1, k.2))
+pub returns-in-Normal-clause-entered : goal.returns-in-Normal-clause-entered
+returns-in-Normal-clause-entered g c = λ before given p s.
+    let a = tag_of p c.args.main_tag.now c.args.wrap_tag.now in
+    rw c.in-Normal.is (c.enter_normal.ensures.entered a (c.call_tag-tag.ensures g.W.CharWidth.columns before given p s) before given p s)
 
 pub returns-in-Pre-clause-too_narrow : goal.returns-in-Pre-clause-too_narrow
 returns-in-Pre-clause-too_narrow g c = λ e before given p s.

@@ -1,20 +1,9 @@
 use Rattle.std.proofs.Common.{◌&&◌, chars, refl, sym, ◌∙◌, subst}
 use Rattle.tbr_model.specs.Rule.{is_pre, tag_of}
 use Rattle.tbr_model.specs.Run.{has_character}
-use Rattle.tbr_wrap.proofs.words.ModeCases.{tag_wrap, tag_main}
 use Rattle.tbr_wrap.proofs.words.PlainText.{StaysUnder, all_join}
 use Rattle.tbr_wrap.proofs.words.TagRoom.{stays_under, spaces_join}
 use Rattle.tbr_wrap.proofs.wrapper.Wrapper.add_stretch.Goals as goal
-
-pub returns-then-self-clause-entered : goal.returns-then-self-clause-entered
-returns-then-self-clause-entered g c = λ before given p s.
-    let columns = g.W.CharWidth.columns in let eq = g.T.PartialEq.eq in let cs = chars c.args.text.now in
-    let old = c.args.self.now in let a = c.args.main_tag.now in let b = c.args.wrap_tag.now in
-    let mode = c.args.mode in let spaced = is_pre mode && has_character old.lines.flat.word in
-    let width = c.requires.width in
-    let stays = subst (λ n. StaysUnder old.lines.width columns mode n p) width (stays_under columns eq old before given p mode c.args.width s c.requires.tag) in
-    rw (all_join columns old.lines.width a b mode spaced (g.met.W.CharWidth.drawn_in_one 32 refl) cs p c.requires.join (spaces_join columns eq old before given p mode s) stays)
-    (c.join_text.ensures.joined columns (tag_of p a b) width (tag_wrap eq g.met.T.Eq.laws p a b (sym s.in_continuation ∙ c.if-self.true)) before given p s)
 
 pub returns-clause-entered : goal.returns-clause-entered
 returns-clause-entered g c = λ before given p s.
@@ -24,4 +13,4 @@ returns-clause-entered g c = λ before given p s.
     let width = c.requires.width in
     let stays = subst (λ n. StaysUnder old.lines.width columns mode n p) width (stays_under columns eq old before given p mode c.args.width s c.requires.tag) in
     rw (all_join columns old.lines.width a b mode spaced (g.met.W.CharWidth.drawn_in_one 32 refl) cs p c.requires.join (spaces_join columns eq old before given p mode s) stays)
-    (c.join_text-2.ensures.joined columns (tag_of p a b) width (tag_main eq g.met.T.Eq.laws p a b (sym s.in_continuation ∙ c.if-self.false)) before given p s)
+    (c.join_text.ensures.joined columns (tag_of p a b) width (c.call_tag-tag.ensures columns before given p s) before given p s)

@@ -6,12 +6,10 @@ use Rattle.tbr_model.specs.Run.{items_width}
 use Rattle.tbr_model.specs.Width.{width_of_text}
 use Rattle.tbr_wrap.specs.State.{text_entries}
 use Rattle.tbr_wrap.specs.Wrapper.{join_all}
-use Rattle.tbr_wrap.proofs.words.ModeCases.{tag_wrap, tag_main}
 use Rattle.tbr_wrap.proofs.words.PlainWords.{words_laid, words_ascii, words_width, words_front, some_read, all_ascii}
 use Rattle.tbr_wrap.proofs.words.WordsLaid.{same_held_width}
 use Rattle.tbr_tagged.proofs.SameItems.{same_has}
 use Rattle.tbr_wrap.proofs.wrapper.Wrapper.add_words.Goals as goal
-use Rattle.tbr_wrap.proofs.wrapper.Wrapper.add_words.Goals.{then-self, else-self}
 
 pub join_text-requires-clause-some : goal.join_text-requires-clause-some
 join_text-requires-clause-some g c =
@@ -37,11 +35,7 @@ returns-clause-entered g c = λ before given p s.
     let words : chars c.range-words.result.now ≡ w.front = ap chars is ∙ chars-IsAscii w.front (words_ascii columns _ w.front _ w.read) in
     let whole : chars text ≡ w.front ++ 32 ∷ [] = chars-IsAscii text (all_ascii columns text w) ∙ w.is in
     let wide : length c.range-words.result.now ≡ width_of_text columns (chars c.range-words.result.now) = ap length is ∙ sym (words_width columns (g.met.W.CharWidth.drawn_in_one 32 refl) _ w.front _ w.read) ∙ sym (ap (width_of_text columns) words) in
-    let same : eq c.if-self.tag.now t ≡ true =
-    elim c.if-self.branch [
-      | then-self w ↦ rw w.tag-is (tag_wrap eq g.met.T.Eq.laws p a b (sym s.in_continuation ∙ w.if-self.true))
-      | else-self w ↦ rw w.tag-is (tag_main eq g.met.T.Eq.laws p a b (sym s.in_continuation ∙ w.if-self.false))
-    ] in
+    let same = c.call_tag-tag.ensures columns before given p s in
     let joined = c.in_ok-join_text.ensures.joined columns t wide same before given p s in
     let laid = c.in_ok-lay_here.ensures.laid before given (join_all (chars c.range-words.result.now) t Normal p) joined in
     let collapsed = c.collapse.ensures.after_change columns t same before given (lay_here columns (join_all (chars c.range-words.result.now) t Normal p)) laid in

@@ -3,9 +3,8 @@ use Rattle.std.proofs.lemmas.Result.{err_from_is_err_and}
 use Rattle.tbr_model.specs.Rule.{tag_of, flush_word, tab}
 use Rattle.tbr_wrap.specs.Wrapper.{IsAtProgress}
 use Rattle.tbr_tagged.specs.declared.error.Error.TheVariants as E
-use Rattle.tbr_wrap.proofs.words.ModeCases.{tag_wrap, tag_main, preserve_newline, preserve_tab, preserve_space, preserve_kept, preserve_none, none_of}
+use Rattle.tbr_wrap.proofs.words.ModeCases.{preserve_newline, preserve_tab, preserve_space, preserve_kept, preserve_none, none_of}
 use Rattle.tbr_wrap.proofs.wrapper.Wrapper.preserve.Goals as goal
-use Rattle.tbr_wrap.proofs.wrapper.Wrapper.preserve.Goals.{then-self, else-self}
 
 pub returns-in_err-flush_word-clause-too_narrow : goal.returns-in_err-flush_word-clause-too_narrow
 returns-in_err-flush_word-clause-too_narrow g c = λ e before given p s.
@@ -32,13 +31,9 @@ tab-requires-clause-stands g c =
 
 pub returns-then-c-eq9-clause-preserved : goal.returns-then-c-eq9-clause-preserved
 returns-then-c-eq9-clause-preserved g c = λ before given p s.
-    let columns = g.W.CharWidth.columns in let eq = g.T.PartialEq.eq in let laws = g.met.T.Eq.laws in
+    let columns = g.W.CharWidth.columns in let eq = g.T.PartialEq.eq in
     let width = c.args.self.now.lines.width in let a = c.args.main_tag.now in let b = c.args.wrap_tag.now in
-    let same : eq c.if-self.tag.now (tag_of p a b) ≡ true =
-    elim c.if-self.branch [
-      | then-self w ↦ rw w.tag-is (tag_wrap eq laws p a b (sym s.in_continuation ∙ w.if-self.true))
-      | else-self w ↦ rw w.tag-is (tag_main eq laws p a b (sym s.in_continuation ∙ w.if-self.false))
-    ] in
+    let same = c.call_tag-tag.ensures columns before given p s in
     rw (preserve_tab columns width c.args.c a b c.args.mode p c.if-c-eq9.true)
     (subst (λ (n : ℕ). IsAtProgress columns eq c.tab.new.self before given (tab n (tag_of p a b) (flush_word columns width p))) c.in_ok-flush_word-2.ensures.limits.width
     (c.in_ok-tab.ensures.put columns (tag_of p a b) (g.met.W.CharWidth.drawn_in_one 32 refl) same before given (flush_word columns width p) (c.in_ok-flush_word-2.ensures.laid before given p s)))
@@ -57,13 +52,9 @@ returns-then-always_takes_space-clause-preserved g c = λ before given p s.
 
 pub returns-clause-preserved : goal.returns-clause-preserved
 returns-clause-preserved g c = λ before given p s.
-    let columns = g.W.CharWidth.columns in let eq = g.T.PartialEq.eq in let laws = g.met.T.Eq.laws in
+    let columns = g.W.CharWidth.columns in let eq = g.T.PartialEq.eq in
     let a = c.args.main_tag.now in let b = c.args.wrap_tag.now in
     let is = sym c.width.ensures ∙ c.in-Some.is in
-    let same : eq c.if-self.tag.now (tag_of p a b) ≡ true =
-    elim c.if-self.branch [
-      | then-self w ↦ rw w.tag-is (tag_wrap eq laws p a b (sym s.in_continuation ∙ w.if-self.true))
-      | else-self w ↦ rw w.tag-is (tag_main eq laws p a b (sym s.in_continuation ∙ w.if-self.false))
-    ] in
+    let same = c.call_tag-tag.ensures columns before given p s in
     rw (preserve_space columns c.args.self.now.lines.width c.args.c a b c.args.mode p c.if-c-eq-ZERO_WIDTH_SPACE.false c.if-c-eq10.false c.if-c-eq9.false c.in-Some.width (sym c.always_takes_space.ensures ∙ c.if-always_takes_space.false) is)
     (c.in_ok-keep_space.ensures.kept columns (tag_of p a b) is same before given p s)
