@@ -60,7 +60,7 @@ impl<T: Eq + Clone, W: CharWidth> Model for WrappedBlock<T, W> {
 }
 
 impl<T: Eq + Clone, W: CharWidth> WrappedBlock<T, W> {
-    ghost use Rattle.tbr_model.specs.Run.{character, trailing};
+    ghost use Rattle.tbr_model.specs.Run.{trailing};
     ghost use Rattle.tbr_model.specs.Markers.{names_in_items, names_in_run, names_behind, last};
     ghost use Rattle.tbr_tagged.specs.Elements.{marker_element};
     ghost use Rattle.tbr_tagged.specs.View.{element_of};

@@ -2,8 +2,8 @@
 //!
 //! Its stages, in the words of its functions:
 //! - The beginning of a text is *added* as it goes at one go: words, a stretch of characters, or one (`add_front`).
-//! - A character *joins* the word (`join`), or a stretch of them does at which no word ends (`add_stretch`). White space
-//!   that doesn't is pending before it (`collapse`, `keep_space`).
+//! - A character *joins* the word (`join`), or a stretch of them does at which no word ends (`add_stretch`). White
+//!   space that doesn't is pending before it (`collapse`, `keep_space`).
 //! - The word is *laid* where it ends: here, behind what is pending, if both fit the open line (`lay_here`), and else
 //!   afresh, behind what is left of that (`wrap_space`, `lay_fresh`).
 //! - Words that a text begins with, and that fit the open line, are laid here as one word would be (`add_words`).
@@ -12,7 +12,6 @@
 //! - Ended lines are *taken*, the first one first ([`LaidLines::take_line`]).
 ghost use Rattle.std.specs.Prelude.{◌≡◌, ◌≤◌, ◌<◌, ◌+◌, ◌&&◌, ◌↔◌, [], ℕ, List, fold, length, take, map, chars, string_bytes, Bool, if◌then◌else◌, IsTrue, Option, None, Some, true, false, OnOk, IfOk, IfSome, Err};
 ghost use Rattle.tbr_tagged.specs.Copies.{CopiesAreEqual};
-ghost use Rattle.std.specs.Str.{IsAscii};
 ghost use Rattle.tbr_model.specs.Width.{width_of_text};
 ghost use Rattle.tbr_model.specs.Run.{Item, character, marker_entry, items_width, has_character, is_break};
 ghost use Rattle.tbr_model.specs.Laid.{Laid, extended, put_items};
@@ -627,9 +626,9 @@ impl<T: Eq + Clone + Drop> Wrapper<T> {
         self.room()
     }
 
-    /// The characters that a text begins with that join the word under the tag of this call: as many as are plain, and
-    /// where there are none of these, as many of any script. In `Pre` the spaces behind a character of the word are plain.
-    /// None where there are none.
+    /// The characters that a text begins with and that join the word under the tag of this call: as many as are plain,
+    /// and where there are none of these, as many of any script. In `Pre` the spaces behind a character of the word are
+    /// plain. None where there are none.
     fn fitting_stretch<W: CharWidth>(&self, text: &str, mode: WhiteSpace) -> Option<Stretch>
         ensures some { IfSome result (λ s. 0 < s.count) }
         ensures stretch { IfSome result (λ s.
@@ -640,7 +639,11 @@ impl<T: Eq + Clone + Drop> Wrapper<T> {
         let spaced = is_pre(mode) && self.lines.flat.has_word();
         let (count, columns) = plain_in_front::<W>(text, spaced, room);
         if count > 0 {
-            return Some(Stretch { bytes: count, count, columns });
+            return Some(Stretch {
+                bytes: count,
+                count,
+                columns,
+            });
         }
         let letters = letters_in_front::<W>(text, room);
         if letters.count > 0 {
@@ -744,9 +747,9 @@ impl<T: Eq + Clone + Drop> Wrapper<T> {
         Ok((c.len_utf8(), 1))
     }
 
-    /// Adds the beginning of a text to a run, and answers how many bytes and characters that is. That are the words
-    /// that it begins with, where they go on the open line at once, else the characters that join the word under the tag
-    /// of this call, and else its first character.
+    /// Adds the beginning of a text to a run, and answers how many bytes and characters that is: the words that it
+    /// begins with, where they go on the open line at once, else the characters that join the word under the tag of
+    /// this call, and else its first character.
     pub fn add_front<W: CharWidth>(
         &mut self,
         text: &str,

@@ -1,4 +1,4 @@
-use Rattle.std.proofs.Common.{◌≡◌, [], ◌∷◌, ◌++◌, take, chars, encode_utf8, sym, ◌∙◌, arith, Err}
+use Rattle.std.proofs.Common.{◌≡◌, [], ◌∷◌, chars, sym, ◌∙◌, arith, Err}
 use Rattle.std.proofs.lemmas.Result.{err_from_is_err_and}
 use Rattle.std.proofs.lemmas.Str.{chars_past_char}
 use Rattle.tbr_tagged.specs.declared.error.Error.TheVariants as E

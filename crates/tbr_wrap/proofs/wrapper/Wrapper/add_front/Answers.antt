@@ -1,5 +1,4 @@
-use Rattle.std.proofs.Common.{◌≡◌, ◌≤◌, ◌<◌, ◌-◌, length, take, chars, ap, sym, ◌∙◌, arith, length-take-le}
-use Rattle.std.specs.Str.{IsAscii}
+use Rattle.std.proofs.Common.{◌≡◌, take, ap, sym, ◌∙◌, arith, length-take-le}
 use Rattle.std.proofs.lemmas.Str.{IsUtf8-from_ascii, IsCharBoundary-from_take}
 use Rattle.tbr_wrap.proofs.storage.TextBytes.{chars_within}
 use Rattle.tbr_wrap.proofs.words.Letters.{ascii_front}

@@ -1,4 +1,4 @@
-use Rattle.std.proofs.Common.{◌&&◌, chars, refl, sym, ◌∙◌, subst}
+use Rattle.std.proofs.Common.{◌&&◌, chars, refl, subst}
 use Rattle.tbr_model.specs.Rule.{is_pre, tag_of}
 use Rattle.tbr_model.specs.Run.{has_character}
 use Rattle.tbr_wrap.proofs.words.PlainText.{StaysUnder, all_join}
