@@ -1,7 +1,6 @@
 //! Worked examples of rows of cells side by side.
 use example_parts::texts::{Voice, append_elements, piece};
 use std::alloc::Global;
-use std::collections::LinkedList;
 use std::fmt::Debug;
 use std::process::Abort;
 use std::test::Fail;
@@ -50,16 +49,16 @@ const UNDRAWN: RowStyle = RowStyle {
 #[derive(Drop)]
 struct Table {
     alloc: Global,
-    lines: LinkedList<RenderLine<Voice>>,
+    lines: Vec<RenderLine<Voice>>,
     overhang: Overhang<Voice>,
 }
 
 impl Table {
     /// A table under a border of that many columns, or under none.
     fn under(alloc: Global, border: usize) -> Result<Table, OutOfMemory> {
-        let mut lines = LinkedList::new(alloc);
+        let mut lines = Vec::new(alloc);
         if border > 0 {
-            lines.push_back(RenderLine::Line(BorderHoriz::new(alloc, border, Voice::First)?))?;
+            lines.push(RenderLine::Line(BorderHoriz::new(alloc, border, Voice::First)?))?;
         }
         Ok(Table {
             alloc,
@@ -70,10 +69,10 @@ impl Table {
 
     /// The last line, if it is a border. It is taken out.
     fn take_border(&mut self) -> Result<Option<BorderHoriz<Voice>>, OutOfMemory> {
-        match self.lines.pop_back() {
+        match self.lines.pop() {
             Some(RenderLine::Line(border)) => Ok(Some(border)),
             Some(text) => {
-                self.lines.push_back(text)?;
+                self.lines.push(text)?;
                 Ok(None)
             }
             None => Ok(None),
@@ -108,7 +107,7 @@ impl Table {
         } = row;
         self.add_border(above)?;
         for line in lines {
-            self.lines.push_back(RenderLine::Text(line))?;
+            self.lines.push(RenderLine::Text(line))?;
         }
         self.add_border(next)?;
         self.overhang = overhang;
@@ -117,7 +116,7 @@ impl Table {
 
     fn add_border(&mut self, border: Option<BorderHoriz<Voice>>) -> Result<(), OutOfMemory> {
         if let Some(border) = border {
-            self.lines.push_back(RenderLine::Line(border))?;
+            self.lines.push(RenderLine::Line(border))?;
         }
         Ok(())
     }
@@ -144,10 +143,10 @@ fn line(alloc: Global, text: &str) -> Result<RenderLine<Voice>, OutOfMemory> {
     Ok(RenderLine::Text(line))
 }
 
-fn lines(alloc: Global, texts: &[&str]) -> Result<LinkedList<RenderLine<Voice>>, OutOfMemory> {
-    let mut lines = LinkedList::new(alloc);
+fn lines(alloc: Global, texts: &[&str]) -> Result<Vec<RenderLine<Voice>>, OutOfMemory> {
+    let mut lines = Vec::new(alloc);
     for text in texts {
-        lines.push_back(line(alloc, *text)?)?;
+        lines.push(line(alloc, *text)?)?;
     }
     Ok(lines)
 }
@@ -449,10 +448,10 @@ fn cells_are_aligned(rt: HostRuntime) {
 }
 
 /// So many lines of one letter.
-fn letters(alloc: Global, count: usize) -> Result<LinkedList<RenderLine<Voice>>, OutOfMemory> {
-    let mut letters = LinkedList::new(alloc);
+fn letters(alloc: Global, count: usize) -> Result<Vec<RenderLine<Voice>>, OutOfMemory> {
+    let mut letters = Vec::new(alloc);
     for _ in 0..count {
-        letters.push_back(line(alloc, "a")?)?;
+        letters.push(line(alloc, "a")?)?;
     }
     Ok(letters)
 }

@@ -1,10 +1,11 @@
 //! What a script has begun and not ended yet.
-ghost use Rattle.std.specs.Prelude.{◌≡◌, IfSome, IfNone};
+ghost use Rattle.std.specs.Prelude.{◌≡◌, OnOk, OnErr};
 ghost use Rattle.tbr_commands.specs.Begun.{nothing_begun, count, with_count, begins, ends_nothing, more, MorePasses, less, counted};
 ghost use Rattle.tbr_commands.specs.Request.{request_of};
 
 use crate::request::Request;
 use crate::request::kind::Kind;
+use tbr_lines::OutOfMemory;
 
 /// How much more often commands came than those that end what they begin.
 #[derive(Clone, Copy, Debug, PartialEq, Eq)]
@@ -91,32 +92,39 @@ impl Begun {
         }
     }
 
-    /// One more of a kind, if there is a kind. `None` where its count passes `usize`.
-    fn more(mut self, kind: Option<Kind>) -> Option<Begun>
-        ensures counts { IfSome result (λ begun. begun ≡ more self kind) }
-        ensures passes { IfNone result (MorePasses self kind) }
+    /// Counts one more of a kind, if there is a kind. It refuses where that passes `usize`, and changes nothing then.
+    fn add(&mut self, kind: Option<Kind>) -> Result<(), OutOfMemory>
+        ensures counts { OnOk result (self.new ≡ more self.old kind) }
+        ensures passes { OnErr result (MorePasses self.old kind) }
+        ensures left { OnErr result (self.new ≡ self.old) }
     {
-        if let Some(kind) = kind {
-            self.set(kind, self.count(kind).checked_add(1)?);
-        }
-        Some(self)
+        let Some(kind) = kind else {
+            return Ok(());
+        };
+        let Some(count) = self.count(kind).checked_add(1) else {
+            return Err(OutOfMemory);
+        };
+        self.set(kind, count);
+        Ok(())
     }
 
-    /// One less of a kind, if there is a kind and one of it.
-    fn less(mut self, kind: Option<Kind>) -> Begun
-        ensures { result ≡ less self kind }
+    /// Counts one less of a kind, if there is a kind and one of it.
+    fn remove(&mut self, kind: Option<Kind>)
+        ensures { self.new ≡ less self.old kind }
     {
         if let Some(kind) = kind {
             self.set(kind, self.count(kind).saturating_sub(1));
         }
-        self
     }
 
-    /// The counts behind a request. `None` where one passes `usize`.
-    pub fn behind(self, request: &Request) -> Option<Begun>
-        ensures counts { IfSome result (λ begun. begun ≡ counted self (request_of request.now)) }
-        ensures passes { IfNone result (MorePasses self (begins (request_of request.now))) }
+    /// Counts what a request begins or ends. It refuses where a count passes `usize`, and changes nothing then.
+    pub fn note(&mut self, request: &Request) -> Result<(), OutOfMemory>
+        ensures counts { OnOk result (self.new ≡ counted self.old (request_of request.now)) }
+        ensures passes { OnErr result (MorePasses self.old (begins (request_of request.now))) }
+        ensures left { OnErr result (self.new ≡ self.old) }
     {
-        Some(self.more(request.begins())?.less(request.ends()))
+        self.add(request.begins())?;
+        self.remove(request.ends());
+        Ok(())
     }
 }

@@ -56,12 +56,12 @@ impl<T: Eq + Clone + Drop> Columns<T> {
         width: usize,
         span: usize,
         align: CellAlign,
-        lines: LinkedList<RenderLine<T>>,
+        lines: Vec<RenderLine<T>>,
         tag: &T,
     ) -> Result<(), OutOfMemory>
         requires { CopiesAreEqual T.is_clone T.eq }
         ensures ok { OnOk result ((filled : List (Line T))
-            × AllZip (model.FillsLine W.columns T.eq align width tag.now) lines filled
+            × AllZip (model.FillsLine W.columns T.eq align width tag.now) lines.items filled
             × (self.new ≡ self.old ++ model.cell_behind self.old width span filled ∷ [])) }
         ensures side_by_side { AreSideBySide 0 self.new }
         ensures err { OnErr result (self.new ≡ self.old) }
@@ -95,13 +95,13 @@ impl<T: Drop> Columns<T> {
 /// Lines, each filled up to a width.
 fn filled<T: Eq + Clone + Drop, W: CharWidth>(
     alloc: Global,
-    lines: LinkedList<RenderLine<T>>,
+    lines: Vec<RenderLine<T>>,
     width: usize,
     align: CellAlign,
     tag: &T,
 ) -> Result<LinkedList<RenderLine<T>>, OutOfMemory>
     requires { CopiesAreEqual T.is_clone T.eq }
-    ensures { IfOk result (λ done. AllZip (model.FillsLine W.columns T.eq align width tag.now) lines done) }
+    ensures { IfOk result (λ done. AllZip (model.FillsLine W.columns T.eq align width tag.now) lines.items done) }
 {
     let mut done = LinkedList::new(alloc);
     for line in lines {

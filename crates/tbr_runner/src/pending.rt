@@ -1,5 +1,5 @@
 //! What is pending on a renderer.
-ghost use Rattle.std.specs.Prelude.{◌≡◌, ◌↔◌, ◌<◌, false, [], length, IfOk, IfSome, IfNone};
+ghost use Rattle.std.specs.Prelude.{◌≡◌, ◌↔◌, ◌<◌, false, [], length, IfOk, OnOk, OnErr};
 ghost use Rattle.std.specs.List.{AllByRecursion as Each};
 ghost use Rattle.tbr_commands.specs.Begun.{begins, ends_nothing, counted, MorePasses};
 ghost use Rattle.tbr_commands.specs.Request.{request_of};
@@ -11,7 +11,7 @@ use std::marker::Model;
 use std::mem;
 use tbr_commands::{Begun, Request};
 use tbr_decor::TextDecorator;
-use tbr_lines::{CellAlign, CharWidth};
+use tbr_lines::{CellAlign, CharWidth, OutOfMemory};
 use text_block_renderer::SubRenderer;
 
 /// What has begun on a renderer and not ended, and the cells that wait there for their row.
@@ -58,14 +58,14 @@ impl<D: TextDecorator, W: CharWidth> Pending<D, W> {
         self.begun.lacks(request)
     }
 
-    /// Counts what a request begins or ends. `None` where a count passes `usize`.
-    pub fn behind(mut self, request: &Request) -> Option<Pending<D, W>>
-        ensures counts { IfSome result (λ pending.
-            pending ≡ record self { begun = counted self.begun (request_of request.now) }) }
-        ensures passes { IfNone result (MorePasses self.begun (begins (request_of request.now))) }
+    /// Counts what a request begins or ends. It refuses where a count passes `usize`, and changes nothing then.
+    pub fn note(&mut self, request: &Request) -> Result<(), OutOfMemory>
+        ensures counts { OnOk result
+            (self.new ≡ record self.old { begun = counted self.old.begun (request_of request.now) }) }
+        ensures passes { OnErr result (MorePasses self.old.begun (begins (request_of request.now))) }
+        ensures left { OnErr result (self.new ≡ self.old) }
     {
-        self.begun = self.begun.behind(request)?;
-        Some(self)
+        self.begun.note(request)
     }
 
     /// Whether a cell waits.

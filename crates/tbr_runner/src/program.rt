@@ -16,6 +16,7 @@ use crate::pending::Pending;
 use crate::prefixes::append_behind;
 use std::alloc::Global;
 use std::marker::Model;
+use std::mem;
 use tbr_commands::{Command, NewCell, Request};
 use tbr_decor::TextDecorator;
 use tbr_lines::CharWidth;
@@ -120,7 +121,7 @@ impl<D: TextDecorator, W: CharWidth> Program<D, W> {
     }
 
     /// Does what a request asks for, on the line of this number.
-    fn call(self, number: usize, request: &Request) -> Result<Program<D, W>, RunError>
+    fn call(mut self, number: usize, request: &Request) -> Result<Program<D, W>, RunError>
         ensures done { IfOk result (λ next. RequestDoes W.columns (decoration_of D.TextDecorator)
             (progress_meant D.meaning self) (request_of request.now) (progress_meant D.meaning next)) }
         ensures refused { IfErr result (λ e. e ≢ RunError.OutOfMemory →
@@ -130,112 +131,65 @@ impl<D: TextDecorator, W: CharWidth> Program<D, W> {
         if self.pending.lacks(request) {
             return Err(RunError::NothingToEnd(number));
         }
-        let Program {
-            mut renderers,
-            pending,
-            opened,
-        } = self;
-        let Some(pending) = pending.behind(request) else {
-            return Err(RunError::OutOfMemory);
-        };
-        let top = renderers.top_mut();
+        self.pending.note(request)?;
+        let top = self.renderers.top_mut();
         request.call(top)?;
-        Ok(Program {
-            renderers,
-            pending,
-            opened,
-        })
+        Ok(self)
     }
 
     /// Begins a link to a target.
-    fn start_link(self, target: &str) -> Result<Program<D, W>, RunError>
+    fn start_link(mut self, target: &str) -> Result<Program<D, W>, RunError>
         ensures done { IfOk result (λ next. LinkDoes W.columns (decoration_of D.TextDecorator)
             (progress_meant D.meaning self) target.now (progress_meant D.meaning next)) }
         ensures refused { IfErr result (λ e. e ≢ RunError.OutOfMemory →
             LinkRefuses W.columns (decoration_of D.TextDecorator) (progress_meant D.meaning self) target.now e) }
     {
-        let Program {
-            mut renderers,
-            pending,
-            opened,
-        } = self;
-        renderers.start_link(target)?;
-        Ok(Program {
-            renderers,
-            pending,
-            opened,
-        })
+        self.renderers.start_link(target)?;
+        Ok(self)
     }
 
     /// Ends the link that began last, on the line of this number.
-    fn end_link(self, number: usize) -> Result<Program<D, W>, RunError>
+    fn end_link(mut self, number: usize) -> Result<Program<D, W>, RunError>
         ensures done { IfOk result (λ next. EndLinkDoes W.columns (decoration_of D.TextDecorator)
             (progress_meant D.meaning self) (progress_meant D.meaning next)) }
         ensures refused { IfErr result (λ e. e ≢ RunError.OutOfMemory →
             EndLinkRefuses W.columns (decoration_of D.TextDecorator) (progress_meant D.meaning self) number e) }
     {
-        let Program {
-            mut renderers,
-            pending,
-            opened,
-        } = self;
-        if renderers.open_links() == 0 {
+        if self.renderers.open_links() == 0 {
             return Err(RunError::NothingToEnd(number));
         }
-        renderers.end_link()?;
-        Ok(Program {
-            renderers,
-            pending,
-            opened,
-        })
+        self.renderers.end_link()?;
+        Ok(self)
     }
 
     /// Opens a level of a width of at least 1.
-    fn open(self, alloc: Global, by: Opener, width: usize) -> Result<Program<D, W>, RunError>
+    fn open(mut self, alloc: Global, by: Opener, width: usize) -> Result<Program<D, W>, RunError>
         requires width { 0 < width }
         requires spans { IsSpanned by }
         ensures done { IfOk result (λ next. LevelOpens (decoration_of D.TextDecorator)
             (progress_meant D.meaning self) by width (progress_meant D.meaning next)) }
         ensures memory { IfErr result (λ e. e ≡ E.OutOfMemory) }
     {
-        let Program {
-            mut renderers,
-            pending,
-            mut opened,
-        } = self;
-        let inside = renderers.top().new_sub_renderer(width)?;
-        renderers.push(inside)?;
-        opened.open(by, pending)?;
-        Ok(Program {
-            renderers,
-            pending: Pending::nothing(alloc),
-            opened,
-        })
+        let inside = self.renderers.top().new_sub_renderer(width)?;
+        self.renderers.push(inside)?;
+        let below = mem::replace(&mut self.pending, Pending::nothing(alloc));
+        self.opened.open(by, below)?;
+        Ok(self)
     }
 
     /// Closes the innermost level, and answers its renderer. It asks that a level is open in which no cell waits.
-    fn close(self) -> (SubRenderer<D, W>, Program<D, W>)
-        requires opened { opener self.opened ≢ None }
-        requires cells { self.pending.cells ≡ [] }
-        ensures { (by : By) × Closes self by result.0 result.1 }
+    fn close(&mut self) -> SubRenderer<D, W>
+        requires opened { opener self.old.opened ≢ None }
+        requires cells { self.old.pending.cells ≡ [] }
+        ensures { (by : By) × Closes self.old by result self.new }
     {
-        let Program {
-            mut renderers,
-            mut opened,
-            ..
-        } = self;
-        let inside = renderers.pop();
-        let pending = opened.close();
-        let program = Program {
-            renderers,
-            pending,
-            opened,
-        };
-        (inside, program)
+        let inside = self.renderers.pop();
+        self.pending = self.opened.close();
+        inside
     }
 
     /// Closes the level that `sub` opened, on the line of this number: its lines join those below it.
-    fn append(self, number: usize, prefixes: &TextPair) -> Result<Program<D, W>, RunError>
+    fn append(mut self, number: usize, prefixes: &TextPair) -> Result<Program<D, W>, RunError>
         ensures done { IfOk result (λ next. AppendDoes W.columns (decoration_of D.TextDecorator)
             (progress_meant D.meaning self) (string_bytes prefixes.now.first) (string_bytes prefixes.now.second)
             (progress_meant D.meaning next)) }
@@ -248,14 +202,14 @@ impl<D: TextDecorator, W: CharWidth> Program<D, W> {
         if self.pending.has_cells() {
             return Err(RunError::NotACommand(number));
         }
-        let (inside, mut program) = self.close();
-        let top = program.renderers.top_mut();
+        let inside = self.close();
+        let top = self.renderers.top_mut();
         append_behind(top, inside, prefixes)?;
-        Ok(program)
+        Ok(self)
     }
 
     /// Closes the level that `cell` opened, on the line of this number: it waits below as a cell.
-    fn end_cell(self, number: usize) -> Result<Program<D, W>, RunError>
+    fn end_cell(mut self, number: usize) -> Result<Program<D, W>, RunError>
         ensures done { IfOk result (λ next.
             CellDoes (progress_meant D.meaning self) (progress_meant D.meaning next)) }
         ensures refused { IfErr result (λ e. e ≢ RunError.OutOfMemory →
@@ -267,12 +221,12 @@ impl<D: TextDecorator, W: CharWidth> Program<D, W> {
         if self.pending.has_cells() {
             return Err(RunError::NotACommand(number));
         }
-        let (inside, program) = self.close();
+        let inside = self.close();
         let Program {
             renderers,
             pending,
             opened,
-        } = program;
+        } = self;
         Ok(Program {
             renderers,
             pending: pending.with_cell(inside, span, align)?,
@@ -282,7 +236,7 @@ impl<D: TextDecorator, W: CharWidth> Program<D, W> {
 
     /// Adds the waiting cells side by side, on the line of this number.
     fn add_row(
-        self,
+        mut self,
         alloc: Global,
         number: usize,
         collapse: bool,
@@ -292,43 +246,25 @@ impl<D: TextDecorator, W: CharWidth> Program<D, W> {
         ensures refused { IfErr result (λ e. e ≢ RunError.OutOfMemory →
             RowRefuses W.columns (progress_meant D.meaning self) number e) }
     {
-        let Program {
-            mut renderers,
-            mut pending,
-            opened,
-        } = self;
-        let (cells, aligns) = pending.take_cells(alloc);
-        let top = renderers.top_mut();
+        let (cells, aligns) = self.pending.take_cells(alloc);
+        let top = self.renderers.top_mut();
         if !top.row_fits(&cells) {
             return Err(RunError::RowDoesNotFit(number));
         }
         top.append_columns_aligned(cells, &aligns, collapse)?;
-        Ok(Program {
-            renderers,
-            pending,
-            opened,
-        })
+        Ok(self)
     }
 
     /// Adds the waiting cells, one below another.
-    fn add_vertical_row(self, alloc: Global) -> Result<Program<D, W>, RunError>
+    fn add_vertical_row(mut self, alloc: Global) -> Result<Program<D, W>, RunError>
         ensures done { IfOk result (λ next. VerticalRowDoes W.columns (decoration_of D.TextDecorator)
             (progress_meant D.meaning self) (progress_meant D.meaning next)) }
         ensures refused { IfErr result (λ e. e ≢ RunError.OutOfMemory →
             VerticalRowRefuses W.columns (progress_meant D.meaning self) e) }
     {
-        let Program {
-            mut renderers,
-            mut pending,
-            opened,
-        } = self;
-        let cells = pending.take_renderers(alloc)?;
-        renderers.top_mut().append_vert_row(cells)?;
-        Ok(Program {
-            renderers,
-            pending,
-            opened,
-        })
+        let cells = self.pending.take_renderers(alloc)?;
+        self.renderers.top_mut().append_vert_row(cells)?;
+        Ok(self)
     }
 
     /// The text of the script, whose end counts as the line of this number.

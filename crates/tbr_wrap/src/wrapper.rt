@@ -721,32 +721,6 @@ impl<T: Eq + Clone + Drop> Wrapper<T> {
         self.collapse(' ', tag)
     }
 
-    /// Adds the first character of a text to a run, and answers how many bytes and characters that is.
-    fn add_first<W: CharWidth>(
-        &mut self,
-        text: &str,
-        main_tag: &T,
-        wrap_tag: &T,
-        mode: WhiteSpace,
-    ) -> Result<(usize, usize), Error>
-        requires faithful { CopiesAreEqual T.is_clone T.eq }
-        requires stands { IsUnderWay W.columns T.eq self.old }
-        requires some { 0 < length text.now }
-        ensures some { IfOk result (λ n. 0 < n.0) }
-        ensures front { IfOk result (λ n. IsFront text.now n.0 n.1) }
-        ensures entered { IfOk result (λ n. Enters W.columns T.eq self.old self.new
-            (text_entries (chars (take n.0 text.now)) main_tag.now wrap_tag.now mode)) }
-        ensures too_narrow { result ≡ Err E.TooNarrow → Wherever W.columns T.eq self.old (λ p.
-            (self.old.lines.may_overflow ≡ false) × EndsWideWord W.columns self.old.lines.width mode text.now p) }
-        ensures limits { KeepsLimits self.old.lines self.new.lines }
-    {
-        let Some(c) = text.chars().next() else {
-            return Ok((0, 0));
-        };
-        self.add_char::<W>(c, main_tag, wrap_tag, mode)?;
-        Ok((c.len_utf8(), 1))
-    }
-
     /// Adds the beginning of a text to a run, and answers how many bytes and characters that is: the words that it
     /// begins with, where they go on the open line at once, else the characters that join the word under the tag of
     /// this call, and else its first character.
@@ -778,7 +752,11 @@ impl<T: Eq + Clone + Drop> Wrapper<T> {
             self.add_stretch::<W>(front, s.count, s.columns, main_tag, wrap_tag, mode)?;
             return Ok((s.bytes, s.count));
         }
-        self.add_first::<W>(text, main_tag, wrap_tag, mode)
+        let Some(c) = text.chars().next() else {
+            return Ok((0, 0));
+        };
+        self.add_char::<W>(c, main_tag, wrap_tag, mode)?;
+        Ok((c.len_utf8(), 1))
     }
 
     /// Adds a marker to the word.

@@ -29,21 +29,21 @@ pub returns-in_err-lines-clause-too_narrow : goal.returns-in_err-lines-clause-to
 returns-in_err-lines-clause-too_narrow g c = λ is.
     let f = g.D.TextDecorator.meaning in
     let columns = g.W.CharWidth.columns in
-    let e = passed_on c.from_residual-in_err-lines.result c.into_lines.result c.in_err-lines.field-0.0 TooNarrow is c.from_residual-in_err-lines.ensures.1 c.in_err-lines.was in
+    let e = passed_on c.from_residual-in_err-lines.result c.into_vec.result c.in_err-lines.field-0.0 TooNarrow is c.from_residual-in_err-lines.ensures.1 c.in_err-lines.was in
     let all = c.into_iter-col-iterator.result in
     let whole = sym c.into_iter-col-iterator.ensures.into_iter_gives.0 ∙ cols_left all all c.loop-col.col-iterator c.next.new.self c.loop-col.yielded (c.in-Some.col, c.in-Some.span) refl c.loop-col.yielded_by c.in-Some.ensures.steps.0 in
     let inv = c.loop-col.invariant.0 in
     subst (λ cols. FirstToRefuse (λ col lines. HandsOut columns (meant f col.0) lines) (λ col. HoldsBack columns (meant f col.0)) cols) (sym whole)
     (refuses_behind (λ col lines. HandsOut columns (meant f col.0) lines) (λ col. HoldsBack columns (meant f col.0)) c.loop-col.yielded (c.in-Some.col, c.in-Some.span) (into_iter_items c.next.new.self) _ (lines_given f columns c.loop-col.yielded inv.cells inv.give)
-    (held_back columns (meant f c.in-Some.col) c.into_lines.result e c.into_lines.ensures.too_narrow c.into_lines.ensures.kept))
+    (held_back columns (meant f c.in-Some.col) c.into_vec.result e c.into_vec.ensures.too_narrow c.into_vec.ensures.kept))
 
 pub returns-in_err-lines-clause-two_columns : goal.returns-in_err-lines-clause-two_columns
 returns-in_err-lines-clause-two_columns g c = λ wide is.
-    let e = passed_on c.from_residual-in_err-lines.result c.into_lines.result c.in_err-lines.field-0.0 TooNarrow is c.from_residual-in_err-lines.ensures.1 c.in_err-lines.was in
+    let e = passed_on c.from_residual-in_err-lines.result c.into_vec.result c.in_err-lines.field-0.0 TooNarrow is c.from_residual-in_err-lines.ensures.1 c.in_err-lines.was in
     let all = c.into_iter-col-iterator.result in
     let whole = sym c.into_iter-col-iterator.ensures.into_iter_gives.0 ∙ cols_left all all c.loop-col.col-iterator c.next.new.self c.loop-col.yielded (c.in-Some.col, c.in-Some.span) refl c.loop-col.yielded_by c.in-Some.ensures.steps.0 in
     let here = each_at _ c.loop-col.yielded (c.in-Some.col, c.in-Some.span) (into_iter_items c.next.new.self) (subst (Each _) whole wide) in
-    c.into_lines.ensures.two_columns here.0 here.1 e
+    c.into_vec.ensures.two_columns here.0 here.1 e
 
 pub push-requires : goal.push-requires
 push-requires g c = λ v w copy. list_copies_equal g.D.Annotation.Clone.is_clone g.D.Annotation.PartialEq.eq g.met.D.TextDecorator.copies_equal v.items w.items copy.0
@@ -53,7 +53,7 @@ loop-col-preserved g c =
     let f = g.D.TextDecorator.meaning in
     let eq = g.D.Annotation.PartialEq.eq in
     let columns = g.W.CharWidth.columns in
-    let lines = c.in_ok-lines.lines in
+    let lines = c.in_ok-lines.lines.items in
     let seen = map (map_line (tag_meant f)) (map line_seen lines) in
     let own = c.loop-col.columns in
     let col = c.in-Some.col in
@@ -62,7 +62,7 @@ loop-col-preserved g c =
     let next = next_taken (λ it. it.rest.now) c.loop-col.aligns c.next-in-loop-col.new.self c.next-in-loop-col.result c.unwrap_or-align.result c.next-in-loop-col.ensures.steps (c.unwrap_or-align.ensures ∙ ap (λ o. unwrap_or o Left) c.copied.ensures) in
     let fills = lines_fill f eq (tags_mean eq f g.met.D.TextDecorator.equal_by_meaning) (tags_told eq f g.met.D.TextDecorator.equal_by_meaning) columns c.unwrap_or-align.result c.width-width.result c.in_ok-tag.tag lines filled c.in_ok-lines.ensures.merged zip in (
       columns_go_on f columns c.args.aligns.now (map f c.args.self.now.annotations) c.loop-col.yielded own c.push.new.self c.loop-col.aligns.rest.now c.next-in-loop-col.new.self.rest.now col c.in-Some.span c.unwrap_or-align.result seen filled c.loop-col.invariant.0
-          (unfailed col.failure c.into_lines.result lines c.in_ok-lines.was c.into_lines.ensures.kept, c.in_ok-lines.ensures.lines)
+          (unfailed col.failure c.into_vec.result c.in_ok-lines.lines c.in_ok-lines.was c.into_vec.ensures.kept, c.in_ok-lines.ensures.lines)
           next.0 next.1
           (subst (λ tag. AllZip (FillsCell columns c.unwrap_or-align.result col.width tag) seen (map (map_row_line (tag_meant f)) filled)) c.in_ok-tag.ensures
           (subst (λ (n : ℕ). AllZip (FillsCell columns c.unwrap_or-align.result n (tag_meant f c.in_ok-tag.tag)) seen (map (map_row_line (tag_meant f)) filled)) c.width-width.ensures fills))

@@ -23,8 +23,8 @@ returns-in_err-append_columns_aligned-clause-refused g c =
     row_refused meaning columns _ c.args.self c.self.view_is c.top_mut-top.result.now c.top_mut-top.ensures.top c.take_cells-cells.result.0.items c.take_cells-cells.ensures.cells c.row_fits.ensures.blank c.args.number (sym c.row_fits.ensures.fits ∙ fit)
     (c.append_columns_aligned.ensures.too_narrow live.0 (c.in_err-append_columns_aligned.was ∙ ap Err e)))
 
-pub invariant_of-result : goal.invariant_of-result
-invariant_of-result g c =
+pub invariant_of-self : goal.invariant_of-self
+invariant_of-self g c =
     let i = c.self.inside in
     let live = top_live i.renderers i.pending i.opened c.self.invariant c.top_mut-top.result.now c.top_mut-top.ensures.top in
     let h = c.in_ok-append_columns_aligned.ensures.ok in

@@ -18,8 +18,8 @@ returns-in_err-append_vert_row-clause-refused g c =
     vertical_refused meaning _ c.args.self c.self.view_is columns c.top_mut.result.now c.top_mut.ensures.top c.in_ok-cells.cells.items c.in_ok-cells.ensures.cells
     (c.append_vert_row.ensures.too_narrow live.0 (c.in_err-append_vert_row.was ∙ ap Err e)))
 
-pub invariant_of-result : goal.invariant_of-result
-invariant_of-result g c =
+pub invariant_of-self : goal.invariant_of-self
+invariant_of-self g c =
     let i = c.self.inside in
     let live = top_live i.renderers i.pending i.opened c.self.invariant c.top_mut.result.now c.top_mut.ensures.top in
     let h = c.in_ok-append_vert_row.ensures.ok in

@@ -18,19 +18,19 @@ returns-in_err-call-clause-refused g c =
     let meaning = g.D.TextDecorator.meaning in
     let columns = g.W.CharWidth.columns in
     let request = request_of c.args.request.now in
-    refused_by (RequestRefuses columns (decoration_of g.D.TextDecorator) (progress_meant meaning c.args.self) c.args.number request) c.from_residual.result c.in_err-call.field-0.0 c.from_residual.ensures.1 (λ e.
+    refused_by (RequestRefuses columns (decoration_of g.D.TextDecorator) (progress_meant meaning c.args.self) c.args.number request) c.from_residual-in_err-call.result c.in_err-call.field-0.0 c.from_residual-in_err-call.ensures.1 (λ e.
     request_refused meaning _ c.args.self c.self.view_is columns (decoration_of g.D.TextDecorator) request c.top_mut-top.result.now c.top_mut-top.ensures.top (sym c.lacks.ensures ∙ c.if-lacks.false) c.args.number (c.call.ensures.too_narrow (c.in_err-call.was ∙ ap Err e)))
 
-pub invariant_of-result : goal.invariant_of-result
-invariant_of-result g c =
+pub invariant_of-self : goal.invariant_of-self
+invariant_of-self g c =
     let i = c.self.inside in
     let live = top_live i.renderers i.pending i.opened c.self.invariant c.top_mut-top.result.now c.top_mut-top.ensures.top in
-    with_top_live i.renderers i.pending i.opened c.self.invariant _ c.call.new.renderer c.in-Some.pending refl
-    (still_live g.W.CharWidth.columns (decoration_of g.D.TextDecorator) g.D.TextDecorator.meaning (request_of c.args.request.now) c.top_mut-top.result.now c.call.new.renderer i.pending.begun c.in-Some.pending.begun live (ap (λ p. p.begun) c.in-Some.ensures.counts) c.in_ok-call.ensures.ok)
+    with_top_live i.renderers i.pending i.opened c.self.invariant _ c.call.new.renderer c.note.new.self refl
+    (still_live g.W.CharWidth.columns (decoration_of g.D.TextDecorator) g.D.TextDecorator.meaning (request_of c.args.request.now) c.top_mut-top.result.now c.call.new.renderer i.pending.begun c.note.new.self.begun live (ap (λ p. p.begun) c.in_ok-note.ensures.counts) c.in_ok-call.ensures.ok)
 
 pub returns-clause-done : goal.returns-clause-done
 returns-clause-done g c =
-    request_done g.D.TextDecorator.meaning _ c.args.self c.self.view_is g.W.CharWidth.columns (decoration_of g.D.TextDecorator) (request_of c.args.request.now) c.top_mut-top.result.now c.top_mut-top.ensures.top (sym c.lacks.ensures ∙ c.if-lacks.false) c.call.new.renderer c.in-Some.pending c.in-Some.ensures.counts c.in_ok-call.ensures.ok
+    request_done g.D.TextDecorator.meaning _ c.args.self c.self.view_is g.W.CharWidth.columns (decoration_of g.D.TextDecorator) (request_of c.args.request.now) c.top_mut-top.result.now c.top_mut-top.ensures.top (sym c.lacks.ensures ∙ c.if-lacks.false) c.call.new.renderer c.note.new.self c.in_ok-note.ensures.counts c.in_ok-call.ensures.ok
 
 pub call-requires-clause-live : goal.call-requires-clause-live
 call-requires-clause-live g c =

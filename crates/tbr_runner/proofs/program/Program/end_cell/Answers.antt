@@ -20,4 +20,4 @@ close-inside-requires-clause-cells g c =
 
 pub returns-clause-done : goal.returns-clause-done
 returns-clause-done g c =
-    cell_waits g.D.TextDecorator.meaning _ c.args.self c.self.view_is c.close-inside.result.1 _ c.close-inside.ensures.0 c.close-inside.result.0 c.close-inside.ensures.1 c.program.view_is c.in-Some.span c.in-Some.align c.in_ok-with_cell.field-0 c.in-Some.ensures.found c.in_ok-with_cell.ensures
+    cell_waits g.D.TextDecorator.meaning _ c.args.self c.self.view_is c.close-inside.new.self _ c.close-inside.ensures.0 c.close-inside.result c.close-inside.ensures.1 c.self-2.view_is c.in-Some.span c.in-Some.align c.in_ok-with_cell.field-0 c.in-Some.ensures.found c.in_ok-with_cell.ensures

@@ -34,8 +34,8 @@ returns-in_err-end_link-clause-refused g c =
     end_refused meaning _ c.args.self c.self.view_is columns decoration some c.args.number
     (c.end_link.ensures.too_narrow (top_unfailed i.renderers i.pending i.opened c.self.invariant) (c.in_err-end_link.was ∙ ap Err e)))
 
-pub invariant_of-result : goal.invariant_of-result
-invariant_of-result g c =
+pub invariant_of-self : goal.invariant_of-self
+invariant_of-self g c =
     let i = c.self.inside in
     end_live g.D.TextDecorator.meaning g.W.CharWidth.columns (decoration_of g.D.TextDecorator) i.renderers c.end_link.new.self i.pending i.opened c.self.invariant c.in_ok-end_link.ensures.ok
 

@@ -22,8 +22,8 @@ returns-in_err-start_link-clause-refused g c =
     link_refused meaning _ c.args.self c.self.view_is columns decoration c.args.target.now
     (c.start_link.ensures.too_narrow (top_unfailed i.renderers i.pending i.opened c.self.invariant) (c.in_err-start_link.was ∙ ap Err e)))
 
-pub invariant_of-result : goal.invariant_of-result
-invariant_of-result g c =
+pub invariant_of-self : goal.invariant_of-self
+invariant_of-self g c =
     let i = c.self.inside in
     start_live g.D.TextDecorator.meaning g.W.CharWidth.columns (decoration_of g.D.TextDecorator) i.renderers c.start_link.new.self i.pending i.opened c.self.invariant (chars c.args.target.now) c.in_ok-start_link.ensures.ok
 
