@@ -233,10 +233,6 @@ module _ {A : Type 0} (columns : ℕ → Option ℕ) (width : ℕ) where
     two_columns (marker m ∷ is) = (omega arith, two_columns is)
     two_columns (glyph c a ∷ is) = (two_narrow width two (columns c) (law c), two_columns is)
 
-    pub two_columns_words : (words : List (Word A)) → Each (λ w. IsNarrow columns width w.items) words
-    two_columns_words [] = tt
-    two_columns_words (w ∷ words) = (two_columns w.items, two_columns_words words)
-
     pub two_columns_characters : (run : List (Entry A)) → CharactersFit columns width run
     two_columns_characters [] = tt
     two_columns_characters (marker_entry name ∷ run) = (tt, two_columns_characters run)

@@ -102,10 +102,6 @@ module _ {A : Type 0} (s : State A) where
 
 -- so of lines that are handed out one by one
 module _ {A : Type 0} where
-  pub many_failure : (n : ℕ) (s : State A) → (lines_taken n s).failure ≡ s.failure
-  many_failure zero s = refl
-  many_failure (suc n) s = many_failure n (line_taken s) ∙ taken_failure s
-
   pub many_padding : (n : ℕ) (s : State A) → (lines_taken n s).padding ≡ s.padding
   many_padding zero s = refl
   many_padding (suc n) s = many_padding n (line_taken s) ∙ taken_padding s

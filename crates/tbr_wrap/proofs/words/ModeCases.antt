@@ -1,6 +1,5 @@
 -- What the rule does with a character, by tests that the code makes.
 use Rattle.std.proofs.Common.{◌≡◌, ◌≢◌, nat_lt, ◌&&◌, ◌||◌, not, ◌==◌, ℕ, zero, suc, ◌+◌, ◌<◌, Bool, true, false, if◌then◌else◌, Option, None, Some, is_none, is_some, List, refl, ap, ◌∙◌, arith, Result, Ok, Err, OnOk, le-ltb, ne_eqb}
-use Rattle.std.specs.Cmp.{IsEquivalence}
 use Rattle.std.specs.Char.{is_whitespace}
 use Rattle.tbr_model.specs.declared.white_space.WhiteSpace.{WhiteSpace}
 use Rattle.tbr_model.specs.declared.white_space.WhiteSpace.TheVariants.{Normal}
@@ -57,15 +56,6 @@ keep_joins c a mode n p e = rw e refl
 
 pub keep_waits : {A : Type 0} (c : ℕ) (a : A) (mode : WhiteSpace) (n : ℕ) (p : Progress A) → has_character p.word ≡ false → keep_space c a mode (Some n) p ≡ record p { space = space_of (pending_width p.space + n) a mode }
 keep_waits c a mode n p e = rw e refl
-
--- ---- the tag of this call
-
-module _ {A : Type 0} (eq : A → A → Bool) (laws : IsEquivalence eq) (p : Progress A) (a b : A) where
-  pub tag_wrap : p.in_continuation ≡ true → eq b (tag_of p a b) ≡ true
-  tag_wrap e = rw e (laws.refl b)
-
-  pub tag_main : p.in_continuation ≡ false → eq a (tag_of p a b) ≡ true
-  tag_main e = rw e (laws.refl a)
 
 -- ---- spaces of a tab
 

@@ -1,4 +1,4 @@
-use Rattle.std.proofs.Common.{◌≡◌, ℕ, true, refl, ◌∙◌, sym, subst, Err}
+use Rattle.std.proofs.Common.{◌≡◌, ℕ, refl, ◌∙◌, sym, subst, Err}
 use Rattle.std.proofs.lemmas.Result.{err_from_is_err_and}
 use Rattle.tbr_model.specs.Rule.{tag_of, flush_word, tab}
 use Rattle.tbr_wrap.specs.Wrapper.{IsAtProgress}
