@@ -1,14 +1,12 @@
 -- The tags that stretches stand for.
-use Rattle.std.proofs.Common.{◌≡◌, ℕ, suc, zero, ◌+◌, ◌-◌, ◌<◌, ◌≤◌, Bool, true, List, [], ◌∷◌, ◌++◌, length, take, drop, get_or, set, replicate, refl, ap, sym, ◌∙◌, subst, arith, append_assoc, append-nil, add-one, drop-cons, length-set}
-use Rattle.std.proofs.lemmas.List.{set_split, drop-set, drop_all, drop-drop, take_rest, take-append-drop, drop-set-lt, length-append, length-take, length-drop, drop-append-le, length-replicate, replicate-append-replicate}
+use Rattle.std.proofs.Common.{◌≡◌, ℕ, suc, zero, ◌+◌, ◌-◌, ◌<◌, ◌≤◌, Bool, true, List, [], ◌∷◌, ◌++◌, length, take, drop, get_or, set, replicate, refl, ap, sym, ◌∙◌, subst, arith, append_assoc, append-nil, add-one, drop-cons, length-set, inl, inr}
+use Rattle.std.proofs.lemmas.Bool.{cases_lt}
+use Rattle.std.proofs.lemmas.List.{set_split, drop-set, take_all, drop_all, take-append-drop, drop-set-lt, length-append, length-take, drop-append-le, length-replicate}
 use Rattle.std.proofs.Math.Seq.{take-append-add, drop-append-add}
 use Rattle.std.specs.List.{AllZip}
 use Rattle.std.specs.Cmp.{IsEquivalence}
 use Rattle.tbr_wrap.specs.declared.flat.tags.Stretch.{Stretch}
-use Rattle.tbr_wrap.specs.Stretches.{tags_of}
-
-pub one : {A : Type 0} → Stretch A → List A
-one s = s.tag ∷ replicate s.more s.tag
+use Rattle.tbr_wrap.specs.Stretches.{tags_of, IsPlace}
 
 module _ {A : Type 0} where
   pub tags_of-append : (xs ys : List (Stretch A)) → tags_of (xs ++ ys) ≡ tags_of xs ++ tags_of ys
@@ -27,22 +25,12 @@ module _ {A : Type 0} where
       ap (λ ys. tags_of (drop k ys)) (set_split xs i y g) ∙ ap tags_of (drop-append-le k (take i xs) (y ∷ drop (suc i) xs) (omega (arith, length-take i xs)))
       ∙ tags_of-append (drop k (take i xs)) (y ∷ drop (suc i) xs)
 
-  pub item_tags : (xs : List (Stretch A)) (k i : ℕ) (d : Stretch A) → k ≤ i → i < length xs → tags_of (drop k xs) ≡ tags_of (drop k (take i xs)) ++ tags_of (get_or xs i d ∷ drop (suc i) xs)
-  item_tags xs k i d h g = split_tags xs k i h (omega arith) ∙ ap (λ ys. tags_of (drop k (take i xs)) ++ tags_of ys) (drop-cons xs i d g)
+  -- a stretch that is left, and those behind it
+  stretch_at : (xs : List (Stretch A)) (i : ℕ) (s : Stretch A) → i < length xs → s ≡ get_or xs i s → drop i xs ≡ s ∷ drop (suc i) xs
+  stretch_at xs i s h is = drop-cons xs i s h ∙ ap (λ z. z ∷ drop (suc i) xs) (sym is)
 
-  -- the last stretch is longer
-  pub push_last : (xs : List (Stretch A)) (k i n : ℕ) (s y : Stretch A) → k ≤ i → suc i ≡ length xs → s ≡ get_or xs i s → y ≡ record s { more = s.more + n } →
-      tags_of (drop k (set xs i y)) ≡ tags_of (drop k xs) ++ replicate n s.tag
-  push_last xs k i n s y h g is e =
-      let front = tags_of (drop k (take i xs)) in
-      let none : drop (suc i) xs ≡ [] = drop_all (suc i) xs (omega arith) in
-      let new : tags_of (drop k (set xs i y)) ≡ front ++ ((s.tag ∷ replicate s.more s.tag) ++ replicate n s.tag) =
-      set_tags xs k i y h (omega arith) ∙ ap (λ z. front ++ tags_of (z ∷ drop (suc i) xs)) e ∙ ap (λ zs. front ++ tags_of (record s { more = s.more + n } ∷ zs)) none
-      ∙ ap (λ ts. front ++ (s.tag ∷ ts)) (append-nil (replicate (s.more + n) s.tag) ∙ sym (replicate-append-replicate s.more n s.tag)) in
-      let old : tags_of (drop k xs) ≡ front ++ (s.tag ∷ replicate s.more s.tag) =
-      item_tags xs k i s h (omega arith) ∙ ap (λ z. front ++ tags_of (z ∷ drop (suc i) xs)) (sym is) ∙ ap (λ zs. front ++ tags_of (s ∷ zs)) none
-      ∙ ap (λ ts. front ++ (s.tag ∷ ts)) (append-nil (replicate s.more s.tag)) in
-      new ∙ sym (append_assoc front (s.tag ∷ replicate s.more s.tag) (replicate n s.tag)) ∙ ap (λ ts. ts ++ replicate n s.tag) (sym old)
+  pub stretch_tags : (xs : List (Stretch A)) (i : ℕ) (s : Stretch A) → i < length xs → s ≡ get_or xs i s → tags_of (drop i xs) ≡ replicate (s.more + 1) s.tag ++ tags_of (drop (suc i) xs)
+  stretch_tags xs i s h is = ap tags_of (stretch_at xs i s h is) ∙ ap (λ n. replicate n s.tag ++ tags_of (drop (suc i) xs)) (sym (add-one s.more))
 
   -- a stretch is pushed
   pub push_new : (xs : List (Stretch A)) (k m n : ℕ) (a : A) → k ≤ length xs → n ≡ suc m →
@@ -64,9 +52,7 @@ module _ {A : Type 0} where
 
   -- the first stretch's first tags
   pub first_tags : (xs : List (Stretch A)) (k n : ℕ) (s : Stretch A) → k < length xs → s ≡ get_or xs k s → n ≤ s.more → take (n + 1) (tags_of (drop k xs)) ≡ replicate (n + 1) s.tag
-  first_tags xs k n s h is less =
-      let e : drop k xs ≡ s ∷ drop (suc k) xs = drop-cons xs k s h ∙ ap (λ z. z ∷ drop (suc k) xs) (sym is) in
-      ap (λ ys. take (n + 1) (tags_of ys)) e ∙ rw add-one (ap (λ ts. s.tag ∷ ts) (take_run n s.more s.tag (tags_of (drop (suc k) xs)) less))
+  first_tags xs k n s h is less = ap (take (n + 1)) (stretch_tags xs k s h is) ∙ take_run (n + 1) (s.more + 1) s.tag (tags_of (drop (suc k) xs)) (omega (arith, less))
 
   -- where a tag is left, so is a stretch
   pub has_stretch : (xs : List (Stretch A)) (k : ℕ) → 0 < length (tags_of (drop k xs)) → k < length xs
@@ -84,24 +70,31 @@ module _ {A : Type 0} where
   pub skip_part : (xs : List (Stretch A)) (k n : ℕ) (s y : Stretch A) → k < length xs → s ≡ get_or xs k s → n ≤ s.more → y ≡ record s { more = s.more - n } →
       tags_of (drop k (set xs k y)) ≡ drop n (tags_of (drop k xs))
   skip_part xs k n s y h is less e =
-      let old : drop k xs ≡ s ∷ drop (suc k) xs = drop-cons xs k s h ∙ ap (λ z. z ∷ drop (suc k) xs) (sym is) in
-      ap tags_of (drop-set xs k y h ∙ ap (λ i. y ∷ drop i xs) (add-one k)) ∙ ap (λ z. tags_of (z ∷ drop (suc k) xs)) e ∙ sym (drop_one n s.more s.tag (tags_of (drop (suc k) xs)) less) ∙ ap (λ ys. drop n (tags_of ys)) (sym old)
-
-  stretch_tags : (xs : List (Stretch A)) (k : ℕ) (s : Stretch A) → k < length xs → s ≡ get_or xs k s → tags_of (drop k xs) ≡ (s.tag ∷ replicate s.more s.tag) ++ tags_of (drop (suc k) xs)
-  stretch_tags xs k s h is = ap tags_of (drop-cons xs k s h) ∙ ap (λ z. tags_of (z ∷ drop (suc k) xs)) (sym is)
+      ap tags_of (drop-set xs k y h ∙ ap (λ i. y ∷ drop i xs) (add-one k)) ∙ ap (λ z. tags_of (z ∷ drop (suc k) xs)) e ∙ sym (drop_one n s.more s.tag (tags_of (drop (suc k) xs)) less) ∙ ap (λ ys. drop n (tags_of ys)) (sym (stretch_at xs k s h is))
 
   pub stretch_len : (xs : List (Stretch A)) (k : ℕ) (s : Stretch A) → k < length xs → s ≡ get_or xs k s → length (tags_of (drop k xs)) ≡ s.more + 1 + length (tags_of (drop (suc k) xs))
   stretch_len xs k s h is =
-      let e = stretch_tags xs k s h is in
-      omega (arith, ap length e, length-append (s.tag ∷ replicate s.more s.tag) (tags_of (drop (suc k) xs)), length-replicate s.more s.tag)
+      omega (arith, ap length (stretch_tags xs k s h is), length-append (replicate (s.more + 1) s.tag) (tags_of (drop (suc k) xs)), length-replicate (s.more + 1) s.tag)
+
+  pub one_less : (xs : List (Stretch A)) (i : ℕ) → i < length xs → length (tags_of (drop (suc i) xs)) < length (tags_of (drop i xs))
+  one_less [] i h = absurd (omega arith)
+  one_less (x ∷ xs) zero h = omega (arith, length-append (replicate x.more x.tag) (tags_of xs))
+  one_less (x ∷ xs) (suc i) h = one_less xs i (omega (arith, h))
+
+  pub fewer : (xs : List (Stretch A)) (i j : ℕ) → i ≤ j → j ≤ length xs → length (tags_of (drop j xs)) ≤ length (tags_of (drop i xs))
+  fewer xs i j h g = omega (arith, ap length (split_tags xs i j h g), length-append (tags_of (drop i (take j xs))) (tags_of (drop j xs)))
+
+  pub take_behind : (front ts : List A) (o p : ℕ) → p ≡ length front + o → take p (front ++ ts) ≡ front ++ take o ts
+  take_behind front ts o p e = ap (λ i. take i (front ++ ts)) e ∙ take-append-add front ts o
+
+  pub drop_behind : (front ts : List A) (o p : ℕ) → p ≡ length front + o → drop p (front ++ ts) ≡ drop o ts
+  drop_behind front ts o p e = ap (λ i. drop i (front ++ ts)) e ∙ drop-append-add front ts o
 
   -- a whole stretch is skipped
   pub skip_whole : (xs : List (Stretch A)) (k n : ℕ) (s : Stretch A) → k < length xs → s ≡ get_or xs k s → s.more < n → drop n (tags_of (drop k xs)) ≡ drop (n - (s.more + 1)) (tags_of (drop (k + 1) xs))
   skip_whole xs k n s h is less =
-      let m : n ≡ length (s.tag ∷ replicate s.more s.tag) + (n - (s.more + 1)) = omega (arith, less, length-replicate s.more s.tag) in
-      ap (λ ts. drop n ts) (stretch_tags xs k s h is)
-      ∙ ap (λ i. drop i ((s.tag ∷ replicate s.more s.tag) ++ tags_of (drop (suc k) xs))) m
-      ∙ drop-append-add (s.tag ∷ replicate s.more s.tag) (tags_of (drop (suc k) xs)) (n - (s.more + 1))
+      let m : n ≡ length (replicate (s.more + 1) s.tag) + (n - (s.more + 1)) = omega (arith, less, length-replicate (s.more + 1) s.tag) in
+      ap (λ ts. drop n ts) (stretch_tags xs k s h is) ∙ drop_behind (replicate (s.more + 1) s.tag) (tags_of (drop (suc k) xs)) (n - (s.more + 1)) n m
       ∙ ap (λ i. drop (n - (s.more + 1)) (tags_of (drop i xs))) (sym (add-one k))
 
   -- what the loop that skips keeps
@@ -145,83 +138,72 @@ module _ {A : Type 0} where
   replicate_sum m zero t rest = let e : m + 0 ≡ m = omega arith in ap (λ i. replicate i t ++ rest) e
   replicate_sum m (suc n) t rest = let e : m + suc n ≡ suc (m + n) = omega arith in ap (λ i. replicate i t ++ rest) e ∙ ap (λ ts. t ∷ ts) (replicate_sum m n t rest)
 
-  pub take_behind : (front ts : List A) (o p : ℕ) → p ≡ length front + o → take p (front ++ ts) ≡ front ++ take o ts
-  take_behind front ts o p e = ap (λ i. take i (front ++ ts)) e ∙ take-append-add front ts o
+  -- the tags before the last ones, and these
+  before_len : (xs : List (Stretch A)) (k i o last : ℕ) → k ≤ i → i ≤ length xs → length (tags_of (drop i xs)) ≡ o + last → length (tags_of (drop k xs)) - last ≡ length (tags_of (drop k (take i xs))) + o
+  before_len xs k i o last h g e = omega (arith, ap length (split_tags xs k i h g), length-append (tags_of (drop k (take i xs))) (tags_of (drop i xs)), e)
 
-  pub drop_behind : (front ts : List A) (o p : ℕ) → p ≡ length front + o → drop p (front ++ ts) ≡ drop o ts
-  drop_behind front ts o p e = ap (λ i. drop i (front ++ ts)) e ∙ drop-append-add front ts o
+  pub take_before : (xs : List (Stretch A)) (k i o last : ℕ) → k ≤ i → i ≤ length xs → length (tags_of (drop i xs)) ≡ o + last →
+      take (length (tags_of (drop k xs)) - last) (tags_of (drop k xs)) ≡ tags_of (drop k (take i xs)) ++ take o (tags_of (drop i xs))
+  take_before xs k i o last h g e =
+      let n = length (tags_of (drop k xs)) - last in
+      ap (take n) (split_tags xs k i h g) ∙ take_behind (tags_of (drop k (take i xs))) (tags_of (drop i xs)) o n (before_len xs k i o last h g e)
 
-  insert_behind : (front ts us behind more : List A) (o p : ℕ) → p ≡ length front + o → us ≡ take o ts ++ (more ++ behind) → front ++ us ≡ take p (front ++ ts) ++ (more ++ behind)
-  insert_behind front ts us behind more o p e h =
-      ap (λ vs. front ++ vs) h ∙ sym (append_assoc front (take o ts) (more ++ behind)) ∙ ap (λ vs. vs ++ (more ++ behind)) (sym (take_behind front ts o p e))
+  pub drop_before : (xs : List (Stretch A)) (k i o last : ℕ) → k ≤ i → i ≤ length xs → length (tags_of (drop i xs)) ≡ o + last →
+      drop (length (tags_of (drop k xs)) - last) (tags_of (drop k xs)) ≡ drop o (tags_of (drop i xs))
+  drop_before xs k i o last h g e =
+      let n = length (tags_of (drop k xs)) - last in
+      ap (drop n) (split_tags xs k i h g) ∙ drop_behind (tags_of (drop k (take i xs))) (tags_of (drop i xs)) o n (before_len xs k i o last h g e)
 
-  pub before_len : (xs : List (Stretch A)) (k j o last : ℕ) → k ≤ j → j ≤ length xs → length (tags_of (drop j xs)) ≡ o + last →
-      length (tags_of (drop k xs)) - last ≡ length (tags_of (drop k (take j xs))) + o
-  before_len xs k j o last h g e =
-      omega (arith, ap length (split_tags xs k j h g), length-append (tags_of (drop k (take j xs))) (tags_of (drop j xs)), e)
+  -- what follows the tags before the last ones
+  pub put_before : (xs : List (Stretch A)) (k i o last : ℕ) (us behind : List A) → k ≤ i → i ≤ length xs → length (tags_of (drop i xs)) ≡ o + last → us ≡ take o (tags_of (drop i xs)) ++ behind →
+      tags_of (drop k (take i xs)) ++ us ≡ take (length (tags_of (drop k xs)) - last) (tags_of (drop k xs)) ++ behind
+  put_before xs k i o last us behind h g e is =
+      ap (λ vs. tags_of (drop k (take i xs)) ++ vs) is ∙ sym (append_assoc (tags_of (drop k (take i xs))) (take o (tags_of (drop i xs))) behind) ∙ ap (λ vs. vs ++ behind) (sym (take_before xs k i o last h g e))
 
   -- a stretch is longer, wherever in it the tag is meant
   pub bumped : (xs : List (Stretch A)) (k j o last n : ℕ) (s y : Stretch A) → k ≤ j → j < length xs → s ≡ get_or xs j s → y ≡ record s { more = s.more + n } → o ≤ s.more + 1 → length (tags_of (drop j xs)) ≡ o + last →
       tags_of (drop k (set xs j y)) ≡
       take (length (tags_of (drop k xs)) - last) (tags_of (drop k xs)) ++ (replicate n s.tag ++ drop (length (tags_of (drop k xs)) - last) (tags_of (drop k xs)))
   bumped xs k j o last n s y h g is e less len =
-      let ts = tags_of (drop k xs) in
-      let front = tags_of (drop k (take j xs)) in
-      let rest = tags_of (drop (suc j) xs) in
-      let run = replicate (s.more + 1) s.tag ++ rest in
-      let old : ts ≡ front ++ run = item_tags xs k j s h g ∙ ap (λ z. front ++ tags_of (z ∷ drop (suc j) xs)) (sym is) ∙ ap (λ i. front ++ (replicate i s.tag ++ rest)) (sym (add-one s.more)) in
+      let ts = tags_of (drop k xs) in let live = tags_of (drop j xs) in
+      let front = tags_of (drop k (take j xs)) in let rest = tags_of (drop (suc j) xs) in
       let count : suc (s.more + n) ≡ s.more + 1 + n = omega arith in
-      let new : tags_of (drop k (set xs j y)) ≡ front ++ (replicate n s.tag ++ run) =
-      set_tags xs k j y h g ∙ ap (λ z. front ++ tags_of (z ∷ drop (suc j) xs)) e ∙ ap (λ i. front ++ (replicate i s.tag ++ rest)) count ∙ ap (λ us. front ++ us) (replicate_sum (s.more + 1) n s.tag rest) in
-      let p : length ts - last ≡ length front + o = before_len xs k j o last h (omega arith) len in
-      let back : drop (length ts - last) ts ≡ drop o run = ap (λ us. drop (length ts - last) us) old ∙ drop_behind front run o (length ts - last) p in
-      new
-      ∙ insert_behind front run (replicate n s.tag ++ run) (drop o run) (replicate n s.tag) o (length ts - last) p (replicate_insert o (s.more + 1) n s.tag rest less)
-      ∙ ap (λ us. take (length ts - last) us ++ (replicate n s.tag ++ drop o run)) (sym old)
-      ∙ ap (λ us. take (length ts - last) ts ++ (replicate n s.tag ++ us)) (sym back)
+      set_tags xs k j y h g ∙ ap (λ z. front ++ tags_of (z ∷ drop (suc j) xs)) e ∙ ap (λ i. front ++ (replicate i s.tag ++ rest)) count ∙ ap (λ us. front ++ us) (replicate_sum (s.more + 1) n s.tag rest)
+      ∙ put_before xs k j o last (replicate n s.tag ++ (replicate (s.more + 1) s.tag ++ rest)) (replicate n s.tag ++ drop o live) h (omega arith) len
+      (replicate_insert o (s.more + 1) n s.tag rest less ∙ ap (λ us. take o us ++ (replicate n s.tag ++ drop o us)) (sym (stretch_tags xs j s g is)))
+      ∙ ap (λ us. take (length ts - last) ts ++ (replicate n s.tag ++ us)) (sym (drop_before xs k j o last h (omega arith) len))
+
+  -- the last stretch is longer
+  pub push_last : (xs : List (Stretch A)) (k i n : ℕ) (s y : Stretch A) → k ≤ i → suc i ≡ length xs → s ≡ get_or xs i s → y ≡ record s { more = s.more + n } →
+      tags_of (drop k (set xs i y)) ≡ tags_of (drop k xs) ++ replicate n s.tag
+  push_last xs k i n s y h g is e =
+      let ts = tags_of (drop k xs) in
+      let len : length (tags_of (drop i xs)) ≡ s.more + 1 + 0 = omega (arith, stretch_len xs i s (omega arith) is, drop_none_len xs (suc i) g) in
+      bumped xs k i (s.more + 1) 0 n s y h (omega arith) is e (omega arith) len ∙ ap (λ us. us ++ (replicate n s.tag ++ drop (length ts - 0) ts)) (take_all (length ts - 0) ts (omega arith))
+      ∙ ap (λ us. ts ++ (replicate n s.tag ++ us)) (drop_all (length ts - 0) ts (omega arith)) ∙ ap (λ us. ts ++ us) (append-nil (replicate n s.tag))
 
   -- a stretch is inserted
   pub inserted : (xs : List (Stretch A)) (k j last n m : ℕ) (a : A) → k ≤ j → j ≤ length xs → length (tags_of (drop j xs)) ≡ last → n ≡ suc m →
       tags_of (drop k (take j xs ++ record { more = m; tag = a } ∷ drop j xs)) ≡
       take (length (tags_of (drop k xs)) - last) (tags_of (drop k xs)) ++ (replicate n a ++ drop (length (tags_of (drop k xs)) - last) (tags_of (drop k xs)))
   inserted xs k j last n m a h g len e =
-      let ts = tags_of (drop k xs) in
-      let front = tags_of (drop k (take j xs)) in
-      let rest = tags_of (drop j xs) in
-      let old : ts ≡ front ++ rest = split_tags xs k j h g in
-      let new : tags_of (drop k (take j xs ++ record { more = m; tag = a } ∷ drop j xs)) ≡ front ++ (replicate n a ++ rest) =
+      let ts = tags_of (drop k xs) in let rest = tags_of (drop j xs) in
+      let none : length rest ≡ 0 + last = omega (arith, len) in
       ap tags_of (drop-append-le k (take j xs) (record { more = m; tag = a } ∷ drop j xs) (omega (arith, length-take j xs))) ∙ tags_of-append (drop k (take j xs)) (record { more = m; tag = a } ∷ drop j xs)
-      ∙ ap (λ i. front ++ (replicate i a ++ rest)) (sym e) in
-      let zero_len : length (tags_of (drop j xs)) ≡ 0 + last = omega (arith, len) in
-      let p : length ts - last ≡ length front + 0 = before_len xs k j 0 last h g zero_len in
-      let back : drop (length ts - last) ts ≡ rest = ap (λ us. drop (length ts - last) us) old ∙ drop_behind front rest 0 (length ts - last) p in
-      new ∙ insert_behind front rest (replicate n a ++ rest) rest (replicate n a) 0 (length ts - last) p refl
-      ∙ ap (λ us. take (length ts - last) us ++ (replicate n a ++ rest)) (sym old)
-      ∙ ap (λ us. take (length ts - last) ts ++ (replicate n a ++ us)) (sym back)
+      ∙ ap (λ i. tags_of (drop k (take j xs)) ++ (replicate i a ++ rest)) (sym e) ∙ put_before xs k j 0 last (replicate n a ++ rest) (replicate n a ++ rest) h g none refl
+      ∙ ap (λ us. take (length ts - last) ts ++ (replicate n a ++ us)) (sym (drop_before xs k j 0 last h g none))
 
-suc_in : (k r : ℕ) → suc (k + r) ≡ k + suc r
-suc_in k r = omega arith
-
--- where the last so many tags begin, among all stretches
-pub record IsPlace {A : Type 0} (xs : List (Stretch A)) (i o last : ℕ) : Type 0 where
-  pub within : i ≤ length xs
-  pub tags : length (tags_of (drop i xs)) ≡ o + last
-  pub offset : 0 < o → length (tags_of (drop (suc i) xs)) < last
-
-pub at_place : {A : Type 0} (xs ys : List (Stretch A)) (k r o last : ℕ) → ys ≡ xs → k ≤ length xs → r ≤ length (take (length ys - k) (drop k ys)) → length (tags_of (drop r (take (length ys - k) (drop k ys)))) ≡ o + last →
-    (0 < o → length (tags_of (drop (suc r) (take (length ys - k) (drop k ys)))) < last) → IsPlace xs (k + r) o last
-at_place {A} xs ys k r o last e h g n f =
-    let live : take (length ys - k) (drop k ys) ≡ drop k xs = take_rest ys k ∙ ap (λ zs. drop k zs) e in
-    let inside : r ≤ length (drop k xs) = subst (λ (zs : List (Stretch A)). r ≤ length zs) live g in
-    record {
-      within = omega (arith, inside, h, length-drop k xs);
-      tags = ap (λ zs. length (tags_of zs)) (sym (drop-drop r k xs)) ∙ ap (λ zs. length (tags_of (drop r zs))) (sym live) ∙ n;
-      offset = λ some. subst (λ (m : ℕ). m < last) (ap (λ zs. length (tags_of (drop (suc r) zs))) live ∙ ap (λ zs. length (tags_of zs)) (drop-drop (suc r) k xs ∙ ap (λ i. drop i xs) (sym (suc_in k r)))) (f some);
-    }
+-- a place among the tags that aren't skipped
+pub behind_skipped : {A : Type 0} (xs : List (Stretch A)) (k i o last : ℕ) → IsPlace xs i o last → last ≤ length (tags_of (drop k xs)) → k ≤ length xs → k ≤ i
+behind_skipped xs k i o last p live h = elim (cases_lt i k) [ inl less ↦ absurd (go o p less) | inr most ↦ most ]
+  where
+    go : (o : ℕ) → IsPlace xs i o last → i < k → ⊥
+    go zero p less = omega (arith, p.tags, live, one_less xs i (omega (arith, less, h)), fewer xs (suc i) k (omega (arith, less)) h)
+    go (suc o) p less = omega (arith, p.inside (omega arith), live, fewer xs (suc i) k (omega (arith, less)) h)
 
 pub offset_in : {A : Type 0} (xs : List (Stretch A)) (i o last : ℕ) (s : Stretch A) → IsPlace xs i o last → i < length xs → s ≡ get_or xs i s → o ≤ s.more
 offset_in xs i zero last s p h is = omega arith
-offset_in xs i (suc o) last s p h is = omega (arith, p.tags, p.offset (omega arith), stretch_len xs i s h is)
+offset_in xs i (suc o) last s p h is = omega (arith, p.tags, p.inside (omega arith), stretch_len xs i s h is)
 
 -- what is inserted, where the tags before it and behind it stay
 pub unchanged : {A : Type 0} (eq : A → A → Bool) (laws : IsEquivalence eq) (ts : List A) → AllZip (λ x y. eq x y ≡ true) ts ts
@@ -260,36 +242,22 @@ module _ {A : Type 0} where
       tags_of (drop k two) ≡ take (length (tags_of (drop k xs)) - last) (tags_of (drop k xs)) ++ (replicate n a ++ tags_of (b ∷ drop (suc i) xs))
   split_tags_new xs two k i o last n m s b a h g is some less len count e =
       let front = tags_of (drop k (take i xs)) in
-      let rest = tags_of (drop (suc i) xs) in
-      let run = replicate (s.more + 1) s.tag ++ rest in
       let behind = tags_of (b ∷ drop (suc i) xs) in
       let tail = record { more = m; tag = a } ∷ b ∷ drop (suc i) xs in
-      let old : tags_of (drop k xs) ≡ front ++ run =
-      item_tags xs k i s h g ∙ ap (λ z. front ++ tags_of (z ∷ drop (suc i) xs)) (sym is) ∙ ap (λ j. front ++ (replicate j s.tag ++ rest)) (sym (add-one s.more)) in
-      let p : length (tags_of (drop k xs)) - last ≡ length front + o = before_len xs k i o last h (omega arith) len in
       let whole : suc (o - 1) ≡ o = omega arith in
-      let new : tags_of (drop k two) ≡ front ++ (replicate o s.tag ++ (replicate n a ++ behind)) =
-      ap (λ ys. tags_of (drop k ys)) e
-      ∙ ap tags_of (drop-append-le k (take i xs) (record s { more = o - 1 } ∷ tail) (omega (arith, length-take i xs)))
+      ap (λ ys. tags_of (drop k ys)) e ∙ ap tags_of (drop-append-le k (take i xs) (record s { more = o - 1 } ∷ tail) (omega (arith, length-take i xs)))
       ∙ tags_of-append (drop k (take i xs)) (record s { more = o - 1 } ∷ tail) ∙ ap (λ j. front ++ (replicate j s.tag ++ (replicate (suc m) a ++ behind))) whole
-      ∙ ap (λ j. front ++ (replicate o s.tag ++ (replicate j a ++ behind))) (sym count) in
-      new
-      ∙ insert_behind front run (replicate o s.tag ++ (replicate n a ++ behind)) behind (replicate n a) o (length (tags_of (drop k xs)) - last) p
-      (ap (λ ts. ts ++ (replicate n a ++ behind)) (sym (take_run o (s.more + 1) s.tag rest (omega arith))))
-      ∙ ap (λ ts. take (length (tags_of (drop k xs)) - last) ts ++ (replicate n a ++ behind)) (sym old)
+      ∙ ap (λ j. front ++ (replicate o s.tag ++ (replicate j a ++ behind))) (sym count)
+      ∙ put_before xs k i o last (replicate o s.tag ++ (replicate n a ++ behind)) (replicate n a ++ behind) h (omega arith) len
+      (ap (λ ts. ts ++ (replicate n a ++ behind)) (sym (ap (take o) (stretch_tags xs i s g is) ∙ take_run o (s.more + 1) s.tag (tags_of (drop (suc i) xs)) (omega arith))))
 
   pub split_same : (eq : A → A → Bool) (laws : IsEquivalence eq) (xs : List (Stretch A)) (k i o last : ℕ) (s b : Stretch A) → k ≤ i → i < length xs → s ≡ get_or xs i s → o ≤ s.more → length (tags_of (drop i xs)) ≡ o + last →
       b.more ≡ s.more - o → eq b.tag s.tag ≡ true → AllZip (λ x y. eq x y ≡ true) (tags_of (b ∷ drop (suc i) xs)) (drop (length (tags_of (drop k xs)) - last) (tags_of (drop k xs)))
   split_same eq laws xs k i o last s b h g is less n e same =
-      let front = tags_of (drop k (take i xs)) in
       let rest = tags_of (drop (suc i) xs) in
-      let old : tags_of (drop k xs) ≡ front ++ (replicate (s.more + 1) s.tag ++ rest) =
-      item_tags xs k i s h g ∙ ap (λ z. front ++ tags_of (z ∷ drop (suc i) xs)) (sym is) ∙ ap (λ j. front ++ (replicate j s.tag ++ rest)) (sym (add-one s.more)) in
-      let p : length (tags_of (drop k xs)) - last ≡ length front + o = before_len xs k i o last h (omega arith) n in
       let m : s.more + 1 ≡ o + suc b.more = omega (arith, e, less) in
       let back : drop (length (tags_of (drop k xs)) - last) (tags_of (drop k xs)) ≡ replicate (suc b.more) s.tag ++ rest =
-      ap (λ ts. drop (length (tags_of (drop k xs)) - last) ts) old ∙ drop_behind front (replicate (s.more + 1) s.tag ++ rest) o (length (tags_of (drop k xs)) - last) p
-      ∙ drop_run o (s.more + 1) (suc b.more) s.tag rest m in
+      drop_before xs k i o last h (omega arith) n ∙ ap (drop o) (stretch_tags xs i s g is) ∙ drop_run o (s.more + 1) (suc b.more) s.tag rest m in
       subst (λ (ts : List A). AllZip (λ x y. eq x y ≡ true) (tags_of (b ∷ drop (suc i) xs)) ts) (sym back) (same_run eq laws (suc b.more) b.tag s.tag rest same)
 
 pub nearly : {A : Type 0} (eq : A → A → Bool) (ts now new behind : List A) (last n : ℕ) (a tag : A) → ts ≡ now → eq a tag ≡ true → new ≡ take (length ts - last) ts ++ (replicate n a ++ behind) →

@@ -2,7 +2,7 @@
 ghost use Rattle.tbr_tagged.specs.Copies.{CopiesAreEqual};
 ghost use Rattle.std.specs.Prelude.{◌≡◌, ◌<◌, ◌≤◌, ◌+◌, ◌-◌, ◌++◌, ◌∷◌, [], true, ℕ, suc, List, length, take, drop, replicate, OnOk, OnErr, IfOk};
 ghost use Rattle.std.specs.List.{AllZip};
-ghost use Rattle.tbr_wrap.specs.Stretches.{tags_of};
+ghost use Rattle.tbr_wrap.specs.Stretches.{tags_of, IsPlace};
 
 use std::alloc::Global;
 use std::marker::Model;
@@ -85,11 +85,8 @@ impl<T: Drop> Stretches<T> {
         if count == 0 {
             return;
         }
-        let live = &self.stretches[self.skipped..];
-        let mut from = place_before(live, last + count);
-        let mut to = place_before(live, last);
-        from.stretch += self.skipped;
-        to.stretch += self.skipped;
+        let from = place_before(&self.stretches, last + count);
+        let to = place_before(&self.stretches, last);
         if from.stretch == to.stretch {
             self.stretches[from.stretch].more -= count;
             return;
@@ -145,8 +142,8 @@ impl<T: Eq + Clone> Stretches<T> {
             × (self.new ≡ take (length self.old - last) self.old ++ (replicate count a ++ behind))
             × AllZip (λ x y. T.eq x y ≡ true) behind (drop (length self.old - last) self.old)) }
     {
-        let place = place_before(&self.stretches[self.skipped..], last);
-        let index = self.skipped + place.stretch;
+        let place = place_before(&self.stretches, last);
+        let index = place.stretch;
         if index < self.stretches.len() && self.stretches[index].tag == tag {
             return lengthen(&mut self.stretches[index], count);
         }
@@ -157,7 +154,7 @@ impl<T: Eq + Clone> Stretches<T> {
             self.stretches.insert(index + 1, Stretch { more, tag })?;
             return Ok(());
         }
-        if place.stretch > 0 && self.stretches[index - 1].tag == tag {
+        if index > self.skipped && self.stretches[index - 1].tag == tag {
             return lengthen(&mut self.stretches[index - 1], count);
         }
         self.stretches.insert(index, Stretch { more, tag })?;
@@ -187,9 +184,7 @@ struct Place {
 /// Where the last `last` tags begin.
 fn place_before<T>(stretches: &[Stretch<T>], last: usize) -> Place
     requires { last ≤ length (tags_of stretches.now) }
-    ensures stretch { result.stretch ≤ length stretches.now }
-    ensures tags { length (tags_of (drop result.stretch stretches.now)) ≡ result.offset + last }
-    ensures offset { 0 < result.offset → length (tags_of (drop (suc result.stretch) stretches.now)) < last }
+    ensures { IsPlace stretches.now result.stretch result.offset last }
 {
     let mut stretch = stretches.len();
     let mut left = last;
@@ -207,10 +202,7 @@ fn place_before<T>(stretches: &[Stretch<T>], last: usize) -> Place
 
 /// Ends the stretch that a place parts there, and answers which stretch comes next.
 fn end_at<T>(stretches: &mut Vec<Stretch<T>>, place: Place) -> usize
-    requires within { place.stretch ≤ length stretches.old.items }
-    requires offset { 0 < place.offset →
-        place.offset + length (tags_of (drop (suc place.stretch) stretches.old.items))
-        < length (tags_of (drop place.stretch stretches.old.items)) }
+    requires { (last : ℕ) × IsPlace stretches.old.items place.stretch place.offset last }
     ensures next { (place.stretch ≤ result) × (result ≤ suc place.stretch) × (result ≤ length stretches.new.items) }
     ensures len { length stretches.new.items ≡ length stretches.old.items }
     ensures front { (k : ℕ) → k ≤ place.stretch → tags_of (drop k (take result stretches.new.items))
@@ -227,10 +219,7 @@ fn end_at<T>(stretches: &mut Vec<Stretch<T>>, place: Place) -> usize
 
 /// Begins the stretch that a place parts there.
 fn begin_at<T>(stretches: &mut Vec<Stretch<T>>, place: Place)
-    requires within { place.stretch ≤ length stretches.old.items }
-    requires offset { 0 < place.offset →
-        place.offset + length (tags_of (drop (suc place.stretch) stretches.old.items))
-        < length (tags_of (drop place.stretch stretches.old.items)) }
+    requires { (last : ℕ) × IsPlace stretches.old.items place.stretch place.offset last }
     ensures len { length stretches.new.items ≡ length stretches.old.items }
     ensures front { take place.stretch stretches.new.items ≡ take place.stretch stretches.old.items }
     ensures tags { tags_of (drop place.stretch stretches.new.items)

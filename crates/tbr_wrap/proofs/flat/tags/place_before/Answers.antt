@@ -32,14 +32,14 @@ returns-then-left-more g c =
     let len = count_len c.args.stretches.now c.loop-left.stretch (c.loop-left.stretch - 1) stretch next inv.within c.index-stretches-stretch.is in
     let more = ap (λ (s : Stretch g.row.T.Denot). s.more) c.index-stretches-stretch.is in
     record {
-      stretch = omega (arith, inv.within);
+      within = omega (arith, inv.within);
       tags = omega (arith, inv.reached, len, c.if-left-more.true, more);
-      offset = λ _. omega (arith, inv.reached, ap (λ k. length (tags_of (drop k c.args.stretches.now))) next, c.loop-left-test.true);
+      inside = λ _. omega (arith, inv.reached, ap (λ k. length (tags_of (drop k c.args.stretches.now))) next, c.loop-left-test.true);
     }
 
 pub returns : goal.returns
 returns g c = record {
-  stretch = c.loop-left.invariant.within;
+  within = c.loop-left.invariant.within;
   tags = omega (arith, c.loop-left.invariant.reached, c.loop-left-test.false);
-  offset = λ some. absurd (omega (arith, some));
+  inside = λ some. absurd (omega (arith, some));
 }
