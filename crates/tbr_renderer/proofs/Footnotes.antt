@@ -1,24 +1,29 @@
 -- Footnotes that are cut into lines.
-use Rattle.std.proofs.Common.{◌≡◌, ℕ, ◌+◌, Bool, true, false, if◌then◌else◌, Option, None, unwrap_or, List, [], ◌∷◌, ◌++◌, map, fold, flat_map, refl, ap, sym, ◌∙◌, append_assoc, append-nil, arith}
+use Rattle.std.proofs.Common.{◌≡◌, ◌≢◌, ℕ, ◌+◌, ◌≤◌, ◌==◌, Bool, true, false, if◌then◌else◌, Option, Some, None, List, [], ◌∷◌, ◌++◌, map, fold, flat_map, refl, ap, sym, ◌∙◌, append_assoc, append-nil, arith}
 use Rattle.std.specs.Global.{Vec}
+use Rattle.std.proofs.lemmas.Bool.{cond_both, eqb-true, leb-true, le-leb}
 use Rattle.std.proofs.lemmas.List.{map-append}
 use Rattle.std.proofs.lemmas.List.Concat.{flat_map-append}
 use Rattle.std.proofs.lemmas.Grind.{fold-append}
+use Rattle.tbr_model.specs.Codes.{newline_character, space_character}
 use Rattle.tbr_model.specs.Run.{Item, glyph, item_width, items_width}
 use Rattle.tbr_model.specs.Mapped.{map_item}
+use Rattle.tbr_model.specs.Width.{width_of_text}
 use Rattle.tbr_model.proofs.words.Items.{items_width-append}
 use Rattle.tbr_lines.specs.Copies.{equal_lists}
 use Rattle.tbr_lines.specs.Elements.{Element, piece, marker_element, text_items, items_of, SameItems}
 use Rattle.tbr_lines.specs.Mapped.{MeansEqual}
 use Rattle.tbr_lines.proofs.MappedTags.{means_same_items}
+use Rattle.tbr_lines.proofs.TextColumns.{items_width-text}
 use Rattle.tbr_lines.specs.declared.TaggedLineElement.{TaggedLineElement}
 use Rattle.tbr_lines.specs.View.{element_of}
 use Rattle.tbr_decor.specs.Meant.{meant as element_meant}
-use Rattle.tbr_renderer.specs.Cutting.{Cutting, nothing_cut, line_ended, appended, with_item, with_items, cut_meant, texts_meant}
+use Rattle.tbr_renderer.specs.Cutting.{Cutting, nothing_cut, line_ended, appended, extended, with_item, with_items, cut_meant, texts_meant}
 use Rattle.tbr_renderer.specs.Footnotes.{unbroken, footnote_items, fits_behind, cut_lines, link_width, footnote_lines}
 use Rattle.tbr_renderer.specs.Meant.{tag_meant, items_meant, meant}
 use Rattle.tbr_renderer.specs.Renderer.{Renderer, Settings, KeepsSettings, with_line}
 use Rattle.tbr_renderer.proofs.Appending.{HasPut}
+use Rattle.tbr_renderer.proofs.Meanings.{text_items-map}
 
 -- ---- the characters of a footnote
 
@@ -30,6 +35,12 @@ footnote_items-append [] fs = refl
 footnote_items-append (piece cs a ∷ es) fs =
     ap (λ is. text_items (map unbroken cs) (a ∷ []) ++ is) (footnote_items-append es fs) ∙ sym (append_assoc (text_items (map unbroken cs) (a ∷ [])) (footnote_items es) (footnote_items fs))
 footnote_items-append (marker_element name ∷ es) fs = footnote_items-append es fs
+
+-- one more that is no newline
+pub unbroken_more : (cs : List ℕ) (c : ℕ) → map unbroken cs ≡ cs → c ≢ newline_character → map unbroken (cs ++ c ∷ []) ≡ cs ++ c ∷ []
+unbroken_more cs c so_far other =
+    map-append unbroken cs (c ∷ []) ∙ ap (λ ds. ds ++ unbroken c ∷ []) so_far
+    ∙ cond_both (c == newline_character) space_character c (λ d. cs ++ d ∷ [] ≡ cs ++ c ∷ []) (λ e. absurd (other (eqb-true c newline_character e))) (λ _. refl)
 
 module _ {T : Type 0} (columns : ℕ → Option ℕ) where
   -- characters and then characters
@@ -46,6 +57,27 @@ module _ {T : Type 0} (columns : ℕ → Option ℕ) where
   -- the whole text
   pub text_ends : (c d : Cutting T) (tag : T) (cs ds : List ℕ) → d ≡ with_items columns c (text_items (map unbroken cs) tag) → cs ≡ ds → d ≡ with_items columns c (text_items (map unbroken ds) tag)
   text_ends c d tag cs ds so_far all = so_far ∙ ap (λ xs. with_items columns c (text_items (map unbroken xs) tag)) all
+
+  -- what fits behind a line, where more does, and behind a character of it
+  fits_at_most : (width : Option ℕ) (held : List (Item T)) (more most : ℕ) → more ≤ most → fits_behind columns width held most ≡ true → fits_behind columns width held more ≡ true
+  fits_at_most None held more most h fits = refl
+  fits_at_most (Some width) held more most h fits = le-leb _ _ (omega (arith, h, leb-true _ _ fits))
+
+  fits_after : (width : Option ℕ) (held : List (Item T)) (i : Item T) (more : ℕ) → fits_behind columns width held (item_width columns i + more) ≡ true → fits_behind columns width (held ++ i ∷ []) more ≡ true
+  fits_after None held i more fits = refl
+  fits_after (Some width) held i more fits = le-leb _ _ (omega (arith, items_width-append columns held (i ∷ []), leb-true _ _ fits))
+
+  -- a text that fits as a whole
+  with_text : (c : Cutting T) (tag : T) (cs : List ℕ) → fits_behind columns c.width c.held (width_of_text columns cs) ≡ true → with_items columns c (text_items cs tag) ≡ extended c (text_items cs tag)
+  with_text c tag [] fits = ap (λ (is : List (Item T)). record c { held = is }) (sym (append-nil c.held))
+  with_text c tag (x ∷ cs) fits =
+      let i = glyph x tag in
+      let here = fits_at_most c.width c.held (item_width columns i) (width_of_text columns (x ∷ cs)) (omega arith) fits in
+      ap (λ (b : Bool). with_items columns (appended (if b then c else line_ended c) i) (text_items cs tag)) here
+      ∙ with_text (appended c i) tag cs (fits_after c.width c.held i (width_of_text columns cs) fits) ∙ ap (λ (is : List (Item T)). record c { held = is }) (append_assoc c.held (i ∷ []) (text_items cs tag))
+
+  pub whole_text : (c d : Cutting T) (tag : T) (cs : List ℕ) → map unbroken cs ≡ cs → fits_behind columns c.width c.held (width_of_text columns cs) ≡ true → d ≡ extended c (text_items cs tag) → d ≡ with_items columns c (text_items (map unbroken cs) tag)
+  whole_text c d tag cs unbroken fits is = is ∙ sym (with_text c tag cs fits) ∙ ap (λ ds. with_items columns c (text_items ds tag)) (sym unbroken)
 
   -- one character, whether it fits or not
   module _ (c : Cutting T) (i : Item T) (is : List (Item T)) where
@@ -99,17 +131,14 @@ module _ {A M : Type 0} (f : A → M) where
   texts_are [] = refl
   texts_are (l ∷ lines) = ap (λ (ls : List (List (Item (List M)))). items_meant f (items_of l) ∷ ls) (texts_are lines)
 
-  -- a character more in the open line
-  pub held_more : (eq : A → A → Bool) (agree : MeansEqual (tag_meant f) (equal_lists eq)) (old new : List (Item (Vec A))) (c : ℕ) (tag : Vec A) → SameItems (equal_lists eq) new (old ++ glyph c tag ∷ []) →
-      items_meant f new ≡ items_meant f old ++ glyph c (tag_meant f tag) ∷ []
-  held_more eq agree old new c tag same = means_same_items (tag_meant f) (equal_lists eq) agree new (old ++ glyph c tag ∷ []) same ∙ map-append (map_item (tag_meant f)) old (glyph c tag ∷ [])
+  -- a text more in the open line
+  pub held_more : (eq : A → A → Bool) (agree : MeansEqual (tag_meant f) (equal_lists eq)) (old new : List (Item (Vec A))) (cs : List ℕ) (tag : Vec A) → SameItems (equal_lists eq) new (old ++ text_items cs tag) →
+      items_meant f new ≡ items_meant f old ++ text_items cs (tag_meant f tag)
+  held_more eq agree old new cs tag same =
+      means_same_items (tag_meant f) (equal_lists eq) agree new (old ++ text_items cs tag) same ∙ map-append (map_item (tag_meant f)) old (text_items cs tag) ∙ ap (λ is. items_meant f old ++ is) (text_items-map (tag_meant f) cs tag)
 
-  pub held_width : (widths : ℕ → Option ℕ) (old new : List (Item (List M))) (c : ℕ) (tag : List M) (taken more sum : ℕ) → new ≡ old ++ glyph c tag ∷ [] → taken ≡ items_width widths old → more ≡ unwrap_or (widths c) 0 →
-      sum ≡ taken + more → sum ≡ items_width widths new
-  held_width widths old new c tag taken more sum is before wide plus =
-      let last : items_width widths (old ++ glyph c tag ∷ []) ≡ items_width widths old + (unwrap_or (widths c) 0 + 0) = items_width-append widths old (glyph c tag ∷ []) in
-      let here : sum ≡ items_width widths (old ++ glyph c tag ∷ []) = omega (arith, last, before, wide, plus) in
-      here ∙ ap (items_width widths) (sym is)
+  pub held_width : (widths : ℕ → Option ℕ) (old new : List (Item (List M))) (cs : List ℕ) (tag : List M) (sum : ℕ) → new ≡ old ++ text_items cs tag → sum ≡ items_width widths old + width_of_text widths cs → sum ≡ items_width widths new
+  held_width widths old new cs tag sum is plus = omega (arith, plus, items_width-append widths old (text_items cs tag), items_width-text widths cs tag, ap (items_width widths) is)
 
 -- ---- footnotes behind the lines
 

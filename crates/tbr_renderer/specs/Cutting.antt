@@ -1,4 +1,4 @@
--- A footnote whose characters come one by one.
+-- A footnote whose characters come in order.
 use Rattle.std.specs.Prelude.{◌≡◌, ℕ, Bool, Option, if◌then◌else◌, List, [], ◌∷◌, ◌++◌, map, fold}
 use Rattle.std.specs.List.{AllByRecursion as Each}
 use Rattle.std.specs.Global.{Vec}
@@ -22,8 +22,12 @@ nothing_cut width = record { width = width; ended = []; held = [] }
 abbrev pub line_ended : {T : Type 0} → Cutting T → Cutting T
 line_ended c = record c { ended = c.ended ++ c.held ∷ []; held = [] }
 
+-- items more in the open line
+abbrev pub extended : {T : Type 0} → Cutting T → List (Item T) → Cutting T
+extended c is = record c { held = c.held ++ is }
+
 abbrev pub appended : {T : Type 0} → Cutting T → Item T → Cutting T
-appended c i = record c { held = c.held ++ i ∷ [] }
+appended c i = extended c (i ∷ [])
 
 -- an item more, on a fresh line where it doesn't fit behind what the open one holds
 abbrev pub with_item : {T : Type 0} → (ℕ → Option ℕ) → Cutting T → Item T → Cutting T

@@ -1,13 +1,14 @@
 //! The lines of one footnote.
-ghost use Rattle.std.specs.Prelude.{◌≡◌, ◌∷◌, [], unwrap_or, map, chars, IfOk, OnOk};
+ghost use Rattle.std.specs.Prelude.{◌≡◌, ◌+◌, ◌∷◌, [], true, unwrap_or, map, chars, IfOk, IfSome, OnOk};
 ghost use Rattle.std.specs.List.{AllByRecursion as Each};
-ghost use Rattle.tbr_model.specs.Run.{glyph};
+ghost use Rattle.tbr_model.specs.Run.{glyph, items_width};
+ghost use Rattle.tbr_model.specs.Width.{width_of_text};
 ghost use Rattle.tbr_lines.specs.Copies.{equal_lists};
 ghost use Rattle.tbr_lines.specs.Elements.{text_items, IsMerged};
-ghost use Rattle.tbr_lines.specs.View.{element_of};
+ghost use Rattle.tbr_lines.specs.View.{chars_of, element_of};
 ghost use Rattle.tbr_lines.specs.Walks.{piece_of};
 ghost use Rattle.tbr_decor.specs.Meant.{meant};
-ghost use Rattle.tbr_renderer.specs.Cutting.{nothing_cut, line_ended, appended, with_item, with_items, cut_meant, texts_meant};
+ghost use Rattle.tbr_renderer.specs.Cutting.{nothing_cut, line_ended, appended, extended, with_item, with_items, cut_meant, texts_meant};
 ghost use Rattle.tbr_renderer.specs.Footnotes as model;
 ghost use Rattle.tbr_renderer.specs.Footnotes.{footnote_items, fits_behind};
 ghost use Rattle.tbr_renderer.specs.Meant.{tag_meant};
@@ -18,7 +19,7 @@ use std::mem;
 use tbr_decor::TextDecorator;
 use tbr_lines::{CharWidth, OutOfMemory, TaggedLine, TaggedLineElement, TaggedString};
 
-/// The lines of a footnote, whose characters come one by one. Each stands under the list of its one annotation.
+/// The lines of a footnote, whose characters come in order. Each stands under the list of its one annotation.
 #[derive(Drop)]
 pub struct FootnoteLines<D: TextDecorator, W: CharWidth> {
     alloc: Global,
@@ -93,14 +94,48 @@ impl<D: TextDecorator, W: CharWidth> FootnoteLines<D, W> {
         }
     }
 
-    /// Adds the characters of a piece.
+    /// Adds the characters of a piece: as it stands where all of it fits, and else one by one.
     fn push_piece(&mut self, piece: TaggedString<D::Annotation>) -> Result<(), OutOfMemory>
         ensures { OnOk result (cut_meant D.meaning self.new ≡ with_items W.columns (cut_meant D.meaning self.old)
             (footnote_items (meant D.meaning (piece_of piece) ∷ []))) }
     {
         let mut tag = Vec::new(self.alloc);
         tag.push(piece.tag)?;
-        self.push_text(piece.s.as_str(), &tag)
+        match self.columns_with(piece.s.as_str()) {
+            Some(columns) => self.extend(TaggedString { s: piece.s, tag }, columns),
+            None => self.push_text(piece.s.as_str(), &tag),
+        }
+    }
+
+    /// The columns of the open line with a text behind it, where that has no newline and fits as a whole.
+    fn columns_with(&self, text: &str) -> Option<usize>
+        ensures columns { let held = (cut_meant D.meaning self.now).held in IfSome result (λ columns.
+            columns ≡ items_width W.columns held + width_of_text W.columns (chars text.now)) }
+        ensures fits { let held = (cut_meant D.meaning self.now).held in IfSome result (λ _.
+            fits_behind W.columns self.now.width held (width_of_text W.columns (chars text.now)) ≡ true) }
+        ensures unbroken { IfSome result (λ _. map model.unbroken (chars text.now) ≡ chars text.now) }
+    {
+        let columns = columns_behind::<W>(self.columns, text)?;
+        match self.width {
+            Some(width) if width < columns => None,
+            _ => Some(columns),
+        }
+    }
+
+    /// Adds a piece to the open line, which takes so many columns with it.
+    fn extend(
+        &mut self,
+        piece: TaggedString<Vec<D::Annotation>>,
+        columns: usize,
+    ) -> Result<(), OutOfMemory>
+        requires { let held = (cut_meant D.meaning self.old).held in
+            columns ≡ items_width W.columns held + width_of_text W.columns (chars_of piece.s) }
+        ensures { OnOk result (cut_meant D.meaning self.new
+            ≡ extended (cut_meant D.meaning self.old) (text_items (chars_of piece.s) (tag_meant D.meaning piece.tag))) }
+    {
+        self.held.push_str(piece)?;
+        self.columns = columns;
+        Ok(())
     }
 
     /// Adds the characters of a text under these annotations.
@@ -160,6 +195,21 @@ impl<D: TextDecorator, W: CharWidth> FootnoteLines<D, W> {
         self.columns = columns;
         Ok(())
     }
+}
+
+/// The columns of a text behind so many others, where it has no newline.
+fn columns_behind<W: CharWidth>(before: usize, text: &str) -> Option<usize>
+    ensures columns { IfSome result (λ columns. columns ≡ before + width_of_text W.columns (chars text.now)) }
+    ensures unbroken { IfSome result (λ _. map model.unbroken (chars text.now) ≡ chars text.now) }
+{
+    let mut columns = before;
+    for c in text.chars() {
+        if c == '\n' {
+            return None;
+        }
+        columns = columns.checked_add(W::width(c).unwrap_or(0))?;
+    }
+    Some(columns)
 }
 
 /// A newline as a space, and any other character as it is.
