@@ -10,10 +10,6 @@ use Rattle.tbr_lines.specs.View.{element_of}
 use Rattle.tbr_lines.proofs.SameItems.{same_items, same_items_trans, same_items_append}
 
 module _ {A : Type 0} (eq : A → A → Bool) (laws : IsEquivalence eq) where
-  -- a line in front of which nothing stands
-  pub nothing_in_front : (markers : List (TaggedLineElement A)) (line : List (Element A)) → markers ≡ [] → SameItems eq (items_of line) (items_of (map element_of markers) ++ items_of line)
-  nothing_in_front markers line none = subst (λ (ms : List (TaggedLineElement A)). SameItems eq (items_of line) (items_of (map element_of ms) ++ items_of line)) (sym none) (same_items eq laws (items_of line))
-
   -- one more element
   pub one_more : (old new : List (Element A)) (front : List (Item A)) (es : List (TaggedLineElement A)) (e : TaggedLineElement A) →
       SameItems eq (items_of old) (front ++ items_of (map element_of es)) → SameItems eq (items_of new) (items_of old ++ element_items (element_of e)) →

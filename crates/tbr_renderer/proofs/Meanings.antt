@@ -16,7 +16,7 @@ use Rattle.tbr_lines.specs.Elements.{Element, marker_element, items_of, text_ite
 use Rattle.tbr_lines.specs.Padding.{spaces}
 use Rattle.tbr_model.specs.declared.white_space.WhiteSpace.{WhiteSpace}
 use Rattle.tbr_lines.specs.State.{State, empty_block}
-use Rattle.tbr_renderer.specs.Renderer.{Line, text, border, line_has_content, Renderer, has_content, line_padding, with_line, new_block, last_mode}
+use Rattle.tbr_renderer.specs.Renderer.{Line, text, border, line_has_content, Renderer, has_content, line_padding, with_filled, with_line, new_block, last_mode}
 use Rattle.tbr_renderer.specs.Steps.{with_empty_line, block_started}
 use Rattle.tbr_rows.specs.Meant.{map_hole}
 use Rattle.tbr_renderer.specs.Meant.{tag_meant, items_meant, map_line, map_open, meant}
@@ -76,18 +76,25 @@ module _ {A M : Type 0} (f : A → M) where
       ∙ ap (λ js. js ++ items_meant f line) (ap (λ xs. items_meant f (items_of xs)) (sym are) ∙ ap (items_meant f) (marker_elements (Vec A) (names_of es)) ∙ marker_items-map (tag_meant f) (names_of es) ∙ ap marker_items is)
 
 module _ {D A M : Type 0} (f : A → M) where
-  -- a renderer with a line more, behind the markers that waited, and filled
-  pub line_added : (columns : ℕ → Option ℕ) (r a b : Renderer D A (Vec A)) (es : List (Element (Vec A))) (whole full line : List (Item (Vec A))) →
+  -- a line that is filled
+  pub filled_added : (columns : ℕ → Option ℕ) (r b : Renderer D A (Vec A)) (full line : List (Item (Vec A))) → items_meant f full ≡ items_meant f line ++ line_padding columns (meant f r) (items_meant f line) →
+      b ≡ record r { lines = r.lines ++ text full ∷ [] } → meant f b ≡ with_filled columns (meant f r) (items_meant f line)
+  filled_added columns r b full line fills pushed =
+      ap (meant f) pushed ∙ ap (λ (ls : List (Line (List M))). record (meant f r) { lines = ls })
+      (map-append (map_line (tag_meant f)) r.lines (text full ∷ []) ∙ ap (λ (is : List (Item (List M))). map (map_line (tag_meant f)) r.lines ++ text is ∷ []) fills)
+
+  -- where no marker waits
+  pub line_alone : (columns : ℕ → Option ℕ) (r : Renderer D M (List M)) (is : List (Item (List M))) → r.waiting ≡ [] → with_filled columns r is ≡ with_line columns r is
+  line_alone columns r is none =
+      ap (λ ms. record (with_filled columns r is) { waiting = ms }) none ∙ ap (λ ms. with_filled columns (record r { waiting = [] }) (marker_items ms ++ is)) (sym none)
+
+  -- behind the markers that waited
+  pub line_behind : (columns : ℕ → Option ℕ) (r a b : Renderer D A (Vec A)) (es : List (Element (Vec A))) (whole line : List (Item (Vec A))) →
       AreMarkers es → names_of es ≡ r.waiting → a ≡ record r { waiting = [] } → items_meant f whole ≡ items_meant f (items_of es ++ line) →
-      items_meant f full ≡ items_meant f whole ++ line_padding columns (meant f a) (items_meant f whole) → b ≡ record a { lines = a.lines ++ text full ∷ [] } →
-      meant f b ≡ with_line columns (meant f r) (items_meant f line)
-  line_added columns r a b es whole full line are names emptied same fills pushed =
-      let front : items_meant f whole ≡ marker_items r.waiting ++ items_meant f line = same ∙ marked f es r.waiting line are names in
-      let last : items_meant f full ≡ (marker_items r.waiting ++ items_meant f line) ++ line_padding columns (meant f r) (marker_items r.waiting ++ items_meant f line) =
-      fills ∙ ap (λ (q : Renderer D A (Vec A)). items_meant f whole ++ line_padding columns (meant f q) (items_meant f whole)) emptied ∙ ap (λ is. is ++ line_padding columns (meant f r) is) front in
-      ap (meant f) pushed ∙ ap (λ (q : Renderer D A (Vec A)). meant f (record q { lines = q.lines ++ text full ∷ [] })) emptied
-      ∙ ap (λ (ls : List (Line (List M))). record (meant f r) { lines = ls; waiting = [] })
-      (map-append (map_line (tag_meant f)) r.lines (text full ∷ []) ∙ ap (λ (is : List (Item (List M))). map (map_line (tag_meant f)) r.lines ++ text is ∷ []) last)
+      meant f b ≡ with_filled columns (meant f a) (items_meant f whole) → meant f b ≡ with_line columns (meant f r) (items_meant f line)
+  line_behind columns r a b es whole line are names emptied same added =
+      added ∙ ap (λ (q : Renderer D A (Vec A)). with_filled columns (meant f q) (items_meant f whole)) emptied
+      ∙ ap (with_filled columns (record (meant f r) { waiting = [] })) (same ∙ marked f es r.waiting line are names)
 
 -- ---- content
 

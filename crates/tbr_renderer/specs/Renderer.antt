@@ -122,12 +122,15 @@ abbrev pub line_padding : {D A : Type 0} →
 line_padding columns r is =
     padding_of columns (if r.options.pad_block_width then Some r.annotations else None) r.width is
 
--- a line of text more, behind the markers that wait, and padded
+-- a line of text more, padded
+abbrev pub with_filled : {D A : Type 0} →
+    (ℕ → Option ℕ) → Renderer D A (List A) → List (Item (List A)) → Renderer D A (List A)
+with_filled columns r is = record r { lines = r.lines ++ text (is ++ line_padding columns r is) ∷ [] }
+
+-- the same behind the markers that wait
 abbrev pub with_line : {D A : Type 0} →
     (ℕ → Option ℕ) → Renderer D A (List A) → List (Item (List A)) → Renderer D A (List A)
-with_line columns r is =
-    let marked = marker_items r.waiting ++ is in
-    record r { lines = r.lines ++ text (marked ++ line_padding columns r marked) ∷ []; waiting = [] }
+with_line columns r is = with_filled columns (record r { waiting = [] }) (marker_items r.waiting ++ is)
 
 -- ---- the open block
 

@@ -1,8 +1,8 @@
 //! A renderer of blocks of text.
-ghost use Rattle.std.specs.Prelude.{◌≡◌, ◌≢◌, ◌<◌, ◌≤◌, [], ◌∷◌, ◌++◌, None, Some, Ok, Err, true, false, not, ◌&&◌, ◌||◌, suc, ◌-◌, map, fold, chars, string_bytes, IsTrue, ◌↔◌, ◌⊎◌, unwrap_or, is_none, is_err, max, List, IfOk, IfErr, OnOk, MatchResult, ℕ};
+ghost use Rattle.std.specs.Prelude.{◌≡◌, ◌≢◌, ◌<◌, [], ◌∷◌, ◌++◌, None, Some, Ok, Err, false, not, ◌&&◌, ◌-◌, map, IsTrue, ◌↔◌, is_none, is_err, max, IfOk, IfErr, OnOk, MatchResult};
 ghost use Rattle.tbr_lines.specs.declared.Error.{Error as Refusal};
 ghost use Rattle.tbr_lines.specs.declared.Error.TheVariants as E;
-ghost use Rattle.tbr_renderer.specs.Renderer.{Renderer as Model, KeepsSettings, new_renderer, has_content, text, line_padding, with_line, block_width, may_overflow};
+ghost use Rattle.tbr_renderer.specs.Renderer.{Renderer as Model, KeepsSettings, new_renderer, has_content, text, line_padding, with_filled, with_line, block_width, may_overflow};
 ghost use Rattle.tbr_renderer.specs.View.{line_seen, unboxed, block_seen, IsFresh, IsOpened, AreMarkers, names_of};
 ghost use Rattle.tbr_lines.specs.View.{element_of};
 ghost use Rattle.tbr_lines.specs.Copies.{equal_lists};
@@ -282,14 +282,28 @@ impl<D: TextDecorator, W: CharWidth> SubRenderer<D, W> {
             ≡ with_line W.columns (meant D.meaning self.old) (items_meant D.meaning (items_of line))) }
         ensures settings { KeepsSettings (meant D.meaning self.old) (meant D.meaning self.new) }
     {
+        if self.waiting.is_empty() {
+            return self.add_filled(line);
+        }
         let waiting = self.take_waiting();
-        let mut whole = behind_markers(self.alloc, waiting, line)?;
-        self.fill(&mut whole)?;
-        self.push_line(RenderLine::Text(whole))
+        let whole = behind_markers(self.alloc, waiting, line)?;
+        self.add_filled(whole)
+    }
+
+    /// Adds a line of text, whatever markers wait. It is filled, where lines are padded. Where memory is refused the line
+    /// is lost.
+    fn add_filled(&mut self, mut line: TaggedLine<Vec<D::Annotation>>) -> Result<(), OutOfMemory>
+        requires { IsMerged (equal_lists D.Annotation.eq) line }
+        ensures line { OnOk result (meant D.meaning self.new
+            ≡ with_filled W.columns (meant D.meaning self.old) (items_meant D.meaning (items_of line))) }
+        ensures settings { KeepsSettings (meant D.meaning self.old) (meant D.meaning self.new) }
+    {
+        self.fill(&mut line)?;
+        self.push_line(RenderLine::Text(line))
     }
 }
 
-/// A line with markers in front. It takes no memory where there are none.
+/// A line with markers in front.
 fn behind_markers<T: Eq + Drop>(
     alloc: Global,
     markers: Vec<TaggedLineElement<T>>,
@@ -300,9 +314,6 @@ fn behind_markers<T: Eq + Drop>(
         SameItems T.eq (items_of whole) (items_of (map element_of markers.items) ++ items_of line)) }
     ensures merged { IfOk result (λ whole. IsMerged T.eq whole) }
 {
-    if markers.is_empty() {
-        return Ok(line);
-    }
     let mut whole = TaggedLine::new(alloc);
     for marker in markers {
         whole.push(marker)?;

@@ -1,15 +1,10 @@
 use Rattle.std.proofs.Common.{[], ◌++◌, map, map-id, ap, subst, refl, sym, ◌∙◌}
-use Rattle.std.proofs.lemmas.Bool.{eqb-true}
 use Rattle.std.proofs.lemmas.Iterator.Consumers.{YieldsList-from_first, YieldsList-end}
-use Rattle.std.proofs.lemmas.List.{nil_from_length}
 use Rattle.tbr_lines.specs.Elements.{items_of, SameItems}
 use Rattle.tbr_lines.specs.View.{element_of}
 use Rattle.tbr_lines.specs.Walks.{elements_to_come}
-use Rattle.tbr_renderer.proofs.Lines.{nothing_in_front, one_more}
+use Rattle.tbr_renderer.proofs.Lines.{one_more}
 use Rattle.tbr_renderer.proofs.sub.behind_markers.Goals as goal
-
-pub returns-then-is_empty-clause-items : goal.returns-then-is_empty-clause-items
-returns-then-is_empty-clause-items g c = nothing_in_front g.T.PartialEq.eq g.met.T.Eq.laws c.args.markers.items c.args.line (nil_from_length c.args.markers.items (sym c.args.markers.ok.0 ∙ eqb-true _ 0 (sym c.if-is_empty.ensures)))
 
 pub loop-marker-preserved : goal.loop-marker-preserved
 loop-marker-preserved g c =
