@@ -1,7 +1,7 @@
 -- What stands in a row of a cell takes the cell's columns.
-use Rattle.std.proofs.Common.{◌≡◌, if◌then◌else◌, ℕ, zero, suc, ◌-◌, Bool, true, false, Option, None, Some, unwrap_or, List, [], ◌∷◌, ◌++◌, map, drop, length, refl, ap, ◌∙◌, arith}
+use Rattle.std.proofs.Common.{◌≡◌, if◌then◌else◌, ℕ, zero, suc, ◌+◌, ◌-◌, ◌<◌, Bool, true, false, Option, None, Some, unwrap_or, List, [], ◌∷◌, ◌++◌, map, take, drop, length, get_or, set, refl, ap, sym, subst, ◌∙◌, arith}
 use Rattle.std.specs.Prelude.{IsTrue, replicate}
-use Rattle.std.specs.List.{AllByRecursion as Each}
+use Rattle.std.specs.List.{AllZip, AllByRecursion as Each}
 use Rattle.tbr_model.specs.Run.{Item, items_width}
 use Rattle.tbr_model.specs.Width.{takes_one_column}
 use Rattle.tbr_border.specs.declared.render_line.RenderLine.{RenderLine}
@@ -13,7 +13,8 @@ use Rattle.tbr_tagged.specs.Elements.{items_of, text_items}
 use Rattle.tbr_tagged.specs.Padding.{spaces, columns_in_front, columns_missing}
 use Rattle.tbr_tagged.proofs.SameItems.{same_width}
 use Rattle.tbr_tagged.proofs.PaddedLines.{front_within}
-use Rattle.std.proofs.lemmas.List.{length-append, length-replicate, length-map}
+use Rattle.std.proofs.lemmas.List.{length-append, length-replicate, length-map, length-drop, get_or-drop, drop-set-lt, drop-drop, take_more, take_more_set}
+use Rattle.std.proofs.lemmas.List.Elements.{AllZip-push}
 use Rattle.tbr_rows.specs.declared.column.Column.{Column}
 use Rattle.tbr_rows.specs.Filled.{FillsLine}
 use Rattle.tbr_rows.specs.Texts.{text_of_lines, filler_above}
@@ -106,3 +107,16 @@ each_drop P (suc n) (x ∷ xs) h = each_drop P n xs h.1
 -- a cell whose lines take its columns fills them in each line of the row
 pub cell_fills : {A : Type 0} (columns : ℕ → Option ℕ) (a : A) (i : ℕ) (c : Column A) → DrawsInOne columns → LinesFillCell columns a c → FillsCell columns a i c
 cell_fills columns a i c one fills = lines_fill columns a c (drop i c.cell.lines) one fills.0 (each_drop (TakesColumns columns a c.cell.width) i c.cell.lines fills.1)
+
+-- one line more of a list is filled where it stands
+pub one_more_filled : {A : Type 0} (R : A → A → Type 0) (all now : List A) (i : ℕ) (d y : A) → i < length all → R (get_or now i d) y → AllZip R (take i all) (take i now) → drop i now ≡ drop i all →
+    AllZip R (take (i + 1) all) (take (i + 1) (set now i y)) × (drop (i + 1) (set now i y) ≡ drop (i + 1) all)
+one_more_filled {A} R all now i d y in_all fills before left =
+    let below : i < length now = omega (arith, in_all, length-drop i now, length-drop i all, ap length left) in
+    let same : get_or all (i + 0) d ≡ get_or now (i + 0) d = sym (get_or-drop i all 0 d) ∙ ap (λ zs. get_or zs 0 d) (sym left) ∙ get_or-drop i now 0 d in
+    let here : i + 0 ≡ i = omega arith in
+    let whole : take (i + 1) all ≡ take i all ++ get_or now i d ∷ [] = take_more all i d in_all ∙ ap (λ z. take i all ++ z ∷ []) (ap (λ j. get_or all j d) (sym here) ∙ same ∙ ap (λ j. get_or now j d) here) in (
+      subst (AllZip R (take (i + 1) all)) (sym (take_more_set now i y below))
+          (subst (λ (zs : List A). AllZip R zs (take i now ++ y ∷ [])) (sym whole) (AllZip-push R (take i all) (take i now) (get_or now i d) y before fills)),
+      drop-set-lt (i + 1) now i y (omega arith) ∙ sym (drop-drop 1 i now) ∙ ap (drop 1) left ∙ drop-drop 1 i all,
+    )

@@ -4,10 +4,10 @@ ghost use Rattle.tbr_border.specs.Cell.{above as top};
 ghost use Rattle.tbr_rows.specs.Cells.{separators};
 ghost use Rattle.tbr_rows.specs.Borders as model;
 
+use crate::cell_lines::CellLines;
 use crate::column::Column;
 use crate::line_set::{LineSet, row_width};
 use std::alloc::Global;
-use std::collections::LinkedList;
 use tbr_border::{BorderHoriz, RenderLine};
 use tbr_tagged::OutOfMemory;
 
@@ -83,7 +83,7 @@ pub(crate) fn whole<T: Drop>(
 }
 
 /// Takes the first line, if it is a border without holes.
-fn take_first<T: Drop>(lines: &mut LinkedList<RenderLine<T>>) -> Option<BorderHoriz<T>>
+fn take_first<T: Drop>(lines: &mut CellLines<T>) -> Option<BorderHoriz<T>>
     ensures border { result ≡ model.first_border lines.old }
     ensures rest { lines.new ≡ model.behind_border lines.old }
 {
@@ -96,7 +96,7 @@ fn take_first<T: Drop>(lines: &mut LinkedList<RenderLine<T>>) -> Option<BorderHo
 }
 
 /// Takes the last line, if it is a border without holes.
-fn take_last<T: Drop>(lines: &mut LinkedList<RenderLine<T>>) -> Option<BorderHoriz<T>>
+fn take_last<T: Drop>(lines: &mut CellLines<T>) -> Option<BorderHoriz<T>>
     ensures border { result ≡ model.last_border lines.old }
     ensures rest { lines.new ≡ model.before_border lines.old }
 {

@@ -1,15 +1,15 @@
 //! The cells that come with a row.
-ghost use Rattle.std.specs.Prelude.{◌≡◌, ◌++◌, ◌∷◌, [], List, map, IfOk, OnOk, OnErr};
+ghost use Rattle.std.specs.Prelude.{◌≡◌, ◌++◌, ◌∷◌, [], List, map, OnOk, OnErr};
 ghost use Rattle.std.specs.List.{AllZip};
 ghost use Rattle.tbr_border.specs.declared.render_line.RenderLine.{RenderLine as Line};
 ghost use Rattle.tbr_tagged.specs.Copies.{CopiesAreEqual};
 ghost use Rattle.tbr_rows.specs.Cells.{AreSideBySide, next_place, row_fits, spot_of};
 ghost use Rattle.tbr_rows.specs.Filled as model;
 
+use crate::cell_lines::CellLines;
 use crate::line_set::{LineSet, next_place};
 use crate::overhang::Overhang;
 use std::alloc::Global;
-use std::collections::LinkedList;
 use std::marker::Model;
 use tbr_border::RenderLine;
 use tbr_model::CharWidth;
@@ -56,7 +56,7 @@ impl<T: Eq + Clone + Drop> Columns<T> {
         width: usize,
         span: usize,
         align: CellAlign,
-        lines: Vec<RenderLine<T>>,
+        mut lines: Vec<RenderLine<T>>,
         tag: &T,
     ) -> Result<(), OutOfMemory>
         requires { CopiesAreEqual T.is_clone T.eq }
@@ -66,14 +66,13 @@ impl<T: Eq + Clone + Drop> Columns<T> {
         ensures side_by_side { AreSideBySide 0 self.new }
         ensures err { OnErr result (self.new ≡ self.old) }
     {
-        let alloc = *self.cells.allocator();
         let place = next_place(&self.cells)?;
-        let lines = filled::<T, W>(alloc, lines, width, align, tag)?;
+        fill_all::<T, W>(&mut lines, width, align, tag)?;
         self.cells.push(LineSet {
             place,
             width,
             span,
-            lines,
+            lines: CellLines::of(lines),
         })?;
         Ok(())
     }
@@ -92,42 +91,34 @@ impl<T: Drop> Columns<T> {
     }
 }
 
-/// Lines, each filled up to a width.
-fn filled<T: Eq + Clone + Drop, W: CharWidth>(
-    alloc: Global,
-    lines: Vec<RenderLine<T>>,
+/// Fills each of these lines up to a width.
+fn fill_all<T: Eq + Clone + Drop, W: CharWidth>(
+    lines: &mut [RenderLine<T>],
     width: usize,
     align: CellAlign,
     tag: &T,
-) -> Result<LinkedList<RenderLine<T>>, OutOfMemory>
+) -> Result<(), OutOfMemory>
     requires { CopiesAreEqual T.is_clone T.eq }
-    ensures { IfOk result (λ done. AllZip (model.FillsLine W.columns T.eq align width tag.now) lines.items done) }
+    ensures { OnOk result (AllZip (model.FillsLine W.columns T.eq align width tag.now) lines.old lines.new) }
 {
-    let mut done = LinkedList::new(alloc);
-    for line in lines {
-        done.push_back(fill::<T, W>(line, width, align, tag)?)?;
+    for line in lines.iter_mut() {
+        fill::<T, W>(line, width, align, tag)?;
     }
-    Ok(done)
+    Ok(())
 }
 
-/// A line, filled up to a width.
+/// Fills a line up to a width.
 fn fill<T: Eq + Clone + Drop, W: CharWidth>(
-    line: RenderLine<T>,
+    line: &mut RenderLine<T>,
     width: usize,
     align: CellAlign,
     tag: &T,
-) -> Result<RenderLine<T>, OutOfMemory>
+) -> Result<(), OutOfMemory>
     requires { CopiesAreEqual T.is_clone T.eq }
-    ensures { IfOk result (λ done. model.FillsLine W.columns T.eq align width tag.now line done) }
+    ensures { OnOk result (model.FillsLine W.columns T.eq align width tag.now line.old line.new) }
 {
     match line {
-        RenderLine::Text(mut text) => {
-            text.pad_aligned::<W>(width, align, tag)?;
-            Ok(RenderLine::Text(text))
-        }
-        RenderLine::Line(mut border) => {
-            border.stretch_to(width)?;
-            Ok(RenderLine::Line(border))
-        }
+        RenderLine::Text(text) => text.pad_aligned::<W>(width, align, tag),
+        RenderLine::Line(border) => border.stretch_to(width),
     }
 }

@@ -1,7 +1,6 @@
 //! Whether a row fits.
-ghost use Rattle.std.specs.Prelude.{◌≡◌, [], option_to_list};
+ghost use Rattle.std.specs.Prelude.{◌≡◌};
 ghost use Rattle.tbr_rows.specs.Fitting as model;
-ghost use Rattle.tbr_rows.specs.Cells.{AreApart};
 
 use crate::line_set::LineSet;
 use std::collections::linked_list;

@@ -1,5 +1,5 @@
 //! What stands of spanning cells in the border below their row, and what overhangs.
-ghost use Rattle.std.specs.Prelude.{◌≡◌, ◌++◌, ◌∷◌, map, IfOk, OnOk, true};
+ghost use Rattle.std.specs.Prelude.{◌≡◌, ◌++◌, map, IfOk, OnOk};
 ghost use Rattle.tbr_tagged.specs.Copies.{CopiesAreEqual};
 ghost use Rattle.tbr_rows.specs.Gaps as model;
 ghost use Rattle.tbr_rows.specs.Gaps.{FillsGapIf, FillsGaps};

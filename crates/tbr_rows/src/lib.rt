@@ -8,6 +8,7 @@ pub use overhang::Overhang;
 pub use row::{Row, RowStyle};
 
 mod borders;
+mod cell_lines;
 mod column;
 mod columns;
 mod fitting;

@@ -1,11 +1,10 @@
 //! The cells of a row.
-ghost use Rattle.std.specs.Prelude.{◌≡◌, IfOk, length};
+ghost use Rattle.std.specs.Prelude.{◌≡◌, IfOk};
 ghost use Rattle.tbr_rows.specs.Cells as model;
 
+use crate::cell_lines::CellLines;
 use std::alloc::Global;
-use std::collections::LinkedList;
 use std::fmt;
-use tbr_border::RenderLine;
 use tbr_tagged::OutOfMemory;
 
 /// A cell of a row: the column at which it begins, how many columns it takes, how many rows it still spans, and the
@@ -15,7 +14,7 @@ pub struct LineSet<T> {
     pub(crate) place: usize,
     pub(crate) width: usize,
     pub(crate) span: usize,
-    pub(crate) lines: LinkedList<RenderLine<T>>,
+    pub(crate) lines: CellLines<T>,
 }
 
 impl<T> LineSet<T> {
@@ -27,7 +26,7 @@ impl<T> LineSet<T> {
             place,
             width,
             span: 1,
-            lines: LinkedList::new(alloc),
+            lines: CellLines::none(alloc),
         }
     }
 
@@ -54,14 +53,11 @@ impl<T> LineSet<T> {
 /// Where the cell stands and how many rows it spans, and then each of its lines between `<` and `>`.
 impl<T> fmt::Display for LineSet<T> {
     fn fmt<W: fmt::Write>(&self, f: &mut fmt::Formatter<W>) -> fmt::Result {
-        write!(f, "{}+{} over {}:", self.place, self.width, self.span)?;
-        for line in &self.lines {
-            let Ok(text) = line.to_text() else {
-                return Err(fmt::Error);
-            };
-            write!(f, " <{}>", text.as_str())?;
-        }
-        Ok(())
+        write!(
+            f,
+            "{}+{} over {}:{}",
+            self.place, self.width, self.span, self.lines
+        )
     }
 }
 

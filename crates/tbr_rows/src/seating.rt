@@ -1,5 +1,5 @@
 //! Overhanging cells take their places in a row.
-ghost use Rattle.std.specs.Prelude.{◌≡◌, ◌++◌, ◌∷◌, [], IfOk, OnOk};
+ghost use Rattle.std.specs.Prelude.{◌≡◌, IfOk, OnOk};
 ghost use Rattle.tbr_rows.specs.Cells as model;
 
 use crate::line_set::{LineSet, next_place};

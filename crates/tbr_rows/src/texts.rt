@@ -1,5 +1,5 @@
 //! The lines of a row.
-ghost use Rattle.std.specs.Prelude.{◌≡◌, ◌++◌, map, length, IfOk, OnOk};
+ghost use Rattle.std.specs.Prelude.{◌≡◌, ◌++◌, map, IfOk, OnOk};
 ghost use Rattle.std.specs.List.{AllByRecursion as Each};
 ghost use Rattle.tbr_model.specs.Run.{glyph};
 ghost use Rattle.tbr_tagged.specs.Copies.{CopiesAreEqual};
