@@ -75,3 +75,7 @@ abbrev pub AreLive : {D A T : Type 0} →
     Stack (Renderer D A T) → Pending D A T → List (Opened D A T) → Type 0
 AreLive stack pending opened =
     AllZip (λ level begun. IsLive level.renderer begun) stack.levels (begun_on_each pending opened)
+
+-- No refusal came yet.
+abbrev pub GoesOn : {D A T : Type 0} → Progress D A T → Type 0
+GoesOn p = AreLive p.stack p.pending p.opened

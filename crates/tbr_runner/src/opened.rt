@@ -1,7 +1,7 @@
 //! Levels that are open.
 ghost use Rattle.std.specs.Prelude.{◌≡◌, ◌≢◌, ◌↔◌, ◌<◌, ℕ, true, None, Some, [], ◌∷◌, OnOk, IfSome, IfNone};
 ghost use Rattle.tbr_lines.specs.declared.CellAlign.{CellAlign as Align};
-ghost use Rattle.tbr_runner.specs.Progress.{Opened as Level, IsSpanned};
+ghost use Rattle.tbr_runner.specs.Progress.{IsSpanned};
 ghost use Rattle.tbr_runner.specs.declared.opened.Opener.{Opener as By};
 ghost use Rattle.tbr_runner.specs.Meaning.{opener};
 

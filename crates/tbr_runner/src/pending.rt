@@ -75,28 +75,22 @@ impl<D: TextDecorator, W: CharWidth> Pending<D, W> {
         !self.cells.is_empty()
     }
 
-    /// Lets a renderer wait as a cell of so many rows, at least 1, whose texts are aligned so.
-    pub fn with_cell(
-        self,
+    /// Lets a renderer wait as a cell of so many rows, at least 1, whose texts are aligned so. Where memory is refused
+    /// the cell is dropped.
+    pub fn add_cell(
+        &mut self,
         cell: SubRenderer<D, W>,
         span: usize,
         align: CellAlign,
-    ) -> Result<Pending<D, W>, AllocError>
+    ) -> Result<(), AllocError>
         requires { 0 < span }
-        ensures { IfOk result (λ pending. pending ≡ with_cell self cell span align) }
+        ensures waits { OnOk result (self.new ≡ with_cell self.old cell span align) }
+        ensures left { OnErr result (self.new ≡ self.old) }
     {
-        let Pending {
-            begun,
-            mut cells,
-            mut aligns,
-        } = self;
-        cells.push((cell, span))?;
-        aligns.push(align)?;
-        Ok(Pending {
-            begun,
-            cells,
-            aligns,
-        })
+        self.aligns.reserve(1)?;
+        self.cells.push((cell, span))?;
+        self.aligns.push_reserved(align);
+        Ok(())
     }
 
     /// Takes the waiting cells, and how their texts are aligned.

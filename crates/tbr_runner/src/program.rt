@@ -1,12 +1,12 @@
 //! A script's commands, one after another.
-ghost use Rattle.std.specs.Prelude.{◌≡◌, [], ◌≢◌, ◌<◌, None, Some, Ok, Err, IfOk, IfErr, IfSome, OnOk, string_bytes};
+ghost use Rattle.std.specs.Prelude.{◌≡◌, [], ◌≢◌, ◌<◌, None, Some, Ok, Err, IfOk, IfErr, OnOk, string_bytes};
 ghost use Rattle.tbr_decor.specs.Decoration.{decoration_of};
 ghost use Rattle.text_block_renderer.specs.Renderer.{new_renderer};
 ghost use Rattle.tbr_script.specs.declared.error.RunError.TheVariants as E;
 ghost use Rattle.tbr_stack.specs.Stack.{new_stack};
 ghost use Rattle.tbr_commands.specs.Request.{request_of};
 ghost use Rattle.tbr_commands.specs.Command.{command_of, IsSized};
-ghost use Rattle.tbr_runner.specs.Progress.{progress_meant, nothing_pending, IsSpanned};
+ghost use Rattle.tbr_runner.specs.Progress.{progress_meant, nothing_pending, IsSpanned, GoesOn};
 ghost use Rattle.tbr_runner.specs.declared.opened.Opener.{Opener as By};
 ghost use Rattle.tbr_runner.specs.Meaning.{opener, Closes, RequestDoes, RequestRefuses, LinkDoes, LinkRefuses, EndLinkDoes, EndLinkRefuses, LevelOpens, AppendDoes, AppendRefuses, CellDoes, CellRefuses, VerticalRowDoes, VerticalRowRefuses, RowDoes, RowRefuses, CommandDoes, CommandRefuses, LineDoes, LineRefuses, Ends};
 
@@ -24,7 +24,7 @@ use tbr_script::{RunError, TextPair};
 use tbr_stack::TextRenderer;
 use text_block_renderer::{RenderOptions, Renderer, SubRenderer};
 
-/// What a script has called so far behind its first command. A refusal drops the program.
+/// What a script has called so far behind its first command. After a refusal it isn't used any more.
 #[derive(Drop)]
 pub struct Program<D: TextDecorator, W: CharWidth> {
     renderers: TextRenderer<D, W>,
@@ -39,11 +39,7 @@ impl<D: TextDecorator, W: CharWidth> Model for Program<D, W> {
 
     ghost Value = { Progress D D.Annotation (Vec D.Annotation) };
 
-    ghost use Rattle.tbr_runner.specs.Progress.{AreLive};
-
     ghost view = { λ p. record { stack = p.renderers; pending = p.pending; opened = p.opened } };
-
-    ghost invariant = { λ p. AreLive p.renderers p.pending p.opened };
 }
 
 impl<D: TextDecorator, W: CharWidth> Program<D, W> {
@@ -62,6 +58,7 @@ impl<D: TextDecorator, W: CharWidth> Program<D, W> {
           pending = nothing_pending;
           opened = [];
         }) }
+        ensures live { IfOk result (λ program. GoesOn program) }
         ensures memory { IfErr result (λ e. e ≡ E.OutOfMemory) }
     {
         let renderer = SubRenderer::new(alloc, width, options, decorator);
@@ -75,19 +72,16 @@ impl<D: TextDecorator, W: CharWidth> Program<D, W> {
     /// Does what the line of this number asks for. An empty line asks for nothing.
     ///
     /// It refuses as the line does, and with `OutOfMemory` only for want of memory.
-    pub fn run_line(
-        self,
-        alloc: Global,
-        number: usize,
-        line: &[u8],
-    ) -> Result<Program<D, W>, RunError>
-        ensures done { IfOk result (λ next. LineDoes W.columns (decoration_of D.TextDecorator)
-            (progress_meant D.meaning self) line.now (progress_meant D.meaning next)) }
+    pub fn run_line(&mut self, alloc: Global, number: usize, line: &[u8]) -> Result<(), RunError>
+        requires { GoesOn self.old }
+        ensures done { OnOk result (LineDoes W.columns (decoration_of D.TextDecorator)
+            (progress_meant D.meaning self.old) line.now (progress_meant D.meaning self.new)) }
+        ensures live { OnOk result (GoesOn self.new) }
         ensures refused { IfErr result (λ e. e ≢ RunError.OutOfMemory →
-            LineRefuses W.columns (decoration_of D.TextDecorator) (progress_meant D.meaning self) number line.now e) }
+            LineRefuses W.columns (decoration_of D.TextDecorator) (progress_meant D.meaning self.old) number line.now e) }
     {
         if line.is_empty() {
-            return Ok(self);
+            return Ok(());
         }
         match Command::parse(alloc, line)? {
             Some(command) => self.run(alloc, number, &command),
@@ -96,12 +90,14 @@ impl<D: TextDecorator, W: CharWidth> Program<D, W> {
     }
 
     /// Does what a command asks for, on the line of this number.
-    fn run(self, alloc: Global, number: usize, command: &Command) -> Result<Program<D, W>, RunError>
-        requires { IsSized (command_of command.now) }
-        ensures done { IfOk result (λ next. CommandDoes W.columns (decoration_of D.TextDecorator)
-            (progress_meant D.meaning self) (command_of command.now) (progress_meant D.meaning next)) }
+    fn run(&mut self, alloc: Global, number: usize, command: &Command) -> Result<(), RunError>
+        requires live { GoesOn self.old }
+        requires sized { IsSized (command_of command.now) }
+        ensures done { OnOk result (CommandDoes W.columns (decoration_of D.TextDecorator)
+            (progress_meant D.meaning self.old) (command_of command.now) (progress_meant D.meaning self.new)) }
+        ensures live { OnOk result (GoesOn self.new) }
         ensures refused { IfErr result (λ e. e ≢ RunError.OutOfMemory →
-            CommandRefuses W.columns (decoration_of D.TextDecorator) (progress_meant D.meaning self) number
+            CommandRefuses W.columns (decoration_of D.TextDecorator) (progress_meant D.meaning self.old) number
             (command_of command.now) e) }
     {
         match command {
@@ -121,11 +117,13 @@ impl<D: TextDecorator, W: CharWidth> Program<D, W> {
     }
 
     /// Does what a request asks for, on the line of this number.
-    fn call(mut self, number: usize, request: &Request) -> Result<Program<D, W>, RunError>
-        ensures done { IfOk result (λ next. RequestDoes W.columns (decoration_of D.TextDecorator)
-            (progress_meant D.meaning self) (request_of request.now) (progress_meant D.meaning next)) }
+    fn call(&mut self, number: usize, request: &Request) -> Result<(), RunError>
+        requires { GoesOn self.old }
+        ensures done { OnOk result (RequestDoes W.columns (decoration_of D.TextDecorator)
+            (progress_meant D.meaning self.old) (request_of request.now) (progress_meant D.meaning self.new)) }
+        ensures live { OnOk result (GoesOn self.new) }
         ensures refused { IfErr result (λ e. e ≢ RunError.OutOfMemory →
-            RequestRefuses W.columns (decoration_of D.TextDecorator) (progress_meant D.meaning self) number
+            RequestRefuses W.columns (decoration_of D.TextDecorator) (progress_meant D.meaning self.old) number
             (request_of request.now) e) }
     {
         if self.pending.lacks(request) {
@@ -134,54 +132,62 @@ impl<D: TextDecorator, W: CharWidth> Program<D, W> {
         self.pending.note(request)?;
         let top = self.renderers.top_mut();
         request.call(top)?;
-        Ok(self)
+        Ok(())
     }
 
     /// Begins a link to a target.
-    fn start_link(mut self, target: &str) -> Result<Program<D, W>, RunError>
-        ensures done { IfOk result (λ next. LinkDoes W.columns (decoration_of D.TextDecorator)
-            (progress_meant D.meaning self) target.now (progress_meant D.meaning next)) }
+    fn start_link(&mut self, target: &str) -> Result<(), RunError>
+        requires { GoesOn self.old }
+        ensures done { OnOk result (LinkDoes W.columns (decoration_of D.TextDecorator)
+            (progress_meant D.meaning self.old) target.now (progress_meant D.meaning self.new)) }
+        ensures live { OnOk result (GoesOn self.new) }
         ensures refused { IfErr result (λ e. e ≢ RunError.OutOfMemory →
-            LinkRefuses W.columns (decoration_of D.TextDecorator) (progress_meant D.meaning self) target.now e) }
+            LinkRefuses W.columns (decoration_of D.TextDecorator) (progress_meant D.meaning self.old) target.now e) }
     {
         self.renderers.start_link(target)?;
-        Ok(self)
+        Ok(())
     }
 
     /// Ends the link that began last, on the line of this number.
-    fn end_link(mut self, number: usize) -> Result<Program<D, W>, RunError>
-        ensures done { IfOk result (λ next. EndLinkDoes W.columns (decoration_of D.TextDecorator)
-            (progress_meant D.meaning self) (progress_meant D.meaning next)) }
+    fn end_link(&mut self, number: usize) -> Result<(), RunError>
+        requires { GoesOn self.old }
+        ensures done { OnOk result (EndLinkDoes W.columns (decoration_of D.TextDecorator)
+            (progress_meant D.meaning self.old) (progress_meant D.meaning self.new)) }
+        ensures live { OnOk result (GoesOn self.new) }
         ensures refused { IfErr result (λ e. e ≢ RunError.OutOfMemory →
-            EndLinkRefuses W.columns (decoration_of D.TextDecorator) (progress_meant D.meaning self) number e) }
+            EndLinkRefuses W.columns (decoration_of D.TextDecorator) (progress_meant D.meaning self.old) number e) }
     {
         if self.renderers.open_links() == 0 {
             return Err(RunError::NothingToEnd(number));
         }
         self.renderers.end_link()?;
-        Ok(self)
+        Ok(())
     }
 
     /// Opens a level of a width of at least 1.
-    fn open(mut self, alloc: Global, by: Opener, width: usize) -> Result<Program<D, W>, RunError>
+    fn open(&mut self, alloc: Global, by: Opener, width: usize) -> Result<(), RunError>
+        requires live { GoesOn self.old }
         requires width { 0 < width }
         requires spans { IsSpanned by }
-        ensures done { IfOk result (λ next. LevelOpens (decoration_of D.TextDecorator)
-            (progress_meant D.meaning self) by width (progress_meant D.meaning next)) }
+        ensures done { OnOk result (LevelOpens (decoration_of D.TextDecorator)
+            (progress_meant D.meaning self.old) by width (progress_meant D.meaning self.new)) }
+        ensures live { OnOk result (GoesOn self.new) }
         ensures memory { IfErr result (λ e. e ≡ E.OutOfMemory) }
     {
         let inside = self.renderers.top().new_sub_renderer(width)?;
         self.renderers.push(inside)?;
         let below = mem::replace(&mut self.pending, Pending::nothing(alloc));
         self.opened.open(by, below)?;
-        Ok(self)
+        Ok(())
     }
 
     /// Closes the innermost level, and answers its renderer. It asks that a level is open in which no cell waits.
     fn close(&mut self) -> SubRenderer<D, W>
+        requires live { GoesOn self.old }
         requires opened { opener self.old.opened ≢ None }
         requires cells { self.old.pending.cells ≡ [] }
-        ensures { (by : By) × Closes self.old by result self.new }
+        ensures closes { (by : By) × Closes self.old by result self.new }
+        ensures live { GoesOn self.new }
     {
         let inside = self.renderers.pop();
         self.pending = self.opened.close();
@@ -189,12 +195,14 @@ impl<D: TextDecorator, W: CharWidth> Program<D, W> {
     }
 
     /// Closes the level that `sub` opened, on the line of this number: its lines join those below it.
-    fn append(mut self, number: usize, prefixes: &TextPair) -> Result<Program<D, W>, RunError>
-        ensures done { IfOk result (λ next. AppendDoes W.columns (decoration_of D.TextDecorator)
-            (progress_meant D.meaning self) (string_bytes prefixes.now.first) (string_bytes prefixes.now.second)
-            (progress_meant D.meaning next)) }
+    fn append(&mut self, number: usize, prefixes: &TextPair) -> Result<(), RunError>
+        requires { GoesOn self.old }
+        ensures done { OnOk result (AppendDoes W.columns (decoration_of D.TextDecorator)
+            (progress_meant D.meaning self.old) (string_bytes prefixes.now.first) (string_bytes prefixes.now.second)
+            (progress_meant D.meaning self.new)) }
+        ensures live { OnOk result (GoesOn self.new) }
         ensures refused { IfErr result (λ e. e ≢ RunError.OutOfMemory →
-            AppendRefuses W.columns (progress_meant D.meaning self) number e) }
+            AppendRefuses W.columns (progress_meant D.meaning self.old) number e) }
     {
         if !self.opened.is_sub() {
             return Err(RunError::NothingToEnd(number));
@@ -205,15 +213,17 @@ impl<D: TextDecorator, W: CharWidth> Program<D, W> {
         let inside = self.close();
         let top = self.renderers.top_mut();
         append_behind(top, inside, prefixes)?;
-        Ok(self)
+        Ok(())
     }
 
     /// Closes the level that `cell` opened, on the line of this number: it waits below as a cell.
-    fn end_cell(mut self, number: usize) -> Result<Program<D, W>, RunError>
-        ensures done { IfOk result (λ next.
-            CellDoes (progress_meant D.meaning self) (progress_meant D.meaning next)) }
+    fn end_cell(&mut self, number: usize) -> Result<(), RunError>
+        requires { GoesOn self.old }
+        ensures done { OnOk result
+            (CellDoes (progress_meant D.meaning self.old) (progress_meant D.meaning self.new)) }
+        ensures live { OnOk result (GoesOn self.new) }
         ensures refused { IfErr result (λ e. e ≢ RunError.OutOfMemory →
-            CellRefuses (progress_meant D.meaning self) number e) }
+            CellRefuses (progress_meant D.meaning self.old) number e) }
     {
         let Some((span, align)) = self.opened.cell() else {
             return Err(RunError::NothingToEnd(number));
@@ -222,29 +232,18 @@ impl<D: TextDecorator, W: CharWidth> Program<D, W> {
             return Err(RunError::NotACommand(number));
         }
         let inside = self.close();
-        let Program {
-            renderers,
-            pending,
-            opened,
-        } = self;
-        Ok(Program {
-            renderers,
-            pending: pending.with_cell(inside, span, align)?,
-            opened,
-        })
+        self.pending.add_cell(inside, span, align)?;
+        Ok(())
     }
 
     /// Adds the waiting cells side by side, on the line of this number.
-    fn add_row(
-        mut self,
-        alloc: Global,
-        number: usize,
-        collapse: bool,
-    ) -> Result<Program<D, W>, RunError>
-        ensures done { IfOk result (λ next. RowDoes W.columns (decoration_of D.TextDecorator)
-            (progress_meant D.meaning self) collapse (progress_meant D.meaning next)) }
+    fn add_row(&mut self, alloc: Global, number: usize, collapse: bool) -> Result<(), RunError>
+        requires { GoesOn self.old }
+        ensures done { OnOk result (RowDoes W.columns (decoration_of D.TextDecorator)
+            (progress_meant D.meaning self.old) collapse (progress_meant D.meaning self.new)) }
+        ensures live { OnOk result (GoesOn self.new) }
         ensures refused { IfErr result (λ e. e ≢ RunError.OutOfMemory →
-            RowRefuses W.columns (progress_meant D.meaning self) number e) }
+            RowRefuses W.columns (progress_meant D.meaning self.old) number e) }
     {
         let (cells, aligns) = self.pending.take_cells(alloc);
         let top = self.renderers.top_mut();
@@ -252,25 +251,28 @@ impl<D: TextDecorator, W: CharWidth> Program<D, W> {
             return Err(RunError::RowDoesNotFit(number));
         }
         top.append_columns_aligned(cells, &aligns, collapse)?;
-        Ok(self)
+        Ok(())
     }
 
     /// Adds the waiting cells, one below another.
-    fn add_vertical_row(mut self, alloc: Global) -> Result<Program<D, W>, RunError>
-        ensures done { IfOk result (λ next. VerticalRowDoes W.columns (decoration_of D.TextDecorator)
-            (progress_meant D.meaning self) (progress_meant D.meaning next)) }
+    fn add_vertical_row(&mut self, alloc: Global) -> Result<(), RunError>
+        requires { GoesOn self.old }
+        ensures done { OnOk result (VerticalRowDoes W.columns (decoration_of D.TextDecorator)
+            (progress_meant D.meaning self.old) (progress_meant D.meaning self.new)) }
+        ensures live { OnOk result (GoesOn self.new) }
         ensures refused { IfErr result (λ e. e ≢ RunError.OutOfMemory →
-            VerticalRowRefuses W.columns (progress_meant D.meaning self) e) }
+            VerticalRowRefuses W.columns (progress_meant D.meaning self.old) e) }
     {
         let cells = self.pending.take_renderers(alloc)?;
         self.renderers.top_mut().append_vert_row(cells)?;
-        Ok(self)
+        Ok(())
     }
 
     /// The text of the script, whose end counts as the line of this number.
     ///
     /// It refuses as the end of the script does, and with `OutOfMemory` only for want of memory.
     pub fn finish(self, number: usize) -> Result<String, RunError>
+        requires { GoesOn self }
         ensures text { IfOk result (λ text.
             Ends W.columns (decoration_of D.TextDecorator) (progress_meant D.meaning self) number
             (Ok (string_bytes text))) }

@@ -5,7 +5,7 @@ ghost use Rattle.tbr_lines.specs.UnicodeColumns.{unicode_columns};
 ghost use Rattle.tbr_script.specs.Streams.{AppendsBeginning};
 ghost use Rattle.tbr_decor.specs.Decoration.{decoration_of};
 ghost use Rattle.tbr_script.specs.Script.{lines_of};
-ghost use Rattle.tbr_runner.specs.Progress.{progress_meant};
+ghost use Rattle.tbr_runner.specs.Progress.{progress_meant, GoesOn};
 ghost use Rattle.tbr_runner.specs.Meaning.{Ends, LinesGive, started, Opens, Gives};
 ghost use Rattle.tbr_script.specs.declared.error.RunError.{RunError as Refusal};
 ghost use Rattle.tbr_script.specs.Refusal.{IsOfScript};
@@ -121,6 +121,7 @@ fn run_under<D: TextDecorator, W: CharWidth>(
         Ends W.columns (decoration_of D.TextDecorator) (progress_meant D.meaning told.0) told.1 outcome →
         LinesGive W.columns (decoration_of D.TextDecorator)
         (started opening decorator) number (lines_of script.now) outcome) }
+    ensures live { IfOk result (λ told. GoesOn told.0) }
     ensures refusal { IfErr result (λ e. e ≢ RunError.OutOfMemory → LinesGive W.columns (decoration_of D.TextDecorator)
         (started opening decorator) number (lines_of script.now) (Err e)) }
     ensures of_script { IfErr result (λ e. e ≢ RunError.OutOfMemory → IsOfScript e) }
@@ -135,6 +136,7 @@ fn finish<D: TextDecorator, W: CharWidth>(
     number: usize,
     script: Vec<u8>,
 ) -> Result<String, RunError>
+    requires { GoesOn program }
     ensures text { IfOk result (λ text.
         Ends W.columns (decoration_of D.TextDecorator) (progress_meant D.meaning program) number
         (Ok (string_bytes text))) }
@@ -179,11 +181,13 @@ fn run_lines<D: TextDecorator, W: CharWidth>(
     number: usize,
     script: &[u8],
 ) -> Result<(Program<D, W>, usize), RunError>
-    requires { number + length script.now < 2 ^ 64 }
+    requires live { GoesOn program }
+    requires number { number + length script.now < 2 ^ 64 }
     ensures told { IfOk result (λ told. (outcome : Result (List ℕ) Refusal) →
         Ends W.columns (decoration_of D.TextDecorator) (progress_meant D.meaning told.0) told.1 outcome →
         LinesGive W.columns (decoration_of D.TextDecorator)
         (progress_meant D.meaning program) number (lines_of script.now) outcome) }
+    ensures live { IfOk result (λ told. GoesOn told.0) }
     ensures refusal { IfErr result (λ e. e ≢ RunError.OutOfMemory → LinesGive W.columns (decoration_of D.TextDecorator)
         (progress_meant D.meaning program) number (lines_of script.now) (Err e)) }
     ensures of_script { IfErr result (λ e. e ≢ RunError.OutOfMemory → IsOfScript e) }
@@ -193,7 +197,7 @@ fn run_lines<D: TextDecorator, W: CharWidth>(
     let mut number = number;
     while !rest.is_empty() {
         let (line, behind) = split_line(rest);
-        program = program.run_line(alloc, number, line)?;
+        program.run_line(alloc, number, line)?;
         rest = behind;
         number += 1;
     }

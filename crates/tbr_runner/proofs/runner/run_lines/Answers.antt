@@ -7,21 +7,22 @@ use Rattle.tbr_runner.proofs.OfScript.{line_of_script}
 use Rattle.tbr_runner.proofs.Results.{if_err_is}
 use Rattle.tbr_runner.proofs.runner.run_lines.Goals as goal
 
-pub returns-in_err-program-clause-refusal : goal.returns-in_err-program-clause-refusal
-returns-in_err-program-clause-refusal g c =
+pub returns-in_err-run_line-clause-refusal : goal.returns-in_err-run_line-clause-refusal
+returns-in_err-run_line-clause-refusal g c =
     let here = progress_meant g.D.TextDecorator.meaning c.loop-rest.program in
     let p = err_from_is_err_and c.from_residual.result c.from_residual.ensures.1 in
-    let same : c.from_residual.result ≡ Err c.in_err-program.field-0.0 = cc (p.1, p.2) in
-    if_err_is _ c.from_residual.result c.in_err-program.field-0.0 same (λ found. c.loop-rest.invariant.so_far (Err c.in_err-program.field-0.0)
-    (line_refused g.W.CharWidth.columns (decoration_of g.D.TextDecorator) here c.loop-rest.number c.loop-rest.rest.now c.split_line.result.0.now c.split_line.result.1.now c.in_err-program.field-0.0 c.split_line.ensures.lines (c.in_err-program.ensures.refused found)))
+    let same : c.from_residual.result ≡ Err c.in_err-run_line.field-0.0 = cc (p.1, p.2) in
+    if_err_is _ c.from_residual.result c.in_err-run_line.field-0.0 same (λ found. c.loop-rest.invariant.so_far (Err c.in_err-run_line.field-0.0)
+    (line_refused g.W.CharWidth.columns (decoration_of g.D.TextDecorator) here c.loop-rest.number c.loop-rest.rest.now c.split_line.result.0.now c.split_line.result.1.now c.in_err-run_line.field-0.0 c.split_line.ensures.lines (c.in_err-run_line.ensures.refused found)))
 
 pub loop-rest-preserved : goal.loop-rest-preserved
 loop-rest-preserved g c =
     let here = progress_meant g.D.TextDecorator.meaning c.loop-rest.program in
-    let next = progress_meant g.D.TextDecorator.meaning c.in_ok-program.program in
+    let next = progress_meant g.D.TextDecorator.meaning c.run_line.new.self in
     record {
-      so_far = λ outcome gives. c.loop-rest.invariant.so_far outcome (line_done g.W.CharWidth.columns (decoration_of g.D.TextDecorator) here c.loop-rest.number next c.loop-rest.rest.now c.split_line.result.0.now c.split_line.result.1.now outcome c.split_line.ensures.lines c.in_ok-program.ensures.done gives);
+      so_far = λ outcome gives. c.loop-rest.invariant.so_far outcome (line_done g.W.CharWidth.columns (decoration_of g.D.TextDecorator) here c.loop-rest.number next c.loop-rest.rest.now c.split_line.result.0.now c.split_line.result.1.now outcome c.split_line.ensures.lines c.in_ok-run_line.ensures.done gives);
       bound = omega (arith, c.loop-rest.invariant.bound, c.split_line.ensures.shorter);
+      live = c.in_ok-run_line.ensures.live;
     }
 
 pub returns-clause-told : goal.returns-clause-told
@@ -29,10 +30,10 @@ returns-clause-told g c = λ outcome ends.
     let here = progress_meant g.D.TextDecorator.meaning c.loop-rest.program in
     c.loop-rest.invariant.so_far outcome (at_end g.W.CharWidth.columns (decoration_of g.D.TextDecorator) here c.loop-rest.number c.loop-rest.rest.now outcome c.loop-rest-test.ensures ends)
 
-pub returns-in_err-program-clause-of_script : goal.returns-in_err-program-clause-of_script
-returns-in_err-program-clause-of_script g c =
+pub returns-in_err-run_line-clause-of_script : goal.returns-in_err-run_line-clause-of_script
+returns-in_err-run_line-clause-of_script g c =
     let here = progress_meant g.D.TextDecorator.meaning c.loop-rest.program in
     let p = err_from_is_err_and c.from_residual.result c.from_residual.ensures.1 in
-    let same : c.from_residual.result ≡ Err c.in_err-program.field-0.0 = cc (p.1, p.2) in
-    if_err_is _ c.from_residual.result c.in_err-program.field-0.0 same (λ found.
-    line_of_script g.W.CharWidth.columns (decoration_of g.D.TextDecorator) here c.loop-rest.number c.split_line.result.0.now c.in_err-program.field-0.0 (c.in_err-program.ensures.refused found))
+    let same : c.from_residual.result ≡ Err c.in_err-run_line.field-0.0 = cc (p.1, p.2) in
+    if_err_is _ c.from_residual.result c.in_err-run_line.field-0.0 same (λ found.
+    line_of_script g.W.CharWidth.columns (decoration_of g.D.TextDecorator) here c.loop-rest.number c.split_line.result.0.now c.in_err-run_line.field-0.0 (c.in_err-run_line.ensures.refused found))

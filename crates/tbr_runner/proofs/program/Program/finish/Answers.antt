@@ -1,6 +1,6 @@
-use Rattle.std.proofs.Common.{◌≡◌, true, false, Err, inl, inr, ap, ◌∙◌, string_bytes}
+use Rattle.std.proofs.Common.{◌≡◌, true, false, Err, inl, inr, ap, ◌∙◌, string_bytes, subst, sym}
 use Rattle.tbr_decor.specs.Decoration.{decoration_of}
-use Rattle.tbr_runner.specs.Progress.{progress_meant}
+use Rattle.tbr_runner.specs.Progress.{progress_meant, GoesOn}
 use Rattle.tbr_runner.specs.Meaning.{Ends}
 use Rattle.tbr_runner.proofs.Levels.{only_level, top_live}
 use Rattle.tbr_runner.proofs.Meant.{still_open, end_refused, end_text}
@@ -10,7 +10,7 @@ use Rattle.tbr_runner.proofs.program.Program.finish.Goals as goal
 
 pub into_inner-renderer-requires : goal.into_inner-renderer-requires
 into_inner-renderer-requires g c =
-    only_level c.self.inside.renderers c.self.inside.pending c.self.inside.opened c.self.invariant (c.is_empty.ensures.0 (cc))
+    only_level c.self.inside.renderers c.self.inside.pending c.self.inside.opened (subst GoesOn (sym c.self.view_is) c.requires) (c.is_empty.ensures.0 (cc))
 
 pub returns-then-not-is_empty-clause-refused : goal.returns-then-not-is_empty-clause-refused
 returns-then-not-is_empty-clause-refused g c = λ _.
@@ -24,7 +24,7 @@ returns-clause-text g c =
 
 pub close-requires : goal.close-requires
 close-requires g c =
-    (top_live c.self.inside.renderers c.self.inside.pending c.self.inside.opened c.self.invariant c.into_inner-renderer.result.0 c.into_inner-renderer.ensures.renderer).0
+    (top_live c.self.inside.renderers c.self.inside.pending c.self.inside.opened (subst GoesOn (sym c.self.view_is) c.requires) c.into_inner-renderer.result.0 c.into_inner-renderer.ensures.renderer).0
 
 pub returns-in_err-close-clause-refused : goal.returns-in_err-close-clause-refused
 returns-in_err-close-clause-refused g c =

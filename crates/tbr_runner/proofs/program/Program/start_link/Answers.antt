@@ -1,6 +1,6 @@
-use Rattle.std.proofs.Common.{Err, chars, ap, ◌∙◌}
+use Rattle.std.proofs.Common.{Err, chars, ap, ◌∙◌, subst, sym}
 use Rattle.tbr_decor.specs.Decoration.{decoration_of}
-use Rattle.tbr_runner.specs.Progress.{progress_meant}
+use Rattle.tbr_runner.specs.Progress.{progress_meant, GoesOn}
 use Rattle.tbr_runner.specs.Meaning.{LinkRefuses}
 use Rattle.tbr_runner.proofs.Levels.{has_top}
 use Rattle.tbr_runner.proofs.Links.{top_unfailed, start_live, link_done, link_refused}
@@ -10,7 +10,7 @@ use Rattle.tbr_runner.proofs.program.Program.start_link.Goals as goal
 pub start_link-requires : goal.start_link-requires
 start_link-requires g c =
     let i = c.self.inside in
-    has_top i.renderers i.pending i.opened c.self.invariant
+    has_top i.renderers i.pending i.opened (subst GoesOn (sym c.self.view_is) c.requires)
 
 pub returns-in_err-start_link-clause-refused : goal.returns-in_err-start_link-clause-refused
 returns-in_err-start_link-clause-refused g c =
@@ -18,15 +18,15 @@ returns-in_err-start_link-clause-refused g c =
     let columns = g.W.CharWidth.columns in
     let decoration = decoration_of g.D.TextDecorator in
     let i = c.self.inside in
-    refused_by (LinkRefuses columns decoration (progress_meant meaning c.args.self) c.args.target.now) c.from_residual.result c.in_err-start_link.field-0.0 c.from_residual.ensures.1 (λ e.
-    link_refused meaning _ c.args.self c.self.view_is columns decoration c.args.target.now
-    (c.start_link.ensures.too_narrow (top_unfailed i.renderers i.pending i.opened c.self.invariant) (c.in_err-start_link.was ∙ ap Err e)))
+    refused_by (LinkRefuses columns decoration (progress_meant meaning c.args.self.now) c.args.target.now) c.from_residual.result c.in_err-start_link.field-0.0 c.from_residual.ensures.1 (λ e.
+    link_refused meaning _ c.args.self.now c.self.view_is columns decoration c.args.target.now
+    (c.start_link.ensures.too_narrow (top_unfailed i.renderers i.pending i.opened (subst GoesOn (sym c.self.view_is) c.requires)) (c.in_err-start_link.was ∙ ap Err e)))
 
-pub invariant_of-self : goal.invariant_of-self
-invariant_of-self g c =
+pub returns-clause-live : goal.returns-clause-live
+returns-clause-live g c =
     let i = c.self.inside in
-    start_live g.D.TextDecorator.meaning g.W.CharWidth.columns (decoration_of g.D.TextDecorator) i.renderers c.start_link.new.self i.pending i.opened c.self.invariant (chars c.args.target.now) c.in_ok-start_link.ensures.ok
+    start_live g.D.TextDecorator.meaning g.W.CharWidth.columns (decoration_of g.D.TextDecorator) i.renderers c.start_link.new.self i.pending i.opened (subst GoesOn (sym c.self.view_is) c.requires) (chars c.args.target.now) c.in_ok-start_link.ensures.ok
 
 pub returns-clause-done : goal.returns-clause-done
 returns-clause-done g c =
-    link_done g.D.TextDecorator.meaning _ c.args.self c.self.view_is g.W.CharWidth.columns (decoration_of g.D.TextDecorator) c.args.target.now c.start_link.new.self c.in_ok-start_link.ensures.ok
+    link_done g.D.TextDecorator.meaning _ c.args.self.now c.self.view_is g.W.CharWidth.columns (decoration_of g.D.TextDecorator) c.args.target.now c.start_link.new.self c.in_ok-start_link.ensures.ok

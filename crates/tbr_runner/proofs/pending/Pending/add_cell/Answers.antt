@@ -5,7 +5,7 @@ use Rattle.tbr_model.proofs.lists.Each.{each_append}
 use Rattle.text_block_renderer.specs.Renderer.{Renderer}
 use Rattle.tbr_runner.specs.Progress.{Pending}
 use Rattle.tbr_runner.specs.Meaning.{with_cell}
-use Rattle.tbr_runner.proofs.pending.Pending.with_cell.Goals as goal
+use Rattle.tbr_runner.proofs.pending.Pending.add_cell.Goals as goal
 
 as_many : {X Y : Type 0} (xs all : List X) (ys each : List Y) (x : X) (y : Y) → all ≡ xs ++ x ∷ [] → each ≡ ys ++ y ∷ [] → length ys ≡ length xs → length each ≡ length all
 as_many xs all ys each x y a b same =
@@ -18,12 +18,15 @@ with_more {D} {A} {T} p q cells aligns inside span align same a b =
     ∙ ap (λ (gs : List CellAlign). record p { cells = p.cells ++ (inside, span) ∷ []; aligns = gs }) b
     ∙ ap (λ (r : Pending D A T). with_cell r inside span align) same
 
-pub invariant_of-result : goal.invariant_of-result
-invariant_of-result g c = (
-  subst (Each (λ cell. 0 < cell.1)) (sym c.in_ok-push.ensures.items) (each_append (λ cell. 0 < cell.1) c.self.inside.cells.items _ c.self.invariant.0 (c.requires, tt)),
-  as_many c.self.inside.cells.items c.push.new.self.items c.self.inside.aligns.items c.push-2.new.self.items _ _ c.in_ok-push.ensures.items c.in_ok-push-2.ensures.items c.self.invariant.1,
-)
+pub invariant_of-self-2 : goal.invariant_of-self-2
+invariant_of-self-2 g c =
+    let old = c.self.inside in
+    let aligns = c.push_reserved.ensures.items ∙ ap (λ gs. gs ++ c.args.align ∷ []) c.in_ok-reserve.ensures.items in (
+      subst (Each (λ cell. 0 < cell.1)) (sym c.in_ok-push.ensures.items) (each_append (λ cell. 0 < cell.1) old.cells.items _ c.self.invariant.0 (c.requires, tt)),
+      as_many old.cells.items c.push.new.self.items old.aligns.items c.push_reserved.new.self.items _ _ c.in_ok-push.ensures.items aligns c.self.invariant.1,
+    )
 
-pub returns : goal.returns
-returns g c =
-    with_more _ c.args.self c.push.new.self.items c.push-2.new.self.items c.args.cell c.args.span c.args.align c.self.view_is c.in_ok-push.ensures.items c.in_ok-push-2.ensures.items
+pub returns-clause-waits : goal.returns-clause-waits
+returns-clause-waits g c =
+    let aligns = c.push_reserved.ensures.items ∙ ap (λ gs. gs ++ c.args.align ∷ []) c.in_ok-reserve.ensures.items in
+    with_more _ c.args.self.now c.push.new.self.items c.push_reserved.new.self.items c.args.cell c.args.span c.args.align c.self.view_is c.in_ok-push.ensures.items aligns
