@@ -1,5 +1,5 @@
 //! Lines of other renderers.
-ghost use Rattle.std.specs.Prelude.{◌≡◌, ◌≢◌, ◌≤◌, ◌++◌, ◌⊎◌, None, Some, Ok, Err, List, ℕ, length, map, fold, chars, OnOk, OnErr, IfOk, IfErr};
+ghost use Rattle.std.specs.Prelude.{◌≡◌, ◌≢◌, ◌≤◌, ◌++◌, ◌⊎◌, None, Some, Ok, Err, List, ℕ, length, map, fold, chars, string_bytes, string_len, OnOk, OnErr, IfOk, IfErr};
 ghost use Rattle.std.specs.List.{AllZip, AllByRecursion as Each};
 ghost use Rattle.std.specs.Vec.Iter.{into_iter_items};
 ghost use Rattle.tbr_lines.specs.Copies.{equal_lists};
@@ -13,11 +13,13 @@ ghost use Rattle.tbr_renderer.specs.Flush.{Flushes, FlushIsTooNarrow};
 ghost use Rattle.tbr_renderer.specs.Appended.{GivesFirst, texts_of, as_text, prefixed, with_cell, with_cell_below, with_cells, AppendsLines, AppendsCells, HandsOut, HoldsBack, FirstToRefuse};
 
 use crate::sub::SubRenderer;
+use std::alloc::Global;
 use std::convert::AsStr;
 use std::vec::IntoIter;
 use tbr_decor::TextDecorator;
 use tbr_lines::{
-    BorderSegHoriz, CharWidth, Error, OutOfMemory, RenderLine, TaggedLine, TaggedString,
+    BorderSegHoriz, CharWidth, Error, OutOfMemory, RenderLine, TaggedLine, TaggedLineElement,
+    TaggedString,
 };
 
 impl<D: TextDecorator, W: CharWidth> SubRenderer<D, W> {
@@ -52,8 +54,8 @@ impl<D: TextDecorator, W: CharWidth> SubRenderer<D, W> {
         if prefix.is_empty() {
             return Ok(());
         }
-        let s = String::from_str(self.alloc, prefix)?;
         let tag = self.tag()?;
+        let s = with_room(self.alloc, prefix, bytes_under(text, &tag))?;
         text.insert_front(TaggedString { s, tag })
     }
 
@@ -186,5 +188,23 @@ impl<D: TextDecorator, W: CharWidth> SubRenderer<D, W> {
             self.add_cell(lines)?;
         }
         Ok(())
+    }
+}
+
+/// A prefix, with room for so many bytes behind it.
+fn with_room(alloc: Global, prefix: &str, room: usize) -> Result<String, OutOfMemory>
+    ensures bytes { IfOk result (λ s. string_bytes s ≡ prefix.now) }
+    ensures len { IfOk result (λ s. string_len s ≡ length prefix.now) }
+{
+    let mut s = String::with_capacity(alloc, prefix.len().saturating_add(room))?;
+    s.push_str(prefix)?;
+    Ok(s)
+}
+
+/// The bytes of a text's first piece, if that stands under an equal tag: they come behind what is put in front.
+fn bytes_under<T: Eq>(text: &TaggedLine<T>, tag: &T) -> usize {
+    match text.iter().next() {
+        Some(TaggedLineElement::Str(first)) if first.tag == *tag => first.s.len(),
+        _ => 0,
     }
 }

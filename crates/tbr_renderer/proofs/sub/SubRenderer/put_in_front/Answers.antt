@@ -27,5 +27,5 @@ returns-clause-items g c =
     (λ same. means_same_items (tag_meant f) (equal_lists eq) agree (items_of c.insert_front.new.self) (text_items (chars_of s) tag ++ line) same
     ∙ map-append (map_item (tag_meant f)) (text_items (chars_of s) tag) line
     ∙ ap (λ is. is ++ items_meant f line) (text_items-map (tag_meant f) (chars_of s) tag
-    ∙ ap (text_items (chars_of s)) c.in_ok-tag.ensures ∙ ap (λ t. text_items (chars t) (map f c.args.self.now.annotations)) c.in_ok-s.ensures.ok))
+    ∙ ap (text_items (chars_of s)) c.in_ok-tag.ensures ∙ ap (λ t. text_items (chars t) (map f c.args.self.now.annotations)) c.in_ok-s.ensures.bytes))
     c.insert_front.ensures.items
