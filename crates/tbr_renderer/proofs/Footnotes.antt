@@ -11,15 +11,16 @@ use Rattle.tbr_model.specs.Mapped.{map_item}
 use Rattle.tbr_model.specs.Width.{width_of_text}
 use Rattle.tbr_model.proofs.words.Items.{items_width-append}
 use Rattle.tbr_lines.specs.Copies.{equal_lists}
-use Rattle.tbr_lines.specs.Elements.{Element, piece, marker_element, text_items, items_of, SameItems}
+use Rattle.tbr_lines.specs.Elements.{Element, piece, marker_element, text_items, items_of, SameItems, IsMerged}
 use Rattle.tbr_lines.specs.Mapped.{MeansEqual}
 use Rattle.tbr_lines.proofs.MappedTags.{means_same_items}
 use Rattle.tbr_lines.proofs.TextColumns.{items_width-text}
 use Rattle.tbr_lines.specs.declared.TaggedLineElement.{TaggedLineElement}
 use Rattle.tbr_lines.specs.View.{element_of}
 use Rattle.tbr_decor.specs.Meant.{meant as element_meant}
-use Rattle.tbr_renderer.specs.Cutting.{Cutting, nothing_cut, line_ended, appended, extended, with_item, with_items, cut_meant, texts_meant}
+use Rattle.tbr_renderer.specs.Cutting.{Cutting, nothing_cut, line_ended, appended, extended, with_item, with_items, cut_meant, texts_meant, cutting_of, HoldsCutting}
 use Rattle.tbr_renderer.specs.Footnotes.{unbroken, footnote_items, fits_behind, cut_lines, link_width, footnote_lines}
+use Rattle.tbr_renderer.specs.declared.footnote.FootnoteLines.TheInside.{Inside}
 use Rattle.tbr_renderer.specs.Meant.{tag_meant, items_meant, meant}
 use Rattle.tbr_renderer.specs.Renderer.{Renderer, Settings, KeepsSettings, with_line}
 use Rattle.tbr_renderer.proofs.Appending.{HasPut}
@@ -132,13 +133,29 @@ module _ {A M : Type 0} (f : A → M) where
   texts_are (l ∷ lines) = ap (λ (ls : List (List (Item (List M)))). items_meant f (items_of l) ∷ ls) (texts_are lines)
 
   -- a text more in the open line
-  pub held_more : (eq : A → A → Bool) (agree : MeansEqual (tag_meant f) (equal_lists eq)) (old new : List (Item (Vec A))) (cs : List ℕ) (tag : Vec A) → SameItems (equal_lists eq) new (old ++ text_items cs tag) →
-      items_meant f new ≡ items_meant f old ++ text_items cs (tag_meant f tag)
-  held_more eq agree old new cs tag same =
-      means_same_items (tag_meant f) (equal_lists eq) agree new (old ++ text_items cs tag) same ∙ map-append (map_item (tag_meant f)) old (text_items cs tag) ∙ ap (λ is. items_meant f old ++ is) (text_items-map (tag_meant f) cs tag)
+  module _ (widths : ℕ → Option ℕ) (eq : A → A → Bool) (agree : MeansEqual (tag_meant f) (equal_lists eq)) {D W : Type 0} (c : Inside D W A) (new : List (Element (Vec A))) (cs : List ℕ) (tag : Vec A)
+      (same : SameItems (equal_lists eq) (items_of new) (items_of c.held ++ text_items cs tag)) where
+    held_more : items_meant f (items_of new) ≡ items_meant f (items_of c.held) ++ text_items cs (tag_meant f tag)
+    held_more =
+        means_same_items (tag_meant f) (equal_lists eq) agree (items_of new) (items_of c.held ++ text_items cs tag) same ∙ map-append (map_item (tag_meant f)) (items_of c.held) (text_items cs tag)
+        ∙ ap (λ is. items_meant f (items_of c.held) ++ is) (text_items-map (tag_meant f) cs tag)
 
-  pub held_width : (widths : ℕ → Option ℕ) (old new : List (Item (List M))) (cs : List ℕ) (tag : List M) (sum : ℕ) → new ≡ old ++ text_items cs tag → sum ≡ items_width widths old + width_of_text widths cs → sum ≡ items_width widths new
-  held_width widths old new cs tag sum is plus = omega (arith, plus, items_width-append widths old (text_items cs tag), items_width-text widths cs tag, ap (items_width widths) is)
+    pub line_extended : (p : Cutting (Vec A)) → cutting_of c ≡ p → cut_meant f (record (cutting_of c) { held = items_of new }) ≡ extended (cut_meant f p) (text_items cs (tag_meant f tag))
+    line_extended p is = ap (λ (held : List (Item (List M))). record (cut_meant f (cutting_of c)) { held = held }) held_more ∙ ap (λ (q : Cutting (Vec A)). extended (cut_meant f q) (text_items cs (tag_meant f tag))) is
+
+    pub holds_extended : (columns : ℕ) → HoldsCutting widths eq f c → columns ≡ c.columns + width_of_text widths cs → IsMerged (equal_lists eq) new → HoldsCutting widths eq f (record c { held = new; columns = columns })
+    holds_extended columns h sum merged = record {
+      taken = omega (
+        arith,
+        sum,
+        h.taken,
+        items_width-append widths (items_meant f (items_of c.held)) (text_items cs (tag_meant f tag)),
+        items_width-text widths cs (tag_meant f tag),
+        ap (items_width widths) held_more,
+      );
+      merged = h.merged;
+      merged_held = merged;
+    }
 
 -- ---- footnotes behind the lines
 
