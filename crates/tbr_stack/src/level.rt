@@ -1,5 +1,5 @@
 //! A renderer of a stack, and the links that are open in it.
-ghost use Rattle.std.specs.Prelude.{◌≡◌, ◌∷◌, length, OnOk, OnErr};
+ghost use Rattle.std.specs.Prelude.{◌≡◌, length, OnOk, OnErr};
 ghost use Rattle.std.specs.Borrow.{Lends, sem};
 ghost use Rattle.tbr_stack.specs.contracts.level.Level.{the_row};
 ghost use Rattle.tbr_stack.specs.Stack.{new_level};

@@ -1,5 +1,5 @@
 //! Links that start and end in the top of a stack.
-ghost use Rattle.std.specs.Prelude.{◌≡◌, ◌≢◌, ◌<◌, ◌≤◌, None, Some, Err, length, chars, codes, IfOk, IfErr, OnOk, OnErr, MatchResult, is_ok};
+ghost use Rattle.std.specs.Prelude.{◌≡◌, ◌≢◌, ◌<◌, ◌≤◌, None, Some, Err, length, chars, IfOk, IfErr, OnOk, OnErr, MatchResult, is_ok};
 ghost use Rattle.tbr_lines.specs.View.{chars_of};
 ghost use Rattle.tbr_lines.specs.declared.Error.TheVariants as E;
 ghost use Rattle.tbr_decor.specs.Decoration.{decoration_of};

@@ -1,5 +1,5 @@
 //! Text and backgrounds in a colour.
-ghost use Rattle.std.specs.Prelude.{◌≡◌, None, IfOk, IfErr, OnOk, OnErr};
+ghost use Rattle.std.specs.Prelude.{◌≡◌, IfOk, IfErr, OnOk, OnErr};
 ghost use Rattle.std.specs.Option.{option_map};
 ghost use Rattle.tbr_lines.specs.declared.Error.TheVariants as E;
 ghost use Rattle.tbr_decor.specs.Decoration.{decoration_of};

@@ -1,5 +1,5 @@
 //! Text with an annotation of its own: links, emphasis, strikeouts, images and colours.
-ghost use Rattle.std.specs.Prelude.{◌≡◌, ◌≢◌, ◌<◌, ◌≤◌, ◌++◌, ◌∷◌, [], suc, ◌-◌, true, None, Some, Err, IfOk, IfErr, OnOk, OnErr, chars, map};
+ghost use Rattle.std.specs.Prelude.{◌≡◌, ◌≢◌, ◌<◌, ◌≤◌, ◌-◌, None, Err, IfOk, OnOk, OnErr};
 ghost use Rattle.tbr_lines.specs.View.{chars_of};
 ghost use Rattle.tbr_lines.specs.declared.Error.TheVariants as E;
 ghost use Rattle.tbr_decor.specs.Decoration.{decoration_of};
@@ -8,7 +8,7 @@ ghost use Rattle.tbr_renderer.specs.Meant.{meant};
 ghost use Rattle.tbr_renderer.specs.View.{start_of, end_of};
 ghost use Rattle.tbr_renderer.specs.Calls as call;
 ghost use Rattle.tbr_renderer.specs.Calls.{KeepsFailure, StopsAtStage};
-ghost use Rattle.tbr_renderer.specs.Decorated.{struck_from, struck_until, asked_to_open, annotated, asked_to_close, Opens, OpenIsTooNarrow, Closes, CloseIsTooNarrow, OpensStrikeout, ClosesStrikeout};
+ghost use Rattle.tbr_renderer.specs.Decorated.{asked_to_open, annotated, asked_to_close, Opens, OpenIsTooNarrow, Closes, CloseIsTooNarrow};
 
 use crate::sub::SubRenderer;
 use tbr_decor::TextDecorator;

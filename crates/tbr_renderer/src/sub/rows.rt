@@ -1,5 +1,5 @@
 //! Rows of cells side by side.
-ghost use Rattle.std.specs.Prelude.{◌≡◌, ◌≢◌, ◌≤◌, ◌⊎◌, ◌++◌, ◌∷◌, [], None, Some, Ok, Err, true, List, ℕ, length, map, fold, OnOk, IfOk, IfSome};
+ghost use Rattle.std.specs.Prelude.{◌≡◌, ◌≢◌, ◌≤◌, ◌⊎◌, ◌++◌, ◌∷◌, [], None, Some, Ok, Err, true, List, map, fold, OnOk, IfOk, IfSome};
 ghost use Rattle.std.specs.Option.{option_map};
 ghost use Rattle.std.specs.List.{AllZip, AllByRecursion as Each};
 ghost use Rattle.tbr_lines.specs.Copies.{equal_lists};
@@ -14,7 +14,7 @@ ghost use Rattle.tbr_renderer.specs.View.{line_seen};
 ghost use Rattle.tbr_renderer.specs.Flush.{FlushIsTooNarrow};
 ghost use Rattle.tbr_renderer.specs.Appended.{HandsOut, HoldsBack, FirstToRefuse};
 ghost use Rattle.tbr_renderer.specs.Rows as model;
-ghost use Rattle.tbr_renderer.specs.Rows.{GivenCell, GivesCell, ComesAs, PutsRow, AppendsRow};
+ghost use Rattle.tbr_renderer.specs.Rows.{GivenCell, GivesCell, ComesAs, AppendsRow};
 
 use crate::renderer::Renderer;
 use crate::sub::SubRenderer;
