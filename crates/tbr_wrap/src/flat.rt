@@ -147,7 +147,7 @@ impl<T> FlatText<T> {
     /// Places the characters that the word begins with, up to a marker, while they fit into `room` columns. It answers
     /// how many they are, and their columns.
     ///
-    /// Where memory is refused the items stay as they were.
+    /// Where memory is refused the items may be lost.
     pub fn place_fitting<W: CharWidth>(
         &mut self,
         room: usize,
@@ -162,9 +162,11 @@ impl<T> FlatText<T> {
         }) }
     {
         self.text.holds_characters();
-        let (count, columns) = self.text.fitting::<W>(self.word.before(), room);
-        self.placed.add_characters(count)?;
-        self.text.place_front(count);
+        let (count, columns) = self.text.place_fitting::<W>(self.word.before(), room);
+        if let Err(e) = self.placed.add_characters(count) {
+            clear(&mut self.text, &mut self.placed, &mut self.word);
+            return Err(e);
+        }
         self.word.remove_first(count);
         Ok((count, columns))
     }

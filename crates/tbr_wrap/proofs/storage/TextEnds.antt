@@ -1,12 +1,11 @@
 -- What is counted at the end of a text and at its beginning, and what is taken out between.
-use Rattle.std.proofs.Common.{◌≡◌, ℕ, suc, zero, ◌+◌, ◌-◌, ◌<◌, ◌≤◌, Option, List, [], ◌∷◌, ◌++◌, length, take, drop, get_or, replicate, refl, ap, sym, ◌∙◌, subst, arith, append_assoc}
+use Rattle.std.proofs.Common.{◌≡◌, ℕ, suc, zero, ◌+◌, ◌-◌, ◌<◌, ◌≤◌, List, [], ◌∷◌, ◌++◌, length, take, drop, get_or, replicate, refl, ap, sym, ◌∙◌, subst, arith, append_assoc}
 use Rattle.std.specs.List.{AllByRecursion as Each, slice_range}
 use Rattle.std.specs.Str.{IsUtf8, IsAscii, chars, IsCharBoundary}
 use Rattle.std.proofs.Math.Seq.{drop-append_seam, take-append_seam}
 use Rattle.std.proofs.lemmas.List.{take-append-drop, length-append, length-drop, length-replicate}
 use Rattle.std.proofs.lemmas.Str.{IsUtf8-take, IsUtf8-from_ascii, IsCharBoundary-from_drop, IsUtf8-append, chars-append, chars-IsAscii, encodes-chars, encodes-append, encodes-IsAscii}
 use lib.Utf8.{encodes}
-use Rattle.tbr_model.specs.Width.{width_of_text}
 use Rattle.tbr_wrap.specs.Flat.{letters, AreParts}
 use Rattle.tbr_wrap.proofs.storage.TextBytes.{IsCut, cut, take_cut, drop_cut, cut_first, from_cut, letters_cut, word_utf8, placed_utf8, SplitsAt, splits_at, front_within}
 
@@ -52,19 +51,18 @@ more_spaces text front n u e =
 -- ---- white space at the beginning
 
 -- the first of some characters are seen
+pub seen_front : (cs xs rest : List ℕ) (n : ℕ) → cs ≡ xs ++ rest → n ≡ length xs → (n ≤ length cs) × (take n cs ≡ xs)
+seen_front cs xs rest n f e =
+    (omega (arith, e, ap length f, length-append xs rest), ap (λ i. take i cs) e ∙ ap (λ ys. take (length xs) ys) f ∙ take-append_seam xs rest)
+
+-- and are as each of them is
 pub seen_first : (P : ℕ → Type 0) (cs xs rest : List ℕ) (n : ℕ) → n ≡ length xs → cs ≡ xs ++ rest → Each P xs → (n ≤ length cs) × Each P (take n cs) × (drop n cs ≡ rest)
 seen_first P cs xs rest n e f h =
-    let front : take n cs ≡ xs = ap (λ i. take i cs) e ∙ ap (λ ys. take (length xs) ys) f ∙ take-append_seam xs rest in (
-      omega (arith, e, ap length f, length-append xs rest),
-      subst (λ (ys : List ℕ). Each P ys) (sym front) h,
+    let k = seen_front cs xs rest n f e in (
+      k.0,
+      subst (λ (ys : List ℕ). Each P ys) (sym k.1) h,
       ap (λ i. drop i cs) e ∙ ap (λ ys. drop (length xs) ys) f ∙ drop-append_seam xs rest,
     )
-
--- and have their columns
-pub seen_columns : (columns : ℕ → Option ℕ) (cs xs rest : List ℕ) (n m : ℕ) → cs ≡ xs ++ rest → n ≡ length xs → m ≡ width_of_text columns xs → (n ≤ length cs) × (m ≡ width_of_text columns (take n cs))
-seen_columns columns cs xs rest n m f e h =
-    let front : take n cs ≡ xs = ap (λ i. take i cs) e ∙ ap (λ ys. take (length xs) ys) f ∙ take-append_seam xs rest in
-    (omega (arith, e, ap length f, length-append xs rest), h ∙ ap (width_of_text columns) (sym front))
 
 pub next_other : (P : ℕ → Type 0) (ds rest : List ℕ) (c : ℕ) → ds ≡ c ∷ rest → P c → (d : ℕ) → (more : List ℕ) → ds ≡ d ∷ more → P d
 next_other P ds rest c e h d more f = let k : c ∷ rest ≡ d ∷ more = sym e ∙ f in let same : c ≡ d = cc in subst P same h

@@ -94,15 +94,17 @@ impl<T> Characters<T> {
         self.text.word_width::<W>()
     }
 
-    /// How many of the word's first `most` characters fit into `room` columns, and their columns.
-    pub fn fitting<W: CharWidth>(&self, most: usize, room: usize) -> (usize, usize)
+    /// Places the characters that the word begins with, at most `most`, while they fit into `room` columns. It answers
+    /// how many they are, and their columns.
+    pub fn place_fitting<W: CharWidth>(&mut self, most: usize, room: usize) -> (usize, usize)
         ensures most { result.0 ≤ most }
-        ensures within { result.0 ≤ length self.now.word }
+        ensures within { result.0 ≤ length self.old.word }
         ensures room { result.1 ≤ room }
-        ensures columns { result.1 ≡ items_width W.columns (take result.0 self.now.word) }
+        ensures columns { result.1 ≡ items_width W.columns (take result.0 self.old.word) }
+        ensures placed { self.new
+            ≡ record { placed = self.old.placed ++ take result.0 self.old.word; word = drop result.0 self.old.word } }
     {
-        let _ = &self.tags;
-        self.text.fitting::<W>(most, room)
+        self.text.place_fitting::<W>(most, room)
     }
 
     /// Places the word's first `count` characters. It takes the time of going over them.

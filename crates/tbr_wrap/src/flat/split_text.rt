@@ -1,11 +1,11 @@
 //! Characters in one text, of which the first are placed.
-ghost use Rattle.std.specs.Prelude.{◌≡◌, ◌<◌, ◌≤◌, ◌+◌, ◌-◌, ◌++◌, ◌∷◌, [], ℕ, suc, true, false, List, length, take, drop, replicate, chars, string_bytes, encode_utf8, MatchOption, OnOk, OnErr, IfOk};
+ghost use Rattle.std.specs.Prelude.{◌≡◌, ◌<◌, ◌≤◌, ◌+◌, ◌-◌, ◌++◌, ◌∷◌, [], ℕ, suc, true, false, List, length, take, drop, replicate, chars, string_bytes, MatchOption, OnOk, OnErr, IfOk};
 ghost use lib.Utf8.{encodes};
 ghost use Rattle.std.specs.Char.{is_whitespace};
 ghost use Rattle.std.specs.List.{AllByRecursion as Each};
-ghost use Rattle.std.specs.Str.{IsUtf8};
 ghost use Rattle.tbr_model.specs.Width.{width_of_text};
 
+use crate::plain::Stretch;
 use std::alloc::Global;
 use std::marker::Model;
 use tbr_model::CharWidth;
@@ -13,6 +13,9 @@ use tbr_tagged::{OutOfMemory, spaces, text_width};
 
 /// So few bytes that are handed out may stay.
 const FEW: usize = 1024;
+
+/// So many bytes the C library's least block has, so that a text with room for them takes no more memory than one byte.
+const LEAST_ROOM: usize = 24;
 
 /// Characters that are placed, and behind them those of the current word. What is handed out is forgotten.
 ///
@@ -94,14 +97,20 @@ impl SplitText {
         self.word = 0;
     }
 
-    /// How many of the word's first `most` characters fit into `room` columns, and their columns.
-    pub fn fitting<W: CharWidth>(&self, most: usize, room: usize) -> (usize, usize)
+    /// Places the characters that the word begins with, at most `most`, while they fit into `room` columns. It answers
+    /// how many they are, and their columns.
+    pub fn place_fitting<W: CharWidth>(&mut self, most: usize, room: usize) -> (usize, usize)
         ensures most { result.0 ≤ most }
-        ensures within { result.0 ≤ length self.now.word }
+        ensures within { result.0 ≤ length self.old.word }
         ensures room { result.1 ≤ room }
-        ensures columns { result.1 ≡ width_of_text W.columns (take result.0 self.now.word) }
+        ensures columns { result.1 ≡ width_of_text W.columns (take result.0 self.old.word) }
+        ensures placed { self.new
+            ≡ record { placed = self.old.placed ++ take result.0 self.old.word; word = drop result.0 self.old.word } }
     {
-        fitting::<W>(&self.text.as_str()[self.word_start..], most, room)
+        let front = fitting::<W>(&self.text.as_str()[self.word_start..], most, room);
+        self.word_start += front.bytes;
+        self.word -= front.count;
+        (front.count, front.columns)
     }
 
     /// Places the word's first `count` characters. It takes the time of going over them.
@@ -201,7 +210,8 @@ impl SplitText {
     {
         let placed = &self.text.as_str()[self.start..self.word_start];
         let bytes = bytes_of(placed, count);
-        let taken = String::from_str(*self.text.allocator(), &placed[..bytes])?;
+        let mut taken = String::with_capacity(*self.text.allocator(), bytes.max(LEAST_ROOM))?;
+        taken.push_str(&placed[..bytes])?;
         self.start += bytes;
         self.give_back();
         Ok(taken)
@@ -250,24 +260,29 @@ fn bytes_of(text: &str, count: usize) -> usize
     text.len() - rest.as_str().len()
 }
 
-/// How many of the first `most` characters fit into `room` columns, and their columns.
-fn fitting<W: CharWidth>(text: &str, most: usize, room: usize) -> (usize, usize)
-    ensures most { result.0 ≤ most }
-    ensures within { result.0 ≤ length (chars text.now) }
-    ensures room { result.1 ≤ room }
-    ensures columns { result.1 ≡ width_of_text W.columns (take result.0 (chars text.now)) }
+/// The characters that a text begins with, at most `most`, while they fit into `room` columns.
+fn fitting<W: CharWidth>(text: &str, most: usize, room: usize) -> Stretch
+    ensures bytes { result.bytes ≡ length (encodes (take result.count (chars text.now))) }
+    ensures most { result.count ≤ most }
+    ensures within { result.count ≤ length (chars text.now) }
+    ensures room { result.columns ≤ room }
+    ensures columns { result.columns ≡ width_of_text W.columns (take result.count (chars text.now)) }
 {
-    let mut count = 0;
-    let mut columns = 0;
+    let mut front = Stretch {
+        bytes: 0,
+        count: 0,
+        columns: 0,
+    };
     for c in text.chars() {
         let width = W::width(c).unwrap_or(0);
-        if count == most || width > room - columns {
-            return (count, columns);
+        if front.count == most || width > room - front.columns {
+            return front;
         }
-        count += 1;
-        columns += width;
+        front.bytes += c.len_utf8();
+        front.count += 1;
+        front.columns += width;
     }
-    (count, columns)
+    front
 }
 
 /// How many of the last `most` characters are spaces at the end. A space is one byte, and no other character has that
