@@ -62,12 +62,18 @@ impl SplitText {
         self.word
     }
 
+    /// The word's text.
+    fn word_text(&self) -> &str
+        ensures { chars result.now ≡ self.now.word }
+    {
+        &self.text.as_str()[self.word_start..]
+    }
+
     /// The word's first character.
     pub fn first(&self) -> Option<char>
         ensures { MatchOption result (self.now.word ≡ []) (λ c. (rest : List ℕ) × (self.now.word ≡ c ∷ rest)) }
     {
-        let word = &self.text.as_str()[self.word_start..];
-        word.chars().next()
+        self.word_text().chars().next()
     }
 
     /// Adds a character to the word. Where memory is refused the text stays as it was.
@@ -107,9 +113,8 @@ impl SplitText {
         ensures placed { self.new
             ≡ record { placed = self.old.placed ++ take result.0 self.old.word; word = drop result.0 self.old.word } }
     {
-        let front = fitting::<W>(&self.text.as_str()[self.word_start..], most, room);
-        self.word_start += front.bytes;
-        self.word -= front.count;
+        let front = fitting::<W>(self.word_text(), most, room);
+        self.place_bytes(front.bytes, front.count);
         (front.count, front.columns)
     }
 
@@ -119,7 +124,18 @@ impl SplitText {
         ensures { self.new
             ≡ record { placed = self.old.placed ++ take count self.old.word; word = drop count self.old.word } }
     {
-        self.word_start += bytes_of(&self.text.as_str()[self.word_start..], count);
+        let bytes = bytes_of(self.word_text(), count);
+        self.place_bytes(bytes, count);
+    }
+
+    /// Places the word's first `count` characters, which take so many bytes.
+    fn place_bytes(&mut self, bytes: usize, count: usize)
+        requires within { count ≤ length self.old.word }
+        requires bytes { bytes ≡ length (encodes (take count self.old.word)) }
+        ensures { self.new
+            ≡ record { placed = self.old.placed ++ take count self.old.word; word = drop count self.old.word } }
+    {
+        self.word_start += bytes;
         self.word -= count;
     }
 
@@ -165,7 +181,7 @@ impl SplitText {
         ensures blank { Each (λ c. is_whitespace c ≡ true) (take result self.now.word) }
         ensures all { (c : ℕ) → (rest : List ℕ) → drop result self.now.word ≡ c ∷ rest → is_whitespace c ≡ false }
     {
-        blanks_in_front(&self.text.as_str()[self.word_start..])
+        blanks_in_front(self.word_text())
     }
 
     /// Takes away `spaces` spaces at the end of what is placed, and the word's first `blanks` characters. It takes the
@@ -185,7 +201,7 @@ impl SplitText {
             return Ok(());
         }
         let from = self.word_start - spaces;
-        let to = self.word_start + bytes_of(&self.text.as_str()[self.word_start..], blanks);
+        let to = self.word_start + bytes_of(self.word_text(), blanks);
         self.text.replace_range(from..to, "")?;
         self.word_start = from;
         self.word -= blanks;
@@ -196,7 +212,7 @@ impl SplitText {
     pub fn word_width<W: CharWidth>(&self) -> Result<usize, OutOfMemory>
         ensures { IfOk result (λ n. n ≡ width_of_text W.columns self.now.word) }
     {
-        text_width::<W>(&self.text.as_str()[self.word_start..])
+        text_width::<W>(self.word_text())
     }
 
     /// Hands out the first `count` placed characters. It takes the time of going over them.

@@ -1,4 +1,4 @@
-use Rattle.std.proofs.Common.{◌≡◌, ◌∷◌, [], length, unwrap_or, sym, ap, ◌∙◌, map-id, append-nil, arith, length-append}
+use Rattle.std.proofs.Common.{◌≡◌, ◌≤◌, ◌∷◌, [], length, take, chars, unwrap_or, sym, ap, ◌∙◌, map-id, append-nil, arith, length-append}
 use lib.Utf8.{encodes}
 use Rattle.std.proofs.lemmas.Iterator.{YieldsList-from_chars}
 use Rattle.std.proofs.lemmas.Iterator.Consumers.{YieldsList-end}
@@ -7,39 +7,38 @@ use Rattle.tbr_tagged.proofs.TextColumns.{turn_and_rest, width_of_text-append}
 use Rattle.tbr_wrap.proofs.storage.TextEnds.{seen_front}
 use Rattle.tbr_wrap.proofs.words.Letters.{encoded_one, next_short}
 use Rattle.tbr_wrap.proofs.flat.split_text.fitting.Goals as goal
+use Rattle.tbr_wrap.proofs.flat.split_text.fitting.Given.{Over}
+use Rattle.tbr_wrap.proofs.flat.split_text.fitting.Goals.{In-Some, In-None}
+
+-- what was seen before a character, or at the end, is what the text begins with
+seen : (g : Over) (c : In-Some g) → (c.loop-c.front.count ≤ length (chars c.args.text.now)) × (take c.loop-c.front.count (chars c.args.text.now) ≡ c.loop-c.yielded)
+seen g c =
+    let w = turn_and_rest (YieldsList-from_chars c.args.text.now c.utf8.text cc) c.loop-c.yielded _ c.loop-c.yielded_by _ _ c.in-Some.c c.in-Some.is c.next.ensures.steps in
+    seen_front _ c.loop-c.yielded _ c.loop-c.front.count w.1 c.loop-c.invariant.count
+
+seen_all : (g : Over) (c : In-None g) → (c.loop-c.front.count ≤ length (chars c.args.text.now)) × (take c.loop-c.front.count (chars c.args.text.now) ≡ c.loop-c.yielded)
+seen_all g c =
+    let end = YieldsList-end (YieldsList-from_chars c.args.text.now c.utf8.text cc) c.loop-c.yielded _ c.loop-c.yielded_by _ _ c.in-None.is c.next.ensures.steps in
+    let whole = sym (append-nil c.loop-c.yielded ∙ sym (map-id c.loop-c.yielded) ∙ end.0) in
+    seen_front _ c.loop-c.yielded [] c.loop-c.front.count whole c.loop-c.invariant.count
 
 pub returns-then-front-most-clause-bytes : goal.returns-then-front-most-clause-bytes
-returns-then-front-most-clause-bytes g c =
-    let w = turn_and_rest (YieldsList-from_chars c.args.text.now c.utf8.text cc) c.loop-c.yielded _ c.loop-c.yielded_by _ _ c.in-Some.c c.in-Some.is c.next.ensures.steps in
-    c.loop-c.invariant.bytes ∙ ap (λ cs. length (encodes cs)) (sym (seen_front _ c.loop-c.yielded _ c.loop-c.front.count w.1 c.loop-c.invariant.count).1)
-
-pub returns-clause-bytes : goal.returns-clause-bytes
-returns-clause-bytes g c =
-    let end = YieldsList-end (YieldsList-from_chars c.args.text.now c.utf8.text cc) c.loop-c.yielded _ c.loop-c.yielded_by _ _ c.in-None.is c.next.ensures.steps in
-    let whole = sym (append-nil c.loop-c.yielded ∙ sym (map-id c.loop-c.yielded) ∙ end.0) in
-    c.loop-c.invariant.bytes ∙ ap (λ cs. length (encodes cs)) (sym (seen_front _ c.loop-c.yielded [] c.loop-c.front.count whole c.loop-c.invariant.count).1)
+returns-then-front-most-clause-bytes g c = c.loop-c.invariant.bytes ∙ ap (λ cs. length (encodes cs)) (sym (seen g (goal.at.returns-then-front-most-clause-bytes g c).In-Some).1)
 
 pub returns-then-front-most-clause-within : goal.returns-then-front-most-clause-within
-returns-then-front-most-clause-within g c =
-    let w = turn_and_rest (YieldsList-from_chars c.args.text.now c.utf8.text cc) c.loop-c.yielded _ c.loop-c.yielded_by _ _ c.in-Some.c c.in-Some.is c.next.ensures.steps in
-    (seen_front _ c.loop-c.yielded _ c.loop-c.front.count w.1 c.loop-c.invariant.count).0
-
-pub returns-clause-within : goal.returns-clause-within
-returns-clause-within g c =
-    let end = YieldsList-end (YieldsList-from_chars c.args.text.now c.utf8.text cc) c.loop-c.yielded _ c.loop-c.yielded_by _ _ c.in-None.is c.next.ensures.steps in
-    let whole = sym (append-nil c.loop-c.yielded ∙ sym (map-id c.loop-c.yielded) ∙ end.0) in
-    (seen_front _ c.loop-c.yielded [] c.loop-c.front.count whole c.loop-c.invariant.count).0
+returns-then-front-most-clause-within g c = (seen g (goal.at.returns-then-front-most-clause-within g c).In-Some).0
 
 pub returns-then-front-most-clause-columns : goal.returns-then-front-most-clause-columns
-returns-then-front-most-clause-columns g c =
-    let w = turn_and_rest (YieldsList-from_chars c.args.text.now c.utf8.text cc) c.loop-c.yielded _ c.loop-c.yielded_by _ _ c.in-Some.c c.in-Some.is c.next.ensures.steps in
-    c.loop-c.invariant.columns ∙ ap (width_of_text g.W.CharWidth.columns) (sym (seen_front _ c.loop-c.yielded _ c.loop-c.front.count w.1 c.loop-c.invariant.count).1)
+returns-then-front-most-clause-columns g c = c.loop-c.invariant.columns ∙ ap (width_of_text g.W.CharWidth.columns) (sym (seen g (goal.at.returns-then-front-most-clause-columns g c).In-Some).1)
+
+pub returns-clause-bytes : goal.returns-clause-bytes
+returns-clause-bytes g c = c.loop-c.invariant.bytes ∙ ap (λ cs. length (encodes cs)) (sym (seen_all g (goal.at.returns-clause-bytes g c).In-None).1)
+
+pub returns-clause-within : goal.returns-clause-within
+returns-clause-within g c = (seen_all g (goal.at.returns-clause-within g c).In-None).0
 
 pub returns-clause-columns : goal.returns-clause-columns
-returns-clause-columns g c =
-    let end = YieldsList-end (YieldsList-from_chars c.args.text.now c.utf8.text cc) c.loop-c.yielded _ c.loop-c.yielded_by _ _ c.in-None.is c.next.ensures.steps in
-    let whole = sym (append-nil c.loop-c.yielded ∙ sym (map-id c.loop-c.yielded) ∙ end.0) in
-    c.loop-c.invariant.columns ∙ ap (width_of_text g.W.CharWidth.columns) (sym (seen_front _ c.loop-c.yielded [] c.loop-c.front.count whole c.loop-c.invariant.count).1)
+returns-clause-columns g c = c.loop-c.invariant.columns ∙ ap (width_of_text g.W.CharWidth.columns) (sym (seen_all g (goal.at.returns-clause-columns g c).In-None).1)
 
 pub overflow_add-front : goal.overflow_add-front
 overflow_add-front g c =

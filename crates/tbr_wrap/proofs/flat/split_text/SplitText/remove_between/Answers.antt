@@ -1,9 +1,9 @@
-use Rattle.std.proofs.Common.{◌≡◌, ◌+◌, ◌-◌, ◌++◌, length, take, drop, replicate, ap, ◌∙◌, arith, append-nil, slice_range, ℕ, List, ◌≤◌, IsCharBoundary}
+use Rattle.std.proofs.Common.{◌≡◌, ◌+◌, ◌-◌, ◌++◌, length, take, drop, replicate, sym, ap, ◌∙◌, arith, append-nil, slice_range, ℕ, List, ◌≤◌, IsCharBoundary}
 use Rattle.std.specs.Str.{chars}
 use Rattle.std.specs.String.{string_bytes}
 use lib.Utf8.{encodes}
 use Rattle.tbr_wrap.specs.Flat.{Letters}
-use Rattle.tbr_wrap.proofs.storage.TextBytes.{word_boundary, front_within}
+use Rattle.tbr_wrap.proofs.storage.TextBytes.{front_within}
 use Rattle.tbr_wrap.proofs.storage.TextEnds.{spaces_within, spaces_boundary, blanks_boundary, parts_removed, letters_removed}
 use Rattle.tbr_wrap.proofs.flat.split_text.SplitText.remove_between.Goals as goal
 use Rattle.tbr_wrap.proofs.flat.split_text.SplitText.remove_between.Goals.{After-bytes_of}
@@ -12,10 +12,6 @@ pub overflow_sub-from : goal.overflow_sub-from
 overflow_sub-from c =
     let spaces = c.requires.spaces in
     spaces_within (string_bytes c.self.inside.text) spaces.0 c.self.inside.start c.self.inside.word_start c.self.inside.word c.args.spaces c.self.invariant (ap (λ (l : Letters). l.placed) c.self.view_is ∙ spaces.1)
-
-pub range_from-requires : goal.range_from-requires
-range_from-requires c =
-    rw c.as_str.ensures.value (λ _. word_boundary (string_bytes c.self.inside.text) c.self.inside.start c.self.inside.word_start c.self.inside.word c.self.invariant)
 
 module _ (c : After-bytes_of) where
   abbrev bytes : List ℕ
@@ -33,7 +29,7 @@ module _ (c : After-bytes_of) where
 
   -- the blanks in front of the word take as many bytes
   counted : c.bytes_of.result ≡ length (encodes (take c.args.blanks (chars (drop j bytes))))
-  counted = c.bytes_of.ensures ∙ ap (λ bs. length (encodes (take c.args.blanks (chars bs)))) (c.range_from.ensures.value ∙ ap (λ bs. drop j bs) c.as_str.ensures.value)
+  counted = c.bytes_of.ensures ∙ ap (λ cs. length (encodes (take c.args.blanks cs))) (c.word_text.ensures ∙ sym (ap (λ (l : Letters). l.word) c.self.view_is))
 
   within : j + c.bytes_of.result ≤ length bytes
   within = front_within bytes i j c.self.inside.word c.args.blanks c.bytes_of.result c.self.invariant counted
