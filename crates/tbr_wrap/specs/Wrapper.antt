@@ -1,5 +1,5 @@
 -- What the fields of a wrapper say of the pending space and of the word under way.
-use Rattle.std.specs.Prelude.{◌≡◌, ◌≤◌, ◌<◌, ◌+◌, ◌∷◌, chars, ◌⊎◌, ℕ, Bool, true, Option, None, Some, List, [], ◌++◌, fold, Result, OnOk}
+use Rattle.std.specs.Prelude.{◌≡◌, ◌≤◌, ◌<◌, ◌+◌, ◌∷◌, chars, ◌⊎◌, ℕ, Bool, true, false, Option, None, Some, List, [], ◌++◌, fold, length, take, Result, OnOk}
 use Rattle.std.specs.List.{AllZip, AllByRecursion as Each}
 use Rattle.tbr_model.specs.declared.white_space.WhiteSpace.{WhiteSpace}
 use Rattle.tbr_model.specs.declared.white_space.WhiteSpace.TheVariants.{Normal}
@@ -7,6 +7,7 @@ use Rattle.tbr_model.specs.Greedy.{IsNarrow}
 use Rattle.tbr_model.specs.Run.{Item, Entry, items_width, is_break}
 use Rattle.tbr_model.specs.Rule.{Space, Progress, at_start, is_pre, join, enter, finished, waiting}
 use Rattle.tbr_tagged.specs.Elements.{SameItems}
+use Rattle.tbr_wrap.specs.Plain.{JoinWord, AreWords}
 use Rattle.tbr_wrap.specs.Wrapped.{FitsBlock}
 use Rattle.tbr_wrap.specs.LaidLines.{HoldsRule}
 use Rattle.tbr_wrap.specs.declared.wrapper.Wrapper.{Wrapper}
@@ -29,6 +30,20 @@ abbrev pub KeepsTag : {A : Type 0} → Wrapper A → WhiteSpace → ℕ → Type
 KeepsTag b mode n = is_pre mode ≡ true →
     (b.lines.line_width + (held_width b.space + (b.word_width + n)) ≤ b.lines.width)
     ⊎ ((b.continuation_flag ≡ true) × (b.in_continuation ≡ true))
+
+-- White space that is pending is dropped where the word behind it doesn't fit.
+abbrev pub DropsSpace : {A : Type 0} → Option (HeldSpace A) → Type 0
+DropsSpace {A} held = (s : HeldSpace A) → held ≡ Some s → s.mode ≡ Normal
+
+-- Words of which the first doesn't fit behind what is pending, as so many characters of it don't, and which all fit a
+-- fresh line.
+pub record AreMoved {A : Type 0} (columns : ℕ → Option ℕ) (b : Wrapper A) (text : List ℕ) : Type 0 where
+  pub words : AreWords columns text
+  pub space : DropsSpace b.space
+  pub first : ℕ
+  pub letters : JoinWord columns false (take first text)
+  pub wide : b.lines.width < b.lines.line_width + (held_width b.space + (b.word_width + first))
+  pub fits : b.word_width + length text ≤ b.lines.width + 1
 
 -- The wrapper stands where the rule stands.
 pub record IsAtProgress {A : Type 0} (columns : ℕ → Option ℕ) (eq : A → A → Bool) (b : Wrapper A)

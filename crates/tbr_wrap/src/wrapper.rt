@@ -6,7 +6,8 @@
 //!   space that doesn't is pending before it (`collapse`, `keep_space`).
 //! - The word is *laid* where it ends: here, behind what is pending, if both fit the open line (`lay_here`), and else
 //!   afresh, behind what is left of that (`wrap_space`, `lay_fresh`).
-//! - Words that a text begins with, and that fit the open line, are laid here as one word would be (`add_words`).
+//! - Words that a text begins with, and that fit the open line, are laid here as one word would be (`add_words`). Where
+//!   the first one doesn't fit, and a fresh line has room for all, they are moved to it (`move_words`).
 //! - What fits the open line is *placed* on it (`place_pending`, `place_word`). What may not fit is *put* on it and the
 //!   next ones (`put_pending`, `put_fresh`, `put_tab`).
 //! - Ended lines are *taken*, the first one first ([`LaidLines::take_line`]).
@@ -106,7 +107,7 @@ impl<T: Eq + Clone + Drop> Wrapper<T> {
     ghost use Rattle.tbr_wrap.specs.LaidLines.{KeepsLimits};
     ghost use Rattle.tbr_wrap.specs.Plain.{JoinWord, IsFront, IsStretch, AreWords};
     ghost use Rattle.tbr_wrap.specs.State.{text_entries};
-    ghost use Rattle.tbr_wrap.specs.Wrapper.{IsAtProgress, IsUnderWay, Wherever, WrapperFollows, Enters, EndsWideWord, RunIsFinished, SameSpace, KeepsTag, held_width, join_all};
+    ghost use Rattle.tbr_wrap.specs.Wrapper.{IsAtProgress, IsUnderWay, Wherever, WrapperFollows, Enters, EndsWideWord, RunIsFinished, SameSpace, KeepsTag, DropsSpace, AreMoved, held_width, join_all};
 
     /// The tag that a call's characters come under where no continuation begins.
     fn call_tag<'a>(&self, main_tag: &'a T, wrap_tag: &'a T) -> &'a T
@@ -721,9 +722,61 @@ impl<T: Eq + Clone + Drop> Wrapper<T> {
         self.collapse(' ', tag)
     }
 
+    /// Whether white space that is pending is dropped where the word behind it doesn't fit.
+    fn drops_space(&self) -> bool
+        ensures { IsTrue result → DropsSpace self.now.space }
+    {
+        match &self.space {
+            Some(space) => is_normal(space.mode),
+            None => true,
+        }
+    }
+
+    /// How many bytes the words take that a text begins with, each with the space behind it, where the first one
+    /// doesn't fit the open line, and a fresh one has room for all.
+    fn moved_words<W: CharWidth>(&self, text: &str, mode: WhiteSpace) -> usize
+        ensures within { result ≤ length text.now }
+        ensures mode { 0 < result → mode ≡ Normal }
+        ensures word { 0 < result → has_character self.now.lines.flat.word ≡ false }
+        ensures moved { 0 < result → AreMoved W.columns self.now (take result text.now) }
+    {
+        if !is_normal(mode) || self.lines.flat.has_word() || !self.drops_space() {
+            return 0;
+        }
+        let Some(room) = self.room() else {
+            return 0;
+        };
+        let (first, _) = plain_in_front::<W>(text, false, self.lines.width);
+        if first <= room {
+            return 0;
+        }
+        words_in_front::<W>(text, self.lines.width - self.word_width)
+    }
+
+    /// Adds words, each with a space behind it, to a fresh line. The last space waits, and that before them is dropped.
+    fn move_words<W: CharWidth>(
+        &mut self,
+        text: &str,
+        main_tag: &T,
+        wrap_tag: &T,
+    ) -> Result<(), OutOfMemory>
+        requires faithful { CopiesAreEqual T.is_clone T.eq }
+        requires stands { IsUnderWay W.columns T.eq self.old }
+        requires word { has_character self.old.lines.flat.word ≡ false }
+        requires moved { AreMoved W.columns self.old text.now }
+        ensures entered { WrapperFollows W.columns T.eq self.old self.new result (λ p.
+            fold (enter W.columns self.old.lines.width) p
+            (text_entries (chars text.now) main_tag.now wrap_tag.now Normal)) }
+        ensures limits { KeepsLimits self.old.lines self.new.lines }
+    {
+        self.space = None;
+        self.lines.end_if_character()?;
+        self.add_words::<W>(text, main_tag, wrap_tag)
+    }
+
     /// Adds the beginning of a text to a run, and answers how many bytes and characters that is: the words that it
-    /// begins with, where they go on the open line at once, else the characters that join the word under the tag of
-    /// this call, and else its first character.
+    /// begins with, where they go on the open line or on a fresh one at once, else the characters that join the word
+    /// under the tag of this call, and else its first character.
     pub fn add_front<W: CharWidth>(
         &mut self,
         text: &str,
@@ -746,6 +799,11 @@ impl<T: Eq + Clone + Drop> Wrapper<T> {
         if words > 0 {
             self.add_words::<W>(&text[..words], main_tag, wrap_tag)?;
             return Ok((words, words));
+        }
+        let moved = self.moved_words::<W>(text, mode);
+        if moved > 0 {
+            self.move_words::<W>(&text[..moved], main_tag, wrap_tag)?;
+            return Ok((moved, moved));
         }
         if let Some(s) = self.fitting_stretch::<W>(text, mode) {
             let front = &text[..s.bytes];

@@ -1,26 +1,27 @@
 -- Narrow words with one space between two go on the open line as one word does.
-use Rattle.std.proofs.Common.{◌≡◌, ℕ, suc, ◌+◌, ◌<◌, ◌≤◌, nat_lt, nat_le, ◌==◌, Bool, true, false, if◌then◌else◌, Option, None, Some, unwrap_or, List, [], ◌∷◌, ◌++◌, fold, length, take, slice_range, ◌-◌, refl, ap, sym, ◌∙◌, subst, arith, append_assoc, append-nil, length-append, lt-ltb, le-leb}
+use Rattle.std.proofs.Common.{◌≡◌, ℕ, suc, zero, ◌+◌, ◌<◌, ◌≤◌, nat_lt, nat_le, ◌==◌, Bool, true, false, if◌then◌else◌, Option, None, Some, unwrap_or, List, [], ◌∷◌, ◌++◌, fold, length, take, slice_range, ◌-◌, refl, ap, sym, ◌∙◌, subst, arith, append_assoc, append-nil, length-append, lt-ltb, le-leb}
 use Rattle.std.specs.Char.{is_ascii_graphic}
 use Rattle.std.specs.Str.{IsAscii}
+use Rattle.std.proofs.lemmas.Bool.{lt-leb}
 use Rattle.std.proofs.lemmas.Bool.Decides.{nat_tests}
 use Rattle.std.proofs.lemmas.Str.{IsAscii-append}
 use Rattle.std.proofs.lemmas.Str.Ascii.{IsAscii-nil, IsAscii-cons}
 use Rattle.std.proofs.Math.Seq.{take-append_seam}
 use Rattle.std.proofs.Math.Bool.{or-true}
 use Rattle.tbr_model.specs.declared.white_space.WhiteSpace.TheVariants.{Normal}
-use Rattle.tbr_model.specs.Laid.{extended}
+use Rattle.tbr_model.specs.Laid.{extended, end_if_character, put_items}
 use Rattle.tbr_model.specs.Run.{glyph, character, has_character, items_width}
-use Rattle.tbr_model.specs.Rule.{Progress, enter, join, tag_of, space_text, pending_width, collapse, lay_here, break_word}
+use Rattle.tbr_model.specs.Rule.{Space, Progress, enter, join, tag_of, space_text, pending_width, collapse, lay, lay_here, lay_fresh, wrap_space, wrap_space_by, break_word, is_pre}
 use Rattle.tbr_model.specs.Width.{width_of_text}
 use Rattle.tbr_model.proofs.words.Items.{has_character-append, items_width-append}
 use Rattle.tbr_tagged.specs.Elements.{text_items}
 use Rattle.tbr_tagged.proofs.TextColumns.{items_width-text}
-use Rattle.tbr_wrap.specs.Plain.{is_narrow, reads, AreWords}
+use Rattle.tbr_wrap.specs.Plain.{is_narrow, joins, reads, JoinWord, AreWords}
 use Rattle.tbr_wrap.specs.State.{text_entries}
 use Rattle.tbr_wrap.specs.Wrapper.{join_all}
 use Rattle.tbr_wrap.proofs.words.ModeCases.{normal_kept, normal_break}
 use Rattle.tbr_wrap.proofs.words.PlainText.{joined_text, graphic_low, graphic_joins}
-use Rattle.tbr_wrap.proofs.words.WordsLaid.{extended_twice}
+use Rattle.tbr_wrap.proofs.words.WordsLaid.{extended_twice, put_fitting, lay_fresh_some}
 
 -- ---- what is read
 
@@ -86,6 +87,13 @@ pub words_front : (columns : ℕ → Option ℕ) (cs : List ℕ) (w : AreWords c
 words_front columns cs w =
     let long : length cs - 1 - 0 ≡ length w.front = omega (arith, ap length w.is, length-append w.front (32 ∷ [])) in
     (λ i. take (long i) (w.is i)) ∙ take-append_seam w.front (32 ∷ [])
+
+-- fewer characters join a word where more do
+pub fewer_join : (columns : ℕ → Option ℕ) (n m : ℕ) (cs : List ℕ) → JoinWord columns false (take n cs) → JoinWord columns false (take n (take m cs))
+fewer_join columns zero m cs h = tt
+fewer_join columns (suc n) zero cs h = tt
+fewer_join columns (suc n) (suc m) [] h = tt
+fewer_join columns (suc n) (suc m) (c ∷ cs) h = (h.0, fewer_join columns n m cs h.1)
 
 pub all_ascii : (columns : ℕ → Option ℕ) (cs : List ℕ) → AreWords columns cs → IsAscii cs
 all_ascii columns cs w = subst IsAscii (sym w.is) (IsAscii-append w.front (32 ∷ []) (words_ascii columns false w.front true w.read) (IsAscii-cons 32 [] (omega arith) IsAscii-nil))
@@ -207,3 +215,75 @@ module _ {A : Type 0} (columns : ℕ → Option ℕ) (one : columns 32 ≡ Some 
       ∙ sym (ap (λ n. record p { laid = extended p.laid (space_text p.space ++ q.word) (pending_width p.space + n); space = Some (record { width = 1; tag = t; mode = Normal }); word = []; mode = Normal; continuation_flag = false }) wide)
       ∙ sym (collapsed q (omega (arith, wide, some)))
       ∙ ap (λ r. collapse 32 t (lay_here columns r)) (sym joined)
+
+  -- ---- where the first of them doesn't fit
+
+  abbrev afresh : Progress A → Progress A
+  afresh q = record q { laid = end_if_character q.laid; space = None }
+
+  abbrev DropsPending : Progress A → Type 0
+  DropsPending q = (s : Space A) → q.space ≡ Some s → s.mode ≡ Normal
+
+  dropped : (q : Progress A) → DropsPending q → wrap_space columns width q q.space ≡ record q { space = None }
+  dropped q h = go q.space refl
+    where
+      go : (o : Option (Space A)) → q.space ≡ o → wrap_space columns width q o ≡ record q { space = None }
+      go None e = ap (λ o. record q { space = o }) e
+      go (Some s) e = ap (λ m. wrap_space_by columns width q s m) (h s e)
+
+  -- a word that doesn't fit is laid as on a fresh line
+  laid_afresh : (q : Progress A) → DropsPending q → IsReading true q → (end_if_character q.laid).width ≡ 0 → width < q.laid.width + (pending_width q.space + items_width columns q.word) → items_width columns q.word ≤ width →
+      lay columns width q ≡ lay columns width (afresh q)
+  laid_afresh q drops h blank wide fits =
+      let l = end_if_character q.laid in let n = items_width columns q.word in
+      let past : nat_le (q.laid.width + (pending_width q.space + n)) width ≡ false = lt-leb _ _ wide in
+      let room : nat_le (l.width + (0 + n)) width ≡ true = le-leb _ _ (omega (arith, blank, fits)) in
+      let moves : lay columns width q ≡ lay_fresh columns width (wrap_space columns width q q.space) = rw past refl in
+      let stays : lay columns width (afresh q) ≡ lay_here columns (afresh q) = rw room refl in
+      let put : put_items columns width l q.word ≡ extended l q.word (0 + n) = put_fitting columns width l q.word (omega (arith, blank, fits)) ∙ ap (extended l q.word) (omega arith) in
+      moves ∙ ap (lay_fresh columns width) (dropped q drops) ∙ lay_fresh_some columns width (record q { space = None }) h.1
+      ∙ (λ i. record q { laid = put i; space = None; word = []; continuation_flag = is_pre (h.2 i) }) ∙ sym stays
+
+  moved_end : (q : Progress A) → DropsPending q → IsReading true q → (end_if_character q.laid).width ≡ 0 → width < q.laid.width + (pending_width q.space + items_width columns q.word) → items_width columns q.word ≤ width →
+      enter columns width q (character 32 a b Normal) ≡ enter columns width (afresh q) (character 32 a b Normal)
+  moved_end q drops h blank wide fits =
+      let t = tag_of q a b in
+      let some : nat_lt 0 (items_width columns q.word) ≡ true = lt-ltb _ _ h.0 in
+      let ends : break_word columns width q ≡ lay columns width q = rw some refl in
+      let ends_afresh : break_word columns width (afresh q) ≡ lay columns width (afresh q) = rw some refl in
+      normal_break columns width 32 t q refl ∙ ap (collapse 32 t) (ends ∙ laid_afresh q drops h blank wide fits ∙ sym ends_afresh) ∙ sym (normal_break columns width 32 t (afresh q) refl)
+
+  -- no letters go on behind a space
+  no_more : (n : ℕ) (cs : List ℕ) → JoinWord columns false (take n (32 ∷ cs)) → n ≡ 0
+  no_more zero cs h = refl
+  no_more (suc n) cs h = let apart : joins columns false 32 ≡ false = rw one refl in absurd (let e : true ≡ false = sym h.0 ∙ apart in cc)
+
+  more_letters : (n c : ℕ) (cs : List ℕ) → JoinWord columns false (take n (c ∷ cs)) → JoinWord columns false (take (n - 1) cs)
+  more_letters zero c cs h = tt
+  more_letters (suc n) c cs h = subst (λ k. JoinWord columns false (take k cs)) (omega arith) h.1
+
+  -- words go on as from a fresh line, where more letters of the first one than fit are to come
+  pub words_moved : (inside : Bool) (cs : List ℕ) (n : ℕ) (q : Progress A) → fold (reads columns) (Some inside) cs ≡ Some true → IsReading inside q → DropsPending q → (end_if_character q.laid).width ≡ 0 → JoinWord columns false (take n (cs ++ 32 ∷ [])) →
+      width < q.laid.width + (pending_width q.space + (items_width columns q.word + n)) → items_width columns q.word + length cs ≤ width →
+      fold (enter columns width) q (text_entries (cs ++ 32 ∷ []) a b Normal) ≡ fold (enter columns width) (afresh q) (text_entries (cs ++ 32 ∷ []) a b Normal)
+  words_moved true [] n q read h drops blank letters wide fits = moved_end q drops h blank (omega (arith, wide, no_more n [] letters)) (omega (arith, fits))
+  words_moved false [] n q read h drops blank letters wide fits = cc
+  words_moved inside (c ∷ cs) n q read h drops blank letters wide fits =
+      let t = tag_of q a b in
+      let rest = text_entries (cs ++ 32 ∷ []) a b Normal in
+      elim (next_read columns inside c cs true read) [
+        | space e i k ↦
+            let none = no_more n (cs ++ 32 ∷ []) (subst (λ d. JoinWord columns false (take n (d ∷ cs ++ 32 ∷ []))) e letters) in
+            let same = moved_end q drops (subst (λ w. IsReading w q) i h) blank (omega (arith, wide, none)) (omega (arith, fits)) in
+            ap (λ r. fold (enter columns width) r rest)
+            (subst (λ d. enter columns width q (character d a b Normal) ≡ enter columns width (afresh q) (character d a b Normal)) (sym e) same)
+        | narrow m k ↦
+            let r : Progress A = join c t Normal q in
+            let joins_word : enter columns width q (character c a b Normal) ≡ r = normal_kept columns width c t q 1 (graphic_joins c m.graphic) m.one in
+            let joins_afresh : enter columns width (afresh q) (character c a b Normal) ≡ afresh r = normal_kept columns width c t (afresh q) 1 (graphic_joins c m.graphic) m.one in
+            let more : items_width columns r.word ≡ items_width columns q.word + 1 = omega (arith, items_width-append columns q.word (glyph c t ∷ []), ap (λ o. unwrap_or o 0) m.one) in
+            let some : has_character r.word ≡ true = has_character-append q.word (glyph c t ∷ []) ∙ or-true (has_character q.word) in
+            ap (λ x. fold (enter columns width) x rest) joins_word
+            ∙ words_moved true cs (n - 1) r k (omega (arith, more), some, joined_mode inside q h) drops blank (more_letters n c (cs ++ 32 ∷ []) letters) (omega (arith, wide, more)) (omega (arith, fits, more))
+            ∙ sym (ap (λ x. fold (enter columns width) x rest) joins_afresh)
+      ]

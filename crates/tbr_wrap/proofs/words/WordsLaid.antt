@@ -1,13 +1,14 @@
 -- The block stands where the rule stands.
 use Rattle.std.proofs.Common.{rules, ◌≡◌, nat_le, ℕ, ◌+◌, ◌<◌, ◌≤◌, Bool, true, false, if◌then◌else◌, Option, None, Some, List, [], ◌∷◌, ◌++◌, refl, sym, ◌∙◌, subst, arith, append_assoc, append-nil, Result, Ok, Err, OnOk, le-leb, inl, inr}
 use Rattle.std.proofs.lemmas.Bool.{cases_lt}
+use Rattle.tbr_model.specs.declared.white_space.WhiteSpace.TheVariants.{Normal}
 use Rattle.tbr_model.specs.Run.{Item, items_width, item_width, has_character}
 use Rattle.tbr_model.specs.Laid.{Laid, extended, end_if_character, put_items}
 use Rattle.tbr_model.specs.Greedy.{IsNarrow}
 use Rattle.tbr_model.specs.Rule.{Space, Progress, pending_width, put_pending, is_pre, lay_fresh}
 use Rattle.tbr_tagged.specs.Elements.{SameItems}
 use Rattle.tbr_wrap.specs.LaidLines.{HoldsRule}
-use Rattle.tbr_wrap.specs.Wrapper.{IsAtProgress, SameSpace, held_width}
+use Rattle.tbr_wrap.specs.Wrapper.{IsAtProgress, SameSpace, DropsSpace, held_width}
 use Rattle.tbr_wrap.specs.declared.laid_lines.LaidLines.{LaidLines}
 use Rattle.tbr_wrap.specs.declared.wrapper.Wrapper.{Wrapper}
 use Rattle.tbr_wrap.specs.declared.wrapper.Space.{Space as HeldSpace}
@@ -55,6 +56,11 @@ stands_laid columns eq b lines before given p r s lays word = search rules
 pub held_some : {A : Type 0} (eq : A → A → Bool) (o : Option (HeldSpace A)) (held : HeldSpace A) (space : Option (Space A)) → o ≡ Some held → SameSpace eq o space → (s : Space A) × (space ≡ Some s) × (held.width ≡ s.width) × (eq held.tag s.tag ≡ true) × (held.mode ≡ s.mode)
 held_some eq o held None e h = absurd (subst (λ x. SameSpace eq x None) e h)
 held_some eq o held (Some s) e h = let k = subst (λ x. SameSpace eq x (Some s)) e h in (s, refl, k.0, k.1, k.2)
+
+-- what is pending is dropped, if what is held is
+pub drops_pending : {A : Type 0} (eq : A → A → Bool) (held : Option (HeldSpace A)) (o : Option (Space A)) → SameSpace eq held o → DropsSpace held → (s : Space A) → o ≡ Some s → s.mode ≡ Normal
+drops_pending eq None o same drops s e = absurd (subst (SameSpace eq None) e same)
+drops_pending eq (Some h) o same drops s e = let k = subst (SameSpace eq (Some h)) e same in sym k.2 ∙ drops h refl
 
 -- where other space is pending
 pub spaced_stands : {A : Type 0} (columns : ℕ → Option ℕ) (eq : A → A → Bool) (b : Wrapper A) (held : Option (HeldSpace A)) (before given : List (List (Item A))) (p : Progress A) (o : Option (Space A)) → IsAtProgress columns eq b before given p → SameSpace eq held o →

@@ -23,6 +23,22 @@ returns-then-words-gt0-clause-entered g c = λ before given p s.
     let words : c.range.result.now ≡ take n text = c.range.ensures.value ∙ ap (λ m. take m text) (omega arith) in
     rw (sym words, c.fitting_words-words.ensures.mode (omega (arith, c.if-words-gt0.true))) (c.in_ok-add_words.ensures.entered before given p s)
 
+pub range-requires-then-moved-gt0-clause-end_boundary : goal.range-requires-then-moved-gt0-clause-end_boundary
+range-requires-then-moved-gt0-clause-end_boundary g c =
+    let text = c.args.text.now in let n = c.moved_words-moved.result in let k = c.moved_words-moved.ensures in
+    IsCharBoundary-from_take text n c.utf8.text k.within (IsUtf8-from_ascii (take n text) (all_ascii g.W.CharWidth.columns (take n text) (k.moved (omega (arith, c.if-moved-gt0.true))).words))
+
+pub returns-then-moved-gt0-clause-front : goal.returns-then-moved-gt0-clause-front
+returns-then-moved-gt0-clause-front g c =
+    let text = c.args.text.now in let n = c.moved_words-moved.result in let k = c.moved_words-moved.ensures in
+    ascii_front text n k.within (all_ascii g.W.CharWidth.columns (take n text) (k.moved (omega (arith, c.if-moved-gt0.true))).words)
+
+pub returns-then-moved-gt0-clause-entered : goal.returns-then-moved-gt0-clause-entered
+returns-then-moved-gt0-clause-entered g c = λ before given p s.
+    let text = c.args.text.now in let n = c.moved_words-moved.result in
+    let words : c.range-then-moved-gt0.result.now ≡ take n text = c.range-then-moved-gt0.ensures.value ∙ ap (λ m. take m text) (omega arith) in
+    rw (sym words, c.moved_words-moved.ensures.mode (omega (arith, c.if-moved-gt0.true))) (c.in_ok-move_words.ensures.entered before given p s)
+
 pub range-front-requires-clause-end_boundary : goal.range-front-requires-clause-end_boundary
 range-front-requires-clause-end_boundary g c =
     let front = c.in-Some.ensures.stretch.front in
