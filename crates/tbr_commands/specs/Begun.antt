@@ -8,6 +8,7 @@ use Rattle.tbr_commands.specs.declared.request.beginning.Beginning.TheVariants a
 use Rattle.tbr_commands.specs.declared.request.kind.Kind.{Kind}
 use Rattle.tbr_commands.specs.declared.request.kind.Kind.TheVariants.{Mode, Preformat, Emphasis, Strong, Strikeout, Code, Superscript, Colour, Background}
 
+-- nothing begun of any kind
 abbrev pub nothing_begun : Begun
 nothing_begun = record {
   modes = 0;
@@ -33,6 +34,7 @@ count begun Superscript = begun.superscripts
 count begun Colour = begun.colours
 count begun Background = begun.backgrounds
 
+-- the same, but with so many of a kind
 abbrev pub with_count : Begun → Kind → ℕ → Begun
 with_count begun Mode n = record begun { modes = n }
 with_count begun Preformat n = record begun { preformats = n }
@@ -46,6 +48,7 @@ with_count begun Background n = record begun { backgrounds = n }
 
 -- ---- what a request begins, and what it ends
 
+-- the kind of what begins
 abbrev pub kind_of : Beginning → Kind
 kind_of (beginning.Mode mode) = Mode
 kind_of beginning.Preformat = Preformat
@@ -55,22 +58,25 @@ kind_of beginning.Strikeout = Strikeout
 kind_of beginning.Code = Code
 kind_of beginning.Superscript = Superscript
 
+-- the kind of a colour, of the text or the background
 abbrev pub in_colour : ground.Ground → Kind
 in_colour ground.text = Colour
 in_colour ground.background = Background
 
+-- the kind that a request begins, if it begins one
 abbrev pub begins : Request → Option Kind
 begins (begin what) = Some (kind_of what)
 begins (colour g c) = Some (in_colour g)
 begins other = None
 
--- The end of a block is none of these: it may always come.
+-- the kind that a request ends, if it ends one; the end of a block, which may always come, ends none
 abbrev pub ends : Request → Option Kind
 ends (end what) = Some what
 ends other = None
 
 -- ---- counting
 
+-- whether a kind is given of which none is begun
 abbrev pub lacks : Begun → Option Kind → Bool
 lacks begun None = false
 lacks begun (Some kind) = count begun kind == 0
@@ -79,6 +85,7 @@ lacks begun (Some kind) = count begun kind == 0
 abbrev pub ends_nothing : Begun → Request → Bool
 ends_nothing begun request = lacks begun (ends request)
 
+-- one more begun of a kind, if one is given
 abbrev pub more : Begun → Option Kind → Begun
 more begun None = begun
 more begun (Some kind) = with_count begun kind (suc (count begun kind))
@@ -88,6 +95,7 @@ abbrev pub MorePasses : Begun → Option Kind → Type 0
 MorePasses begun None = ⊥
 MorePasses begun (Some kind) = 2 ^ 64 ≤ suc (count begun kind)
 
+-- one fewer begun of a kind, if one is given and any is begun
 abbrev pub less : Begun → Option Kind → Begun
 less begun None = begun
 less begun (Some kind) = with_count begun kind (count begun kind - 1)

@@ -28,6 +28,7 @@ IsSized other = Unit {0}
 
 -- ---- the command that one of the code is
 
+-- a command of the code by what it asks for, texts by their bytes
 abbrev pub command_of : declared.Command → Command
 command_of (variant.Ask request) = ask (request_of request)
 command_of (variant.Link target) = link (string_bytes target)

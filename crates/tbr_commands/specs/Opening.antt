@@ -7,6 +7,7 @@ use Rattle.tbr_commands.specs.declared.opening.Decorator.{Decorator}
 use Rattle.tbr_commands.specs.declared.opening.Decorator.TheVariants.{Plain, Trivial, Rich}
 use Rattle.tbr_commands.specs.declared.opening.Opening.{Opening}
 
+-- a decorator's name
 abbrev pub name_of : Decorator → List ℕ
 name_of Plain = codes "plain"
 name_of Trivial = codes "trivial"

@@ -35,6 +35,7 @@ AreColumns digits columns = IsNumber digits × (columns ≡ digits_value 10 digi
 
 -- ---- names
 
+-- how a block or a line is asked for
 abbrev pub layout_name : Layout → List ℕ
 layout_name StartBlock = codes "block"
 layout_name EndBlock = codes "endblock"
@@ -43,11 +44,13 @@ layout_name NewLine = codes "line"
 layout_name HardNewLine = codes "hardline"
 layout_name EmptyLine = codes "empty"
 
+-- a mode's name
 abbrev pub mode_name : WhiteSpace → List ℕ
 mode_name Normal = codes "normal"
 mode_name Pre = codes "pre"
 mode_name PreWrap = codes "prewrap"
 
+-- how it is asked to begin something
 abbrev pub beginning_name : Beginning → List ℕ
 beginning_name (beginning.Mode mode) = codes "ws " ++ mode_name mode
 beginning_name beginning.Preformat = codes "pre"
@@ -57,6 +60,7 @@ beginning_name beginning.Strikeout = codes "strike"
 beginning_name beginning.Code = codes "code"
 beginning_name beginning.Superscript = codes "super"
 
+-- how it is asked to end what is of a kind
 abbrev pub ending_name : Kind → List ℕ
 ending_name kind.Mode = codes "endws"
 ending_name kind.Preformat = codes "endpre"
@@ -92,6 +96,7 @@ HasArgument line (colour ground.background c) = Behind (codes "bg") line (λ arg
 HasArgument line (border (Some columns)) = Behind (codes "border") line (λ argument. AreColumns argument columns)
 HasArgument line other = ⊥
 
+-- The line is how the request is written: a name alone, or a word and its argument.
 abbrev pub IsRequest : List ℕ → Request → Type 0
 IsRequest line request = IsAlone line request ⊎ HasArgument line request
 
@@ -122,6 +127,7 @@ IsOfLevels line (row false) = line ≡ codes "row"
 IsOfLevels line (row true) = line ≡ codes "row collapse"
 IsOfLevels line vertical_row = line ≡ codes "vrow"
 
+-- The line is how the command is written.
 abbrev pub IsWritten : List ℕ → Command → Type 0
 IsWritten line (ask request) = IsRequest line request
 IsWritten line command = IsOfLevels line command

@@ -49,7 +49,7 @@ impl Setting {
         }
     }
 
-    /// The options with this one.
+    /// Sets this one in the options.
     fn set(self, options: &mut RenderOptions)
         ensures { options.new ≡ with_setting options.old self }
     {

@@ -1,12 +1,12 @@
 //! What a line of a script asks a renderer for.
-ghost use Rattle.std.specs.Prelude.{◌≡◌, ℕ, ◌<◌, true, None, Some, Err, OnOk, IfOk, IfSome, IfNone};
+ghost use Rattle.std.specs.Prelude.{◌≡◌, ℕ, ◌<◌, true, None, Some, Err, OnOk, IsOk, IfOk, IfSome, IfNone};
 ghost use Rattle.tbr_lines.specs.declared.Error.TheVariants as E;
 ghost use Rattle.tbr_decor.specs.Decoration.{decoration_of};
 ghost use Rattle.tbr_renderer.specs.Calls.{Does, IsTooNarrow};
 ghost use Rattle.tbr_renderer.specs.Meant.{meant};
 ghost use Rattle.tbr_commands.specs.declared.request.kind.Kind.TheVariants as kind;
 ghost use Rattle.tbr_commands.specs.Request as asked;
-ghost use Rattle.tbr_commands.specs.Request.{request_of, call_of};
+ghost use Rattle.tbr_commands.specs.Request.{request_of, call_of, takes_no_memory};
 ghost use Rattle.tbr_commands.specs.Syntax.{IsAlone, HasArgument, AreColumns, IsRequest};
 ghost use Rattle.tbr_commands.specs.Begun.{begins, ends};
 
@@ -84,7 +84,10 @@ impl Request {
         }
     }
 
-    /// Asks a renderer for it.
+    /// Asks a renderer for it. The renderer hasn't failed, and what ends is open, if it is a preformatted stretch or a
+    /// strikeout with strokes.
+    ///
+    /// It refuses as the renderer's call does, and never where that takes no memory.
     pub fn call<D: TextDecorator, W: CharWidth>(
         &self,
         renderer: &mut SubRenderer<D, W>,
@@ -99,6 +102,7 @@ impl Request {
         ensures too_narrow { let asks = call_of renderer.old.width (request_of self.now) in
             result ≡ Err E.TooNarrow →
             IsTooNarrow W.columns (decoration_of D.TextDecorator) asks (meant D.meaning renderer.old) }
+        ensures free { takes_no_memory (request_of self.now) ≡ true → IsOk result }
     {
         match self {
             Request::Layout(layout) => layout.call(renderer),

@@ -3,6 +3,7 @@ use Rattle.std.specs.Prelude.{ℕ, List}
 use Rattle.tbr_decor.specs.declared.colour.Colour.{Colour}
 use Rattle.tbr_decor.specs.Ground.{Ground}
 
+-- A call that may change a decorator, by what it is given. Targets, sources and titles are characters.
 pub data Change : Type 0 where
   link_start : List ℕ → Change
   link_end : Change

@@ -22,6 +22,7 @@ pub record Decoration (D M : Type 0) : Type 0 where
   pub footnotes : D → List (List ℕ) → List (List (Element M))
   pub after : D → Change → D
 
+-- what a decorator says of its own calls
 abbrev pub decoration_of : {D A : Type 0} → (decorator : Ghosts D A) → Decoration D decorator.Meaning
 decoration_of decorator = record {
   start_text = decorator.start_text;

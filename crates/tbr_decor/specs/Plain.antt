@@ -6,6 +6,7 @@ use Rattle.tbr_decor.specs.End as end
 use Rattle.tbr_decor.specs.Prefix as prefix
 use Rattle.tbr_decor.specs.Usual as usual
 
+-- the text of what is opened
 abbrev pub start_text : start.Start → List ℕ
 start_text (start.link target) = codes "["
 start_text start.emphasis = []
@@ -15,6 +16,7 @@ start_text start.code = []
 start_text start.superscript = usual.superscript_start
 start_text (start.image source title) = codes "[" ++ title ++ codes "]"
 
+-- the text of what is closed
 abbrev pub end_text : end.End → List ℕ
 end_text end.link = codes "]"
 end_text end.emphasis = []
@@ -30,6 +32,7 @@ header_text level = replicate level number_sign ++ codes " "
     number_sign : ℕ
     number_sign = 35
 
+-- the prefix of a header, a quoted block or an item
 abbrev pub prefix_text : prefix.Prefix → List ℕ
 prefix_text (prefix.header level) = header_text level
 prefix_text prefix.quote = codes "> "

@@ -5,6 +5,7 @@ use Rattle.tbr_decor.specs.Ground as ground
 use Rattle.tbr_decor.specs.Style as style
 use Rattle.tbr_decor.specs.Style.{Style}
 
+-- what the annotation of what is opened means
 abbrev pub annotation : start.Start → Style
 annotation (start.link target) = style.link target
 annotation start.emphasis = style.emphasis
@@ -14,6 +15,7 @@ annotation start.code = style.code
 annotation start.superscript = style.plain
 annotation (start.image source title) = style.image source
 
+-- what the annotation of a colour means
 abbrev pub coloured : ground.Ground → Colour → Style
 coloured ground.text c = style.colour c
 coloured ground.background c = style.background c

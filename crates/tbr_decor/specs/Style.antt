@@ -18,6 +18,7 @@ pub data Style : Type 0 where
   colour : Colour → Style
   background : Colour → Style
 
+-- what a rich annotation means
 abbrev pub style_of : RichAnnotation → Style
 style_of rich.Default = plain
 style_of (rich.Link target) = link (chars (string_bytes target))

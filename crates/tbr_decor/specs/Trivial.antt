@@ -4,6 +4,7 @@ use Rattle.tbr_decor.specs.Start as start
 use Rattle.tbr_decor.specs.End as end
 use Rattle.tbr_decor.specs.Usual as usual
 
+-- the text of what is opened, which only a superscript and an image have
 abbrev pub start_text : start.Start → List ℕ
 start_text (start.link target) = []
 start_text start.emphasis = []
@@ -13,6 +14,7 @@ start_text start.code = []
 start_text start.superscript = usual.superscript_start
 start_text (start.image source title) = title
 
+-- the text of what is closed, which only a superscript has
 abbrev pub end_text : end.End → List ℕ
 end_text end.link = []
 end_text end.emphasis = []

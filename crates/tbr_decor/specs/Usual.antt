@@ -3,6 +3,7 @@ use Rattle.std.specs.Prelude.{◌≡◌, ℕ, ◌+◌, List, [], ◌∷◌, ◌+
 use Rattle.std.specs.Fmt.{decimal}
 use Rattle.tbr_lines.specs.Elements.{Element, piece}
 
+-- the text before a superscript, and the text behind it
 abbrev pub superscript_start : List ℕ
 superscript_start = codes "^{"
 
@@ -13,6 +14,7 @@ superscript_end = codes "}"
 abbrev pub footnote : {A : Type 0} → A → ℕ → List ℕ → List (Element A)
 footnote a k target = piece (codes "[" ++ decimal k ++ codes "]: " ++ target) a ∷ []
 
+-- a line for each target, the numbers counting from `k`
 abbrev pub footnotes_from : {A : Type 0} → A → ℕ → List (List ℕ) → List (List (Element A))
 footnotes_from a k [] = []
 footnotes_from a k (target ∷ targets) = footnote a k target ∷ footnotes_from a (k + 1) targets
@@ -28,6 +30,7 @@ pub record IsFootnote {A : Type 0} (IsKind : A → Type 0) (k : ℕ) (target : L
   pub kind : IsKind annotation
   pub shown : line ≡ footnote annotation k target
 
+-- There is such a line for each target, the numbers counting from `k`.
 abbrev pub AreFootnotesFrom : {A : Type 0} → (A → Type 0) → ℕ → List (List ℕ) → List (List (Element A)) → Type 0
 AreFootnotesFrom IsKind k [] [] = Unit {0}
 AreFootnotesFrom IsKind k (target ∷ targets) (line ∷ lines) =

@@ -1,5 +1,5 @@
 //! Annotated text.
-ghost use Rattle.std.specs.Prelude.{Some, true, refl};
+ghost use Rattle.std.specs.Prelude.{Some, true};
 ghost use Rattle.tbr_decor.specs.Plain as plain;
 ghost use Rattle.tbr_decor.specs.Trivial as trivial;
 ghost use Rattle.tbr_decor.specs.Rich as rich;

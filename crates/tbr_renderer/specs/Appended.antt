@@ -67,11 +67,13 @@ module _ {D A : Type 0} (columns : ℕ → Option ℕ) where
   abbrev pub HoldsBack : Renderer D A (List A) → Type 0
   HoldsBack r = (r.failure ≡ Some TooNarrow) ⊎ ((r.failure ≡ None) × FlushIsTooNarrow columns r)
 
+  -- A border of so many `─` comes behind a flush.
   abbrev pub AddsBorder : ℕ → Renderer D A (List A) → Renderer D A (List A) → Type 0
   AddsBorder width r s =
       (m : Renderer D A (List A)) × Flushes columns r m
       × (s ≡ with_border columns m (border_of_cells horizontal width r))
 
+  -- Behind a flush each line comes behind its prefix as a line of text, as long as there are both.
   abbrev pub AppendsLines :
       List (List ℕ) → List (Line (List A)) → Renderer D A (List A) → Renderer D A (List A) → Type 0
   AppendsLines prefixes lines r s =
@@ -85,9 +87,11 @@ module _ {D A : Type 0} (columns : ℕ → Option ℕ) where
   with_divider cell r =
       if r.options.draw_borders then with_border columns r (border_of_cells cell r.width r) else r
 
+  -- the lines of a cell as lines of text more
   abbrev pub with_cell : Renderer D A (List A) → List (Line (List A)) → Renderer D A (List A)
   with_cell r lines = fold (with_line columns) r (map (as_text r.annotations) lines)
 
+  -- and those of a cell below another, with a border of slashes between where borders are drawn
   abbrev pub with_cell_below : Renderer D A (List A) → List (Line (List A)) → Renderer D A (List A)
   with_cell_below r lines = with_cell (with_divider slash r) lines
 
@@ -96,6 +100,8 @@ module _ {D A : Type 0} (columns : ℕ → Option ℕ) where
   with_cells r [] = r
   with_cells r (lines ∷ cells) = fold with_cell_below (with_cell r lines) cells
 
+  -- Behind a flush cells come one below another. Where borders are drawn, one stands between each two and one behind
+  -- all.
   abbrev pub AppendsCells :
       List (List (Line (List A))) → Renderer D A (List A) → Renderer D A (List A) → Type 0
   AppendsCells cells r s =

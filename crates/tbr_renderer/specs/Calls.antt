@@ -105,17 +105,20 @@ module _ {D A : Type 0} (columns : ℕ → Option ℕ) (decoration : Decoration 
   IsTooNarrow (append_subrender prefixes lines) r = FlushIsTooNarrow columns r
   IsTooNarrow (append_vert_row cells) r = FlushIsTooNarrow columns r
 
-  -- The stages of a call. One that refuses stops at one of them, with what it is but for its text.
+  -- the stages of opening something: at first, with the decorator asked, and with the annotation more
   abbrev pub open_stages : start.Start → Renderer D A (List A) → List (Renderer D A (List A))
   open_stages opened r = r ∷ asked_to_open decoration opened r ∷ annotated decoration opened r ∷ []
 
+  -- the stages of closing something: at first, and with the decorator asked
   abbrev pub close_stages : end.End → Renderer D A (List A) → List (Renderer D A (List A))
   close_stages closed r = r ∷ asked_to_close decoration closed r ∷ []
 
+  -- the stages of an image: where a title is shown, those of opening it
   abbrev pub image_stages : List ℕ → Option (List ℕ) → Renderer D A (List A) → List (Renderer D A (List A))
   image_stages source None r = r ∷ []
   image_stages source (Some title) r = open_stages (start.image source title) r
 
+  -- the stages of a call: where it refuses, it has stopped at one of them
   abbrev pub stages : Call (List A) → Renderer D A (List A) → List (Renderer D A (List A))
   stages (begin opened) r = open_stages opened r
   stages (finish closed) r = close_stages closed r
@@ -125,6 +128,7 @@ module _ {D A : Type 0} (columns : ℕ → Option ℕ) (decoration : Decoration 
   stages (push_colour g colour) r = r ∷ asked_for_colour decoration g colour r ∷ []
   stages other r = r ∷ []
 
+  -- A call that refuses leaves a renderer's settings as they are at one of the call's stages.
   abbrev pub StopsAtStage : Call (List A) → Renderer D A (List A) → Renderer D A (List A) → Type 0
   StopsAtStage call r s = IsOneOf (settings_of s) (map settings_of (stages call r))
 
@@ -137,6 +141,7 @@ module _ {D A : Type 0} (columns : ℕ → Option ℕ) (decoration : Decoration 
   abbrev pub text_brought : List ℕ → Renderer D A (List A) → List (Entry (List A))
   text_brought cs r = if ignores r cs then [] else entries_of columns decoration.preformatted r cs
 
+  -- the entries that an image with this title brings, and none where no title is shown
   abbrev pub image_brought : List ℕ → Option (List ℕ) → Renderer D A (List A) → List (Entry (List A))
   image_brought source None r = []
   image_brought source (Some title) r =

@@ -16,9 +16,11 @@ pub record Cutting (T : Type 0) : Type 0 where
   pub ended : List (List (Item T))
   pub held : List (Item T)
 
+-- lines to which no item was added
 abbrev pub nothing_cut : {T : Type 0} → Option ℕ → Cutting T
 nothing_cut width = record { width = width; ended = []; held = [] }
 
+-- the open line ended, and a fresh one behind it
 abbrev pub line_ended : {T : Type 0} → Cutting T → Cutting T
 line_ended c = record c { ended = c.ended ++ c.held ∷ []; held = [] }
 
@@ -26,6 +28,7 @@ line_ended c = record c { ended = c.ended ++ c.held ∷ []; held = [] }
 abbrev pub extended : {T : Type 0} → Cutting T → List (Item T) → Cutting T
 extended c is = record c { held = c.held ++ is }
 
+-- an item more in the open line, whether it fits or not
 abbrev pub appended : {T : Type 0} → Cutting T → Item T → Cutting T
 appended c i = extended c (i ∷ [])
 
@@ -34,11 +37,13 @@ abbrev pub with_item : {T : Type 0} → (ℕ → Option ℕ) → Cutting T → I
 with_item columns c i =
     appended (if fits_behind columns c.width c.held (item_width columns i) then c else line_ended c) i
 
+-- items more, one after another
 abbrev pub with_items : {T : Type 0} → (ℕ → Option ℕ) → Cutting T → List (Item T) → Cutting T
 with_items columns c is = fold (with_item columns) c is
 
 -- ---- by what annotations mean
 
+-- the same lines, each annotation as what it means
 abbrev pub cut_meant : {A M : Type 0} → (A → M) → Cutting (Vec A) → Cutting (List M)
 cut_meant meaning c = record {
   width = c.width;
@@ -52,6 +57,7 @@ texts_meant meaning lines = map (λ line. items_meant meaning (items_of line)) l
 
 -- ---- what a contract sees of the fields
 
+-- the items of the lines that have ended, and of the open one
 abbrev pub cutting_of : {D W A : Type 0} → Inside D W A → Cutting (Vec A)
 cutting_of c = record { width = c.width; ended = map items_of c.ended.items; held = items_of c.held }
 

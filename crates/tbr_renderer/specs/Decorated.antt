@@ -36,16 +36,18 @@ module _ {D A : Type 0} (decoration : Decoration D A) where
   closed end.code d = d
   closed end.superscript d = d
 
-  -- the decorator was asked
+  -- a renderer whose decorator was asked for what is opened, or for what is closed
   abbrev pub asked_to_open : start.Start → Renderer D A (List A) → Renderer D A (List A)
   asked_to_open s r = record r { decorator = opened s r.decorator }
 
   abbrev pub asked_to_close : end.End → Renderer D A (List A) → Renderer D A (List A)
   asked_to_close e r = record r { decorator = closed e r.decorator }
 
+  -- a renderer whose decorator was asked for a colour
   abbrev pub asked_for_colour : Ground → Colour → Renderer D A (List A) → Renderer D A (List A)
   asked_for_colour g colour r = record r { decorator = decoration.after r.decorator (change.push_colour g colour) }
 
+  -- a renderer whose decorator was asked to end a colour
   abbrev pub asked_to_end : Ground → Renderer D A (List A) → Renderer D A (List A)
   asked_to_end g r = record r { decorator = decoration.after r.decorator (change.pop_colour g) }
 
@@ -58,6 +60,7 @@ module _ {D A : Type 0} (decoration : Decoration D A) where
   coloured_by None r = r
   coloured_by (Some annotation) r = with_annotation r annotation
 
+  -- the decorator is asked for a colour, and the annotation that it has for it, if any, joins the others
   abbrev pub coloured : Ground → Colour → Renderer D A (List A) → Renderer D A (List A)
   coloured g colour r = coloured_by (decoration.colour_annotation r.decorator g colour) (asked_for_colour g colour r)
 
@@ -77,6 +80,7 @@ module _ {D A : Type 0} (columns : ℕ → Option ℕ) (decoration : Decoration 
   Opens s r t =
       AddsText columns decoration.preformatted (decoration.start_text r.decorator s) (annotated decoration s r) t
 
+  -- The text of what is opened is answered by `TooNarrow`.
   abbrev pub OpenIsTooNarrow : start.Start → Renderer D A (List A) → Type 0
   OpenIsTooNarrow s r =
       TextIsTooNarrow columns decoration.preformatted (decoration.start_text r.decorator s) (annotated decoration s r)
@@ -88,6 +92,7 @@ module _ {D A : Type 0} (columns : ℕ → Option ℕ) (decoration : Decoration 
       × AddsText columns decoration.preformatted (decoration.end_text r.decorator e) (asked_to_close decoration e r) m
       × (t ≡ without_annotation m)
 
+  -- The text of what is closed is answered by `TooNarrow`.
   abbrev pub CloseIsTooNarrow : end.End → Renderer D A (List A) → Type 0
   CloseIsTooNarrow e r =
       let text = decoration.end_text r.decorator e in
@@ -106,12 +111,15 @@ module _ {D A : Type 0} (columns : ℕ → Option ℕ) (decoration : Decoration 
   AddsImageBy source (Some title) r t =
       (m : Renderer D A (List A)) × Opens (start.image source title) r m × (t ≡ without_annotation m)
 
+  -- An image comes with the title that the options show for it, if they show one.
   abbrev pub AddsImage : List ℕ → List ℕ → Renderer D A (List A) → Renderer D A (List A) → Type 0
   AddsImage source title r t = AddsImageBy source (shown_title r.options.img_mode source title) r t
 
+  -- The text of an image with this title is answered by `TooNarrow`. Where no title is shown it never is.
   abbrev pub ImageIsTooNarrowBy : List ℕ → Option (List ℕ) → Renderer D A (List A) → Type 0
   ImageIsTooNarrowBy source None r = ⊥
   ImageIsTooNarrowBy source (Some title) r = OpenIsTooNarrow (start.image source title) r
 
+  -- The text of an image is answered by `TooNarrow`.
   abbrev pub ImageIsTooNarrow : List ℕ → List ℕ → Renderer D A (List A) → Type 0
   ImageIsTooNarrow source title r = ImageIsTooNarrowBy source (shown_title r.options.img_mode source title) r

@@ -18,17 +18,21 @@ pub record RunFits {T : Type 0} (columns : ℕ → Option ℕ) (width : ℕ) (ov
   pub visible : overflows ≡ false → VisibleFit columns width run
   pub words : overflows ≡ false → IsNormal run → WordsFit columns width run
 
--- some word has one
+-- No line may be wider than the block, and some word that the end of the run places has a character that is. Of a run
+-- that isn't `Normal` it is only said that some character of it is.
 pub record RunIsTooNarrow {T : Type 0} (columns : ℕ → Option ℕ) (width : ℕ) (overflows : Bool)
     (run : List (Entry T)) : Type 0 where
   pub narrow : overflows ≡ false
   pub wide : ¬ (CharactersFit columns width run)
   pub words : IsNormal run → ¬ (WordsFit columns width run)
 
--- the same of the words that break points of a run under way have ended
+-- No word that a break point of a run under way has ended has a character wider than the block. It is said of `Normal`
+-- runs, where no line may be wider.
 abbrev pub RunGoesOn : {T : Type 0} → (ℕ → Option ℕ) → ℕ → Bool → List (Entry T) → Type 0
 RunGoesOn columns width overflows run = overflows ≡ false → IsNormal run → EndedWordsFit columns width run
 
+-- No line may be wider than the block, and some word that a break point of a run under way has ended has a character
+-- that is. Of a run that isn't `Normal` it is only said that some character of it is.
 pub record RunStops {T : Type 0} (columns : ℕ → Option ℕ) (width : ℕ) (overflows : Bool)
     (run : List (Entry T)) : Type 0 where
   pub narrow : overflows ≡ false
@@ -71,6 +75,7 @@ abbrev pub FlushesBlock : {D A : Type 0} →
 FlushesBlock columns r None s = s ≡ r
 FlushesBlock columns r (Some b) s = EndsBlock columns r b s
 
+-- A flush ends the open block, if there is one.
 abbrev pub Flushes : {D A : Type 0} → (ℕ → Option ℕ) → Renderer D A (List A) → Renderer D A (List A) → Type 0
 Flushes columns r s = FlushesBlock columns r r.block s
 
@@ -79,5 +84,6 @@ abbrev pub BlockIsTooNarrow : {D A T : Type 0} → (ℕ → Option ℕ) → Rend
 BlockIsTooNarrow columns r None = ⊥
 BlockIsTooNarrow columns r (Some b) = RunIsTooNarrow columns (block_width r) (may_overflow r) b.run
 
+-- A flush answers that the open block is too narrow.
 abbrev pub FlushIsTooNarrow : {D A T : Type 0} → (ℕ → Option ℕ) → Renderer D A T → Type 0
 FlushIsTooNarrow columns r = BlockIsTooNarrow columns r r.block

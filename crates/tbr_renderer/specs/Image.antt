@@ -1,12 +1,13 @@
 -- What an image shows.
 use Rattle.std.specs.Prelude.{ℕ, ◌==◌, Bool, if◌then◌else◌, Option, None, Some, List, [], ◌∷◌, chars}
 use Rattle.std.specs.List.{list_any}
+use Rattle.tbr_model.specs.Codes.{slash}
 use Rattle.tbr_renderer.specs.declared.options.ImageRenderMode.{ImageRenderMode}
 use Rattle.tbr_renderer.specs.declared.options.ImageRenderMode.TheVariants.{IgnoreEmpty, ShowAlways, Replace, Filename}
 
 -- `/`
 abbrev pub is_slash : ℕ → Bool
-is_slash c = c == 47
+is_slash c = c == slash
 
 -- what follows the last `/` of a source, or all of it
 abbrev pub file_name : List ℕ → List ℕ

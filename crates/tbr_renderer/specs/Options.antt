@@ -3,6 +3,7 @@ use Rattle.std.specs.Prelude.{true, false, None}
 use Rattle.tbr_renderer.specs.declared.options.RenderOptions.{RenderOptions}
 use Rattle.tbr_renderer.specs.declared.options.ImageRenderMode.TheVariants.{IgnoreEmpty}
 
+-- the options that hold where none are given
 abbrev pub default_options : RenderOptions
 default_options = record {
   wrap_width = None;

@@ -7,6 +7,7 @@ use Rattle.tbr_model.specs.declared.white_space.WhiteSpace.TheVariants.{Normal}
 use Rattle.tbr_model.specs.WhiteSpace.{preserves}
 use Rattle.tbr_model.specs.Run.{Entry, Item, has_character}
 use Rattle.tbr_model.specs.Markers.{marker_items}
+pub use Rattle.tbr_model.specs.Width.{stroke}
 use Rattle.tbr_lines.specs.Border.{Border, has_holes}
 use Rattle.tbr_lines.specs.State.{text_entries}
 use Rattle.tbr_lines.specs.Wrapped.{padding_of}
@@ -77,6 +78,7 @@ pub record Settings (D A : Type 0) : Type 0 where
   pub strikeouts : ℕ
   pub preformatted : ℕ
 
+-- a renderer's settings
 abbrev pub settings_of : {D A T : Type 0} → Renderer D A T → Settings D A
 settings_of r = record {
   width = r.width;
@@ -88,17 +90,21 @@ settings_of r = record {
   preformatted = r.preformatted;
 }
 
+-- The settings are as they were.
 abbrev pub KeepsSettings : {D A T : Type 0} → Renderer D A T → Renderer D A T → Type 0
 KeepsSettings r s = settings_of s ≡ settings_of r
 
+-- It is one of these.
 abbrev pub IsOneOf : {X : Type 0} → X → List X → Type 0
 IsOneOf x [] = ⊥
 IsOneOf x (y ∷ []) = x ≡ y
 IsOneOf x (y ∷ z ∷ zs) = (x ≡ y) ⊎ IsOneOf x (z ∷ zs)
 
+-- a list without its last item, if there is one
 abbrev pub without_last : {X : Type 0} → List X → List X
 without_last xs = take (length xs - 1) xs
 
+-- an annotation more, behind those that are open
 abbrev pub with_annotation : {D A T : Type 0} → Renderer D A T → A → Renderer D A T
 with_annotation r annotation = record r { annotations = r.annotations ++ annotation ∷ [] }
 
@@ -113,6 +119,7 @@ abbrev pub line_has_content : {T : Type 0} → Line T → Bool
 line_has_content (text is) = has_character is
 line_has_content (border b) = not (has_holes b.holes)
 
+-- whether any line of a renderer has content
 abbrev pub has_content : {D A T : Type 0} → Renderer D A T → Bool
 has_content r = list_any line_has_content r.lines
 
@@ -139,6 +146,7 @@ abbrev pub least : ℕ → Option ℕ → ℕ
 least width None = width
 least width (Some wrap) = if nat_le width wrap then width else wrap
 
+-- how many columns a line of the renderer's blocks has
 abbrev pub block_width : {D A T : Type 0} → Renderer D A T → ℕ
 block_width r = least r.width r.options.wrap_width
 
@@ -146,6 +154,7 @@ block_width r = least r.width r.options.wrap_width
 abbrev pub overflows : RenderOptions → ℕ → Bool
 overflows options columns = options.allow_width_overflow && nat_lt columns 2
 
+-- whether a line of the renderer's blocks may be wider than that
 abbrev pub may_overflow : {D A T : Type 0} → Renderer D A T → Bool
 may_overflow r = overflows r.options (block_width r)
 
@@ -178,15 +187,12 @@ last_mode [] = Normal
 last_mode (mode ∷ []) = mode
 last_mode (mode ∷ next ∷ modes) = last_mode (next ∷ modes)
 
--- U+0336, which strikes the character before it
-abbrev pub stroke : ℕ
-stroke = 822
-
 -- a character with so many strokes behind it, if it takes columns
 abbrev pub struck_character : (ℕ → Option ℕ) → ℕ → ℕ → List ℕ
 struck_character columns depth c =
     c ∷ (if nat_lt 0 (unwrap_or (columns c) 0) then replicate depth stroke else [])
 
+-- a text with so many strokes behind each character that takes columns
 abbrev pub struck : (ℕ → Option ℕ) → ℕ → List ℕ → List ℕ
 struck columns depth cs = flat_map (struck_character columns depth) cs
 

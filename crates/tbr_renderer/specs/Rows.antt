@@ -21,6 +21,7 @@ use Rattle.tbr_renderer.specs.Appended.{with_border}
 
 -- ---- renderers in which nothing stands
 
+-- whether the open block is blank, or none is open
 abbrev pub block_is_blank : {T : Type 0} → Option (Open T) → Bool
 block_is_blank None = true
 block_is_blank (Some b) = b.blank
@@ -57,6 +58,7 @@ pub record GivenCell (T : Type 0) : Type 0 where
   pub align : CellAlign
   pub lines : List (Line T)
 
+-- how the texts of a cell are aligned
 abbrev pub align_in : {T : Type 0} → GivenCell T → CellAlign
 align_in cell = cell.align
 
@@ -89,6 +91,7 @@ aligned_as (align ∷ aligns) (x ∷ xs) = align ∷ aligned_as aligns xs
 
 -- ---- the border above
 
+-- whether a line is a border
 abbrev pub is_rule : {T : Type 0} → RenderLine T → Bool
 is_rule (Text es) = false
 is_rule (Rule b) = true
@@ -98,6 +101,7 @@ abbrev pub is_border : {T : Type 0} → Option (Bor (RenderLine T)) → Bool
 is_border None = false
 is_border (Some line) = is_rule line.now
 
+-- the border that a line is, if it is one
 abbrev pub border_in : {T : Type 0} → Line T → Option (Border T)
 border_in (text is) = None
 border_in (border b) = Some b
@@ -118,6 +122,7 @@ border_lines (Some b) = border b ∷ []
 
 -- ---- what a row adds
 
+-- how a renderer draws a row: with borders, if its options say so, and collapsing or not
 abbrev pub style_in : {D A T : Type 0} → Renderer D A T → Bool → RowStyle
 style_in r collapses = record { draws_borders = r.options.draw_borders; collapses = collapses }
 

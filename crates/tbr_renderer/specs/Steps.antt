@@ -11,6 +11,7 @@ module _ {D A : Type 0} (columns : ℕ → Option ℕ) where
   abbrev pub with_empty_line : Renderer D A (List A) → Renderer D A (List A)
   with_empty_line r = record (with_line columns r []) { block_ended = false }
 
+  -- An empty line comes behind a flush.
   abbrev pub AddsEmptyLine : Renderer D A (List A) → Renderer D A (List A) → Type 0
   AddsEmptyLine r s = (m : Renderer D A (List A)) × Flushes columns r m × (s ≡ with_empty_line m)
 
@@ -18,6 +19,7 @@ module _ {D A : Type 0} (columns : ℕ → Option ℕ) where
   abbrev pub block_started : Renderer D A (List A) → Renderer D A (List A)
   block_started r = if has_content r then with_empty_line r else record r { block_ended = false }
 
+  -- A block begins behind a flush, and behind an empty line where any line has content.
   abbrev pub StartsBlock : Renderer D A (List A) → Renderer D A (List A) → Type 0
   StartsBlock r s = (m : Renderer D A (List A)) × Flushes columns r m × (s ≡ block_started m)
 
@@ -33,6 +35,7 @@ module _ {D A : Type 0} (columns : ℕ → Option ℕ) where
   BreaksLineAt true r s = AddsEmptyLine r s
   BreaksLineAt false r s = Flushes columns r s
 
+  -- A line break comes, at the beginning of a line or not, as far as the open block tells.
   abbrev pub BreaksLine : Renderer D A (List A) → Renderer D A (List A) → Type 0
   BreaksLine r s = (at : Bool) × BlockIsAtLineStart r at r.block × BreaksLineAt at r s
 
@@ -63,14 +66,17 @@ module _ {D A : Type 0} (columns : ℕ → Option ℕ) (preformatted : D → Boo
   AddsTextBy false true cs r s = (m : Renderer D A (List A)) × StartsBlock columns r m × JoinsText cs m s
   AddsTextBy false false cs r s = JoinsText cs r s
 
+  -- A text joins the open run, or begins a block first, or is ignored.
   abbrev pub AddsText : List ℕ → Renderer D A (List A) → Renderer D A (List A) → Type 0
   AddsText cs r s = AddsTextBy (ignores r cs) r.block_ended cs r s
 
-  -- where a text is answered by `TooNarrow`
+  -- A text that joins the open run is answered by `TooNarrow`.
   abbrev pub JoinIsTooNarrow : List ℕ → Renderer D A (List A) → Type 0
   JoinIsTooNarrow cs r =
       RunStops columns (block_width r) (may_overflow r) (open_run r.block ++ entries_of columns preformatted r cs)
 
+  -- A text is answered by `TooNarrow`, before a block begins for it or where it joins a run. One that is ignored never
+  -- is.
   abbrev pub TextIsTooNarrowBy : Bool → Bool → List ℕ → Renderer D A (List A) → Type 0
   TextIsTooNarrowBy true ended cs r = ⊥
   TextIsTooNarrowBy false true cs r =
@@ -78,5 +84,6 @@ module _ {D A : Type 0} (columns : ℕ → Option ℕ) (preformatted : D → Boo
       ⊎ ((m : Renderer D A (List A)) × StartsBlock columns r m × JoinIsTooNarrow cs m)
   TextIsTooNarrowBy false false cs r = JoinIsTooNarrow cs r
 
+  -- A text is answered by `TooNarrow`.
   abbrev pub TextIsTooNarrow : List ℕ → Renderer D A (List A) → Type 0
   TextIsTooNarrow cs r = TextIsTooNarrowBy (ignores r cs) r.block_ended cs r

@@ -23,10 +23,12 @@ use Rattle.tbr_lines.specs.declared.RenderLine.TheVariants.{Text, Line as Rule}
 use Rattle.tbr_lines.specs.RenderLine.{IsMergedText}
 use Rattle.tbr_renderer.specs.Renderer.{Line, text, border, line_has_content, Open, Renderer, least, overflows}
 
+-- a line as a contract sees it: a text by its items, or a border
 abbrev pub line_seen : {T : Type 0} → RenderLine T → Line T
 line_seen (Text es) = text (items_of es)
 line_seen (Rule b) = border b
 
+-- an open block as a contract sees it: blank where no line of it has ended and it holds no character
 abbrev pub open_seen : {T : Type 0} → State T → Open T
 open_seen b = record { padding = b.padding; run = b.run; blank = not (has_begun b) && b.no_character }
 
@@ -34,6 +36,7 @@ open_seen b = record { padding = b.padding; run = b.run; blank = not (has_begun 
 abbrev pub unboxed : {T : Type 0} → Option (Box T) → Option T
 unboxed boxed = option_map (λ b. b.value) boxed
 
+-- and so the open block, if there is one
 abbrev pub block_seen : {T : Type 0} → Option (State T) → Option (Open T)
 block_seen block = option_map open_seen block
 
@@ -47,6 +50,7 @@ names_of [] = []
 names_of (piece cs a ∷ es) = names_of es
 names_of (marker_element name ∷ es) = name ∷ names_of es
 
+-- All of these elements are markers.
 abbrev pub AreMarkers : {T : Type 0} → List (Element T) → Type 0
 AreMarkers es = map marker_element (names_of es) ≡ es
 
@@ -59,6 +63,7 @@ pub record IsFresh {T : Type 0} (width : ℕ) (overflows : Bool) (b : State T) :
   pub handed : b.handed ≡ 0
   pub unfailed : b.failure ≡ None
 
+-- The open block is fresh, if there is one.
 abbrev pub IsOpened : {T : Type 0} → ℕ → Bool → Option (State T) → Type 0
 IsOpened width overflows None = ⊤
 IsOpened width overflows (Some b) = IsFresh width overflows b
@@ -113,6 +118,7 @@ end_of closed.Strikeout = end.strikeout
 end_of closed.Code = end.code
 end_of closed.Superscript = end.superscript
 
+-- what is coloured
 abbrev pub ground_of : Coloured → ground.Ground
 ground_of coloured.Text = ground.text
 ground_of coloured.Background = ground.background

@@ -21,6 +21,10 @@ use tbr_lines::{CellAlign, Error, WhiteSpace};
 
 /// What writes blocks of text, one below another.
 ///
+/// A call that ends a word, or the open line, answers `TooNarrow` where a word that it places has a character wider
+/// than the block and lines may not be wider, and so never in blocks of two columns or more. `OutOfMemory` comes where
+/// memory is refused or a size passes `usize`.
+///
 /// A call that refuses leaves the renderer failed. It keeps that refusal, which each later call that can refuse
 /// answers, doing nothing else; a call that can't refuse does nothing then.
 pub trait Renderer {
@@ -166,7 +170,7 @@ pub trait Renderer {
             OnErr result (2 ^ 64 ≤ suc (open_preformats self.old)) }
         ensures kept { KeepsFailure kept_refusal self.old result self.new };
 
-    /// Ends a preformatted stretch. It takes no memory.
+    /// Ends a preformatted stretch. It asks that one is open, and takes no memory.
     fn pop_preformat(&mut self)
         requires { 0 < open_preformats self.old }
         ensures live { kept_refusal self.old ≡ None → does call.pop_preformat self.old self.new }
@@ -303,7 +307,7 @@ pub trait Renderer {
         ensures kept { KeepsFailure kept_refusal self.old result self.new };
 
     /// Ends a strikeout, as a link is ended. The decorator's text has a stroke less already, if struck out text has
-    /// any.
+    /// any; then it asks that one is open.
     fn end_strikeout(&mut self) -> Result<(), Error>
         requires { strikes self.old ≡ true → 0 < open_strikeouts self.old }
         ensures ok { OnOk result (does call.end_strikeout self.old self.new) }

@@ -11,6 +11,7 @@ use Rattle.tbr_rows.specs.Cells.{row_width, separators}
 
 -- ---- joins at the separators
 
+-- a border with an arm to a side at a column
 abbrev pub joined : {A : Type 0} → Side → Border A → ℕ → Border A
 joined side b x = with_cells (joined_at side x b.cells) b
 
@@ -31,6 +32,7 @@ abbrev pub border_in : {A : Type 0} → RenderLine A → Option (Border A)
 border_in (Text line) = None
 border_in (Line b) = if has_holes b.holes then None else Some b
 
+-- whether there is a line, and it is a border without holes
 abbrev pub is_mergeable : {A : Type 0} → Option (Bor (RenderLine A)) → Bool
 is_mergeable None = false
 is_mergeable (Some l) = is_some (border_in l.now)

@@ -5,10 +5,12 @@ use Rattle.std.specs.List.{list_all, list_any}
 use Rattle.tbr_border.specs.declared.render_line.RenderLine.{RenderLine}
 use Rattle.tbr_rows.specs.declared.line_set.LineSet.{LineSet as Cell}
 
+-- the first line, if there is one
 abbrev pub first_line : {A : Type 0} → List (RenderLine A) → Option (RenderLine A)
 first_line [] = None
 first_line (l ∷ ls) = Some l
 
+-- a cell of one row in which nothing stands, by its place and width
 abbrev pub empty_cell : {A : Type 0} → ℕ → ℕ → Cell A
 empty_cell place width = record { place = place; width = width; span = 1; lines = [] }
 
@@ -68,9 +70,11 @@ stands_first (h ∷ hs) place = h.place == place
 abbrev pub taker : {A : Type 0} → List (Cell A) → Cell A → Cell A
 taker hanging c = if stands_first hanging c.place then get_or hanging 0 c else c
 
+-- the overhanging cells without the first, if that takes the place of a row's cell
 abbrev pub still_waiting : {A : Type 0} → List (Cell A) → Cell A → List (Cell A)
 still_waiting hanging c = if stands_first hanging c.place then drop 1 hanging else hanging
 
+-- a cell of the row more, or the overhanging one that takes its place
 abbrev pub seat : {A : Type 0} → Seating A → Cell A → Seating A
 seat s c = record { seated = s.seated ++ taker s.waiting c ∷ []; waiting = still_waiting s.waiting c }
 
@@ -109,6 +113,7 @@ ends_before h s = nat_le (s.place + s.width + 1) h.place
 abbrev pub row_fits : {A : Type 0} → List (Cell A) → List Spot → Bool
 row_fits hanging spots = list_all (λ h. list_any (is_left_for h) spots || list_all (ends_before h) spots) hanging
 
+-- where a cell stands, and whether nothing is in it
 abbrev pub spot_of : {A : Type 0} → Cell A → Spot
 spot_of c = record { place = c.place; width = c.width; is_blank = is_none (first_line c.lines) }
 

@@ -25,6 +25,7 @@ pub record MadeRow (A : Type 0) (columns : ℕ → Option ℕ) : Type 0 where
   pub row : SeenRow A
   pub means : MeansRow columns style tag hanging own top row
 
+-- It stands somewhere in a list.
 abbrev pub StandsAmong : {X : Type 0} → X → List X → Type 0
 StandsAmong {X} x xs = (front rest : List X) × (xs ≡ front ++ x ∷ rest)
 
@@ -56,6 +57,7 @@ module _ {A : Type 0} (columns : ℕ → Option ℕ) where
     pub width : items_width columns here ≡ c.width
     pub shows : (l : RenderLine A) → slice_get (met (meeting_in r) c).lines i ≡ Some l → here ≡ text_in_row r.tag l
 
+  -- In each line of the row what is shown of the cell stands in its columns.
   abbrev pub StandsInItsColumns : MadeRow A columns → Cell A → Type 0
   StandsInItsColumns r c = (i : ℕ) → i < length r.row.lines → ShowsAt r c i
 

@@ -30,9 +30,11 @@ fit_step f width is_blank =
     let t = taken f.waiting f.at f.fits width is_blank in
     moved t.waiting t.at t.fits width
 
+-- cells of the row one after another, each by its width and whether nothing is in it
 abbrev pub fit_all : {A : Type 0} → Fitting A → List (ℕ × Bool) → Fitting A
 fit_all f cells = fold (λ f w. fit_step f w.0 w.1) f cells
 
+-- the beginning, where no overhanging cell has found a place yet
 abbrev pub fitting_of : {A : Type 0} → List (Cell A) → Fitting A
 fitting_of hanging = record { waiting = hanging; at = 0; fits = true }
 

@@ -42,6 +42,7 @@ FillsGaps draws columns eq a [] b b' = b' ≡ b
 FillsGaps {A} draws columns eq a (c ∷ cs) b b' =
     (m : Border A) × FillsGapIf (has_gap draws c) columns eq a c b m × FillsGaps draws columns eq a cs m b'
 
+-- the cell of a column
 abbrev pub cell_in : {A : Type 0} → Column A → Cell A
 cell_in c = c.cell
 

@@ -21,6 +21,7 @@ use Rattle.tbr_rows.specs.Rows.{border_above, cells_under, next_under, next_merg
 
 -- ---- elements, borders, lines and cells under other tags
 
+-- the same, with each tag as what a function makes of it
 abbrev pub map_element : {A B : Type 0} → (A → B) → Element A → Element B
 map_element f (piece cs a) = piece cs (f a)
 map_element f (marker_element name) = marker_element name
@@ -47,6 +48,7 @@ EqualIfMeant {A} f eq = (x y : A) → f x ≡ f y → eq x y ≡ true
 
 -- ---- lines that are filled
 
+-- A text is filled with spaces up to its cell's width, as the alignment says, and a border is stretched.
 abbrev pub MeansFilled : {A : Type 0} →
     (ℕ → Option ℕ) → CellAlign → ℕ → A → RenderLine A → RenderLine A → Type 0
 MeansFilled columns align width a (Text es) (Text done) =
@@ -73,13 +75,14 @@ row_meant f row = record {
   overhang = map (map_cell f) row.overhang;
 }
 
--- Pieces are the longest stretches of characters under one tag.
+-- Right behind a piece stands no other under the same tag.
 abbrev pub EndsStretch : {A : Type 0} → Element A → List (Element A) → Type 0
 EndsStretch e [] = ⊤
 EndsStretch (piece cs a) (piece ds b ∷ es) = a ≡ b → ⊥
 EndsStretch (piece cs a) (marker_element name ∷ es) = ⊤
 EndsStretch (marker_element name) (e ∷ es) = ⊤
 
+-- Pieces have characters, and are the longest stretches of characters under one tag.
 abbrev pub AreLongest : {A : Type 0} → List (Element A) → Type 0
 AreLongest [] = ⊤
 AreLongest (e ∷ es) = HasText e × EndsStretch e es × AreLongest es
@@ -90,11 +93,13 @@ IsGapOf a width None es = es ≡ piece (spaces width) a ∷ []
 IsGapOf a width (Some (Text line)) es = es ≡ line
 IsGapOf a width (Some (Line b)) es = (items_of es ≡ shown b.tag b) × AreLongest es
 
+-- The first line of a cell comes in front of a border, if it spans rows and borders are drawn.
 abbrev pub HasGapIf : {A : Type 0} → Bool → (ℕ → Option ℕ) → A → Cell A → Border A → Border A → Type 0
 HasGapIf false columns a c b b' = b' ≡ b
 HasGapIf {A} true columns a c b b' =
     (es : List (Element A)) × IsGapOf a c.width (first_line c.lines) es × (b' ≡ with_elements columns c.place b es)
 
+-- And so it is of each cell, in order.
 abbrev pub HasGaps : {A : Type 0} → Bool → (ℕ → Option ℕ) → A → List (Cell A) → Border A → Border A → Type 0
 HasGaps draws columns a [] b b' = b' ≡ b
 HasGaps {A} draws columns a (c ∷ cs) b b' =

@@ -47,6 +47,7 @@ cells_left height columns = map cell_in (map (dropped height) columns)
 
 -- ---- rows
 
+-- `│`
 abbrev pub vertical_bar : ℕ
 vertical_bar = 0x2502
 

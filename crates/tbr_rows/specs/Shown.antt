@@ -111,5 +111,6 @@ abbrev pub FillsBelow : {A : Type 0} → ℕ → Option (Border A) → Type 0
 FillsBelow width None = ⊤
 FillsBelow width (Some b) = length b.cells ≡ width
 
+-- Each line of a cell takes its columns, and so does what stands below them.
 abbrev pub LinesFillCell : {A : Type 0} → (ℕ → Option ℕ) → A → Column A → Type 0
 LinesFillCell columns a c = FillsBelow c.cell.width c.bottom × Each (TakesColumns columns a c.cell.width) c.cell.lines

@@ -31,5 +31,6 @@ module _ {D M : Type 0} (columns : ℕ → Option ℕ) (decoration : Decoration 
       (s : Renderer D M (List M)) × Flushes columns (finalised r) s
       × (bytes ≡ encode_utf8_all (lines_text (let t = with_notes columns (footnotes_of r) s in t.lines)))
 
+  -- The flush at the end is answered by `TooNarrow`.
   abbrev pub ClosingIsTooNarrow : Renderer D M (List M) → Type 0
   ClosingIsTooNarrow r = FlushIsTooNarrow columns (finalised r)

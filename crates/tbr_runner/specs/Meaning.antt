@@ -161,6 +161,7 @@ module _ {D M : Type 0} (columns : ℕ → Option ℕ) (decoration : Decoration 
     pub pending : next.pending ≡ without_cells p.pending
     pub opened : next.opened ≡ p.opened
 
+  -- A command leads from where a script stands to where it stands next.
   abbrev pub CommandDoes : Progress D M (List M) → Command → Progress D M (List M) → Type 0
   CommandDoes p (ask request) next = RequestDoes p request next
   CommandDoes p (link target) next = LinkDoes p target next
@@ -199,6 +200,7 @@ module _ {D M : Type 0} (columns : ℕ → Option ℕ) where
       OfTop (FlushIsTooNarrow columns) p.stack
       ⊎ FirstToRefuse (HandsOut columns) (HoldsBack columns) (renderers_of p.pending.cells)
 
+  -- Something is too narrow where the waiting cells are taken.
   abbrev pub VerticalRowRefuses : Progress D M (List M) → RunError → Type 0
   VerticalRowRefuses p e = CellsAreTooNarrow p × (e ≡ TooNarrow)
 
@@ -227,6 +229,7 @@ module _ {D M : Type 0} (columns : ℕ → Option ℕ) (decoration : Decoration 
       ((open_links p.stack ≡ []) × (e ≡ NothingToEnd number))
       ⊎ ((open_links p.stack ≢ []) × EndIsTooNarrow columns decoration p.stack × (e ≡ TooNarrow))
 
+  -- With what a command on the line of this number is refused. Only memory refuses one that opens a level.
   abbrev pub CommandRefuses : Progress D M (List M) → ℕ → Command → RunError → Type 0
   CommandRefuses p number (ask request) e = RequestRefuses p number request e
   CommandRefuses p number (link target) e = LinkRefuses p target e
@@ -279,6 +282,7 @@ OpensUnder columns Trivial opening number lines outcome =
 OpensUnder columns Rich opening number lines outcome =
     LinesGive columns rich_decoration (started opening (record {})) number lines outcome
 
+-- The same under the decorator that the first command names.
 abbrev pub Opens : (ℕ → Option ℕ) → Opening → ℕ → List (List ℕ) → Result (List ℕ) RunError → Type 0
 Opens columns opening number lines outcome = OpensUnder columns opening.decorator opening number lines outcome
 

@@ -11,5 +11,6 @@ pub record IsNormalLine (line : List ℕ) : Type 0 where
   pub no_pre : line ≢ codes "ws pre"
   pub no_prewrap : line ≢ codes "ws prewrap"
 
+-- No line of a script has the option `overflow`, or pushes a mode but `normal`.
 abbrev pub IsNormalScript : List ℕ → Type 0
 IsNormalScript script = Each IsNormalLine (lines_of script)

@@ -30,6 +30,7 @@ pub record Progress (D A T : Type 0) : Type 0 where
   pub pending : Pending D A T
   pub opened : List (Opened D A T)
 
+-- nothing begun, and no cell that waits
 abbrev pub nothing_pending : {D A T : Type 0} → Pending D A T
 nothing_pending = record { begun = nothing_begun; cells = []; aligns = [] }
 
@@ -41,15 +42,19 @@ IsSpanned (Cell span align) = 0 < span
 -- ---- the same, each annotation as what it means
 
 module _ {D A M : Type 0} (meaning : A → M) where
+  -- a cell that waits, with its span
   abbrev pub cell_meant : Renderer D A (Vec A) × ℕ → Renderer D M (List M) × ℕ
   cell_meant cell = (meant meaning cell.0, cell.1)
 
+  -- what is pending on a renderer
   abbrev pub pending_meant : Pending D A (Vec A) → Pending D M (List M)
   pending_meant p = record { begun = p.begun; cells = map cell_meant p.cells; aligns = p.aligns }
 
+  -- a level that is open
   abbrev pub opened_meant : Opened D A (Vec A) → Opened D M (List M)
   opened_meant o = record { by = o.by; below = pending_meant o.below }
 
+  -- where a script stands
   abbrev pub progress_meant : Progress D A (Vec A) → Progress D M (List M)
   progress_meant p = record {
     stack = stack_meant meaning p.stack;

@@ -78,7 +78,8 @@ impl<D: TextDecorator, W: CharWidth> Program<D, W> {
             (progress_meant D.meaning self.old) line.now (progress_meant D.meaning self.new)) }
         ensures live { OnOk result (GoesOn self.new) }
         ensures refused { IfErr result (λ e. e ≢ RunError.OutOfMemory →
-            LineRefuses W.columns (decoration_of D.TextDecorator) (progress_meant D.meaning self.old) number line.now e) }
+            LineRefuses W.columns (decoration_of D.TextDecorator) (progress_meant D.meaning self.old) number
+            line.now e) }
     {
         if line.is_empty() {
             return Ok(());

@@ -4,12 +4,8 @@ use Rattle.std.specs.Char.{IsScalar}
 use Rattle.std.specs.List.{AllByRecursion as Each}
 use Rattle.std.specs.Str.Parse.{IsNumeral, digits_value}
 use Rattle.std.specs.Borrow.{Bor}
-use Rattle.tbr_model.specs.Codes.{newline_character, tab_character}
-
--- a byte in front of the first line
-abbrev pub onto_first : ℕ → List (List ℕ) → List (List ℕ)
-onto_first b [] = (b ∷ []) ∷ []
-onto_first b (line ∷ lines) = (b ∷ line) ∷ lines
+use Rattle.tbr_model.specs.Codes.{newline_character, space_character, tab_character}
+pub use Rattle.tbr_model.specs.Hard.{onto_first}
 
 -- The lines of a script. A newline ends a line, and bytes behind the last newline are a line.
 abbrev pub lines_of : List ℕ → List (List ℕ)
@@ -32,11 +28,21 @@ IsByte digits = IsNumeral 10 digits × (digits_value 10 digits < 2 ^ 8)
 abbrev pub NamesCharacter : List ℕ → Type 0
 NamesCharacter digits = IsNumeral 16 digits × (length digits ≤ 6) × IsScalar (digits_value 16 digits)
 
+abbrev pub backslash : ℕ
+backslash = 92
+
+-- the letters `n` and `t`
+abbrev pub letter_n : ℕ
+letter_n = 110
+
+abbrev pub letter_t : ℕ
+letter_t = 116
+
 -- the character that a letter behind a backslash stands for: `n` for a newline, `t` for a tab, a backslash for itself
 abbrev pub character_by_letter : ℕ → Option ℕ
 character_by_letter b =
-    if b == 110 then Some newline_character
-    else (if b == 116 then Some tab_character else (if b == 92 then Some 92 else None))
+    if b == letter_n then Some newline_character
+    else (if b == letter_t then Some tab_character else (if b == backslash then Some backslash else None))
 
 -- what stands behind the backslash of an escape, and the character that it stands for: a letter, or `u{..}` with its
 -- digits
@@ -53,13 +59,13 @@ pub data Piece : Type 0 where
 
 -- A backslash stands for nothing but the beginning of an escape.
 abbrev pub IsPiece : Piece → Type 0
-IsPiece (itself b) = b ≢ 92
+IsPiece (itself b) = b ≢ backslash
 IsPiece (escape form c) = IsEscape form c
 
 -- how a piece is written
 abbrev pub written : Piece → List ℕ
 written (itself b) = b ∷ []
-written (escape form c) = 92 ∷ form
+written (escape form c) = backslash ∷ form
 
 -- what a piece stands for
 abbrev pub meant : Piece → List ℕ
@@ -91,7 +97,7 @@ pub record AreSplitTexts (writing one other : List ℕ) : Type 0 where
 -- The words of a line. Exactly one space stands between two, so a space too many makes an empty word.
 abbrev pub words_of : List ℕ → List (List ℕ)
 words_of [] = [] ∷ []
-words_of (b ∷ bs) = if b == 32 then [] ∷ words_of bs else onto_first b (words_of bs)
+words_of (b ∷ bs) = if b == space_character then [] ∷ words_of bs else onto_first b (words_of bs)
 
 -- the words still to come
 abbrev pub words_behind : Option (Bor (List ℕ)) → List (List ℕ)

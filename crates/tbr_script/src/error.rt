@@ -1,6 +1,7 @@
 //! Why a script isn't rendered.
 ghost use Rattle.std.specs.Prelude.{◌≡◌, ◌||◌, ◌++◌, ◌∷◌, [], is_err};
 ghost use Rattle.std.specs.Fmt.{decimal};
+ghost use Rattle.tbr_model.specs.Codes.{newline_character};
 ghost use Rattle.tbr_script.specs.Streams.{WritesAll};
 ghost use Rattle.tbr_script.specs.Refusal.{refusal_of};
 ghost use Rattle.tbr_script.specs.declared.error.RunError.TheVariants as E;
@@ -46,7 +47,7 @@ impl RunError {
     /// It takes no memory. It answers `Failed` only where the sink fails, and then a beginning of the line was written.
     pub fn report<S: Sink>(self, sink: &mut S) -> Result<(), Failed>
         ensures line { WritesAll (S.contents sink.old) (S.contents sink.new) result
-            (message_of self ++ 10 ∷ []) }
+            (message_of self ++ newline_character ∷ []) }
         ensures failure { S.failed sink.new ≡ (is_err result || S.failed sink.old) }
     {
         match self {

@@ -4,7 +4,7 @@ ghost use Rattle.tbr_script.specs.Script.{lines_of};
 
 use memchr::memchr;
 
-/// The first line, without its newline, and what follows it.
+/// The first line, without its newline, and what follows it. It asks for a script that isn't empty.
 pub fn split_line(script: &[u8]) -> (&[u8], &[u8])
     requires { 0 < length script.now }
     ensures lines { lines_of script.now ≡ result.0.now ∷ lines_of result.1.now }

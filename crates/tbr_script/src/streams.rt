@@ -18,7 +18,7 @@ pub trait Source {
     ghost failed: { Self → Bool };
 
     /// Reads some bytes to the front of the buffer and answers how many. None into a buffer that isn't empty is the
-    /// end.
+    /// end. `Failed` comes where the source fails.
     fn read(&mut self, buf: &mut [u8]) -> Result<usize, Failed>
         ensures bound { ReadsAtMost result buf.new }
         ensures bytes { ReadConsumes (remaining self.old) (remaining self.new) result buf.new }
@@ -35,7 +35,8 @@ pub trait Sink {
 
     ghost failed: { Self → Bool };
 
-    /// Writes some bytes from the front and answers how many: at least one where there is one.
+    /// Writes some bytes from the front and answers how many: at least one where there is one. `Failed` comes where the
+    /// sink fails.
     fn write(&mut self, bytes: &[u8]) -> Result<usize, Failed>
         ensures bound { WritesAtMost result bytes.now }
         ensures some { IfOk result (λ n. 0 < length bytes.now → 0 < n) }
@@ -159,7 +160,8 @@ impl<W: Write> Sink for StdSink<W> {
     }
 }
 
-/// Writes all of the bytes.
+/// Writes all of the bytes. It takes no memory. It answers `Failed` only where the sink fails, and then a beginning of
+/// them was written.
 pub fn write_all<S: Sink>(sink: &mut S, bytes: &[u8]) -> Result<(), Failed>
     ensures written { WritesAll (S.contents sink.old) (S.contents sink.new) result bytes.now }
     ensures failure { S.failed sink.new ≡ (is_err result || S.failed sink.old) }

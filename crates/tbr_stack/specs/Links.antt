@@ -20,6 +20,7 @@ opened place level = record level { open_links = place ∷ level.open_links }
 abbrev pub closed : {R : Type 0} → Level R → Level R
 closed level = record level { open_links = drop 1 level.open_links }
 
+-- the place of the target of the link that was opened last, if one is open
 abbrev pub first_open : List ℕ → Option ℕ
 first_open [] = None
 first_open (place ∷ places) = Some place
@@ -35,6 +36,7 @@ with_link target s =
 abbrev pub without_open_link : {R : Type 0} → Stack R → Stack R
 without_open_link s = record s { levels = in_first closed s.levels }
 
+-- the links that are open in the first of these
 abbrev pub open_in_first : {R : Type 0} → List (Level R) → List ℕ
 open_in_first [] = []
 open_in_first (level ∷ levels) = level.open_links
@@ -74,6 +76,7 @@ module _ {D A : Type 0} (columns : ℕ → Option ℕ) (decoration : Decoration 
       (m : Top) × Does columns decoration (finish end.link) r m
       × Does columns decoration (add_inline_text (link_number k)) m q
 
+  -- The end of a link in a renderer is answered by `TooNarrow`: its own text, or its number, where one is shown.
   abbrev pub EndIsTooNarrowWith : Option ℕ → Top → Type 0
   EndIsTooNarrowWith None r = IsTooNarrow columns decoration (finish end.link) r
   EndIsTooNarrowWith (Some k) r =
@@ -81,6 +84,7 @@ module _ {D A : Type 0} (columns : ℕ → Option ℕ) (decoration : Decoration 
       ⊎ ((m : Top) × Does columns decoration (finish end.link) r m
       × IsTooNarrow columns decoration (add_inline_text (link_number k)) m)
 
+  -- An end that refuses stops at the text that ends the link, or behind it at the number, where one is shown.
   abbrev pub StopsToEndWith : Option ℕ → Top → Top → Type 0
   StopsToEndWith None r q = StopsAtStage columns decoration (finish end.link) r q
   StopsToEndWith (Some k) r q =
@@ -94,6 +98,7 @@ module _ {D A : Type 0} (columns : ℕ → Option ℕ) (decoration : Decoration 
       (m : Stack Top) × ChangesTop (λ r q. EndsWith (shown_number r (open_links s)) r q) s m
       × (t ≡ without_open_link m)
 
+  -- The end of a link in the top, with its number, is answered by `TooNarrow`.
   abbrev pub EndIsTooNarrow : Stack Top → Type 0
   EndIsTooNarrow s = OfTop (λ r. EndIsTooNarrowWith (shown_number r (open_links s)) r) s
 

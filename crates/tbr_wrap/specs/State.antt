@@ -86,7 +86,8 @@ pub record JoinsRun {A : Type 0} (old : State A) (more : List (Entry A)) (new : 
   }
 
 -- The beginning of a text joins the run, and the rest is left.
-pub record JoinsFront {A : Type 0} (old : State A) (text rest : List ℕ) (a b : A) (mode : WhiteSpace) (new : State A) : Type 0 where
+pub record JoinsFront {A : Type 0} (old : State A) (text rest : List ℕ) (a b : A) (mode : WhiteSpace)
+    (new : State A) : Type 0 where
   pub front : List ℕ
   pub split : chars text ≡ front ++ chars rest
   pub joins : JoinsRun old (text_entries front a b mode) new

@@ -1,12 +1,12 @@
 //! A block of wrapped text.
-ghost use Rattle.std.specs.Prelude.{◌≡◌, ◌≢◌, ℕ, ◌≤◌, ◌<◌, ◌++◌, ◌∷◌, [], not, ◌&&◌, ◌||◌, ◌⊎◌, nat_lt, is_none, is_some, if◌then◌else◌, None, Some, List, OnOk, IfOk, IfErr, IsErr, IsSomeAnd, MatchResult, Err, Ok, true, false, chars, string_bytes, length, map, IsTrue, ◌↔◌};
+ghost use Rattle.std.specs.Prelude.{◌≡◌, ◌≢◌, ℕ, ◌≤◌, ◌<◌, ◌++◌, ◌∷◌, [], not, ◌&&◌, ◌||◌, ◌⊎◌, nat_lt, is_none, is_some, if◌then◌else◌, None, Some, List, OnOk, IfOk, IfErr, IsErr, IsSomeAnd, MatchResult, Err, Ok, true, false, chars, string_bytes, length, map, IsTrue};
 ghost use Rattle.std.specs.List.{AllZip};
 ghost use Rattle.std.specs.Str.{IsUtf8};
-ghost use Rattle.tbr_model.specs.Run.{Item, items_width, kept_items, has_character};
+ghost use Rattle.tbr_model.specs.Run.{Item};
 ghost use Rattle.tbr_model.specs.Hard.{is_visible};
 ghost use Rattle.tbr_model.specs.Shown.{run_shows_columns};
 ghost use Rattle.tbr_tagged.specs.Copies.{CopiesAreEqual};
-ghost use Rattle.tbr_tagged.specs.Elements.{Element, items_of, SameItems, IsMerged};
+ghost use Rattle.tbr_tagged.specs.Elements.{items_of, SameItems, IsMerged};
 ghost use Rattle.tbr_wrap.specs.Wrapped.{WordsFit, EndedWordsFit, ShowsText, padding_of};
 ghost use Rattle.tbr_wrap.specs.State.{IsNormal, CharactersFit, VisibleFit, is_some_list};
 ghost use Rattle.tbr_tagged.specs.declared.error.Error.TheVariants as E;
@@ -66,7 +66,7 @@ impl<T: Eq + Clone, W: CharWidth> WrappedBlock<T, W> {
     ghost use Rattle.tbr_tagged.specs.View.{element_of};
     ghost use Rattle.tbr_wrap.specs.State.{empty_block, text_entries, JoinsRun, JoinsFront, JoinsAsMarker, EndsRun, has_begun, run_with, KeepsRefusal, WrapsNormally, RunDecides, AreLastOf, loose_taken, lines_left, line_taken, run_flushed};
 
-    /// A block without text, whose lines take `width` columns at most. It takes no memory.
+    /// A block without text, whose lines take `width` columns at most; it asks for at least 1. It takes no memory.
     ///
     /// With `pad_blocks` each line that is handed out is padded to the width by spaces under the default tag. With
     /// `allow_overflow` a character of two columns goes on a line of its own in a block of one column, where it is

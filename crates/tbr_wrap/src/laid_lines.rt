@@ -1,5 +1,5 @@
 //! Lines that are laid.
-ghost use Rattle.std.specs.Prelude.{◌≡◌, ◌≤◌, ◌<◌, ◌+◌, ◌++◌, ◌∷◌, ◌⊎◌, [], ℕ, List, Option, None, Some, true, false, OnOk, IfOk, IfSome, MatchOption, Ok, Err, unwrap_or, length, take, drop, Bool};
+ghost use Rattle.std.specs.Prelude.{◌≡◌, ◌≤◌, ◌<◌, ◌+◌, ◌++◌, ◌∷◌, [], ℕ, List, Option, None, Some, true, false, OnOk, IfOk, IfSome, MatchOption, Ok, Err, length, take, drop, Bool};
 ghost use Rattle.std.specs.VecDeque.{deque_len};
 ghost use Rattle.tbr_tagged.specs.Copies.{CopiesAreEqual};
 ghost use Rattle.tbr_model.specs.Run.{Item};
@@ -66,7 +66,7 @@ impl<T: Eq + Clone> LaidLines<T> {
     ghost use Rattle.tbr_model.specs.Rule.{spaces, trimmed, without_leading, put_spaces, put_tab};
     ghost use Rattle.tbr_model.specs.Greedy.{IsNarrow};
     ghost use Rattle.tbr_wrap.specs.LaidLines.{HoldsLaid, HoldsRule, HoldsRuleBefore, LinesFollow, FirstIsGone, KeepsLimits, LeavesAfterLine};
-    ghost use Rattle.tbr_tagged.specs.Elements.{Element, items_of, IsMerged, SameItem};
+    ghost use Rattle.tbr_tagged.specs.Elements.{items_of, IsMerged, SameItem};
     ghost use Rattle.tbr_tagged.specs.declared.error.Error.TheVariants as E;
 
     /// Ends the open line.

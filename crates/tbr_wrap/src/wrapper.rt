@@ -15,7 +15,7 @@ ghost use Rattle.std.specs.Prelude.{◌≡◌, ◌≤◌, ◌<◌, ◌+◌, ◌&
 ghost use Rattle.tbr_tagged.specs.Copies.{CopiesAreEqual};
 ghost use Rattle.tbr_model.specs.Width.{width_of_text};
 ghost use Rattle.tbr_model.specs.Run.{Item, character, marker_entry, items_width, has_character, is_break};
-ghost use Rattle.tbr_model.specs.Laid.{Laid, extended, put_items};
+ghost use Rattle.tbr_model.specs.Laid.{extended, put_items};
 ghost use Rattle.tbr_model.specs.Rule as model;
 ghost use Rattle.tbr_model.specs.Rule.{Progress, space_text, pending_width, put_pending, lay_here, lay_fresh, wrap_space_by, wrap_space, lay, flush_word, break_word, join};
 ghost use Rattle.tbr_model.specs.Rule.{call, step, enter, enter_normal, collapse, newline, tab, put_tab, keep_space, keep_character, passes, preserve};

@@ -9,9 +9,12 @@ pub use Rattle.tbr_renderer.specs.Steps
 pub use Rattle.tbr_renderer.specs.Text
 pub use Rattle.tbr_renderer.specs.View
 pub use Rattle.tbr_renderer.specs.Appended
+pub use Rattle.tbr_renderer.specs.Cutting
+pub use Rattle.tbr_renderer.specs.Footnotes
 pub use Rattle.tbr_stack.specs.Links
 pub use Rattle.tbr_stack.specs.Stack
 pub use Rattle.tbr_stack.specs.StackCalls
+pub use Rattle.tbr_stack.specs.Top
 pub use Rattle.tbr_renderer.specs.Rows
 pub mod Drawn
 pub mod MarkersStand

@@ -49,7 +49,8 @@ pub fn a_normal_call_leaves_one_state<D, A>()
         WrapsNormally r → Does columns decoration call r s → Does columns decoration call r t → t ≡ s }
 {}
 
-/// Where a call may answer `TooNarrow` there, it leaves nothing.
+/// Where all text is `Normal` and no line may be wider than its block, a call that may answer `TooNarrow` leaves
+/// nothing.
 pub fn a_normal_call_is_too_narrow_or_not<D, A>()
     ensures { (columns : ℕ → Option ℕ) (decoration : Decoration D A) (call : Call (List A))
         (r s : Renderer D A (List A)) →

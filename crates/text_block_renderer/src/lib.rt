@@ -3,12 +3,13 @@
 #![tactic(auto)]
 
 pub use tbr_decor::{
-    Colour, PlainDecorator, RichAnnotation, RichDecorator, TextDecorator, TrivialDecorator,
+    Colour, PlainDecorator, RichAnnotation, RichDecorator, TextDecorator, TrivialDecorator, text,
+    usual,
 };
 pub use tbr_lines::{
-    BorderHoriz, BorderSegHoriz, CellAlign, CharWidth, Chars, Error, Iter, OutOfMemory, RenderLine,
-    TaggedLine, TaggedLineElement, TaggedString, TaggedStrings, TooNarrow, UnicodeColumns,
-    WhiteSpace, WrappedBlock, always_takes_space, is_wordbreak_point, text_width,
+    BorderHoriz, BorderSegHoriz, CellAlign, CharWidth, Chars, Error, IntoIter, Iter, OutOfMemory,
+    RenderLine, TaggedLine, TaggedLineElement, TaggedString, TaggedStrings, TooNarrow,
+    UnicodeColumns, WhiteSpace, WrappedBlock, always_takes_space, is_wordbreak_point, text_width,
 };
 pub use tbr_renderer::{ImageRenderMode, RenderOptions, Renderer, SubRenderer};
 pub use tbr_rows::LineSet;

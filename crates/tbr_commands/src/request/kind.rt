@@ -1,12 +1,12 @@
 //! What commands begin, and the commands that end it.
-ghost use Rattle.std.specs.Prelude.{◌≡◌, ◌≢◌, ◌<◌, true, None, Err, OnOk, IfSome, IfNone};
+ghost use Rattle.std.specs.Prelude.{◌≡◌, ◌≢◌, ◌<◌, true, None, Err, OnOk, IsOk, IfSome, IfNone};
 ghost use Rattle.tbr_lines.specs.declared.Error.TheVariants as E;
 ghost use Rattle.tbr_decor.specs.Decoration.{decoration_of};
 ghost use Rattle.tbr_renderer.specs.Calls.{Does, IsTooNarrow};
 ghost use Rattle.tbr_renderer.specs.Meant.{meant};
 ghost use Rattle.tbr_commands.specs.declared.request.kind.Kind.{Kind as Meant};
 ghost use Rattle.tbr_commands.specs.declared.request.kind.Kind.TheVariants as kind;
-ghost use Rattle.tbr_commands.specs.Request.{end_of};
+ghost use Rattle.tbr_commands.specs.Request.{end_of, ends_freely};
 ghost use Rattle.tbr_commands.specs.Syntax.{ending_name};
 
 use tbr_decor::TextDecorator;
@@ -56,7 +56,10 @@ impl Kind {
         }
     }
 
-    /// Asks a renderer to end it.
+    /// Asks a renderer to end it. The renderer hasn't failed, and what ends is open, if it is a preformatted stretch or
+    /// a strikeout with strokes.
+    ///
+    /// It refuses as the renderer's call does, and never where that takes no memory.
     pub fn end<D: TextDecorator, W: CharWidth>(
         self,
         renderer: &mut SubRenderer<D, W>,
@@ -69,6 +72,7 @@ impl Kind {
             (meant D.meaning renderer.old) (meant D.meaning renderer.new)) }
         ensures too_narrow { result ≡ Err E.TooNarrow →
             IsTooNarrow W.columns (decoration_of D.TextDecorator) (end_of self) (meant D.meaning renderer.old) }
+        ensures free { ends_freely self ≡ true → IsOk result }
     {
         match self {
             Kind::Mode => renderer.pop_ws(),

@@ -1,11 +1,11 @@
 //! Commands that end lines.
-ghost use Rattle.std.specs.Prelude.{◌≡◌, ◌≢◌, None, Err, OnOk, IfSome, IfNone};
+ghost use Rattle.std.specs.Prelude.{◌≡◌, ◌≢◌, true, None, Err, OnOk, IsOk, IfSome, IfNone};
 ghost use Rattle.tbr_lines.specs.declared.Error.TheVariants as E;
 ghost use Rattle.tbr_decor.specs.Decoration.{decoration_of};
 ghost use Rattle.tbr_renderer.specs.Calls.{Does, IsTooNarrow};
 ghost use Rattle.tbr_renderer.specs.Meant.{meant};
 ghost use Rattle.tbr_commands.specs.declared.request.layout.Layout.{Layout as Meant};
-ghost use Rattle.tbr_commands.specs.Request.{laid_out};
+ghost use Rattle.tbr_commands.specs.Request.{laid_out, lays_out_freely};
 ghost use Rattle.tbr_commands.specs.Syntax.{layout_name};
 
 use tbr_decor::TextDecorator;
@@ -46,7 +46,8 @@ impl Layout {
         }
     }
 
-    /// Asks a renderer for it.
+    /// Asks a renderer for it, which hasn't failed. It refuses as the renderer's call does, and the end of a block
+    /// never.
     pub fn call<D: TextDecorator, W: CharWidth>(
         self,
         renderer: &mut SubRenderer<D, W>,
@@ -56,6 +57,7 @@ impl Layout {
             (meant D.meaning renderer.old) (meant D.meaning renderer.new)) }
         ensures too_narrow { result ≡ Err E.TooNarrow →
             IsTooNarrow W.columns (decoration_of D.TextDecorator) (laid_out self) (meant D.meaning renderer.old) }
+        ensures free { lays_out_freely self ≡ true → IsOk result }
     {
         match self {
             Layout::StartBlock => renderer.start_block(),

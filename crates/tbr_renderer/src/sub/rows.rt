@@ -26,7 +26,7 @@ use tbr_rows::{Columns, Overhang, Row, RowStyle};
 impl<D: TextDecorator, W: CharWidth> SubRenderer<D, W> {
     /// Whether a row of these renderers, each with the rows that it spans, has a place for each cell that overhangs
     /// from the rows before: the place of a renderer of the same width in which nothing stands, or one behind all of
-    /// them. It takes no memory, and doesn't look at a failure.
+    /// them. It takes no memory, and doesn't look at a failure of its own; one of `cols` that has failed isn't blank.
     pub fn row_fits(&self, cols: &Vec<(SubRenderer<D, W>, usize)>) -> bool
         ensures fits { result ≡ row_fits self.now.hanging (model.spots_of cols.now.items) }
         ensures blank { Each (λ col. model.TellsBlank W.columns col.0) cols.now.items }
@@ -240,7 +240,8 @@ impl<D: TextDecorator, W: CharWidth> SubRenderer<D, W> {
 /// Takes the last line, if it is a border.
 fn take_last_border<T: Drop>(lines: &mut Vec<RenderLine<T>>) -> Option<BorderHoriz<T>>
     ensures some { IfSome result (λ border. lines.old.items ≡ lines.new.items ++ Rule border ∷ []) }
-    ensures none { result ≡ None → (lines.new ≡ lines.old) × (model.last_border (map line_seen lines.old.items) ≡ None) }
+    ensures none { result ≡ None →
+        (lines.new ≡ lines.old) × (model.last_border (map line_seen lines.old.items) ≡ None) }
 {
     if !is_border(lines.last()) {
         return None;

@@ -64,9 +64,10 @@ pub fn a_vertical_row_is_its_cells_and_borders<D, A>()
         (r s : Renderer D A (List A)) → Does columns decoration (append_vert_row cells) r s →
         r.options.draw_borders ≡ true → r.options.pad_block_width ≡ false →
         (m : Renderer D A (List A)) × Flushes columns r m × (m.waiting ≡ [] → s.lines ≡ m.lines ++ row_lines r cells) }
-    ensures undrawn { (columns : ℕ → Option ℕ) (decoration : Decoration D A) (cells : List (List (Line (List A))))
-        (r s : Renderer D A (List A)) → Does columns decoration (append_vert_row cells) r s →
-        r.options.draw_borders ≡ false → (m : Renderer D A (List A)) × Flushes columns r m
+    ensures without_borders { (columns : ℕ → Option ℕ) (decoration : Decoration D A)
+        (cells : List (List (Line (List A)))) (r s : Renderer D A (List A)) →
+        Does columns decoration (append_vert_row cells) r s → r.options.draw_borders ≡ false →
+        (m : Renderer D A (List A)) × Flushes columns r m
         × (s.lines ≡ m.lines ++ lines_laid columns m (flat_map (map (as_text r.annotations)) cells)) }
 {}
 

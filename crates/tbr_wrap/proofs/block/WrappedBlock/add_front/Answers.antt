@@ -29,14 +29,14 @@ invariant_of-self-2 g c = λ live.
     let mode = c.args.mode in let changes = c.self.inside.changes.items in
     let now = course columns b.lines.width changes in let done = c.in_ok-bytes.ensures.ok in
     let k = c.self.invariant (sym done.1 ∙ live) in
-    let far = given columns eq b c.self.inside.begun now k in
+    let far = given _ _ _ _ _ k in
     let cs = chars c.split_at.result.0.now in
     let entries : List (Entry g.row.T.Denot) = text_entries cs main wrap mode in
     let limits = c.add_front-added.ensures.limits in
     let stands = rw (done.0, sym c.split_at.ensures.front) at c.add_front-added.ensures.entered in
     subst (HoldsCourse columns eq d c.self.inside.begun)
     (sym (course_more columns b.lines.width d.lines.width changes _ _ limits.width c.note_text.ensures ∙ text_went columns b.lines.width now cs main wrap mode))
-    (holds_went columns eq b c.self.inside.begun now k d (map entry entries) limits
+    (holds_went _ _ _ _ _ k d (map entry entries) limits
     (subst (IsAtProgress columns eq d k.before far) (sym (entries_entered columns b.lines.width entries now.progress)) (stands k.before far now.progress k.stands)))
 
 pub returns-clause-ok : goal.returns-clause-ok
@@ -61,29 +61,27 @@ returns-clause-ok g c =
 
 pub returns-in_err-bytes-clause-too_narrow : goal.returns-in_err-bytes-clause-too_narrow
 returns-in_err-bytes-clause-too_narrow g c = λ e.
-    let columns = g.W.CharWidth.columns in let eq = g.T.PartialEq.eq in let b = c.self.inside.wrapper in
-    let now = course columns b.lines.width c.self.inside.changes.items in
     let k = c.self.invariant (ap (λ (s : State g.row.T.Denot). s.failure) c.self.view_is ∙ c.requires.unfailed) in
     let p = err_from_is_err_and c.from_residual.result c.from_residual.ensures.1 in
     let is : c.add_front-added.result ≡ Err E.TooNarrow = cc (p.1, p.2, e, c.in_err-bytes.ensures.failed.0) in
-    let refused = c.add_front-added.ensures.too_narrow is k.before (given columns eq b c.self.inside.begun now k) now.progress k.stands in
-    rw (← c.self.view_is) (refused.0, λ fit. refused.1.wide (word_fits columns eq b c.self.inside.begun now k fit))
+    let refused = c.add_front-added.ensures.too_narrow is _ _ _ k.stands in
+    rw (← c.self.view_is) (refused.0, λ fit. refused.1.wide (word_fits _ _ _ _ _ k fit))
 
 -- what comes behind the first character doesn't make the word fit
 pub returns-in_err-bytes-clause-normal_too_narrow : goal.returns-in_err-bytes-clause-normal_too_narrow
 returns-in_err-bytes-clause-normal_too_narrow g c =
-    let columns = g.W.CharWidth.columns in let eq = g.T.PartialEq.eq in let b = c.self.inside.wrapper in
+    let columns = g.W.CharWidth.columns in let b = c.self.inside.wrapper in
     let now = course columns b.lines.width c.self.inside.changes.items in
     let k = c.self.invariant (ap (λ (s : State g.row.T.Denot). s.failure) c.self.view_is ∙ c.requires.unfailed) in
     rw (← c.self.view_is) (λ normal e fit.
     let p = err_from_is_err_and c.from_residual.result c.from_residual.ensures.1 in
     let is : c.add_front-added.result ≡ Err E.TooNarrow = cc (p.1, p.2, e, c.in_err-bytes.ensures.failed.0) in
-    let refused = c.add_front-added.ensures.too_narrow is k.before (given columns eq b c.self.inside.begun now k) now.progress k.stands in
+    let refused = c.add_front-added.ensures.too_narrow is _ _ _ k.stands in
     let word = refused.1 in let main = c.args.main_tag.now in let wrap = c.args.wrap_tag.now in let mode = c.args.mode in
     let first : Entry g.row.T.Denot = character word.first main wrap mode in
     let rest : List (Entry g.row.T.Denot) = text_entries word.rest main wrap mode in
     let whole = ap (λ cs. now.run ++ text_entries cs main wrap mode) word.text_is ∙ sym (append_assoc now.run (first ∷ []) rest) in
     let so_far = each_front (HasMode Normal) (now.run ++ first ∷ []) rest (subst (λ (es : List (Entry g.row.T.Denot)). IsNormal es) whole normal) in
     let broken = word.normal (each_back (HasMode Normal) now.run (first ∷ []) so_far).0 in
-    narrow_refused columns eq b c.self.inside.begun now k refused.0 (each_front (HasMode Normal) now.run (first ∷ []) so_far) first broken.0 broken.1 word.wide
+    narrow_refused _ _ _ _ _ k refused.0 (each_front (HasMode Normal) now.run (first ∷ []) so_far) first broken.0 broken.1 word.wide
     (ended_fit-append columns b.lines.width (now.run ++ first ∷ []) rest (subst (λ (es : List (Entry g.row.T.Denot)). EndedWordsFit columns b.lines.width es) whole fit)))

@@ -14,12 +14,12 @@ invariant_of-self-2 g c = λ live.
     let d = c.add_marker-added.new.self in let changes = c.self.inside.changes.items in
     let now = course columns b.lines.width changes in let done = c.in_ok-keep_want.ensures.ok in
     let k = c.self.invariant (sym done.1 ∙ live) in
-    let behind = given columns eq b c.self.inside.begun now k in
+    let behind = given _ _ _ _ _ k in
     let limits = c.add_marker-added.ensures.limits in
     let named = subst (λ name. IsAtProgress columns eq d k.before behind (enter columns b.lines.width now.progress (marker_entry name))) (ap string_bytes c.with_marker-changes.ensures.name)
     (rw done.0 at (c.add_marker-added.ensures.added columns k.before behind now.progress k.stands)) in
     subst (HoldsCourse columns eq d c.self.inside.begun) (sym (course_after columns b.lines.width d.lines.width changes _ _ limits.width c.with_marker-changes.ensures.changes))
-    (holds_stepped columns eq b c.self.inside.begun now k d (entry (marker_entry (string_bytes c.args.name))) limits named)
+    (holds_stepped _ _ _ _ _ k d (entry (marker_entry (string_bytes c.args.name))) limits named)
 
 pub returns-clause-ok : goal.returns-clause-ok
 returns-clause-ok g c =

@@ -36,40 +36,40 @@ pub invariant_of-self-2 : goal.invariant_of-self-2
 invariant_of-self-2 g c = λ live.
     let columns = g.W.CharWidth.columns in let eq = g.T.PartialEq.eq in let b = c.self.inside.wrapper in
     let d = c.finish.new.self in let changes = c.self.inside.changes.items in
-    let now = course columns b.lines.width changes in let done = c.in_ok-keep.ensures.ok in
+    let done = c.in_ok-keep.ensures.ok in
     let k = c.self.invariant (sym done.1 ∙ live) in
     let limits = c.finish.ensures.limits in
-    let e = rw done.0 at (c.finish.ensures.finished k.before (given columns eq b c.self.inside.begun now k) now.progress k.stands) in
+    let e = rw done.0 at (c.finish.ensures.finished _ _ _ k.stands) in
     subst (HoldsCourse columns eq d c.self.inside.begun) (sym (course_after columns b.lines.width d.lines.width changes _ _ limits.width c.appended-self-inside.ensures))
-    (holds_ended columns eq b c.self.inside.begun now k d limits e)
+    (holds_ended _ _ _ _ _ k d limits e)
 
 pub returns-clause-ok : goal.returns-clause-ok
 returns-clause-ok g c =
-    let columns = g.W.CharWidth.columns in let eq = g.T.PartialEq.eq in let b = c.self.inside.wrapper in
+    let columns = g.W.CharWidth.columns in let b = c.self.inside.wrapper in
     let d = c.finish.new.self in let changes = c.self.inside.changes.items in
-    let now = course columns b.lines.width changes in let done = c.in_ok-keep.ensures.ok in
+    let done = c.in_ok-keep.ensures.ok in
     let k = c.self.invariant (ap (λ (s : State g.row.T.Denot). s.failure) c.self.view_is ∙ c.in_ok-refusal.ensures) in
     let limits = c.finish.ensures.limits in
-    let e = rw done.0 at (c.finish.ensures.finished k.before (given columns eq b c.self.inside.begun now k) now.progress k.stands) in
+    let e = rw done.0 at (c.finish.ensures.finished _ _ _ k.stands) in
     let failure = c.self.inside.failure in
     rw (← c.self.view_is) (
-      added columns eq b c.self.inside.begun now k,
-      left_names columns eq b c.self.inside.begun now k,
-      ends_run columns eq b c.self.inside.begun now k b.lines.may_overflow _ failure (g.met.W.CharWidth.drawn_in_one 32 refl) b.lines.positive e.fits,
+      added _ _ _ _ _ k,
+      left_names _ _ _ _ _ k,
+      ends_run _ _ _ _ _ k b.lines.may_overflow _ failure (g.met.W.CharWidth.drawn_in_one 32 refl) b.lines.positive e.fits,
       viewed_after columns b.lines.width d.lines.width changes _ _ limits.width c.appended-self-inside.ensures b.lines.may_overflow d.lines.may_overflow _ failure c.keep.new.failure limits.may_overflow done.1
-          ∙ ended_seen columns eq b c.self.inside.begun now k b.lines.may_overflow _ failure,
+          ∙ ended_seen _ _ _ _ _ k b.lines.may_overflow _ failure,
     )
 
 pub returns-clause-blank : goal.returns-clause-blank
 returns-clause-blank g c =
-    let columns = g.W.CharWidth.columns in let eq = g.T.PartialEq.eq in let b = c.self.inside.wrapper in
+    let columns = g.W.CharWidth.columns in let b = c.self.inside.wrapper in
     let d = c.finish.new.self in let changes = c.self.inside.changes.items in
-    let now = course columns b.lines.width changes in let done = c.in_ok-keep.ensures.ok in
+    let done = c.in_ok-keep.ensures.ok in
     let k = c.self.invariant (ap (λ (s : State g.row.T.Denot). s.failure) c.self.view_is ∙ c.in_ok-refusal.ensures) in
     let limits = c.finish.ensures.limits in let failure = c.self.inside.failure in
     rw (← c.self.view_is) (λ none.
     ap lines_left (viewed_after columns b.lines.width d.lines.width changes _ _ limits.width c.appended-self-inside.ensures b.lines.may_overflow d.lines.may_overflow None failure c.keep.new.failure limits.may_overflow done.1)
-    ∙ none_more columns eq b c.self.inside.begun now k b.lines.may_overflow None failure none)
+    ∙ none_more _ _ _ _ _ k b.lines.may_overflow None failure none)
 
 pub returns-clause-fit : goal.returns-clause-fit
 returns-clause-fit g c =
@@ -85,32 +85,28 @@ returns-clause-visible_fit g c =
 
 pub returns-in_err-keep-clause-too_narrow : goal.returns-in_err-keep-clause-too_narrow
 returns-in_err-keep-clause-too_narrow g c = λ none e.
-    let columns = g.W.CharWidth.columns in let eq = g.T.PartialEq.eq in let b = c.self.inside.wrapper in
-    let now = course columns b.lines.width c.self.inside.changes.items in
     let k = c.self.invariant (ap (λ (s : State g.row.T.Denot). s.failure) c.self.view_is ∙ none) in
     let p = err_from_is_err_and c.from_residual-in_err-keep.result c.from_residual-in_err-keep.ensures.1 in
     let is : c.finish.result ≡ Err E.TooNarrow = cc (p.1, p.2, e, c.in_err-keep.ensures.failed.0) in
-    let refused = c.finish.ensures.too_narrow is k.before (given columns eq b c.self.inside.begun now k) now.progress k.stands in
-    rw (← c.self.view_is) (refused.0, λ fit. refused.2 (word_fits columns eq b c.self.inside.begun now k fit))
+    let refused = c.finish.ensures.too_narrow is _ _ _ k.stands in
+    rw (← c.self.view_is) (refused.0, λ fit. refused.2 (word_fits _ _ _ _ _ k fit))
 
 pub returns-in_err-keep-clause-normal_too_narrow : goal.returns-in_err-keep-clause-normal_too_narrow
 returns-in_err-keep-clause-normal_too_narrow g c = λ none.
-    let columns = g.W.CharWidth.columns in let eq = g.T.PartialEq.eq in let b = c.self.inside.wrapper in
-    let now = course columns b.lines.width c.self.inside.changes.items in
     let k = c.self.invariant (ap (λ (s : State g.row.T.Denot). s.failure) c.self.view_is ∙ none) in
     rw (← c.self.view_is) (λ normal e.
     let p = err_from_is_err_and c.from_residual-in_err-keep.result c.from_residual-in_err-keep.ensures.1 in
     let is : c.finish.result ≡ Err E.TooNarrow = cc (p.1, p.2, e, c.in_err-keep.ensures.failed.0) in
-    let refused = c.finish.ensures.too_narrow is k.before (given columns eq b c.self.inside.begun now k) now.progress k.stands in
-    narrow_at_end columns eq b c.self.inside.begun now k refused.0 normal refused.2)
+    let refused = c.finish.ensures.too_narrow is _ _ _ k.stands in
+    narrow_at_end _ _ _ _ _ k refused.0 normal refused.2)
 
 pub returns-in_err-keep-clause-two_columns : goal.returns-in_err-keep-clause-two_columns
 returns-in_err-keep-clause-two_columns g c = λ none.
-    let columns = g.W.CharWidth.columns in let eq = g.T.PartialEq.eq in let b = c.self.inside.wrapper in
+    let columns = g.W.CharWidth.columns in let b = c.self.inside.wrapper in
     let now = course columns b.lines.width c.self.inside.changes.items in
     let k = c.self.invariant (ap (λ (s : State g.row.T.Denot). s.failure) c.self.view_is ∙ none) in
     rw (← c.self.view_is) (λ wide e.
     let p = err_from_is_err_and c.from_residual-in_err-keep.result c.from_residual-in_err-keep.ensures.1 in
     let is : c.finish.result ≡ Err E.TooNarrow = cc (p.1, p.2, e, c.in_err-keep.ensures.failed.0) in
-    let refused = c.finish.ensures.too_narrow is k.before (given columns eq b c.self.inside.begun now k) now.progress k.stands in
+    let refused = c.finish.ensures.too_narrow is _ _ _ k.stands in
     refused.2 (two_columns columns b.lines.width g.met.W.CharWidth.at_most_two wide now.progress.word))

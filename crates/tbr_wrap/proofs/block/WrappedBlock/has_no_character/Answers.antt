@@ -7,17 +7,17 @@ use Rattle.tbr_wrap.proofs.block.WrappedBlock.has_no_character.Goals as goal
 
 pub returns-then-not-has_line : goal.returns-then-not-has_line
 returns-then-not-has_line g c =
-    let columns = g.W.CharWidth.columns in let eq = g.T.PartialEq.eq in let b = c.self.inside.wrapper in
+    let columns = g.W.CharWidth.columns in let b = c.self.inside.wrapper in
     let now = course columns b.lines.width c.self.inside.changes.items in
     let k = c.self.invariant (ap (λ (s : State g.row.T.Denot). s.failure) c.self.view_is ∙ c.requires) in
-    let line = sym (line_held columns eq b c.self.inside.begun now k) ∙ sym (c.has_line.ensures k.before k.stands.lays.laid k.stands.lays.holds) in
-    let word = sym (word_held columns eq b c.self.inside.begun now k) ∙ sym c.has_word.ensures in
+    let line = sym (line_held _ _ _ _ _ k) ∙ sym (c.has_line.ensures k.before k.stands.lays.laid k.stands.lays.holds) in
+    let word = sym (word_held _ _ _ _ _ k) ∙ sym c.has_word.ensures in
     ap not (sym word) ∙ ap (λ t. t && not (has_character now.progress.word)) (sym (ap not (line ∙ c.if-not-has_line.true))) ∙ ap (λ (s : State g.row.T.Denot). s.no_character) c.self.view_is
 
 pub returns-else-not-has_line : goal.returns-else-not-has_line
 returns-else-not-has_line g c =
-    let columns = g.W.CharWidth.columns in let eq = g.T.PartialEq.eq in let b = c.self.inside.wrapper in
+    let columns = g.W.CharWidth.columns in let b = c.self.inside.wrapper in
     let now = course columns b.lines.width c.self.inside.changes.items in
     let k = c.self.invariant (ap (λ (s : State g.row.T.Denot). s.failure) c.self.view_is ∙ c.requires) in
-    let line = sym (line_held columns eq b c.self.inside.begun now k) ∙ sym (c.has_line.ensures k.before k.stands.lays.laid k.stands.lays.holds) in
+    let line = sym (line_held _ _ _ _ _ k) ∙ sym (c.has_line.ensures k.before k.stands.lays.laid k.stands.lays.holds) in
     ap not c.if-not-has_line.false ∙ ap (λ t. t && not (has_character now.progress.word)) (sym (ap not (line ∙ c.if-not-has_line.false))) ∙ ap (λ (s : State g.row.T.Denot). s.no_character) c.self.view_is

@@ -4,7 +4,7 @@ use Rattle.tbr_tagged.specs.View.{element_of}
 use Rattle.tbr_wrap.specs.State.{State}
 use Rattle.tbr_wrap.specs.Course.{course}
 use Rattle.tbr_wrap.specs.Held.{HoldsCourse}
-use Rattle.tbr_wrap.proofs.runs.Courses.{course_after, viewed_after, holds_taken, taken_seen, kept_seen, loose_last, loose_behind, no_loose, word_held, word_names_held, given}
+use Rattle.tbr_wrap.proofs.runs.Courses.{course_after, viewed_after, holds_taken, taken_seen, kept_seen, loose_last, loose_behind, no_loose, word_held, word_names_held}
 use Rattle.tbr_wrap.proofs.runs.NormalRuns.{trailing_so_far}
 use Rattle.tbr_wrap.proofs.block.WrappedBlock.take_trailing_fragments.Given.{Over}
 use Rattle.tbr_wrap.proofs.block.WrappedBlock.take_trailing_fragments.Goals.{In_ok-refusal}
@@ -20,7 +20,7 @@ returns-then-has_word-clause-taken g c =
     let columns = g.W.CharWidth.columns in let b = c.self.inside.wrapper in
     let now = course columns b.lines.width c.self.inside.changes.items in
     let k = held g (goal.at.returns-then-has_word-clause-taken g c).In_ok-refusal in
-    let some = sym (word_held columns g.T.PartialEq.eq b c.self.inside.begun now k) ∙ sym c.has_word.ensures ∙ c.if-has_word.true in
+    let some = sym (word_held _ _ _ _ _ k) ∙ sym c.has_word.ensures ∙ c.if-has_word.true in
     rw (← c.self.view_is) (kept_seen columns b.lines.width b.lines.may_overflow _ c.self.inside.failure now some).1
 
 pub returns-then-has_word-clause-markers : goal.returns-then-has_word-clause-markers
@@ -28,7 +28,7 @@ returns-then-has_word-clause-markers g c =
     let columns = g.W.CharWidth.columns in let b = c.self.inside.wrapper in
     let now = course columns b.lines.width c.self.inside.changes.items in
     let k = held g (goal.at.returns-then-has_word-clause-markers g c).In_ok-refusal in
-    let some = sym (word_held columns g.T.PartialEq.eq b c.self.inside.begun now k) ∙ sym c.has_word.ensures ∙ c.if-has_word.true in
+    let some = sym (word_held _ _ _ _ _ k) ∙ sym c.has_word.ensures ∙ c.if-has_word.true in
     rw (← c.self.view_is) (ap (map element_of) c.new.ensures.items ∙ sym (ap (map marker_element) (no_loose now.progress.word some)))
 
 pub returns-then-has_word-clause-last : goal.returns-then-has_word-clause-last
@@ -46,21 +46,21 @@ pub invariant_of-self-2 : goal.invariant_of-self-2
 invariant_of-self-2 g c = λ live.
     let columns = g.W.CharWidth.columns in let eq = g.T.PartialEq.eq in let b = c.self.inside.wrapper in
     let d = c.take_markers-taken.new.self in let changes = c.self.inside.changes.items in
-    let now = course columns b.lines.width changes in let done = c.in_ok-markers.ensures.ok in
+    let done = c.in_ok-markers.ensures.ok in
     let k = c.self.invariant (sym done.1 ∙ live) in
-    let none = sym (word_held columns eq b c.self.inside.begun now k) ∙ sym c.has_word.ensures ∙ c.if-has_word.false in
+    let none = sym (word_held _ _ _ _ _ k) ∙ sym c.has_word.ensures ∙ c.if-has_word.false in
     let limits = c.take_markers-taken.ensures.limits in
-    let stands = rw done.0 at (c.take_markers-taken.ensures.taken columns k.before (given columns eq b c.self.inside.begun now k) now.progress k.stands) in
+    let stands = rw done.0 at (c.take_markers-taken.ensures.taken columns _ _ _ k.stands) in
     subst (HoldsCourse columns eq d c.self.inside.begun) (sym (course_after columns b.lines.width d.lines.width changes _ _ limits.width c.appended-self-inside.ensures))
-    (holds_taken columns eq b c.self.inside.begun now k d limits none stands)
+    (holds_taken _ _ _ _ _ k d limits none stands)
 
 pub returns-clause-taken : goal.returns-clause-taken
 returns-clause-taken g c =
-    let columns = g.W.CharWidth.columns in let eq = g.T.PartialEq.eq in let b = c.self.inside.wrapper in
+    let columns = g.W.CharWidth.columns in let b = c.self.inside.wrapper in
     let d = c.take_markers-taken.new.self in let changes = c.self.inside.changes.items in
     let now = course columns b.lines.width changes in
     let k = c.self.invariant (ap (λ (s : State g.row.T.Denot). s.failure) c.self.view_is ∙ c.in_ok-refusal.ensures) in
-    let none = sym (word_held columns eq b c.self.inside.begun now k) ∙ sym c.has_word.ensures ∙ c.if-has_word.false in
+    let none = sym (word_held _ _ _ _ _ k) ∙ sym c.has_word.ensures ∙ c.if-has_word.false in
     let limits = c.take_markers-taken.ensures.limits in let failure = c.self.inside.failure in
     rw (← c.self.view_is)
     (viewed_after columns b.lines.width d.lines.width changes _ _ limits.width c.appended-self-inside.ensures b.lines.may_overflow d.lines.may_overflow _ failure c.keep_want.new.failure limits.may_overflow c.in_ok-markers.ensures.ok.1

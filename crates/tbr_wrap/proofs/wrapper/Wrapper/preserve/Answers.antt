@@ -52,7 +52,7 @@ returns-then-always_takes_space-clause-preserved g c = λ before given p s.
 
 pub returns-clause-preserved : goal.returns-clause-preserved
 returns-clause-preserved g c = λ before given p s.
-    let columns = g.W.CharWidth.columns in let eq = g.T.PartialEq.eq in
+    let columns = g.W.CharWidth.columns in
     let a = c.args.main_tag.now in let b = c.args.wrap_tag.now in
     let is = sym c.width.ensures ∙ c.in-Some.is in
     let same = c.call_tag-tag.ensures columns before given p s in
