@@ -5,7 +5,6 @@ ghost use Rattle.std.specs.Char.{is_whitespace};
 ghost use Rattle.std.specs.List.{AllByRecursion as Each};
 ghost use Rattle.tbr_model.specs.Width.{width_of_text};
 
-use crate::plain::Stretch;
 use std::alloc::Global;
 use std::marker::Model;
 use tbr_model::CharWidth;
@@ -113,9 +112,9 @@ impl SplitText {
         ensures placed { self.new
             ≡ record { placed = self.old.placed ++ take result.0 self.old.word; word = drop result.0 self.old.word } }
     {
-        let front = fitting::<W>(self.word_text(), most, room);
-        self.place_bytes(front.bytes, front.count);
-        (front.count, front.columns)
+        let (count, columns) = fitting::<W>(self.word_text(), most, room);
+        self.place_front(count);
+        (count, columns)
     }
 
     /// Places the word's first `count` characters. It takes the time of going over them.
@@ -124,18 +123,7 @@ impl SplitText {
         ensures { self.new
             ≡ record { placed = self.old.placed ++ take count self.old.word; word = drop count self.old.word } }
     {
-        let bytes = bytes_of(self.word_text(), count);
-        self.place_bytes(bytes, count);
-    }
-
-    /// Places the word's first `count` characters, which take so many bytes.
-    fn place_bytes(&mut self, bytes: usize, count: usize)
-        requires within { count ≤ length self.old.word }
-        requires bytes { bytes ≡ length (encodes (take count self.old.word)) }
-        ensures { self.new
-            ≡ record { placed = self.old.placed ++ take count self.old.word; word = drop count self.old.word } }
-    {
-        self.word_start += bytes;
+        self.word_start += bytes_of(self.word_text(), count);
         self.word -= count;
     }
 
@@ -276,29 +264,24 @@ fn bytes_of(text: &str, count: usize) -> usize
     text.len() - rest.as_str().len()
 }
 
-/// The characters that a text begins with, at most `most`, while they fit into `room` columns.
-fn fitting<W: CharWidth>(text: &str, most: usize, room: usize) -> Stretch
-    ensures bytes { result.bytes ≡ length (encodes (take result.count (chars text.now))) }
-    ensures most { result.count ≤ most }
-    ensures within { result.count ≤ length (chars text.now) }
-    ensures room { result.columns ≤ room }
-    ensures columns { result.columns ≡ width_of_text W.columns (take result.count (chars text.now)) }
+/// How many of the first `most` characters fit into `room` columns, and their columns.
+fn fitting<W: CharWidth>(text: &str, most: usize, room: usize) -> (usize, usize)
+    ensures most { result.0 ≤ most }
+    ensures within { result.0 ≤ length (chars text.now) }
+    ensures room { result.1 ≤ room }
+    ensures columns { result.1 ≡ width_of_text W.columns (take result.0 (chars text.now)) }
 {
-    let mut front = Stretch {
-        bytes: 0,
-        count: 0,
-        columns: 0,
-    };
+    let mut count = 0;
+    let mut columns = 0;
     for c in text.chars() {
         let width = W::width(c).unwrap_or(0);
-        if front.count == most || width > room - front.columns {
-            return front;
+        if count == most || width > room - columns {
+            return (count, columns);
         }
-        front.bytes += c.len_utf8();
-        front.count += 1;
-        front.columns += width;
+        count += 1;
+        columns += width;
     }
-    front
+    (count, columns)
 }
 
 /// How many of the last `most` characters are spaces at the end. A space is one byte, and no other character has that
