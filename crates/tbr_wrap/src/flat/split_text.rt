@@ -13,9 +13,6 @@ use tbr_tagged::{OutOfMemory, spaces, text_width};
 /// So few bytes that are handed out may stay.
 const FEW: usize = 1024;
 
-/// So many bytes the C library's least block has, so that a text with room for them takes no more memory than one byte.
-const LEAST_ROOM: usize = 24;
-
 /// Characters that are placed, and behind them those of the current word. What is handed out is forgotten.
 ///
 /// A contract sees the two lists of characters.
@@ -214,8 +211,7 @@ impl SplitText {
     {
         let placed = &self.text.as_str()[self.start..self.word_start];
         let bytes = bytes_of(placed, count);
-        let mut taken = String::with_capacity(*self.text.allocator(), bytes.max(LEAST_ROOM))?;
-        taken.push_str(&placed[..bytes])?;
+        let taken = String::from_str(*self.text.allocator(), &placed[..bytes])?;
         self.start += bytes;
         self.give_back();
         Ok(taken)

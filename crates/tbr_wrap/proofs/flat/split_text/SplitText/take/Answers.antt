@@ -1,4 +1,4 @@
-use Rattle.std.proofs.Common.{◌≡◌, ◌++◌, arith, length, take, drop, ap, ◌∙◌, slice_range, ℕ, List}
+use Rattle.std.proofs.Common.{◌≡◌, arith, length, take, drop, ap, ◌∙◌, slice_range, ℕ, List}
 use Rattle.std.specs.Str.{chars}
 use Rattle.std.specs.String.{string_bytes}
 use lib.Utf8.{encodes}
@@ -46,7 +46,7 @@ returns-clause-taken c =
     let p = (goal.at.returns-clause-taken c).After-bytes_of-bytes in
     let front : c.range.result.now ≡ take c.bytes_of-bytes.result (slice_range (bytes p) (i p) (j p)) =
     c.range.ensures.value ∙ ap (λ m. take m c.range-placed.result.now) (omega arith) ∙ ap (λ bs. take c.bytes_of-bytes.result bs) (placed p) in
-    ap chars (c.in_ok-push_str.ensures.bytes ∙ ap (λ bs. bs ++ c.range.result.now) c.in_ok-taken.ensures.bytes ∙ front)
+    ap chars (c.in_ok-taken.ensures.ok ∙ front)
     ∙ taken_letters (bytes p) (i p) (j p) c.self.inside.word c.args.count c.bytes_of-bytes.result c.self.invariant (counted p)
     ∙ ap (λ (l : Letters). take c.args.count l.placed) c.self.view_is
 
