@@ -6,8 +6,8 @@ use Rattle.std.proofs.Math.Seq.{drop-append_seam, take-append_seam}
 use Rattle.std.proofs.lemmas.List.{take-append-drop, length-append, length-drop, length-replicate}
 use Rattle.std.proofs.lemmas.Str.{IsUtf8-take, IsUtf8-from_ascii, IsCharBoundary-from_drop, IsUtf8-append, chars-append, chars-IsAscii, encodes-chars, encodes-append, encodes-IsAscii}
 use lib.Utf8.{encodes}
-use Rattle.tbr_wrap.specs.Flat.{letters, AreParts}
-use Rattle.tbr_wrap.proofs.storage.TextBytes.{IsCut, cut, take_cut, drop_cut, cut_first, from_cut, letters_cut, word_utf8, placed_utf8, SplitsAt, splits_at, front_within}
+use Rattle.tbr_wrap.specs.Flat.{Letters, letters, AreParts}
+use Rattle.tbr_wrap.proofs.storage.TextBytes.{IsCut, IsSplit, split, cut, take_cut, drop_cut, cut_first, word_utf8, placed_utf8, word_is, placed_is, word_len, SplitsAt, splits_at, front_within}
 
 -- ---- spaces at the end
 
@@ -73,31 +73,27 @@ next_none P ds e d more f = let k : [] ≡ d ∷ more = sym e ∙ f in absurd (c
 -- ---- what is taken out between the placed characters and the word
 
 -- a text without the spaces at its end
-pub record HasSpaces (text : List ℕ) (n : ℕ) (front : List ℕ) : Type 0 where
+pub record HasSpaces (text cs : List ℕ) (n : ℕ) (front : List ℕ) : Type 0 where
   pub whole : text ≡ front ++ replicate n 32
   pub utf8 : IsUtf8 front
-  pub letters : chars front ≡ take (length (chars text) - n) (chars text)
+  pub letters : chars front ≡ take (length cs - n) cs
 
-has_spaces : (text front : List ℕ) (n : ℕ) → IsUtf8 text → chars text ≡ front ++ replicate n 32 → HasSpaces text n (encodes (take (length (chars text) - n) (chars text)))
-has_spaces text front n u e =
-    let m = length (chars text) - n in
+has_spaces : (text cs front : List ℕ) (n : ℕ) → IsUtf8 text → chars text ≡ cs → cs ≡ front ++ replicate n 32 → HasSpaces text cs n (encodes (take (length cs - n) cs))
+has_spaces text cs front n u is e =
+    let m = length cs - n in
     let place : m ≡ length front = omega (arith, ap length e, length-append front (replicate n 32), length-replicate {A = ℕ} n 32) in
-    let back : drop m (chars text) ≡ replicate n 32 = ap (λ i. drop i (chars text)) place ∙ ap (λ cs. drop (length front) cs) e ∙ drop-append_seam front (replicate n 32) in
-    let s = splits_at text m u in
+    let back : drop m cs ≡ replicate n 32 = ap (λ i. drop i cs) place ∙ ap (λ ds. drop (length front) ds) e ∙ drop-append_seam front (replicate n 32) in
+    let s = splits_at text cs m u is in
     record {
-      whole = s.whole ∙ ap (λ cs. encodes (take m (chars text)) ++ encodes cs) back ∙ ap (λ bs. encodes (take m (chars text)) ++ bs) (encodes-IsAscii (replicate n 32) (spaces_ascii n));
+      whole = s.whole ∙ ap (λ ds. encodes (take m cs) ++ encodes ds) back ∙ ap (λ bs. encodes (take m cs) ++ bs) (encodes-IsAscii (replicate n 32) (spaces_ascii n));
       utf8 = s.front_utf8;
       letters = s.front;
     }
 
-pub spaces_within : (bytes front : List ℕ) (i j w n : ℕ) → AreParts bytes i j w → chars (slice_range bytes i j) ≡ front ++ replicate n 32 → n ≤ j
-spaces_within bytes front i j w n h e =
-    let c = cut bytes i j w h in
-    let s = has_spaces (slice_range bytes i j) front n (placed_utf8 bytes i j w h) e in
-    let kept = encodes (take (length (chars (slice_range bytes i j)) - n) (chars (slice_range bytes i j))) in
-    omega (arith, c.end, spaces_short (slice_range bytes i j) kept n s.whole)
+module _ (bytes front : List ℕ) (i j w n : ℕ) (l : Letters) (h : AreParts bytes i j w) (seen : letters bytes i j ≡ l) (e : l.placed ≡ front ++ replicate n 32) where
+  abbrev gone : List ℕ
+  gone = take i bytes
 
-module _ (bytes front : List ℕ) (i j w n b k : ℕ) (h : AreParts bytes i j w) (e : chars (slice_range bytes i j) ≡ front ++ replicate n 32) (k_is : k ≡ length (encodes (take b (chars (drop j bytes))))) where
   abbrev placed : List ℕ
   placed = slice_range bytes i j
 
@@ -105,60 +101,56 @@ module _ (bytes front : List ℕ) (i j w n b k : ℕ) (h : AreParts bytes i j w)
   word = drop j bytes
 
   abbrev kept : List ℕ
-  kept = encodes (take (length (chars placed) - n) (chars placed))
+  kept = encodes (take (length l.placed - n) l.placed)
 
-  abbrev blanks : List ℕ
-  blanks = encodes (take b (chars word))
+  parted : IsCut bytes i j gone placed word
+  parted = cut bytes i j w l h seen
 
-  abbrev rest : List ℕ
-  rest = encodes (drop b (chars word))
+  spaces_in : HasSpaces placed l.placed n kept
+  spaces_in = has_spaces placed l.placed front n (placed_utf8 bytes i j w l h seen) (placed_is bytes i j w l h seen) e
 
-  spaces_in : HasSpaces placed n kept
-  spaces_in = has_spaces placed front n (placed_utf8 bytes i j w h) e
-
-  word_split : SplitsAt word b
-  word_split = splits_at word b (word_utf8 bytes i j w h)
+  pub spaces_within : n ≤ j
+  spaces_within = omega (arith, parted.end, spaces_short placed kept n spaces_in.whole)
 
   -- where the spaces begin
-  cut_spaces : IsCut bytes i (j - n) (take i bytes) kept (replicate n 32 ++ word)
-  cut_spaces =
-      let c = cut bytes i j w h in
-      record {
-        whole = c.whole ∙ ap (λ bs. take i bytes ++ (bs ++ word)) spaces_in.whole ∙ ap (λ bs. take i bytes ++ bs) (append_assoc kept (replicate n 32) word);
-        start = c.start;
-        end = omega (arith, c.end, spaces_short placed kept n spaces_in.whole);
-      }
-
-  -- where the white space ends
-  cut_blanks : IsCut bytes i (j + k) (take i bytes) (placed ++ blanks) rest
-  cut_blanks = cut_first bytes i j (j + k) (take i bytes) placed word blanks rest (cut bytes i j w h) word_split.whole (ap (λ m. j + m) k_is)
+  cut_spaces : IsCut bytes i (j - n) gone kept (replicate n 32 ++ word)
+  cut_spaces = record {
+    whole = parted.whole ∙ ap (λ bs. gone ++ (bs ++ word)) spaces_in.whole ∙ ap (λ bs. gone ++ bs) (append_assoc kept (replicate n 32) word);
+    start = parted.start;
+    end = omega (arith, parted.end, spaces_short placed kept n spaces_in.whole);
+  }
 
   pub spaces_boundary : IsCharBoundary bytes (j - n)
   spaces_boundary =
       IsCharBoundary-from_drop bytes (j - n) (omega (arith, h.word_in))
-      (subst (λ (bs : List ℕ). IsUtf8 bs) (sym (drop_cut bytes i (j - n) (take i bytes) kept (replicate n 32 ++ word) cut_spaces))
-      (IsUtf8-append (replicate n 32) word (IsUtf8-from_ascii (replicate n 32) (spaces_ascii n)) (word_utf8 bytes i j w h)))
+      (subst (λ (bs : List ℕ). IsUtf8 bs) (sym (drop_cut bytes i (j - n) gone kept (replicate n 32 ++ word) cut_spaces))
+      (IsUtf8-append (replicate n 32) word (IsUtf8-from_ascii (replicate n 32) (spaces_ascii n)) (word_utf8 bytes i j w l h seen)))
 
-  pub blanks_boundary : IsCharBoundary bytes (j + k)
-  blanks_boundary =
-      IsCharBoundary-from_drop bytes (j + k) (front_within bytes i j w b k h k_is)
-      (subst (λ (bs : List ℕ). IsUtf8 bs) (sym (drop_cut bytes i (j + k) (take i bytes) (placed ++ blanks) rest cut_blanks)) word_split.back_utf8)
+  module _ (b k : ℕ) (k_is : k ≡ length (encodes (take b l.word))) where
+    abbrev rest : List ℕ
+    rest = encodes (drop b l.word)
 
-  cut_removed : (xs : List ℕ) → xs ≡ take (j - n) bytes ++ drop (j + k) bytes → IsCut xs i (j - n) (take i bytes) kept rest
-  cut_removed xs f = record {
-    whole = f ∙ ap (λ bs. bs ++ drop (j + k) bytes) (take_cut bytes i (j - n) (take i bytes) kept (replicate n 32 ++ word) cut_spaces)
-        ∙ ap (λ bs. (take i bytes ++ kept) ++ bs) (drop_cut bytes i (j + k) (take i bytes) (placed ++ blanks) rest cut_blanks) ∙ append_assoc (take i bytes) kept rest;
-    start = cut_spaces.start;
-    end = cut_spaces.end;
-  }
+    word_split : SplitsAt word l.word b
+    word_split = splits_at word l.word b (word_utf8 bytes i j w l h seen) (word_is bytes i j w l h seen)
 
-  pub parts_removed : (xs : List ℕ) → xs ≡ take (j - n) bytes ++ drop (j + k) bytes → AreParts xs i (j - n) (w - b)
-  parts_removed xs f =
-      from_cut xs i (j - n) (w - b) (take i bytes) kept rest (cut_removed xs f) spaces_in.utf8 word_split.back_utf8
-      (omega (arith, h.word_len, ap length word_split.back, length-drop b (chars word)))
+    -- behind the white space
+    behind_blanks : drop (j + k) bytes ≡ rest
+    behind_blanks =
+        let blanks = encodes (take b l.word) in
+        drop_cut bytes i (j + k) gone (placed ++ blanks) rest (cut_first bytes i j w l h seen blanks rest (j + k) word_split.whole (ap (λ m. j + m) k_is))
 
-  pub letters_removed : (xs : List ℕ) → xs ≡ take (j - n) bytes ++ drop (j + k) bytes →
-      letters xs i (j - n) ≡ record { placed = take (length (chars placed) - n) (chars placed); word = drop b (chars word) }
-  letters_removed xs f =
-      letters_cut xs i (j - n) (take i bytes) kept rest (cut_removed xs f) ∙ ap (λ cs. record { placed = cs; word = chars rest }) spaces_in.letters
-      ∙ ap (λ cs. record { placed = take (length (chars placed) - n) (chars placed); word = cs }) word_split.back
+    pub blanks_boundary : IsCharBoundary bytes (j + k)
+    blanks_boundary =
+        IsCharBoundary-from_drop bytes (j + k) (front_within bytes i j w l h seen b k k_is) (subst (λ (bs : List ℕ). IsUtf8 bs) (sym behind_blanks) word_split.back_utf8)
+
+    pub removed : (xs : List ℕ) → xs ≡ take (j - n) bytes ++ drop (j + k) bytes →
+        IsSplit xs i (j - n) (w - b) (record { placed = take (length l.placed - n) l.placed; word = drop b l.word })
+    removed xs f =
+        split xs i (j - n) (w - b) gone kept rest (record { placed = take (length l.placed - n) l.placed; word = drop b l.word })
+        (record {
+          whole = f ∙ ap (λ bs. bs ++ drop (j + k) bytes) (take_cut bytes i (j - n) gone kept (replicate n 32 ++ word) cut_spaces)
+              ∙ ap (λ bs. (gone ++ kept) ++ bs) behind_blanks ∙ append_assoc gone kept rest;
+          start = cut_spaces.start;
+          end = cut_spaces.end;
+        })
+        spaces_in.utf8 word_split.back_utf8 (omega (arith, word_len bytes i j w l h seen, length-drop b l.word)) spaces_in.letters word_split.back

@@ -24,7 +24,7 @@ pub record Seen (columns : ℕ → Option ℕ) (room : ℕ) (cs : List ℕ) (s :
 -- the first characters of a text, by their bytes
 pub front_of : (text cs rest : List ℕ) (n : ℕ) → IsUtf8 text → chars text ≡ cs ++ rest → n ≡ length (encodes cs) → IsFront text n (length cs) × (chars (take n text) ≡ cs)
 front_of text cs rest n utf8 split is =
-    let m = length cs in let at = splits_at text m utf8 in
+    let m = length cs in let at = splits_at text (chars text) m utf8 refl in
     let first : take m (chars text) ≡ cs = ap (λ ds. take m ds) split ∙ take-append_seam cs rest in
     let back = encodes (drop m (chars text)) in
     let whole : text ≡ encodes cs ++ back = at.whole ∙ ap (λ ds. encodes ds ++ back) first in

@@ -5,6 +5,7 @@ ghost use Rattle.std.specs.Char.{is_whitespace};
 ghost use Rattle.std.specs.List.{AllByRecursion as Each};
 ghost use Rattle.tbr_model.specs.Width.{width_of_text};
 
+use crate::plain::Stretch;
 use std::alloc::Global;
 use std::marker::Model;
 use tbr_model::CharWidth;
@@ -58,6 +59,13 @@ impl SplitText {
         self.word
     }
 
+    /// The text that is placed.
+    fn placed_text(&self) -> &str
+        ensures { chars result.now ≡ self.now.placed }
+    {
+        &self.text.as_str()[self.start..self.word_start]
+    }
+
     /// The word's text.
     fn word_text(&self) -> &str
         ensures { chars result.now ≡ self.now.word }
@@ -109,9 +117,9 @@ impl SplitText {
         ensures placed { self.new
             ≡ record { placed = self.old.placed ++ take result.0 self.old.word; word = drop result.0 self.old.word } }
     {
-        let (count, columns) = fitting::<W>(self.word_text(), most, room);
-        self.place_front(count);
-        (count, columns)
+        let front = fitting::<W>(self.word_text(), most, room);
+        self.place_bytes(front.bytes, front.count);
+        (front.count, front.columns)
     }
 
     /// Places the word's first `count` characters. It takes the time of going over them.
@@ -120,7 +128,18 @@ impl SplitText {
         ensures { self.new
             ≡ record { placed = self.old.placed ++ take count self.old.word; word = drop count self.old.word } }
     {
-        self.word_start += bytes_of(self.word_text(), count);
+        let bytes = bytes_of(self.word_text(), count);
+        self.place_bytes(bytes, count);
+    }
+
+    /// Places the word's first `count` characters, which take so many bytes.
+    fn place_bytes(&mut self, bytes: usize, count: usize)
+        requires within { count ≤ length self.old.word }
+        requires bytes { bytes ≡ length (encodes (take count self.old.word)) }
+        ensures { self.new
+            ≡ record { placed = self.old.placed ++ take count self.old.word; word = drop count self.old.word } }
+    {
+        self.word_start += bytes;
         self.word -= count;
     }
 
@@ -157,7 +176,8 @@ impl SplitText {
         ensures all { result < most → (front : List ℕ) → self.now.placed ≡ front ++ replicate (suc result) 32 → ⊥ }
         ensures fits { result + length self.now.word ≤ usize.MAX }
     {
-        spaces_at_end(&self.text.as_str()[self.start..self.word_start], most)
+        let _ = &self.text;
+        spaces_at_end(self.placed_text(), most)
     }
 
     /// How many characters at the word's beginning are white space. It takes the time of going over these.
@@ -209,7 +229,7 @@ impl SplitText {
         ensures rest { IfOk result (λ _. self.new ≡ record self.old { placed = drop count self.old.placed }) }
         ensures err { OnErr result (self.new ≡ self.old) }
     {
-        let placed = &self.text.as_str()[self.start..self.word_start];
+        let placed = self.placed_text();
         let bytes = bytes_of(placed, count);
         let taken = String::from_str(*self.text.allocator(), &placed[..bytes])?;
         self.start += bytes;
@@ -260,24 +280,33 @@ fn bytes_of(text: &str, count: usize) -> usize
     text.len() - rest.as_str().len()
 }
 
-/// How many of the first `most` characters fit into `room` columns, and their columns.
-fn fitting<W: CharWidth>(text: &str, most: usize, room: usize) -> (usize, usize)
-    ensures most { result.0 ≤ most }
-    ensures within { result.0 ≤ length (chars text.now) }
-    ensures room { result.1 ≤ room }
-    ensures columns { result.1 ≡ width_of_text W.columns (take result.0 (chars text.now)) }
+/// The characters that a text begins with, at most `most`, while they fit into `room` columns.
+fn fitting<W: CharWidth>(text: &str, most: usize, room: usize) -> Stretch
+    ensures bytes { result.bytes ≡ length (encodes (take result.count (chars text.now))) }
+    ensures most { result.count ≤ most }
+    ensures within { result.count ≤ length (chars text.now) }
+    ensures room { result.columns ≤ room }
+    ensures columns { result.columns ≡ width_of_text W.columns (take result.count (chars text.now)) }
 {
-    let mut count = 0;
-    let mut columns = 0;
-    for c in text.chars() {
+    let mut front = Stretch {
+        bytes: 0,
+        count: 0,
+        columns: 0,
+    };
+    let mut rest = text.chars();
+    while front.count < most {
+        let Some(c) = rest.next() else {
+            return front;
+        };
         let width = W::width(c).unwrap_or(0);
-        if count == most || width > room - columns {
-            return (count, columns);
+        if width > room - front.columns {
+            return front;
         }
-        count += 1;
-        columns += width;
+        front.bytes = text.len() - rest.as_str().len();
+        front.count += 1;
+        front.columns += width;
     }
-    (count, columns)
+    front
 }
 
 /// How many of the last `most` characters are spaces at the end. A space is one byte, and no other character has that
