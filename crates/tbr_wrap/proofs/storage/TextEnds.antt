@@ -51,7 +51,7 @@ more_spaces text front n u e =
 -- ---- white space at the beginning
 
 -- the first of some characters are seen
-pub seen_front : (cs xs rest : List ℕ) (n : ℕ) → cs ≡ xs ++ rest → n ≡ length xs → (n ≤ length cs) × (take n cs ≡ xs)
+seen_front : (cs xs rest : List ℕ) (n : ℕ) → cs ≡ xs ++ rest → n ≡ length xs → (n ≤ length cs) × (take n cs ≡ xs)
 seen_front cs xs rest n f e =
     (omega (arith, e, ap length f, length-append xs rest), ap (λ i. take i cs) e ∙ ap (λ ys. take (length xs) ys) f ∙ take-append_seam xs rest)
 

@@ -14,6 +14,10 @@ use tbr_tagged::{OutOfMemory, spaces, text_width};
 /// So few bytes that are handed out may stay.
 const FEW: usize = 1024;
 
+/// The bytes of the C library's least block. A text with room for them takes no more memory than one of a byte, and
+/// what pads it up to them needs no request.
+const LEAST_ROOM: usize = 24;
+
 /// Characters that are placed, and behind them those of the current word. What is handed out is forgotten.
 ///
 /// A contract sees the two lists of characters.
@@ -231,7 +235,8 @@ impl SplitText {
     {
         let placed = self.placed_text();
         let bytes = bytes_of(placed, count);
-        let taken = String::from_str(*self.text.allocator(), &placed[..bytes])?;
+        let mut taken = String::with_capacity(*self.text.allocator(), bytes.max(LEAST_ROOM))?;
+        taken.push_str(&placed[..bytes])?;
         self.start += bytes;
         self.give_back();
         Ok(taken)
