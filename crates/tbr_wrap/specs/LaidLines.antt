@@ -1,9 +1,9 @@
 -- What the fields of laid lines say of what is laid.
-use Rattle.std.specs.Prelude.{◌≡◌, ℕ, ◌≤◌, Bool, Option, List, ◌∷◌, ◌++◌, map, length, Result, OnOk}
+use Rattle.std.specs.Prelude.{◌≡◌, ℕ, ◌≤◌, ◌<◌, Bool, Option, List, ◌++◌, map, length, take, drop, ⊤, Result, OnOk}
 use Rattle.std.specs.List.{AllZip, AllByRecursion as Each}
 use Rattle.tbr_model.specs.Run.{Item, items_width}
 use Rattle.tbr_model.specs.Layout.{joined}
-use Rattle.tbr_model.specs.Laid.{Laid}
+use Rattle.tbr_model.specs.Laid.{Laid, put_items}
 use Rattle.tbr_model.specs.Markers.{names_in_items}
 use Rattle.tbr_tagged.specs.Elements.{SameItems}
 use Rattle.tbr_wrap.specs.Wrapped.{FitsBlock}
@@ -46,9 +46,14 @@ abbrev pub LinesFollow : {A X E : Type 0} → (ℕ → Option ℕ) → (A → A 
 LinesFollow {A} columns eq b c result f = (before given : List (List (Item A))) (r : Laid A) →
     HoldsRule columns eq b before given r → OnOk result (HoldsRule columns eq c before given (f r))
 
--- items, and what their first one leaves
-abbrev pub FirstIsGone : {A : Type 0} → List (Item A) → List (Item A) → Type 0
-FirstIsGone {A} is left = (i : Item A) × (rest : List (Item A)) × (is ≡ i ∷ rest) × (left ≡ rest)
+-- A call that succeeds takes items that the word begins with, and puts them on lines as the rule does.
+pub record PutsFront {A E : Type 0} (columns : ℕ → Option ℕ) (eq : A → A → Bool) (b c : LaidLines A)
+    (result : Result ⊤ E) : Type 0 where
+  pub count : ℕ
+  pub some : OnOk result (0 < count)
+  pub word : OnOk result (c.flat.word ≡ drop count b.flat.word)
+  pub put : (js : List (Item A)) → SameItems eq b.flat.word js →
+      LinesFollow columns eq b c result (λ r. put_items columns b.width r (take count js))
 
 -- The fields hold what is laid, with placed items behind it that no line has yet.
 pub record HoldsLaidBefore {A : Type 0} (b : LaidLines A) (before : List (List (Item A))) (l : Laid A)

@@ -378,6 +378,8 @@ impl<T: Eq + Clone, W: CharWidth> WrappedBlock<T, W> {
 
     /// Hands out the first ended line, as it stands without padding.
     fn take_line(&mut self) -> Result<Option<TaggedLine<T>>, Error>
+    where
+        T: Drop,
         requires faithful { CopiesAreEqual T.is_clone T.eq }
         requires unfailed { self.old.failure ≡ None }
         ensures some { (text : List (Item T)) (rest : List (List (Item T))) → lines_left self.old ≡ text ∷ rest →

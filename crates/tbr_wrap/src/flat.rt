@@ -48,6 +48,14 @@ impl<T> Model for FlatText<T> {
     ghost invariant = { λ a. (covered a.placed ≡ length a.text.placed) × (covered a.word ≡ length a.text.word) };
 }
 
+/// The items that a word begins with: how many they are, how many of them are markers, and their columns.
+#[derive(Clone, Copy)]
+pub struct Front {
+    pub count: usize,
+    pub markers: usize,
+    pub columns: usize,
+}
+
 impl<T> FlatText<T> {
     /// A text without items. It takes no memory.
     pub fn new(alloc: Global) -> FlatText<T>
@@ -106,7 +114,9 @@ impl<T> FlatText<T> {
     {
         self.word.push(name)
     }
+}
 
+impl<T: Drop> FlatText<T> {
     /// Places the word, and answers how many markers it has. It takes the time of moving them.
     ///
     /// Where memory is refused the items may be lost.
@@ -124,51 +134,51 @@ impl<T> FlatText<T> {
         Ok(markers)
     }
 
-    /// Places the word's first item, and answers how many markers that is, one or none. It takes constant time.
+    /// Places items that the word begins with, at most `most`: a marker, or characters up to a marker, while they fit
+    /// into `room` columns. It takes the time of going over them.
     ///
-    /// Where memory is refused the item may be lost.
-    pub fn place_first(&mut self) -> Result<usize, OutOfMemory>
-        requires { 0 < length self.old.word }
-        ensures { IfOk result (λ n. (i : Item T) × (rest : List (Item T)) × (self.old.word ≡ i ∷ rest)
-            × (self.new ≡ record { placed = self.old.placed ++ i ∷ []; word = rest })
-            × (n ≡ length (names_in_items (i ∷ [])))) }
+    /// Where memory is refused the items may be lost.
+    pub fn place_front<W: CharWidth>(
+        &mut self,
+        most: usize,
+        room: usize,
+    ) -> Result<Front, OutOfMemory>
+        requires { 0 < most }
+        ensures some { 0 < length self.old.word → items_width W.columns (take 1 self.old.word) ≤ room →
+            IfOk result (λ front. 0 < front.count) }
+        ensures most { IfOk result (λ front. front.count ≤ most) }
+        ensures within { IfOk result (λ front. front.count ≤ length self.old.word) }
+        ensures room { IfOk result (λ front. front.columns ≤ room) }
+        ensures columns { IfOk result (λ front.
+            front.columns ≡ items_width W.columns (take front.count self.old.word)) }
+        ensures markers { IfOk result (λ front.
+            front.markers ≡ length (names_in_items (take front.count self.old.word))) }
+        ensures placed { IfOk result (λ front. self.new ≡ record {
+          placed = self.old.placed ++ take front.count self.old.word;
+          word = drop front.count self.old.word;
+        }) }
     {
         if let Some(name) = self.word.pop_first() {
             self.placed.push(name)?;
-            return Ok(1);
+            return Ok(Front {
+                count: 1,
+                markers: 1,
+                columns: 0,
+            });
         }
         self.text.holds_characters();
-        self.placed.add_characters(1)?;
-        self.text.place_front(1);
-        self.word.remove_first(1);
-        Ok(0)
-    }
-
-    /// Places the characters that the word begins with, up to a marker, while they fit into `room` columns. It answers
-    /// how many they are, and their columns.
-    ///
-    /// Where memory is refused the items may be lost.
-    pub fn place_fitting<W: CharWidth>(
-        &mut self,
-        room: usize,
-    ) -> Result<(usize, usize), OutOfMemory>
-        ensures within { IfOk result (λ r. r.0 ≤ length self.old.word) }
-        ensures room { IfOk result (λ r. r.1 ≤ room) }
-        ensures columns { IfOk result (λ r. r.1 ≡ items_width W.columns (take r.0 self.old.word)) }
-        ensures markers { IfOk result (λ r. length (names_in_items (take r.0 self.old.word)) ≡ 0) }
-        ensures placed { IfOk result (λ r. self.new ≡ record {
-          placed = self.old.placed ++ take r.0 self.old.word;
-          word = drop r.0 self.old.word;
-        }) }
-    {
-        self.text.holds_characters();
-        let (count, columns) = self.text.place_fitting::<W>(self.word.before(), room);
+        let longest = self.word.before().min(most);
+        let (count, columns) = self.text.place_fitting::<W>(longest, room);
         if let Err(e) = self.placed.add_characters(count) {
             clear(&mut self.text, &mut self.placed, &mut self.word);
             return Err(e);
         }
         self.word.remove_first(count);
-        Ok((count, columns))
+        Ok(Front {
+            count,
+            markers: 0,
+            columns,
+        })
     }
 
     /// Puts the last `last` placed items in front of the word, if they are markers.
@@ -188,9 +198,7 @@ impl<T> FlatText<T> {
         }
         Ok(())
     }
-}
 
-impl<T: Drop> FlatText<T> {
     /// Takes the markers out that the word begins with.
     pub fn take_markers(&mut self) -> Result<Vec<TaggedLineElement<T>>, OutOfMemory>
         requires { has_character self.old.word ≡ false }
@@ -226,7 +234,7 @@ impl<T: Drop> FlatText<T> {
     }
 }
 
-impl<T: Eq + Clone> FlatText<T> {
+impl<T: Eq + Clone + Drop> FlatText<T> {
     /// Adds a character to the word. The tag is copied only where a stretch of it begins.
     ///
     /// Where memory is refused the items may be lost.
@@ -312,15 +320,22 @@ impl<T: Eq + Clone> FlatText<T> {
             line.push(TaggedLineElement::FragmentStart(name))?;
             return Ok(1);
         }
-        let (count, piece) = self.text.take_piece(most.min(self.placed.before()))?;
-        self.placed.remove_first(count);
-        line.push_str(piece)?;
-        Ok(count)
+        match self.text.take_piece(most.min(self.placed.before())) {
+            Ok((count, piece)) => {
+                self.placed.remove_first(count);
+                line.push_str(piece)?;
+                Ok(count)
+            }
+            Err(e) => {
+                clear(&mut self.text, &mut self.placed, &mut self.word);
+                Err(e)
+            }
+        }
     }
 }
 
 /// Forgets all items.
-fn clear<T>(text: &mut Characters<T>, placed: &mut Markers, word: &mut Markers)
+fn clear<T: Drop>(text: &mut Characters<T>, placed: &mut Markers, word: &mut Markers)
     ensures text { text.new ≡ record { placed = []; word = [] } }
     ensures placed { placed.new ≡ record { markers = []; behind = 0 } }
     ensures word { word.new ≡ record { markers = []; behind = 0 } }

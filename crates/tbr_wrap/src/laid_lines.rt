@@ -60,13 +60,13 @@ impl<T> LaidLines<T> {
     }
 }
 
-impl<T: Eq + Clone> LaidLines<T> {
+impl<T: Eq + Clone + Drop> LaidLines<T> {
     ghost use Rattle.tbr_model.specs.Run.{item_width, items_width, has_character};
-    ghost use Rattle.tbr_model.specs.Laid.{Laid, extended, end_line, end_if_character, end_if_columns, put_item, put_items};
+    ghost use Rattle.tbr_model.specs.Laid.{Laid, extended, end_line, end_if_character, end_if_columns, put_items};
     ghost use Rattle.tbr_model.specs.Rule.{spaces, trimmed, without_leading, put_spaces, put_tab};
     ghost use Rattle.tbr_model.specs.Greedy.{IsNarrow};
-    ghost use Rattle.tbr_wrap.specs.LaidLines.{HoldsLaid, HoldsRule, HoldsRuleBefore, LinesFollow, FirstIsGone, KeepsLimits, LeavesAfterLine};
-    ghost use Rattle.tbr_tagged.specs.Elements.{items_of, IsMerged, SameItem};
+    ghost use Rattle.tbr_wrap.specs.LaidLines.{HoldsLaid, HoldsRule, HoldsRuleBefore, LinesFollow, PutsFront, KeepsLimits, LeavesAfterLine};
+    ghost use Rattle.tbr_tagged.specs.Elements.{items_of, IsMerged};
     ghost use Rattle.tbr_tagged.specs.declared.error.Error.TheVariants as E;
 
     /// Ends the open line.
@@ -122,57 +122,35 @@ impl<T: Eq + Clone> LaidLines<T> {
         self.end_line()
     }
 
-    /// Puts the word's first item, of `width` columns, on the open line.
-    fn place_first(&mut self, width: usize) -> Result<(), OutOfMemory>
+    /// Puts the word's first item, of `width` columns, behind those of no width, and ends the line.
+    fn place_wide<W: CharWidth>(&mut self, width: usize) -> Result<(), OutOfMemory>
         requires some { 0 < length self.old.flat.word }
-        requires room { self.old.line_width + width ≤ self.old.width }
-        ensures word { OnOk result (FirstIsGone self.old.flat.word self.new.flat.word) }
-        ensures placed { (columns : ℕ → Option ℕ) (i j : Item T) (rest : List (Item T)) →
-            self.old.flat.word ≡ i ∷ rest → SameItem T.eq i j → item_width columns j ≡ width →
-            LinesFollow columns T.eq self.old self.new result (λ r. extended r (j ∷ []) (item_width columns j)) }
-        ensures limits { KeepsLimits self.old self.new }
-    {
-        let Some(line_len) = self.line_len.checked_add(1) else {
-            return Err(OutOfMemory);
-        };
-        let markers = self.flat.place_first()?;
-        self.line_len = line_len;
-        self.line_markers += markers;
-        self.line_width += width;
-        Ok(())
-    }
-
-    /// Puts the word's first item behind those of no width, and ends the line.
-    fn place_wide(&mut self) -> Result<(), OutOfMemory>
-        requires some { 0 < length self.old.flat.word }
+        requires width { width ≡ items_width W.columns (take 1 self.old.flat.word) }
         requires blank { self.old.line_width ≡ 0 }
         requires may { self.old.may_overflow ≡ true }
-        ensures word { OnOk result (FirstIsGone self.old.flat.word self.new.flat.word) }
-        ensures placed { (columns : ℕ → Option ℕ) (i j : Item T) (rest : List (Item T)) →
-            self.old.flat.word ≡ i ∷ rest → SameItem T.eq i j → self.old.width < item_width columns j →
-            LinesFollow columns T.eq self.old self.new result (λ r.
-            end_line (extended r (j ∷ []) (item_width columns j))) }
+        ensures word { OnOk result (self.new.flat.word ≡ drop 1 self.old.flat.word) }
+        ensures placed { (j : Item T) (js : List (Item T)) → SameItems T.eq self.old.flat.word (j ∷ js) →
+            self.old.width < item_width W.columns j → LinesFollow W.columns T.eq self.old self.new result (λ r.
+            end_line (extended r (j ∷ []) (item_width W.columns j))) }
         ensures limits { KeepsLimits self.old self.new }
     {
         let Some(line_len) = self.line_len.checked_add(1) else {
             return Err(OutOfMemory);
         };
-        self.flat.place_first()?;
+        self.flat.place_front::<W>(1, width)?;
         self.ended.push_back(line_len)?;
         self.line_len = 0;
         self.line_markers = 0;
         Ok(())
     }
 
-    /// Puts the word's first item, which is wider than a line: behind items of no width, on a line that is ended at
-    /// once.
-    fn put_wide(&mut self) -> Result<(), Error>
+    /// Puts the word's first item, of `width` columns, which is wider than a line: behind items of no width, on a line
+    /// that is ended at once.
+    fn put_wide<W: CharWidth>(&mut self, width: usize) -> Result<(), Error>
         requires some { 0 < length self.old.flat.word }
-        ensures put { (columns : ℕ → Option ℕ) (i j : Item T) (rest : List (Item T)) →
-            self.old.flat.word ≡ i ∷ rest → SameItem T.eq i j → self.old.width < item_width columns j →
-            LinesFollow columns T.eq self.old self.new result (λ r.
-            end_line (extended (end_if_columns r) (j ∷ []) (item_width columns j))) }
-        ensures word { OnOk result (FirstIsGone self.old.flat.word self.new.flat.word) }
+        requires width { width ≡ items_width W.columns (take 1 self.old.flat.word) }
+        requires wide { self.old.width < width }
+        ensures put { PutsFront W.columns T.eq self.old self.new result }
         ensures too_narrow { result ≡ Err E.TooNarrow → self.old.may_overflow ≡ false }
         ensures limits { KeepsLimits self.old self.new }
     {
@@ -180,47 +158,45 @@ impl<T: Eq + Clone> LaidLines<T> {
             return Err(Error::TooNarrow);
         }
         self.end_if_columns()?;
-        self.place_wide()?;
+        self.place_wide::<W>(width)?;
         Ok(())
     }
 
-    /// Puts the word's first item, of `width` columns: on the open line, or on a fresh one where it doesn't fit.
-    fn put_first(&mut self, width: usize) -> Result<(), Error>
+    /// Puts items that the word begins with on the open line, which has room for the first one: a marker, or characters
+    /// up to a marker, as many as fit.
+    fn place_front<W: CharWidth>(&mut self) -> Result<(), OutOfMemory>
         requires some { 0 < length self.old.flat.word }
-        ensures put { (columns : ℕ → Option ℕ) (i j : Item T) (rest : List (Item T)) →
-            self.old.flat.word ≡ i ∷ rest → SameItem T.eq i j → item_width columns j ≡ width →
-            LinesFollow columns T.eq self.old self.new result (λ r. put_item columns self.old.width r j) }
-        ensures word { OnOk result (FirstIsGone self.old.flat.word self.new.flat.word) }
+        requires room { self.old.line_width + items_width W.columns (take 1 self.old.flat.word) ≤ self.old.width }
+        ensures put { PutsFront W.columns T.eq self.old self.new result }
+        ensures limits { KeepsLimits self.old self.new }
+    {
+        let room = self.width - self.line_width;
+        let front = self.flat.place_front::<W>(usize::MAX, room)?;
+        let Some(line_len) = self.line_len.checked_add(front.count) else {
+            return Err(OutOfMemory);
+        };
+        self.line_len = line_len;
+        self.line_markers += front.markers;
+        self.line_width += front.columns;
+        Ok(())
+    }
+
+    /// Puts items that the word begins with on the open line, or on a fresh one where the first, of `width` columns,
+    /// doesn't fit.
+    fn put_front<W: CharWidth>(&mut self, width: usize) -> Result<(), Error>
+        requires some { 0 < length self.old.flat.word }
+        requires width { width ≡ items_width W.columns (take 1 self.old.flat.word) }
+        ensures put { PutsFront W.columns T.eq self.old self.new result }
         ensures too_narrow { result ≡ Err E.TooNarrow → (self.old.may_overflow ≡ false) × (self.old.width < width) }
         ensures limits { KeepsLimits self.old self.new }
     {
         if width > self.width {
-            return self.put_wide();
+            return self.put_wide::<W>(width);
         }
-        if width <= self.width - self.line_width {
-            self.place_first(width)?;
-            return Ok(());
+        if width > self.width - self.line_width {
+            self.end_line()?;
         }
-        self.end_line()?;
-        self.place_first(width)?;
-        Ok(())
-    }
-
-    /// Puts characters that the word begins with on the open line, as many as fit.
-    fn place_fitting<W: CharWidth>(&mut self) -> Result<(), OutOfMemory>
-        ensures placed { (n : ℕ) × OnOk result (self.new.flat.word ≡ drop n self.old.flat.word)
-            × ((js : List (Item T)) → SameItems T.eq self.old.flat.word js →
-            LinesFollow W.columns T.eq self.old self.new
-            result (λ r. put_items W.columns self.old.width r (take n js))) }
-        ensures limits { KeepsLimits self.old self.new }
-    {
-        let room = self.width - self.line_width;
-        let (count, columns) = self.flat.place_fitting::<W>(room)?;
-        let Some(line_len) = self.line_len.checked_add(count) else {
-            return Err(OutOfMemory);
-        };
-        self.line_len = line_len;
-        self.line_width += columns;
+        self.place_front::<W>()?;
         Ok(())
     }
 
@@ -234,8 +210,7 @@ impl<T: Eq + Clone> LaidLines<T> {
         ensures limits { KeepsLimits self.old self.new }
     {
         while let Some(width) = self.flat.first_width::<W>() {
-            self.put_first(width)?;
-            self.place_fitting::<W>()?;
+            self.put_front::<W>(width)?;
         }
         Ok(())
     }
@@ -262,8 +237,6 @@ impl<T: Eq + Clone> LaidLines<T> {
 
     /// Puts `count` spaces on the open line.
     pub fn place_spaces(&mut self, count: usize, tag: T) -> Result<(), OutOfMemory>
-    where
-        T: Drop,
         requires faithful { CopiesAreEqual T.is_clone T.eq }
         requires some { 0 < count }
         requires room { self.old.line_width + count ≤ self.old.width }
@@ -313,8 +286,6 @@ impl<T: Eq + Clone> LaidLines<T> {
     /// Puts `count` spaces on the open line, which has room, and on the next ones. A line that they fill is ended. The
     /// word is moved once.
     pub fn put_spaces(&mut self, count: usize, tag: T) -> Result<(), OutOfMemory>
-    where
-        T: Drop,
         requires faithful { CopiesAreEqual T.is_clone T.eq }
         requires some { 0 < count }
         requires room { self.old.line_width < self.old.width }
@@ -335,8 +306,6 @@ impl<T: Eq + Clone> LaidLines<T> {
 
     /// Puts spaces from `column` up to the next tab stop, or up to the end of the line, which is then ended.
     pub fn put_tab(&mut self, column: usize, tag: &T) -> Result<(), OutOfMemory>
-    where
-        T: Drop,
         requires faithful { CopiesAreEqual T.is_clone T.eq }
         requires within { column < self.old.width }
         requires behind { self.old.line_width ≤ column }

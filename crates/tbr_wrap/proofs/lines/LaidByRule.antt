@@ -1,16 +1,19 @@
 -- What the fields hold is what the rule lays.
-use Rattle.std.proofs.Common.{◌≡◌, ◌≢◌, None, nat_le, ℕ, zero, suc, Some, ◌+◌, ◌<◌, ◌≤◌, Bool, true, false, Option, List, [], ◌∷◌, ◌++◌, length, take, drop, refl, ap, sym, ◌∙◌, subst, arith, append_assoc, unwrap_or, MatchOption}
+use Rattle.std.proofs.Common.{Ok, ◌≡◌, ◌≢◌, None, nat_le, ℕ, zero, suc, Some, ◌+◌, ◌<◌, ◌≤◌, Bool, true, false, Option, List, [], ◌∷◌, ◌++◌, length, take, drop, refl, ap, sym, ◌∙◌, subst, arith, append_assoc, unwrap_or, MatchOption}
 use borrow.Author.Tests.{le-leb, lt-leb}
 use Rattle.std.specs.Cmp.{IsEquivalence}
-use Rattle.tbr_model.specs.Run.{Item, glyph, marker, item_width, items_width, has_character}
+use Rattle.std.proofs.lemmas.List.Elements.{length_all_zip}
+use Rattle.tbr_model.specs.Run.{Item, item_width, items_width, has_character}
 use Rattle.tbr_model.specs.Greedy.{IsNarrow}
 use Rattle.tbr_model.specs.Rule.{spaces}
 use Rattle.tbr_model.specs.Laid.{Laid, extended, end_line, end_if_character, end_if_columns, put_item, put_items}
 use Rattle.tbr_model.proofs.words.Items.{no_character_no_width}
 use Rattle.tbr_tagged.specs.Elements.{SameItem, SameItems}
-use Rattle.tbr_wrap.specs.LaidLines.{HoldsLaid, LaidLikeRule, HoldsRule, KeepsLimits}
+use Rattle.tbr_wrap.specs.Flat.{Flat}
+use Rattle.tbr_wrap.specs.LaidLines.{HoldsLaid, LaidLikeRule, HoldsRule, PutsFront, KeepsLimits}
 use Rattle.tbr_wrap.specs.declared.laid_lines.LaidLines.{LaidLines}
-use Rattle.tbr_tagged.proofs.SameItems.{same_items_append, all_zip_append, same_has}
+use Rattle.tbr_tagged.proofs.SameItems.{same_items_append, all_zip_append, same_has, same_width}
+use Rattle.tbr_wrap.proofs.storage.MarkedItems.{same_take}
 use Rattle.tbr_wrap.proofs.lines.LineWidths.{measured_ended, measured_extended, measured_wide}
 
 module _ {A : Type 0} (eq : A → A → Bool) (laws : IsEquivalence eq) (given : List (List (Item A))) where
@@ -75,18 +78,22 @@ module _ {A : Type 0} (columns : ℕ → Option ℕ) (eq : A → A → Bool) (la
 -- ---- which case of putting an item it is
 
 module _ {A : Type 0} (columns : ℕ → Option ℕ) (width : ℕ) (P : Laid A → Type 0) (r : Laid A) (i : Item A) where
-  pub item_here : r.width + item_width columns i ≤ width → P (extended r (i ∷ []) (item_width columns i)) → P (put_item columns width r i)
-  item_here fits h = let test : nat_le (r.width + item_width columns i) width ≡ true = le-leb _ _ fits in rw test h
-
-  pub item_next : width < r.width + item_width columns i → item_width columns i ≤ width → P (extended (end_line r) (i ∷ []) (item_width columns i)) → P (put_item columns width r i)
-  item_next full fits h =
-      let test : nat_le (r.width + item_width columns i) width ≡ false = lt-leb _ _ full in
-      let narrow : nat_le (item_width columns i) width ≡ true = le-leb _ _ fits in rw (test, narrow) h
-
   pub item_wide : width < item_width columns i → P (end_line (extended (end_if_columns r) (i ∷ []) (item_width columns i))) → P (put_item columns width r i)
   item_wide wide h =
       let test : nat_le (r.width + item_width columns i) width ≡ false = lt-leb _ _ (omega arith) in
       let narrow : nat_le (item_width columns i) width ≡ false = lt-leb _ _ wide in rw (test, narrow) h
+
+-- items of which the first doesn't fit the open line, and fits a fresh one
+pub put_fresh : {A : Type 0} (columns : ℕ → Option ℕ) (width : ℕ) (r : Laid A) (js : List (Item A)) (n : ℕ) → 0 < n → r.width ≤ width → width < r.width + items_width columns (take 1 js) → items_width columns (take 1 js) ≤ width →
+    put_items columns width r (take n js) ≡ put_items columns width (end_line r) (take n js)
+put_fresh {A} columns width r js zero some small full fits = absurd (omega (arith, some))
+put_fresh {A} columns width r [] (suc n) some small full fits = absurd (omega (arith, small, full))
+put_fresh {A} columns width r (j ∷ js) (suc n) some small full fits =
+    let old : nat_le (r.width + item_width columns j) width ≡ false = lt-leb _ _ (omega (arith, full)) in
+    let narrow : nat_le (item_width columns j) width ≡ true = le-leb _ _ (omega (arith, fits)) in
+    let new : nat_le (0 + item_width columns j) width ≡ true = le-leb _ _ (omega (arith, fits)) in
+    let first : put_item columns width r j ≡ put_item columns width (end_line r) j = rw (old, narrow, new) refl in
+    ap (λ (l : Laid A). put_items columns width l (take n js)) first
 
 -- a word's first item is as narrow as all of them
 pub narrow_first : {A : Type 0} (columns : ℕ → Option ℕ) (width : ℕ) (word rest : List (Item A)) (i : Item A) → word ≡ i ∷ rest → IsNarrow columns width word → (item_width columns i ≤ width) × IsNarrow columns width rest
@@ -117,14 +124,14 @@ pub spaces_length : {A : Type 0} (n : ℕ) (a : A) → length (spaces n a) ≡ n
 spaces_length zero a = refl
 spaces_length (suc n) a = ap suc (spaces_length n a)
 
-pub front_is : {X : Type 0} (xs : List X) (x y : X) (more rest : List X) → xs ≡ x ∷ more → xs ≡ y ∷ rest → (x ≡ y) × (more ≡ rest)
-front_is xs x y more rest e f = (cc, cc)
+-- items that are the same as others begin as these
+pub same_first : {A : Type 0} (eq : A → A → Bool) (is js : List (Item A)) (j : Item A) → SameItems eq is (j ∷ js) → (i : Item A) × (rest : List (Item A)) × (is ≡ i ∷ rest) × SameItem eq i j
+same_first eq [] js j h = absurd h
+same_first eq (i ∷ is) js j h = (i, is, refl, h.0)
 
--- items that are the same as others, first by first
-pub split_same : {A : Type 0} (eq : A → A → Bool) (word : List (Item A)) (i : Item A) (rest js : List (Item A)) → word ≡ i ∷ rest → SameItems eq word js →
-    (j : Item A) × (others : List (Item A)) × (js ≡ j ∷ others) × SameItem eq i j × SameItems eq rest others
-split_same eq word i rest [] e h = absurd (subst (λ is. SameItems eq is []) e h)
-split_same eq word i rest (j ∷ js) e h = let k = subst (λ is. SameItems eq is (j ∷ js)) e h in (j, js, refl, k.0, k.1)
+pub some_same : {A : Type 0} (eq : A → A → Bool) (is js : List (Item A)) → 0 < length is → SameItems eq is js → (j : Item A) × (rest : List (Item A)) × (js ≡ j ∷ rest)
+some_same eq is [] some h = absurd (omega (arith, some, length_all_zip (SameItem eq) is [] h))
+some_same eq is (j ∷ js) some h = (j, js, refl)
 
 pub none_same : {A : Type 0} (eq : A → A → Bool) (js : List (Item A)) → SameItems eq [] js → js ≡ []
 none_same eq [] h = refl
@@ -135,9 +142,24 @@ pub none_first : {A : Type 0} (columns : ℕ → Option ℕ) (o : Option ℕ) (w
 none_first columns None word h not = h
 none_first columns (Some n) word h not = absurd (not n refl)
 
--- the first item is as wide as another that is the same
-pub same_width : {A : Type 0} (columns : ℕ → Option ℕ) (eq : A → A → Bool) (i j : Item A) → SameItem eq i j → item_width columns i ≡ item_width columns j
-same_width columns eq (glyph c a) (glyph d b) h = ap (λ x. unwrap_or (columns x) 0) h.0
-same_width columns eq (marker m) (marker n) h = refl
-same_width columns eq (glyph c a) (marker n) h = absurd h
-same_width columns eq (marker m) (glyph d b) h = absurd h
+-- ---- items that a word begins with are put
+
+module _ {A E F : Type 0} (columns : ℕ → Option ℕ) (eq : A → A → Bool) (laws : IsEquivalence eq) (b mid c : LaidLines A) (f : PutsFront {E = E} columns eq mid c (Ok tt)) where
+  pub put_here : mid ≡ b → PutsFront {E = F} columns eq b c (Ok tt)
+  put_here same =
+      let g = subst (λ (a : LaidLines A). PutsFront {E = E} columns eq a c (Ok tt)) same f in
+      record { count = g.count; some = g.some; word = g.word; put = g.put }
+
+  -- on a fresh line
+  pub put_next : mid.flat ≡ b.flat → mid.width ≡ b.width → ((before given : List (List (Item A))) (r : Laid A) → HoldsRule columns eq b before given r → HoldsRule columns eq mid before given (end_line r)) →
+      b.width < b.line_width + items_width columns (take 1 b.flat.word) → items_width columns (take 1 b.flat.word) ≤ b.width → PutsFront {E = F} columns eq b c (Ok tt)
+  put_next flat width ended full fits = record {
+    count = f.count;
+    some = f.some;
+    word = f.word ∙ ap (λ (x : Flat A). drop f.count x.word) flat;
+    put = λ js same before given r h.
+        let wide = same_width columns eq (take 1 b.flat.word) (take 1 js) (same_take eq laws 1 b.flat.word js same) in
+        let fresh = put_fresh columns b.width r js f.count f.some h.measured.small (omega (arith, wide, full, h.holds.width, h.shows.width)) (omega (arith, wide, fits)) in
+        let more = f.put js (subst (λ (x : Flat A). SameItems eq x.word js) (sym flat) same) before given (end_line r) (ended before given r h) in
+        subst (λ (l : Laid A). HoldsRule columns eq c before given l) (ap (λ n. put_items columns n (end_line r) (take f.count js)) width ∙ sym fresh) more;
+  }

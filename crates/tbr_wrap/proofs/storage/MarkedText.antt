@@ -7,7 +7,6 @@ use Rattle.std.proofs.lemmas.Bool.{or_parts}
 use Rattle.std.proofs.lemmas.List.{length-append, length-take, take-append-drop, take-append-le, take_at, take_all, drop_at}
 use Rattle.tbr_model.specs.Entry.{is_glyph}
 use Rattle.tbr_model.specs.Run.{Item, marker, has_character}
-use Rattle.tbr_model.specs.Markers.{names_in_items}
 use Rattle.tbr_model.proofs.lists.Each.{each_front}
 use Rattle.tbr_model.proofs.words.Items.{has_character-append}
 use Rattle.tbr_tagged.specs.Elements.{SameItems}
@@ -15,7 +14,7 @@ use Rattle.tbr_wrap.specs.Flat.{Flat, MarkerPlaces, marked, covered, before_firs
 use Rattle.tbr_wrap.proofs.storage.StretchTags.{take_behind}
 use Rattle.tbr_wrap.proofs.storage.MarkerPlaces.{covered_followed, covered_push, some_before, no_marks}
 use Rattle.tbr_tagged.proofs.SameItems.{same_items, same_items_trans, same_items_append}
-use Rattle.tbr_wrap.proofs.storage.MarkedItems.{length-marked, marked_more, marked_push, marked_followed, marked_shortened, taken_front, no_character, none_at_end, characters_alone}
+use Rattle.tbr_wrap.proofs.storage.MarkedItems.{length-marked, marked_more, marked_push, marked_followed, marked_shortened, taken_front, no_character, none_at_end}
 
 -- characters with the markers of those that are placed and of the word
 abbrev pub with_marks : {A : Type 0} → Flat A → MarkerPlaces → MarkerPlaces → Flat A
@@ -57,16 +56,12 @@ module _ {A : Type 0} where
 
   -- the word's first item is placed, a marker
   pub marker_placed : (f t : Flat A) (p w q v : MarkerPlaces) (name : List ℕ) (rest : List (ℕ × List ℕ)) → covered p ≡ length f.placed → w.markers ≡ (0, name) ∷ rest → v ≡ record w { markers = rest } →
-      q ≡ record { markers = p.markers ++ (p.behind, name) ∷ []; behind = 0 } → with_marks f p w ≡ t →
-      (i : Item A) × (is : List (Item A)) × (t.word ≡ i ∷ is) × (with_marks f q v ≡ record { placed = t.placed ++ i ∷ []; word = is }) × (1 ≡ length (names_in_items (i ∷ [])))
-  marker_placed f t p w q v name rest h first e d view = (
-    marker name,
-    marked f.word rest,
-    sym (ap (λ (x : Flat A). x.word) view) ∙ ap (marked f.word) first,
-    ap (λ (m : MarkerPlaces). with_marks f m v) d ∙ ap (λ (m : MarkerPlaces). record { placed = marked f.placed (p.markers ++ (p.behind, name) ∷ []); word = marked f.word m.markers }) e
-        ∙ ap (λ is. record { placed = is; word = marked f.word rest }) (marked_push f.placed p name h ∙ ap (λ (x : Flat A). x.placed ++ marker name ∷ []) view),
-    refl,
-  )
+      q ≡ record { markers = p.markers ++ (p.behind, name) ∷ []; behind = 0 } → with_marks f p w ≡ t → with_marks f q v ≡ record { placed = t.placed ++ take 1 t.word; word = drop 1 t.word }
+  marker_placed f t p w q v name rest h first e d view =
+      let word : marker name ∷ marked f.word rest ≡ t.word = sym (ap (marked f.word) first) ∙ ap (λ (x : Flat A). x.word) view in
+      ap (λ (m : MarkerPlaces). with_marks f m v) d ∙ ap (λ (m : MarkerPlaces). record { placed = marked f.placed (p.markers ++ (p.behind, name) ∷ []); word = marked f.word m.markers }) e
+      ∙ ap (λ is. record { placed = is; word = marked f.word rest }) (marked_push f.placed p name h ∙ ap (λ (x : Flat A). x.placed ++ marker name ∷ []) view)
+      ∙ ap (λ is. record { placed = t.placed ++ take 1 is; word = drop 1 is }) word
 
   -- where no marker comes first a character does
   pub character_first : (is items : List (Item A)) (m : MarkerPlaces) → covered m ≡ length is → 0 < length items → ((name : List ℕ) (rest : List (ℕ × List ℕ)) → m.markers ≡ (0, name) ∷ rest → ⊥) → marked is m.markers ≡ items → 0 < before_first m
@@ -88,11 +83,6 @@ module _ {A : Type 0} where
   none_in_front is items m n within h glyphs view =
       let front : take n is ≡ take n items = sym (taken_front is m n within h) ∙ ap (take n) view in
       subst (Each (λ i. is_glyph i ≡ true)) front (each_front (λ i. is_glyph i ≡ true) (take n is) (drop n is) (subst (Each (λ i. is_glyph i ≡ true)) (sym (take-append-drop n is)) glyphs))
-
-  pub one_in_front : (items : List (Item A)) → 0 < length items → Each (λ i. is_glyph i ≡ true) (take 1 items) →
-      (i : Item A) × (rest : List (Item A)) × (items ≡ i ∷ rest) × (take 1 items ≡ i ∷ []) × (drop 1 items ≡ rest) × (0 ≡ length (names_in_items (i ∷ [])))
-  one_in_front [] h glyphs = absurd (omega arith)
-  one_in_front (i ∷ is) h glyphs = (i, is, refl, refl, refl, sym (characters_alone (i ∷ []) glyphs))
 
 -- ---- elements that are handed out
 

@@ -1,7 +1,7 @@
 -- The tags that stretches stand for.
-use Rattle.std.proofs.Common.{◌≡◌, ℕ, suc, zero, ◌+◌, ◌-◌, ◌<◌, ◌≤◌, Bool, true, List, [], ◌∷◌, ◌++◌, length, take, drop, get_or, set, replicate, refl, ap, sym, ◌∙◌, subst, arith, append_assoc, append-nil, add-one, drop-cons, length-set, inl, inr}
+use Rattle.std.proofs.Common.{◌≡◌, ℕ, suc, zero, ◌+◌, ◌-◌, ◌<◌, ◌≤◌, Bool, true, List, [], ◌∷◌, ◌++◌, length, take, drop, get_or, set, replicate, refl, ap, sym, ◌∙◌, subst, arith, append_assoc, append-nil, add-one, drop-cons, inl, inr}
 use Rattle.std.proofs.lemmas.Bool.{cases_lt}
-use Rattle.std.proofs.lemmas.List.{set_split, drop-set, take_all, drop_all, take-append-drop, drop-set-lt, length-append, length-take, drop-append-le, length-replicate}
+use Rattle.std.proofs.lemmas.List.{take_at, drop_at, set_split, drop-set, take_all, drop_all, take-append-drop, length-append, length-take, drop-append-le, length-replicate}
 use Rattle.std.proofs.Math.Seq.{take-append-add, drop-append-add}
 use Rattle.std.specs.List.{AllZip}
 use Rattle.std.specs.Cmp.{IsEquivalence}
@@ -51,8 +51,17 @@ module _ {A : Type 0} where
   take_run (suc o) (suc m) t rest h = ap (λ ts. t ∷ ts) (take_run o m t rest (omega arith))
 
   -- the first stretch's first tags
-  pub first_tags : (xs : List (Stretch A)) (k n : ℕ) (s : Stretch A) → k < length xs → s ≡ get_or xs k s → n ≤ s.more → take (n + 1) (tags_of (drop k xs)) ≡ replicate (n + 1) s.tag
-  first_tags xs k n s h is less = ap (take (n + 1)) (stretch_tags xs k s h is) ∙ take_run (n + 1) (s.more + 1) s.tag (tags_of (drop (suc k) xs)) (omega (arith, less))
+  pub first_tags : (xs : List (Stretch A)) (n : ℕ) (s : Stretch A) → 0 < length xs → s ≡ get_or xs 0 s → n ≤ s.more → take n (tags_of xs) ≡ replicate n s.tag
+  first_tags xs n s h is less = ap (take n) (stretch_tags xs zero s h is) ∙ take_run n (s.more + 1) s.tag (tags_of (drop 1 xs)) (omega (arith, less))
+
+  -- the first stretch, and what is behind it
+  pub whole_first : (xs ys : List (Stretch A)) (s : Stretch A) → xs ≡ s ∷ ys → (take (s.more + 1) (tags_of xs) ≡ replicate (s.more + 1) s.tag) × (tags_of ys ≡ drop (s.more + 1) (tags_of xs))
+  whole_first xs ys s e =
+      let run = replicate (s.more + 1) s.tag in
+      let tags : tags_of xs ≡ run ++ tags_of ys = ap tags_of e ∙ ap (λ n. replicate n s.tag ++ tags_of ys) (sym (add-one s.more)) in (
+        ap (take (s.more + 1)) tags ∙ take_at run (tags_of ys) (s.more + 1) (length-replicate (s.more + 1) s.tag),
+        sym (ap (drop (s.more + 1)) tags ∙ drop_at run (tags_of ys) (s.more + 1) (length-replicate (s.more + 1) s.tag)),
+      )
 
   -- where a tag is left, so is a stretch
   pub has_stretch : (xs : List (Stretch A)) (k : ℕ) → 0 < length (tags_of (drop k xs)) → k < length xs
@@ -89,24 +98,6 @@ module _ {A : Type 0} where
 
   pub drop_behind : (front ts : List A) (o p : ℕ) → p ≡ length front + o → drop p (front ++ ts) ≡ drop o ts
   drop_behind front ts o p e = ap (λ i. drop i (front ++ ts)) e ∙ drop-append-add front ts o
-
-  -- a whole stretch is skipped
-  pub skip_whole : (xs : List (Stretch A)) (k n : ℕ) (s : Stretch A) → k < length xs → s ≡ get_or xs k s → s.more < n → drop n (tags_of (drop k xs)) ≡ drop (n - (s.more + 1)) (tags_of (drop (k + 1) xs))
-  skip_whole xs k n s h is less =
-      let m : n ≡ length (replicate (s.more + 1) s.tag) + (n - (s.more + 1)) = omega (arith, less, length-replicate (s.more + 1) s.tag) in
-      ap (λ ts. drop n ts) (stretch_tags xs k s h is) ∙ drop_behind (replicate (s.more + 1) s.tag) (tags_of (drop (suc k) xs)) (n - (s.more + 1)) n m
-      ∙ ap (λ i. drop (n - (s.more + 1)) (tags_of (drop i xs))) (sym (add-one k))
-
-  -- what the loop that skips keeps
-  pub skip_turn : (xs : List (Stretch A)) (k n : ℕ) (s : Stretch A) → k < length xs → s ≡ get_or xs k s → s.more < n → n ≤ length (tags_of (drop k xs)) →
-      (k + 1 ≤ length (set xs k s)) × (n - (s.more + 1) ≤ length (tags_of (drop (k + 1) (set xs k s)))) × (drop (n - (s.more + 1)) (tags_of (drop (k + 1) (set xs k s))) ≡ drop n (tags_of (drop k xs)))
-  skip_turn xs k n s h is less within =
-      let e : drop (k + 1) (set xs k s) ≡ drop (k + 1) xs = drop-set-lt (k + 1) xs k s (omega arith) in
-      let len : length (tags_of (drop (k + 1) (set xs k s))) ≡ length (tags_of (drop (suc k) xs)) = ap (λ ys. length (tags_of ys)) e ∙ ap (λ i. length (tags_of (drop i xs))) (add-one k) in (
-        omega (arith, h, length-set xs k s),
-        omega (arith, len, stretch_len xs k s h is, within, less),
-        ap (λ ys. drop (n - (s.more + 1)) (tags_of ys)) e ∙ sym (skip_whole xs k n s h is less),
-      )
 
   -- where a count from the end reaches
   pub count_len : (xs : List (Stretch A)) (k i : ℕ) (s : Stretch A) → k ≡ suc i → k ≤ length xs → s ≡ get_or xs i s → length (tags_of (drop i xs)) ≡ s.more + 1 + length (tags_of (drop k xs))

@@ -97,6 +97,8 @@ impl<T> Characters<T> {
     /// Places the characters that the word begins with, at most `most`, while they fit into `room` columns. It answers
     /// how many they are, and their columns.
     pub fn place_fitting<W: CharWidth>(&mut self, most: usize, room: usize) -> (usize, usize)
+        ensures some { 0 < most → 0 < length self.old.word → items_width W.columns (take 1 self.old.word) ≤ room →
+            0 < result.0 }
         ensures most { result.0 ≤ most }
         ensures within { result.0 ≤ length self.old.word }
         ensures room { result.1 ≤ room }
@@ -105,15 +107,6 @@ impl<T> Characters<T> {
             ≡ record { placed = self.old.placed ++ take result.0 self.old.word; word = drop result.0 self.old.word } }
     {
         self.text.place_fitting::<W>(most, room)
-    }
-
-    /// Places the word's first `count` characters. It takes the time of going over them.
-    pub fn place_front(&mut self, count: usize)
-        requires { count ≤ length self.old.word }
-        ensures { self.new
-            ≡ record { placed = self.old.placed ++ take count self.old.word; word = drop count self.old.word } }
-    {
-        self.text.place_front(count);
     }
 }
 
@@ -143,7 +136,7 @@ impl<T: Drop> Characters<T> {
     }
 }
 
-impl<T: Eq + Clone> Characters<T> {
+impl<T: Eq + Clone + Drop> Characters<T> {
     /// Adds a character to the word. The tag is copied only where a stretch of it begins.
     ///
     /// Where memory is refused the characters may be lost.
@@ -203,7 +196,7 @@ impl<T: Eq + Clone> Characters<T> {
 
     /// Hands out the first placed characters, at most `most` and all under one tag, and answers how many they are.
     ///
-    /// Where memory is refused the characters stay as they were.
+    /// Where memory is refused the characters may be lost.
     pub fn take_piece(&mut self, most: usize) -> Result<(usize, TaggedString<T>), OutOfMemory>
         requires faithful { CopiesAreEqual T.is_clone T.eq }
         requires some { 0 < most }
@@ -212,16 +205,19 @@ impl<T: Eq + Clone> Characters<T> {
         ensures items { IfOk result (λ r. (length (chars (string_bytes r.1.s)) ≡ r.0)
             × SameItems T.eq (text_items (chars (string_bytes r.1.s)) r.1.tag) (take r.0 self.old.placed)) }
         ensures rest { IfOk result (λ r. self.new ≡ record self.old { placed = drop r.0 self.old.placed }) }
-        ensures err { OnErr result (self.new ≡ self.old) }
     {
-        let (count, tag) = self.tags.first(most)?;
-        let s = self.text.take(count)?;
-        self.tags.skip(count);
-        Ok((count, TaggedString { s, tag }))
+        let (count, tag) = self.tags.take(most)?;
+        match self.text.take(count) {
+            Ok(s) => Ok((count, TaggedString { s, tag })),
+            Err(e) => {
+                clear(&mut self.text, &mut self.tags);
+                Err(e)
+            }
+        }
     }
 }
 
-impl<T> Characters<T> {
+impl<T: Drop> Characters<T> {
     /// Forgets all characters.
     pub fn clear(&mut self)
         ensures { self.new ≡ record { placed = []; word = [] } }
@@ -231,7 +227,7 @@ impl<T> Characters<T> {
 }
 
 /// Forgets all characters and tags.
-fn clear<T>(text: &mut SplitText, tags: &mut Stretches<T>)
+fn clear<T: Drop>(text: &mut SplitText, tags: &mut Stretches<T>)
     ensures text { text.new ≡ record { placed = []; word = [] } }
     ensures tags { tags.new ≡ [] }
 {

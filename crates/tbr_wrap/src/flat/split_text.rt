@@ -114,6 +114,8 @@ impl SplitText {
     /// Places the characters that the word begins with, at most `most`, while they fit into `room` columns. It answers
     /// how many they are, and their columns.
     pub fn place_fitting<W: CharWidth>(&mut self, most: usize, room: usize) -> (usize, usize)
+        ensures some { 0 < most → 0 < length self.old.word → width_of_text W.columns (take 1 self.old.word) ≤ room →
+            0 < result.0 }
         ensures most { result.0 ≤ most }
         ensures within { result.0 ≤ length self.old.word }
         ensures room { result.1 ≤ room }
@@ -122,29 +124,9 @@ impl SplitText {
             ≡ record { placed = self.old.placed ++ take result.0 self.old.word; word = drop result.0 self.old.word } }
     {
         let front = fitting::<W>(self.word_text(), most, room);
-        self.place_bytes(front.bytes, front.count);
+        self.word_start += front.bytes;
+        self.word -= front.count;
         (front.count, front.columns)
-    }
-
-    /// Places the word's first `count` characters. It takes the time of going over them.
-    pub fn place_front(&mut self, count: usize)
-        requires { count ≤ length self.old.word }
-        ensures { self.new
-            ≡ record { placed = self.old.placed ++ take count self.old.word; word = drop count self.old.word } }
-    {
-        let bytes = bytes_of(self.word_text(), count);
-        self.place_bytes(bytes, count);
-    }
-
-    /// Places the word's first `count` characters, which take so many bytes.
-    fn place_bytes(&mut self, bytes: usize, count: usize)
-        requires within { count ≤ length self.old.word }
-        requires bytes { bytes ≡ length (encodes (take count self.old.word)) }
-        ensures { self.new
-            ≡ record { placed = self.old.placed ++ take count self.old.word; word = drop count self.old.word } }
-    {
-        self.word_start += bytes;
-        self.word -= count;
     }
 
     /// Places `count` spaces before the word. It takes the time of moving the word.
@@ -288,6 +270,8 @@ fn bytes_of(text: &str, count: usize) -> usize
 /// The characters that a text begins with, at most `most`, while they fit into `room` columns.
 fn fitting<W: CharWidth>(text: &str, most: usize, room: usize) -> Stretch
     ensures bytes { result.bytes ≡ length (encodes (take result.count (chars text.now))) }
+    ensures some { 0 < most → 0 < length (chars text.now) → width_of_text W.columns (take 1 (chars text.now)) ≤ room →
+        0 < result.count }
     ensures most { result.count ≤ most }
     ensures within { result.count ≤ length (chars text.now) }
     ensures room { result.columns ≤ room }

@@ -5,6 +5,7 @@ ghost use Rattle.std.specs.List.{AllZip};
 ghost use Rattle.tbr_wrap.specs.Stretches.{tags_of, IsPlace};
 
 use std::alloc::Global;
+use std::collections::VecDeque;
 use std::marker::Model;
 use tbr_tagged::OutOfMemory;
 
@@ -15,26 +16,20 @@ pub struct Stretch<T> {
     pub tag: T,
 }
 
-/// The tags of characters in order, each stored once for a stretch of it. What is skipped is forgotten.
-///
-/// A contract sees the list of the tags.
+/// The tags of characters in order, each stored once for a stretch of it. A contract sees their list.
 #[derive(Drop)]
 pub struct Stretches<T> {
-    stretches: Vec<Stretch<T>>,
-    /// So many stretches are skipped.
-    skipped: usize,
+    stretches: VecDeque<Stretch<T>>,
 }
 
 impl<T> Model for Stretches<T> {
-    ghost use Rattle.std.specs.Prelude.{◌≤◌, List, drop, length};
+    ghost use Rattle.std.specs.Prelude.{List};
 
     ghost Value = { List T };
 
     ghost use Rattle.tbr_wrap.specs.Stretches.{tags_of};
 
-    ghost view = { λ a. tags_of (drop a.skipped a.stretches.items) };
-
-    ghost invariant = { λ a. a.skipped ≤ length a.stretches.items };
+    ghost view = { λ a. tags_of a.stretches.items };
 }
 
 impl<T> Stretches<T> {
@@ -43,37 +38,19 @@ impl<T> Stretches<T> {
         ensures { result ≡ [] }
     {
         Stretches {
-            stretches: Vec::new(alloc),
-            skipped: 0,
+            stretches: VecDeque::new(alloc),
         }
-    }
-
-    /// Skips the first `count` tags. It takes the time of going over their stretches.
-    pub fn skip(&mut self, count: usize)
-        requires { count ≤ length self.old }
-        ensures { self.new ≡ drop count self.old }
-    {
-        let mut left = count;
-        while left > 0 {
-            let stretch = &mut self.stretches[self.skipped];
-            if left <= stretch.more {
-                stretch.more -= left;
-                return;
-            }
-            left -= stretch.more + 1;
-            self.skipped += 1;
-        }
-    }
-
-    /// Forgets all tags.
-    pub fn clear(&mut self)
-        ensures { self.new ≡ [] }
-    {
-        self.skipped = self.stretches.len();
     }
 }
 
 impl<T: Drop> Stretches<T> {
+    /// Forgets all tags.
+    pub fn clear(&mut self)
+        ensures { self.new ≡ [] }
+    {
+        self.stretches.clear();
+    }
+
     /// Takes `count` tags out in front of the last `last` ones. It takes the time of going over the stretches of all
     /// these.
     pub fn remove_before(&mut self, last: usize, count: usize)
@@ -108,27 +85,38 @@ impl<T: Eq + Clone> Stretches<T> {
         ensures err { OnErr result (self.new ≡ self.old) }
     {
         let len = self.stretches.len();
-        if self.skipped < len && self.stretches[len - 1].tag == *tag {
+        if len > 0 && self.stretches[len - 1].tag == *tag {
             return lengthen(&mut self.stretches[len - 1], count);
         }
         let tag = tag.clone()?;
         let more = count - 1;
-        self.stretches.push(Stretch { more, tag })?;
+        self.stretches.push_back(Stretch { more, tag })?;
         Ok(())
     }
 
-    /// A copy of the first tag, and how many tags, at most `most`, are one stretch with it.
-    pub fn first(&self, most: usize) -> Result<(usize, T), OutOfMemory>
+    /// Takes the first tags, at most `most`, which are one stretch. It answers how many they are, and their tag, which
+    /// is copied only where more of the stretch stays.
+    ///
+    /// Where memory is refused the tags stay as they were.
+    pub fn take(&mut self, most: usize) -> Result<(usize, T), OutOfMemory>
         requires faithful { CopiesAreEqual T.is_clone T.eq }
         requires some { 0 < most }
-        requires within { most ≤ length self.now }
+        requires within { most ≤ length self.old }
         ensures count { IfOk result (λ r. (0 < r.0) × (r.0 ≤ most)) }
-        ensures tags { IfOk result (λ r. (a : T) × (T.eq r.1 a ≡ true) × (take r.0 self.now ≡ replicate r.0 a)) }
+        ensures tags { IfOk result (λ r. (a : T) × (T.eq r.1 a ≡ true) × (take r.0 self.old ≡ replicate r.0 a)) }
+        ensures rest { IfOk result (λ r. self.new ≡ drop r.0 self.old) }
+        ensures err { OnErr result (self.new ≡ self.old) }
     {
-        let stretch = &self.stretches[self.skipped];
-        let count = stretch.more.min(most - 1) + 1;
-        let tag = stretch.tag.clone()?;
-        Ok((count, tag))
+        if most <= self.stretches[0].more {
+            let first = &mut self.stretches[0];
+            let tag = first.tag.clone()?;
+            first.more -= most;
+            return Ok((most, tag));
+        }
+        let Some(first) = self.stretches.pop_front() else {
+            return Err(OutOfMemory);
+        };
+        Ok((first.more + 1, first.tag))
     }
 
     /// Adds `tag` `count` times before the last `last` ones. It takes the time of going over the stretches of these.
@@ -154,7 +142,7 @@ impl<T: Eq + Clone> Stretches<T> {
             self.stretches.insert(index + 1, Stretch { more, tag })?;
             return Ok(());
         }
-        if index > self.skipped && self.stretches[index - 1].tag == tag {
+        if index > 0 && self.stretches[index - 1].tag == tag {
             return lengthen(&mut self.stretches[index - 1], count);
         }
         self.stretches.insert(index, Stretch { more, tag })?;
@@ -182,9 +170,9 @@ struct Place {
 }
 
 /// Where the last `last` tags begin.
-fn place_before<T>(stretches: &[Stretch<T>], last: usize) -> Place
-    requires { last ≤ length (tags_of stretches.now) }
-    ensures { IsPlace stretches.now result.stretch result.offset last }
+fn place_before<T>(stretches: &VecDeque<Stretch<T>>, last: usize) -> Place
+    requires { last ≤ length (tags_of stretches.now.items) }
+    ensures { IsPlace stretches.now.items result.stretch result.offset last }
 {
     let mut stretch = stretches.len();
     let mut left = last;
@@ -201,12 +189,11 @@ fn place_before<T>(stretches: &[Stretch<T>], last: usize) -> Place
 }
 
 /// Ends the stretch that a place parts there, and answers which stretch comes next.
-fn end_at<T>(stretches: &mut Vec<Stretch<T>>, place: Place) -> usize
+fn end_at<T>(stretches: &mut VecDeque<Stretch<T>>, place: Place) -> usize
     requires { (last : ℕ) × IsPlace stretches.old.items place.stretch place.offset last }
     ensures next { (place.stretch ≤ result) × (result ≤ suc place.stretch) × (result ≤ length stretches.new.items) }
     ensures len { length stretches.new.items ≡ length stretches.old.items }
-    ensures front { (k : ℕ) → k ≤ place.stretch → tags_of (drop k (take result stretches.new.items))
-        ≡ tags_of (drop k (take place.stretch stretches.old.items))
+    ensures front { tags_of (take result stretches.new.items) ≡ tags_of (take place.stretch stretches.old.items)
         ++ take place.offset (tags_of (drop place.stretch stretches.old.items)) }
     ensures behind { drop (suc place.stretch) stretches.new.items ≡ drop (suc place.stretch) stretches.old.items }
 {
@@ -218,7 +205,7 @@ fn end_at<T>(stretches: &mut Vec<Stretch<T>>, place: Place) -> usize
 }
 
 /// Begins the stretch that a place parts there.
-fn begin_at<T>(stretches: &mut Vec<Stretch<T>>, place: Place)
+fn begin_at<T>(stretches: &mut VecDeque<Stretch<T>>, place: Place)
     requires { (last : ℕ) × IsPlace stretches.old.items place.stretch place.offset last }
     ensures len { length stretches.new.items ≡ length stretches.old.items }
     ensures front { take place.stretch stretches.new.items ≡ take place.stretch stretches.old.items }

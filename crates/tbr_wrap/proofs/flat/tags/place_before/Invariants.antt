@@ -4,8 +4,8 @@ use Rattle.tbr_wrap.proofs.flat.tags.place_before.Given as goal
 
 abbrev pub invariant-loop-left : goal.invariant-loop-left
 invariant-loop-left g l = record {
-  within : l.stretch ≤ length l.stretches;
-  reached : l.left + length (tags_of (drop l.stretch l.stretches)) ≡ l.last;
+  within : l.stretch ≤ length l.stretches.items;
+  reached : l.left + length (tags_of (drop l.stretch l.stretches.items)) ≡ l.last;
 }
 
 abbrev pub decreases-loop-left : goal.decreases-loop-left

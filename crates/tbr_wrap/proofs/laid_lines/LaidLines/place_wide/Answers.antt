@@ -1,12 +1,20 @@
-use Rattle.std.proofs.Common.{◌∷◌, [], refl, ap, ◌∙◌, arith, ◌++◌}
+use Rattle.std.proofs.Common.{◌≡◌, ◌++◌, take, drop, refl, ap, ◌∙◌, arith}
 use Rattle.tbr_model.specs.Run.{item_width}
 use Rattle.tbr_wrap.proofs.lines.HeldLines.{holds_wide}
-use Rattle.tbr_wrap.proofs.lines.LaidByRule.{lays_wide, front_is}
+use Rattle.tbr_wrap.proofs.lines.LaidByRule.{lays_wide, same_first}
 use Rattle.tbr_wrap.proofs.laid_lines.LaidLines.place_wide.Goals as goal
 
+pub returns-clause-word : goal.returns-clause-word
+returns-clause-word g c =
+    let e = c.in_ok-place_front.ensures in
+    let one : c.in_ok-place_front.field-0.count ≡ 1 = omega (arith, e.most, e.some c.requires.some (omega (arith, c.requires.width))) in
+    ap (λ f. f.word) e.placed ∙ ap (λ n. drop n c.args.self.now.flat.word) one
+
 pub returns-clause-placed : goal.returns-clause-placed
-returns-clause-placed g c = λ columns i j rest word same wide before given r h.
-    let p = c.in_ok-place_first.ensures in
-    let k = front_is c.args.self.now.flat.word p.0 i p.1 rest p.2 word in
-    lays_wide columns g.T.PartialEq.eq g.met.T.Eq.laws c.args.self.now _ (record { width = refl; may_overflow = refl }) before given r h i j same c.requires.may c.requires.blank wide
-    (holds_wide c.args.self.now _ before h.laid i (item_width columns j) c.in-Some.line_len h.holds (ap (λ f. f.placed) p.3 ∙ ap (λ x. c.args.self.now.flat.placed ++ x ∷ []) k.0) (omega (arith, c.in-Some.ensures, c.in-Some.is)) c.in_ok-push_back.ensures.items refl refl c.requires.blank)
+returns-clause-placed g c = λ j js same wide before given r h.
+    let columns = g.W.CharWidth.columns in let eq = g.T.PartialEq.eq in let old = c.args.self.now in
+    let w = same_first eq old.flat.word js j same in let e = c.in_ok-place_front.ensures in
+    let one : c.in_ok-place_front.field-0.count ≡ 1 = omega (arith, e.most, e.some c.requires.some (omega (arith, c.requires.width))) in
+    let placed = ap (λ f. f.placed) e.placed ∙ ap (λ n. old.flat.placed ++ take n old.flat.word) one ∙ ap (λ is. old.flat.placed ++ take 1 is) w.2 in
+    lays_wide columns eq g.met.T.Eq.laws old _ (record { width = refl; may_overflow = refl }) before given r h w.0 j w.3 c.requires.may c.requires.blank wide
+    (holds_wide old _ before h.laid w.0 (item_width columns j) c.in-Some.line_len h.holds placed (omega (arith, c.in-Some.ensures)) c.in_ok-push_back.ensures.items refl refl c.requires.blank)

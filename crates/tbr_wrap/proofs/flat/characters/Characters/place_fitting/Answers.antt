@@ -20,3 +20,9 @@ returns-clause-placed g c =
     let n = c.place_fitting.result.0 in
     ap (λ l. flat l c.self.inside.tags) c.place_fitting.ensures.placed ∙ flat_front c.self.inside.text c.self.inside.tags n c.place_fitting.ensures.within
     ∙ ap (λ (f : Flat g.row.T.Denot). record { placed = f.placed ++ take n f.word; word = drop n f.word }) c.self.view_is
+
+pub returns-clause-some : goal.returns-clause-some
+returns-clause-some g c = λ may some fits.
+    let columns = g.W.CharWidth.columns in let text = c.self.inside.text in
+    let one = front_columns columns text c.self.inside.tags 1 c.self.invariant ∙ ap (λ (f : Flat g.row.T.Denot). items_width columns (take 1 f.word)) c.self.view_is in
+    c.place_fitting.ensures.some may (omega (arith, some, flat_word_len text c.self.inside.tags c.self.invariant, ap (λ (f : Flat g.row.T.Denot). length f.word) c.self.view_is)) (omega (arith, fits, one))
