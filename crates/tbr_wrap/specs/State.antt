@@ -92,11 +92,13 @@ pub record JoinsFront {A : Type 0} (old : State A) (text rest : List ℕ) (a b :
   pub split : chars text ≡ front ++ chars rest
   pub joins : JoinsRun old (text_entries front a b mode) new
 
--- A marker joins the run. It ends no line, and is loose where the word has no character.
+-- A marker joins the run. It ends no line. It is loose where the word has no character, and so where neither the open
+-- line nor the word holds one.
 pub record JoinsAsMarker {A : Type 0} (old : State A) (name : List ℕ) (new : State A) : Type 0 where
   pub loose : List (List ℕ)
   pub is : new ≡ record old { run = old.run ++ marker_entry name ∷ []; loose = loose }
   pub either : (loose ≡ old.loose ++ name ∷ []) ⊎ ((old.loose ≡ []) × (loose ≡ []))
+  pub first : old.no_character ≡ true → loose ≡ old.loose ++ name ∷ []
 
 -- the loose markers are taken out of the run
 abbrev pub loose_taken : {A : Type 0} → State A → State A

@@ -103,8 +103,8 @@ impl<T: Eq + Clone, W: CharWidth> WrappedBlock<T, W> {
         self.failure
     }
 
-    /// Whether open line and word take no columns. In a `Normal` run that is so exactly where no kept character of the
-    /// run takes any. It is false on a block that has failed.
+    /// Whether open line and word take no columns. In a `Normal` run, where no line may be wider than the block, that is
+    /// so exactly where no kept character of the run takes any. It is false on a block that has failed.
     pub fn at_line_start(&self) -> bool
         ensures asks { result ≡ is_none self.now.failure && self.now.no_columns }
         ensures normal { WrapsNormally self.now → RunDecides W.columns self.now }
@@ -124,11 +124,14 @@ impl<T: Eq + Clone, W: CharWidth> WrappedBlock<T, W> {
         self.failure.is_none() && !self.has_begun() && self.has_no_columns()
     }
 
-    /// Whether no line has ended yet, and open line and word hold no character. In a `Normal` run these hold none
-    /// exactly where the run has no kept character. It is false on a block that has failed.
+    /// Whether no line has ended yet, and open line and word hold no character. In a `Normal` run, where no line may be
+    /// wider than the block, these hold none exactly where the run has no kept character. It is false on a block that
+    /// has failed.
     pub fn is_blank(&self) -> bool
         ensures asks { result ≡ is_none self.now.failure && (not (has_begun self.now) && self.now.no_character) }
         ensures normal { WrapsNormally self.now → RunDecides W.columns self.now }
+        ensures shows { self.now.failure ≡ None → run_shows_columns W.columns self.now.run ≡ true →
+            (is_some_list self.now.lines ≡ true) ⊎ (self.now.no_character ≡ false) }
     {
         self.known();
         self.failure.is_none() && !self.has_begun() && self.has_no_character()
@@ -216,6 +219,7 @@ impl<T: Eq + Clone, W: CharWidth> WrappedBlock<T, W> {
         ensures decides { WrapsNormally self.now → RunDecides W.columns self.now }
         ensures shows { self.now.failure ≡ None → run_shows_columns W.columns self.now.run ≡ true →
             (is_some_list self.now.lines ≡ true) ⊎ (self.now.no_columns ≡ false) }
+        ensures held { self.now.failure ≡ None → self.now.no_columns ≡ false → self.now.no_character ≡ false }
     {
         let _ = &self.failure;
     }

@@ -724,7 +724,7 @@ impl<T: Eq + Clone + Drop> Wrapper<T> {
 
     /// Whether white space that is pending is dropped where the word behind it doesn't fit.
     fn drops_space(&self) -> bool
-        ensures { IsTrue result → DropsSpace self.now.space }
+        ensures { IsTrue result ↔ DropsSpace self.now.space }
     {
         match &self.space {
             Some(space) => is_normal(space.mode),

@@ -104,11 +104,19 @@ with_marker [] name = refl
 with_marker (glyph c a ∷ is) name = refl
 with_marker (marker n ∷ is) name = with_marker is name
 
+-- one more is loose where the word has no character
+loose_more : {A : Type 0} (word : List (Item A)) (name : List ℕ) → has_character word ≡ false → loose_names (word ++ marker name ∷ []) ≡ loose_names word ++ name ∷ []
+loose_more word name e = let both = with_marker word name ∙ e in rw (e, both) (names_in_items-append word (marker name ∷ []))
+
 -- one more is loose, or none is
 loose_either : {A : Type 0} (word : List (Item A)) (name : List ℕ) (b : Bool) → has_character word ≡ b →
     (loose_names (word ++ marker name ∷ []) ≡ loose_names word ++ name ∷ []) ⊎ ((loose_names word ≡ []) × (loose_names (word ++ marker name ∷ []) ≡ []))
 loose_either word name true e = let both = with_marker word name ∙ e in inr (rw e refl, rw both refl)
-loose_either word name false e = let both = with_marker word name ∙ e in inl (rw (e, both) (names_in_items-append word (marker name ∷ [])))
+loose_either word name false e = inl (loose_more word name e)
+
+not_true : (b : Bool) → not b ≡ true → b ≡ false
+not_true true h = cc
+not_true false h = refl
 
 last_of_two : {X : Type 0} (xs ys : List X) → last (length ys) (xs ++ ys) ≡ ys
 last_of_two xs ys = drop_at xs ys (length (xs ++ ys) - length ys) (omega (arith, length-append xs ys))
@@ -218,6 +226,7 @@ module _ {A : Type 0} (columns : ℕ → Option ℕ) where
             no_character = not (has_character c.progress.laid.line) && not (with_marker word name i);
           };
           either = loose_either word name (has_character word) refl;
+          first = λ none. loose_more word name (not_true _ (and_parts (not (has_character c.progress.laid.line)) (not (has_character word)) none).1);
         }
 
   -- ---- what the fields hold
@@ -382,10 +391,6 @@ module _ {A : Type 0} (columns : ℕ → Option ℕ) where
           let laid : finished columns b.lines.width c.progress ≡ end_if_character c.progress.laid = ap (λ (p : Progress A). end_if_character p.laid) (not_flushed columns b.lines.width c.progress (not_true _ word)) in
           let same : end_if_character c.progress.laid ≡ c.progress.laid = let bare = not_true _ line in rw bare refl in
           ap (λ (l : Laid A). l.done) (laid ∙ same)
-        where
-          not_true : (b : Bool) → not b ≡ true → b ≡ false
-          not_true true h = cc
-          not_true false h = refl
 
       pub none_more : (may : Bool) (padding : Option A) (failure : Option Error) → not (has_character c.progress.laid.line) && not (has_character c.progress.word) ≡ true →
           lines_left (state_of columns b.lines.width may padding failure (run_ended columns b.lines.width c)) ≡ c.ended ++ drop c.handed c.progress.laid.done
@@ -588,6 +593,18 @@ module _ {A : Type 0} (columns : ℕ → Option ℕ) where
 
       pub word_held : has_character b.lines.flat.word ≡ has_character c.progress.word
       word_held = same_has eq b.lines.flat.word c.progress.word h.stands.word
+
+      -- where something takes columns there is a character
+      pub character_held : (c.progress.laid.width == 0) && (items_width columns c.progress.word == 0) ≡ false → not (has_character c.progress.laid.line) && not (has_character c.progress.word) ≡ false
+      character_held some = go (has_character c.progress.laid.line) (has_character c.progress.word) refl refl
+        where
+          go : (l w : Bool) → has_character c.progress.laid.line ≡ l → has_character c.progress.word ≡ w → not l && not w ≡ false
+          go true w line word = refl
+          go false true line word = refl
+          go false false line word =
+              let bare : c.progress.laid.width ≡ 0 = h.stands.lays.measured.line ∙ no_character_no_width columns c.progress.laid.line line in
+              let test : (c.progress.laid.width == 0) && (items_width columns c.progress.word == 0) ≡ true = rw (bare, no_character_no_width columns c.progress.word word) refl in
+              sym test ∙ some
 
       -- where a visible character that takes columns came, a line has ended or something that is open takes columns
       pub shows_columns : run_shows_columns columns c.run ≡ true →

@@ -1,7 +1,7 @@
 use Rattle.std.proofs.Common.{ap, ◌∙◌}
 use Rattle.tbr_wrap.specs.State.{State}
 use Rattle.tbr_wrap.specs.Course.{course}
-use Rattle.tbr_wrap.proofs.runs.Courses.{shows_columns}
+use Rattle.tbr_wrap.proofs.runs.Courses.{shows_columns, character_held}
 use Rattle.tbr_wrap.proofs.runs.NormalRuns.{narrow_so_far, run_decides}
 use Rattle.tbr_wrap.proofs.block.WrappedBlock.known.Goals as goal
 
@@ -22,3 +22,9 @@ returns-clause-shows g c = λ live.
     let b = c.self.inside.wrapper in
     let k = c.self.invariant (ap (λ (s : State g.row.T.Denot). s.failure) c.self.view_is ∙ live) in
     rw (← c.self.view_is) (shows_columns g.W.CharWidth.columns g.T.PartialEq.eq b c.self.inside.begun (course g.W.CharWidth.columns b.lines.width c.self.inside.changes.items) k)
+
+pub returns-clause-held : goal.returns-clause-held
+returns-clause-held g c = λ live.
+    let b = c.self.inside.wrapper in
+    let k = c.self.invariant (ap (λ (s : State g.row.T.Denot). s.failure) c.self.view_is ∙ live) in
+    rw (← c.self.view_is) (character_held g.W.CharWidth.columns g.T.PartialEq.eq b c.self.inside.begun (course g.W.CharWidth.columns b.lines.width c.self.inside.changes.items) k)

@@ -7,7 +7,7 @@ returns-clause-moved g c = λ some.
     let text = c.args.text.now in let n = c.words_in_front.result in
     record {
       words = c.words_in_front.ensures.words some;
-      space = c.drops_space.ensures c.if-not-drops_space.false;
+      space = c.drops_space.ensures.0 c.if-not-drops_space.false;
       first = c.plain_in_front-first.result.0;
       letters = fewer_join g.W.CharWidth.columns c.plain_in_front-first.result.0 n text c.plain_in_front-first.ensures.join;
       wide = omega (arith, c.in-Some.ensures, c.if-first-room.false);
