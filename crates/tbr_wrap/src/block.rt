@@ -21,8 +21,9 @@ use tbr_tagged::{Error, OutOfMemory, TaggedLine, TaggedLineElement, UnicodeColum
 /// Text under tags that is wrapped into lines of a width in columns.
 ///
 /// The text that comes between two flushes is a run: [`add_text`](WrappedBlock::add_text) adds to it, and
-/// [`flush`](WrappedBlock::flush) ends it. The lines of a run are those of the layout that is ahead of every legal one:
-/// after any number of lines no legal layout has placed more of the run.
+/// [`flush`](WrappedBlock::flush) ends it. The lines of a `Normal` run, where none may be wider than the block, are
+/// those of the layout that is ahead of every legal one: after any number of lines no legal layout has placed more of
+/// the run.
 ///
 /// A call that refuses leaves the block failed. It keeps that refusal, which each later call that can refuse answers,
 /// doing nothing else. A contract sees what [`State`] lists.
@@ -103,8 +104,8 @@ impl<T: Eq + Clone, W: CharWidth> WrappedBlock<T, W> {
         self.failure
     }
 
-    /// Whether open line and word take no columns. In a `Normal` run that is so exactly where no kept character of the
-    /// run takes any. It is false on a block that has failed.
+    /// Whether open line and word take no columns. In a `Normal` run, where no line may be wider than the block, that is
+    /// so exactly where no kept character of the run takes any. It is false on a block that has failed.
     pub fn at_line_start(&self) -> bool
         ensures asks { result ≡ is_none self.now.failure && self.now.no_columns }
         ensures normal { WrapsNormally self.now → RunDecides W.columns self.now }
@@ -124,8 +125,9 @@ impl<T: Eq + Clone, W: CharWidth> WrappedBlock<T, W> {
         self.failure.is_none() && !self.has_begun() && self.has_no_columns()
     }
 
-    /// Whether no line has ended yet, and open line and word hold no character. In a `Normal` run these hold none
-    /// exactly where the run has no kept character. It is false on a block that has failed.
+    /// Whether no line has ended yet, and open line and word hold no character. In a `Normal` run, where no line may be
+    /// wider than the block, these hold none exactly where the run has no kept character. It is false on a block that
+    /// has failed.
     pub fn is_blank(&self) -> bool
         ensures asks { result ≡ is_none self.now.failure && (not (has_begun self.now) && self.now.no_character) }
         ensures normal { WrapsNormally self.now → RunDecides W.columns self.now }
