@@ -290,8 +290,8 @@ impl<D: TextDecorator, W: CharWidth> SubRenderer<D, W> {
         self.add_filled(whole)
     }
 
-    /// Adds a line of text, whatever markers wait. It is filled, where lines are padded. Where memory is refused the line
-    /// is lost.
+    /// Adds a line of text, whatever markers wait. It is filled, where lines are padded. Where memory is refused the
+    /// line is lost.
     fn add_filled(&mut self, mut line: TaggedLine<Vec<D::Annotation>>) -> Result<(), OutOfMemory>
         requires { IsMerged (equal_lists D.Annotation.eq) line }
         ensures line { OnOk result (meant D.meaning self.new

@@ -62,8 +62,8 @@ pub struct Row<T> {
 }
 
 impl<T: Eq + Clone + Drop> Columns<T> {
-    /// Lays out a row of these cells and of those that overhang, under a border, if there is one. It asks for a row that
-    /// fits: [`fits`](Columns::fits) tells. What is drawn stands under copies of the tag.
+    /// Lays out a row of these cells and of those that overhang, under a border, if there is one. It asks for a row
+    /// that fits: [`fits`](Columns::fits) tells. What is drawn stands under copies of the tag.
     ///
     /// It refuses only for want of memory, or where a place passes `usize`.
     pub fn lay_out<W: CharWidth>(

@@ -47,9 +47,9 @@ impl<D: TextDecorator, W: CharWidth> TextRenderer<D, W> {
     /// Ends the link that was opened last in the top, and closes it. With footnotes its number comes as text behind it.
     /// It asks for a depth of at least 1.
     ///
-    /// Where no link is open in the top, the top ends one all the same, and no number comes. It refuses as the top does,
-    /// and for want of memory, and then the top has failed and no link was closed. A top that had failed answers its
-    /// refusal, and nothing changes.
+    /// Where no link is open in the top, the top ends one all the same, and no number comes. It refuses as the top
+    /// does, and for want of memory, and then the top has failed and no link was closed. A top that had failed answers
+    /// its refusal, and nothing changes.
     pub fn end_link(&mut self) -> Result<(), Error>
         requires { 0 < length self.old.levels }
         ensures ok { OnOk result (EndsLink W.columns (decoration_of D.TextDecorator)

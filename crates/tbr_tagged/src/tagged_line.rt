@@ -96,8 +96,8 @@ impl<T> TaggedLine<T> {
         Ok(TaggedLine { elements })
     }
 
-    /// The line with each tag replaced by what `f` makes of it. Texts, markers and their order stay. It asks that `f` may
-    /// be called on every tag. It refuses only for want of memory.
+    /// The line with each tag replaced by what `f` makes of it. Texts, markers and their order stay. It asks that `f`
+    /// may be called on every tag. It refuses only for want of memory.
     pub fn map_tag<U: Drop, F: Fn(T) -> U>(self, f: &F) -> Result<TaggedLine<U>, OutOfMemory>
     where
         T: Drop,

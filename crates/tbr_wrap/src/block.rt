@@ -104,8 +104,8 @@ impl<T: Eq + Clone, W: CharWidth> WrappedBlock<T, W> {
         self.failure
     }
 
-    /// Whether open line and word take no columns. In a `Normal` run, where no line may be wider than the block, that is
-    /// so exactly where no kept character of the run takes any. It is false on a block that has failed.
+    /// Whether open line and word take no columns. In a `Normal` run, where no line may be wider than the block, that
+    /// is so exactly where no kept character of the run takes any. It is false on a block that has failed.
     pub fn at_line_start(&self) -> bool
         ensures asks { result ≡ is_none self.now.failure && self.now.no_columns }
         ensures normal { WrapsNormally self.now → RunDecides W.columns self.now }
