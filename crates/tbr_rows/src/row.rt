@@ -1,5 +1,5 @@
 //! Rows.
-ghost use Rattle.std.specs.Prelude.{◌≡◌, map, true, Some, IfOk, OnOk};
+ghost use Rattle.std.specs.Prelude.{◌≡◌, map, true, IfOk, OnOk};
 ghost use Rattle.std.specs.List.{AllByRecursion as Each};
 ghost use Rattle.tbr_tagged.specs.Copies.{CopiesAreEqual};
 ghost use Rattle.tbr_tagged.specs.Elements.{IsMerged};

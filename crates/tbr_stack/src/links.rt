@@ -4,7 +4,6 @@ ghost use Rattle.tbr_lines.specs.View.{chars_of};
 ghost use Rattle.tbr_lines.specs.declared.Error.TheVariants as E;
 ghost use Rattle.tbr_decor.specs.Decoration.{decoration_of};
 ghost use Rattle.tbr_decor.specs.Start as start;
-ghost use Rattle.tbr_decor.specs.End as end;
 ghost use Rattle.tbr_renderer.specs.Renderer.{block_width};
 ghost use Rattle.tbr_renderer.specs.Calls.{KeepsFailure, Does, IsTooNarrow, StopsAtStage};
 ghost use Rattle.tbr_renderer.specs.Meant.{meant};
