@@ -5,8 +5,7 @@ ghost use Rattle.tbr_decor.specs.End as end;
 ghost use Rattle.text_block_renderer.specs.Calls as call;
 ghost use Rattle.text_block_renderer.specs.Calls.{KeepsFailure};
 
-use tbr_lines::Error;
-use text_block_renderer::Renderer;
+use text_block_renderer::{Error, Renderer};
 
 /// Adds emphasised text.
 pub fn emphasised<R: Renderer>(r: &mut R, text: &str) -> Result<(), Error>

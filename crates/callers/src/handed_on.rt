@@ -1,5 +1,5 @@
 //! Markers that wait behind the lines of one block go on into another.
-ghost use Rattle.std.specs.Prelude.{◌≡◌, ◌++◌, OnOk, IfErr, List, ℕ};
+ghost use Rattle.std.specs.Prelude.{◌≡◌, ◌++◌, OnOk, List, ℕ};
 ghost use Rattle.tbr_model.specs.Markers.{marker_run};
 ghost use Rattle.tbr_lines.specs.State.{loose_taken};
 

@@ -1,5 +1,5 @@
 //! Lines that are taken one by one, and then the rest.
-ghost use Rattle.std.specs.Prelude.{◌≡◌, ◌++◌, IfOk, List, ℕ};
+ghost use Rattle.std.specs.Prelude.{◌++◌, IfOk, List, ℕ};
 ghost use Rattle.std.specs.List.{AllZip};
 ghost use Rattle.tbr_model.specs.Run.{Item};
 ghost use Rattle.tbr_lines.specs.Copies.{CopiesAreEqual};

@@ -1,6 +1,4 @@
 //! Two texts under tags of their own.
-ghost use Rattle.std.specs.Prelude.{◌<◌};
-
 use std::alloc::Global;
 use tbr_lines::{Error, WhiteSpace, WrappedBlock};
 

@@ -1,5 +1,4 @@
 //! Width instances of the tests' own, whose widths need no table.
-ghost use Rattle.std.specs.Prelude.{◌≡◌};
 ghost use Rattle.example_parts.specs.EveryOne.{every_one, every_one_at_most_two, every_one_drawn};
 
 use tbr_lines::CharWidth;

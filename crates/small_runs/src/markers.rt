@@ -1,10 +1,9 @@
 //! Runs of words with markers among them.
-ghost use Rattle.std.specs.Prelude.{◌≡◌, ℕ, List, [], ◌∷◌, ◌++◌, codes};
+ghost use Rattle.std.specs.Prelude.{◌≡◌, ℕ, List, [], ◌∷◌, codes};
 ghost use Rattle.tbr_model.specs.declared.white_space.WhiteSpace.{WhiteSpace};
 ghost use Rattle.tbr_model.specs.declared.white_space.WhiteSpace.TheVariants.{Pre};
 ghost use Rattle.tbr_model.specs.Run.{Item, marker_entry, marker};
 ghost use Rattle.tbr_lines.specs.Elements.{text_items};
-ghost use Rattle.tbr_lines.specs.State.{text_entries};
 ghost use Rattle.small_runs.specs.Small.{MayEnd, around_marker, around_marker_in, around_marker_line};
 
 /// A marker inside a word that is cut stands between the same characters.

@@ -56,14 +56,14 @@ impl<T> Model for BorderHoriz<T> {
 }
 
 impl<T: Drop> BorderHoriz<T> {
-    /// A border of `width` cells `─`, without holes.
+    /// A border of `width` cells `─`, without holes. It refuses only for want of memory.
     pub fn new(alloc: Global, width: usize, tag: T) -> Result<BorderHoriz<T>, OutOfMemory>
         ensures { IfOk result (λ b. b ≡ model.without_holes (replicate width (cell_of BorderSegHoriz.Horiz)) tag) }
     {
         BorderHoriz::new_type(alloc, width, BorderSegHoriz::Horiz, tag)
     }
 
-    /// A border of `width` cells of one kind, without holes.
+    /// A border of `width` cells of one kind, without holes. It refuses only for want of memory.
     pub fn new_type(
         alloc: Global,
         width: usize,
@@ -167,8 +167,9 @@ impl<T> BorderHoriz<T> {
         )
     }
 
-    /// Puts an element in front of the cells from `pos` on, for as many columns as it takes. The border is stretched to
-    /// its end, and the cells beside it are chopped on the side to it. A marker takes no column.
+    /// Puts an element in front of the cells from `pos` on, for as many columns as it takes. It asks that `pos` is at
+    /// least [`span_end`](BorderHoriz::span_end). The border is stretched to the element's end, and the cells beside it
+    /// are chopped on the side to it. A marker takes no column.
     ///
     /// Where memory is refused, or the element's columns or its end pass `usize`, the border stays as it was and the
     /// element is dropped.
@@ -232,7 +233,8 @@ impl<T> BorderHoriz<T> {
         self.shape.segments.is_empty()
     }
 
-    /// The text of the line above: `│` above each `┴`, `┼`, `└` and `┘`, also under holes, and spaces else.
+    /// The text of the line above: `│` above each `┴`, `┼`, `└` and `┘`, also under holes, and spaces else. It refuses
+    /// only for want of memory.
     pub fn to_vertical_lines_above(&self) -> Result<String, OutOfMemory>
         ensures { IfOk result (λ text. chars_of text ≡ model.lines_above self.now) }
     {
@@ -245,6 +247,7 @@ impl<T> BorderHoriz<T> {
     }
 }
 
+/// Appends cells `─` up to `width` cells. Where memory is refused nothing changes.
 fn stretch(segments: &mut Vec<BorderSegHoriz>, width: usize) -> Result<(), OutOfMemory>
     ensures ok { OnOk result (cells_of segments.new.items ≡ model.stretched width (cells_of segments.old.items)) }
     ensures len { OnOk result (width ≤ length segments.new.items) }
@@ -258,6 +261,7 @@ fn stretch(segments: &mut Vec<BorderSegHoriz>, width: usize) -> Result<(), OutOf
     Ok(())
 }
 
+/// Stretches to `x + 1` cells, and adds an arm to the cell at `x`. Where either is refused nothing changes.
 fn join_at(segments: &mut Vec<BorderSegHoriz>, side: Side, x: usize) -> Result<(), OutOfMemory>
     ensures ok { OnOk result
         (cells_of segments.new.items ≡ model.joined_at (side_of side) x (cells_of segments.old.items)) }
@@ -273,6 +277,8 @@ fn join_at(segments: &mut Vec<BorderSegHoriz>, side: Side, x: usize) -> Result<(
     Ok(())
 }
 
+/// Adds an arm at `pos + i` for each place `i` where the other cells join, stretching as far as these come. Where that
+/// is refused nothing changes.
 fn merge(
     segments: &mut Vec<BorderSegHoriz>,
     side: Side,
@@ -336,6 +342,7 @@ fn open(segments: &mut Vec<BorderSegHoriz>, pos: usize, end: usize)
     chop_left_at(segments, end);
 }
 
+/// Takes away the arm to the right of the cell at a place, if there is a cell.
 fn chop_right_at(segments: &mut Vec<BorderSegHoriz>, place: usize)
     ensures cells { cells_of segments.new.items ≡ model.changed_at chopped_right place (cells_of segments.old.items) }
     ensures len { length segments.new.items ≡ length segments.old.items }
@@ -345,6 +352,7 @@ fn chop_right_at(segments: &mut Vec<BorderSegHoriz>, place: usize)
     }
 }
 
+/// Takes away the arm to the left of the cell at a place, if there is a cell.
 fn chop_left_at(segments: &mut Vec<BorderSegHoriz>, place: usize)
     ensures cells { cells_of segments.new.items ≡ model.changed_at chopped_left place (cells_of segments.old.items) }
     ensures len { length segments.new.items ≡ length segments.old.items }
@@ -355,7 +363,8 @@ fn chop_left_at(segments: &mut Vec<BorderSegHoriz>, place: usize)
 }
 
 impl<T> BorderHoriz<T> {
-    /// The border's text: for each column what stands in front of it, or the cell's character.
+    /// The border's text: for each column what stands in front of it, or the cell's character. It refuses only for want
+    /// of memory.
     pub fn to_text(&self) -> Result<String, OutOfMemory>
         ensures { IfOk result (λ text. chars_of text ≡ item_characters (shown self.now.tag self.now)) }
     {
@@ -375,7 +384,7 @@ impl<T> BorderHoriz<T> {
 
 impl<T: Eq + Clone + Drop> BorderHoriz<T> {
     /// The border as a line of pieces: cells stand under copies of its tag, and what stands in front of them keeps tags
-    /// and markers. Pieces are the longest stretches under equal tags.
+    /// and markers. Pieces are the longest stretches under equal tags. It refuses only for want of memory.
     pub fn into_tagged_line(self) -> Result<TaggedLine<T>, OutOfMemory>
         requires { CopiesAreEqual T.is_clone T.eq }
         ensures items { IfOk result (λ line. SameItems T.eq (items_of line) (shown self.tag self)) }
@@ -390,7 +399,7 @@ impl<T: Eq + Clone + Drop> BorderHoriz<T> {
     }
 
     /// The border as a line of pieces: cells stand under copies of the given tag, and what stands in front of them
-    /// keeps tags and markers. Pieces are the longest stretches under equal tags.
+    /// keeps tags and markers. Pieces are the longest stretches under equal tags. It refuses only for want of memory.
     pub fn into_tagged_line_with(self, tag: &T) -> Result<TaggedLine<T>, OutOfMemory>
         requires { CopiesAreEqual T.is_clone T.eq }
         ensures items { IfOk result (λ line. SameItems T.eq (items_of line) (shown tag.now self)) }
@@ -404,7 +413,7 @@ impl<T: Eq + Clone + Drop> BorderHoriz<T> {
         flattened(&segments, holes, tag)
     }
 
-    /// The same cells and holes under copies of their tags.
+    /// The same cells and holes under copies of their tags. It refuses only for want of memory.
     pub fn clone(&self) -> Result<BorderHoriz<T>, OutOfMemory>
         requires { CopiesAreEqual T.is_clone T.eq }
         ensures { IfOk result (λ b. SameBorder T.eq b self.now) }
@@ -425,6 +434,7 @@ impl<T: Eq + Clone + Drop> BorderHoriz<T> {
     }
 }
 
+/// The same holes, whose pieces stand under copies of their tags.
 fn copied<T: Eq + Clone + Drop>(
     alloc: Global,
     holes: &[Span<T>],
@@ -443,6 +453,7 @@ fn copied<T: Eq + Clone + Drop>(
     Ok(copies)
 }
 
+/// A line of pieces: the cells under copies of the tag, and what stands in front of them.
 fn flattened<T: Eq + Clone + Drop>(
     segments: &Vec<BorderSegHoriz>,
     holes: Vec<Span<T>>,

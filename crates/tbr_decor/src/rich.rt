@@ -15,7 +15,8 @@ use crate::{text, usual};
 use std::alloc::Global;
 use tbr_lines::{OutOfMemory, TaggedLine};
 
-/// Shows what a document has by annotations, and by characters only where a prefix or a superscript wants them.
+/// Shows what a document has by annotations. The characters that it gives are prefixes, `^{` and `}` round
+/// superscripts, the titles of images, and the lines `[1]: target` of footnotes.
 #[derive(Clone, Debug, Drop)]
 pub struct RichDecorator {}
 

@@ -16,7 +16,7 @@ pub fn empty(alloc: Global) -> String
     String::new(alloc)
 }
 
-/// A copy of an ASCII text.
+/// A copy of a text, of which it asks that it is ASCII. It refuses only for want of memory.
 pub fn ascii(alloc: Global, text: &str) -> Result<String, OutOfMemory>
     requires { IsTrue (list_all is_ascii text.now) }
     ensures { IfOk result (λ t. chars_of t ≡ text.now) }
@@ -24,14 +24,15 @@ pub fn ascii(alloc: Global, text: &str) -> Result<String, OutOfMemory>
     Ok(String::from_str(alloc, text)?)
 }
 
-/// A copy of a text.
+/// A copy of a text. It refuses only for want of memory.
 pub fn copy(alloc: Global, text: &str) -> Result<String, OutOfMemory>
     ensures { IfOk result (λ t. chars_of t ≡ chars text.now) }
 {
     Ok(String::from_str(alloc, text)?)
 }
 
-/// `level` times `#`, and a space. A size that no text has is refused before anything is written.
+/// `level` times `#`, and a space. It refuses only for want of memory; a size that no text has is refused before
+/// anything is written.
 pub fn header(alloc: Global, level: usize) -> Result<String, OutOfMemory>
     ensures { IfOk result (λ t. chars_of t ≡ plain.header_text level) }
 {
@@ -40,14 +41,14 @@ pub fn header(alloc: Global, level: usize) -> Result<String, OutOfMemory>
     Ok(text)
 }
 
-/// A number and `. `.
+/// A number and `. `. It refuses only for want of memory.
 pub fn ordered_item(alloc: Global, i: i64) -> Result<String, OutOfMemory>
     ensures { IfOk result (λ t. chars_of t ≡ signed_decimal i ++ codes ". ") }
 {
     Ok(format!(in alloc; "{i}. ")?)
 }
 
-/// A text in square brackets.
+/// A text in square brackets. It refuses only for want of memory.
 pub fn bracketed(alloc: Global, text: &str) -> Result<String, OutOfMemory>
     ensures { IfOk result (λ t. chars_of t ≡ codes "[" ++ chars text.now ++ codes "]") }
 {

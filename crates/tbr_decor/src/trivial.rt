@@ -10,7 +10,8 @@ use crate::{text, usual};
 use std::alloc::Global;
 use tbr_lines::{OutOfMemory, TaggedLine};
 
-/// Shows the text of a document and nothing else, but for superscripts, and annotates nothing.
+/// Shows the text of a document, and annotates nothing. The characters that it gives are `^{` and `}` round
+/// superscripts, the titles of images, and the lines `[1]: target` of footnotes.
 #[derive(Clone, Debug, Drop)]
 pub struct TrivialDecorator {}
 

@@ -1,7 +1,6 @@
 //! Which layouts are legal.
-ghost use Rattle.std.specs.Prelude.{◌≡◌, ◌≤◌, ◌<◌, ◌^◌, ◌↔◌, IsTrue, SomeIff};
+ghost use Rattle.std.specs.Prelude.{◌≡◌, ◌≤◌, ◌<◌, ◌^◌, ◌↔◌, ◌&&◌, not, IsTrue, SomeIff};
 ghost use Rattle.tbr_model.specs.Layout as layout;
-ghost use Rattle.std.specs.Prelude.{not, ◌&&◌};
 ghost use Rattle.std.specs.List.{list_all};
 ghost use Rattle.tbr_model.specs.Layout.{IsLegalLine};
 ghost use Rattle.tbr_model.specs.Cuts.{IsLegalLayout};

@@ -1,5 +1,5 @@
 //! The words of a run, region by region, and their items.
-ghost use Rattle.std.specs.Prelude.{◌≡◌, nat_lt, [], ◌++◌, length, option_copied, MatchOption, IfOk, OnOk};
+ghost use Rattle.std.specs.Prelude.{◌≡◌, nat_lt, [], ◌++◌, option_copied, MatchOption, IfOk, OnOk};
 ghost use Rattle.tbr_model.specs.Run as run;
 ghost use Rattle.tbr_model.specs.Run.{items_width, kept_items};
 ghost use Rattle.tbr_model.specs.Layout.{word_slots, slots_of};

@@ -76,9 +76,6 @@ module _ {D A M : Type 0} (f : A → M) (columns : ℕ → Option ℕ) (first : 
     pub settings : KeepsSettings (meant f first) (meant f now)
     pub lines : meant f now ≡ fold (with_line columns) (meant f first) texts
 
-  put_none : first.failure ≡ None → HasPut [] first
-  put_none live = record { unfailed = live; settings = refl; lines = refl }
-
   put_more : (texts : List (List (Item (List M)))) (text : List (Item (List M))) (now next : Renderer D A (Vec A)) → HasPut texts now → meant f next ≡ with_line columns (meant f now) text → KeepsSettings (meant f now) (meant f next) →
       HasPut (texts ++ text ∷ []) next
   put_more texts text now next h is kept = record {

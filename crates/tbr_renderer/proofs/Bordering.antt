@@ -1,5 +1,5 @@
 -- Borders under what their annotations mean.
-use Rattle.std.proofs.Common.{◌≡◌, ℕ, Option, true, false, List, [], ◌∷◌, ◌++◌, map, refl, ap, sym, ◌∙◌}
+use Rattle.std.proofs.Common.{◌≡◌, ℕ, Option, true, List, [], ◌∷◌, ◌++◌, map, refl, ap, sym, ◌∙◌}
 use Rattle.std.specs.Global.{Vec}
 use Rattle.std.proofs.lemmas.List.{map-append}
 use Rattle.tbr_model.specs.Run.{Item}
@@ -8,7 +8,7 @@ use Rattle.tbr_lines.specs.Border.{Border, shown}
 use Rattle.tbr_rows.specs.Meant.{map_border}
 use Rattle.tbr_rows.proofs.MeantTexts as rows
 use Rattle.tbr_renderer.specs.Meant.{map_line, tag_meant, items_meant, meant}
-use Rattle.tbr_renderer.specs.Renderer.{Line, text, border, Renderer, line_padding}
+use Rattle.tbr_renderer.specs.Renderer.{Line, text, Renderer, line_padding}
 use Rattle.tbr_renderer.specs.Appended.{with_border, border_line}
 
 -- a border shows the same under other tags
@@ -16,16 +16,7 @@ pub shown-map : {T U : Type 0} (f : T → U) (tag : T) (b : Border T) → map_it
 shown-map f tag b = sym (rows.shown-map f tag b)
 
 module _ {D A M : Type 0} (f : A → M) (columns : ℕ → Option ℕ) (r s : Renderer D A (Vec A)) (b : Border (Vec A)) where
-  -- a border joins the lines as it is
-  pub border_added : r.options.pad_block_width ≡ false → s ≡ record r { lines = r.lines ++ border b ∷ [] } → meant f s ≡ with_border columns (meant f r) (map_border (tag_meant f) b)
-  border_added bare is =
-      ap (meant f) is
-      ∙ ap (λ (ls : List (Line (List M))). record (meant f r) { lines = ls }) (map-append (map_line (tag_meant f)) r.lines (border b ∷ []) ∙ ap (λ (l : Line (List M)). map (map_line (tag_meant f)) r.lines ++ l ∷ []) (sym kept))
-    where
-      kept : border_line columns (meant f r) (map_border (tag_meant f) b) ≡ border (map_border (tag_meant f) b)
-      kept = rw bare refl
-
-  -- a border joins them as text that is filled
+  -- a border joins the lines as text that is filled
   pub border_drawn : (is full : List (Item (Vec A))) → r.options.pad_block_width ≡ true → items_meant f is ≡ items_meant f (shown b.tag b) →
       items_meant f full ≡ items_meant f is ++ line_padding columns (meant f r) (items_meant f is) → s ≡ record r { lines = r.lines ++ text full ∷ [] } →
       meant f s ≡ with_border columns (meant f r) (map_border (tag_meant f) b)

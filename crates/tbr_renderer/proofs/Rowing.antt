@@ -2,10 +2,9 @@
 use Rattle.std.proofs.Common.{◌≡◌, ℕ, ◌+◌, zero, suc, ◌-◌, ◌<◌, ◌↔◌, IsTrue, Bool, true, false, if◌then◌else◌, is_some, is_none, Option, None, Some, unwrap_or, List, [], ◌∷◌, ◌++◌, map, fold, take, drop, length, get_or, refl, ap, sym, ◌∙◌, subst, arith}
 use Rattle.std.specs.Borrow.{Bor}
 use Rattle.std.specs.Prelude.{IsSome, IfSome, replicate}
-use Rattle.std.specs.Option.{MatchOption, option_copied}
+use Rattle.std.specs.Option.{MatchOption, option_copied, option_map}
 use Rattle.std.specs.Global.{Vec}
 use Rattle.std.specs.Vec.{vec_items}
-use Rattle.std.specs.Option.{option_map}
 use Rattle.std.specs.List.{AllZip, AllByRecursion as Each}
 use Rattle.std.specs.Cmp.Lexicographic.{pointwise}
 use Rattle.std.proofs.lemmas.List.{map-append, length-map, take-map, length-append, map_more, take_more, nil_from_length}

@@ -86,8 +86,8 @@ renderer_of r = record {
   hanging = r.hanging;
 }
 
--- What the fields of a renderer that hasn't failed hold: a fresh block, if any, markers that wait, lines whose pieces are
--- the longest stretches under equal annotations, and how many of them have content.
+-- What the fields of a renderer that hasn't failed hold: a fresh block, if any, markers that wait, lines whose pieces
+-- are the longest stretches under equal annotations, and how many of them have content.
 pub record HoldsFresh {D W A : Type 0} (eq : A → A → Bool) (r : Inside D W A) : Type 0 where
   pub opened : IsOpened (least r.width r.options.wrap_width)
       (overflows r.options (least r.width r.options.wrap_width)) (unboxed r.wrapping)

@@ -26,7 +26,8 @@ use tbr_lines::{CellAlign, Error, WhiteSpace};
 /// memory is refused or a size passes `usize`.
 ///
 /// A call that refuses leaves the renderer failed. It keeps that refusal, which each later call that can refuse
-/// answers, doing nothing else; a call that can't refuse does nothing then.
+/// answers, doing nothing else; a call that can't refuse does nothing then. The four calls for prefixes and
+/// `new_sub_renderer` neither leave the renderer failed nor look at a failure.
 pub trait Renderer {
     // What its text stands under.
     ghost Tag: { Type 0 };
@@ -498,9 +499,9 @@ pub trait Renderer {
         ensures memory { IfErr result (λ e. e ≡ E.OutOfMemory) }
         ensures unchanged { self.new ≡ self.old };
 
-    /// A renderer of a width of at least 1 for a block inside: without text, with the same options and annotations, and
-    /// with the decorator that the own one makes for it. It refuses only for want of memory, also on a renderer that
-    /// has failed.
+    /// A renderer for a block inside: of a width in columns, without text, with the same options and annotations, and
+    /// with the decorator that the own one makes for it. It asks for a width of at least 1. It refuses only for want of
+    /// memory, also on a renderer that has failed.
     fn new_sub_renderer(&self, width: usize) -> Result<Self, Error>
         requires { 0 < width }
         ensures sub { IfOk result (λ sub. is_sub_renderer self.now width sub) }

@@ -1,8 +1,7 @@
 //! A renderer of blocks of text.
-ghost use Rattle.std.specs.Prelude.{◌≡◌, ◌≢◌, ◌<◌, [], ◌∷◌, ◌++◌, None, Some, Ok, Err, false, not, ◌&&◌, ◌-◌, map, IsTrue, ◌↔◌, is_none, is_err, max, IfOk, IfErr, OnOk, MatchResult};
+ghost use Rattle.std.specs.Prelude.{◌≡◌, ◌≢◌, ◌<◌, [], ◌∷◌, ◌++◌, None, Some, false, ◌-◌, map, IsTrue, ◌↔◌, is_err, max, IfOk, IfErr, OnOk, MatchResult};
 ghost use Rattle.tbr_lines.specs.declared.Error.{Error as Refusal};
-ghost use Rattle.tbr_lines.specs.declared.Error.TheVariants as E;
-ghost use Rattle.tbr_renderer.specs.Renderer.{Renderer as Model, KeepsSettings, new_renderer, has_content, text, line_padding, with_filled, with_line, block_width, may_overflow};
+ghost use Rattle.tbr_renderer.specs.Renderer.{KeepsSettings, new_renderer, has_content, line_padding, with_filled, with_line, block_width, may_overflow};
 ghost use Rattle.tbr_renderer.specs.View.{line_seen, unboxed, block_seen, IsFresh, IsOpened, AreMarkers, names_of};
 ghost use Rattle.tbr_lines.specs.View.{element_of};
 ghost use Rattle.tbr_lines.specs.Copies.{equal_lists};
@@ -290,8 +289,8 @@ impl<D: TextDecorator, W: CharWidth> SubRenderer<D, W> {
         self.add_filled(whole)
     }
 
-    /// Adds a line of text, whatever markers wait. It is filled, where lines are padded. Where memory is refused the line
-    /// is lost.
+    /// Adds a line of text, whatever markers wait. It is filled, where lines are padded. Where memory is refused the
+    /// line is lost.
     fn add_filled(&mut self, mut line: TaggedLine<Vec<D::Annotation>>) -> Result<(), OutOfMemory>
         requires { IsMerged (equal_lists D.Annotation.eq) line }
         ensures line { OnOk result (meant D.meaning self.new

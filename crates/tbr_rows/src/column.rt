@@ -1,5 +1,5 @@
 //! What a row shows of its cells.
-ghost use Rattle.std.specs.Prelude.{◌≡◌, max};
+ghost use Rattle.std.specs.Prelude.{◌≡◌};
 ghost use Rattle.tbr_rows.specs.Texts as model;
 
 use crate::line_set::LineSet;

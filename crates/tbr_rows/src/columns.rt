@@ -3,7 +3,7 @@ ghost use Rattle.std.specs.Prelude.{◌≡◌, ◌++◌, ◌∷◌, [], List, ma
 ghost use Rattle.std.specs.List.{AllZip};
 ghost use Rattle.tbr_border.specs.declared.render_line.RenderLine.{RenderLine as Line};
 ghost use Rattle.tbr_tagged.specs.Copies.{CopiesAreEqual};
-ghost use Rattle.tbr_rows.specs.Cells.{AreSideBySide, next_place, row_fits, spot_of};
+ghost use Rattle.tbr_rows.specs.Cells.{AreSideBySide, row_fits, spot_of};
 ghost use Rattle.tbr_rows.specs.Filled as model;
 
 use crate::cell_lines::CellLines;

@@ -33,6 +33,7 @@ pub(crate) fn hang<T: Eq + Clone + Drop, W: CharWidth>(
     Ok(rest)
 }
 
+/// Ends a row for one cell, and puts what overhangs of it behind what overhangs already.
 fn hang_cell<T: Eq + Clone + Drop, W: CharWidth>(
     alloc: Global,
     column: Column<T>,

@@ -1,5 +1,5 @@
 //! Rows.
-ghost use Rattle.std.specs.Prelude.{◌≡◌, map, true, Some, IfOk, OnOk};
+ghost use Rattle.std.specs.Prelude.{◌≡◌, map, true, IfOk, OnOk};
 ghost use Rattle.std.specs.List.{AllByRecursion as Each};
 ghost use Rattle.tbr_tagged.specs.Copies.{CopiesAreEqual};
 ghost use Rattle.tbr_tagged.specs.Elements.{IsMerged};
@@ -62,10 +62,10 @@ pub struct Row<T> {
 }
 
 impl<T: Eq + Clone + Drop> Columns<T> {
-    /// Lays out a row of these cells and of those that overhang, under a border, if there is one. What is drawn stands
-    /// under copies of the tag.
+    /// Lays out a row of these cells and of those that overhang, under a border, if there is one. It asks for a row
+    /// that fits: [`fits`](Columns::fits) tells. What is drawn stands under copies of the tag.
     ///
-    /// It refuses only where memory is refused, or where a place passes `usize`.
+    /// It refuses only for want of memory, or where a place passes `usize`.
     pub fn lay_out<W: CharWidth>(
         self,
         alloc: Global,

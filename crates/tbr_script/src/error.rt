@@ -97,6 +97,7 @@ impl<T: Drop> From<AllocFailed<T>> for RunError {
     }
 }
 
+/// Writes what is said of a line behind its number. It refuses where the sink does.
 fn report_line<S: Sink>(sink: &mut S, number: usize, what: &[u8]) -> Result<(), Failed>
     ensures line { WritesAll (S.contents sink.old) (S.contents sink.new) result (at_line number what.now) }
     ensures failure { S.failed sink.new ≡ (is_err result || S.failed sink.old) }

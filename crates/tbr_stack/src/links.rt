@@ -4,7 +4,6 @@ ghost use Rattle.tbr_lines.specs.View.{chars_of};
 ghost use Rattle.tbr_lines.specs.declared.Error.TheVariants as E;
 ghost use Rattle.tbr_decor.specs.Decoration.{decoration_of};
 ghost use Rattle.tbr_decor.specs.Start as start;
-ghost use Rattle.tbr_decor.specs.End as end;
 ghost use Rattle.tbr_renderer.specs.Renderer.{block_width};
 ghost use Rattle.tbr_renderer.specs.Calls.{KeepsFailure, Does, IsTooNarrow, StopsAtStage};
 ghost use Rattle.tbr_renderer.specs.Meant.{meant};
@@ -47,9 +46,9 @@ impl<D: TextDecorator, W: CharWidth> TextRenderer<D, W> {
     /// Ends the link that was opened last in the top, and closes it. With footnotes its number comes as text behind it.
     /// It asks for a depth of at least 1.
     ///
-    /// Where no link is open in the top, the top ends one all the same, and no number comes. It refuses as the top does,
-    /// and for want of memory, and then the top has failed and no link was closed. A top that had failed answers its
-    /// refusal, and nothing changes.
+    /// Where no link is open in the top, the top ends one all the same, and no number comes. It refuses as the top
+    /// does, and for want of memory, and then the top has failed and no link was closed. A top that had failed answers
+    /// its refusal, and nothing changes.
     pub fn end_link(&mut self) -> Result<(), Error>
         requires { 0 < length self.old.levels }
         ensures ok { OnOk result (EndsLink W.columns (decoration_of D.TextDecorator)

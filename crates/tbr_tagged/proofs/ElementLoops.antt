@@ -1,5 +1,5 @@
 -- One more element of a line, as a loop over them takes it.
-use Rattle.std.proofs.Common.{◌≡◌, ℕ, suc, ◌+◌, ◌<◌, true, false, Option, List, [], ◌∷◌, ◌++◌, map, length, get_or, take, drop, refl, ap, sym, ◌∙◌, arith, drop-cons, Result, Ok, Err, OnOk}
+use Rattle.std.proofs.Common.{◌≡◌, ℕ, suc, ◌+◌, ◌<◌, true, false, Option, List, [], ◌∷◌, ◌++◌, map, length, get_or, take, drop, refl, ap, sym, ◌∙◌, arith, drop-cons}
 use Rattle.std.proofs.lemmas.List.{take_more, map_push, map-append, take-append-drop}
 use Rattle.std.proofs.lemmas.List.Concat.{flat_map-append}
 use Rattle.tbr_model.specs.Run.{glyph, marker, items_width}
@@ -44,8 +44,3 @@ pub has_piece-within : {A : Type 0} (es fs : List (Element A)) (cs : List ℕ) (
 has_piece-within [] fs cs a = refl
 has_piece-within (piece bs b ∷ es) fs cs a = refl
 has_piece-within (marker_element m ∷ es) fs cs a = has_piece-within es fs cs a
-
--- two facts of one result
-pub on_ok_both : {T E P Q R : Type 0} (r : Result T E) → (P → Q → R) → OnOk r P → OnOk r Q → OnOk r R
-on_ok_both (Ok x) f p q = f p q
-on_ok_both (Err e) f p q = tt

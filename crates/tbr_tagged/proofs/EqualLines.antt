@@ -4,12 +4,11 @@ use Rattle.std.specs.Cmp.{both_ways}
 use Rattle.std.specs.Cmp.Lexicographic.{pointwise, nat_list_eq_equiv}
 use Rattle.std.specs.Cmp.Lexicographic as lists
 use Rattle.std.specs.Str.{IsUtf8, chars}
-use Rattle.std.proofs.lemmas.Str.{chars-encodes}
+use Rattle.std.proofs.lemmas.Str.{chars-encodes, IsUtf8-string_bytes}
 use lib.Utf8.{encodes}
 use Rattle.std.specs.String.{string_bytes}
 use Rattle.std.specs.declared.string.String.{String}
 use Rattle.std.specs.declared.alloc.Global.{Global}
-use Rattle.std.proofs.lemmas.Str.{IsUtf8-string_bytes}
 use Rattle.tbr_tagged.specs.declared.element.TaggedString.{TaggedString}
 use Rattle.tbr_tagged.specs.declared.element.TaggedLineElement.{TaggedLineElement}
 use Rattle.tbr_tagged.specs.declared.element.TaggedLineElement.TheVariants.{Str, FragmentStart}

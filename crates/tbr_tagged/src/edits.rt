@@ -27,6 +27,7 @@ pub fn push_piece<T: Eq + Drop>(
     elements.push(TaggedLineElement::Str(ts))
 }
 
+/// Appends a character under a tag, of which a new piece gets a copy. Where memory is refused nothing changes.
 pub fn push_glyph<T: Eq + Clone>(
     elements: &mut ElementList<T>,
     c: char,

@@ -46,7 +46,8 @@ impl<T> TaggedString<T> {
         text_width::<W>(self.s.as_str())
     }
 
-    /// The same text under the tag that `f` makes of this one's. It takes no memory.
+    /// The same text under the tag that `f` makes of this one's. It asks that `f` may be called on every tag. It takes
+    /// no memory.
     pub fn map_tag<U, F: Fn(T) -> U>(self, f: &F) -> TaggedString<U>
         requires { F.IsAlwaysCallable f.now }
         ensures text { result.s ≡ self.s }
@@ -58,7 +59,7 @@ impl<T> TaggedString<T> {
         }
     }
 
-    /// The same text under a copy of the tag.
+    /// The same text under a copy of the tag. It refuses only for want of memory.
     pub fn clone(&self) -> Result<TaggedString<T>, OutOfMemory>
     where
         T: Eq + Clone,
@@ -110,7 +111,8 @@ impl<T> TaggedLineElement<T> {
         }
     }
 
-    /// The same text under the tag that `f` makes of this one's, or the same marker. It takes no memory.
+    /// The same text under the tag that `f` makes of this one's, or the same marker. It asks that `f` may be called on
+    /// every tag. It takes no memory.
     pub fn map_tag<U, F: Fn(T) -> U>(self, f: &F) -> TaggedLineElement<U>
         requires { F.IsAlwaysCallable f.now }
         ensures mapped { MapsElement (F.post f.now) (element_of self) (element_of result) }
@@ -123,7 +125,7 @@ impl<T> TaggedLineElement<T> {
         }
     }
 
-    /// The same element, a piece under a copy of its tag.
+    /// The same element, a piece under a copy of its tag. It refuses only for want of memory.
     pub fn clone(&self) -> Result<TaggedLineElement<T>, OutOfMemory>
     where
         T: Eq + Clone,
@@ -140,6 +142,7 @@ impl<T> TaggedLineElement<T> {
     }
 }
 
+/// Whether it is a piece under an equal tag.
 pub fn is_under<T: Eq>(element: Option<&TaggedLineElement<T>>, tag: &T) -> bool
     ensures { result ≡ is_piece_under T.eq (option_map element_of (option_copied element.entry)) tag.now }
 {
@@ -149,6 +152,7 @@ pub fn is_under<T: Eq>(element: Option<&TaggedLineElement<T>>, tag: &T) -> bool
     }
 }
 
+/// Appends text to a piece's; a marker stays. Where memory is refused nothing changes.
 pub fn extend<T>(element: &mut TaggedLineElement<T>, text: &str) -> Result<(), OutOfMemory>
     ensures ok { OnOk result (element_of element.new ≡ with_text (element_of element.old) (chars text.now)) }
     ensures err { OnErr result (element_of element.new ≡ element_of element.old) }
@@ -159,6 +163,7 @@ pub fn extend<T>(element: &mut TaggedLineElement<T>, text: &str) -> Result<(), O
     Ok(())
 }
 
+/// Appends a character to a piece's text; a marker stays. Where memory is refused nothing changes.
 pub fn extend_by_char<T>(element: &mut TaggedLineElement<T>, c: char) -> Result<(), OutOfMemory>
     ensures ok { OnOk result (element_of element.new ≡ with_text (element_of element.old) (c ∷ [])) }
     ensures err { OnErr result (element_of element.new ≡ element_of element.old) }
@@ -169,6 +174,7 @@ pub fn extend_by_char<T>(element: &mut TaggedLineElement<T>, c: char) -> Result<
     Ok(())
 }
 
+/// Appends `count` spaces to a piece's text; a marker stays. Where memory is refused nothing changes.
 pub fn extend_by_spaces<T>(
     element: &mut TaggedLineElement<T>,
     count: usize,
@@ -182,6 +188,7 @@ pub fn extend_by_spaces<T>(
     Ok(())
 }
 
+/// A piece of one character under a copy of the tag. It refuses only for want of memory.
 pub fn new_piece<T: Eq + Clone>(
     alloc: Global,
     c: char,
@@ -213,6 +220,7 @@ pub fn extend_front<T>(
     Ok(text)
 }
 
+/// Gives a piece another text; a marker stays.
 pub fn set_text<T>(element: &mut TaggedLineElement<T>, text: String)
     ensures { element_of element.new ≡ with_characters (element_of element.old) (chars_of text) }
 {

@@ -16,6 +16,7 @@ use crate::error::OutOfMemory;
 use crate::width::text_width;
 use tbr_model::CharWidth;
 
+/// Whether a piece is among them.
 pub fn has_piece<T>(elements: &[TaggedLineElement<T>]) -> bool
     ensures { result ≡ model.has_piece (elements_of elements.now) }
 {
@@ -27,6 +28,7 @@ pub fn has_piece<T>(elements: &[TaggedLineElement<T>]) -> bool
     false
 }
 
+/// The columns that their texts take. It takes no memory, and refuses exactly where the sum passes `usize`.
 pub fn width_of<T, W: CharWidth>(elements: &[TaggedLineElement<T>]) -> Result<usize, OutOfMemory>
     ensures { GivesSum result (line_width W.columns (elements_of elements.now)) }
 {
@@ -43,6 +45,7 @@ pub fn width_of<T, W: CharWidth>(elements: &[TaggedLineElement<T>]) -> Result<us
     Ok(width)
 }
 
+/// Appends their characters, without tags and markers, to a text. Where memory is refused some may be missing.
 pub fn append_text<T>(
     text: &mut String,
     elements: &[TaggedLineElement<T>],

@@ -1,5 +1,5 @@
 //! The laws of tags and of lines, each as the contract of a function that does nothing.
-ghost use Rattle.std.specs.Prelude.{◌≡◌, Bool, true, List};
+ghost use Rattle.std.specs.Prelude.{◌≡◌, Bool, List};
 ghost use Rattle.std.specs.List.{AllZip};
 ghost use Rattle.tbr_model.specs.Run.{Item, has_character};
 ghost use Rattle.tbr_model.specs.Mapped.{map_items, map_lines};

@@ -34,6 +34,7 @@ impl Default for CellAlign {
     }
 }
 
+/// How many of the columns that a line leaves stand in front of it.
 pub fn columns_in_front(align: CellAlign, missing: usize) -> usize
     ensures value { result ≡ model.columns_in_front align missing }
     ensures bound { result ≤ missing }
@@ -45,6 +46,8 @@ pub fn columns_in_front(align: CellAlign, missing: usize) -> usize
     }
 }
 
+/// Puts `front` spaces in front and `behind` spaces behind, under copies of the tag. Where memory is refused nothing
+/// changes.
 pub fn pad<T: Eq + Clone + Drop>(
     elements: &mut ElementList<T>,
     front: usize,
@@ -95,6 +98,7 @@ fn push_spaces<T: Eq + Clone + Drop>(
     elements.push(TaggedLineElement::Str(piece))
 }
 
+/// A text of `count` spaces under a copy of the tag. It refuses only for want of memory.
 fn spaces_under<T: Eq + Clone>(
     alloc: Global,
     count: usize,

@@ -21,7 +21,7 @@ pub fn is_wordbreak_point(c: char) -> bool
     c == '\u{200b}' || (c.is_whitespace() && c != '\u{a0}')
 }
 
-/// A text of `count` spaces.
+/// A text of `count` spaces. It refuses only for want of memory.
 pub fn spaces(alloc: Global, count: usize) -> Result<String, OutOfMemory>
     ensures { IfOk result (λ s. chars_of s ≡ padding.spaces count) }
 {

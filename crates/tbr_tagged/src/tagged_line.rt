@@ -65,7 +65,7 @@ impl<T> TaggedLine<T> {
         self.elements.width::<W>()
     }
 
-    /// The line's characters, without tags and markers.
+    /// The line's characters, without tags and markers. It refuses only for want of memory.
     pub fn to_text(&self) -> Result<String, OutOfMemory>
         ensures { IfOk result (λ text. chars_of text ≡ characters self.now) }
     {
@@ -83,7 +83,7 @@ impl<T> TaggedLine<T> {
 }
 
 impl<T> TaggedLine<T> {
-    /// A line of one piece under a copy of the tag, even for the empty text.
+    /// A line of one piece under a copy of the tag, even for the empty text. It refuses only for want of memory.
     pub fn from_string(alloc: Global, s: String, tag: &T) -> Result<TaggedLine<T>, OutOfMemory>
     where
         T: Eq + Clone + Drop,
@@ -96,7 +96,8 @@ impl<T> TaggedLine<T> {
         Ok(TaggedLine { elements })
     }
 
-    /// The line with each tag replaced by what `f` makes of it. Texts, markers and their order stay.
+    /// The line with each tag replaced by what `f` makes of it. Texts, markers and their order stay. It asks that `f`
+    /// may be called on every tag. It refuses only for want of memory.
     pub fn map_tag<U: Drop, F: Fn(T) -> U>(self, f: &F) -> Result<TaggedLine<U>, OutOfMemory>
     where
         T: Drop,
@@ -110,7 +111,7 @@ impl<T> TaggedLine<T> {
         Ok(TaggedLine { elements })
     }
 
-    /// The same elements, each piece under a copy of its tag.
+    /// The same elements, each piece under a copy of its tag. It refuses only for want of memory.
     pub fn clone(&self) -> Result<TaggedLine<T>, OutOfMemory>
     where
         T: Eq + Clone + Drop,

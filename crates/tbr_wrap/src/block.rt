@@ -21,8 +21,9 @@ use tbr_tagged::{Error, OutOfMemory, TaggedLine, TaggedLineElement, UnicodeColum
 /// Text under tags that is wrapped into lines of a width in columns.
 ///
 /// The text that comes between two flushes is a run: [`add_text`](WrappedBlock::add_text) adds to it, and
-/// [`flush`](WrappedBlock::flush) ends it. The lines of a run are those of the layout that is ahead of every legal one:
-/// after any number of lines no legal layout has placed more of the run.
+/// [`flush`](WrappedBlock::flush) ends it. The lines of a `Normal` run, where none may be wider than the block, are
+/// those of the layout that is ahead of every legal one: after any number of lines no legal layout has placed more of
+/// the run.
 ///
 /// A call that refuses leaves the block failed. It keeps that refusal, which each later call that can refuse answers,
 /// doing nothing else. A contract sees what [`State`] lists.

@@ -2,7 +2,6 @@
 ghost use Rattle.std.specs.Prelude.{◌≡◌, ◌++◌, ◌∷◌, [], length, chars};
 ghost use Rattle.tbr_wrap.specs.Course.{text_changes};
 
-use std::marker::Model;
 use tbr_model::{History, WhiteSpace};
 
 /// What happens to a run. A history keeps with each change the tags of the character that it tells of.

@@ -16,8 +16,7 @@ ghost use Rattle.text_block_renderer.specs.Normal.{WrapsNormally, PushesNormal};
 ghost use Rattle.text_block_renderer.specs.Settings.{settled};
 ghost use Rattle.text_block_renderer.specs.Drawn.{WithoutDrawnBorders, CameWithoutDrawnBorders, borders_added, borders_drawn, DrawNone};
 ghost use Rattle.text_block_renderer.specs.MarkersStand.{Stands, FlushStands, WaitForText};
-ghost use Rattle.text_block_renderer.specs.Stretches.{StandsAsStretch, StaysOpen, EndsAsStretch};
-ghost use Rattle.text_block_renderer.specs.Stretches.{ComesInParts, borders_of_part, AppendsNothing, IsOwnPart};
+ghost use Rattle.text_block_renderer.specs.Stretches.{StandsAsStretch, StaysOpen, EndsAsStretch, ComesInParts, borders_of_part, AppendsNothing, IsOwnPart};
 ghost use Rattle.tbr_model.specs.Run.{Entry};
 ghost use Rattle.tbr_decor.specs.Decoration.{Decoration};
 

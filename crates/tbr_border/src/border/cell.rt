@@ -79,6 +79,7 @@ impl BorderSegHoriz {
         };
     }
 
+    /// What the cell is once a line joins it from above. The slash stays.
     fn with_arm_up(self) -> BorderSegHoriz
         ensures { model.cell_of result ≡ model.joined model.above (model.cell_of self) }
     {
@@ -91,6 +92,7 @@ impl BorderSegHoriz {
         }
     }
 
+    /// What the cell is once a line joins it from below. The slash stays.
     fn with_arm_down(self) -> BorderSegHoriz
         ensures { model.cell_of result ≡ model.joined model.below (model.cell_of self) }
     {

@@ -1,5 +1,5 @@
 -- In a run without `Pre` each visible character stands under its own annotation.
-use Rattle.std.proofs.Common.{◌≡◌, ◌≢◌, ℕ, ◌+◌, ◌-◌, ◌==◌, ◌&&◌, inl, inr, nat_le, nat_lt, Bool, true, false, if◌then◌else◌, is_some, is_none, Option, Some, None, List, [], ◌∷◌, map, fold, refl, ap, sym, ◌∙◌, subst}
+use Rattle.std.proofs.Common.{◌≡◌, ℕ, ◌+◌, ◌-◌, ◌==◌, ◌&&◌, inl, inr, nat_le, nat_lt, Bool, true, false, if◌then◌else◌, is_some, is_none, Option, Some, None, List, [], ◌∷◌, map, fold, refl, ap, sym, ◌∙◌, subst}
 use Rattle.std.specs.List.{AllZip, AllByRecursion as Each}
 use Rattle.std.proofs.lemmas.Bool.{cond_both}
 use Rattle.tbr_model.specs.Codes.{tab_character, newline_character, zero_width_space}
@@ -17,11 +17,6 @@ record HasOwn {A : Type 0} (p : Progress A) : Type 0 where
   mode : is_pre p.mode ≡ false
   flag : p.continuation_flag ≡ false
   in_continuation : p.in_continuation ≡ false
-
-not_pre : (mode : WhiteSpace) → mode ≢ Pre → is_pre mode ≡ false
-not_pre Normal h = refl
-not_pre Pre h = absurd (h refl)
-not_pre PreWrap h = refl
 
 module _ {A : Type 0} (columns : ℕ → Option ℕ) (width : ℕ) where
   -- ---- a word

@@ -7,7 +7,7 @@ use Rattle.tbr_model.specs.Layout.{joined}
 use Rattle.tbr_model.specs.Laid.{Laid, extended, end_line, end_if_character, end_if_columns, put_item, put_items}
 use Rattle.tbr_model.specs.Rule.{Space, spaces, space_text, put_space, put_spaces, put_pending, put_tab}
 use Rattle.tbr_model.specs.Hard.{letters_of}
-use Rattle.tbr_model.proofs.words.Items.{letters_of-append, no_glyphs, break_lost}
+use Rattle.tbr_model.proofs.words.Items.{letters_of-append, no_glyphs}
 use Rattle.tbr_model.proofs.lists.Joined.{joined-append}
 
 abbrev pub text : {A : Type 0} → Laid A → List (Item A)
@@ -80,7 +80,3 @@ none_kept columns is h = ap (λ gs. filter (is_kept columns) (map (λ g. g.0) gs
 
 pub kept_one : {A : Type 0} (columns : ℕ → Option ℕ) (c : ℕ) (a : A) → is_kept columns c ≡ false → kept_of columns (glyph c a ∷ []) ≡ []
 kept_one columns c a h = rw h refl
-
-pub kept-spaces : {A : Type 0} (columns : ℕ → Option ℕ) (n : ℕ) (a : A) → kept_of columns (spaces n a) ≡ []
-kept-spaces columns zero a = refl
-kept-spaces columns (suc n) a = let e : is_kept columns 32 ≡ false = break_lost columns 32 refl in rw e (kept-spaces columns n a)

@@ -1,5 +1,5 @@
 -- Markers at the end of the word under way can be taken out of the run.
-use Rattle.std.proofs.Common.{◌≡◌, ℕ, zero, suc, ◌+◌, ◌-◌, ◌≤◌, ◌⊎◌, inl, inr, ◌==◌, ◌&&◌, ◌||◌, Bool, true, false, nat_le, nat_lt, if◌then◌else◌, is_some, is_none, Option, Some, None, List, [], ◌∷◌, ◌++◌, length, drop, refl, ap, sym, ◌∙◌, subst, arith, append_assoc, append-nil, length-append, ltb-true, ltb-false, lt-ltb}
+use Rattle.std.proofs.Common.{◌≡◌, ℕ, ◌+◌, ◌-◌, ◌≤◌, ◌⊎◌, inl, inr, ◌==◌, ◌&&◌, ◌||◌, Bool, true, false, nat_le, nat_lt, if◌then◌else◌, is_some, is_none, Option, Some, None, List, [], ◌∷◌, ◌++◌, length, refl, ap, sym, ◌∙◌, subst, arith, append_assoc, append-nil, length-append, ltb-true, ltb-false, lt-ltb}
 use Rattle.std.proofs.lemmas.Bool.{cond_both, le-ltb, or_parts}
 use Rattle.std.proofs.lemmas.List.Sums.{fold-append}
 use Rattle.tbr_model.specs.declared.white_space.WhiteSpace.{WhiteSpace}
@@ -7,7 +7,7 @@ use Rattle.tbr_model.specs.declared.white_space.WhiteSpace.TheVariants.{Normal, 
 use Rattle.tbr_model.specs.Run.{Entry, character, marker_entry, Item, glyph, marker, items_width, has_character, is_blank, is_break}
 use Rattle.tbr_model.specs.Laid.{extended, end_if_character, put_items}
 use Rattle.tbr_model.specs.Rule.{Event, call, entry, run_of, Space, Progress, at_start, spaces, pending_width, space_of, is_white_item, without_leading, wrap_space_by, wrap_space, put_pending, lay_here, lay_fresh, lay, flush_word, break_word, join, collapse, newline, tab, keep_space, is_pre, passes, tag_of, keep_character, preserve, enter_normal, enter, step, progress}
-use Rattle.tbr_model.specs.Markers.{names_in_run, last, without_last_markers}
+use Rattle.tbr_model.specs.Markers.{names_in_run, without_last_markers}
 use Rattle.tbr_model.proofs.words.Items.{items_width-append, has_character-append, back_has, no_character_no_width}
 use Rattle.tbr_model.proofs.rule.HardLines.{run_of-append}
 use Rattle.std.proofs.Math.Bool.{or-false}
@@ -53,32 +53,6 @@ without_one {A} n es name =
     without_last-append (n + 1) es (marker_entry name ∷ []) (omega arith)
     ∙ ap (λ (fs : List (Entry A)). without_last_markers ((n + 1) - 1) es ++ fs) alone ∙ append-nil (without_last_markers ((n + 1) - 1) es)
     ∙ ap (λ k. without_last_markers k es) (let e : (n + 1) - 1 ≡ n = omega arith in e)
-
-none_left : {A : Type 0} (n : ℕ) (es : List (Entry A)) → length (names_in_run es) ≤ n → names_in_run (without_last_markers n es) ≡ []
-none_left n [] h = refl
-none_left n (character c a b mode ∷ es) h = none_left n es h
-none_left n (marker_entry name ∷ es) h =
-    let goes : nat_lt (length (names_in_run es)) n ≡ true = lt-ltb _ _ (omega arith) in
-    rw goes (none_left n es (omega arith))
-
--- the markers that are left, and the last ones
-pub last_names : {A : Type 0} (n : ℕ) (es : List (Entry A)) → names_in_run (without_last_markers n es) ++ last n (names_in_run es) ≡ names_in_run es
-last_names n [] = drop_nil (0 - n)
-  where
-    drop_nil : (k : ℕ) → drop k (let l : List (List ℕ) = [] in l) ≡ []
-    drop_nil zero = refl
-    drop_nil (suc k) = refl
-last_names n (character c a b mode ∷ es) = last_names n es
-last_names {A} n (marker_entry name ∷ es) = go (nat_lt (length (names_in_run es)) n) refl (last_names n es)
-  where
-    go : (x : Bool) → nat_lt (length (names_in_run es)) n ≡ x → names_in_run (without_last_markers n es) ++ last n (names_in_run es) ≡ names_in_run es →
-        names_in_run (without_last_markers n (marker_entry name ∷ es)) ++ last n (name ∷ names_in_run es) ≡ name ∷ names_in_run es
-    go true e rest =
-        let all : suc (length (names_in_run es)) - n ≡ 0 = omega (arith, ltb-true _ _ e) in
-        rw (e, all, none_left n es (omega (arith, ltb-true _ _ e))) refl
-    go false e rest =
-        let one : suc (length (names_in_run es)) - n ≡ suc (length (names_in_run es) - n) = omega (arith, ltb-false _ _ e) in
-        rw (e, one) (ap (λ ns. name ∷ ns) rest)
 
 -- ---- markers at the end of items
 

@@ -1,7 +1,7 @@
 //! The calls of a renderer.
-ghost use Rattle.std.specs.Prelude.{◌≡◌, ◌≢◌, ◌<◌, ◌++◌, ◌∷◌, [], suc, ◌-◌, ◌^◌, not, true, None, Some, Ok, Err, OnOk, OnErr, IfErr, List, map, length, replicate, ◌⊎◌, ◌≤◌};
+ghost use Rattle.std.specs.Prelude.{◌≡◌, ◌≢◌, ◌<◌, ◌++◌, ◌∷◌, [], suc, ◌^◌, not, true, None, Some, Err, OnOk, OnErr, IfErr, List, map, length, replicate, ◌⊎◌, ◌≤◌};
 ghost use Rattle.tbr_lines.specs.declared.Error.TheVariants as E;
-ghost use Rattle.tbr_renderer.specs.Renderer.{KeepsSettings, block_width, without_last};
+ghost use Rattle.tbr_renderer.specs.Renderer.{Line, KeepsSettings, block_width, without_last};
 ghost use Rattle.tbr_renderer.specs.Meant.{meant, tag_meant};
 ghost use Rattle.tbr_renderer.specs.Steps.{BlockIsEmpty, TellsEmpty};
 ghost use Rattle.tbr_renderer.specs.Calls.{Does, IsTooNarrow, StopsAtStage, KeepsFailure};
@@ -11,7 +11,6 @@ ghost use Rattle.tbr_rows.specs.Cells.{row_fits};
 ghost use Rattle.tbr_renderer.specs.Rows.{GivenCell, GivesCell, align_in, spots_of, AppendsRow};
 ghost use Rattle.tbr_lines.specs.declared.CellAlign.TheVariants as A;
 ghost use Rattle.tbr_renderer.specs.Flush.{FlushIsTooNarrow};
-ghost use Rattle.tbr_renderer.specs.Renderer.{Line};
 ghost use Rattle.tbr_decor.specs.Decoration.{decoration_of};
 ghost use Rattle.std.specs.List.{AllZip, AllByRecursion as Each};
 ghost use Rattle.tbr_lines.specs.State.{is_some_list};

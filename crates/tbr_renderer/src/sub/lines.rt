@@ -1,5 +1,5 @@
 //! Lines that are handed out.
-ghost use Rattle.std.specs.Prelude.{◌≡◌, ◌≢◌, ◌≤◌, None, Some, Ok, Err, true, [], ◌++◌, map, IfOk, OnOk, List};
+ghost use Rattle.std.specs.Prelude.{◌≡◌, ◌≢◌, ◌≤◌, None, Some, Err, true, [], ◌++◌, map, IfOk, OnOk, List};
 ghost use Rattle.std.specs.List.{AllByRecursion as Each};
 ghost use Rattle.tbr_lines.specs.Copies.{equal_lists};
 ghost use Rattle.tbr_lines.specs.RenderLine.{IsMergedText};
@@ -21,8 +21,8 @@ use tbr_decor::TextDecorator;
 use tbr_lines::{CharWidth, Error, OutOfMemory, RenderLine};
 
 impl<D: TextDecorator, W: CharWidth> SubRenderer<D, W> {
-    /// Ends the open line, and hands out all lines. Their pieces are the longest stretches under equal annotations. There
-    /// are none where nothing stands in the renderer.
+    /// Ends the open line, and hands out all lines. Their pieces are the longest stretches under equal annotations.
+    /// There are none where nothing stands in the renderer.
     ///
     /// It refuses as `new_line` does. The list takes memory for each line.
     pub fn into_lines(self) -> Result<LinkedList<RenderLine<Vec<D::Annotation>>>, Error>

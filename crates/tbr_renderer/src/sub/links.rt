@@ -66,10 +66,11 @@ impl<D: TextDecorator, W: CharWidth> SubRenderer<D, W> {
         self.decorator.finalise(self.alloc, links)
     }
 
-    /// Adds footnotes behind the lines. Their markers are dropped, newlines become spaces, and each piece stands under the
-    /// list of its one annotation. Where links are wrapped, a line ends before each character that passes the renderer's
-    /// width behind what the line holds, also an empty one. Each footnote begins a line, and an empty one is an empty
-    /// line. The lines come behind the markers that wait, and are filled where lines are padded. The open run stays open.
+    /// Adds footnotes behind the lines. Their markers are dropped, newlines become spaces, and each piece stands under
+    /// the list of its one annotation. Where links are wrapped, a line ends before each character that passes the
+    /// renderer's width behind what the line holds, also an empty one. Each footnote begins a line, and an empty one is
+    /// an empty line. The lines come behind the markers that wait, and are filled where lines are padded. The open run
+    /// stays open.
     ///
     /// It refuses only for want of memory, also where the columns of a line pass `usize`, and then the renderer has
     /// failed. One that had failed answers its refusal.

@@ -1,11 +1,10 @@
 //! Text that joins the open block.
-ghost use Rattle.std.specs.Prelude.{◌≡◌, ◌≢◌, ◌≤◌, ◌++◌, ◌∷◌, [], None, Some, Ok, Err, true, false, map, chars, IfOk, IfErr, OnOk, replicate};
+ghost use Rattle.std.specs.Prelude.{◌≡◌, ◌≢◌, ◌≤◌, ◌++◌, ◌∷◌, [], None, Err, true, false, map, chars, IfOk, IfErr, OnOk, replicate};
 ghost use Rattle.tbr_lines.specs.View.{chars_of};
 ghost use Rattle.tbr_lines.specs.declared.Error.TheVariants as E;
 ghost use Rattle.tbr_renderer.specs.Renderer.{KeepsSettings, block_width, may_overflow, last_mode, struck, struck_character, open_block, new_block, stroke, text_annotations, entries_under, entries_of, with_entries, is_white, ignores};
-ghost use Rattle.tbr_renderer.specs.View.{IsFresh, open_seen};
+ghost use Rattle.tbr_renderer.specs.View.{IsFresh, open_seen, block_meant};
 ghost use Rattle.tbr_renderer.specs.Meant.{tag_meant, map_open, meant};
-ghost use Rattle.tbr_renderer.specs.View.{block_meant};
 ghost use Rattle.tbr_renderer.specs.Flush.{with_run, RunGoesOn, RunStops};
 ghost use Rattle.tbr_renderer.specs.Steps.{JoinsText, JoinIsTooNarrow, AddsTextBy, AddsText, TextIsTooNarrowBy, TextIsTooNarrow};
 ghost use Rattle.tbr_model.specs.Run.{marker_entry};

@@ -36,9 +36,9 @@ pub fn normal_rows_keep_text_normal<D, A>()
         WrapsNormally r → AppendsRow columns collapses cells r s → WrapsNormally s }
 {}
 
-/// After any calls and rows the visible characters of what they brought stand in the lines of text, but for those of the
-/// open run, once and in order, each under an annotation of its call, where lines aren't padded. A row brings the texts
-/// of its lines.
+/// After any calls and rows the visible characters of what they brought stand in the lines of text, but for those of
+/// the open run, once and in order, each under an annotation of its call, where lines aren't padded. A row brings the
+/// texts of its lines.
 pub fn visible_characters_stand_once_with_rows_too<D, A>()
     ensures { (columns : ℕ → Option ℕ) (decoration : Decoration D A) (acts : List (Act (List A)))
         (r s : Renderer D A (List A)) (before es : List (Entry (List A))) → r.options.pad_block_width ≡ false →
