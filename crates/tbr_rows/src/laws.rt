@@ -149,9 +149,9 @@ pub fn there_is_one_row_by_meaning<T>()
         MeansRow columns style tag hanging cells top other → row ≡ other }
 {}
 
-/// Over the rows of its span each cell shows its texts once, in order, in its own columns. The rows follow one another,
-/// and the lines of all cells take their cells' columns. The cells of a row are those that overhang, and its own; one of
-/// these that has no line may leave its place to one that overhangs.
+/// Over the rows of its span each cell shows its texts once, in order, in its own columns, also in the borders between
+/// them. The rows follow one another, and the lines of all cells take their cells' columns. The cells of a row are its
+/// own and those that overhang; one of its own that has no line may leave its place to one that overhangs.
 pub fn rows_show_each_cell_in_its_columns<T>()
     ensures shown { (columns : ℕ → Option ℕ) → DrawsInOne columns → (draws : Bool) (rows : List (MadeRow T columns))
         (cell : Cell T) → FollowOneAnother columns draws rows → Each (HasFilledCells columns) rows →

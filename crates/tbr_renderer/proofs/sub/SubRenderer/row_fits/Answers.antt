@@ -4,7 +4,7 @@ use Rattle.std.proofs.lemmas.List.{take_all}
 use Rattle.tbr_rows.specs.Cells.{row_fits, spots_from}
 use Rattle.tbr_rows.specs.Fitting.{fits_with}
 use Rattle.tbr_rows.proofs.Fitted.{one_more_told}
-use Rattle.tbr_renderer.specs.Rows.{TellsBlank, is_blank, looks}
+use Rattle.tbr_renderer.specs.Rows.{TellsBlank, looks}
 use Rattle.tbr_renderer.specs.Renderer.{Renderer}
 use Rattle.std.specs.Global.{Vec}
 use Rattle.tbr_renderer.proofs.Rowing.{each_more}
