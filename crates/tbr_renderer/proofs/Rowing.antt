@@ -7,8 +7,7 @@ use Rattle.std.specs.Global.{Vec}
 use Rattle.std.specs.Vec.{vec_items}
 use Rattle.std.specs.List.{AllZip, AllByRecursion as Each}
 use Rattle.std.specs.Cmp.Lexicographic.{pointwise}
-use Rattle.std.proofs.lemmas.List.{map-append, length-map, take-map, length-append, map_more, take_more, nil_from_length}
-use Rattle.std.proofs.lemmas.List.Sums.{fold-append}
+use Rattle.std.proofs.lemmas.List.{map-append, length-map, take-map, length-append, take_more, nil_from_length}
 use Rattle.std.proofs.Math.Seq.{take-append_seam}
 use Rattle.tbr_model.specs.Run.{Item, items_width}
 use Rattle.tbr_model.specs.Mapped.{map_items}
@@ -24,7 +23,6 @@ use Rattle.tbr_lines.specs.declared.RenderLine.{RenderLine}
 use Rattle.tbr_lines.specs.declared.RenderLine.TheVariants.{Text, Line as Rule}
 use Rattle.tbr_rows.specs.Cells.{AreSideBySide, IsAsFree, first_line, look, spot_of, spots_from, row_fits}
 use Rattle.tbr_rows.specs.Filled.{FillsLine, cell_behind}
-use Rattle.tbr_rows.specs.Fitting.{Fitting, fit_step, fit_all}
 use Rattle.tbr_rows.specs.Meant.{map_border, map_cell, map_element, map_line as map_row_line, EqualIfMeant, SeenRow, row_meant, MeansRow}
 use Rattle.tbr_rows.specs.Rows.{IsRow}
 use Rattle.tbr_rows.specs.declared.Row.{Row}
@@ -178,13 +176,6 @@ module _ {D A : Type 0} (columns : ℕ → Option ℕ) where
   flush_hangs r s h = block_hangs r s r.block h
 
 -- ---- whether the row fits
-
-pub fit_more : {X A : Type 0} (f : Fitting A) (look_at : X → ℕ × Bool) (xs : List X) (i : ℕ) (x : X) → i < length xs → x ≡ get_or xs i x →
-    fit_step (fit_all f (map look_at (take i xs))) (look_at x).0 (look_at x).1 ≡ fit_all f (map look_at (take (i + 1) xs))
-fit_more {X} {A} f look_at xs i x below is =
-    let so_far : List (ℕ × Bool) = map look_at (take i xs) in
-    let more : map look_at (take (i + 1) xs) ≡ so_far ++ look_at x ∷ [] = map_more look_at xs i x below ∙ ap (λ (y : X). so_far ++ look_at y ∷ []) (sym is) in
-    sym (ap (fit_all f) more ∙ fold-append (λ (g : Fitting A) (w : ℕ × Bool). fit_step g w.0 w.1) f so_far (look_at x ∷ []))
 
 -- what holds of the first ones, and of the next
 pub each_more : {X : Type 0} (P : X → Type 0) (xs : List X) (i : ℕ) (x : X) → i < length xs → x ≡ get_or xs i x → Each P (take i xs) → P x → Each P (take (i + 1) xs)

@@ -1,35 +1,41 @@
 -- What rows show of their cells.
-use Rattle.std.proofs.Common.{◌≡◌, ℕ, ◌+◌, ◌-◌, ◌<◌, ◌≤◌, Bool, true, false, if◌then◌else◌, Option, Some, unwrap_or, List, [], ◌∷◌, ◌++◌, map, flat_map, drop, length, refl, ap, sym, ◌∙◌, subst, arith, append_assoc}
+use Rattle.std.proofs.Common.{◌≡◌, ℕ, ◌+◌, ◌-◌, ◌<◌, ◌≤◌, Bool, true, false, if◌then◌else◌, ◌&&◌, Option, None, Some, unwrap_or, List, [], ◌∷◌, ◌++◌, map, flat_map, drop, length, refl, ap, sym, ◌∙◌, subst, arith, append_assoc}
 use Rattle.std.specs.Prelude.{nat_lt}
 use Rattle.std.specs.List.{slice_get, AllByRecursion as Each}
-use Rattle.std.proofs.lemmas.Bool.{ltb-true, lt-ltb}
+use Rattle.std.proofs.lemmas.Bool.{and_parts, ltb-true, lt-ltb}
 use Rattle.std.proofs.lemmas.List.{length-replicate, map-append}
 use Rattle.std.proofs.lemmas.List.Concat.{flat_map-append}
 use Rattle.tbr_model.specs.Run.{Item, items_width, glyph}
 use Rattle.tbr_model.proofs.lists.Each.{each_append, each_front}
-use Rattle.tbr_tagged.specs.Elements.{text_items}
+use Rattle.tbr_tagged.specs.Elements.{Element, items_of, text_items}
 use Rattle.tbr_tagged.specs.Padding.{spaces, columns_in_front, aligned_items}
 use Rattle.tbr_tagged.specs.declared.padding.CellAlign.{CellAlign}
 use Rattle.tbr_tagged.proofs.PaddedLines.{front_within}
 use Rattle.tbr_model.specs.Codes.{space_character}
 use Rattle.tbr_border.specs.declared.render_line.RenderLine.{RenderLine}
+use Rattle.tbr_border.specs.declared.render_line.RenderLine.TheVariants.{Text, Line}
+use Rattle.tbr_border.specs.RenderLine.{line_items}
+use Rattle.tbr_border.specs.Border.{Border}
+use Rattle.tbr_border.specs.Cell.{horizontal}
 use Rattle.tbr_rows.specs.declared.line_set.LineSet.{LineSet as Cell}
 use Rattle.tbr_rows.specs.declared.column.Column.{Column}
-use Rattle.tbr_rows.specs.Cells.{AreSideBySide, AreApart, cell_height}
-use Rattle.tbr_rows.specs.Texts.{row_height, line_text, cell_text, text_of_lines}
-use Rattle.tbr_rows.specs.Gaps.{cell_in, overhang}
-use Rattle.tbr_rows.specs.Rows.{vertical_bar, separator_in, cells_left}
+use Rattle.tbr_rows.specs.Cells.{AreSideBySide, AreApart, cell_height, first_line, row_width}
+use Rattle.tbr_rows.specs.Texts.{row_height, line_text, cell_text, text_of_lines, dropped}
+use Rattle.tbr_rows.specs.Gaps.{cell_in, has_gap, overhang}
+use Rattle.tbr_rows.specs.Rows.{vertical_bar, separator_in, cells_left, cells_under, next_under, next_merged}
+use Rattle.tbr_rows.specs.Meant.{IsGapOf, HasGaps}
 use Rattle.tbr_rows.specs.Shown.{met, behind, goes_on, later_of, AreItsRows, DrawsInOne}
 use Rattle.tbr_rows.proofs.Seats.{stand_side_by_side}
-use Rattle.tbr_rows.proofs.Left.{rest_apart}
+use Rattle.tbr_rows.proofs.Left.{left_of_row, rest_apart}
 use Rattle.tbr_rows.proofs.Standing.{width_append, stands_at}
 use Rattle.tbr_rows.proofs.Filling.{text_columns, spaces_narrow}
 use Rattle.tbr_rows.proofs.AllLines.{row_is_high_enough, all_texts, rows_go_on}
-use Rattle.tbr_rows.specs.CellsShown.{MadeRow, StandsAmong, Fills, IsFilled, meeting_in, ShowsAt, StandsInAll, FollowOneAnother, HasFilledCells, IsOfFirst, ShowsTexts}
+use Rattle.tbr_rows.specs.CellsShown.{MadeRow, StandsAmong, Fills, IsFilled, meeting_in, ShowsAt, ShowsBelow, StandsInItsColumns, StandsInAll, FollowOneAnother, HasFilledCells, IsOfFirst, ShowsTexts}
 use Rattle.tbr_rows.proofs.Among.{among_map, each_among, each_drop}
 use Rattle.tbr_rows.proofs.LinesOfRows.{count_lines, drop_at, first_text, line_at}
 use Rattle.tbr_rows.proofs.ColumnsOfRows.{cell_is, column_fills, column_of, columns_are, columns_fill, columns_side_by_side, lines_stay, place_stays, span_stays, width_stays}
 use Rattle.tbr_rows.proofs.CellsSeated.{among_seated, each_seated}
+use Rattle.tbr_rows.proofs.BelowRows.{begins_plain, within_row, gap_width, gap_stands}
 
 -- ---- one row
 
@@ -98,6 +104,70 @@ module _ {A : Type 0} (columns : ℕ → Option ℕ) (one : DrawsInOne columns) 
             let at = drop_at (column_in c).cell.lines i l (ap (λ (d : Cell A). slice_get d.lines i) (met_is c) ∙ got) in
             ap (λ ls. text_of_lines r.tag (column_in c) ls) at.1;
       }
+
+  -- ---- the border below it
+
+  abbrev left_in : Cell A → Cell A
+  left_in c = cell_in (dropped (row_height r.means.shown) (column_in c))
+
+  lefts : (cs : List (Cell A)) → cells_left (row_height r.means.shown) (map column_in cs) ≡ map left_in cs
+  lefts [] = refl
+  lefts (c ∷ cs) = ap (λ ds. left_in c ∷ ds) (lefts cs)
+
+  lefts_filled : (cs : List (Cell A)) → Each (IsFilled columns) cs → Each (IsFilled columns) (map left_in cs)
+  lefts_filled [] h = tt
+  lefts_filled (c ∷ cs) h = (
+    subst (λ (w : ℕ). Each (Fills columns w) (left_in c).lines) (sym (width_stays r.style.collapses r.top 0 c))
+        (each_drop (Fills columns c.width) (row_height r.means.shown) (column_in c).cell.lines (lines_stay (Fills columns c.width) r.style.collapses r.top c h.0)),
+    lefts_filled cs h.1,
+  )
+
+  height_is : length r.row.lines ≡ row_height r.means.shown
+  height_is = ap length r.means.texts ∙ count_lines separator r.tag r.means.shown (row_height r.means.shown)
+
+  first_of : (ls : List (RenderLine A)) (l : RenderLine A) (more : List (RenderLine A)) (es : List (Element A)) (w : ℕ) → ls ≡ l ∷ more → IsGapOf r.tag w (first_line ls) es → items_of es ≡ line_items l
+  first_of ls (Text line) more es w e is = ap items_of (subst (λ ks. IsGapOf r.tag w (first_line ks) es) e is)
+  first_of ls (Line b) more es w e is = (subst (λ ks. IsGapOf r.tag w (first_line ks) es) e is).0
+
+  shows_below : (c : Cell A) → AreApart 0 r.hanging → StandsAmong c r.means.cells → Each (IsFilled columns) r.means.cells → has_gap r.style.draws_borders c ≡ true → ShowsBelow columns r c
+  shows_below c apart k filled gap =
+      let (front, rest, is) = k in
+      let height : ℕ = row_height r.means.shown in
+      let parts : map left_in r.means.cells ≡ map left_in front ++ left_in c ∷ map left_in rest = ap (map left_in) is ∙ map-append left_in front (c ∷ rest) in
+      let left_are : cells_left height r.means.shown ≡ map left_in front ++ left_in c ∷ map left_in rest = ap (cells_left height) shown_are ∙ lefts r.means.cells ∙ parts in
+      let all = all_side_by_side apart in
+      let side : AreSideBySide 0 (map left_in front ++ left_in c ∷ map left_in rest) =
+      subst (AreSideBySide 0) (ap (cells_left height) (sym r.means.shown_is) ∙ left_are) (left_of_row r.style.collapses r.top height r.means.cells all) in
+      let before_filled : Each (IsFilled columns) front = each_front (IsFilled columns) front (c ∷ rest) (subst (Each (IsFilled columns)) is filled) in
+      let own_filled : IsFilled columns (left_in c) = (lefts_filled (c ∷ []) (each_among (IsFilled columns) c r.means.cells k filled, tt)).0 in
+      let under = cells_under r.style.collapses r.top r.means.cells in
+      let begin = next_merged r.style.collapses under (next_under r.top r.means.cells r.means.plain) in
+      let plain = begins_plain r.style.collapses r.top r.means.cells under r.means.plain in
+      let long : length r.means.plain.cells ≡ row_width r.means.cells = ap (λ (b : Border A). length b.cells) r.means.plain_is ∙ length-replicate (row_width r.means.cells) horizontal in
+      let inside : c.place ≤ row_width r.means.cells =
+      subst (λ cs. c.place ≤ row_width cs) (sym is) (within_row 0 front c rest (subst (AreSideBySide 0) is all)) in
+      let within : (left_in c).place ≤ length begin.cells = omega (arith, place_stays r.style.collapses r.top 0 c, inside, long, plain.0) in
+      let bordered : r.style.draws_borders ≡ true = (and_parts r.style.draws_borders (nat_lt 1 c.span) gap).0 in
+      let own_gap : has_gap r.style.draws_borders (left_in c) ≡ true = ap (λ (n : ℕ). r.style.draws_borders && nat_lt 1 n) (span_stays r.style.collapses r.top 0 c) ∙ gap in
+      let stands = gap_stands columns one r.style.draws_borders r.tag (map left_in front) (left_in c) (map left_in rest) begin r.means.full own_gap
+      (subst (λ ds. HasGaps r.style.draws_borders columns r.tag ds begin r.means.full) left_are r.means.gaps) side (lefts_filled front before_filled)
+      (plain.1 (ap (λ (b : Border A). b.holes) r.means.plain_is)) within in
+      record {
+        border = r.means.full;
+        is_next = r.means.lower ∙ ap (λ b. if b then Some r.means.full else None) bordered;
+        before = stands.before;
+        here = items_of stands.es;
+        after = stands.after;
+        line = stands.line;
+        place = stands.place ∙ place_stays r.style.collapses r.top 0 c;
+        width = gap_width columns one r.style.draws_borders r.tag (left_in c).width (left_in c).lines stands.es own_filled stands.is ∙ width_stays r.style.collapses r.top 0 c;
+        shows = λ l got.
+            let at = drop_at (column_in c).cell.lines height l (ap (λ (d : Cell A). slice_get d.lines height) (met_is c) ∙ ap (slice_get (met (meeting_in columns r) c).lines) (sym height_is) ∙ got) in
+            first_of (left_in c).lines l at.0 stands.es (left_in c).width at.1 stands.is;
+      }
+
+  pub stands_in_columns : (c : Cell A) → AreApart 0 r.hanging → StandsAmong c r.means.cells → Each (IsFilled columns) r.means.cells → StandsInItsColumns columns r c
+  stands_in_columns c apart k filled = record { in_lines = λ i h. shows_at c i apart k filled h; in_next = shows_below c apart k filled }
 
   high_enough : (c : Cell A) → StandsAmong c r.means.cells → cell_height (met (meeting_in columns r) c) ≤ row_height r.means.shown
   high_enough c k =
@@ -184,7 +254,7 @@ module _ {A : Type 0} (columns : ℕ → Option ℕ) (one : DrawsInOne columns) 
       let filled = all_filled columns one r first.2 fill.0 in
       let short : (met (meeting_in columns r) c).span ≤ 1 = omega (arith, met_span columns one r c, span) in (
         (high_enough columns one r c first.0, none_later draws (row_height r.means.shown) (met (meeting_in columns r) c) short),
-        (λ i h. shows_at columns one r c i first.1 first.0 filled h, tt),
+        (stands_in_columns columns one r c first.1 first.0 filled, tt),
       )
   over (r ∷ q ∷ rows) c follow fill first span =
       let filled = all_filled columns one r first.2 fill.0 in
@@ -197,7 +267,7 @@ module _ {A : Type 0} (columns : ℕ → Option ℕ) (one : DrawsInOne columns) 
       let fewer : length (q ∷ rows) ≡ next.span = omega (arith, span) in
       let others = over (q ∷ rows) next follow.2 fill.1 (seated, hanging_apart, hanging_filled) fewer in (
         (high_enough columns one r c first.0, subst (λ d. AreItsRows draws (map (meeting_in columns) (q ∷ rows)) (behind d (meeting_in columns r) c)) follow.0 others.0),
-        (λ i h. shows_at columns one r c i first.1 first.0 filled h, others.1),
+        (stands_in_columns columns one r c first.1 first.0 filled, others.1),
       )
 
   pub shown_over : (rows : List (MadeRow A columns)) (c : Cell A) → FollowOneAnother columns draws rows → Each (HasFilledCells columns) rows → IsOfFirst columns c rows → length rows ≡ c.span → ShowsTexts columns draws rows c

@@ -49,7 +49,7 @@ character_narrow (arms false false true false) = refl
 character_narrow (arms false false false true) = refl
 character_narrow (arms false false false false) = refl
 
-drawn_narrow : (cells : List Segment) → Each (λ c. IsTrue (takes_one_column c)) (map character cells)
+pub drawn_narrow : (cells : List Segment) → Each (λ c. IsTrue (takes_one_column c)) (map character cells)
 drawn_narrow [] = tt
 drawn_narrow (c ∷ cells) = (character_narrow c, drawn_narrow cells)
 

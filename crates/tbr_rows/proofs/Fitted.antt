@@ -1,14 +1,13 @@
 -- Whether a row fits, told cell by cell.
-use Rattle.std.proofs.Common.{◌≡◌, if◌then◌else◌, ℕ, ◌+◌, ◌<◌, ◌≤◌, Bool, true, false, ◌&&◌, ◌||◌, ◌==◌, List, [], ◌∷◌, map, refl, ap, sym, ◌∙◌, subst, arith, inl, inr, take, length, get_or, ◌++◌}
-use Rattle.std.specs.Prelude.{nat_le, is_none}
+use Rattle.std.proofs.Common.{◌≡◌, ℕ, ◌+◌, ◌-◌, ◌<◌, ◌≤◌, Bool, true, false, ◌&&◌, ◌||◌, ◌==◌, List, [], ◌∷◌, map, refl, ap, sym, ◌∙◌, arith, inl, inr, take, length, get_or, ◌++◌, append_assoc}
+use Rattle.std.specs.Prelude.{is_none}
 use Rattle.std.specs.List.{list_all, list_any, AllZip}
-use Rattle.std.proofs.lemmas.Bool.{ne_eqb, eqb-true, leb-true, leb-false, le-leb, lt-leb, and_parts, and_from, or_cases}
+use Rattle.std.proofs.lemmas.Bool.{ne_eqb, eq-eqb, eqb-false, lt-leb, and_parts, and_from, or_cases}
 use Rattle.tbr_rows.specs.declared.line_set.LineSet.{LineSet as Cell}
-use Rattle.tbr_rows.specs.Cells.{end_of, AreSideBySide, AreApart, Spot, spot_of, spots_from, look, first_line, is_left_for, ends_before, row_fits, IsAsFree}
+use Rattle.tbr_rows.specs.Cells.{end_of, AreSideBySide, AreApart, Spot, spot_of, spots_from, look, first_line, is_left_for, ends_before, row_fits, stands_first, IsAsFree}
 use Rattle.tbr_border.specs.declared.render_line.RenderLine.{RenderLine}
 use Rattle.std.proofs.lemmas.List.{map_more}
-use Rattle.std.proofs.lemmas.List.Sums.{fold-append}
-use Rattle.tbr_rows.specs.Fitting.{Fitting, moved, fit_step, fit_all, fitting_of}
+use Rattle.tbr_rows.specs.Fitting.{Fitting, fits_with}
 use Rattle.tbr_rows.proofs.Fits.{elsewhere, past, all_found, finds}
 
 pub spots_side_by_side : {A : Type 0} (at : ℕ) (cs : List (Cell A)) → AreSideBySide at cs → map spot_of cs ≡ spots_from at (map look cs)
@@ -25,99 +24,62 @@ none_from h at [] before = refl
 none_from h at (w ∷ ws) before =
     rw (elsewhere h (record { place = at; width = w.0; is_blank = w.1 }) (λ e. let no : ⊥ = omega (arith, before, e) in no)) (none_from h (at + w.0 + 1) ws (omega (arith, before)))
 
-none_wait : (A : Type 0) (at : ℕ) (b : Bool) (ws : List (ℕ × Bool)) → (let f : Fitting A = record { waiting = []; at = at; fits = b } in (fit_all f ws).fits) ≡ b
-none_wait A at b [] = refl
-none_wait A at b (w ∷ ws) = none_wait A at b ws
+-- ---- one more cell
 
--- Once the row doesn't fit, it won't.
-lost_step : {A : Type 0} (hs : List (Cell A)) (at width : ℕ) (b : Bool) → (let f : Fitting A = record { waiting = hs; at = at; fits = false } in (fit_step f width b).fits) ≡ false
-lost_step [] at width b = refl
-lost_step {A} (h ∷ hs) at width b = go (h.place == at)
-  where
-    after : (ks : List (Cell A)) → (moved ks at false width).fits ≡ false
-    after [] = refl
-    after (k ∷ ks) = step (nat_le (at + width + 1) k.place)
-      where
-        step : (e : Bool) → (let f : Fitting A = if e then record { waiting = k ∷ ks; at = at + width + 1; fits = false } else record { waiting = k ∷ ks; at = at; fits = false } in f.fits) ≡ false
-        step true = refl
-        step false = refl
+-- It is asked of the row as before, once the first cell that waits has taken its place, or can't.
+pub record IsAsked {A : Type 0} (f t : Fitting A) (width : ℕ) (blank : Bool) : Type 0 where
+  pub apart : AreApart t.at t.waiting
+  pub passed : stands_first t.waiting t.at ≡ false
+  pub same : (more : List (ℕ × Bool)) → fits_with t ((width, blank) ∷ more) ≡ fits_with f ((width, blank) ∷ more)
 
-    go : (p : Bool) → (let t : Fitting A = if p then record { waiting = hs; at = at; fits = false && (h.width == width && b) } else record { waiting = h ∷ hs; at = at; fits = false } in (moved t.waiting t.at t.fits width).fits) ≡ false
-    go true = after hs
-    go false = after (h ∷ hs)
+module _ {A : Type 0} (width : ℕ) (blank : Bool) where
+  pub taken : (h : Cell A) (hs : List (Cell A)) (at : ℕ) (fits left : Bool) → AreApart at (h ∷ hs) → h.place ≡ at →
+      left ≡ (fits && (h.width == width && blank)) →
+      IsAsked (record { waiting = h ∷ hs; at = at; fits = fits }) (record { waiting = hs; at = at; fits = left }) width blank
+  taken h hs at fits left apart here is = record {
+    apart = nearer hs apart.1;
+    passed = behind hs apart.1;
+    same = λ more. rw is (rw (eq-eqb h.place at here, none_from h (at + width + 1) more (omega (arith, here)), lt-leb (at + width + 1) h.place (omega (arith, here))) (go fits (h.width == width && blank) _));
+  }
+    where
+      nearer : (ks : List (Cell A)) → AreApart (end_of h + 1) ks → AreApart at ks
+      nearer [] a = tt
+      nearer (k ∷ ks) a = (omega (arith, here, a.0), a.1)
 
-lost : {A : Type 0} (f : Fitting A) (ws : List (ℕ × Bool)) → f.fits ≡ false → (fit_all f ws).fits ≡ false
-lost f [] e = e
-lost {A} f (w ∷ ws) e = lost (fit_step f w.0 w.1) ws (ap (λ b. let g : Fitting A = record { waiting = f.waiting; at = f.at; fits = b } in (fit_step g w.0 w.1).fits) e ∙ lost_step f.waiting f.at w.0 w.1)
+      behind : (ks : List (Cell A)) → AreApart (end_of h + 1) ks → stands_first ks at ≡ false
+      behind [] a = refl
+      behind (k ∷ ks) a = ne_eqb k.place at (λ e. let no : ⊥ = omega (arith, here, a.0, e) in no)
 
-lost_behind : {A : Type 0} (hs : List (Cell A)) (at width : ℕ) (ws : List (ℕ × Bool)) → (fit_all (moved hs at false width) ws).fits ≡ false
-lost_behind [] at width ws = lost _ ws refl
-lost_behind {A} (h ∷ hs) at width ws = go (nat_le (at + width + 1) h.place)
-  where
-    go : (e : Bool) → (fit_all (if e then record { waiting = h ∷ hs; at = at + width + 1; fits = false } else record { waiting = h ∷ hs; at = at; fits = false }) ws).fits ≡ false
-    go true = lost _ ws refl
-    go false = lost _ ws refl
+      go : (x y z : Bool) → ((x && y) && z) ≡ (x && (((y || false) || false) && z))
+      go true true z = refl
+      go true false z = refl
+      go false y z = refl
 
-behind_taken : {A : Type 0} (hs : List (Cell A)) (at width : ℕ) (ws : List (ℕ × Bool)) → AreApart (at + width + 1) hs →
-    ((ks : List (Cell A)) → AreApart (at + width + 1) ks → (let f : Fitting A = record { waiting = ks; at = at + width + 1; fits = true } in (fit_all f ws).fits) ≡ row_fits ks (spots_from (at + width + 1) ws)) →
-    (fit_all (moved hs at true width) ws).fits ≡ row_fits hs (spots_from (at + width + 1) ws)
-behind_taken {A} [] at width ws a more = none_wait A at true ws
-behind_taken (k ∷ ks) at width ws a more = rw (le-leb (at + width + 1) k.place a.0) (more (k ∷ ks) a)
+  pub untaken : (f : Fitting A) → AreApart f.at f.waiting → stands_first f.waiting f.at ≡ false → IsAsked f f width blank
+  untaken f apart passed = record { apart = apart; passed = passed; same = λ more. refl }
 
-fit_from : {A : Type 0} (at : ℕ) (hs : List (Cell A)) (ws : List (ℕ × Bool)) → AreApart at hs → (let f : Fitting A = record { waiting = hs; at = at; fits = true } in (fit_all f ws).fits) ≡ row_fits hs (spots_from at ws)
-fit_from at hs [] a = all_found hs
-fit_from {A} at [] (w ∷ ws) a = none_wait A at true (w ∷ ws)
-fit_from {A} at (h ∷ hs) (w ∷ ws) a = go (h.place == at) (h.width == w.0 && w.1) refl refl (λ ks b. fit_from (at + w.0 + 1) ks ws b)
-  where
-    spot : Spot
-    spot = record { place = at; width = w.0; is_blank = w.1 }
+  pub next_behind : (f : Fitting A) (k : Cell A) (ks : List (Cell A)) (at to : ℕ) (fits : Bool) → IsAsked f (record { waiting = k ∷ ks; at = at; fits = fits }) width blank →
+      width < k.place - at → to ≡ at + width + 1 → (more : List (ℕ × Bool)) →
+      (let t : Fitting A = record { waiting = k ∷ ks; at = to; fits = fits } in fits_with t more) ≡ fits_with f ((width, blank) ∷ more)
+  next_behind f k ks at to fits asked short is more =
+      let spot : Spot = record { place = at; width = width; is_blank = blank } in
+      let apart : AreApart (at + width + 1) (k ∷ ks) = (omega (arith, short), asked.apart.1) in
+      ap (λ n. fits && row_fits (k ∷ ks) (spots_from n more)) is
+      ∙ ap (λ b. fits && b) (sym (past spot (spots_from (at + width + 1) more) (at + width + 1) (k ∷ ks) (omega arith) apart))
+      ∙ asked.same more
 
-    spots : List Spot
-    spots = spots_from (at + w.0 + 1) ws
-
-    any : Bool
-    any = list_any (is_left_for h) spots
-
-    all : Bool
-    all = list_all (ends_before h) spots
-
-    e : Bool
-    e = ends_before h spot
-
-    waits : Fitting A
-    waits = record { waiting = h ∷ hs; at = at; fits = true }
-
-    go : (p q : Bool) → (h.place == at) ≡ p → (h.width == w.0 && w.1) ≡ q →
-        ((ks : List (Cell A)) → AreApart (at + w.0 + 1) ks → (let f : Fitting A = record { waiting = ks; at = at + w.0 + 1; fits = true } in (fit_all f ws).fits) ≡ row_fits ks spots) →
-        (fit_all (let t : Fitting A = if p then record { waiting = hs; at = at; fits = q } else waits in moved t.waiting t.at t.fits w.0) ws).fits
-        ≡ ((((p && q) || any) || (e && all)) && row_fits hs (spot ∷ spots))
-    go true true here wide more =
-        let same : h.place ≡ at = eqb-true h.place at here in
-        let width : h.width ≡ w.0 = eqb-true h.width w.0 (and_parts (h.width == w.0) w.1 wide).0 in
-        let end : end_of h + 1 ≡ at + w.0 + 1 = omega (arith, same, width) in
-        let apart : AreApart (at + w.0 + 1) hs = subst (λ n. AreApart n hs) end a.1 in
-        behind_taken hs at w.0 ws apart more ∙ sym (past spot spots (at + w.0 + 1) hs (omega arith) apart)
-    go true false here wide more =
-        let same : h.place ≡ at = eqb-true h.place at here in
-        let none : any ≡ false = none_from h (at + w.0 + 1) ws (omega (arith, same)) in
-        let before : e ≡ false = lt-leb (at + w.0 + 1) h.place (omega (arith, same)) in
-        lost_behind hs at w.0 ws ∙ sym (ap (λ b. (b || (e && all)) && row_fits hs (spot ∷ spots)) none ∙ ap (λ b. (b && all) && row_fits hs (spot ∷ spots)) before)
-    go false q here wide more = step e refl
-      where
-        step : (b : Bool) → nat_le (at + w.0 + 1) h.place ≡ b →
-            (fit_all (if b then record { waiting = h ∷ hs; at = at + w.0 + 1; fits = true } else record { waiting = h ∷ hs; at = at; fits = false }) ws).fits
-            ≡ ((any || (b && all)) && row_fits hs (spot ∷ spots))
-        step true is =
-            let ends : at + w.0 + 1 ≤ h.place = leb-true (at + w.0 + 1) h.place is in
-            more (h ∷ hs) (ends, a.1) ∙ ap (λ b. (any || all) && b) (sym (past spot spots (end_of h + 1) hs (omega (arith, ends)) a.1))
-        step false is =
-            let short : h.place < at + w.0 + 1 = leb-false (at + w.0 + 1) h.place is in
-            let none : any ≡ false = none_from h (at + w.0 + 1) ws short in
-            lost _ ws refl ∙ sym (ap (λ b. (b || false) && row_fits hs (spot ∷ spots)) none)
-
--- A row told cell by cell fits exactly where it does.
-pub fitted_exactly : {A : Type 0} (hanging : List (Cell A)) (cells : List (ℕ × Bool)) → AreApart 0 hanging → (fit_all (fitting_of hanging) cells).fits ≡ row_fits hanging (spots_from 0 cells)
-fitted_exactly hanging cells a = fit_from 0 hanging cells a
+  pub next_lost : (f : Fitting A) (k : Cell A) (ks : List (Cell A)) (at : ℕ) (fits : Bool) → IsAsked f (record { waiting = k ∷ ks; at = at; fits = fits }) width blank →
+      k.place - at ≤ width → (more : List (ℕ × Bool)) → false ≡ fits_with f ((width, blank) ∷ more)
+  next_lost f k ks at fits asked long more =
+      let spot : Spot = record { place = at; width = width; is_blank = blank } in
+      let short : k.place < at + width + 1 = omega (arith, long, asked.apart.0) in
+      let lost : row_fits (k ∷ ks) (spot ∷ spots_from (at + width + 1) more) ≡ false =
+      rw (elsewhere k spot (eqb-false k.place at asked.passed), none_from k (at + width + 1) more short, lt-leb (at + width + 1) k.place short) refl in
+      go fits _ lost ∙ asked.same more
+    where
+      go : (x y : Bool) → y ≡ false → false ≡ (x && y)
+      go true y e = sym e
+      go false y e = refl
 
 -- ---- where fewer cells have lines
 
@@ -168,17 +130,22 @@ fits_with_fewer_lines (h ∷ hs) spots others z e =
 
 -- ---- the cells of a row, told one after another
 
-no_line : {A : Type 0} (ls : List (RenderLine A)) → (length ls == 0) ≡ is_none (first_line ls)
+pub no_line : {A : Type 0} (ls : List (RenderLine A)) → (length ls == 0) ≡ is_none (first_line ls)
 no_line [] = refl
 no_line (l ∷ ls) = ne_eqb (length (l ∷ ls)) 0 (λ e. let no : ⊥ = omega (arith, e) in no)
 
-pub fit_more : {A : Type 0} (f : Fitting A) (xs : List (Cell A)) (i : ℕ) (c : Cell A) → i < length xs → c ≡ get_or xs i c →
-    fit_step (fit_all f (map look (take i xs))) c.width (length c.lines == 0) ≡ fit_all f (map look (take (i + 1) xs))
-fit_more {A} f xs i c below is =
-    let so_far : List (ℕ × Bool) = map look (take i xs) in
-    let more : map look (take (i + 1) xs) ≡ so_far ++ look c ∷ [] = map_more look xs i c below ∙ ap (λ (d : Cell A). so_far ++ look d ∷ []) (sym is) in
-    ap (fit_step (fit_all f so_far) c.width) (no_line c.lines)
-    ∙ sym (ap (fit_all f) more ∙ fold-append (λ (g : Fitting A) (w : ℕ × Bool). fit_step g w.0 w.1) f so_far (look c ∷ []))
+pub fits_now : {A : Type 0} (f : Fitting A) → f.fits ≡ fits_with f []
+fits_now f = go f.fits
+  where
+    go : (b : Bool) → b ≡ (b && row_fits f.waiting [])
+    go true = all_found f.waiting
+    go false = refl
 
-pub all_told : {A : Type 0} (hanging cs : List (Cell A)) → AreApart 0 hanging → AreSideBySide 0 cs → (fit_all (fitting_of hanging) (map look cs)).fits ≡ row_fits hanging (map spot_of cs)
-all_told hanging cs a s = fitted_exactly hanging (map look cs) a ∙ ap (row_fits hanging) (sym (spots_are cs s))
+-- The cells so far have been told, each by its width and whether nothing is in it: whatever comes next is asked as it is
+-- of the whole row.
+pub one_more_told : {X : Type 0} (look_at : X → ℕ × Bool) (now after : List (ℕ × Bool) → Bool) (whole : List (ℕ × Bool) → Bool) (xs : List X) (i : ℕ) (x : X) → i < length xs → x ≡ get_or xs i x →
+    ((more : List (ℕ × Bool)) → now more ≡ whole (map look_at (take i xs) ++ more)) → ((more : List (ℕ × Bool)) → after more ≡ now (look_at x ∷ more)) →
+    (more : List (ℕ × Bool)) → after more ≡ whole (map look_at (take (i + 1) xs) ++ more)
+one_more_told look_at now after whole xs i x below is so_far told more =
+    let next : map look_at (take (i + 1) xs) ≡ map look_at (take i xs) ++ look_at x ∷ [] = map_more look_at xs i x below ∙ ap (λ y. map look_at (take i xs) ++ look_at y ∷ []) (sym is) in
+    told more ∙ so_far (look_at x ∷ more) ∙ ap whole (sym (ap (λ ws. ws ++ more) next ∙ append_assoc (map look_at (take i xs)) (look_at x ∷ []) more))

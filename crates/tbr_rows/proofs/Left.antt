@@ -21,7 +21,7 @@ left_whole : {A : Type 0} (height at : ℕ) (cs : List (Cell A)) → AreSideBySi
 left_whole height at [] s = tt
 left_whole height at (c ∷ cs) s = (s.0, left_whole height (end_of c + 1) cs s.1)
 
-left_of_row : {A : Type 0} (collapses : Bool) (top : Option (Border A)) (height : ℕ) (cs : List (Cell A)) → AreSideBySide 0 cs → AreSideBySide 0 (cells_left height (columns_shown collapses (cells_under collapses top cs)))
+pub left_of_row : {A : Type 0} (collapses : Bool) (top : Option (Border A)) (height : ℕ) (cs : List (Cell A)) → AreSideBySide 0 cs → AreSideBySide 0 (cells_left height (columns_shown collapses (cells_under collapses top cs)))
 left_of_row true None height cs s = left_apart height 0 cs s
 left_of_row true (Some b) height cs s = left_apart height 0 (map without_first_border cs) (under 0 cs s)
 left_of_row false None height cs s = left_whole height 0 cs s

@@ -18,4 +18,5 @@ pub mod Among
 pub mod LinesOfRows
 pub mod ColumnsOfRows
 pub mod CellsSeated
+pub mod BelowRows
 pub mod CellsOfRows

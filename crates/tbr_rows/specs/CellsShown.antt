@@ -1,9 +1,10 @@
 -- What rows of cells show of each cell, over all rows of its span.
-use Rattle.std.specs.Prelude.{◌≡◌, ℕ, ◌<◌, ⊤, Bool, Option, Some, List, [], ◌∷◌, ◌++◌, length, map}
+use Rattle.std.specs.Prelude.{◌≡◌, ℕ, ◌<◌, ⊤, Bool, true, Option, Some, List, [], ◌∷◌, ◌++◌, length, map}
 use Rattle.std.specs.List.{slice_get, AllByRecursion as Each}
 use Rattle.tbr_model.specs.Run.{Item, items_width}
 use Rattle.tbr_model.specs.Layout.{joined}
-use Rattle.tbr_border.specs.Border.{Border}
+use Rattle.tbr_border.specs.Border.{Border, shown}
+use Rattle.tbr_border.specs.RenderLine.{line_items}
 use Rattle.tbr_border.specs.declared.render_line.RenderLine.{RenderLine}
 use Rattle.tbr_border.specs.declared.render_line.RenderLine.TheVariants.{Text, Line}
 use Rattle.tbr_tagged.specs.Elements.{items_of}
@@ -11,6 +12,7 @@ use Rattle.tbr_rows.specs.declared.line_set.LineSet.{LineSet as Cell}
 use Rattle.tbr_rows.specs.declared.row.RowStyle.{RowStyle}
 use Rattle.tbr_rows.specs.Cells.{AreSideBySide, AreApart}
 use Rattle.tbr_rows.specs.Texts.{text_in_row, row_height}
+use Rattle.tbr_rows.specs.Gaps.{has_gap}
 use Rattle.tbr_rows.specs.Meant.{SeenRow, MeansRow}
 use Rattle.tbr_rows.specs.Shown.{Meeting, meeting, met, behind, parts_of, texts_in}
 
@@ -57,9 +59,24 @@ module _ {A : Type 0} (columns : ℕ → Option ℕ) where
     pub width : items_width columns here ≡ c.width
     pub shows : (l : RenderLine A) → slice_get (met (meeting_in r) c).lines i ≡ Some l → here ≡ text_in_row r.tag l
 
-  -- In each line of the row what is shown of the cell stands in its columns.
-  abbrev pub StandsInItsColumns : MadeRow A columns → Cell A → Type 0
-  StandsInItsColumns r c = (i : ℕ) → i < length r.row.lines → ShowsAt r c i
+  -- In the border below the row there stands in the cell's columns its line behind those of the row, if it has one.
+  pub record ShowsBelow (r : MadeRow A columns) (c : Cell A) : Type 0 where
+    pub border : Border A
+    pub is_next : r.row.next ≡ Some border
+    pub before : List (Item A)
+    pub here : List (Item A)
+    pub after : List (Item A)
+    pub line : shown border.tag border ≡ before ++ here ++ after
+    pub place : items_width columns before ≡ c.place
+    pub width : items_width columns here ≡ c.width
+    pub shows : (l : RenderLine A) → slice_get (met (meeting_in r) c).lines (length r.row.lines) ≡ Some l →
+        here ≡ line_items l
+
+  -- In each line of the row what is shown of the cell stands in its columns. So it does in the border below, if borders
+  -- are drawn and the cell spans another row.
+  pub record StandsInItsColumns (r : MadeRow A columns) (c : Cell A) : Type 0 where
+    pub in_lines : (i : ℕ) → i < length r.row.lines → ShowsAt r c i
+    pub in_next : has_gap r.style.draws_borders c ≡ true → ShowsBelow r c
 
   -- ---- the rows of a cell
 

@@ -1,6 +1,7 @@
 //! Whether a row fits.
-ghost use Rattle.std.specs.Prelude.{◌≡◌};
-ghost use Rattle.tbr_rows.specs.Fitting as model;
+ghost use Rattle.std.specs.Prelude.{◌≡◌, ℕ, Bool, List, [], ◌∷◌};
+ghost use Rattle.tbr_rows.specs.Cells.{AreApart, row_fits, spots_from};
+ghost use Rattle.tbr_rows.specs.Fitting.{fits_with};
 
 use crate::line_set::LineSet;
 use std::collections::linked_list;
@@ -17,16 +18,20 @@ pub struct Fitting<'a, T> {
 }
 
 impl<'a, T> Model for Fitting<'a, T> {
+    ghost use Rattle.tbr_rows.specs.Cells.{AreApart};
     ghost use Rattle.tbr_rows.specs.Fitting.{Fitting, waiting_cells};
 
     ghost Value = { Fitting T };
 
     ghost view = { λ f. record { waiting = waiting_cells f.first f.rest; at = f.at; fits = f.fits } };
+
+    ghost invariant = { λ f. AreApart f.at (waiting_cells f.first f.rest) };
 }
 
 impl<'a, T> Fitting<'a, T> {
     pub(crate) fn of(mut cells: linked_list::Iter<'a, LineSet<T>>) -> Fitting<'a, T>
-        ensures { result ≡ model.fitting_of cells.entry }
+        requires { AreApart 0 cells }
+        ensures { (own : List (ℕ × Bool)) → fits_with result own ≡ row_fits cells.entry (spots_from 0 own) }
     {
         Fitting {
             first: cells.next(),
@@ -36,42 +41,31 @@ impl<'a, T> Fitting<'a, T> {
         }
     }
 
-    /// Tells the width of the row's next cell, and whether nothing is in it.
+    /// Tells the width in columns of the row's next cell, and whether nothing is in it.
     pub fn add(&mut self, width: usize, is_blank: bool)
-        ensures { self.new ≡ model.fit_step self.old width is_blank }
-    {
-        self.take(width, is_blank);
-        self.move_on(width);
-    }
-
-    /// The first cell that waits takes the place of the row's next one, if it stands there.
-    fn take(&mut self, width: usize, is_blank: bool)
-        ensures { self.new ≡ model.taken self.old.waiting self.old.at self.old.fits width is_blank }
-    {
-        if let Some(first) = self.first
-            && first.place == self.at
-        {
-            self.fits = self.fits && first.width == width && is_blank;
-            self.first = self.rest.next();
-        }
-    }
-
-    /// Goes behind a cell. The next one that waits stands there or further on, or the row doesn't fit.
-    fn move_on(&mut self, width: usize)
-        ensures { self.new ≡ model.moved self.old.waiting self.old.at self.old.fits width }
+        ensures { (more : List (ℕ × Bool)) →
+            fits_with self.new more ≡ fits_with self.old ((width, is_blank) ∷ more) }
     {
         let Some(first) = self.first else {
             return;
         };
-        match first.place.checked_sub(self.at) {
-            Some(free) if free > width => self.at += width + 1,
-            _ => self.fits = false,
+        if first.place == self.at {
+            self.fits = self.fits && first.width == width && is_blank;
+            self.first = self.rest.next();
+        }
+        // Only where a cell that waits stands behind this one is its place counted on, so no place passes `usize`.
+        if let Some(next) = self.first {
+            if next.place - self.at > width {
+                self.at += width + 1;
+            } else {
+                self.fits = false;
+            }
         }
     }
 
     /// Whether a row of the cells so far fits.
     pub fn fits(&self) -> bool
-        ensures { result ≡ self.now.fits }
+        ensures { result ≡ fits_with self.now [] }
     {
         self.fits
     }

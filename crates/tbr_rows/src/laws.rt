@@ -19,7 +19,6 @@ ghost use Rattle.tbr_rows.specs.declared.column.Column.{Column};
 ghost use Rattle.tbr_border.specs.Border.{Border};
 ghost use Rattle.tbr_model.specs.Layout.{joined};
 ghost use Rattle.tbr_model.specs.Run.{Item, item_width, items_width};
-ghost use Rattle.tbr_rows.specs.Fitting.{fitting_of, fit_all};
 ghost use Rattle.tbr_rows.specs.Cells.{AreSideBySide, AreApart, with_hanging, row_fits, spot_of, spots_from, Spot, look, cell_height, place_of, lines_of, IsAsFree};
 
 /// Overhanging cells find their places exactly where the row fits.
@@ -34,13 +33,6 @@ pub fn places_are_found_where_the_row_fits<T>()
 pub fn cells_with_overhanging_ones_stand_side_by_side<T>()
     ensures { (at : ℕ) (hanging cells row : List (Cell T)) → AreSideBySide at cells → AreApart at hanging →
         with_hanging at hanging cells ≡ Some row → AreSideBySide at row }
-{}
-
-/// Told cell by cell, a row fits exactly where by the rule it does.
-#[tactic(auto, using(crate::proofs::Fitted::fitted_exactly))]
-pub fn cells_told_one_by_one_fit_where_the_row_does<T>()
-    ensures { (hanging : List (Cell T)) (cells : List (ℕ × Bool)) → AreApart 0 hanging →
-        (fit_all (fitting_of hanging) cells).fits ≡ row_fits hanging (spots_from 0 cells) }
 {}
 
 /// Cells side by side stand where their widths say.
@@ -157,9 +149,9 @@ pub fn there_is_one_row_by_meaning<T>()
         MeansRow columns style tag hanging cells top other → row ≡ other }
 {}
 
-/// Over the rows of its span each cell shows its texts once, in order, in its own columns. The rows follow one another,
-/// and the lines of all cells take their cells' columns. The cells of a row are those that overhang, and its own; one of
-/// these that has no line may leave its place to one that overhangs.
+/// Over the rows of its span each cell shows its texts once, in order, in its own columns, also in the borders between
+/// them. The rows follow one another, and the lines of all cells take their cells' columns. The cells of a row are its
+/// own and those that overhang; one of its own that has no line may leave its place to one that overhangs.
 pub fn rows_show_each_cell_in_its_columns<T>()
     ensures shown { (columns : ℕ → Option ℕ) → DrawsInOne columns → (draws : Bool) (rows : List (MadeRow T columns))
         (cell : Cell T) → FollowOneAnother columns draws rows → Each (HasFilledCells columns) rows →

@@ -1,7 +1,7 @@
 //! The cells that overhang from the rows before.
-ghost use Rattle.std.specs.Prelude.{◌≡◌, [], map, true, Some, IfOk};
-ghost use Rattle.tbr_rows.specs.Fitting.{fitting_of};
-ghost use Rattle.tbr_rows.specs.Cells.{AreSideBySide, AreApart, row_fits, spot_of, with_hanging};
+ghost use Rattle.std.specs.Prelude.{◌≡◌, ℕ, Bool, List, [], map, true, Some, IfOk};
+ghost use Rattle.tbr_rows.specs.Fitting.{fits_with};
+ghost use Rattle.tbr_rows.specs.Cells.{AreSideBySide, AreApart, row_fits, spot_of, spots_from, with_hanging};
 
 use crate::columns::Columns;
 use crate::fitting::Fitting;
@@ -55,8 +55,7 @@ impl<T: Drop> Overhang<T> {
 
     /// Begins to ask whether a row has a place for each of these cells. It takes no memory.
     pub fn fitting(&self) -> Fitting<'_, T>
-        ensures start { result ≡ fitting_of self.now }
-        ensures apart { AreApart 0 self.now }
+        ensures { (own : List (ℕ × Bool)) → fits_with result own ≡ row_fits self.now (spots_from 0 own) }
     {
         Fitting::of(self.cells.iter())
     }

@@ -9,7 +9,7 @@ ghost use Rattle.text_block_renderer.specs.Headline.{Headline};
 /// Whatever calls and rows of cells come to a renderer and succeed: after any number of lines no legal layout of a
 /// `Normal` run has placed more of it than the renderer has; each run's visible characters stand in the renderer's
 /// lines once, in order, under equal annotations; each cell of a row shows its texts once, in order, in its own
-/// columns; and wrapping at two columns or more never answers `TooNarrow`.
+/// columns, also in the borders that it spans; and wrapping at two columns or more never answers `TooNarrow`.
 ///
 /// Legal layouts are compared where no line may be wider than the block: overflow isn't allowed, or the block has two
 /// columns or more. Of cells it is said where no cell overhung at first, the lines of all of them fit, none is a border

@@ -1,7 +1,8 @@
-use Rattle.std.proofs.Common.{◌≡◌, map, take}
-use Rattle.tbr_rows.specs.Cells.{look}
-use Rattle.tbr_rows.specs.Fitting.{fitting_of, fit_all}
+use Rattle.std.proofs.Common.{◌≡◌, ℕ, Bool, List, ◌++◌, map, take}
+use Rattle.tbr_rows.specs.Cells.{look, row_fits, spots_from}
+use Rattle.tbr_rows.specs.Fitting.{fits_with}
 use Rattle.tbr_rows.proofs.columns.Columns.fits.Given as goal
 
 abbrev pub invariant-loop-cell : goal.invariant-loop-cell
-invariant-loop-cell g l = l.fitting ≡ fit_all (fitting_of l.hanging) (map look (take l.cell-index l.cell-items))
+invariant-loop-cell g l =
+    (more : List (ℕ × Bool)) → fits_with l.fitting more ≡ row_fits l.hanging (spots_from 0 (map look (take l.cell-index l.cell-items) ++ more))

@@ -1,0 +1,322 @@
+-- What stands in the border below a row.
+use Rattle.std.proofs.Common.{◌≡◌, ℕ, zero, suc, ◌+◌, ◌-◌, ◌≤◌, max, Bool, true, false, if◌then◌else◌, Option, None, Some, List, [], ◌∷◌, ◌++◌, map, fold, take, drop, length, refl, ap, sym, ◌∙◌, subst, arith, append_assoc, append-nil}
+use Rattle.std.specs.Prelude.{⊤, slice_range}
+use Rattle.std.specs.List.{AllByRecursion as Each}
+use Rattle.std.proofs.lemmas.List.{map-append, length-map, length-drop, length-take-le, length-replicate, take-append-drop, drop-drop}
+use Rattle.std.proofs.Math.Seq.{take-add}
+use Rattle.tbr_model.specs.Run.{Item, items_width}
+use Rattle.tbr_tagged.specs.Elements.{Element, element_items, items_of, text_items}
+use Rattle.tbr_border.specs.Cell.{Cell as Segment, Side, above, joined as joined_cell, character}
+use Rattle.tbr_border.specs.Border.{Hole, Border, span_end, opened, stretched, joined_under, merged, any_joins, joins_end, drawn, shown_from, shown}
+use Rattle.tbr_border.proofs.HolesInOrder.{last_end, span_end-is}
+use Rattle.tbr_border.proofs.JoinedCells.{length-changed, length-stretched}
+use Rattle.tbr_rows.specs.declared.line_set.LineSet.{LineSet as Cell}
+use Rattle.tbr_border.specs.declared.render_line.RenderLine.{RenderLine}
+use Rattle.tbr_border.specs.declared.render_line.RenderLine.TheVariants.{Text, Line}
+use Rattle.tbr_tagged.specs.Padding.{spaces}
+use Rattle.tbr_rows.specs.Cells.{AreSideBySide, end_of, first_line, row_width, separators}
+use Rattle.tbr_rows.specs.CellsShown.{Fills, IsFilled}
+use Rattle.tbr_rows.specs.Borders.{joined, joined_at_each, last_border, merged_with, merged_above}
+use Rattle.tbr_rows.specs.Gaps.{has_gap, with_element, with_elements}
+use Rattle.tbr_rows.specs.Meant.{IsGapOf, HasGapIf, HasGaps}
+use Rattle.tbr_rows.specs.Rows.{next_under, next_merged}
+use Rattle.tbr_rows.specs.Shown.{DrawsInOne}
+use Rattle.tbr_rows.proofs.Standing.{width_append}
+use Rattle.tbr_rows.proofs.Filling.{text_columns, drawn_narrow, spaces_narrow}
+use Rattle.tbr_rows.proofs.ColumnsOfRows.{takes}
+
+-- ---- a border that changes is no shorter
+
+length-under : (side : Side) (cells : List Segment) (place : ℕ) (others : List Segment) → length (joined_under side cells place others) ≡ length cells
+length-under side [] place others = refl
+length-under side (c ∷ cells) (suc place) others = omega (arith, length-under side cells place others)
+length-under side (c ∷ cells) zero [] = refl
+length-under side (c ∷ cells) zero (o ∷ others) = omega (arith, length-under side cells zero others)
+
+length-opened : (place end : ℕ) (cells : List Segment) → length (opened place end cells) ≡ length cells
+length-opened zero end cells = length-changed _ end cells
+length-opened (suc place) end cells = length-changed _ end _ ∙ length-changed _ place cells
+
+merged_longer : (side : Side) (cells : List Segment) (place : ℕ) (others : List Segment) → length cells ≤ length (merged side cells place others)
+merged_longer side cells place others = go (any_joins side others)
+  where
+    go : (b : Bool) → length cells ≤ length (joined_under side (if b then stretched (place + joins_end side others) cells else cells) place others)
+    go true = omega (arith, length-under side (stretched (place + joins_end side others) cells) place others, length-stretched (place + joins_end side others) cells)
+    go false = omega (arith, length-under side cells place others)
+
+module _ {A : Type 0} where
+  -- as long at least, with nothing in front of it either
+  abbrev KeepsPlain : Border A → Border A → Type 0
+  KeepsPlain b m = (length b.cells ≤ length m.cells) × (b.holes ≡ [] → m.holes ≡ [])
+
+  joins_plain : (side : Side) (xs : List ℕ) (b : Border A) → KeepsPlain b (joined_at_each side b xs)
+  joins_plain side [] b = (omega arith, λ e. e)
+  joins_plain side (x ∷ xs) b =
+      let one : Border A = joined side b x in
+      let later = joins_plain side xs one in
+      (omega (arith, later.0, length-changed (joined_cell side) x (stretched (x + 1) b.cells), length-stretched (x + 1) b.cells), λ e. later.1 e)
+
+  merged_plain : (side : Side) (place : ℕ) (b : Border A) (o : Option (Border A)) → KeepsPlain b (merged_with side place b o)
+  merged_plain side place b None = (omega arith, λ e. e)
+  merged_plain side place b (Some o) = (merged_longer side b.cells place o.cells, λ e. e)
+
+  all_merged_plain : (cs : List (Cell A)) (b : Border A) → KeepsPlain b (fold merged_above b cs)
+  all_merged_plain [] b = (omega arith, λ e. e)
+  all_merged_plain (c ∷ cs) b =
+      let one = merged_plain above c.place b (last_border c.lines) in
+      let later = all_merged_plain cs (merged_above b c) in
+      (omega (arith, one.0, later.0), λ e. later.1 (one.1 e))
+
+  -- as a border below a row begins
+  pub begins_plain : (collapses : Bool) (top : Option (Border A)) (cs under : List (Cell A)) (b : Border A) → KeepsPlain b (next_merged collapses under (next_under top cs b))
+  begins_plain collapses top cs under b = go collapses top
+    where
+      joins : (o : Option (Border A)) → KeepsPlain b (next_under o cs b)
+      joins None = (omega arith, λ e. e)
+      joins (Some t) = joins_plain above (separators cs) b
+
+      go : (x : Bool) (o : Option (Border A)) → KeepsPlain b (next_merged x under (next_under o cs b))
+      go true o =
+          let one = joins o in
+          let later = all_merged_plain under (next_under o cs b) in
+          (omega (arith, one.0, later.0), λ e. later.1 (one.1 e))
+      go false o = joins o
+
+  -- a row is as wide as its cells stand
+  pub first_within : (at : ℕ) (c : Cell A) (cs : List (Cell A)) → AreSideBySide at (c ∷ cs) → c.place ≤ row_width (c ∷ cs)
+  first_within at c [] s = omega arith
+  first_within at c (d ∷ cs) s = omega (arith, first_within (end_of c + 1) d cs s.1, s.1.0)
+
+  pub within_row : (at : ℕ) (front : List (Cell A)) (c : Cell A) (rest : List (Cell A)) → AreSideBySide at (front ++ c ∷ rest) → c.place ≤ row_width (front ++ c ∷ rest)
+  within_row at [] c rest s = first_within at c rest s
+  within_row at (f ∷ []) c rest s = first_within (end_of f + 1) c rest s.1
+  within_row at (f ∷ g ∷ front) c rest s = within_row (end_of f + 1) (g ∷ front) c rest s.1
+
+-- ---- holes in order
+
+module _ {A : Type 0} (columns : ℕ → Option ℕ) where
+  -- from a place on, one behind another, each as wide as what stands there
+  abbrev pub InOrder : ℕ → List (Hole A) → ℕ → Type 0
+  InOrder from [] end = from ≤ end
+  InOrder from (h ∷ hs) end = (from ≤ h.place) × (items_width columns (element_items h.element) ≡ h.width) × InOrder (h.place + h.width) hs end
+
+  -- the first of them stands no earlier than at a place
+  abbrev pub BeginBehind : ℕ → List (Hole A) → Type 0
+  BeginBehind at [] = ⊤
+  BeginBehind at (h ∷ hs) = at ≤ h.place
+
+  -- elements in front of a border, each where the one before it ends
+  abbrev pub holes_from : ℕ → List (Element A) → List (Hole A)
+  holes_from at [] = []
+  holes_from at (e ∷ es) =
+      let width = items_width columns (element_items e) in
+      record { place = at; width = width; element = e } ∷ holes_from (at + width) es
+
+  in_order_later : (from : ℕ) (hs : List (Hole A)) (end later : ℕ) → InOrder from hs end → end ≤ later → InOrder from hs later
+  in_order_later from [] end later h k = omega (arith, h, k)
+  in_order_later from (g ∷ hs) end later h k = (h.0, h.1, in_order_later (g.place + g.width) hs end later h.2 k)
+
+  ends_before : (from : ℕ) (hs : List (Hole A)) (end : ℕ) → InOrder from hs end → last_end from hs ≤ end
+  ends_before from [] end h = h
+  ends_before from (g ∷ hs) end h = ends_before (g.place + g.width) hs end h.2
+
+  in_order_from : (from at : ℕ) (es : List (Element A)) (end : ℕ) → from ≤ at → end ≡ at + items_width columns (items_of es) → InOrder from (holes_from at es) end
+  in_order_from from at [] end h e = omega (arith, h, e)
+  in_order_from from at (x ∷ es) end h e =
+      let width : ℕ = items_width columns (element_items x) in
+      (h, refl, in_order_from (at + width) (at + width) es end (omega arith) (omega (arith, e, width_append columns (element_items x) (items_of es))))
+
+  in_order_more : (from : ℕ) (hs : List (Hole A)) (at : ℕ) (es : List (Element A)) (end : ℕ) → InOrder from hs at → end ≡ at + items_width columns (items_of es) → InOrder from (hs ++ holes_from at es) end
+  in_order_more from [] at es end h e = in_order_from from at es end h e
+  in_order_more from (g ∷ hs) at es end h e = (h.0, h.1, in_order_more (g.place + g.width) hs at es end h.2 e)
+
+  last_of : (hs : List (Hole A)) (h : Hole A) → span_end (hs ++ h ∷ []) ≡ h.place + h.width
+  last_of [] h = refl
+  last_of (g ∷ []) h = refl
+  last_of (g ∷ k ∷ hs) h = last_of (k ∷ hs) h
+
+  -- ---- elements that come in front of a border
+
+  one_longer : (place : ℕ) (b : Border A) (e : Element A) → length b.cells ≤ length (with_element columns place b e).cells
+  one_longer place b e =
+      let at : ℕ = max place (span_end b.holes) in
+      let end : ℕ = at + items_width columns (element_items e) in
+      omega (arith, length-opened at end (stretched end b.cells), length-stretched end b.cells)
+
+  pub put_longer : (place : ℕ) (b : Border A) (es : List (Element A)) → length b.cells ≤ length (with_elements columns place b es).cells
+  put_longer place b [] = omega arith
+  put_longer place b (e ∷ es) = omega (arith, one_longer place b e, put_longer place (with_element columns place b e) es)
+
+  pub put_holes : (place at : ℕ) (b : Border A) (es : List (Element A)) → max place (span_end b.holes) ≡ at → (with_elements columns place b es).holes ≡ b.holes ++ holes_from at es
+  put_holes place at b [] is = sym (append-nil b.holes)
+  put_holes place at b (e ∷ es) is =
+      let width : ℕ = items_width columns (element_items e) in
+      let first : Hole A = record { place = max place (span_end b.holes); width = width; element = e } in
+      let here : Hole A = record { place = at; width = width; element = e } in
+      let next : max place (span_end (b.holes ++ first ∷ [])) ≡ at + width = omega (arith, last_of b.holes first, is) in
+      put_holes place (at + width) (with_element columns place b e) es next
+      ∙ ap (λ n. let h : Hole A = record { place = n; width = width; element = e } in (b.holes ++ h ∷ []) ++ holes_from (at + width) es) is
+      ∙ append_assoc b.holes (here ∷ []) (holes_from (at + width) es)
+
+  -- ---- what a border shows
+
+  module _ (one : DrawsInOne columns) (tag : A) (cells : List Segment) where
+    drawn_width : (part : List Segment) → items_width columns (drawn part tag) ≡ length part
+    drawn_width part = text_columns columns (map character part) tag one (drawn_narrow part) ∙ length-map part character
+
+    part_width : (from to : ℕ) → from ≤ to → to ≤ length cells → from + items_width columns (drawn (slice_range cells from to) tag) ≡ to
+    part_width from to h k =
+        let some : to - from ≤ length (drop from cells) = omega (arith, h, k, length-drop from cells) in
+        omega (arith, h, drawn_width (slice_range cells from to), length-take-le (to - from) (drop from cells) some)
+
+    drawn_two : (xs ys : List Segment) → drawn (xs ++ ys) tag ≡ drawn xs tag ++ drawn ys tag
+    drawn_two xs ys = ap (λ cs. text_items cs tag) (map-append character xs ys) ∙ map-append _ (map character xs) (map character ys)
+
+    -- cut at a column in front of what stands there
+    cut : (at p : ℕ) (hs : List (Hole A)) → at ≤ p → BeginBehind p hs → shown_from tag cells at hs ≡ drawn (slice_range cells at p) tag ++ shown_from tag cells p hs
+    cut at p [] h k =
+        let sum : at + (p - at) ≡ p = omega (arith, h) in
+        let parts : drop at cells ≡ slice_range cells at p ++ drop p cells =
+        sym (take-append-drop (p - at) (drop at cells)) ∙ ap (λ ds. slice_range cells at p ++ ds) (drop-drop (p - at) at cells ∙ ap (λ n. drop n cells) sum) in
+        ap (λ ds. drawn ds tag) parts ∙ drawn_two (slice_range cells at p) (drop p cells)
+    cut at p (g ∷ hs) h k =
+        let sum : at + (p - at) ≡ p = omega (arith, h) in
+        let far : g.place - at ≡ (p - at) + (g.place - p) = omega (arith, h, k) in
+        let rest : List (Item A) = element_items g.element ++ shown_from tag cells (g.place + g.width) hs in
+        let parts : slice_range cells at g.place ≡ slice_range cells at p ++ slice_range cells p g.place =
+        ap (λ n. take n (drop at cells)) far ∙ take-add (p - at) (g.place - p) (drop at cells)
+        ∙ ap (λ ds. slice_range cells at p ++ take (g.place - p) ds) (drop-drop (p - at) at cells ∙ ap (λ n. drop n cells) sum) in
+        ap (λ ds. drawn ds tag ++ rest) parts ∙ ap (λ is. is ++ rest) (drawn_two (slice_range cells at p) (slice_range cells p g.place))
+        ∙ append_assoc (drawn (slice_range cells at p) tag) (drawn (slice_range cells p g.place) tag) rest
+
+    -- what stands in front of a column
+    pub shown_before : (from : ℕ) (hs : List (Hole A)) (p : ℕ) (more : List (Hole A)) → InOrder from hs p → p ≤ length cells → BeginBehind p more →
+        (before : List (Item A)) × (shown_from tag cells from (hs ++ more) ≡ before ++ shown_from tag cells p more) × (from + items_width columns before ≡ p)
+    shown_before from [] p more h k behind = (drawn (slice_range cells from p) tag, cut from p more h behind, part_width from p h k)
+    shown_before from (g ∷ hs) p more h k behind =
+        let later = shown_before (g.place + g.width) hs p more h.2 k behind in
+        let front : List (Item A) = drawn (slice_range cells from g.place) tag in
+        let here : List (Item A) = element_items g.element in
+        let within : g.place ≤ length cells = omega (arith, k, later.2) in (
+          front ++ (here ++ later.0),
+          ap (λ is. front ++ (here ++ is)) later.1 ∙ ap (λ is. front ++ is) (sym (append_assoc here later.0 (shown_from tag cells p more))) ∙ sym (append_assoc front (here ++ later.0) (shown_from tag cells p more)),
+          omega (arith, part_width from g.place h.0 within, width_append columns front (here ++ later.0), width_append columns here later.0, h.1, later.2),
+        )
+
+    -- and what from there on, where elements stand one behind another
+    pub shown_here : (at : ℕ) (es : List (Element A)) (more : List (Hole A)) → shown_from tag cells at (holes_from at es ++ more) ≡ items_of es ++ shown_from tag cells (at + items_width columns (items_of es)) more
+    shown_here at [] more = let same : at ≡ at + 0 = omega arith in ap (λ n. shown_from tag cells n more) same
+    shown_here at (e ∷ es) more =
+        let width : ℕ = items_width columns (element_items e) in
+        let none : at - at ≡ 0 = omega arith in
+        let sum : (at + width) + items_width columns (items_of es) ≡ at + items_width columns (items_of (e ∷ es)) = omega (arith, width_append columns (element_items e) (items_of es)) in
+        let later : List (Item A) = element_items e ++ shown_from tag cells (at + width) (holes_from (at + width) es ++ more) in
+        ap (λ n. drawn (take n (drop at cells)) tag ++ later) none
+        ∙ ap (λ is. element_items e ++ is) (shown_here (at + width) es more ∙ ap (λ n. items_of es ++ shown_from tag cells n more) sum)
+        ∙ sym (append_assoc (element_items e) (items_of es) (shown_from tag cells (at + items_width columns (items_of (e ∷ es))) more))
+
+  -- ---- gaps in a border, one after another
+
+  put_order : (place : ℕ) (b : Border A) (es : List (Element A)) (end : ℕ) → InOrder 0 b.holes place → end ≡ place + items_width columns (items_of es) → InOrder 0 (with_elements columns place b es).holes end
+  put_order place b es end h is =
+      let far : max place (span_end b.holes) ≡ place = omega (arith, span_end-is b.holes, ends_before 0 b.holes place h) in
+      subst (λ (hs : List (Hole A)). InOrder 0 hs end) (sym (put_holes place place b es far)) (in_order_more 0 b.holes place es end h is)
+
+  behind_both : (p : ℕ) (hs ks : List (Hole A)) → BeginBehind p hs → BeginBehind p ks → BeginBehind p (hs ++ ks)
+  behind_both p [] ks h k = k
+  behind_both p (g ∷ hs) ks h k = h
+
+  from_behind : (p at : ℕ) (es : List (Element A)) → p ≤ at → BeginBehind p (holes_from at es)
+  from_behind p at [] h = tt
+  from_behind p at (e ∷ es) h = h
+
+  module _ (one : DrawsInOne columns) (draws : Bool) (tag : A) where
+    -- what stands in a gap takes its cell's columns
+    pub gap_width : (width : ℕ) (ls : List (RenderLine A)) (es : List (Element A)) → Each (Fills columns width) ls → IsGapOf tag width (first_line ls) es → items_width columns (items_of es) ≡ width
+    gap_width width [] es h is =
+        ap (λ xs. items_width columns (items_of xs)) is ∙ ap (items_width columns) (append-nil (text_items (spaces width) tag))
+        ∙ text_columns columns (spaces width) tag one (spaces_narrow width) ∙ length-replicate {A = ℕ} width 32
+    gap_width width (Text line ∷ ls) es h is = ap (λ xs. items_width columns (items_of xs)) is ∙ h.0
+    gap_width width (Line b ∷ ls) es h is = ap (items_width columns) is.0 ∙ takes columns one b.tag width (Line b) h.0
+
+    one_gap : (d : Cell A) (g : Bool) (b m : Border A) → HasGapIf g columns tag d b m → IsFilled columns d → InOrder 0 b.holes d.place → InOrder 0 m.holes (end_of d + 1) × (length b.cells ≤ length m.cells)
+    one_gap d false b m h fills k =
+        (subst (λ (x : Border A). InOrder 0 x.holes (end_of d + 1)) (sym h) (in_order_later 0 b.holes d.place (end_of d + 1) k (omega arith)), omega (arith, ap (λ (x : Border A). length x.cells) h))
+    one_gap d true b m h fills k =
+        let (es, is, put) = h in
+        let wide = gap_width d.width d.lines es fills is in (
+          subst (λ (x : Border A). InOrder 0 x.holes (end_of d + 1)) (sym put)
+              (in_order_later 0 (with_elements columns d.place b es).holes (end_of d) (end_of d + 1) (put_order d.place b es (end_of d) k (omega (arith, wide))) (omega arith)),
+          omega (arith, ap (λ (x : Border A). length x.cells) put, put_longer d.place b es),
+        )
+
+    -- As far as the cells in front of one: the border has gaps in front of its place alone.
+    pub gaps_in_front : (ds more : List (Cell A)) (at : ℕ) (b full : Border A) → HasGaps draws columns tag (ds ++ more) b full → AreSideBySide at (ds ++ more) → Each (IsFilled columns) ds → InOrder 0 b.holes at →
+        (m : Border A) × (to : ℕ) × HasGaps draws columns tag more m full × AreSideBySide to more × InOrder 0 m.holes to × (length b.cells ≤ length m.cells)
+    gaps_in_front [] more at b full h side fills k = (b, at, h, side, k, omega arith)
+    gaps_in_front (d ∷ ds) more at b full h side fills k =
+        let (m, here, behind) = h in
+        let there : InOrder 0 b.holes d.place = subst (λ n. InOrder 0 b.holes n) (sym side.0) k in
+        let step = one_gap d (has_gap draws d) b m here fills.0 there in
+        let (n, to, more_gaps, more_side, order, longer) = gaps_in_front ds more (end_of d + 1) m full behind side.1 fills.1 step.0 in
+        (n, to, more_gaps, more_side, order, omega (arith, step.1, longer))
+
+    -- and behind it none stands in front of a place that none of its cells does
+    pub gaps_behind : (p : ℕ) (ds : List (Cell A)) (b full : Border A) → HasGaps draws columns tag ds b full → Each (λ (d : Cell A). p ≤ d.place) ds →
+        (hs : List (Hole A)) × (full.holes ≡ b.holes ++ hs) × BeginBehind p hs × (length b.cells ≤ length full.cells)
+    gaps_behind p [] b full h far = ([], ap (λ (x : Border A). x.holes) h ∙ sym (append-nil b.holes), tt, omega (arith, ap (λ (x : Border A). length x.cells) h))
+    gaps_behind p (d ∷ ds) b full h far =
+        let (m, here, behind) = h in
+        let later = gaps_behind p ds m full behind far.1 in
+        go (has_gap draws d) m here later
+      where
+        go : (g : Bool) (m : Border A) → HasGapIf g columns tag d b m → ((hs : List (Hole A)) × (full.holes ≡ m.holes ++ hs) × BeginBehind p hs × (length m.cells ≤ length full.cells)) →
+            (hs : List (Hole A)) × (full.holes ≡ b.holes ++ hs) × BeginBehind p hs × (length b.cells ≤ length full.cells)
+        go false m here later = (later.0, later.1 ∙ ap (λ (x : Border A). x.holes ++ later.0) here, later.2, omega (arith, ap (λ (x : Border A). length x.cells) here, later.3))
+        go true m here later =
+            let (es, is, put) = here in
+            let at : ℕ = max d.place (span_end b.holes) in
+            let own : List (Hole A) = holes_from at es in (
+              own ++ later.0,
+              later.1 ∙ ap (λ hs. hs ++ later.0) (ap (λ (x : Border A). x.holes) put ∙ put_holes d.place at b es refl) ∙ append_assoc b.holes own later.0,
+              behind_both p own later.0 (from_behind p at es (omega (arith, far.0))) later.2,
+              omega (arith, ap (λ (x : Border A). length x.cells) put, put_longer d.place b es, later.3),
+            )
+
+    places_behind : (at p : ℕ) (ds : List (Cell A)) → p ≤ at → AreSideBySide at ds → Each (λ (d : Cell A). p ≤ d.place) ds
+    places_behind at p [] h s = tt
+    places_behind at p (d ∷ ds) h s = (omega (arith, h, s.0), places_behind (end_of d + 1) p ds (omega (arith, h, s.0)) s.1)
+
+    -- What a gap shows of its cell stands in the cell's columns.
+    pub record GapStands (c : Cell A) (full : Border A) : Type 0 where
+      pub before : List (Item A)
+      pub es : List (Element A)
+      pub after : List (Item A)
+      pub line : shown full.tag full ≡ before ++ items_of es ++ after
+      pub place : items_width columns before ≡ c.place
+      pub is : IsGapOf tag c.width (first_line c.lines) es
+
+    pub gap_stands : (front : List (Cell A)) (c : Cell A) (rest : List (Cell A)) (b full : Border A) → has_gap draws c ≡ true → HasGaps draws columns tag (front ++ c ∷ rest) b full → AreSideBySide 0 (front ++ c ∷ rest) →
+        Each (IsFilled columns) front → b.holes ≡ [] → c.place ≤ length b.cells → GapStands c full
+    gap_stands front c rest b full gap h side fills none within =
+        let begins : InOrder 0 b.holes 0 = subst (λ (hs : List (Hole A)). InOrder 0 hs 0) (sym none) (omega arith) in
+        let (m, to, gaps, more_side, order, longer) = gaps_in_front front (c ∷ rest) 0 b full h side fills begins in
+        let (n, own, others) = gaps in
+        let (es, is, put) = subst (λ (g : Bool). HasGapIf g columns tag c m n) gap own in
+        let ordered : InOrder 0 m.holes c.place = subst (λ k. InOrder 0 m.holes k) (sym more_side.0) order in
+        let far : max c.place (span_end m.holes) ≡ c.place = omega (arith, span_end-is m.holes, ends_before 0 m.holes c.place ordered) in
+        let (hs, holes, behind, long) = gaps_behind c.place rest n full others (places_behind (end_of c + 1) c.place rest (omega arith) more_side.1) in
+        let all : full.holes ≡ m.holes ++ (holes_from c.place es ++ hs) =
+        holes ∙ ap (λ ks. ks ++ hs) (ap (λ (x : Border A). x.holes) put ∙ put_holes c.place c.place m es far) ∙ append_assoc m.holes (holes_from c.place es) hs in
+        let inside : c.place ≤ length full.cells = omega (arith, within, longer, ap (λ (x : Border A). length x.cells) put, put_longer c.place m es, long) in
+        let starts : BeginBehind c.place (holes_from c.place es ++ hs) = behind_both c.place (holes_from c.place es) hs (from_behind c.place c.place es (omega arith)) behind in
+        let front_shown = shown_before one full.tag full.cells 0 m.holes c.place (holes_from c.place es ++ hs) ordered inside starts in
+        record {
+          before = front_shown.0;
+          es = es;
+          after = shown_from full.tag full.cells (c.place + items_width columns (items_of es)) hs;
+          line = ap (shown_from full.tag full.cells 0) all ∙ front_shown.1 ∙ ap (λ is. front_shown.0 ++ is) (shown_here one full.tag full.cells c.place es hs)
+              ∙ sym (append_assoc front_shown.0 (items_of es) (shown_from full.tag full.cells (c.place + items_width columns (items_of es)) hs));
+          place = omega (arith, front_shown.2);
+          is = is;
+        }
