@@ -11,7 +11,7 @@ use Rattle.tbr_border.specs.Border.{Border, has_holes}
 use Rattle.tbr_rows.specs.declared.line_set.LineSet.{LineSet as Cell}
 use Rattle.tbr_rows.specs.declared.column.Column.{Column}
 use Rattle.tbr_rows.specs.Cells.{cell_height}
-use Rattle.tbr_rows.specs.Borders.{first_border, last_border, behind_border, before_border, without_first_border, with_last_border_apart}
+use Rattle.tbr_rows.specs.Borders.{first_mergeable, last_mergeable, behind_mergeable, before_mergeable, without_first_border, with_last_border_apart}
 use Rattle.tbr_rows.specs.Texts.{row_height}
 use Rattle.tbr_rows.specs.Gaps.{overhang_of, overhang, cell_in}
 use Rattle.tbr_rows.specs.Shown.{part_of, later_of, as_lines, Meeting, met, merged_first, merged_last, behind, goes_on, parts_of, parts_and_merged, meeting, AreItsRows, texts_in}
@@ -64,7 +64,7 @@ row_is_high_enough cs = each_least 0 cs
 
 -- ---- merged borders
 
-first_and_behind : {A : Type 0} (ls : List (RenderLine A)) → as_lines (first_border ls) ++ behind_border ls ≡ ls
+first_and_behind : {A : Type 0} (ls : List (RenderLine A)) → as_lines (first_mergeable ls) ++ behind_mergeable ls ≡ ls
 first_and_behind [] = refl
 first_and_behind (Text es ∷ ls) = refl
 first_and_behind {A} (Line b ∷ ls) = go (has_holes b.holes)
@@ -73,7 +73,7 @@ first_and_behind {A} (Line b ∷ ls) = go (has_holes b.holes)
     go true = refl
     go false = refl
 
-split_last : {A : Type 0} (front back : List (RenderLine A)) → length back ≤ 1 → (if is_some (first_border back) then front else front ++ back) ++ as_lines (first_border back) ≡ front ++ back
+split_last : {A : Type 0} (front back : List (RenderLine A)) → length back ≤ 1 → (if is_some (first_mergeable back) then front else front ++ back) ++ as_lines (first_mergeable back) ≡ front ++ back
 split_last front [] short = append-nil (front ++ [])
 split_last front (Text es ∷ []) short = append-nil (front ++ Text es ∷ [])
 split_last {A} front (Line b ∷ []) short = go (has_holes b.holes)
@@ -83,20 +83,20 @@ split_last {A} front (Line b ∷ []) short = go (has_holes b.holes)
     go false = refl
 split_last front (l ∷ k ∷ ls) short = absurd (let no : ⊥ = omega (arith, short) in no)
 
-before_and_last : {A : Type 0} (ls : List (RenderLine A)) → before_border ls ++ as_lines (last_border ls) ≡ ls
+before_and_last : {A : Type 0} (ls : List (RenderLine A)) → before_mergeable ls ++ as_lines (last_mergeable ls) ≡ ls
 before_and_last {A} ls =
     let n : ℕ = length ls - 1 in
     let whole : take n ls ++ drop n ls ≡ ls = take-append-drop n ls in
     let short : length (drop n ls) ≤ 1 = omega (arith, length-drop n ls) in
-    ap (λ (xs : List (RenderLine A)). (if is_some (last_border ls) then take n ls else xs) ++ as_lines (last_border ls)) (sym whole) ∙ split_last (take n ls) (drop n ls) short ∙ whole
+    ap (λ (xs : List (RenderLine A)). (if is_some (last_mergeable ls) then take n ls else xs) ++ as_lines (last_mergeable ls)) (sym whole) ∙ split_last (take n ls) (drop n ls) short ∙ whole
 
 pub merged_and_left : {A : Type 0} (m : Meeting) (c : Cell A) → merged_first m c ++ (met m c).lines ++ merged_last m c ≡ c.lines
 merged_and_left {A} m c = go m.first m.last
   where
     go : (f l : Bool) → (let u : Cell A = if f then without_first_border c else c in
-        (if f then as_lines (first_border c.lines) else []) ++ (let d : Cell A = if l then (with_last_border_apart u).cell else u in d.lines) ++ (if l then as_lines (last_border u.lines) else [])) ≡ c.lines
-    go true true = append_assoc (as_lines (first_border c.lines)) (before_border (behind_border c.lines)) (as_lines (last_border (behind_border c.lines))) ∙ ap (λ (xs : List (RenderLine A)). as_lines (first_border c.lines) ++ xs) (before_and_last (behind_border c.lines)) ∙ first_and_behind c.lines
-    go true false = append-nil (as_lines (first_border c.lines) ++ behind_border c.lines) ∙ first_and_behind c.lines
+        (if f then as_lines (first_mergeable c.lines) else []) ++ (let d : Cell A = if l then (with_last_border_apart u).cell else u in d.lines) ++ (if l then as_lines (last_mergeable u.lines) else [])) ≡ c.lines
+    go true true = append_assoc (as_lines (first_mergeable c.lines)) (before_mergeable (behind_mergeable c.lines)) (as_lines (last_mergeable (behind_mergeable c.lines))) ∙ ap (λ (xs : List (RenderLine A)). as_lines (first_mergeable c.lines) ++ xs) (before_and_last (behind_mergeable c.lines)) ∙ first_and_behind c.lines
+    go true false = append-nil (as_lines (first_mergeable c.lines) ++ behind_mergeable c.lines) ∙ first_and_behind c.lines
     go false true = before_and_last c.lines
     go false false = append-nil c.lines
 
@@ -122,8 +122,8 @@ no_text (Some b) = refl
 no_text_first : {A : Type 0} (m : Meeting) (c : Cell A) → texts_in (merged_first m c) ≡ []
 no_text_first m c = go m.first
   where
-    go : (f : Bool) → texts_in (if f then as_lines (first_border c.lines) else []) ≡ []
-    go true = no_text (first_border c.lines)
+    go : (f : Bool) → texts_in (if f then as_lines (first_mergeable c.lines) else []) ≡ []
+    go true = no_text (first_mergeable c.lines)
     go false = refl
 
 no_text_last : {A : Type 0} (m : Meeting) (c : Cell A) → texts_in (merged_last m c) ≡ []
@@ -132,8 +132,8 @@ no_text_last {A} m c = go m.last
     under : Cell A
     under = if m.first then without_first_border c else c
 
-    go : (l : Bool) → texts_in (if l then as_lines (last_border under.lines) else []) ≡ []
-    go true = no_text (last_border under.lines)
+    go : (l : Bool) → texts_in (if l then as_lines (last_mergeable under.lines) else []) ≡ []
+    go true = no_text (last_mergeable under.lines)
     go false = refl
 
 texts_left : {A : Type 0} (m : Meeting) (c : Cell A) → texts_in (met m c).lines ≡ texts_in c.lines
@@ -194,7 +194,7 @@ rows_go_on draws true None height [] = refl
 rows_go_on draws true (Some b) height [] = refl
 rows_go_on draws false None height [] = refl
 rows_go_on draws false (Some b) height [] = refl
-rows_go_on draws true None height (c ∷ cs) = parts_same _ _ _ _ (one_goes_on draws height c (before_border c.lines)) (rows_go_on draws true None height cs)
-rows_go_on draws true (Some b) height (c ∷ cs) = parts_same _ _ _ _ (one_goes_on draws height c (before_border (behind_border c.lines))) (rows_go_on draws true (Some b) height cs)
+rows_go_on draws true None height (c ∷ cs) = parts_same _ _ _ _ (one_goes_on draws height c (before_mergeable c.lines)) (rows_go_on draws true None height cs)
+rows_go_on draws true (Some b) height (c ∷ cs) = parts_same _ _ _ _ (one_goes_on draws height c (before_mergeable (behind_mergeable c.lines))) (rows_go_on draws true (Some b) height cs)
 rows_go_on draws false None height (c ∷ cs) = parts_same _ _ _ _ (one_goes_on draws height c c.lines) (rows_go_on draws false None height cs)
 rows_go_on draws false (Some b) height (c ∷ cs) = parts_same _ _ _ _ (one_goes_on draws height c c.lines) (rows_go_on draws false (Some b) height cs)

@@ -16,7 +16,7 @@ use Rattle.tbr_border.specs.declared.render_line.RenderLine.TheVariants.{Text, L
 use Rattle.tbr_tagged.specs.Padding.{spaces}
 use Rattle.tbr_rows.specs.Cells.{AreSideBySide, end_of, first_line, row_width, separators}
 use Rattle.tbr_rows.specs.CellsShown.{Fills, IsFilled}
-use Rattle.tbr_rows.specs.Borders.{joined, joined_at_each, last_border, merged_with, merged_above}
+use Rattle.tbr_rows.specs.Borders.{joined, joined_at_each, last_mergeable, merged_with, merged_above}
 use Rattle.tbr_rows.specs.Gaps.{has_gap, with_element, with_elements}
 use Rattle.tbr_rows.specs.Meant.{IsGapOf, HasGapIf, HasGaps}
 use Rattle.tbr_rows.specs.Rows.{next_under, next_merged}
@@ -63,7 +63,7 @@ module _ {A : Type 0} where
   all_merged_plain : (cs : List (Cell A)) (b : Border A) → KeepsPlain b (fold merged_above b cs)
   all_merged_plain [] b = (omega arith, λ e. e)
   all_merged_plain (c ∷ cs) b =
-      let one = merged_plain above c.place b (last_border c.lines) in
+      let one = merged_plain above c.place b (last_mergeable c.lines) in
       let later = all_merged_plain cs (merged_above b c) in
       (omega (arith, one.0, later.0), λ e. later.1 (one.1 e))
 

@@ -12,8 +12,8 @@ use Rattle.tbr_rows.specs.declared.column.Column.{Column}
 use Rattle.tbr_rows.specs.Cells.{AreSideBySide, end_of}
 use Rattle.tbr_rows.specs.Gaps.{cell_in}
 use Rattle.tbr_rows.specs.Rows.{cells_under, columns_shown}
-use Rattle.tbr_rows.specs.Borders.{first_border, last_border, behind_border, before_border, without_first_border, with_last_border_apart, whole_column}
-use Rattle.tbr_rows.specs.Shown.{meeting, met, DrawsInOne, TakesColumns, FillsBelow, FillsCell}
+use Rattle.tbr_rows.specs.Borders.{first_mergeable, last_mergeable, behind_mergeable, before_mergeable, without_first_border, with_last_border_apart, whole_column}
+use Rattle.tbr_rows.specs.Shown.{meeting, met, DrawsInOne, TakesColumns, FillsBelow, TakesCellColumns}
 use Rattle.tbr_rows.proofs.Filling.{filled_line, cell_fills}
 use Rattle.tbr_rows.specs.CellsShown.{Fills, IsFilled}
 use Rattle.tbr_rows.proofs.Among.{each_drop, each_gives, each_take}
@@ -77,15 +77,15 @@ module _ {A : Type 0} (collapses : Bool) (top : Option (Border A)) (height : ℕ
       (place_stays c ∙ h.0, subst (λ n. AreSideBySide n (map cell_in (map (column_of collapses top) cs))) ends (columns_side_by_side (end_of c + 1) cs h.1))
 
 module _ {A : Type 0} (P : RenderLine A → Type 0) where
-  pub behind_first : (ls : List (RenderLine A)) → Each P ls → Each P (behind_border ls)
-  behind_first ls h = go (is_some (first_border ls))
+  pub behind_first : (ls : List (RenderLine A)) → Each P ls → Each P (behind_mergeable ls)
+  behind_first ls h = go (is_some (first_mergeable ls))
     where
       go : (b : Bool) → Each P (if b then drop 1 ls else ls)
       go true = each_drop P 1 ls h
       go false = h
 
-  pub before_last : (ls : List (RenderLine A)) → Each P ls → Each P (before_border ls)
-  before_last ls h = go (is_some (last_border ls))
+  pub before_last : (ls : List (RenderLine A)) → Each P ls → Each P (before_mergeable ls)
+  before_last ls h = go (is_some (last_mergeable ls))
     where
       go : (b : Bool) → Each P (if b then take (length ls - 1) ls else ls)
       go true = each_take P (length ls - 1) ls h
@@ -93,7 +93,7 @@ module _ {A : Type 0} (P : RenderLine A → Type 0) where
 
   pub lines_stay : (collapses : Bool) (top : Option (Border A)) (c : Cell A) → Each P c.lines → Each P (column_of collapses top c).cell.lines
   lines_stay true None c h = before_last c.lines h
-  lines_stay true (Some b) c h = before_last (behind_border c.lines) (behind_first c.lines h)
+  lines_stay true (Some b) c h = before_last (behind_mergeable c.lines) (behind_first c.lines h)
   lines_stay false top c h = h
 
 -- ---- cells whose lines take their columns
@@ -106,7 +106,7 @@ module _ {A : Type 0} (columns : ℕ → Option ℕ) (one : DrawsInOne columns) 
       let full : b.cells ≡ stretched width b.cells = sym (append-nil b.cells) ∙ ap (λ n. b.cells ++ replicate n horizontal) (sym none) in
       filled_line columns (λ x y. true) Left width tag tag (Line b) (Line b) one (omega (arith, h.0), h.1) (ap (λ cells. with_cells cells b) full)
 
-  pub below_first : (width : ℕ) (ls : List (RenderLine A)) → Each (Fills columns width) ls → FillsBelow width (first_border ls)
+  pub below_first : (width : ℕ) (ls : List (RenderLine A)) → Each (Fills columns width) ls → FillsBelow width (first_mergeable ls)
   below_first width [] h = tt
   below_first width (Text es ∷ ls) h = tt
   below_first width (Line b ∷ ls) h = go (has_holes b.holes)
@@ -115,21 +115,21 @@ module _ {A : Type 0} (columns : ℕ → Option ℕ) (one : DrawsInOne columns) 
       go true = tt
       go false = h.0.0
 
-  pub below_last : (width : ℕ) (ls : List (RenderLine A)) → Each (Fills columns width) ls → FillsBelow width (last_border ls)
+  pub below_last : (width : ℕ) (ls : List (RenderLine A)) → Each (Fills columns width) ls → FillsBelow width (last_mergeable ls)
   below_last width ls h = below_first width (drop (length ls - 1) ls) (each_drop (Fills columns width) (length ls - 1) ls h)
 
   pub below : (collapses : Bool) (top : Option (Border A)) (c : Cell A) → IsFilled columns c → FillsBelow (column_of collapses top c).cell.width (column_of collapses top c).bottom
   below true None c h = below_last c.width c.lines h
-  below true (Some b) c h = below_last c.width (behind_border c.lines) (behind_first (Fills columns c.width) c.lines h)
+  below true (Some b) c h = below_last c.width (behind_mergeable c.lines) (behind_first (Fills columns c.width) c.lines h)
   below false top c h = tt
 
-  pub column_fills : (collapses : Bool) (top : Option (Border A)) (tag : A) (i : ℕ) (c : Cell A) → IsFilled columns c → FillsCell columns tag i (column_of collapses top c)
+  pub column_fills : (collapses : Bool) (top : Option (Border A)) (tag : A) (i : ℕ) (c : Cell A) → IsFilled columns c → TakesCellColumns columns tag i (column_of collapses top c)
   column_fills collapses top tag i c h =
       let wide : Each (Fills columns (column_of collapses top c).cell.width) (column_of collapses top c).cell.lines =
       subst (λ (w : ℕ). Each (Fills columns w) (column_of collapses top c).cell.lines) (sym (width_stays collapses top 0 c)) (lines_stay (Fills columns c.width) collapses top c h) in
       cell_fills columns tag i (column_of collapses top c) one
       (below collapses top c h, each_gives (Fills columns (column_of collapses top c).cell.width) (TakesColumns columns tag (column_of collapses top c).cell.width) (takes tag (column_of collapses top c).cell.width) (column_of collapses top c).cell.lines wide)
 
-  pub columns_fill : (collapses : Bool) (top : Option (Border A)) (tag : A) (i : ℕ) (cs : List (Cell A)) → Each (IsFilled columns) cs → Each (FillsCell columns tag i) (map (column_of collapses top) cs)
+  pub columns_fill : (collapses : Bool) (top : Option (Border A)) (tag : A) (i : ℕ) (cs : List (Cell A)) → Each (IsFilled columns) cs → Each (TakesCellColumns columns tag i) (map (column_of collapses top) cs)
   columns_fill collapses top tag i [] h = tt
   columns_fill collapses top tag i (c ∷ cs) h = (column_fills collapses top tag i c h.0, columns_fill collapses top tag i cs h.1)

@@ -18,7 +18,7 @@ use Rattle.std.proofs.lemmas.List.Elements.{AllZip-push}
 use Rattle.tbr_rows.specs.declared.column.Column.{Column}
 use Rattle.tbr_rows.specs.Filled.{FillsLine}
 use Rattle.tbr_rows.specs.Texts.{text_of_lines, filler_above}
-use Rattle.tbr_rows.specs.Shown.{DrawsInOne, LineFits, TakesColumns, FillsBelow, LinesFillCell, FillsCell}
+use Rattle.tbr_rows.specs.Shown.{DrawsInOne, LineFits, TakesColumns, FillsBelow, LinesFillCell, TakesCellColumns}
 use Rattle.tbr_rows.proofs.Standing.{width_append}
 
 -- characters of one column
@@ -105,7 +105,7 @@ each_drop P (suc n) [] h = tt
 each_drop P (suc n) (x ∷ xs) h = each_drop P n xs h.1
 
 -- a cell whose lines take its columns fills them in each line of the row
-pub cell_fills : {A : Type 0} (columns : ℕ → Option ℕ) (a : A) (i : ℕ) (c : Column A) → DrawsInOne columns → LinesFillCell columns a c → FillsCell columns a i c
+pub cell_fills : {A : Type 0} (columns : ℕ → Option ℕ) (a : A) (i : ℕ) (c : Column A) → DrawsInOne columns → LinesFillCell columns a c → TakesCellColumns columns a i c
 cell_fills columns a i c one fills = lines_fill columns a c (drop i c.cell.lines) one fills.0 (each_drop (TakesColumns columns a c.cell.width) i c.cell.lines fills.1)
 
 -- one line more of a list is filled where it stands

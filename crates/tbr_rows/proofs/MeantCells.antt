@@ -10,7 +10,7 @@ use Rattle.tbr_border.specs.Border.{Hole, Border, has_holes, with_cells, stretch
 use Rattle.tbr_rows.specs.declared.line_set.LineSet.{LineSet as Cell}
 use Rattle.tbr_rows.specs.declared.column.Column.{Column}
 use Rattle.tbr_rows.specs.Cells.{end_of, row_width, separators, empty_cell, first_line, Spot, spot_of, is_left_for, ends_before, appended, with_hanging}
-use Rattle.tbr_rows.specs.Borders.{joined, joined_at_each, above_row, border_in, first_border, last_border, behind_border, before_border, merged_with, merged_below, merged_above, without_first_border, with_last_border_apart, whole_column}
+use Rattle.tbr_rows.specs.Borders.{joined, joined_at_each, above_row, mergeable_in, first_mergeable, last_mergeable, behind_mergeable, before_mergeable, merged_with, merged_below, merged_above, without_first_border, with_last_border_apart, whole_column}
 use Rattle.tbr_rows.specs.Rows.{border_above, cells_under, next_under, next_merged, columns_shown}
 use Rattle.tbr_rows.specs.Meant.{map_hole, map_border, map_line, map_cell, map_column}
 
@@ -82,22 +82,22 @@ module _ {A B : Type 0} (f : A → B) where
   holes-map [] = refl
   holes-map (h ∷ hs) = refl
 
-  border_in-map : (l : RenderLine A) → border_in (map_line f l) ≡ option_map (map_border f) (border_in l)
-  border_in-map (Text es) = refl
-  border_in-map (Line b) = ap (λ h. if h then None else Some (map_border f b)) (holes-map b.holes) ∙ go (has_holes b.holes)
+  mergeable_in-map : (l : RenderLine A) → mergeable_in (map_line f l) ≡ option_map (map_border f) (mergeable_in l)
+  mergeable_in-map (Text es) = refl
+  mergeable_in-map (Line b) = ap (λ h. if h then None else Some (map_border f b)) (holes-map b.holes) ∙ go (has_holes b.holes)
     where
       go : (h : Bool) → (if h then None else Some (map_border f b)) ≡ option_map (map_border f) (if h then None else Some b)
       go true = refl
       go false = refl
 
-  first-map : (ls : List (RenderLine A)) → first_border (map (map_line f) ls) ≡ option_map (map_border f) (first_border ls)
+  first-map : (ls : List (RenderLine A)) → first_mergeable (map (map_line f) ls) ≡ option_map (map_border f) (first_mergeable ls)
   first-map [] = refl
-  first-map (l ∷ ls) = border_in-map l
+  first-map (l ∷ ls) = mergeable_in-map l
 
-  last-map : (ls : List (RenderLine A)) → last_border (map (map_line f) ls) ≡ option_map (map_border f) (last_border ls)
+  last-map : (ls : List (RenderLine A)) → last_mergeable (map (map_line f) ls) ≡ option_map (map_border f) (last_mergeable ls)
   last-map ls =
-      ap (λ n. first_border (drop (n - 1) (map (map_line f) ls))) (length-map ls (map_line f))
-      ∙ ap first_border (drop-map (map_line f) (length ls - 1) ls) ∙ first-map (drop (length ls - 1) ls)
+      ap (λ n. first_mergeable (drop (n - 1) (map (map_line f) ls))) (length-map ls (map_line f))
+      ∙ ap first_mergeable (drop-map (map_line f) (length ls - 1) ls) ∙ first-map (drop (length ls - 1) ls)
 
   some-map : (o : Option (Border A)) → is_some (option_map (map_border f) o) ≡ is_some o
   some-map None = refl
@@ -107,18 +107,18 @@ module _ {A B : Type 0} (f : A → B) where
   either-map true xs ys = refl
   either-map false xs ys = refl
 
-  behind-map : (ls : List (RenderLine A)) → behind_border (map (map_line f) ls) ≡ map (map_line f) (behind_border ls)
+  behind-map : (ls : List (RenderLine A)) → behind_mergeable (map (map_line f) ls) ≡ map (map_line f) (behind_mergeable ls)
   behind-map ls =
-      ap (λ b. if b then drop 1 (map (map_line f) ls) else map (map_line f) ls) (ap is_some (first-map ls) ∙ some-map (first_border ls))
-      ∙ ap (λ (xs : List (RenderLine B)). if is_some (first_border ls) then xs else map (map_line f) ls) (drop-map (map_line f) 1 ls)
-      ∙ either-map (is_some (first_border ls)) (drop 1 ls) ls
+      ap (λ b. if b then drop 1 (map (map_line f) ls) else map (map_line f) ls) (ap is_some (first-map ls) ∙ some-map (first_mergeable ls))
+      ∙ ap (λ (xs : List (RenderLine B)). if is_some (first_mergeable ls) then xs else map (map_line f) ls) (drop-map (map_line f) 1 ls)
+      ∙ either-map (is_some (first_mergeable ls)) (drop 1 ls) ls
 
-  before-map : (ls : List (RenderLine A)) → before_border (map (map_line f) ls) ≡ map (map_line f) (before_border ls)
+  before-map : (ls : List (RenderLine A)) → before_mergeable (map (map_line f) ls) ≡ map (map_line f) (before_mergeable ls)
   before-map ls =
-      ap (λ b. if b then take (length (map (map_line f) ls) - 1) (map (map_line f) ls) else map (map_line f) ls) (ap is_some (last-map ls) ∙ some-map (last_border ls))
-      ∙ ap (λ (xs : List (RenderLine B)). if is_some (last_border ls) then xs else map (map_line f) ls)
+      ap (λ b. if b then take (length (map (map_line f) ls) - 1) (map (map_line f) ls) else map (map_line f) ls) (ap is_some (last-map ls) ∙ some-map (last_mergeable ls))
+      ∙ ap (λ (xs : List (RenderLine B)). if is_some (last_mergeable ls) then xs else map (map_line f) ls)
       (ap (λ n. take (n - 1) (map (map_line f) ls)) (length-map ls (map_line f)) ∙ take-map (map_line f) (length ls - 1) ls)
-      ∙ either-map (is_some (last_border ls)) (take (length ls - 1) ls) ls
+      ∙ either-map (is_some (last_mergeable ls)) (take (length ls - 1) ls) ls
 
   merged-map : (side : Side) (place : ℕ) (b : Border A) (o : Option (Border A)) → merged_with side place (map_border f b) (option_map (map_border f) o) ≡ map_border f (merged_with side place b o)
   merged-map side place b None = refl
@@ -127,13 +127,13 @@ module _ {A B : Type 0} (f : A → B) where
   pub merged_below-map : (b : Border A) (cs : List (Cell A)) → fold merged_below (map_border f b) (map (map_cell f) cs) ≡ map_border f (fold merged_below b cs)
   merged_below-map b [] = refl
   merged_below-map b (c ∷ cs) =
-      ap (λ (d : Border B). fold merged_below d (map (map_cell f) cs)) (ap (merged_with below c.place (map_border f b)) (first-map c.lines) ∙ merged-map below c.place b (first_border c.lines))
+      ap (λ (d : Border B). fold merged_below d (map (map_cell f) cs)) (ap (merged_with below c.place (map_border f b)) (first-map c.lines) ∙ merged-map below c.place b (first_mergeable c.lines))
       ∙ merged_below-map (merged_below b c) cs
 
   pub merged_above-map : (b : Border A) (cs : List (Cell A)) → fold merged_above (map_border f b) (map (map_cell f) cs) ≡ map_border f (fold merged_above b cs)
   merged_above-map b [] = refl
   merged_above-map b (c ∷ cs) =
-      ap (λ (d : Border B). fold merged_above d (map (map_cell f) cs)) (ap (merged_with above c.place (map_border f b)) (last-map c.lines) ∙ merged-map above c.place b (last_border c.lines))
+      ap (λ (d : Border B). fold merged_above d (map (map_cell f) cs)) (ap (merged_with above c.place (map_border f b)) (last-map c.lines) ∙ merged-map above c.place b (last_mergeable c.lines))
       ∙ merged_above-map (merged_above b c) cs
 
   without-map : (cs : List (Cell A)) → map without_first_border (map (map_cell f) cs) ≡ map (map_cell f) (map without_first_border cs)
@@ -145,8 +145,8 @@ module _ {A B : Type 0} (f : A → B) where
   apart-map : (cs : List (Cell A)) → map with_last_border_apart (map (map_cell f) cs) ≡ map (map_column f) (map with_last_border_apart cs)
   apart-map [] = refl
   apart-map (c ∷ cs) =
-      ap (λ (ls : List (RenderLine B)). let d : Column B = record { cell = record (map_cell f c) { lines = ls }; bottom = last_border (map (map_line f) c.lines) } in d ∷ map with_last_border_apart (map (map_cell f) cs)) (before-map c.lines)
-      ∙ ap (λ (o : Option (Border B)). let d : Column B = record { cell = map_cell f (record c { lines = before_border c.lines }); bottom = o } in d ∷ map with_last_border_apart (map (map_cell f) cs)) (last-map c.lines)
+      ap (λ (ls : List (RenderLine B)). let d : Column B = record { cell = record (map_cell f c) { lines = ls }; bottom = last_mergeable (map (map_line f) c.lines) } in d ∷ map with_last_border_apart (map (map_cell f) cs)) (before-map c.lines)
+      ∙ ap (λ (o : Option (Border B)). let d : Column B = record { cell = map_cell f (record c { lines = before_mergeable c.lines }); bottom = o } in d ∷ map with_last_border_apart (map (map_cell f) cs)) (last-map c.lines)
       ∙ ap (λ (ds : List (Column B)). map_column f (with_last_border_apart c) ∷ ds) (apart-map cs)
 
   whole-map : (cs : List (Cell A)) → map whole_column (map (map_cell f) cs) ≡ map (map_column f) (map whole_column cs)

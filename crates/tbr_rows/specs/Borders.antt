@@ -28,29 +28,29 @@ above_row cs b =
 -- ---- borders of cells
 
 -- a border without holes
-abbrev pub border_in : {A : Type 0} → RenderLine A → Option (Border A)
-border_in (Text line) = None
-border_in (Line b) = if has_holes b.holes then None else Some b
+abbrev pub mergeable_in : {A : Type 0} → RenderLine A → Option (Border A)
+mergeable_in (Text line) = None
+mergeable_in (Line b) = if has_holes b.holes then None else Some b
 
 -- whether there is a line, and it is a border without holes
 abbrev pub is_mergeable : {A : Type 0} → Option (Bor (RenderLine A)) → Bool
 is_mergeable None = false
-is_mergeable (Some l) = is_some (border_in l.now)
+is_mergeable (Some l) = is_some (mergeable_in l.now)
 
 -- the first line, and the last one, where it is such a border
-abbrev pub first_border : {A : Type 0} → List (RenderLine A) → Option (Border A)
-first_border [] = None
-first_border (l ∷ ls) = border_in l
+abbrev pub first_mergeable : {A : Type 0} → List (RenderLine A) → Option (Border A)
+first_mergeable [] = None
+first_mergeable (l ∷ ls) = mergeable_in l
 
-abbrev pub last_border : {A : Type 0} → List (RenderLine A) → Option (Border A)
-last_border ls = first_border (drop (length ls - 1) ls)
+abbrev pub last_mergeable : {A : Type 0} → List (RenderLine A) → Option (Border A)
+last_mergeable ls = first_mergeable (drop (length ls - 1) ls)
 
 -- and the lines without it
-abbrev pub behind_border : {A : Type 0} → List (RenderLine A) → List (RenderLine A)
-behind_border ls = if is_some (first_border ls) then drop 1 ls else ls
+abbrev pub behind_mergeable : {A : Type 0} → List (RenderLine A) → List (RenderLine A)
+behind_mergeable ls = if is_some (first_mergeable ls) then drop 1 ls else ls
 
-abbrev pub before_border : {A : Type 0} → List (RenderLine A) → List (RenderLine A)
-before_border ls = if is_some (last_border ls) then take (length ls - 1) ls else ls
+abbrev pub before_mergeable : {A : Type 0} → List (RenderLine A) → List (RenderLine A)
+before_mergeable ls = if is_some (last_mergeable ls) then take (length ls - 1) ls else ls
 
 -- a border into which another, if there is one, is merged at a place
 abbrev pub merged_with : {A : Type 0} → Side → ℕ → Border A → Option (Border A) → Border A
@@ -61,17 +61,17 @@ merged_with side place b (Some o) = with_cells (merged side b.cells place o.cell
 
 -- the border above a row, into which the first borders of cells are merged, and the cells without these
 abbrev pub merged_below : {A : Type 0} → Border A → Cell A → Border A
-merged_below b c = merged_with below c.place b (first_border c.lines)
+merged_below b c = merged_with below c.place b (first_mergeable c.lines)
 
 abbrev pub without_first_border : {A : Type 0} → Cell A → Cell A
-without_first_border c = record c { lines = behind_border c.lines }
+without_first_border c = record c { lines = behind_mergeable c.lines }
 
 -- the next border, into which the last borders of cells are merged, and the cells that keep these apart
 abbrev pub merged_above : {A : Type 0} → Border A → Cell A → Border A
-merged_above b c = merged_with above c.place b (last_border c.lines)
+merged_above b c = merged_with above c.place b (last_mergeable c.lines)
 
 abbrev pub with_last_border_apart : {A : Type 0} → Cell A → Column A
-with_last_border_apart c = record { cell = record c { lines = before_border c.lines }; bottom = last_border c.lines }
+with_last_border_apart c = record { cell = record c { lines = before_mergeable c.lines }; bottom = last_mergeable c.lines }
 
 -- cells of which no border is merged
 abbrev pub whole_column : {A : Type 0} → Cell A → Column A

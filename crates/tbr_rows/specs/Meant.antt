@@ -22,9 +22,7 @@ use Rattle.tbr_rows.specs.Rows.{border_above, cells_under, next_under, next_merg
 -- ---- elements, borders, lines and cells under other tags
 
 -- the same, with each tag as what a function makes of it
-abbrev pub map_element : {A B : Type 0} → (A → B) → Element A → Element B
-map_element f (piece cs a) = piece cs (f a)
-map_element f (marker_element name) = marker_element name
+pub use Rattle.tbr_tagged.specs.Mapped.{map_element}
 
 abbrev pub map_hole : {A B : Type 0} → (A → B) → Hole A → Hole B
 map_hole f h = record { place = h.place; width = h.width; element = map_element f h.element }

@@ -10,7 +10,7 @@ use Rattle.tbr_border.specs.Border.{Border}
 use Rattle.tbr_rows.specs.declared.line_set.LineSet.{LineSet as Cell}
 use Rattle.tbr_rows.specs.declared.column.Column.{Column}
 use Rattle.tbr_rows.specs.Cells.{cell_height}
-use Rattle.tbr_rows.specs.Borders.{first_border, last_border, without_first_border, with_last_border_apart}
+use Rattle.tbr_rows.specs.Borders.{first_mergeable, last_mergeable, without_first_border, with_last_border_apart}
 use Rattle.tbr_rows.specs.Texts.{cell_text, text_in_row}
 use Rattle.tbr_rows.specs.Gaps.{has_gap, overhang_of}
 
@@ -44,12 +44,12 @@ met m c =
 
 -- the borders that are merged
 abbrev pub merged_first : {A : Type 0} → Meeting → Cell A → List (RenderLine A)
-merged_first m c = if m.first then as_lines (first_border c.lines) else []
+merged_first m c = if m.first then as_lines (first_mergeable c.lines) else []
 
 abbrev pub merged_last : {A : Type 0} → Meeting → Cell A → List (RenderLine A)
 merged_last m c =
     let under = if m.first then without_first_border c else c in
-    if m.last then as_lines (last_border under.lines) else []
+    if m.last then as_lines (last_mergeable under.lines) else []
 
 -- and as it overhangs behind the row
 abbrev pub behind : {A : Type 0} → Bool → Meeting → Cell A → Cell A
@@ -90,8 +90,8 @@ texts_in (Line b ∷ ls) = texts_in ls
 -- ---- columns
 
 -- what a row's line shows of a cell takes the cell's columns
-abbrev pub FillsCell : {A : Type 0} → (ℕ → Option ℕ) → A → ℕ → Column A → Type 0
-FillsCell columns a i c = items_width columns (cell_text a i c) ≡ c.cell.width
+abbrev pub TakesCellColumns : {A : Type 0} → (ℕ → Option ℕ) → A → ℕ → Column A → Type 0
+TakesCellColumns columns a i c = items_width columns (cell_text a i c) ≡ c.cell.width
 
 -- the space and what borders are drawn with take one column
 abbrev pub DrawsInOne : (ℕ → Option ℕ) → Type 0

@@ -84,8 +84,8 @@ pub(crate) fn whole<T: Drop>(
 
 /// Takes the first line, if it is a border without holes.
 fn take_first<T: Drop>(lines: &mut CellLines<T>) -> Option<BorderHoriz<T>>
-    ensures border { result ≡ model.first_border lines.old }
-    ensures rest { lines.new ≡ model.behind_border lines.old }
+    ensures border { result ≡ model.first_mergeable lines.old }
+    ensures rest { lines.new ≡ model.behind_mergeable lines.old }
 {
     if is_mergeable(lines.front())
         && let Some(RenderLine::Line(border)) = lines.pop_front()
@@ -97,8 +97,8 @@ fn take_first<T: Drop>(lines: &mut CellLines<T>) -> Option<BorderHoriz<T>>
 
 /// Takes the last line, if it is a border without holes.
 fn take_last<T: Drop>(lines: &mut CellLines<T>) -> Option<BorderHoriz<T>>
-    ensures border { result ≡ model.last_border lines.old }
-    ensures rest { lines.new ≡ model.before_border lines.old }
+    ensures border { result ≡ model.last_mergeable lines.old }
+    ensures rest { lines.new ≡ model.before_mergeable lines.old }
 {
     if is_mergeable(lines.back())
         && let Some(RenderLine::Line(border)) = lines.pop_back()

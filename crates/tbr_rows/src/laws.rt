@@ -2,7 +2,7 @@
 ghost use Rattle.std.specs.Prelude.{◌≡◌, ◌≢◌, ℕ, List, [], length, map, is_some, Some, Bool, true, ◌≤◌, ◌++◌, ◌∷◌, Option, flat_map};
 ghost use Rattle.tbr_rows.specs.declared.line_set.LineSet.{LineSet as Cell};
 ghost use Rattle.std.specs.List.{AllZip, AllByRecursion as Each};
-ghost use Rattle.tbr_rows.specs.Shown.{part_of, later_of, Meeting, meeting, met, merged_first, merged_last, parts_of, parts_and_merged, AreItsRows, texts_in, goes_on, FillsCell, LinesFillCell, DrawsInOne, LineFits, TakesColumns};
+ghost use Rattle.tbr_rows.specs.Shown.{part_of, later_of, Meeting, meeting, met, merged_first, merged_last, parts_of, parts_and_merged, AreItsRows, texts_in, goes_on, TakesCellColumns, LinesFillCell, DrawsInOne, LineFits, TakesColumns};
 ghost use Rattle.tbr_rows.specs.Rows.{IsRow, cells_under, columns_shown, cells_left};
 ghost use Rattle.std.specs.Option.{option_map};
 ghost use Rattle.tbr_tagged.specs.Mapped.{MeansEqual};
@@ -104,7 +104,7 @@ pub fn a_row_hands_on_what_it_leaves<T>()
 pub fn cells_stand_in_their_columns<T>()
     ensures { (columns : ℕ → Option ℕ) (separator : Item T) (tag : T) (i : ℕ)
         (front : List (Column T)) (column : Column T) (rest : List (Column T)) → item_width columns separator ≡ 1 →
-        Each (FillsCell columns tag i) front → AreSideBySide 0 (map cell_in (front ++ column ∷ rest)) →
+        Each (TakesCellColumns columns tag i) front → AreSideBySide 0 (map cell_in (front ++ column ∷ rest)) →
         (before : List (Item T))
         × (line_text separator tag (front ++ column ∷ rest) i ≡ before ++ line_text separator tag (column ∷ rest) i)
         × (items_width columns before ≡ place_of (cell_in column)) }
@@ -118,7 +118,7 @@ pub fn lines_that_fit_take_their_columns<T>()
         (line done : RenderLine T) → DrawsInOne columns → LineFits columns width line →
         FillsLine columns eq align width padding line done → TakesColumns columns tag width done }
     ensures cell { (columns : ℕ → Option ℕ) (tag : T) (i : ℕ) (column : Column T) → DrawsInOne columns →
-        LinesFillCell columns tag column → FillsCell columns tag i column }
+        LinesFillCell columns tag column → TakesCellColumns columns tag i column }
 {}
 
 /// A row under what its tags mean is the row of cells under what theirs mean, where tags are equal exactly if they mean

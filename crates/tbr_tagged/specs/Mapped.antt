@@ -14,6 +14,11 @@ MapsElement gives (marker_element m) (piece ds b) = ⊥
 abbrev pub MapsElements : {A B : Type 0} → (A → B → Type 0) → List (Element A) → List (Element B) → Type 0
 MapsElements gives = AllZip (MapsElement gives)
 
+-- the element with its tag as what a function makes of it
+abbrev pub map_element : {A B : Type 0} → (A → B) → Element A → Element B
+map_element f (piece cs a) = piece cs (f a)
+map_element f (marker_element name) = marker_element name
+
 -- Equal tags mean the same.
 abbrev pub MeansEqual : {A B : Type 0} → (A → B) → (A → A → Bool) → Type 0
 MeansEqual {A} f eq = (x y : A) → eq x y ≡ true → f x ≡ f y

@@ -30,7 +30,7 @@ impl CharWidth for UnicodeColumns {
 
     ghost stroke_takes_none = { refl };
 
-    #[inline]
+    #[inline(always)]
     fn width(c: char) -> Option<usize> {
         if is_printable_ascii(c) {
             return Some(1);
@@ -40,6 +40,8 @@ impl CharWidth for UnicodeColumns {
 }
 
 /// The columns of any character, by what is fixed and by `unicode_width`.
+// By itself, so that what most characters take stands where it is asked.
+#[inline(never)]
 fn looked_up(c: char) -> Option<usize>
     ensures { result ≡ unicode_columns c }
 {
