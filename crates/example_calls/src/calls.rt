@@ -1,11 +1,11 @@
 //! Renderers that are called call by call, and the lines that they have then.
-use crate::inside::{Block, Cell, append_block, append_columns, append_row};
+use crate::inside::{Block, Cell, append_aligned, append_block, append_columns, append_row};
 use example_parts::texts::{append_marked_line, append_pieces};
 use std::alloc::Global;
 use std::collections::LinkedList;
 use std::fmt::Debug;
 use tbr_decor::{Colour, TextDecorator};
-use tbr_lines::{CharWidth, Error, OutOfMemory, RenderLine, WhiteSpace};
+use tbr_lines::{CellAlign, CharWidth, Error, OutOfMemory, RenderLine, WhiteSpace};
 use tbr_renderer::{Renderer, SubRenderer};
 
 /// A colour for tests.
@@ -73,6 +73,8 @@ pub enum Call<'a> {
     VertRow(&'a [Block<'a>]),
     /// Cells, side by side; whether borders of neighbours are merged.
     Row(&'a [Cell<'a>], bool),
+    /// As many cells as there are alignments, side by side.
+    AlignedRow(&'a [Cell<'a>], &'a [CellAlign]),
     Ends(End),
 }
 
@@ -151,6 +153,7 @@ pub fn make<D: TextDecorator, W: CharWidth>(
         Call::Append(block, prefixes) => append_block(alloc, r, block, prefixes),
         Call::VertRow(blocks) => append_row(alloc, r, blocks),
         Call::Row(cells, collapse) => append_columns(alloc, r, cells, collapse),
+        Call::AlignedRow(cells, aligns) => append_aligned(alloc, r, cells, aligns),
         Call::Ends(what) => {
             make_end(r, what);
             Ok(())

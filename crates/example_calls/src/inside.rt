@@ -1,7 +1,10 @@
 //! Renderers inside others, which take their lines.
+ghost use Rattle.std.specs.Prelude.{◌<◌, IfOk};
+ghost use Rattle.std.specs.List.{AllByRecursion as Each};
+
 use std::alloc::Global;
 use tbr_decor::TextDecorator;
-use tbr_lines::{CharWidth, Error};
+use tbr_lines::{CellAlign, CharWidth, Error};
 use tbr_renderer::{Renderer, SubRenderer};
 
 /// A call on a renderer inside.
@@ -111,6 +114,22 @@ pub fn append_row<D: TextDecorator, W: CharWidth>(
     r.append_vert_row(cols)
 }
 
+/// The cells of a row, each with the rows that it spans.
+fn columns<D: TextDecorator, W: CharWidth>(
+    alloc: Global,
+    r: &SubRenderer<D, W>,
+    cells: &[Cell<'_>],
+) -> Result<Vec<(SubRenderer<D, W>, usize)>, Error>
+    ensures { IfOk result (λ cols. Each (λ col. 0 < col.1) cols.items) }
+{
+    let mut cols = Vec::new(alloc);
+    for cell in cells {
+        let Cell(span, block) = *cell;
+        cols.push((inside(alloc, r, block)?, span.max(1)))?;
+    }
+    Ok(cols)
+}
+
 /// Appends cells as a row side by side, where it fits.
 pub fn append_columns<D: TextDecorator, W: CharWidth>(
     alloc: Global,
@@ -118,13 +137,23 @@ pub fn append_columns<D: TextDecorator, W: CharWidth>(
     cells: &[Cell<'_>],
     collapse: bool,
 ) -> Result<(), Error> {
-    let mut cols = Vec::new(alloc);
-    for cell in cells {
-        let Cell(span, block) = *cell;
-        cols.push((inside(alloc, r, block)?, span.max(1)))?;
-    }
+    let cols = columns(alloc, r, cells)?;
     if !r.row_fits(&cols) {
         return Ok(());
     }
     r.append_columns_with_borders(cols, collapse)
+}
+
+/// The same of as many cells as there are alignments, each of them aligned. No borders of neighbours are merged.
+pub fn append_aligned<D: TextDecorator, W: CharWidth>(
+    alloc: Global,
+    r: &mut SubRenderer<D, W>,
+    cells: &[Cell<'_>],
+    aligns: &[CellAlign],
+) -> Result<(), Error> {
+    let cols = columns(alloc, r, cells)?;
+    if aligns.len() != cols.len() || !r.row_fits(&cols) {
+        return Ok(());
+    }
+    r.append_columns_aligned(cols, aligns, false)
 }

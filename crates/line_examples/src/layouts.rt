@@ -68,7 +68,7 @@ fn an_item_wider_than_the_line_has_no_layout(rt: HostRuntime) -> Result<(), Fail
 }
 
 #[test]
-fn eighty_characters(rt: HostRuntime) -> Result<(), Fail> {
+fn the_best_layout_of_eighty_characters_has_three_lines(rt: HostRuntime) -> Result<(), Fail> {
     let alloc = rt.alloc();
     let text = "The quick brown fox jumps over the lazy dog, and the dog sleeps on as it was: ok";
     assert!(rt; is_best(alloc, 40, text, &[0, 32, 63])?);

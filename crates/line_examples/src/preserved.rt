@@ -45,19 +45,19 @@ const WHITE_SPACE: &[Example] = &[
         expected: Lines("ab      c\n"),
     },
     Example {
-        name: "or to the line's end",
+        name: "a tab goes to the line's end where that comes first",
         on: Columns(5),
         steps: &[Pre("ab\tc")],
         expected: Lines("ab   \nc\n"),
     },
     Example {
-        name: "or fills a line",
+        name: "a tab fills a line that is shorter than a stop",
         on: Columns(5),
         steps: &[Pre("\tb")],
         expected: Lines("     \nb\n"),
     },
     Example {
-        name: "from the first column where the line is full",
+        name: "a tab behind a full line goes from the first column of the next",
         on: Columns(8),
         steps: &[Pre("abcdefgh\tb")],
         expected: Lines("abcdefgh\n        \nb\n"),
@@ -69,13 +69,13 @@ const WHITE_SPACE: &[Example] = &[
         expected: Lines("ab\ncd\n"),
     },
     Example {
-        name: "also where a word of wide characters is moved",
+        name: "white space vanishes where a word of wide characters is moved",
         on: Columns(5),
         steps: &[PreWrap("漢字  é")],
         expected: Lines("漢字\né\n"),
     },
     Example {
-        name: "that of the word's beginning too",
+        name: "white space at a moved word's beginning vanishes too",
         on: Columns(5),
         steps: &[PreWrap("ab \u{a0}cdef")],
         expected: Lines("ab\ncdef\n"),
@@ -87,7 +87,7 @@ const WHITE_SPACE: &[Example] = &[
         expected: Lines("ab\n\u{a0}cd\n"),
     },
     Example {
-        name: "white space of a column does",
+        name: "white space of a column takes white space from the word behind it",
         on: EveryOne(3),
         steps: BEHIND_AN_EM_SPACE,
         expected: Lines("ab\ncd\n"),
@@ -132,13 +132,13 @@ const CONTINUED: &[Example] = &[
         expected: Pieces(" ab:First \n"),
     },
     Example {
-        name: "they pass it by a column",
+        name: "a space and a word pass the line by a column",
         on: Columns(3),
         steps: &[Pre(" abc")],
         expected: Pieces(" :First \nab:First c:Second \n"),
     },
     Example {
-        name: "they pass it by two",
+        name: "a space and a word pass the line by two columns",
         on: Columns(3),
         steps: &[Pre(" abcd")],
         expected: Pieces(" :First \nab:First c:Second \nd:Second \n"),
@@ -150,7 +150,7 @@ const CONTINUED: &[Example] = &[
         expected: Pieces("a b:First \n"),
     },
     Example {
-        name: "and passes it by a column",
+        name: "a space in a word passes the line with it by a column",
         on: Columns(3),
         steps: &[Pre("a bc")],
         expected: Pieces("a b:First \nc:Second \n"),
@@ -162,7 +162,7 @@ const CONTINUED: &[Example] = &[
         expected: Pieces("abc:First \n :First \n"),
     },
     Example {
-        name: "the character behind it does",
+        name: "the character behind a space that passes the line begins the continuation tag",
         on: Columns(3),
         steps: &[Pre("abc d")],
         expected: Pieces("abc:First \n :First d:Second \n"),
@@ -180,7 +180,7 @@ const CONTINUED: &[Example] = &[
         expected: Pieces("a       b:First \n"),
     },
     Example {
-        name: "and are passed by one",
+        name: "a word passes the line by a column behind columns of the open line",
         on: Columns(9),
         steps: &[Pre("a\tbc")],
         expected: Pieces("a       :First \nb:First c:Second \n"),
@@ -192,13 +192,13 @@ const CONTINUED: &[Example] = &[
         expected: Pieces("漢漢:First \n"),
     },
     Example {
-        name: "one of them passes the line",
+        name: "one column of a wide character passes the line",
         on: Columns(3),
         steps: &[Pre("漢漢")],
         expected: Pieces("漢:First \n漢:Second \n"),
     },
     Example {
-        name: "also behind a no-break space",
+        name: "one column of a wide character passes the line behind a no-break space",
         on: Columns(3),
         steps: &[Pre("漢\u{a0}漢")],
         expected: Pieces("漢\u{a0}:First \n漢:Second \n"),

@@ -243,7 +243,7 @@ fn look_at_walk(rt: &impl Abort, alloc: Global) -> Result<(), Fail> {
 }
 
 #[test]
-fn elements_by_themselves(rt: HostRuntime) -> Result<(), Fail> {
+fn elements_have_widths_texts_and_copies(rt: HostRuntime) -> Result<(), Fail> {
     let alloc = rt.alloc();
     counts(&rt, text_width::<EveryOne>("漢a")?, 2);
     look_at_piece(&rt, alloc)?;

@@ -57,7 +57,7 @@ const EXAMPLES: &[Example] = &[
         expected: Lines("漢\n漢\n漢\n"),
     },
     Example {
-        name: "or one, by the second width instance",
+        name: "wide characters take one column by the second width instance",
         on: EveryOne(3),
         steps: &[Normal("漢漢漢")],
         expected: Lines("漢漢漢\n"),
@@ -75,7 +75,7 @@ const EXAMPLES: &[Example] = &[
         expected: Lines("a漢 b漢\n漢c\n"),
     },
     Example {
-        name: "and at a zero width space",
+        name: "words of wide characters end at a zero width space",
         on: Columns(4),
         steps: &[Normal("漢\u{200b}字é")],
         expected: Lines("漢\n字é\n"),
@@ -87,13 +87,13 @@ const EXAMPLES: &[Example] = &[
         expected: Lines("a\u{336}b\u{336}\nc\n"),
     },
     Example {
-        name: "a space behind one begins no line",
+        name: "a space behind a character of no width begins no line",
         on: Columns(9),
         steps: &[Normal("\u{336} a")],
         expected: Lines("\u{336}a\n"),
     },
     Example {
-        name: "one stands behind a space",
+        name: "a character of no width stands behind a space",
         on: Columns(9),
         steps: &[Normal("b \u{336} a")],
         expected: Lines("b \u{336}a\n"),

@@ -98,7 +98,7 @@ const STATES: &[State] = &[
         ..NEW
     },
     State {
-        name: "without prefixes they do",
+        name: "lines of a renderer inside leave it empty, if they have no prefixes",
         calls: &[Append(Block(5, &[Inner::Text("a")]), "")],
         ..NEW
     },

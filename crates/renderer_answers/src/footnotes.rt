@@ -140,7 +140,7 @@ const EXAMPLES: &[Example<'static>] = &[
         ..TARGET
     },
     Example {
-        name: "they come behind the markers that wait",
+        name: "footnotes come behind the markers that wait",
         calls: &[Marker("x"), Line],
         footnotes: &[&[Plain("a")], &[Plain("b")]],
         shown: Shown::Markers,

@@ -58,7 +58,7 @@ const EXAMPLES: &[Example] = &[
         expected: &[Lines("a\n\nb\n")],
     },
     Example {
-        name: "lines leave none",
+        name: "ends of lines leave no empty line",
         told: Told::Nothing,
         width: 5,
         calls: &[Text("a"), Line, Line, Text("b")],

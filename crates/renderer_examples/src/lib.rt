@@ -22,6 +22,8 @@ mod padding;
 #[cfg(test)]
 mod preserved;
 #[cfg(test)]
+mod rows;
+#[cfg(test)]
 mod strikeouts;
 #[cfg(test)]
 mod sub_blocks;

@@ -100,7 +100,7 @@ const EXAMPLES: &[Example] = &[
         expected: &[LinesUnder(Under::Plain, "a b\n")],
     },
     Example {
-        name: "then a strikeout that nothing began may end",
+        name: "without strokes a strikeout that nothing began may end",
         told: Told::NoStrokes,
         width: 9,
         calls: &[Closes(Closing::Strikeout), Text("a")],

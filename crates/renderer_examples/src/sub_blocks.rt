@@ -178,7 +178,7 @@ const EXAMPLES: &[Example] = &[
         ..LINES
     },
     Example {
-        name: "also where no prefix asks for its line",
+        name: "a block that no prefix asks for passes on that it is too narrow",
         calls: &[Append(NARROW, "")],
         expected: &[Refused(Error::TooNarrow)],
         ..LINES
@@ -192,7 +192,7 @@ const EXAMPLES: &[Example] = &[
         ..LINES
     },
     Example {
-        name: "also where it wants more memory than there is",
+        name: "the open line comes before the block, also where it wants more memory than there is",
         told: Told::Padding,
         width: usize::MAX,
         calls: &[

@@ -44,7 +44,7 @@ const EXAMPLES: &[Example] = &[
         ..ROW
     },
     Example {
-        name: "and nothing without cells",
+        name: "without drawn borders a row without cells is nothing",
         told: Told::NoBorders,
         expected: &[Lines("")],
         ..WITHOUT_CELLS
@@ -84,13 +84,13 @@ const EXAMPLES: &[Example] = &[
         ..ROW
     },
     Example {
-        name: "also where a cell's border is that line",
+        name: "a marker that waits goes before a cell's border",
         calls: &[Marker("x"), VertRow(&[Block(2, &[Inner::Border])])],
         expected: &[Markers("<x>──\n────\n")],
         ..ROW
     },
     Example {
-        name: "it waits across a row without cells",
+        name: "a marker waits across a row without cells",
         calls: &[Marker("x"), VertRow(&[]), Text("a")],
         expected: &[Markers("────\n<x>a\n")],
         ..ROW
@@ -125,14 +125,14 @@ const EXAMPLES: &[Example] = &[
         ..ROW
     },
     Example {
-        name: "the first refusal counts",
+        name: "of two cells that refuse the first counts, here a narrow one",
         told: Told::Padding,
         calls: &[VertRow(&[A, NARROW, HUGE])],
         expected: &[Refused(Error::TooNarrow)],
         ..ROW
     },
     Example {
-        name: "also where that is want of memory",
+        name: "of two cells that refuse the first counts, here one without memory",
         told: Told::Padding,
         calls: &[VertRow(&[A, HUGE, NARROW])],
         expected: &[Refused(Error::OutOfMemory)],

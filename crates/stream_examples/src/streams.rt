@@ -111,7 +111,7 @@ fn writers_fail(rt: &impl Abort, alloc: Global) -> Result<(), Fail> {
 
 /// Nothing is written, wherever the reader fails.
 fn readers_fail(rt: &impl Abort, alloc: Global) -> Result<(), Fail> {
-    for length in 0..SCRIPT.len() {
+    for length in 0..SCRIPT.len() + 1 {
         let reader = Cut {
             bytes: &SCRIPT[..length],
             bytes_a_call: 3,

@@ -1,6 +1,6 @@
 use Rattle.std.proofs.Common.{◌<◌, arith}
 use Rattle.tbr_model.proofs.lists.Each.{each_append}
-use Rattle.example_calls.proofs.inside.append_columns.Goals as goal
+use Rattle.example_calls.proofs.inside.columns.Goals as goal
 
 pub loop-cell-preserved : goal.loop-cell-preserved
 loop-cell-preserved g c =
