@@ -28,7 +28,7 @@ use tbr_tagged::{Error, OutOfMemory, TaggedLine, TaggedLineElement, UnicodeColum
 /// A call that refuses leaves the block failed. It keeps that refusal, which each later call that can refuse answers,
 /// doing nothing else. A contract sees what [`State`] lists.
 ///
-/// Text that was handed out gives its memory back as more is; its tags stay in memory until the block is dropped.
+/// Text that was handed out gives its memory back as more is, and its tags go with it.
 #[derive(Drop)]
 pub struct WrappedBlock<T: Eq + Clone, W: CharWidth = UnicodeColumns> {
     alloc: Global,
