@@ -29,6 +29,7 @@ impl<'a, T> Model for Fitting<'a, T> {
 }
 
 impl<'a, T> Fitting<'a, T> {
+    /// Begins to ask of these cells.
     pub(crate) fn of(mut cells: linked_list::Iter<'a, LineSet<T>>) -> Fitting<'a, T>
         requires { AreApart 0 cells }
         ensures { (own : List (ℕ × Bool)) → fits_with result own ≡ row_fits cells.entry (spots_from 0 own) }

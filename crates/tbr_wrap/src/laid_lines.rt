@@ -41,6 +41,7 @@ impl<T> LaidLines<T> {
     ghost use Rattle.tbr_model.specs.Laid.{nothing_laid};
     ghost use Rattle.tbr_wrap.specs.LaidLines.{HoldsRule};
 
+    /// No lines, and no word. It takes no memory.
     pub fn new(alloc: Global, width: usize, may_overflow: bool) -> LaidLines<T>
         requires { 0 < width }
         ensures holds { (columns : ℕ → Option ℕ) (eq : T → T → Bool) → HoldsRule columns eq result [] [] nothing_laid }

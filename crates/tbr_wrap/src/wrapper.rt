@@ -18,7 +18,7 @@ ghost use Rattle.tbr_model.specs.Run.{Item, character, marker_entry, items_width
 ghost use Rattle.tbr_model.specs.Laid.{extended, put_items};
 ghost use Rattle.tbr_model.specs.Rule as model;
 ghost use Rattle.tbr_model.specs.Rule.{Progress, space_text, pending_width, put_pending, lay_here, lay_fresh, wrap_space_by, wrap_space, lay, flush_word, break_word, join};
-ghost use Rattle.tbr_model.specs.Rule.{call, step, enter, enter_normal, collapse, newline, tab, put_tab, keep_space, keep_character, passes, preserve};
+ghost use Rattle.tbr_model.specs.Rule.{call, step, enter, enter_normal, collapse, newline, tab, keep_space, keep_character, passes, preserve};
 ghost use Rattle.tbr_model.specs.declared.white_space.WhiteSpace.TheVariants.{Normal, Pre, PreWrap};
 ghost use Rattle.tbr_model.specs.Greedy.{IsNarrow};
 ghost use Rattle.tbr_model.specs.Markers.{names_in_items};
@@ -67,6 +67,7 @@ impl<T> Wrapper<T> {
     ghost use Rattle.tbr_model.specs.Rule.{at_start};
     ghost use Rattle.tbr_wrap.specs.Wrapper.{IsAtProgress, held_width};
 
+    /// Nothing laid and nothing pending. It takes no memory.
     pub fn new(alloc: Global, width: usize, may_overflow: bool) -> Wrapper<T>
         requires { 0 < width }
         ensures stands { (columns : ℕ → Option ℕ) (eq : T → T → Bool) → IsAtProgress columns eq result [] [] at_start }

@@ -2,7 +2,6 @@ use Rattle.std.proofs.Common.{◌≡◌, ◌++◌, ◌∷◌, [], take, drop, ap
 use lib.Utf8.{encode}
 use Rattle.std.specs.Str.{chars}
 use Rattle.std.specs.String.{string_bytes}
-use Rattle.tbr_wrap.specs.Flat.{Letters}
 use Rattle.tbr_wrap.proofs.storage.TextBytes.{inserted, word_boundary}
 use Rattle.tbr_wrap.proofs.flat.split_text.SplitText.push_space.Goals as goal
 

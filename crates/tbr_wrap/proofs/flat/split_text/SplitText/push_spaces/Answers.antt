@@ -1,7 +1,7 @@
 use Rattle.std.proofs.Common.{◌≡◌, ◌+◌, ◌++◌, take, drop, length, ap, ◌∙◌, append_assoc, arith}
 use Rattle.std.specs.String.{string_bytes}
 use Rattle.std.proofs.lemmas.Str.{IsUtf8-string_bytes}
-use Rattle.tbr_wrap.proofs.storage.TextBytes.{IsSplit, inserted, word_boundary}
+use Rattle.tbr_wrap.proofs.storage.TextBytes.{inserted, word_boundary}
 use Rattle.tbr_wrap.proofs.flat.split_text.SplitText.push_spaces.Goals as goal
 
 pub insert_str-requires : goal.insert_str-requires
