@@ -75,10 +75,7 @@ const EXAMPLES: &[Example] = &[
     },
     Example {
         name: "a cell of two rows shows a line in the border between them",
-        calls: &[
-            Row(&[OF_TWO_ROWS, A], false),
-            Row(&[EMPTY, B], false),
-        ],
+        calls: &[Row(&[OF_TWO_ROWS, A], false), Row(&[EMPTY, B], false)],
         expected: &[
             Lines("x│a\ny├─\nz│b\n─┴─\n"),
             LinesUnder(Under::OneColumnEach, "x│a\ny├─\nz│b\n─┴─\n"),
@@ -100,10 +97,7 @@ const EXAMPLES: &[Example] = &[
                 false,
             ),
         ],
-        expected: &[Pieces(
-            Under::Rich,
-            "a:[Emphasis, Strong] │b:[Emphasis] \n─┴─\n",
-        )],
+        expected: &[Pieces(Under::Rich, "a:[Emphasis, Strong] │b:[Emphasis] \n─┴─\n")],
         ..ROW
     },
     Example {
@@ -115,7 +109,10 @@ const EXAMPLES: &[Example] = &[
     Example {
         name: "a marker of a cell stands before the cell's text",
         calls: &[Row(
-            &[A, Cell(1, Block(1, &[Inner::Marker("y"), Inner::Text("b")]))],
+            &[
+                A,
+                Cell(1, Block(1, &[Inner::Marker("y"), Inner::Text("b")])),
+            ],
             false,
         )],
         expected: &[Markers("a│<y>b\n─┴─\n")],

@@ -1,7 +1,6 @@
 -- Elements of lines under what their tags mean.
 use Rattle.std.specs.Prelude.{List, map}
 use Rattle.tbr_lines.specs.Elements.{Element}
-
 -- an element with its tag as what that means
 pub use Rattle.tbr_lines.specs.Mapped.{map_element as meant}
 

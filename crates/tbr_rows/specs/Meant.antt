@@ -18,11 +18,9 @@ use Rattle.tbr_rows.specs.Cells.{first_line, row_width, with_hanging}
 use Rattle.tbr_rows.specs.Texts.{row_height, line_texts}
 use Rattle.tbr_rows.specs.Gaps.{has_gap, with_elements, overhang}
 use Rattle.tbr_rows.specs.Rows.{border_above, cells_under, next_under, next_merged, columns_shown, cells_left, separator_in, drawn_in}
-
--- ---- elements, borders, lines and cells under other tags
-
--- the same, with each tag as what a function makes of it
 pub use Rattle.tbr_tagged.specs.Mapped.{map_element}
+
+-- ---- borders, lines and cells under other tags, each as what a function makes of it
 
 abbrev pub map_hole : {A B : Type 0} → (A → B) → Hole A → Hole B
 map_hole f h = record { place = h.place; width = h.width; element = map_element f h.element }
