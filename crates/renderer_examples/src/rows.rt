@@ -26,11 +26,11 @@ const NARROW: Cell<'static> = Cell(1, Block(1, &[Inner::Text("漢")]));
 const HUGE: Cell<'static> = Cell(1, Block(usize::MAX, &[Inner::Text("a")]));
 
 const ROW: Example = Example {
-    name: "a vertical line stands between cells, and a border below them",
+    name: "a vertical line stands between cells, and a border below, which is plain where none stands above",
     told: Told::Nothing,
     width: 9,
     calls: &[Row(&[A, B], false)],
-    expected: &[Lines("a│b\n─┴─\n")],
+    expected: &[Lines("a│b\n───\n")],
 };
 
 const EXAMPLES: &[Example] = &[
@@ -45,9 +45,9 @@ const EXAMPLES: &[Example] = &[
         name: "a cell is filled by the widths of its characters",
         calls: &[Row(&[WIDE, B], false)],
         expected: &[
-            Lines("漢│b\n──┴─\n"),
-            LinesUnder(Under::OneColumnEach, "漢 │b\n──┴─\n"),
-            LinesUnder(Under::OddOneColumnEach, "漢 │b\n──┴─\n"),
+            Lines("漢│b\n────\n"),
+            LinesUnder(Under::OneColumnEach, "漢 │b\n────\n"),
+            LinesUnder(Under::OddOneColumnEach, "漢 │b\n────\n"),
         ],
         ..ROW
     },
@@ -62,30 +62,34 @@ const EXAMPLES: &[Example] = &[
             &[CellAlign::Left, CellAlign::Centre, CellAlign::Right],
         )],
         expected: &[
-            Lines("l  │ c │  r\n───┴───┴───\n"),
-            LinesUnder(Under::OneColumnEach, "l  │ c │  r\n───┴───┴───\n"),
+            Lines("l  │ c │  r\n───────────\n"),
+            LinesUnder(Under::OneColumnEach, "l  │ c │  r\n───────────\n"),
         ],
         ..ROW
     },
     Example {
-        name: "the border above a row joins its vertical lines",
+        name: "the borders above and below a row join its vertical lines",
         calls: &[BorderWidth(3), Row(&[A, B], false)],
         expected: &[Lines("─┬─\na│b\n─┴─\n")],
         ..ROW
     },
     Example {
         name: "a cell of two rows shows a line in the border between them",
-        calls: &[Row(&[OF_TWO_ROWS, A], false), Row(&[EMPTY, B], false)],
+        calls: &[
+            BorderWidth(3),
+            Row(&[OF_TWO_ROWS, A], false),
+            Row(&[EMPTY, B], false),
+        ],
         expected: &[
-            Lines("x│a\ny├─\nz│b\n─┴─\n"),
-            LinesUnder(Under::OneColumnEach, "x│a\ny├─\nz│b\n─┴─\n"),
+            Lines("─┬─\nx│a\ny├─\nz│b\n─┴─\n"),
+            LinesUnder(Under::OneColumnEach, "─┬─\nx│a\ny├─\nz│b\n─┴─\n"),
         ],
         ..ROW
     },
     Example {
         name: "the open line is ended before a row",
         calls: &[Text("x"), Row(&[A, B], false)],
-        expected: &[Lines("x\na│b\n─┴─\n")],
+        expected: &[Lines("x\na│b\n───\n")],
         ..ROW
     },
     Example {
@@ -97,13 +101,13 @@ const EXAMPLES: &[Example] = &[
                 false,
             ),
         ],
-        expected: &[Pieces(Under::Rich, "a:[Emphasis, Strong] │b:[Emphasis] \n─┴─\n")],
+        expected: &[Pieces(Under::Rich, "a:[Emphasis, Strong] │b:[Emphasis] \n───\n")],
         ..ROW
     },
     Example {
         name: "a marker that waits goes to the first line of a row",
         calls: &[Marker("x"), Row(&[A, B], false)],
-        expected: &[Markers("<x>a│b\n─┴─\n")],
+        expected: &[Markers("<x>a│b\n───\n")],
         ..ROW
     },
     Example {
@@ -115,14 +119,14 @@ const EXAMPLES: &[Example] = &[
             ],
             false,
         )],
-        expected: &[Markers("a│<y>b\n─┴─\n")],
+        expected: &[Markers("a│<y>b\n───\n")],
         ..ROW
     },
     Example {
         name: "a row and its border are padded to the renderer's width",
         told: Told::Padding,
         width: 6,
-        expected: &[Lines("a│b   \n─┴─   \n")],
+        expected: &[Lines("a│b   \n───   \n")],
         ..ROW
     },
     Example {
@@ -130,7 +134,7 @@ const EXAMPLES: &[Example] = &[
         calls: &[Row(&[A, NARROW], false)],
         expected: &[
             Refused(Error::TooNarrow),
-            LinesUnder(Under::OneColumnEach, "a│漢\n─┴─\n"),
+            LinesUnder(Under::OneColumnEach, "a│漢\n───\n"),
         ],
         ..ROW
     },
