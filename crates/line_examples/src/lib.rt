@@ -11,6 +11,8 @@ mod compared;
 #[cfg(test)]
 mod edits;
 #[cfg(test)]
+mod ended;
+#[cfg(test)]
 mod expected;
 #[cfg(test)]
 mod joins;

@@ -10,5 +10,6 @@ pub use Rattle.tbr_tagged.specs.Sums
 pub use Rattle.tbr_tagged.specs.UnicodeColumns
 pub use Rattle.tbr_tagged.specs.View
 pub use Rattle.tbr_tagged.specs.Walks
+pub use Rattle.tbr_wrap.specs.EndedLines
 pub use Rattle.tbr_wrap.specs.State
 pub use Rattle.tbr_wrap.specs.Wrapped

@@ -8,6 +8,6 @@ pub use tbr_tagged::{
     TaggedString, TaggedStrings, TooNarrow, UnicodeColumns, always_takes_space, is_wordbreak_point,
     spaces, text_width,
 };
-pub use tbr_wrap::WrappedBlock;
+pub use tbr_wrap::{EndedLines, WrappedBlock};
 
 pub mod laws;

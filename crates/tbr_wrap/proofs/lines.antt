@@ -1,3 +1,4 @@
+pub mod CutLines
 pub mod HeldLines
 pub mod LaidByRule
 pub mod LineWidths

@@ -7,3 +7,4 @@ pub mod Wrapper
 pub mod State
 pub mod Course
 pub mod Held
+pub mod EndedLines

@@ -11,6 +11,7 @@ ghost use Rattle.tbr_wrap.specs.Wrapped.{WordsFit, EndedWordsFit, ShowsText, pad
 ghost use Rattle.tbr_wrap.specs.State.{IsNormal, CharactersFit, VisibleFit, is_some_list};
 ghost use Rattle.tbr_tagged.specs.declared.error.Error.TheVariants as E;
 
+use crate::ended_lines::EndedLines;
 use crate::run_change::{RunChange, RunHistory, note_text, with_marker};
 use crate::wrapper::Wrapper;
 use std::alloc::Global;
@@ -102,6 +103,13 @@ impl<T: Eq + Clone, W: CharWidth> WrappedBlock<T, W> {
         ensures { result ≡ self.now.failure }
     {
         self.failure
+    }
+
+    /// Whether lines are padded.
+    pub fn pads(&self) -> bool
+        ensures { result ≡ is_some self.now.padding }
+    {
+        self.pads
     }
 
     /// Whether open line and word take no columns. In a `Normal` run, where no line may be wider than the block, that is
@@ -444,6 +452,29 @@ impl<T: Eq + Clone, W: CharWidth> WrappedBlock<T, W> {
     {
         self.flush()?;
         self.hand_out()
+    }
+
+    /// How many lines have ended and aren't handed out yet. It asks that the block hasn't failed.
+    pub fn lines_left(&self) -> usize
+        requires { self.now.failure ≡ None }
+        ensures { result ≡ length (lines_left self.now) }
+    {
+        self.wrapper.lines.ended.len()
+    }
+
+    /// Hands out all ended lines that aren't handed out yet, in the block's one text and without padding. It takes no
+    /// memory.
+    ///
+    /// It asks that the block hasn't failed, and that open line and word hold no character, as after a
+    /// [`flush`](WrappedBlock::flush).
+    pub fn into_ended(self) -> EndedLines<T>
+    where
+        T: Drop,
+        requires unfailed { self.failure ≡ None }
+        requires ended { self.no_character ≡ true }
+        ensures { AllZip (SameItems T.eq) result (lines_left self) }
+    {
+        EndedLines::new(self.wrapper.lines.flat, self.wrapper.lines.ended)
     }
 
     /// Hands out all ended lines that aren't handed out yet.

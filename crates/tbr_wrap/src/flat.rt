@@ -5,10 +5,12 @@ ghost use Rattle.tbr_model.specs.Run.{Item, glyph, marker, item_width, items_wid
 ghost use Rattle.tbr_model.specs.Rule.{spaces, without_leading, without_trailing};
 ghost use Rattle.tbr_model.specs.Markers.{names_in_items};
 ghost use Rattle.tbr_tagged.specs.Elements.{SameItems, IsMerged, items_of, marker_element, text_items};
-ghost use Rattle.tbr_tagged.specs.View.{element_of};
+ghost use Rattle.tbr_tagged.specs.View.{chars_of, element_of};
+ghost use Rattle.tbr_tagged.specs.Walks.{item_characters};
 
 use crate::flat::characters::Characters;
 use crate::flat::markers::Markers;
+pub use crate::flat::placed_items::PlacedItems;
 use std::alloc::Global;
 use std::marker::Model;
 use tbr_model::CharWidth;
@@ -16,6 +18,7 @@ use tbr_tagged::{OutOfMemory, TaggedLine, TaggedLineElement};
 
 mod characters;
 mod markers;
+mod placed_items;
 mod split_text;
 mod tags;
 
@@ -76,6 +79,20 @@ impl<T> FlatText<T> {
         let _ = &self.word;
         self.text.holds_characters();
         !self.text.is_word_empty()
+    }
+
+    /// Whether a placed item is a character.
+    pub fn has_placed(&self) -> bool
+        ensures { result ≡ has_character self.now.placed }
+    {
+        let _ = &self.placed;
+        self.text.holds_characters();
+        !self.text.is_placed_empty()
+    }
+
+    /// Begins a walk over the placed items.
+    pub fn items(&self) -> PlacedItems<'_> {
+        PlacedItems::new(self.text.chars(), self.placed.iter())
     }
 
     /// How many items the word has.
@@ -231,6 +248,53 @@ impl<T: Drop> FlatText<T> {
         self.placed.remove_last(spaces);
         self.word.remove_first(blanks);
         Ok(spaces)
+    }
+
+    /// Forgets all items.
+    pub fn clear(&mut self)
+        ensures { self.new ≡ record { placed = []; word = [] } }
+    {
+        clear(&mut self.text, &mut self.placed, &mut self.word);
+    }
+
+    /// Moves the text of the first `items` placed items to the end of another, and drops their tags and markers. It
+    /// takes the time of the line's length.
+    pub fn move_text(&mut self, items: usize, text: &mut String) -> Result<(), OutOfMemory>
+        requires { items ≤ length self.old.placed }
+        ensures text { OnOk result
+            (chars_of text.new ≡ chars_of text.old ++ item_characters (take items self.old.placed)) }
+        ensures rest { OnOk result (self.new ≡ record self.old { placed = drop items self.old.placed }) }
+    {
+        let mut left = items;
+        while left > 0 {
+            left -= self.move_piece(text, left)?;
+        }
+        Ok(())
+    }
+
+    /// Moves the text of the first placed items to another, of a marker, which has none, or of at most `most`
+    /// characters, all under one tag. It answers how many they are.
+    fn move_piece(&mut self, text: &mut String, most: usize) -> Result<usize, OutOfMemory>
+        requires some { 0 < most }
+        requires placed { most ≤ length self.old.placed }
+        ensures some { IfOk result (λ n. (0 < n) × (n ≤ most)) }
+        ensures text { IfOk result (λ n.
+            chars_of text.new ≡ chars_of text.old ++ item_characters (take n self.old.placed)) }
+        ensures rest { IfOk result (λ n. self.new ≡ record self.old { placed = drop n self.old.placed }) }
+    {
+        if let Some(_name) = self.placed.pop_first() {
+            return Ok(1);
+        }
+        match self.text.move_text(most.min(self.placed.before()), text) {
+            Ok(count) => {
+                self.placed.remove_first(count);
+                Ok(count)
+            }
+            Err(e) => {
+                clear(&mut self.text, &mut self.placed, &mut self.word);
+                Err(e)
+            }
+        }
     }
 }
 

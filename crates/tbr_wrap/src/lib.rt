@@ -2,8 +2,10 @@
 #![tactic(auto)]
 
 pub use block::WrappedBlock;
+pub use ended_lines::EndedLines;
 
 mod block;
+mod ended_lines;
 mod flat;
 mod laid_lines;
 pub mod laws;

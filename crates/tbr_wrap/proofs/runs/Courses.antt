@@ -34,6 +34,7 @@ use Rattle.tbr_tagged.proofs.SameItems.{all_zip_append, same_has}
 use Rattle.tbr_wrap.specs.Wrapped.{FitsBlock}
 use Rattle.tbr_wrap.specs.State.{State, JoinsRun, JoinsAsMarker, EndsRun, ShowsFitting, AreLastOf, IsShownBy, is_some_list, text_entries, lines_left, loose_taken, line_taken, run_flushed}
 use Rattle.tbr_wrap.specs.Course.{Course, at_first, stepped, word_taken, run_ended, line_handed, after, text_changes, course, loose_names, state_of, viewed}
+use Rattle.tbr_wrap.specs.EndedLines.{AreLines}
 use Rattle.tbr_wrap.specs.Held.{HoldsCourse}
 use Rattle.tbr_wrap.specs.LaidLines.{HoldsLaid, LaidLikeRule, LeavesAfterLine, KeepsLimits}
 use Rattle.tbr_wrap.specs.Wrapper.{IsAtProgress, RunIsFinished}
@@ -593,6 +594,15 @@ module _ {A : Type 0} (columns : ℕ → Option ℕ) where
 
       pub word_held : has_character b.lines.flat.word ≡ has_character c.progress.word
       word_held = same_has eq b.lines.flat.word c.progress.word h.stands.word
+
+      -- where nothing open has a character the fields hold ended lines
+      pub ended_held : not (has_character c.progress.laid.line) && not (has_character c.progress.word) ≡ true → AreLines b.lines.ended.items b.lines.flat.placed (h.before ++ laid.done)
+      ended_held none = record {
+        behind = laid.line;
+        placed_is = h.stands.lays.holds.placed;
+        lens_is = h.stands.lays.holds.lens;
+        blank = line_held ∙ not_true _ (and_parts _ _ none).0;
+      }
 
       -- where something takes columns there is a character
       pub character_held : (c.progress.laid.width == 0) && (items_width columns c.progress.word == 0) ≡ false → not (has_character c.progress.laid.line) && not (has_character c.progress.word) ≡ false

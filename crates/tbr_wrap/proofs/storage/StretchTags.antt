@@ -26,7 +26,7 @@ module _ {A : Type 0} where
       ∙ tags_of-append (drop k (take i xs)) (y ∷ drop (suc i) xs)
 
   -- a stretch that is left, and those behind it
-  stretch_at : (xs : List (Stretch A)) (i : ℕ) (s : Stretch A) → i < length xs → s ≡ get_or xs i s → drop i xs ≡ s ∷ drop (suc i) xs
+  pub stretch_at : (xs : List (Stretch A)) (i : ℕ) (s : Stretch A) → i < length xs → s ≡ get_or xs i s → drop i xs ≡ s ∷ drop (suc i) xs
   stretch_at xs i s h is = drop-cons xs i s h ∙ ap (λ z. z ∷ drop (suc i) xs) (sym is)
 
   pub stretch_tags : (xs : List (Stretch A)) (i : ℕ) (s : Stretch A) → i < length xs → s ≡ get_or xs i s → tags_of (drop i xs) ≡ replicate (s.more + 1) s.tag ++ tags_of (drop (suc i) xs)

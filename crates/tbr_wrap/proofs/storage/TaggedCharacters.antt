@@ -1,11 +1,13 @@
 -- Characters beside their tags.
-use Rattle.std.proofs.Common.{◌≡◌, ℕ, suc, zero, ◌+◌, ◌-◌, ◌<◌, ◌≤◌, Bool, true, Option, None, Some, List, [], ◌∷◌, ◌++◌, length, take, drop, replicate, refl, ap, sym, ◌∙◌, subst, arith, append_assoc}
+use Rattle.std.proofs.Common.{◌≡◌, ◌↔◌, IsTrue, ℕ, suc, zero, ◌+◌, ◌-◌, ◌<◌, ◌≤◌, Bool, true, Option, None, Some, List, [], ◌∷◌, ◌++◌, length, take, drop, replicate, refl, ap, sym, ◌∙◌, subst, arith, append_assoc}
 use Rattle.std.specs.Option.{MatchOption}
 use Rattle.std.specs.List.{AllZip}
 use Rattle.std.proofs.lemmas.List.{take-append-drop, length-append, length-take, length-take-le, length-drop, length-replicate, drop-append-le, drop-drop}
 use Rattle.tbr_model.specs.Run.{Item, glyph}
 use Rattle.tbr_model.specs.Rule.{spaces}
 use Rattle.tbr_tagged.specs.Elements.{SameItems, text_items}
+use Rattle.tbr_tagged.specs.Walks.{item_character, item_characters}
+use Rattle.std.proofs.lemmas.List.Concat.{flat_map-append}
 use Rattle.tbr_wrap.specs.Flat.{Flat, Letters, flat, glyphs}
 use Rattle.tbr_tagged.proofs.SameItems.{same_items, same_items_trans, same_items_append}
 use Rattle.std.specs.Cmp.{IsEquivalence}
@@ -199,3 +201,33 @@ module _ {A : Type 0} (eq : A → A → Bool) where
       let all : AllZip (λ x y. eq x y ≡ true) behind (drop (length l.placed) ts) = subst (λ (i : ℕ). AllZip (λ x y. eq x y ≡ true) behind (drop i ts)) first same in
       subst (λ (is : List (Item A)). SameItems eq is f.word) (sym new)
       (subst (λ (x : Flat A). SameItems eq spaced.word x.word) v (space_word eq l ts behind n a h all))
+
+-- ---- the characters that are placed
+
+pub no_len : {X : Type 0} (xs : List X) → length xs ≡ 0 → xs ≡ []
+no_len [] h = refl
+no_len (x ∷ xs) h = absurd (omega (arith, h))
+
+module _ {A : Type 0} where
+  pub placed_none : (b : Bool) (l : Letters) (ts : List A) (f : Flat A) → length ts ≡ length l.placed + length l.word → flat l ts ≡ f → IsTrue b ↔ (l.placed ≡ []) → IsTrue b ↔ (f.placed ≡ [])
+  placed_none b l ts f h e k =
+      let len = placed_len l ts f h e in
+      (λ t. no_len f.placed (len ∙ ap length (k.0 t)), λ none. k.1 (no_len l.placed (sym len ∙ ap length none)))
+
+  -- without their tags
+  glyphs_characters : (cs : List ℕ) (ts : List A) → length cs ≤ length ts → item_characters (glyphs cs ts) ≡ cs
+  glyphs_characters [] ts h = refl
+  glyphs_characters (c ∷ cs) [] h = absurd (omega arith)
+  glyphs_characters (c ∷ cs) (t ∷ ts) h = ap (λ ds. c ∷ ds) (glyphs_characters cs ts (omega arith))
+
+  pub taken_characters : (l : Letters) (ts : List A) (n : ℕ) (f : Flat A) → length ts ≡ length l.placed + length l.word → flat l ts ≡ f → take n l.placed ≡ item_characters (take n f.placed)
+  taken_characters l ts n f h e =
+      sym (glyphs_characters (take n l.placed) ts (omega (arith, h, length-take n l.placed))) ∙ ap item_characters (glyphs-take n l.placed ts)
+      ∙ ap (λ (x : Flat A). item_characters (take n x.placed)) e
+
+  -- more characters of the first items
+  pub text_turn : (old now next : List ℕ) (ps qs : List (Item A)) (m n k : ℕ) → k ≡ m + n → qs ≡ drop m ps → now ≡ old ++ item_characters (take m ps) → next ≡ now ++ item_characters (take n qs) →
+      next ≡ old ++ item_characters (take k ps)
+  text_turn old now next ps qs m n k e q h j =
+      j ∙ ap (λ cs. cs ++ item_characters (take n qs)) h ∙ append_assoc old (item_characters (take m ps)) (item_characters (take n qs))
+      ∙ ap (λ cs. old ++ cs) (sym (flat_map-append item_character (take m ps) (take n qs)) ∙ ap (λ is. item_characters (take m ps ++ take n is)) q ∙ ap item_characters (sym (take-add m n ps)) ∙ ap (λ i. item_characters (take i ps)) (sym e))

@@ -1,16 +1,16 @@
 -- Characters in one text, and their tags.
-use Rattle.std.proofs.Common.{◌≡◌, ℕ, suc, zero, ◌+◌, ◌-◌, ◌<◌, ◌≤◌, true, List, [], ◌∷◌, ◌++◌, Option, length, take, drop, encode_utf8, refl, ap, sym, ◌∙◌, subst, arith, append_assoc, append-nil, None, Some, add-one, take-append-drop, length-append, length-take, length-take-le, length-drop}
+use Rattle.std.proofs.Common.{◌≡◌, ◌↔◌, ◌==◌, Bool, IsTrue, ℕ, suc, zero, ◌+◌, ◌-◌, ◌<◌, ◌≤◌, true, List, [], ◌∷◌, ◌++◌, Option, length, take, drop, encode_utf8, refl, ap, sym, ◌∙◌, subst, arith, append_assoc, append-nil, None, Some, add-one, take-append-drop, length-append, length-take, length-take-le, length-drop}
 use Rattle.std.specs.List.{slice_range, slice_get}
 use Rattle.std.specs.Option.{MatchOption}
 use Rattle.std.specs.Str.{IsAscii, IsUtf8, is_utf8, chars, IsCharBoundary}
 use Rattle.std.specs.Char.{IsScalar}
 use Rattle.std.proofs.Math.Seq.{drop-append_seam, take-append_seam}
-use Rattle.std.proofs.lemmas.Bool.{and_parts}
+use Rattle.std.proofs.lemmas.Bool.{and_parts, true≢false, ne_eqb}
 use Rattle.std.proofs.lemmas.List.Folds.{drop_split}
 use Rattle.std.proofs.lemmas.Str.{IsUtf8-append, IsUtf8-nil, IsCharBoundary-from_drop, length-le-encodes, encodes-chars, scalars-chars, chars-encodes, encodes-append, IsCharBoundary-at_seam, IsUtf8-encode, IsUtf8-past_char, is_utf8-from_IsUtf8, IsUtf8-from_is_utf8, chars-append, chars-nil, chars_past_char, IsUtf8-from_ascii, chars-IsAscii, encodes-IsAscii}
 use lib.Utf8.{encodes, scalar, scalars}
 use Rattle.tbr_wrap.specs.Flat.{Letters, letters, AreParts}
-use Rattle.tbr_tagged.proofs.TextBehind.{chars_push, chars_none}
+use Rattle.tbr_tagged.proofs.TextBehind.{chars_some, chars_push, chars_none}
 
 -- ---- a text in three parts
 
@@ -59,6 +59,11 @@ split bytes i j w gone placed word l h p q n e f =
 
 pub split_new : (bytes : List ℕ) → bytes ≡ [] → IsSplit bytes 0 0 0 (record { placed = []; word = [] })
 split_new bytes e = split bytes 0 0 0 [] [] [] (record { placed = []; word = [] }) (record { whole = e; start = refl; end = refl }) IsUtf8-nil IsUtf8-nil refl chars-nil chars-nil
+
+-- a text is empty where it has no character
+pub empty_text : (bs cs : List ℕ) (b : Bool) → IsUtf8 bs → chars bs ≡ cs → b ≡ (length bs == 0) → IsTrue b ↔ (cs ≡ [])
+empty_text [] cs b u e h = (λ _. sym e ∙ chars-nil, λ _. h)
+empty_text (x ∷ xs) cs b u e h = (λ t. absurd (true≢false (sym t ∙ h ∙ ne_eqb (suc (length xs)) 0 (λ e. absurd (omega (arith, e))))), λ none. absurd (omega (arith, chars_some (x ∷ xs) u (omega arith), ap length (e ∙ none))))
 
 -- the first of a list of characters
 pub first_letter : (cs ds : List ℕ) (o : Option ℕ) → o ≡ slice_get cs 0 → ds ≡ cs → MatchOption o (ds ≡ []) (λ c. (rest : List ℕ) × (ds ≡ c ∷ rest))

@@ -6,11 +6,14 @@ ghost use Rattle.tbr_model.specs.Run.{Item, glyph, items_width};
 ghost use Rattle.tbr_model.specs.Entry.{is_glyph};
 ghost use Rattle.tbr_model.specs.Rule.{spaces, without_leading, without_trailing};
 ghost use Rattle.tbr_tagged.specs.Elements.{SameItems, text_items};
+ghost use Rattle.tbr_tagged.specs.View.{chars_of};
+ghost use Rattle.tbr_tagged.specs.Walks.{item_characters};
 
 use crate::flat::split_text::SplitText;
 use crate::flat::tags::Stretches;
 use std::alloc::Global;
 use std::marker::Model;
+use std::str::Chars;
 use tbr_model::CharWidth;
 use tbr_tagged::{OutOfMemory, TaggedString};
 
@@ -60,6 +63,19 @@ impl<T> Characters<T> {
         ensures { IsTrue result ↔ (self.now.word ≡ []) }
     {
         self.word_len() == 0
+    }
+
+    /// The characters that are placed, without their tags.
+    pub fn chars(&self) -> Chars<'_> {
+        self.text.chars()
+    }
+
+    /// Whether no character is placed.
+    pub fn is_placed_empty(&self) -> bool
+        ensures { IsTrue result ↔ (self.now.placed ≡ []) }
+    {
+        let _ = &self.tags;
+        self.text.is_placed_empty()
     }
 
     /// The word's first character.
@@ -218,6 +234,28 @@ impl<T: Eq + Clone + Drop> Characters<T> {
 }
 
 impl<T: Drop> Characters<T> {
+    /// Moves the text of the first placed characters, at most `most` and all under one tag, to the end of another, and
+    /// answers how many they are.
+    ///
+    /// Where memory is refused the characters may be lost.
+    pub fn move_text(&mut self, most: usize, text: &mut String) -> Result<usize, OutOfMemory>
+        requires some { 0 < most }
+        requires placed { most ≤ length self.old.placed }
+        ensures some { IfOk result (λ n. (0 < n) × (n ≤ most)) }
+        ensures text { IfOk result (λ n.
+            chars_of text.new ≡ chars_of text.old ++ item_characters (take n self.old.placed)) }
+        ensures rest { IfOk result (λ n. self.new ≡ record self.old { placed = drop n self.old.placed }) }
+    {
+        let count = self.tags.remove_front(most);
+        match self.text.move_to(count, text) {
+            Ok(()) => Ok(count),
+            Err(e) => {
+                clear(&mut self.text, &mut self.tags);
+                Err(e)
+            }
+        }
+    }
+
     /// Forgets all characters.
     pub fn clear(&mut self)
         ensures { self.new ≡ record { placed = []; word = [] } }

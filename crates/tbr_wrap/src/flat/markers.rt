@@ -4,6 +4,7 @@ ghost use Rattle.tbr_wrap.specs.Flat.{MarkerPlaces, before_first, shortened, fol
 
 use std::alloc::Global;
 use std::collections::VecDeque;
+use std::collections::vec_deque::Iter;
 use std::marker::Model;
 use tbr_tagged::OutOfMemory;
 
@@ -56,6 +57,11 @@ impl Markers {
         ensures { result ≡ length self.now.markers }
     {
         self.markers.len()
+    }
+
+    /// The markers in order.
+    pub fn iter(&self) -> Iter<'_, Marker> {
+        self.markers.iter()
     }
 
     /// How many characters stand behind the last marker, or in all where there is none.

@@ -1,13 +1,15 @@
 //! Characters in one text, of which the first are placed.
-ghost use Rattle.std.specs.Prelude.{◌≡◌, ◌<◌, ◌≤◌, ◌+◌, ◌-◌, ◌++◌, ◌∷◌, [], ℕ, suc, true, false, List, length, take, drop, replicate, chars, string_bytes, MatchOption, OnOk, OnErr, IfOk};
+ghost use Rattle.std.specs.Prelude.{◌≡◌, ◌<◌, ◌≤◌, ◌+◌, ◌-◌, ◌++◌, ◌∷◌, [], ℕ, suc, true, false, List, length, take, drop, replicate, chars, string_bytes, MatchOption, OnOk, OnErr, IfOk, IsTrue, ◌↔◌};
 ghost use lib.Utf8.{encodes};
 ghost use Rattle.std.specs.Char.{is_whitespace};
 ghost use Rattle.std.specs.List.{AllByRecursion as Each};
 ghost use Rattle.tbr_model.specs.Width.{width_of_text};
+ghost use Rattle.tbr_tagged.specs.View.{chars_of};
 
 use crate::plain::Stretch;
 use std::alloc::Global;
 use std::marker::Model;
+use std::str::Chars;
 use tbr_model::CharWidth;
 use tbr_tagged::{OutOfMemory, spaces, text_width};
 
@@ -61,6 +63,18 @@ impl SplitText {
         ensures { result ≡ length self.now.word }
     {
         self.word
+    }
+
+    /// The characters that are placed.
+    pub fn chars(&self) -> Chars<'_> {
+        self.placed_text().chars()
+    }
+
+    /// Whether no character is placed.
+    pub fn is_placed_empty(&self) -> bool
+        ensures { IsTrue result ↔ (self.now.placed ≡ []) }
+    {
+        self.placed_text().is_empty()
     }
 
     /// The text that is placed.
@@ -222,6 +236,23 @@ impl SplitText {
         self.start += bytes;
         self.give_back();
         Ok(taken)
+    }
+
+    /// Moves the first `count` placed characters to the end of another text. It takes the time of going over them.
+    ///
+    /// Where memory is refused both stay as they were.
+    pub fn move_to(&mut self, count: usize, text: &mut String) -> Result<(), OutOfMemory>
+        requires { count ≤ length self.old.placed }
+        ensures text { OnOk result (chars_of text.new ≡ chars_of text.old ++ take count self.old.placed) }
+        ensures rest { OnOk result (self.new ≡ record self.old { placed = drop count self.old.placed }) }
+        ensures err { OnErr result (self.new ≡ self.old) }
+    {
+        let placed = self.placed_text();
+        let moved = bytes_of(placed, count);
+        text.push_str(&placed[..moved])?;
+        self.start += moved;
+        self.give_back();
+        Ok(())
     }
 
     /// Gives back the memory of what was handed out, where that is the greater part and so pays for moving the rest.

@@ -51,6 +51,22 @@ impl<T: Drop> Stretches<T> {
         self.stretches.clear();
     }
 
+    /// Takes out the first tags, at most `most`, which are one stretch, and answers how many they are.
+    pub fn remove_front(&mut self, most: usize) -> usize
+        requires some { 0 < most }
+        requires within { most ≤ length self.old }
+        ensures count { (0 < result) × (result ≤ most) }
+        ensures rest { self.new ≡ drop result self.old }
+    {
+        let more = self.stretches[0].more;
+        if most <= more {
+            self.stretches[0].more -= most;
+            return most;
+        }
+        self.stretches.pop_front();
+        more + 1
+    }
+
     /// Takes `count` tags out in front of the last `last` ones. It takes the time of going over the stretches of all
     /// these.
     pub fn remove_before(&mut self, last: usize, count: usize)

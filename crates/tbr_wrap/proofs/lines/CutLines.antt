@@ -1,0 +1,71 @@
+-- Lines that are cut out of the items of all of them.
+use Rattle.std.proofs.Common.{◌≡◌, ℕ, ◌≤◌, ◌||◌, List, [], ◌∷◌, ◌++◌, map, length, take, drop, refl, ap, sym, ◌∙◌, subst, arith, append_assoc}
+use Rattle.std.specs.List.{AllZip, list_any}
+use Rattle.std.proofs.Math.Bool.{or-false}
+use Rattle.std.proofs.lemmas.List.{take_at, drop_at, length-take}
+use Rattle.tbr_model.specs.Run.{Item, has_character}
+use Rattle.tbr_model.specs.Layout.{joined}
+use Rattle.tbr_model.proofs.words.Items.{has_character-append}
+use Rattle.tbr_wrap.specs.EndedLines.{cut, AreLines}
+
+pub same_lines : {X Y : Type 0} (R : X → Y → Type 0) (xs zs : List X) (ys : List Y) → xs ≡ zs → AllZip R zs ys → AllZip R xs ys
+same_lines R xs zs ys e h = rw e h
+
+module _ {X : Type 0} where
+  -- none is left where there is no length
+  pub none_cut : (lens : List ℕ) (is l : List X) (now rest : List (List X)) → length lens ≡ 0 → cut lens is ≡ now → now ≡ l ∷ rest → ⊥
+  none_cut [] is l now rest h e d = let none : [] ≡ l ∷ rest = e ∙ d in absurd (cc)
+  none_cut (n ∷ ns) is l now rest h e d = absurd (omega (arith, h))
+
+  pub first_cut : (n : ℕ) (ns lens : List ℕ) (is l : List X) (now rest : List (List X)) → lens ≡ n ∷ ns → cut lens is ≡ now → now ≡ l ∷ rest → (take n is ≡ l) × (cut ns (drop n is) ≡ rest)
+  first_cut n ns lens is l now rest h e d =
+      let both : take n is ∷ cut ns (drop n is) ≡ l ∷ rest = ap (λ ms. cut ms is) (sym h) ∙ e ∙ d in
+      (cc, cc)
+
+  cut_joined : (ls : List (List X)) (behind : List X) → cut (map length ls) (joined ls ++ behind) ≡ ls
+  cut_joined [] behind = refl
+  cut_joined (l ∷ ls) behind =
+      ap (cut (map length (l ∷ ls))) (append_assoc l (joined ls) behind) ∙ ap (λ (is : List X). is ∷ cut (map length ls) (drop (length l) (l ++ (joined ls ++ behind)))) (take_at l (joined ls ++ behind) (length l) refl)
+      ∙ ap (λ (is : List X). l ∷ cut (map length ls) is) (drop_at l (joined ls ++ behind) (length l) refl) ∙ ap (λ ks. l ∷ ks) (cut_joined ls behind)
+
+module _ {A : Type 0} where
+  pub cut_lines : (lens : List ℕ) (placed : List (Item A)) (lines : List (List (Item A))) → AreLines lens placed lines → cut lens placed ≡ lines
+  cut_lines lens placed lines h = ap (λ ns. cut ns placed) h.lens_is ∙ ap (cut (map length lines)) h.placed_is ∙ cut_joined lines h.behind
+
+  pub are_cut : (lens : List ℕ) (placed : List (Item A)) (lines : List (List (Item A))) → AreLines lens placed lines → AreLines lens placed (cut lens placed)
+  are_cut lens placed lines h = subst (AreLines lens placed) (sym (cut_lines lens placed lines h)) h
+
+  pub no_lines : (placed : List (Item A)) (lens : List ℕ) → placed ≡ [] → lens ≡ [] → AreLines lens placed (cut lens placed)
+  no_lines placed lens p e = rw (p, e) (record { behind = []; placed_is = refl; lens_is = refl; blank = refl })
+
+  -- whether there is a character
+  joined_any : (ls : List (List (Item A))) → has_character (joined ls) ≡ list_any has_character ls
+  joined_any [] = refl
+  joined_any (l ∷ ls) = has_character-append l (joined ls) ∙ ap (λ b. has_character l || b) (joined_any ls)
+
+  pub lines_any : (lens : List ℕ) (placed : List (Item A)) (lines : List (List (Item A))) → AreLines lens placed lines → has_character placed ≡ list_any has_character lines
+  lines_any lens placed lines h =
+      ap has_character h.placed_is ∙ has_character-append (joined lines) h.behind ∙ ap (λ b. has_character (joined lines) || b) h.blank ∙ or-false (has_character (joined lines)) ∙ joined_any lines
+
+  -- the first line, and those behind it
+  first_len : (n : ℕ) (ns : List ℕ) (placed : List (Item A)) → AreLines (n ∷ ns) placed (cut (n ∷ ns) placed) → length (take n placed) ≡ n
+  first_len n ns placed h = let both : n ∷ ns ≡ length (take n placed) ∷ map length (cut ns (drop n placed)) = h.lens_is in cc
+
+  pub first_fits : (n : ℕ) (ns lens : List ℕ) (placed : List (Item A)) → lens ≡ n ∷ ns → AreLines lens placed (cut lens placed) → n ≤ length placed
+  first_fits n ns lens placed e h =
+      omega (arith, first_len n ns placed (subst (λ ms. AreLines ms placed (cut ms placed)) e h), length-take n placed)
+
+  lines_behind : (n : ℕ) (ns : List ℕ) (placed : List (Item A)) → AreLines (n ∷ ns) placed (cut (n ∷ ns) placed) → AreLines ns (drop n placed) (cut ns (drop n placed))
+  lines_behind n ns placed h =
+      let rest = cut ns (drop n placed) in
+      let both : n ∷ ns ≡ length (take n placed) ∷ map length rest = h.lens_is in
+      record {
+        behind = h.behind;
+        placed_is = ap (drop n) h.placed_is ∙ ap (drop n) (append_assoc (take n placed) (joined rest) h.behind) ∙ drop_at (take n placed) (joined rest ++ h.behind) n (first_len n ns placed h);
+        lens_is = (let is : ns ≡ map length rest = cc in is);
+        blank = h.blank;
+      }
+
+  pub lines_left : (n : ℕ) (lens left : List ℕ) (placed now : List (Item A)) → lens ≡ n ∷ left → now ≡ drop n placed → AreLines lens placed (cut lens placed) → AreLines left now (cut left now)
+  lines_left n lens left placed now e d h =
+      subst (λ is. AreLines left is (cut left is)) (sym d) (lines_behind n left placed (subst (λ ms. AreLines ms placed (cut ms placed)) e h))

@@ -1,0 +1,166 @@
+//! Lines that a block has ended, in one text.
+ghost use Rattle.std.specs.Prelude.{◌≡◌, ◌==◌, ◌++◌, ◌∷◌, [], List, None, Ok, OnOk, IfOk, IsSomeAnd, length, drop};
+ghost use Rattle.std.specs.List.{list_any};
+ghost use Rattle.std.specs.VecDeque.{deque_len};
+ghost use Rattle.tbr_model.specs.Run.{Item, has_character};
+ghost use Rattle.tbr_tagged.specs.Copies.{CopiesAreEqual};
+ghost use Rattle.tbr_tagged.specs.Elements.{SameItems, IsMerged, items_of};
+ghost use Rattle.tbr_tagged.specs.View.{chars_of};
+ghost use Rattle.tbr_wrap.specs.EndedLines.{AreLines, line_characters, lines_characters};
+
+use crate::flat::{FlatText, PlacedItems};
+use std::collections::VecDeque;
+use std::fmt;
+use std::marker::Model;
+use tbr_tagged::{OutOfMemory, TaggedLine};
+
+/// Lines that a block has ended, kept in its one text: a line costs a number, and no allocation. A contract sees the
+/// lines that are left, each as its items.
+#[derive(Drop)]
+pub struct EndedLines<T> {
+    flat: FlatText<T>,
+    /// How many items each line has.
+    lens: VecDeque<usize>,
+}
+
+impl<T> Model for EndedLines<T> {
+    ghost use Rattle.std.specs.Prelude.{◌≡◌, List, length};
+    ghost use Rattle.std.specs.VecDeque.{deque_len};
+    ghost use Rattle.tbr_model.specs.Run.{Item};
+    ghost use Rattle.tbr_wrap.specs.EndedLines.{cut, AreLines};
+
+    ghost Value = { List (List (Item T)) };
+
+    ghost view = { λ a. cut a.lens.items a.flat.placed };
+
+    ghost invariant = { λ a. (deque_len a.lens ≡ length a.lens.items)
+        × AreLines a.lens.items a.flat.placed (cut a.lens.items a.flat.placed) };
+}
+
+/// Each between `<` and `>` on a line of its own, without its markers.
+impl<T> fmt::Display for EndedLines<T> {
+    fn fmt<W: fmt::Write>(&self, f: &mut fmt::Formatter<W>) -> fmt::Result {
+        let mut items = self.flat.items();
+        for len in &self.lens {
+            f.write_str("<")?;
+            print_items(f, &mut items, *len)?;
+            f.write_str(">\n")?;
+        }
+        Ok(())
+    }
+}
+
+/// Prints the characters of the next `count` items.
+fn print_items<W: fmt::Write>(
+    f: &mut fmt::Formatter<W>,
+    items: &mut PlacedItems<'_>,
+    count: usize,
+) -> fmt::Result {
+    for _ in 0..count {
+        if let Some(c) = items.next_character() {
+            f.write_char(c)?;
+        }
+    }
+    Ok(())
+}
+
+impl<T> EndedLines<T> {
+    /// Lines of these lengths, of the first items that are placed.
+    pub(crate) fn new(flat: FlatText<T>, lens: VecDeque<usize>) -> EndedLines<T>
+        requires counted { deque_len lens ≡ length lens.items }
+        requires held { (lines : List (List (Item T))) × AreLines lens.items flat.placed lines }
+        ensures { (lines : List (List (Item T))) → AreLines lens.items flat.placed lines → result ≡ lines }
+    {
+        EndedLines { flat, lens }
+    }
+
+    /// How many lines are left.
+    pub fn len(&self) -> usize
+        ensures { result ≡ length self.now }
+    {
+        let _ = &self.flat;
+        self.lens.len()
+    }
+
+    /// Whether none is left.
+    pub fn is_empty(&self) -> bool
+        ensures { result ≡ (length self.now == 0) }
+    {
+        self.len() == 0
+    }
+
+    /// Whether a line has a character.
+    pub fn has_character(&self) -> bool
+        ensures { result ≡ list_any has_character self.now }
+    {
+        let _ = &self.lens;
+        self.flat.has_placed()
+    }
+}
+
+impl<T: Drop> EndedLines<T> {
+    /// Appends the text of each line and a newline to a text. Where memory is refused some may be missing.
+    pub fn append_to(mut self, text: &mut String) -> Result<(), OutOfMemory>
+        ensures { OnOk result (chars_of text.new ≡ chars_of text.old ++ lines_characters self) }
+    {
+        self.append_lines(text)
+    }
+
+    /// Moves the text of each line, and a newline, to the end of a text.
+    fn append_lines(&mut self, text: &mut String) -> Result<(), OutOfMemory>
+        ensures { OnOk result (chars_of text.new ≡ chars_of text.old ++ lines_characters self.old) }
+    {
+        while !self.is_empty() {
+            self.append_line(text)?;
+        }
+        Ok(())
+    }
+
+    /// Moves the text of the first line, if one is left, and a newline, to the end of a text.
+    fn append_line(&mut self, text: &mut String) -> Result<(), OutOfMemory>
+        ensures { (is : List (Item T)) (rest : List (List (Item T))) → self.old ≡ is ∷ rest →
+            OnOk result ((chars_of text.new ≡ chars_of text.old ++ line_characters is) × (self.new ≡ rest)) }
+    {
+        let Some(len) = self.lens.pop_front() else {
+            return Ok(());
+        };
+        if let Err(e) = self.flat.move_text(len, text) {
+            clear(&mut self.flat, &mut self.lens);
+            return Err(e);
+        }
+        text.push('\n')?;
+        Ok(())
+    }
+}
+
+impl<T: Eq + Clone + Drop> EndedLines<T> {
+    /// Hands out the first line, if one is left. Where memory is refused lines may be lost.
+    pub fn next_line(&mut self) -> Result<Option<TaggedLine<T>>, OutOfMemory>
+        requires { CopiesAreEqual T.is_clone T.eq }
+        ensures some { (text : List (Item T)) (rest : List (List (Item T))) → self.old ≡ text ∷ rest →
+            IfOk result (λ o. IsSomeAnd o (λ line. SameItems T.eq (items_of line) text × IsMerged T.eq line)) }
+        ensures rest { OnOk result (self.new ≡ drop 1 self.old) }
+        ensures none { self.old ≡ [] → result ≡ Ok None }
+    {
+        let Some(len) = self.lens.pop_front() else {
+            return Ok(None);
+        };
+        match self.flat.take_line(len) {
+            Ok(line) => Ok(Some(line)),
+            Err(e) => {
+                clear(&mut self.flat, &mut self.lens);
+                Err(e)
+            }
+        }
+    }
+}
+
+/// Forgets all lines.
+fn clear<T: Drop>(flat: &mut FlatText<T>, lens: &mut VecDeque<usize>)
+    ensures flat { flat.new ≡ record { placed = []; word = [] } }
+    ensures lens { lens.new.items ≡ [] }
+    ensures counted { deque_len lens.new ≡ 0 }
+{
+    flat.clear();
+    lens.clear();
+}
