@@ -5,11 +5,10 @@ use Rattle.std.proofs.lemmas.Bool.{and_parts}
 use Rattle.tbr_model.specs.Run.{kept_items, has_character}
 use Rattle.tbr_model.proofs.words.Items.{no_character_no_width}
 use Rattle.tbr_lines.specs.declared.Error.{Error}
-use Rattle.tbr_lines.specs.declared.RenderLine.{RenderLine}
 use Rattle.tbr_lines.specs.State.{State, IsNormal, WrapsNormally, RunDecides, has_begun, is_some_list}
 use Rattle.tbr_renderer.specs.Renderer.{Open, Renderer, block_width, may_overflow}
 use Rattle.tbr_renderer.specs.Meant.{tag_meant, map_line, meant}
-use Rattle.tbr_renderer.specs.View.{line_seen, IsFresh, block_seen}
+use Rattle.tbr_renderer.specs.View.{IsFresh, block_seen}
 use Rattle.tbr_renderer.specs.Rows.{block_is_blank, is_blank, TellsBlank}
 
 none_of_not : {X : Type 0} (xs : List X) → not (is_some_list xs) ≡ true → xs ≡ []
@@ -45,10 +44,8 @@ module _ {D A : Type 0} (columns : ℕ → Option ℕ) (r : Renderer D A (Vec A)
           )
 
 -- a blank renderer, whose flush adds no line, hands out none
-pub none_handed : {D A M : Type 0} (f : A → M) (r s : Renderer D A (Vec A)) (lines : List (RenderLine (Vec A))) → is_blank r ≡ true → (block_is_blank r.block ≡ true → (meant f s).lines ≡ (meant f r).lines) → map line_seen lines ≡ s.lines → lines ≡ []
-none_handed f r s lines blank flushed seen =
+pub none_handed : {D A M : Type 0} (f : A → M) (r s : Renderer D A (Vec A)) → is_blank r ≡ true → (block_is_blank r.block ≡ true → (meant f s).lines ≡ (meant f r).lines) → s.lines ≡ []
+none_handed f r s blank flushed =
     let rest = (and_parts (is_none r.failure) (block_is_blank r.block && not (is_some_list r.lines)) blank).1 in
     let (block, line) = and_parts (block_is_blank r.block) (not (is_some_list r.lines)) rest in
-    let none : map (map_line (tag_meant f)) (map line_seen lines) ≡ [] =
-    ap (map (map_line (tag_meant f))) seen ∙ flushed block ∙ ap (map (map_line (tag_meant f))) (none_of_not r.lines line) in
-    none_mapped line_seen lines (none_mapped (map_line (tag_meant f)) (map line_seen lines) none)
+    none_mapped (map_line (tag_meant f)) s.lines (flushed block ∙ ap (map (map_line (tag_meant f))) (none_of_not r.lines line))

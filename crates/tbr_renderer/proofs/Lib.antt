@@ -7,10 +7,12 @@ pub mod Bordering
 pub mod LineTexts
 pub mod Appending
 pub mod Fields
+pub mod KeptLines
 pub mod Lines
 pub mod Footnotes
 pub mod Blank
 pub mod Fits
+pub mod LinesAsTheyAre
 pub mod Flushing
 pub mod Rowing
 pub mod Texts

@@ -1,5 +1,5 @@
 -- The end of the open run.
-use Rattle.std.specs.Prelude.{◌≡◌, ℕ, Bool, false, Option, None, Some, List, ◌++◌, map, fold}
+use Rattle.std.specs.Prelude.{◌≡◌, ℕ, Bool, false, Option, None, Some, List, [], ◌++◌, map, fold}
 use Rattle.std.specs.Global.{Vec}
 use Rattle.tbr_renderer.specs.Meant.{items_meant}
 use Rattle.tbr_model.specs.Run.{Entry, Item}
@@ -52,6 +52,12 @@ block_lines columns r b texts = map (λ is. is ++ padding_of columns b.padding (
 abbrev pub line_meant : {A M : Type 0} →
     (ℕ → Option ℕ) → (A → M) → State (Vec A) → List (Item (Vec A)) → List (Item (List M))
 line_meant columns meaning b is = items_meant meaning (is ++ padding_of columns b.padding b.width is)
+
+-- A block's lines come as they are: neither padded, nor behind markers that wait.
+pub record AddsAsIs {D A : Type 0} (r : Renderer D A (Vec A)) (b : State (Vec A)) : Type 0 where
+  pub padding : b.padding ≡ None
+  pub unpadded : r.options.pad_block_width ≡ false
+  pub waits : r.waiting ≡ []
 
 -- the run is ended: its lines join the others one by one, and the markers that stand on none of them wait
 abbrev pub flushed : {D A : Type 0} →

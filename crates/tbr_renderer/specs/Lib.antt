@@ -3,6 +3,7 @@ pub mod Renderer
 pub mod Text
 pub mod Meant
 pub mod View
+pub mod KeptLines
 pub mod Flush
 pub mod Steps
 pub mod Image

@@ -1,9 +1,7 @@
 -- What the fields of a renderer mean.
-use Rattle.std.specs.Prelude.{◌≡◌, ◌<◌, ℕ, Bool, false, not, ◌&&◌, ⊤, Option, Some, None, List, [], ◌∷◌, map, filter, length, chars}
+use Rattle.std.specs.Prelude.{◌≡◌, ◌<◌, ℕ, Bool, false, not, ◌&&◌, ⊤, Option, Some, None, List, [], ◌∷◌, map, chars}
 use Rattle.std.specs.Option.{option_map}
-use Rattle.std.specs.List.{AllByRecursion as Each}
 use Rattle.std.specs.Global.{Box, Vec}
-use Rattle.tbr_lines.specs.Copies.{equal_lists}
 use Rattle.tbr_lines.specs.View.{element_of}
 use Rattle.tbr_renderer.specs.Meant.{tag_meant, map_open}
 use Rattle.tbr_renderer.specs.declared.sub.SubRenderer.TheInside.{Inside}
@@ -20,8 +18,7 @@ use Rattle.tbr_renderer.specs.declared.sub.decorated.Start.{Start as Opened}
 use Rattle.tbr_renderer.specs.declared.sub.decorated.Start.TheVariants as opened
 use Rattle.tbr_lines.specs.declared.RenderLine.{RenderLine}
 use Rattle.tbr_lines.specs.declared.RenderLine.TheVariants.{Text, Line as Rule}
-use Rattle.tbr_lines.specs.RenderLine.{IsMergedText}
-use Rattle.tbr_renderer.specs.Renderer.{Line, text, border, line_has_content, Open, Renderer, least, overflows}
+use Rattle.tbr_renderer.specs.Renderer.{Line, text, border, Open, Renderer, least, overflows}
 
 -- a line as a contract sees it: a text by its items, or a border
 abbrev pub line_seen : {T : Type 0} → RenderLine T → Line T
@@ -74,7 +71,7 @@ renderer_of r = record {
   width = r.width;
   options = r.options;
   decorator = r.decorator;
-  lines = map line_seen r.lines.items;
+  lines = r.lines;
   block = block_seen (unboxed r.wrapping);
   waiting = names_of (map element_of r.waiting.items);
   block_ended = r.block_ended;
@@ -86,19 +83,16 @@ renderer_of r = record {
   hanging = r.hanging;
 }
 
--- What the fields of a renderer that hasn't failed hold: a fresh block, if any, markers that wait, lines whose pieces
--- are the longest stretches under equal annotations, and how many of them have content.
-pub record HoldsFresh {D W A : Type 0} (eq : A → A → Bool) (r : Inside D W A) : Type 0 where
+-- What the fields of a renderer that hasn't failed hold: a fresh block, if any, and markers that wait.
+pub record HoldsFresh {D W A : Type 0} (r : Inside D W A) : Type 0 where
   pub opened : IsOpened (least r.width r.options.wrap_width)
       (overflows r.options (least r.width r.options.wrap_width)) (unboxed r.wrapping)
   pub markers : AreMarkers (map element_of r.waiting.items)
-  pub merged : Each (IsMergedText (equal_lists eq)) r.lines.items
-  pub content : r.with_content ≡ length (filter line_has_content (map line_seen r.lines.items))
 
 -- and what those of any renderer do
-pub record HoldsRenderer {D W A : Type 0} (eq : A → A → Bool) (r : Inside D W A) : Type 0 where
+pub record HoldsRenderer {D W A : Type 0} (r : Inside D W A) : Type 0 where
   pub columns : 0 < least r.width r.options.wrap_width
-  pub fresh : r.failure ≡ None → HoldsFresh eq r
+  pub fresh : r.failure ≡ None → HoldsFresh r
 
 -- what is opened or closed
 abbrev pub start_of : Opened → start.Start

@@ -6,6 +6,7 @@ pub use renderer::Renderer;
 pub use sub::SubRenderer;
 
 mod footnote;
+mod kept_lines;
 mod options;
 mod renderer;
 mod sub;

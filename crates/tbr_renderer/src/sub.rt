@@ -9,6 +9,7 @@ ghost use Rattle.tbr_lines.specs.Elements.{items_of, SameItems, IsMerged};
 ghost use Rattle.tbr_lines.specs.RenderLine.{IsMergedText};
 ghost use Rattle.tbr_renderer.specs.Meant.{meant, items_meant};
 
+use crate::kept_lines::KeptLines;
 use crate::options::RenderOptions;
 use crate::renderer::Renderer;
 use std::alloc::Global;
@@ -42,9 +43,7 @@ pub struct SubRenderer<D: TextDecorator, W: CharWidth = UnicodeColumns> {
     width: usize,
     options: RenderOptions,
     decorator: D,
-    lines: Vec<RenderLine<Vec<D::Annotation>>>,
-    /// How many lines have content.
-    with_content: usize,
+    lines: KeptLines<Vec<D::Annotation>>,
     /// The open block. It stands in a box, so that it is taken and put back for each text without a copy of its fields.
     wrapping: Option<Box<WrappedBlock<Vec<D::Annotation>, W>>>,
     /// Markers that wait for a line of text.
@@ -70,7 +69,7 @@ impl<D: TextDecorator, W: CharWidth> Model for SubRenderer<D, W> {
 
     ghost view = { λ r. renderer_of r };
 
-    ghost invariant = { λ r. HoldsRenderer D.Annotation.eq r };
+    ghost invariant = { λ r. HoldsRenderer r };
 }
 
 impl<D: TextDecorator, W: CharWidth> SubRenderer<D, W> {
@@ -91,8 +90,7 @@ impl<D: TextDecorator, W: CharWidth> SubRenderer<D, W> {
             width,
             options,
             decorator,
-            lines: Vec::new(alloc),
-            with_content: 0,
+            lines: KeptLines::new(alloc),
             wrapping: None,
             waiting: Vec::new(alloc),
             block_ended: false,
@@ -215,7 +213,7 @@ impl<D: TextDecorator, W: CharWidth> SubRenderer<D, W> {
         requires { self.now.failure ≡ None }
         ensures { result ≡ has_content self.now }
     {
-        self.with_content > 0
+        self.lines.has_content()
     }
 
     /// Lets markers wait.
@@ -248,13 +246,7 @@ impl<D: TextDecorator, W: CharWidth> SubRenderer<D, W> {
         ensures line { OnOk result (self.new ≡ record self.old { lines = self.old.lines ++ line_seen line ∷ [] }) }
         ensures settings { KeepsSettings (meant D.meaning self.old) (meant D.meaning self.new) }
     {
-        let more = usize::from(line.has_content());
-        let Some(with_content) = self.with_content.checked_add(more) else {
-            return Err(OutOfMemory);
-        };
-        self.lines.push(line)?;
-        self.with_content = with_content;
-        Ok(())
+        self.lines.push(line)
     }
 
     /// Fills a line up to the renderer's width, where lines are padded.

@@ -1,20 +1,61 @@
 //! The end of runs, and the beginning of blocks.
-ghost use Rattle.std.specs.Prelude.{◌≡◌, ◌≢◌, ◌≤◌, None, Err, true, map, fold, IfErr, OnOk};
-ghost use Rattle.tbr_lines.specs.State.{lines_left};
+ghost use Rattle.std.specs.Prelude.{◌≡◌, ◌≢◌, ◌≤◌, ◌++◌, None, Err, true, map, fold, IfErr, OnOk};
+ghost use Rattle.tbr_lines.specs.State.{is_some_list, lines_left};
+ghost use Rattle.tbr_renderer.specs.KeptLines.{text_lines};
 ghost use Rattle.tbr_lines.specs.declared.Error.TheVariants as E;
 ghost use Rattle.tbr_renderer.specs.Renderer.{KeepsSettings, with_line, block_width};
 ghost use Rattle.tbr_renderer.specs.Meant.{meant};
-ghost use Rattle.tbr_renderer.specs.Flush.{line_meant, Flushes, FlushIsTooNarrow};
+ghost use Rattle.tbr_renderer.specs.Flush.{line_meant, AddsAsIs, Flushes, FlushIsTooNarrow};
 ghost use Rattle.tbr_renderer.specs.Rows.{block_is_blank};
 ghost use Rattle.tbr_renderer.specs.Steps.{with_empty_line, AddsEmptyLine, block_started, StartsBlock, BlockIsAtLineStart, BreaksLine};
 
 use crate::sub::SubRenderer;
 use tbr_decor::TextDecorator;
-use tbr_lines::{CharWidth, Error, OutOfMemory, TaggedLine, WrappedBlock};
+use tbr_lines::{CharWidth, EndedLines, Error, OutOfMemory, TaggedLine, WrappedBlock};
+
+/// A block that leaves as many lines keeps them in its text, which takes less memory than each by itself.
+const MANY: usize = 4;
 
 impl<D: TextDecorator, W: CharWidth> SubRenderer<D, W> {
+    /// Adds the lines that a block has ended. It refuses only for want of memory.
+    fn add_lines_of(&mut self, block: WrappedBlock<Vec<D::Annotation>, W>) -> Result<(), Error>
+        requires unfailed { self.old.failure ≡ None }
+        requires block { block.failure ≡ None }
+        requires ended { block.no_character ≡ true }
+        ensures lines { OnOk result (meant D.meaning self.new ≡ fold (with_line W.columns) (meant D.meaning self.old)
+            (map (line_meant W.columns D.meaning block) (lines_left block))) }
+        ensures unfailed { OnOk result (self.new.failure ≡ None) }
+        ensures memory { IfErr result (λ e. e ≡ E.OutOfMemory) }
+        ensures settings { KeepsSettings (meant D.meaning self.old) (meant D.meaning self.new) }
+    {
+        if block.lines_left() < MANY || !self.adds_as_is(&block) {
+            return self.add_each_line_of(block);
+        }
+        self.push_ended(block.into_ended())?;
+        Ok(())
+    }
+
+    /// Adds lines that a block has ended as they are. Where memory is refused lines are lost.
+    fn push_ended(&mut self, ended: EndedLines<Vec<D::Annotation>>) -> Result<(), OutOfMemory>
+        requires { is_some_list ended ≡ true }
+        ensures lines { OnOk result (self.new ≡ record self.old { lines = self.old.lines ++ text_lines ended }) }
+        ensures settings { KeepsSettings (meant D.meaning self.old) (meant D.meaning self.new) }
+    {
+        self.lines.push_ended(ended)
+    }
+
+    /// Whether a block's lines come as they are: neither padded, nor behind markers that wait.
+    fn adds_as_is(&self, block: &WrappedBlock<Vec<D::Annotation>, W>) -> bool
+        ensures { result ≡ true → AddsAsIs self.now block.now }
+    {
+        !block.pads() && !self.options.pad_block_width && self.waiting.is_empty()
+    }
+
     /// Adds the lines that a block has ended, one by one. It refuses only for want of memory.
-    fn add_lines_of(&mut self, mut block: WrappedBlock<Vec<D::Annotation>, W>) -> Result<(), Error>
+    fn add_each_line_of(
+        &mut self,
+        mut block: WrappedBlock<Vec<D::Annotation>, W>,
+    ) -> Result<(), Error>
         requires unfailed { self.old.failure ≡ None }
         requires block { block.failure ≡ None }
         ensures lines { OnOk result (meant D.meaning self.new ≡ fold (with_line W.columns) (meant D.meaning self.old)

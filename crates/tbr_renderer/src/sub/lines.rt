@@ -13,6 +13,7 @@ ghost use Rattle.tbr_renderer.specs.Meant.{tag_meant, map_line, meant};
 ghost use Rattle.tbr_renderer.specs.Flush.{Flushes, FlushIsTooNarrow};
 ghost use Rattle.tbr_renderer.specs.Rows.{is_blank};
 
+use crate::kept_lines::KeptLines;
 use crate::sub::SubRenderer;
 use std::alloc::Global;
 use std::collections::LinkedList;
@@ -44,12 +45,27 @@ impl<D: TextDecorator, W: CharWidth> SubRenderer<D, W> {
     /// Ends the open line, and hands out all lines, as they are kept.
     ///
     /// It refuses as `new_line` does.
-    pub(crate) fn into_vec(mut self) -> Result<Vec<RenderLine<Vec<D::Annotation>>>, Error>
+    pub(crate) fn into_vec(self) -> Result<Vec<RenderLine<Vec<D::Annotation>>>, Error>
         ensures lines { IfOk result (λ lines. (s : Seen D D.Meaning (List D.Meaning))
             × Flushes W.columns (meant D.meaning self) s
             × (map (map_line (tag_meant D.meaning)) (map line_seen lines.items) ≡ s.lines)) }
         ensures merged { IfOk result (λ lines. Each (IsMergedText (equal_lists D.Annotation.eq)) lines.items) }
         ensures blank { is_blank self ≡ true → IfOk result (λ lines. lines.items ≡ []) }
+        ensures too_narrow { self.failure ≡ None → result ≡ Err E.TooNarrow →
+            FlushIsTooNarrow W.columns (meant D.meaning self) }
+        ensures two_columns { self.failure ≡ None → 2 ≤ block_width self → result ≢ Err E.TooNarrow }
+        ensures kept { (e : Refusal) → self.failure ≡ Some e → result ≡ Err e }
+    {
+        Ok(self.into_kept()?.into_vec()?)
+    }
+
+    /// Ends the open line, and hands out what is kept.
+    ///
+    /// It refuses as `new_line` does.
+    fn into_kept(mut self) -> Result<KeptLines<Vec<D::Annotation>>, Error>
+        ensures lines { IfOk result (λ lines. (s : Seen D D.Meaning (List D.Meaning))
+            × Flushes W.columns (meant D.meaning self) s × (map (map_line (tag_meant D.meaning)) lines ≡ s.lines)) }
+        ensures blank { is_blank self ≡ true → IfOk result (λ lines. lines ≡ []) }
         ensures too_narrow { self.failure ≡ None → result ≡ Err E.TooNarrow →
             FlushIsTooNarrow W.columns (meant D.meaning self) }
         ensures two_columns { self.failure ≡ None → 2 ≤ block_width self → result ≢ Err E.TooNarrow }
@@ -71,19 +87,14 @@ impl<D: TextDecorator, W: CharWidth> SubRenderer<D, W> {
         ensures two_columns { self.failure ≡ None → 2 ≤ block_width self → result ≢ Err E.TooNarrow }
         ensures kept { (e : Refusal) → self.failure ≡ Some e → result ≡ Err e }
     {
-        let alloc = self.alloc;
-        let lines = self.into_vec()?;
-        Ok(text_of(alloc, lines)?)
+        Ok(self.into_kept()?.into_text()?)
     }
 
     /// Takes all lines.
-    fn take_lines(&mut self) -> Vec<RenderLine<Vec<D::Annotation>>>
-        requires { self.old.failure ≡ None }
-        ensures lines { map line_seen result.items ≡ self.old.lines }
-        ensures merged { Each (IsMergedText (equal_lists D.Annotation.eq)) result.items }
+    fn take_lines(&mut self) -> KeptLines<Vec<D::Annotation>>
+        ensures { result ≡ self.old.lines }
     {
-        self.with_content = 0;
-        mem::replace(&mut self.lines, Vec::new(self.alloc))
+        mem::replace(&mut self.lines, KeptLines::new(self.alloc))
     }
 }
 
@@ -95,24 +106,4 @@ fn listed<T: Drop>(
     ensures { IfOk result (λ list. list ≡ lines.items) }
 {
     Ok(lines.into_iter().collect(alloc)?)
-}
-
-/// The text of lines, each with a newline.
-fn text_of<T: Drop>(alloc: Global, lines: Vec<RenderLine<T>>) -> Result<String, OutOfMemory>
-    ensures { IfOk result (λ text. chars_of text ≡ lines_text (map line_seen lines.items)) }
-{
-    let mut text = String::new(alloc);
-    for line in lines {
-        push_line(&mut text, &line)?;
-    }
-    Ok(text)
-}
-
-/// Appends a line's text and a newline.
-fn push_line<T>(text: &mut String, line: &RenderLine<T>) -> Result<(), OutOfMemory>
-    ensures { OnOk result (chars_of text.new ≡ chars_of text.old ++ line_text (line_seen line.now)) }
-{
-    line.append_to(text)?;
-    text.push('\n')?;
-    Ok(())
 }

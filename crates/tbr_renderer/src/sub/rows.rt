@@ -158,11 +158,7 @@ impl<D: TextDecorator, W: CharWidth> SubRenderer<D, W> {
         ensures border { result ≡ model.last_border self.old.lines }
         ensures rest { self.new ≡ record self.old { lines = model.before_border self.old.lines } }
     {
-        let border = take_last_border(&mut self.lines)?;
-        if !border.has_holes() {
-            self.with_content -= 1;
-        }
-        Some(border)
+        self.lines.take_border()
     }
 
     /// Adds a row that is laid out. Where memory is refused it is lost.
@@ -235,34 +231,4 @@ impl<D: TextDecorator, W: CharWidth> SubRenderer<D, W> {
             None => Ok(()),
         }
     }
-}
-
-/// Takes the last line, if it is a border.
-fn take_last_border<T: Drop>(lines: &mut Vec<RenderLine<T>>) -> Option<BorderHoriz<T>>
-    ensures some { IfSome result (λ border. lines.old.items ≡ lines.new.items ++ Rule border ∷ []) }
-    ensures none { result ≡ None →
-        (lines.new ≡ lines.old) × (model.last_border (map line_seen lines.old.items) ≡ None) }
-{
-    if !is_border(lines.last()) {
-        return None;
-    }
-    border_in(lines.pop())
-}
-
-/// The border that a line is, if it is one.
-fn border_in<T: Drop>(line: Option<RenderLine<T>>) -> Option<BorderHoriz<T>>
-    ensures some { IfSome result (λ border. line ≡ Some (Rule border)) }
-    ensures none { result ≡ None → (border : _) → line ≢ Some (Rule border) }
-{
-    match line {
-        Some(RenderLine::Line(border)) => Some(border),
-        Some(RenderLine::Text(_)) | None => None,
-    }
-}
-
-/// Whether a line is a border.
-fn is_border<T>(line: Option<&RenderLine<T>>) -> bool
-    ensures { result ≡ model.is_border line.entry }
-{
-    matches!(line, Some(RenderLine::Line(_)))
 }

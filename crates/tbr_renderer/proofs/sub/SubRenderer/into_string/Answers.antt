@@ -1,11 +1,10 @@
-use Rattle.std.proofs.Common.{map, ap, sym, ◌∙◌}
+use Rattle.std.proofs.Common.{ap, sym, ◌∙◌}
 use Rattle.tbr_renderer.specs.Meant.{tag_meant}
 use Rattle.tbr_renderer.specs.Text.{lines_text}
-use Rattle.tbr_renderer.specs.View.{line_seen}
 use Rattle.tbr_renderer.proofs.LineTexts.{lines_same}
 use Rattle.tbr_renderer.proofs.sub.SubRenderer.into_string.Goals as goal
 
 pub returns-clause-text : goal.returns-clause-text
 returns-clause-text g c =
-    let lines = c.in_ok-lines.ensures.lines in
-    (lines.0, lines.1, c.in_ok-text_of.ensures ∙ sym (lines_same (tag_meant g.D.TextDecorator.meaning) (map line_seen c.in_ok-lines.lines.items)) ∙ ap lines_text lines.2)
+    let lines = c.in_ok-into_kept.ensures.lines in
+    (lines.0, lines.1, c.in_ok-into_text.ensures ∙ sym (lines_same (tag_meant g.D.TextDecorator.meaning) c.in_ok-into_kept.field-0) ∙ ap lines_text lines.2)

@@ -1,12 +1,24 @@
-use Rattle.std.proofs.Common.{map, ap}
-use Rattle.tbr_renderer.specs.Meant.{tag_meant, map_line, meant}
-use Rattle.tbr_renderer.proofs.Blank.{none_handed}
+use Rattle.std.proofs.Common.{map, subst, ◌∙◌}
+use Rattle.std.specs.List.{AllZip}
+use Rattle.tbr_lines.specs.Copies.{equal_lists}
+use Rattle.tbr_lines.proofs.Copies.{list_copies_equal}
+use Rattle.tbr_renderer.specs.KeptLines.{SameSeen}
+use Rattle.tbr_renderer.specs.Meant.{tag_meant}
+use Rattle.tbr_renderer.specs.View.{line_seen}
+use Rattle.tbr_renderer.proofs.KeptLines.{same_meant, none_of_none}
+use Rattle.tbr_renderer.proofs.Meanings.{tags_mean}
 use Rattle.tbr_renderer.proofs.sub.SubRenderer.into_vec.Goals as goal
+
+pub into_vec-requires : goal.into_vec-requires
+into_vec-requires g c = λ v w copy. list_copies_equal g.D.Annotation.Clone.is_clone g.D.Annotation.PartialEq.eq g.met.D.TextDecorator.copies_equal v.items w.items copy.0
 
 pub returns-clause-lines : goal.returns-clause-lines
 returns-clause-lines g c =
     let f = g.D.TextDecorator.meaning in
-    (meant f c.try_flush.new.self, c.in_ok-try_flush.ensures.ok, ap (map (map_line (tag_meant f))) c.take_lines.ensures.lines)
+    let eq = g.D.Annotation.PartialEq.eq in
+    let kept = c.in_ok-into_kept.ensures.lines in
+    (kept.0, kept.1, same_meant (equal_lists eq) (tag_meant f) (tags_mean eq f g.met.D.TextDecorator.equal_by_meaning) (map line_seen c.in_ok-into_vec.field-0.items) c.in_ok-into_kept.field-0 c.in_ok-into_vec.ensures.lines ∙ kept.2)
 
 pub returns-clause-blank : goal.returns-clause-blank
-returns-clause-blank g c = λ blank. none_handed g.D.TextDecorator.meaning c.args.self c.try_flush.new.self c.take_lines.result.items blank c.in_ok-try_flush.ensures.blank c.take_lines.ensures.lines
+returns-clause-blank g c = λ blank.
+    none_of_none (equal_lists g.D.Annotation.PartialEq.eq) c.in_ok-into_vec.field-0.items (subst (λ ls. AllZip (SameSeen (equal_lists g.D.Annotation.PartialEq.eq)) (map line_seen c.in_ok-into_vec.field-0.items) ls) (c.in_ok-into_kept.ensures.blank blank) c.in_ok-into_vec.ensures.lines)

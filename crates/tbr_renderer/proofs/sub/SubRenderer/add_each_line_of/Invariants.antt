@@ -1,7 +1,7 @@
 use Rattle.std.proofs.Common.{length}
 use Rattle.tbr_lines.specs.State.{lines_left}
 use Rattle.tbr_renderer.proofs.Flushing.{HasLines}
-use Rattle.tbr_renderer.proofs.sub.SubRenderer.add_lines_of.Given as goal
+use Rattle.tbr_renderer.proofs.sub.SubRenderer.add_each_line_of.Given as goal
 
 abbrev pub invariant-loop-block : goal.invariant-loop-block
 invariant-loop-block g l = HasLines g.D.TextDecorator.meaning g.W.CharWidth.columns l.initial.block l.block l.initial.self l.self

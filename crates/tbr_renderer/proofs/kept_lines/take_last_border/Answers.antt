@@ -1,6 +1,6 @@
 use Rattle.std.proofs.Common.{refl, sym, ◌∙◌}
 use Rattle.tbr_renderer.proofs.Rowing.{no_border_there}
-use Rattle.tbr_renderer.proofs.sub.rows.take_last_border.Goals as goal
+use Rattle.tbr_renderer.proofs.kept_lines.take_last_border.Goals as goal
 
 pub returns-then-not-is_border-clause-none : goal.returns-then-not-is_border-clause-none
 returns-then-not-is_border-clause-none g c = λ none.

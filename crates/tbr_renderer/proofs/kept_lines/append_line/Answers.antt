@@ -7,7 +7,7 @@ use Rattle.tbr_lines.proofs.TextBehind.{chars_push}
 use Rattle.tbr_renderer.specs.Text.{items_shown}
 use Rattle.tbr_renderer.specs.View.{line_seen}
 use Rattle.tbr_renderer.proofs.LineTexts.{line_seen_shows}
-use Rattle.tbr_renderer.proofs.sub.lines.push_line.Goals as goal
+use Rattle.tbr_renderer.proofs.kept_lines.append_line.Goals as goal
 
 pub returns : goal.returns
 returns g c =
