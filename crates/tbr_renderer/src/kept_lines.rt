@@ -252,10 +252,10 @@ impl<T: Eq> fmt::Display for KeptLines<T> {
     }
 }
 
-/// As they are displayed.
+/// As they are displayed, in brackets.
 impl<T: Eq> fmt::Debug for KeptLines<T> {
     fn fmt<F: fmt::Write>(&self, f: &mut fmt::Formatter<F>) -> fmt::Result {
-        write!(f, "{}", self)
+        write!(f, "[{self}]")
     }
 }
 
