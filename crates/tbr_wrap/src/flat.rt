@@ -1,4 +1,4 @@
-//! Characters under tags and markers, in one text.
+//! Characters under tags and markers.
 ghost use Rattle.std.specs.Prelude.{◌≡◌, ◌<◌, ◌≤◌, ◌+◌, ◌++◌, ◌∷◌, [], true, false, List, length, map, take, drop, chars, string_bytes, MatchOption, OnOk, IfOk};
 ghost use Rattle.tbr_tagged.specs.Copies.{CopiesAreEqual};
 ghost use Rattle.tbr_model.specs.Run.{Item, glyph, marker, item_width, items_width, has_character};
@@ -19,14 +19,13 @@ use tbr_tagged::{OutOfMemory, TaggedLine, TaggedLineElement};
 mod characters;
 mod markers;
 mod placed_items;
-mod split_text;
 mod tags;
+mod text_queue;
 
-/// Characters under tags and markers, in one text: those that are placed on lines, and behind them those of the current
-/// word.
+/// Characters under tags and markers: those that are placed on lines, and behind them those of the current word.
 ///
-/// Placing a word moves no character, and handing out a line costs its own length. A contract sees the items that are
-/// placed and not handed out yet, and those of the word.
+/// Placing a word and handing out a line cost their own length. A contract sees the items that are placed and not
+/// handed out yet, and those of the word.
 #[derive(Drop)]
 pub struct FlatText<T> {
     alloc: Global,
@@ -134,7 +133,7 @@ impl<T> FlatText<T> {
 }
 
 impl<T: Drop> FlatText<T> {
-    /// Places the word, and answers how many markers it has. It takes the time of moving them.
+    /// Places the word, and answers how many markers it has. It takes the time of moving its text and these.
     ///
     /// Where memory is refused the items may be lost.
     pub fn place_word(&mut self) -> Result<usize, OutOfMemory>
@@ -143,11 +142,11 @@ impl<T: Drop> FlatText<T> {
     {
         self.text.holds_characters();
         let markers = self.word.len();
+        self.text.place_word()?;
         if let Err(e) = self.placed.append(&mut self.word) {
             clear(&mut self.text, &mut self.placed, &mut self.word);
             return Err(e);
         }
-        self.text.place_word();
         Ok(markers)
     }
 
@@ -185,7 +184,7 @@ impl<T: Drop> FlatText<T> {
         }
         self.text.holds_characters();
         let longest = self.word.before().min(most);
-        let (count, columns) = self.text.place_fitting::<W>(longest, room);
+        let (count, columns) = self.text.place_fitting::<W>(longest, room)?;
         if let Err(e) = self.placed.add_characters(count) {
             clear(&mut self.text, &mut self.placed, &mut self.word);
             return Err(e);
@@ -232,22 +231,20 @@ impl<T: Drop> FlatText<T> {
     }
 
     /// Takes away the spaces at the end of the last `most` placed items, back to a marker, and the white space at the
-    /// word's beginning, up to a marker. It answers how many spaces that were. It takes the time of moving the word,
-    /// and of going over its stretches.
-    ///
-    /// Where memory is refused the items stay as they were.
-    pub fn trim(&mut self, most: usize) -> Result<usize, OutOfMemory>
+    /// word's beginning, up to a marker. It answers how many spaces that were. It takes the time of going over the
+    /// stretches of the word.
+    pub fn trim(&mut self, most: usize) -> usize
         requires { most ≤ length self.old.placed }
         ensures placed { (before line : List (Item T)) → self.old.placed ≡ before ++ line → length line ≡ most →
-            IfOk result (λ n. (self.new.placed ≡ before ++ without_trailing line)
-            × (n + length (without_trailing line) ≡ length line)) }
-        ensures word { OnOk result (self.new.word ≡ without_leading self.old.word) }
+            (self.new.placed ≡ before ++ without_trailing line)
+            × (result + length (without_trailing line) ≡ length line) }
+        ensures word { self.new.word ≡ without_leading self.old.word }
     {
-        let last = most.min(self.placed.behind());
-        let (spaces, blanks) = self.text.trim(last, self.word.before())?;
+        let spaces = self.text.trim_placed(most.min(self.placed.behind()));
+        let blanks = self.text.trim_word(self.word.before());
         self.placed.remove_last(spaces);
         self.word.remove_first(blanks);
-        Ok(spaces)
+        spaces
     }
 
     /// Forgets all items.
@@ -333,7 +330,7 @@ impl<T: Eq + Clone + Drop> FlatText<T> {
         Ok(())
     }
 
-    /// Places `count` spaces before the word. It takes the time of moving the word, and of going over its stretches.
+    /// Places `count` spaces before the word. It takes the time of going over the stretches of the word.
     ///
     /// Where the spaces part a stretch, the tag is copied, and the word's first characters stand under the copy. Where
     /// memory is refused the items may be lost.

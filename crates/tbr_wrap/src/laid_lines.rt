@@ -284,8 +284,7 @@ impl<T: Eq + Clone + Drop> LaidLines<T> {
         Ok(())
     }
 
-    /// Puts `count` spaces on the open line, which has room, and on the next ones. A line that they fill is ended. The
-    /// word is moved once.
+    /// Puts `count` spaces on the open line, which has room, and on the next ones. A line that they fill is ended.
     pub fn put_spaces(&mut self, count: usize, tag: T) -> Result<(), OutOfMemory>
         requires faithful { CopiesAreEqual T.is_clone T.eq }
         requires some { 0 < count }
@@ -326,19 +325,19 @@ impl<T: Eq + Clone + Drop> LaidLines<T> {
     }
 
     /// Takes away the spaces at the open line's end, and the white space at the word's beginning.
-    pub fn trim(&mut self) -> Result<(), OutOfMemory>
+    pub fn trim(&mut self)
         requires lays { (columns : ℕ → Option ℕ) × (before : List (List (Item T))) × (given : List (List (Item T)))
             × (r : Laid T) × (columns 32 ≡ Some 1) × HoldsRule columns T.eq self.old before given r }
-        ensures trimmed { (columns : ℕ → Option ℕ) → columns 32 ≡ Some 1 →
-            LinesFollow columns T.eq self.old self.new result (trimmed columns) }
+        ensures trimmed { (columns : ℕ → Option ℕ) (before given : List (List (Item T))) (r : Laid T) →
+            columns 32 ≡ Some 1 → HoldsRule columns T.eq self.old before given r →
+            HoldsRule columns T.eq self.new before given (trimmed columns r) }
         ensures word { (js : List (Item T)) → SameItems T.eq self.old.flat.word js →
-            OnOk result (SameItems T.eq self.new.flat.word (without_leading js)) }
+            SameItems T.eq self.new.flat.word (without_leading js) }
         ensures limits { KeepsLimits self.old self.new }
     {
-        let removed = self.flat.trim(self.line_len)?;
+        let removed = self.flat.trim(self.line_len);
         self.line_len -= removed;
         self.line_width -= removed;
-        Ok(())
     }
 
     /// Hands out the first ended line, if there is one.

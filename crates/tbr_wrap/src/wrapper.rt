@@ -224,7 +224,7 @@ impl<T: Eq + Clone + Drop> Wrapper<T> {
             (wrap_space_by W.columns self.old.lines.width p s PreWrap)) }
         ensures limits { KeepsLimits self.old.lines self.new.lines }
     {
-        self.lines.trim()?;
+        self.lines.trim();
         self.word_width = self.lines.flat.word_width::<W>()?;
         Ok(())
     }

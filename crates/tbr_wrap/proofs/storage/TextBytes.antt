@@ -1,69 +1,32 @@
--- Characters in one text, and their tags.
+-- The bytes of characters.
 use Rattle.std.proofs.Common.{◌≡◌, ◌↔◌, ◌==◌, Bool, IsTrue, ℕ, suc, zero, ◌+◌, ◌-◌, ◌<◌, ◌≤◌, true, List, [], ◌∷◌, ◌++◌, Option, length, take, drop, encode_utf8, refl, ap, sym, ◌∙◌, subst, arith, append_assoc, append-nil, None, Some, add-one, take-append-drop, length-append, length-take, length-take-le, length-drop}
-use Rattle.std.specs.List.{slice_range, slice_get}
+use Rattle.std.specs.List.{slice_get}
 use Rattle.std.specs.Option.{MatchOption}
 use Rattle.std.specs.Str.{IsAscii, IsUtf8, is_utf8, chars, IsCharBoundary}
 use Rattle.std.specs.Char.{IsScalar}
 use Rattle.std.proofs.Math.Seq.{drop-append_seam, take-append_seam}
 use Rattle.std.proofs.lemmas.Bool.{and_parts, true≢false, ne_eqb}
-use Rattle.std.proofs.lemmas.List.Folds.{drop_split}
+use Rattle.std.proofs.lemmas.List.{drop_at, drop-drop, drop-append-le}
 use Rattle.std.proofs.lemmas.Str.{IsUtf8-append, IsUtf8-nil, IsCharBoundary-from_drop, length-le-encodes, encodes-chars, scalars-chars, chars-encodes, encodes-append, IsCharBoundary-at_seam, IsUtf8-encode, IsUtf8-past_char, is_utf8-from_IsUtf8, IsUtf8-from_is_utf8, chars-append, chars-nil, chars_past_char, IsUtf8-from_ascii, chars-IsAscii, encodes-IsAscii}
 use lib.Utf8.{encodes, scalar, scalars}
-use Rattle.tbr_wrap.specs.Flat.{Letters, letters, AreParts}
+use Rattle.tbr_wrap.specs.Flat.{IsLeft}
 use Rattle.tbr_tagged.proofs.TextBehind.{chars_some, chars_push, chars_none}
 
--- ---- a text in three parts
+-- ---- what is left of a text
 
--- Two places part a text into what is handed out, what is placed and the word.
-pub record IsCut (bytes : List ℕ) (i j : ℕ) (gone placed word : List ℕ) : Type 0 where
-  pub whole : bytes ≡ gone ++ (placed ++ word)
-  pub start : length gone ≡ i
-  pub end : length gone + length placed ≡ j
+-- Behind a place in bytes these characters are left.
+pub record IsBehind (bytes : List ℕ) (i n : ℕ) (cs : List ℕ) : Type 0 where
+  pub parts : IsLeft bytes i n
+  pub seen : chars (drop i bytes) ≡ cs
 
-slice_cut : (bytes : List ℕ) (i j : ℕ) (gone placed word : List ℕ) → IsCut bytes i j gone placed word → slice_range bytes i j ≡ placed
-slice_cut bytes i j gone placed word h =
-    let k : j - i ≡ length placed = omega (arith, h.start, h.end) in
-    rw (k, ← h.start, h.whole, drop-append_seam gone (placed ++ word)) (take-append_seam placed word)
+pub behind : (bytes : List ℕ) (i n : ℕ) (rest cs : List ℕ) → i ≤ length bytes → drop i bytes ≡ rest → IsUtf8 rest → n ≡ length cs → chars rest ≡ cs → IsBehind bytes i n cs
+behind bytes i n rest cs within e u m seen = record {
+  parts = record { within = within; utf8 = ap is_utf8 e ∙ is_utf8-from_IsUtf8 rest u; counts = m ∙ ap length (sym seen ∙ ap chars (sym e)) };
+  seen = ap chars e ∙ seen;
+}
 
-pub drop_cut : (bytes : List ℕ) (i j : ℕ) (gone placed word : List ℕ) → IsCut bytes i j gone placed word → drop j bytes ≡ word
-drop_cut bytes i j gone placed word h =
-    let k : j ≡ length (gone ++ placed) = omega (arith, h.end, length-append gone placed) in
-    let e : bytes ≡ (gone ++ placed) ++ word = h.whole ∙ sym (append_assoc gone placed word) in
-    rw (k, e) (drop-append_seam (gone ++ placed) word)
-
-pub take_cut : (bytes : List ℕ) (i j : ℕ) (gone placed word : List ℕ) → IsCut bytes i j gone placed word → take j bytes ≡ gone ++ placed
-take_cut bytes i j gone placed word h =
-    let k : j ≡ length (gone ++ placed) = omega (arith, h.end, length-append gone placed) in
-    let e : bytes ≡ (gone ++ placed) ++ word = h.whole ∙ sym (append_assoc gone placed word) in
-    rw (k, e) (take-append_seam (gone ++ placed) word)
-
--- Two places part a text, and a contract sees these characters of it.
-pub record IsSplit (bytes : List ℕ) (i j w : ℕ) (l : Letters) : Type 0 where
-  pub parts : AreParts bytes i j w
-  pub seen : letters bytes i j ≡ l
-
-pub split : (bytes : List ℕ) (i j w : ℕ) (gone placed word : List ℕ) (l : Letters) → IsCut bytes i j gone placed word → IsUtf8 placed → IsUtf8 word → w ≡ length l.word →
-    chars placed ≡ l.placed → chars word ≡ l.word → IsSplit bytes i j w l
-split bytes i j w gone placed word l h p q n e f =
-    let s = slice_cut bytes i j gone placed word h in let d = drop_cut bytes i j gone placed word h in
-    record {
-      parts = record {
-        start_in = omega (arith, h.start, h.end);
-        word_in = omega (arith, h.end, ap length h.whole, length-append gone (placed ++ word), length-append placed word);
-        placed_utf8 = ap is_utf8 s ∙ is_utf8-from_IsUtf8 placed p;
-        word_utf8 = ap is_utf8 d ∙ is_utf8-from_IsUtf8 word q;
-        word_len = n ∙ ap length (sym f) ∙ ap (λ bs. length (chars bs)) (sym d);
-      };
-      seen = rw (s, d, e, f) refl;
-    }
-
-pub split_new : (bytes : List ℕ) → bytes ≡ [] → IsSplit bytes 0 0 0 (record { placed = []; word = [] })
-split_new bytes e = split bytes 0 0 0 [] [] [] (record { placed = []; word = [] }) (record { whole = e; start = refl; end = refl }) IsUtf8-nil IsUtf8-nil refl chars-nil chars-nil
-
--- a text is empty where it has no character
-pub empty_text : (bs cs : List ℕ) (b : Bool) → IsUtf8 bs → chars bs ≡ cs → b ≡ (length bs == 0) → IsTrue b ↔ (cs ≡ [])
-empty_text [] cs b u e h = (λ _. sym e ∙ chars-nil, λ _. h)
-empty_text (x ∷ xs) cs b u e h = (λ t. absurd (true≢false (sym t ∙ h ∙ ne_eqb (suc (length xs)) 0 (λ e. absurd (omega (arith, e))))), λ none. absurd (omega (arith, chars_some (x ∷ xs) u (omega arith), ap length (e ∙ none))))
+pub nothing_behind : (bytes : List ℕ) → bytes ≡ [] → IsBehind bytes 0 0 []
+nothing_behind bytes e = behind bytes 0 0 [] [] (omega arith) e IsUtf8-nil refl chars-nil
 
 -- the first of a list of characters
 pub first_letter : (cs ds : List ℕ) (o : Option ℕ) → o ≡ slice_get cs 0 → ds ≡ cs → MatchOption o (ds ≡ []) (λ c. (rest : List ℕ) × (ds ≡ c ∷ rest))
@@ -122,7 +85,7 @@ scalars_drop zero cs h = h
 scalars_drop (suc n) [] h = h
 scalars_drop (suc n) (c ∷ cs) h = scalars_drop n cs (and_parts (scalar c) (scalars cs) h).1
 
-scalars_take : (n : ℕ) (cs : List ℕ) → scalars cs ≡ true → scalars (take n cs) ≡ true
+pub scalars_take : (n : ℕ) (cs : List ℕ) → scalars cs ≡ true → scalars (take n cs) ≡ true
 scalars_take zero cs h = refl
 scalars_take (suc n) [] h = refl
 scalars_take (suc n) (c ∷ cs) h =
@@ -174,122 +137,35 @@ ascii_bytes text n within ascii =
     let first : take n (chars text) ≡ front = ap (λ cs. take n cs) whole ∙ ap (λ m. take m (front ++ chars (drop n text))) (sym long) ∙ take-append_seam front (chars (drop n text)) in
     sym long ∙ ap length (sym (encodes-IsAscii front ascii)) ∙ ap (λ cs. length (encodes cs)) (sym first)
 
--- ---- what the calls on a text in three parts leave
+-- ---- what calls on a text leave
 
-pub word_short : (bytes : List ℕ) (i j w : ℕ) → AreParts bytes i j w → w ≤ length bytes
-word_short bytes i j w h =
-    omega (arith, h.word_len, h.word_in, length-drop j bytes, chars_within (drop j bytes) (IsUtf8-from_is_utf8 (drop j bytes) h.word_utf8))
+pub left_short : (bytes : List ℕ) (i n : ℕ) → IsLeft bytes i n → n ≤ length bytes
+left_short bytes i n h = omega (arith, h.counts, h.within, length-drop i bytes, chars_within (drop i bytes) (IsUtf8-from_is_utf8 (drop i bytes) h.utf8))
 
-module _ (bytes : List ℕ) (i j w : ℕ) (l : Letters) (h : AreParts bytes i j w) (seen : letters bytes i j ≡ l) where
-  abbrev gone : List ℕ
-  gone = take i bytes
+module _ (bytes : List ℕ) (i n : ℕ) (cs : List ℕ) (h : IsLeft bytes i n) (seen : chars (drop i bytes) ≡ cs) where
+  pub left_utf8 : IsUtf8 (drop i bytes)
+  left_utf8 = IsUtf8-from_is_utf8 (drop i bytes) h.utf8
 
-  abbrev placed : List ℕ
-  placed = slice_range bytes i j
+  pub left_boundary : IsCharBoundary bytes i
+  left_boundary = IsCharBoundary-from_drop bytes i h.within left_utf8
 
-  abbrev word : List ℕ
-  word = drop j bytes
+  pub left_count : n ≡ length cs
+  left_count = h.counts ∙ ap length seen
 
-  pub cut : IsCut bytes i j gone placed word
-  cut = record {
-    whole = sym (take-append-drop i bytes) ∙ ap (λ ys. gone ++ ys) (drop_split bytes i j h.start_in);
-    start = omega (arith, length-take i bytes, h.start_in, h.word_in);
-    end = omega (arith, length-take i bytes, length-take (j - i) (drop i bytes), length-drop i bytes, h.start_in, h.word_in);
-  }
+  -- a text joins it
+  pub joined : (xs ds : List ℕ) (k : ℕ) → xs ≡ bytes ++ ds → IsUtf8 ds → k ≡ length (chars ds) → IsBehind xs i (n + k) (cs ++ chars ds)
+  joined xs ds k e u m =
+      behind xs i (n + k) (drop i bytes ++ ds) (cs ++ chars ds) (omega (arith, ap length e, length-append bytes ds, h.within)) (ap (drop i) e ∙ drop-append-le i bytes ds h.within)
+      (IsUtf8-append (drop i bytes) ds left_utf8 u) (omega (arith, left_count, m, length-append cs (chars ds))) (chars-append (drop i bytes) ds left_utf8 ∙ ap (λ es. es ++ chars ds) seen)
 
-  pub placed_utf8 : IsUtf8 placed
-  placed_utf8 = IsUtf8-from_is_utf8 placed h.placed_utf8
-
-  pub word_utf8 : IsUtf8 word
-  word_utf8 = IsUtf8-from_is_utf8 word h.word_utf8
-
-  pub placed_is : chars placed ≡ l.placed
-  placed_is = ap (λ (m : Letters). m.placed) seen
-
-  pub word_is : chars word ≡ l.word
-  word_is = ap (λ (m : Letters). m.word) seen
-
-  pub word_len : w ≡ length l.word
-  word_len = h.word_len ∙ ap length word_is
-
-  -- where the placed characters and the word begin the text may be cut
-  pub word_boundary : IsCharBoundary bytes j
-  word_boundary = IsCharBoundary-from_drop bytes j h.word_in word_utf8
-
-  pub start_boundary : IsCharBoundary bytes i
-  start_boundary =
-      IsCharBoundary-from_drop bytes i (omega (arith, h.start_in, h.word_in)) (rw (drop_split bytes i j h.start_in) (IsUtf8-append placed word placed_utf8 word_utf8))
-
-  -- so many characters can be counted
-  pub letters_short : length l.placed + length l.word ≤ length bytes
-  letters_short =
-      omega (arith, ap length cut.whole, length-append gone (placed ++ word), length-append placed word, chars_within placed placed_utf8, chars_within word word_utf8, ap length placed_is, ap length word_is)
-
-  -- a text joins the word
-  pub joined : (xs ds : List ℕ) (n : ℕ) → xs ≡ bytes ++ ds → IsUtf8 ds → n ≡ length (chars ds) → IsSplit xs i j (w + n) (record l { word = l.word ++ chars ds })
-  joined xs ds n e u k =
-      split xs i j (w + n) gone placed (word ++ ds) (record l { word = l.word ++ chars ds })
-      (record {
-        whole = e ∙ ap (λ bs. bs ++ ds) cut.whole ∙ append_assoc gone (placed ++ word) ds ∙ ap (λ bs. gone ++ bs) (append_assoc placed word ds);
-        start = cut.start;
-        end = cut.end;
-      })
-      placed_utf8 (IsUtf8-append word ds word_utf8 u) (omega (arith, word_len, k, length-append l.word (chars ds))) placed_is (chars-append word ds word_utf8 ∙ ap (λ cs. cs ++ chars ds) word_is)
-
-  pub char_joined : (xs : List ℕ) (c : ℕ) → xs ≡ bytes ++ encode_utf8 c → IsScalar c → IsSplit xs i j (w + 1) (record l { word = l.word ++ c ∷ [] })
+  pub char_joined : (xs : List ℕ) (c : ℕ) → xs ≡ bytes ++ encode_utf8 c → IsScalar c → IsBehind xs i (n + 1) (cs ++ c ∷ [])
   char_joined xs c e s =
-      let one : chars (encode_utf8 c) ≡ c ∷ [] = chars_push [] c IsUtf8-nil s ∙ ap (λ cs. cs ++ c ∷ []) chars-nil in
-      subst (λ cs. IsSplit xs i j (w + 1) (record l { word = l.word ++ cs })) one (joined xs (encode_utf8 c) 1 e (IsUtf8-encode c s) (ap length (sym one)))
+      let one : chars (encode_utf8 c) ≡ c ∷ [] = chars_push [] c IsUtf8-nil s ∙ ap (λ ds. ds ++ c ∷ []) chars-nil in
+      subst (λ ds. IsBehind xs i (n + 1) (cs ++ ds)) one (joined xs (encode_utf8 c) 1 e (IsUtf8-encode c s) (ap length (sym one)))
 
-  -- the word's first characters are placed
-  pub cut_first : (ds rest : List ℕ) (k : ℕ) → word ≡ ds ++ rest → k ≡ j + length ds → IsCut bytes i k gone (placed ++ ds) rest
-  cut_first ds rest k e n = record {
-    whole = cut.whole ∙ ap (λ bs. gone ++ (placed ++ bs)) e ∙ ap (λ bs. gone ++ bs) (sym (append_assoc placed ds rest));
-    start = cut.start;
-    end = omega (arith, cut.end, n, length-append placed ds);
-  }
-
-  first_placed : (ds rest xs ys : List ℕ) (k n : ℕ) → word ≡ ds ++ rest → k ≡ j + length ds → IsUtf8 ds → IsUtf8 rest → n ≡ length ys → chars ds ≡ xs → chars rest ≡ ys →
-      IsSplit bytes i k n (record { placed = l.placed ++ xs; word = ys })
-  first_placed ds rest xs ys k n e is p q m a b =
-      split bytes i k n gone (placed ++ ds) rest (record { placed = l.placed ++ xs; word = ys }) (cut_first ds rest k e is) (IsUtf8-append placed ds placed_utf8 p) q m
-      (chars-append placed ds placed_utf8 ∙ ap (λ cs. cs ++ chars ds) placed_is ∙ ap (λ cs. l.placed ++ cs) a) b
-
-  pub word_placed : (n : ℕ) → n ≡ length bytes → IsSplit bytes i n 0 (record { placed = l.placed ++ l.word; word = [] })
-  word_placed n e =
-      first_placed word [] l.word [] n 0 (sym (append-nil word)) (omega (arith, e, length-drop j bytes, h.word_in)) word_utf8 IsUtf8-nil refl word_is chars-nil
-
-  module _ (n k : ℕ) (is : k ≡ length (encodes (take n l.word))) where
-    split_word : SplitsAt word l.word n
-    split_word = splits_at word l.word n word_utf8 word_is
-
-    pub front_within : j + k ≤ length bytes
-    front_within = omega (arith, h.word_in, is, ap length split_word.whole, length-append (encodes (take n l.word)) (encodes (drop n l.word)), length-drop j bytes)
-
-    pub front_placed : IsSplit bytes i (j + k) (w - n) (record { placed = l.placed ++ take n l.word; word = drop n l.word })
-    front_placed =
-        first_placed (encodes (take n l.word)) (encodes (drop n l.word)) (take n l.word) (drop n l.word) (j + k) (w - n) split_word.whole (ap (λ m. j + m) is)
-        split_word.front_utf8 split_word.back_utf8 (omega (arith, word_len, length-drop n l.word)) split_word.front split_word.back
-
-  -- text is placed before the word
-  pub inserted : (xs ds : List ℕ) (k : ℕ) → xs ≡ take j bytes ++ (ds ++ word) → k ≡ j + length ds → IsUtf8 ds → IsSplit xs i k w (record l { placed = l.placed ++ chars ds })
-  inserted xs ds k e n u =
-      split xs i k w gone (placed ++ ds) word (record l { placed = l.placed ++ chars ds })
-      (record {
-        whole = e ∙ ap (λ bs. bs ++ (ds ++ word)) (take_cut bytes i j gone placed word cut) ∙ append_assoc gone placed (ds ++ word) ∙ ap (λ bs. gone ++ bs) (sym (append_assoc placed ds word));
-        start = cut.start;
-        end = omega (arith, cut.end, n, length-append placed ds);
-      })
-      (IsUtf8-append placed ds placed_utf8 u) word_utf8 word_len (chars-append placed ds placed_utf8 ∙ ap (λ cs. cs ++ chars ds) placed_is) word_is
-
-  -- the first placed characters are handed out
-  pub handed_out : (n k : ℕ) → k ≡ length (encodes (take n l.placed)) → IsSplit bytes (i + k) j w (record l { placed = drop n l.placed })
-  handed_out n k is =
-      let s = splits_at placed l.placed n placed_utf8 placed_is in let ds = encodes (take n l.placed) in let rest = encodes (drop n l.placed) in
-      split bytes (i + k) j w (gone ++ ds) rest word (record l { placed = drop n l.placed })
-      (record {
-        whole = cut.whole ∙ ap (λ bs. gone ++ (bs ++ word)) s.whole ∙ ap (λ bs. gone ++ bs) (append_assoc ds rest word) ∙ sym (append_assoc gone ds (rest ++ word));
-        start = omega (arith, cut.start, is, length-append gone ds);
-        end = omega (arith, cut.end, length-append gone ds, ap length s.whole, length-append ds rest);
-      })
-      s.back_utf8 word_utf8 word_len s.back word_is
+  -- the first characters are forgotten
+  pub forgotten : (m k : ℕ) → k ≡ length (encodes (take m cs)) → IsBehind bytes (i + k) (n - m) (drop m cs)
+  forgotten m k is =
+      let s = splits_at (drop i bytes) cs m left_utf8 seen in let front = encodes (take m cs) in let rest = encodes (drop m cs) in
+      behind bytes (i + k) (n - m) rest (drop m cs) (omega (arith, is, ap length s.whole, length-append front rest, length-drop i bytes, h.within))
+      (sym (drop-drop k i bytes) ∙ ap (drop k) s.whole ∙ drop_at front rest k (sym is)) s.back_utf8 (omega (arith, left_count, length-drop m cs)) s.back

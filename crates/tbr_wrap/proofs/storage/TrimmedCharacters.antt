@@ -2,14 +2,14 @@
 use Rattle.std.proofs.Common.{◌≡◌, ℕ, suc, zero, ◌+◌, ◌-◌, ◌<◌, ◌≤◌, min, if◌then◌else◌, Bool, true, false, Option, List, [], ◌∷◌, ◌++◌, length, take, drop, replicate, refl, ap, sym, ◌∙◌, arith, append_assoc, ne_eqb}
 use Rattle.std.specs.List.{AllByRecursion as Each}
 use Rattle.std.specs.Char.{is_whitespace}
-use Rattle.std.proofs.Math.Seq.{drop-append_seam}
-use Rattle.std.proofs.lemmas.List.{take-append-drop, length-append, length-take, length-drop, length-replicate, drop-append-le, drop-drop}
+use Rattle.std.proofs.Math.Seq.{drop-append_seam, take-append_seam}
+use Rattle.std.proofs.lemmas.List.{take-append-drop, drop_at, length-append, length-take, length-drop, length-replicate, drop-append-le, drop-drop}
 use Rattle.tbr_model.specs.Run.{Item, glyph, items_width}
 use Rattle.tbr_model.specs.Entry.{is_glyph}
 use Rattle.tbr_model.specs.Rule.{without_leading, without_trailing, is_space_item, is_white_item}
 use Rattle.tbr_model.specs.Width.{width_of_text}
-use Rattle.tbr_wrap.specs.Flat.{Letters, flat, glyphs}
-use Rattle.tbr_wrap.proofs.storage.TaggedCharacters.{glyphs-drop, glyphs-take, length-glyphs}
+use Rattle.tbr_wrap.specs.Flat.{flat, glyphs}
+use Rattle.tbr_wrap.proofs.storage.TaggedCharacters.{glyphs-drop, glyphs-take, glyphs_kept, length-glyphs}
 use Rattle.tbr_wrap.proofs.storage.StretchTags.{take_behind}
 
 module _ {A : Type 0} where
@@ -25,13 +25,13 @@ module _ {A : Type 0} where
   glyphs_width columns (c ∷ cs) [] h = absurd (omega arith)
   glyphs_width columns (c ∷ cs) (t ∷ ts) h = omega (arith, glyphs_width columns cs ts (omega arith))
 
-  pub front_columns : (columns : ℕ → Option ℕ) (l : Letters) (ts : List A) (n : ℕ) → length ts ≡ length l.placed + length l.word → width_of_text columns (take n l.word) ≡ items_width columns (take n (flat l ts).word)
-  front_columns columns l ts n h =
-      let us = drop (length l.placed) ts in
-      glyphs_width columns (take n l.word) us (omega (arith, h, length-drop (length l.placed) ts, length-take n l.word)) ∙ ap (items_width columns) (glyphs-take n l.word us)
+  pub front_columns : (columns : ℕ → Option ℕ) (p w : List ℕ) (ts : List A) (n : ℕ) → length ts ≡ length p + length w → width_of_text columns (take n w) ≡ items_width columns (take n (flat p w ts).word)
+  front_columns columns p w ts n h =
+      let us = drop (length p) ts in
+      glyphs_width columns (take n w) us (omega (arith, h, length-drop (length p) ts, length-take n w)) ∙ ap (items_width columns) (glyphs-take n w us)
 
-  pub word_columns : (columns : ℕ → Option ℕ) (l : Letters) (ts : List A) → length ts ≡ length l.placed + length l.word → width_of_text columns l.word ≡ items_width columns (flat l ts).word
-  word_columns columns l ts h = glyphs_width columns l.word (drop (length l.placed) ts) (omega (arith, h, length-drop (length l.placed) ts))
+  pub word_columns : (columns : ℕ → Option ℕ) (p w : List ℕ) (ts : List A) → length ts ≡ length p + length w → width_of_text columns w ≡ items_width columns (flat p w ts).word
+  word_columns columns p w ts h = glyphs_width columns w (drop (length p) ts) (omega (arith, h, length-drop (length p) ts))
 
 -- ---- what is trimmed
 
@@ -62,57 +62,72 @@ module _ {A : Type 0} where
       (trailing_left (d ∷ mid) n (v ∷ us) (omega arith) (λ f e. most (c ∷ f) (ap (λ es. c ∷ es) e)))
 
   -- white space in front is dropped, up to a place
-  leading_left : (b n : ℕ) (cs : List ℕ) (ts : List A) (front rest : List (Item A)) → Each (λ c. is_whitespace c ≡ true) (take b cs) → ((c : ℕ) → (more : List ℕ) → drop b cs ≡ c ∷ more → is_whitespace c ≡ false) →
-      n ≤ b → n ≤ length front → (n < length front → n ≡ b) → glyphs cs ts ≡ front ++ rest → without_leading front ≡ drop n front
-  leading_left b zero cs ts [] rest h most less within all e = refl
-  leading_left (suc b) zero cs ts (i ∷ front) rest h most less within all e = absurd (omega (arith, all (omega arith)))
-  leading_left zero zero [] ts (i ∷ front) rest h most less within all e = absurd (cc)
-  leading_left zero zero (c ∷ cs) [] (i ∷ front) rest h most less within all e = absurd (cc)
-  leading_left zero zero (c ∷ cs) (t ∷ ts) (i ∷ front) rest h most less within all e =
+  leading_left : (n : ℕ) (cs : List ℕ) (ts : List A) (front rest : List (Item A)) → Each (λ c. is_whitespace c ≡ true) (take n cs) → n ≤ length front →
+      (n < length front → (c : ℕ) → (more : List ℕ) → drop n cs ≡ c ∷ more → is_whitespace c ≡ false) → glyphs cs ts ≡ front ++ rest → without_leading front ≡ drop n front
+  leading_left zero cs ts [] rest h within most e = refl
+  leading_left zero [] ts (i ∷ front) rest h within most e = absurd (cc)
+  leading_left zero (c ∷ cs) [] (i ∷ front) rest h within most e = absurd (cc)
+  leading_left zero (c ∷ cs) (t ∷ ts) (i ∷ front) rest h within most e =
       let first : i ≡ glyph c t = cc in
-      let other : is_white_item i ≡ false = ap is_white_item first ∙ most c cs refl in
+      let other : is_white_item i ≡ false = ap is_white_item first ∙ most (omega arith) c cs refl in
       rw other refl
-  leading_left zero (suc n) cs ts front rest h most less within all e = absurd (omega arith)
-  leading_left (suc b) (suc n) cs ts [] rest h most less within all e = absurd (omega arith)
-  leading_left (suc b) (suc n) [] ts (i ∷ front) rest h most less within all e = absurd (cc)
-  leading_left (suc b) (suc n) (c ∷ cs) [] (i ∷ front) rest h most less within all e = absurd (cc)
-  leading_left (suc b) (suc n) (c ∷ cs) (t ∷ ts) (i ∷ front) rest h most less within all e =
+  leading_left (suc n) cs ts [] rest h within most e = absurd (omega arith)
+  leading_left (suc n) [] ts (i ∷ front) rest h within most e = absurd (cc)
+  leading_left (suc n) (c ∷ cs) [] (i ∷ front) rest h within most e = absurd (cc)
+  leading_left (suc n) (c ∷ cs) (t ∷ ts) (i ∷ front) rest h within most e =
       let first : i ≡ glyph c t = cc in
       let behind : glyphs cs ts ≡ front ++ rest = cc in
       let white : is_white_item i ≡ true = ap is_white_item first ∙ h.0 in
-      rw white (leading_left b n cs ts front rest h.1 most (omega arith) (omega arith) (λ l. omega (arith, all (omega arith))) behind)
+      rw white (leading_left n cs ts front rest h.1 (omega arith) (λ l. most (omega arith)) behind)
 
-  glyphs_kept : (m : ℕ) (cs : List ℕ) (ts us : List A) → m ≤ length cs → m ≤ length ts → glyphs (take m cs) (take m ts ++ us) ≡ take m (glyphs cs ts)
-  glyphs_kept zero cs ts us h k = refl
-  glyphs_kept (suc m) [] ts us h k = absurd (omega arith)
-  glyphs_kept (suc m) (c ∷ cs) [] us h k = absurd (omega arith)
-  glyphs_kept (suc m) (c ∷ cs) (t ∷ ts) us h k = ap (λ is. glyph c t ∷ is) (glyphs_kept m cs ts us (omega arith) (omega arith))
+  -- Tags are taken out in front of the last k ones.
+  module _ (p w : List ℕ) (ts : List A) (n k : ℕ) (h : length ts ≡ length p + length w) where
+    abbrev left : List A
+    left = take (length ts - (k + n)) ts ++ drop (length ts - k) ts
 
-  -- characters are taken out of the text, and as many tags
-  flat_trimmed : (l : Letters) (ts : List A) (n b w count : ℕ) → length ts ≡ length l.placed + length l.word → n ≤ length l.placed → b ≤ length l.word → w ≡ length l.word - b → count ≡ n + b →
-      flat (record { placed = take (length l.placed - n) l.placed; word = drop b l.word }) (take (length ts - (w + count)) ts ++ drop (length ts - w) ts)
-      ≡ record { placed = take (length l.placed - n) (flat l ts).placed; word = drop b (flat l ts).word }
-  flat_trimmed l ts n b w count h less within e f =
-      let m = length l.placed - n in
-      let us = drop (length ts - w) ts in
-      let first : length ts - (w + count) ≡ m = omega (arith, h, less, within, e, f) in
-      let second : length ts - w ≡ length l.placed + b = omega (arith, h, within, e) in
-      let front : glyphs (take m l.placed) (take m ts ++ us) ≡ take m (glyphs l.placed ts) = glyphs_kept m l.placed ts us (omega arith) (omega (arith, h)) in
-      let len : length (take m l.placed) ≡ length (take m ts) = omega (arith, length-take m l.placed, length-take m ts, h) in
-      let behind : drop (length (take m l.placed)) (take m ts ++ us) ≡ drop b (drop (length l.placed) ts) =
-      ap (λ i. drop i (take m ts ++ us)) len ∙ drop-append_seam (take m ts) us ∙ ap (λ i. drop i ts) second ∙ sym (drop-drop b (length l.placed) ts) in
-      rw (first, front, behind, glyphs-drop b l.word (drop (length l.placed) ts)) refl
+    left_len : k + n ≤ length ts → length left ≡ length ts - n
+    left_len enough = omega (arith, enough, length-append (take (length ts - (k + n)) ts) (drop (length ts - k) ts), length-take (length ts - (k + n)) ts, length-drop (length ts - k) ts)
 
-  pub trimmed_flat : (l m : Letters) (ts us : List A) (n b w count : ℕ) → length ts ≡ length l.placed + length l.word → n ≤ length l.placed → b ≤ length l.word → w ≡ length l.word - b → count ≡ n + b →
-      m ≡ record { placed = take (length l.placed - n) l.placed; word = drop b l.word } → us ≡ take (length ts - (w + count)) ts ++ drop (length ts - w) ts →
-      flat m us ≡ record { placed = take (length l.placed - n) (flat l ts).placed; word = drop b (flat l ts).word }
-  trimmed_flat l m ts us n b w count h less within e f p q =
-      ap (λ x. flat x us) p ∙ ap (λ vs. flat (record { placed = take (length l.placed - n) l.placed; word = drop b l.word }) vs) q ∙ flat_trimmed l ts n b w count h less within e f
+    -- the placed characters lose spaces at their end
+    module _ (q : List ℕ) (e : p ≡ q ++ replicate n 32) (count : k ≡ length w) where
+      pub spaces_len : length p ≡ length q + n
+      spaces_len = omega (arith, ap length e, length-append q (replicate n 32), length-replicate {A = ℕ} n 32)
+
+      pub spaces_fit : length left ≡ length q + length w
+      spaces_fit = omega (arith, h, count, spaces_len, left_len (omega (arith, h, count, spaces_len)))
+
+      pub spaces_placed : (flat q w left).placed ≡ take (length q) (flat p w ts).placed
+      spaces_placed =
+          glyphs_kept q (length ts - (k + n)) ts (drop (length ts - k) ts) (omega (arith, h, count, spaces_len)) (omega arith) ∙ ap (λ cs. glyphs cs ts) (sym (ap (take (length q)) e ∙ take-append_seam q (replicate n 32)))
+          ∙ glyphs-take (length q) p ts
+
+      pub spaces_word : (flat q w left).word ≡ (flat p w ts).word
+      spaces_word =
+          let first : length (take (length ts - (k + n)) ts) ≡ length q = omega (arith, h, count, spaces_len, length-take (length ts - (k + n)) ts) in
+          let second : length ts - k ≡ length p = omega (arith, h, count) in
+          ap (glyphs w) (drop_at (take (length ts - (k + n)) ts) (drop (length ts - k) ts) (length q) first ∙ ap (λ i. drop i ts) second)
+
+    -- the word loses its first characters
+    module _ (within : n ≤ length w) (count : k ≡ length w - n) where
+      first : length ts - (k + n) ≡ length p
+      first = omega (arith, h, within, count)
+
+      pub blanks_fit : length left ≡ length p + length (drop n w)
+      blanks_fit = omega (arith, h, within, count, length-drop n w, left_len (omega (arith, h, within, count)))
+
+      pub blanks_placed : (flat p (drop n w) left).placed ≡ (flat p w ts).placed
+      blanks_placed = glyphs_kept p (length ts - (k + n)) ts (drop (length ts - k) ts) (omega (arith, first)) (omega arith)
+
+      pub blanks_word : (flat p (drop n w) left).word ≡ drop n (flat p w ts).word
+      blanks_word =
+          let len : length (take (length ts - (k + n)) ts) ≡ length p = omega (arith, first, h, length-take (length ts - (k + n)) ts) in
+          let second : length ts - k ≡ length p + n = omega (arith, h, within, count) in
+          ap (glyphs (drop n w)) (drop_at (take (length ts - (k + n)) ts) (drop (length ts - k) ts) (length p) len ∙ ap (λ i. drop i ts) second ∙ sym (drop-drop n (length p) ts)) ∙ glyphs-drop n w (drop (length p) ts)
 
   -- a line loses the spaces at its end
   pub line_trimmed : (cs front : List ℕ) (ts : List A) (n most : ℕ) (before line : List (Item A)) → length cs ≤ length ts → n ≤ most → cs ≡ front ++ replicate n 32 →
       (n < most → (f : List ℕ) → cs ≡ f ++ replicate (suc n) 32 → ⊥) → glyphs cs ts ≡ before ++ line → length line ≡ most →
-      (take (length cs - n) (glyphs cs ts) ≡ before ++ without_trailing line) × (n + length (without_trailing line) ≡ length line)
+      (take (length front) (glyphs cs ts) ≡ before ++ without_trailing line) × (n + length (without_trailing line) ≡ length line)
   line_trimmed cs front ts n most before line h less e all parts len =
       let k = length before in let mid = drop k front in let us = drop k ts in
       let whole : length cs ≡ k + most = omega (arith, sym (length-glyphs cs ts h), ap length parts, length-append before line, len) in
@@ -127,17 +142,18 @@ module _ {A : Type 0} where
       ∙ append_assoc (take k front ++ f) (32 ∷ []) (replicate n 32)) in
       let left : without_trailing line ≡ take (length mid) line =
       ap without_trailing line_is ∙ trailing_left mid n us (omega (arith, mid_len, whole, h, length-drop k ts)) none ∙ ap (λ is. take (length mid) is) (sym line_is) in
-      let count : length cs - n ≡ k + length mid = omega (arith, whole, mid_len) in (
-        ap (λ is. take (length cs - n) is) parts ∙ take_behind before line (length mid) (length cs - n) count ∙ ap (λ is. before ++ is) (sym left),
+      let count : length front ≡ k + length mid = omega (arith, front_len, whole, mid_len) in (
+        ap (take (length front)) parts ∙ take_behind before line (length mid) (length front) count ∙ ap (λ is. before ++ is) (sym left),
         omega (arith, ap length left, length-take (length mid) line, len, mid_len),
       )
 
   -- the first of a word's characters lose the white space in front
-  pub word_trimmed : (cs : List ℕ) (ts : List A) (b n first : ℕ) (front rest : List (Item A)) → Each (λ c. is_whitespace c ≡ true) (take b cs) → ((c : ℕ) → (more : List ℕ) → drop b cs ≡ c ∷ more → is_whitespace c ≡ false) →
-      n ≡ min b first → glyphs cs ts ≡ front ++ rest → length front ≡ first → (drop n (glyphs cs ts) ≡ without_leading front ++ rest) × (n + length (without_leading front) ≡ length front)
-  word_trimmed cs ts b n first front rest h most least parts len =
-      let within : n ≤ length front = omega arith in
-      let left : without_leading front ≡ drop n front = leading_left b n cs ts front rest h most (omega arith) within (λ l. omega arith) parts in (
-        ap (λ is. drop n is) parts ∙ drop-append-le n front rest within ∙ ap (λ is. is ++ rest) (sym left),
+  pub word_trimmed : (cs : List ℕ) (ts : List A) (n first : ℕ) (front rest : List (Item A)) → Each (λ c. is_whitespace c ≡ true) (take n cs) → n ≤ first →
+      (n < first → (c : ℕ) → (more : List ℕ) → drop n cs ≡ c ∷ more → is_whitespace c ≡ false) → glyphs cs ts ≡ front ++ rest → length front ≡ first →
+      (drop n (glyphs cs ts) ≡ without_leading front ++ rest) × (n + length (without_leading front) ≡ length front)
+  word_trimmed cs ts n first front rest h less most parts len =
+      let within : n ≤ length front = omega (arith, less, len) in
+      let left : without_leading front ≡ drop n front = leading_left n cs ts front rest h within (λ l. most (omega (arith, l, len))) parts in (
+        ap (drop n) parts ∙ drop-append-le n front rest within ∙ ap (λ is. is ++ rest) (sym left),
         omega (arith, ap length left, length-drop n front),
       )

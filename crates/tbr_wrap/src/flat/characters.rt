@@ -1,4 +1,4 @@
-//! Characters under tags, in one text.
+//! Characters under tags.
 ghost use Rattle.std.specs.Prelude.{◌≡◌, ◌<◌, ◌≤◌, ◌+◌, ◌++◌, ◌∷◌, [], true, List, length, take, drop, chars, string_bytes, MatchOption, OnOk, OnErr, IfOk, IsTrue, ◌↔◌};
 ghost use Rattle.std.specs.List.{AllByRecursion as Each};
 ghost use Rattle.tbr_tagged.specs.Copies.{CopiesAreEqual};
@@ -9,22 +9,24 @@ ghost use Rattle.tbr_tagged.specs.Elements.{SameItems, text_items};
 ghost use Rattle.tbr_tagged.specs.View.{chars_of};
 ghost use Rattle.tbr_tagged.specs.Walks.{item_characters};
 
-use crate::flat::split_text::SplitText;
 use crate::flat::tags::Stretches;
+use crate::flat::text_queue::TextQueue;
 use std::alloc::Global;
 use std::marker::Model;
 use std::str::Chars;
 use tbr_model::CharWidth;
 use tbr_tagged::{OutOfMemory, TaggedString};
 
-/// Characters under tags, in one text: those that are placed on lines, and behind them those of the current word.
+/// Characters under tags: those that are placed on lines, and behind them those of the current word.
 ///
-/// A tag is stored once for each stretch of it, however many lines or words that covers. Placing a word moves no
-/// character, and handing out characters costs their own length. A contract sees the characters that are placed and not
-/// handed out yet, and those of the word.
+/// A tag is stored once for each stretch of it, however many lines or words that covers. Placing and handing out
+/// characters costs their own length. A contract sees the characters that are placed and not handed out yet, and those
+/// of the word.
 #[derive(Drop)]
 pub struct Characters<T> {
-    text: SplitText,
+    placed: TextQueue,
+    word: TextQueue,
+    /// The tags of both, in order.
     tags: Stretches<T>,
 }
 
@@ -34,9 +36,9 @@ impl<T> Model for Characters<T> {
 
     ghost Value = { Flat T };
 
-    ghost view = { λ a. flat a.text a.tags };
+    ghost view = { λ a. flat a.placed a.word a.tags };
 
-    ghost invariant = { λ a. length a.tags ≡ length a.text.placed + length a.text.word };
+    ghost invariant = { λ a. length a.tags ≡ length a.placed + length a.word };
 }
 
 impl<T> Characters<T> {
@@ -45,7 +47,8 @@ impl<T> Characters<T> {
         ensures { result ≡ record { placed = []; word = [] } }
     {
         Characters {
-            text: SplitText::new(alloc),
+            placed: TextQueue::new(alloc),
+            word: TextQueue::new(alloc),
             tags: Stretches::new(alloc),
         }
     }
@@ -55,7 +58,7 @@ impl<T> Characters<T> {
         ensures { result ≡ length self.now.word }
     {
         let _ = &self.tags;
-        self.text.word_len()
+        self.word.len()
     }
 
     /// Whether the word has no character.
@@ -67,7 +70,7 @@ impl<T> Characters<T> {
 
     /// The characters that are placed, without their tags.
     pub fn chars(&self) -> Chars<'_> {
-        self.text.chars()
+        self.placed.chars()
     }
 
     /// Whether no character is placed.
@@ -75,7 +78,7 @@ impl<T> Characters<T> {
         ensures { IsTrue result ↔ (self.now.placed ≡ []) }
     {
         let _ = &self.tags;
-        self.text.is_placed_empty()
+        self.placed.is_empty()
     }
 
     /// The word's first character.
@@ -84,7 +87,7 @@ impl<T> Characters<T> {
             (λ c. (a : T) × (rest : List (Item T)) × (self.now.word ≡ glyph c a ∷ rest)) }
     {
         let _ = &self.tags;
-        self.text.first()
+        self.word.first()
     }
 
     /// Changes nothing: it holds characters alone.
@@ -95,11 +98,14 @@ impl<T> Characters<T> {
         let _ = &self.tags;
     }
 
-    /// Places the word. It takes constant time.
-    pub fn place_word(&mut self)
-        ensures { self.new ≡ record { placed = self.old.placed ++ self.old.word; word = [] } }
+    /// Places the word. It takes the time of moving its text. Where memory is refused the characters stay as they were.
+    pub fn place_word(&mut self) -> Result<(), OutOfMemory>
+        ensures ok { OnOk result (self.new ≡ record { placed = self.old.placed ++ self.old.word; word = [] }) }
+        ensures err { OnErr result (self.new ≡ self.old) }
     {
-        self.text.place_word();
+        let _ = &self.tags;
+        self.placed.append(&mut self.word)?;
+        Ok(())
     }
 
     /// The columns of the word.
@@ -107,48 +113,61 @@ impl<T> Characters<T> {
         ensures { IfOk result (λ n. n ≡ items_width W.columns self.now.word) }
     {
         let _ = &self.tags;
-        self.text.word_width::<W>()
+        self.word.width::<W>()
     }
 
     /// Places the characters that the word begins with, at most `most`, while they fit into `room` columns. It answers
     /// how many they are, and their columns.
-    pub fn place_fitting<W: CharWidth>(&mut self, most: usize, room: usize) -> (usize, usize)
+    ///
+    /// Where memory is refused the characters stay as they were.
+    pub fn place_fitting<W: CharWidth>(
+        &mut self,
+        most: usize,
+        room: usize,
+    ) -> Result<(usize, usize), OutOfMemory>
         ensures some { 0 < most → 0 < length self.old.word → items_width W.columns (take 1 self.old.word) ≤ room →
-            0 < result.0 }
-        ensures most { result.0 ≤ most }
-        ensures within { result.0 ≤ length self.old.word }
-        ensures room { result.1 ≤ room }
-        ensures columns { result.1 ≡ items_width W.columns (take result.0 self.old.word) }
-        ensures placed { self.new
-            ≡ record { placed = self.old.placed ++ take result.0 self.old.word; word = drop result.0 self.old.word } }
+            IfOk result (λ r. 0 < r.0) }
+        ensures most { IfOk result (λ r. r.0 ≤ most) }
+        ensures within { IfOk result (λ r. r.0 ≤ length self.old.word) }
+        ensures room { IfOk result (λ r. r.1 ≤ room) }
+        ensures columns { IfOk result (λ r. r.1 ≡ items_width W.columns (take r.0 self.old.word)) }
+        ensures placed { IfOk result (λ r. self.new
+            ≡ record { placed = self.old.placed ++ take r.0 self.old.word; word = drop r.0 self.old.word }) }
+        ensures err { OnErr result (self.new ≡ self.old) }
     {
-        self.text.place_fitting::<W>(most, room)
+        let (count, columns) = self.word.move_fitting::<W>(most, room, &mut self.placed)?;
+        Ok((count, columns))
     }
 }
 
 impl<T: Drop> Characters<T> {
-    /// Takes away the spaces at the end of the last `last` placed characters, and the white space at the beginning of
-    /// the word's first `first` ones. It answers how many these were. It takes the time of moving the word, and of
-    /// going over its stretches.
-    ///
-    /// Where memory is refused the characters stay as they were.
-    pub fn trim(&mut self, last: usize, first: usize) -> Result<(usize, usize), OutOfMemory>
-        requires last { last ≤ length self.old.placed }
-        requires first { first ≤ length self.old.word }
+    /// Takes the spaces away at the end of the last `last` placed characters, and answers how many they were. It takes
+    /// the time of going over the stretches of the word.
+    pub fn trim_placed(&mut self, last: usize) -> usize
+        requires { last ≤ length self.old.placed }
         ensures placed { (before line : List (Item T)) → self.old.placed ≡ before ++ line → length line ≡ last →
-            IfOk result (λ n. (self.new.placed ≡ before ++ without_trailing line)
-            × (n.0 + length (without_trailing line) ≡ length line)) }
-        ensures word { (front rest : List (Item T)) → self.old.word ≡ front ++ rest → length front ≡ first →
-            IfOk result (λ n. (self.new.word ≡ without_leading front ++ rest)
-            × (n.1 + length (without_leading front) ≡ length front)) }
-        ensures err { OnErr result (self.new ≡ self.old) }
+            (self.new.placed ≡ before ++ without_trailing line)
+            × (result + length (without_trailing line) ≡ length line) }
+        ensures word { self.new.word ≡ self.old.word }
     {
-        let spaces = self.text.trailing_spaces(last);
-        let blanks = self.text.leading_blanks().min(first);
-        let kept = self.text.word_len() - blanks;
-        self.text.remove_between(spaces, blanks)?;
-        self.tags.remove_before(kept, spaces + blanks);
-        Ok((spaces, blanks))
+        let spaces = self.placed.pop_spaces(last);
+        self.tags.remove_before(self.word.len(), spaces);
+        spaces
+    }
+
+    /// Takes the white space away at the beginning of the word's first `first` characters, and answers how many these
+    /// were. It takes the time of going over the stretches of the word.
+    pub fn trim_word(&mut self, first: usize) -> usize
+        requires { first ≤ length self.old.word }
+        ensures word { (front rest : List (Item T)) → self.old.word ≡ front ++ rest → length front ≡ first →
+            (self.new.word ≡ without_leading front ++ rest)
+            × (result + length (without_leading front) ≡ length front) }
+        ensures placed { self.new.placed ≡ self.old.placed }
+    {
+        let word = self.word.len();
+        let blanks = self.word.pop_blanks(first);
+        self.tags.remove_before(word - blanks, blanks);
+        blanks
     }
 }
 
@@ -162,8 +181,8 @@ impl<T: Eq + Clone + Drop> Characters<T> {
             × (self.new ≡ record self.old { word = self.old.word ++ glyph c a ∷ [] })) }
     {
         self.tags.push(tag, 1)?;
-        if let Err(e) = self.text.push(c) {
-            clear(&mut self.text, &mut self.tags);
+        if let Err(e) = self.word.push(c) {
+            clear(&mut self.placed, &mut self.word, &mut self.tags);
             return Err(e);
         }
         Ok(())
@@ -180,14 +199,14 @@ impl<T: Eq + Clone + Drop> Characters<T> {
             × (self.new ≡ record self.old { word = self.old.word ++ text_items (chars text.now) a })) }
     {
         self.tags.push(tag, count)?;
-        if let Err(e) = self.text.push_text(text, count) {
-            clear(&mut self.text, &mut self.tags);
+        if let Err(e) = self.word.push_str(text, count) {
+            clear(&mut self.placed, &mut self.word, &mut self.tags);
             return Err(e);
         }
         Ok(())
     }
 
-    /// Places `count` spaces before the word. It takes the time of moving the word, and of going over its stretches.
+    /// Places `count` spaces before the word. It takes the time of going over the stretches of the word.
     ///
     /// Where the spaces part a stretch, the tag is copied, and the word's first characters stand under the copy. Where
     /// memory is refused the characters may be lost.
@@ -198,13 +217,12 @@ impl<T: Eq + Clone + Drop> Characters<T> {
             × (self.new.placed ≡ self.old.placed ++ spaces count a)) }
         ensures word { OnOk result (SameItems T.eq self.new.word self.old.word) }
     {
-        let word = self.text.word_len();
-        if let Err(e) = self.tags.insert_before(word, count, tag) {
-            clear(&mut self.text, &mut self.tags);
+        if let Err(e) = self.tags.insert_before(self.word.len(), count, tag) {
+            clear(&mut self.placed, &mut self.word, &mut self.tags);
             return Err(e);
         }
-        if let Err(e) = self.text.push_spaces(count) {
-            clear(&mut self.text, &mut self.tags);
+        if let Err(e) = self.placed.push_spaces(count) {
+            clear(&mut self.placed, &mut self.word, &mut self.tags);
             return Err(e);
         }
         Ok(())
@@ -223,10 +241,10 @@ impl<T: Eq + Clone + Drop> Characters<T> {
         ensures rest { IfOk result (λ r. self.new ≡ record self.old { placed = drop r.0 self.old.placed }) }
     {
         let (count, tag) = self.tags.take(most)?;
-        match self.text.take(count) {
+        match self.placed.take(count) {
             Ok(s) => Ok((count, TaggedString { s, tag })),
             Err(e) => {
-                clear(&mut self.text, &mut self.tags);
+                clear(&mut self.placed, &mut self.word, &mut self.tags);
                 Err(e)
             }
         }
@@ -247,10 +265,10 @@ impl<T: Drop> Characters<T> {
         ensures rest { IfOk result (λ n. self.new ≡ record self.old { placed = drop n self.old.placed }) }
     {
         let count = self.tags.remove_front(most);
-        match self.text.move_to(count, text) {
+        match self.placed.move_to(count, text) {
             Ok(()) => Ok(count),
             Err(e) => {
-                clear(&mut self.text, &mut self.tags);
+                clear(&mut self.placed, &mut self.word, &mut self.tags);
                 Err(e)
             }
         }
@@ -260,15 +278,17 @@ impl<T: Drop> Characters<T> {
     pub fn clear(&mut self)
         ensures { self.new ≡ record { placed = []; word = [] } }
     {
-        clear(&mut self.text, &mut self.tags);
+        clear(&mut self.placed, &mut self.word, &mut self.tags);
     }
 }
 
 /// Forgets all characters and tags.
-fn clear<T: Drop>(text: &mut SplitText, tags: &mut Stretches<T>)
-    ensures text { text.new ≡ record { placed = []; word = [] } }
+fn clear<T: Drop>(placed: &mut TextQueue, word: &mut TextQueue, tags: &mut Stretches<T>)
+    ensures placed { placed.new ≡ [] }
+    ensures word { word.new ≡ [] }
     ensures tags { tags.new ≡ [] }
 {
-    text.clear();
+    placed.clear();
+    word.clear();
     tags.clear();
 }

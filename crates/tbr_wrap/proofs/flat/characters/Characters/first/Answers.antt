@@ -2,4 +2,4 @@ use Rattle.tbr_wrap.proofs.storage.TaggedCharacters.{flat_word_first}
 use Rattle.tbr_wrap.proofs.flat.characters.Characters.first.Goals as goal
 
 pub returns : goal.returns
-returns g c = rw (← c.self.view_is) (flat_word_first c.self.inside.text c.self.inside.tags c.first.result c.self.invariant c.first.ensures)
+returns g c = rw (← c.self.view_is) (flat_word_first c.self.inside.placed c.self.inside.word c.self.inside.tags c.self.invariant c.first.result c.first.ensures)

@@ -7,9 +7,9 @@ use Rattle.tbr_wrap.proofs.flat.characters.Characters.holds_characters.Goals as 
 
 pub returns-clause-placed : goal.returns-clause-placed
 returns-clause-placed g c =
-    subst (λ (f : Flat g.row.T.Denot). Each (λ i. is_glyph i ≡ true) f.placed) c.self.view_is (all_glyphs c.self.inside.text.placed c.self.inside.tags)
+    subst (λ (f : Flat g.row.T.Denot). Each (λ i. is_glyph i ≡ true) f.placed) c.self.view_is (all_glyphs c.self.inside.placed c.self.inside.tags)
 
 pub returns-clause-word : goal.returns-clause-word
 returns-clause-word g c =
     subst (λ (f : Flat g.row.T.Denot). Each (λ i. is_glyph i ≡ true) f.word) c.self.view_is
-    (all_glyphs c.self.inside.text.word (drop (length c.self.inside.text.placed) c.self.inside.tags))
+    (all_glyphs c.self.inside.word (drop (length c.self.inside.placed) c.self.inside.tags))

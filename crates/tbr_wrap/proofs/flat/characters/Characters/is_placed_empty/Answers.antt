@@ -2,4 +2,4 @@ use Rattle.tbr_wrap.proofs.storage.TaggedCharacters.{placed_none}
 use Rattle.tbr_wrap.proofs.flat.characters.Characters.is_placed_empty.Goals as goal
 
 pub returns : goal.returns
-returns g c = placed_none c.is_placed_empty.result c.self.inside.text c.self.inside.tags c.args.self.now c.self.invariant c.self.view_is c.is_placed_empty.ensures
+returns g c = rw (← c.self.view_is) (placed_none c.is_empty.result c.self.inside.placed c.self.inside.word c.self.inside.tags c.self.invariant c.is_empty.ensures)
