@@ -2,7 +2,6 @@ pub mod CountedMarkers
 pub mod MarkedItems
 pub mod MarkedText
 pub mod MarkerPlaces
-pub mod StretchCuts
 pub mod StretchTags
 pub mod TaggedCharacters
 pub mod TextBytes

@@ -1,26 +1,34 @@
-use Rattle.std.proofs.Common.{◌≡◌, ◌-◌, ◌<◌, ◌++◌, zero, suc, length, replicate, ap, ◌∙◌, sym, arith}
+use Rattle.std.proofs.Common.{◌≡◌, ℕ, List, get_or, set, ◌-◌, ◌+◌, ◌++◌, suc, length, take, drop, replicate, refl, ap, ◌∙◌, sym, arith, append-nil}
+use Rattle.std.proofs.lemmas.List.{get_or_read, take_all, drop_all}
 use Rattle.std.proofs.lemmas.Result.{on_ok_weaker}
+use Rattle.tbr_wrap.specs.declared.flat.tags.Stretch.{Stretch}
 use Rattle.tbr_wrap.specs.Stretches.{tags_of}
-use Rattle.tbr_wrap.proofs.storage.StretchTags.{push_last, push_new, same_stretch}
+use Rattle.tbr_wrap.proofs.storage.StretchTags.{split_tags, resized, stretch_len, tags_of-append, none_left}
 use Rattle.tbr_wrap.proofs.flat.tags.Stretches.push.Goals as goal
+
+-- the last stretch is longer
+push_last : {A : Type 0} (xs : List (Stretch A)) (i n : ℕ) (s y : Stretch A) → suc i ≡ length xs → s ≡ get_or xs i s → y ≡ record s { more = s.more + n } → tags_of (set xs i y) ≡ tags_of xs ++ replicate n s.tag
+push_last xs i n s y last is e =
+    let len = stretch_len xs i (suc i) s refl (omega arith) is in
+    resized xs i (suc s.more) 0 n s y (omega arith) is (omega arith) (omega (arith, ap (λ z. z.more) e)) (ap (λ z. z.tag) e)
+    ∙ (λ k. (tags_of (take i xs) ++ take_all (suc s.more) (tags_of (drop i xs)) (omega (arith, len, none_left xs (suc i))) k) ++ (replicate n s.tag ++ tags_of (drop_all (suc i) xs (omega arith) k)))
+    ∙ (λ k. sym (split_tags xs i) k ++ append-nil (replicate n s.tag) k)
 
 pub returns-then-eq-clause-ok : goal.returns-then-eq-clause-ok
 returns-then-eq-clause-ok g c =
-    let xs = c.self.inside.stretches.items in let i = c.len-len.result - 1 in
+    let xs = c.self.inside.stretches.items in let i = c.len-len.result - 1 in let s = c.index_mut.result.now in
     let last : suc i ≡ length xs = omega (arith, c.len-len.ensures, c.self.inside.stretches.ok.0, c.if-len-gt0.true) in
-    let in_xs : i < length xs = omega (arith, last) in
-    let s = c.index_mut.result.now in
-    let same : c.index.result.now ≡ s = same_stretch xs i c.index.result.now s in_xs c.index.ensures c.index_mut.ensures.value in
+    let same : c.index.result.now ≡ s = get_or_read xs i c.index.result.now (omega (arith, last)) c.index.ensures s ∙ sym c.index_mut.ensures.value in
     on_ok_weaker c.lengthen.result (λ h. (
       s.tag,
       ap (λ z. g.T.PartialEq.eq z.tag c.args.tag.now) (sym same) ∙ sym c.if-eq.ensures,
-      push_last xs zero i c.args.count s c.lengthen.new.stretch (omega arith) last c.index_mut.ensures.value h ∙ ap (λ ts. ts ++ replicate c.args.count s.tag) c.self.view_is,
+      push_last xs i c.args.count s c.lengthen.new.stretch last c.index_mut.ensures.value h ∙ ap (λ ts. ts ++ replicate c.args.count s.tag) c.self.view_is,
     )) c.lengthen.ensures.ok
 
 pub returns-clause-ok : goal.returns-clause-ok
-returns-clause-ok g c = (
-  c.in_ok-tag.tag,
-  g.met.T.Eq.laws.symm _ _ ∙ c.requires.faithful _ _ c.in_ok-tag.ensures.cases,
-  ap tags_of c.in_ok-push_back.ensures.items
-      ∙ push_new c.self.inside.stretches.items zero (c.args.count - 1) c.args.count c.in_ok-tag.tag (omega arith) (omega (arith, c.requires.some)) ∙ ap (λ ts. ts ++ replicate c.args.count c.in_ok-tag.tag) c.self.view_is,
-)
+returns-clause-ok g c =
+    let a = c.in_ok-tag.tag in let n : suc (c.args.count - 1) ≡ c.args.count = omega (arith, c.requires.some) in (
+      a,
+      g.met.T.Eq.laws.symm _ _ ∙ c.requires.faithful _ _ c.in_ok-tag.ensures.cases,
+      ap tags_of c.in_ok-push_back.ensures.items ∙ tags_of-append c.self.inside.stretches.items _ ∙ (λ k. c.self.view_is k ++ (append-nil (replicate (suc (c.args.count - 1)) a) ∙ ap (λ j. replicate j a) n) k),
+    )

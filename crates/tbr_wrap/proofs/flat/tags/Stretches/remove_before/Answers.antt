@@ -1,12 +1,9 @@
-use Rattle.std.proofs.Common.{◌<◌, ◌≤◌, ◌+◌, ◌-◌, ◌++◌, ℕ, zero, suc, List, length, take, drop, refl, ap, ◌∙◌, sym, subst, arith}
-use Rattle.tbr_wrap.specs.declared.flat.tags.Place.{Place}
-use Rattle.tbr_wrap.specs.declared.flat.tags.Stretch.{Stretch}
-use Rattle.tbr_wrap.specs.Stretches.{tags_of, IsPlace}
-use Rattle.tbr_wrap.proofs.storage.StretchTags.{offset_in, has_stretch}
-use Rattle.tbr_wrap.proofs.storage.StretchCuts.{place_kept, in_order, shrunk, taken_out}
-use Rattle.tbr_wrap.proofs.flat.tags.Stretches.remove_before.Given.{Over}
+use Rattle.std.proofs.Common.{◌≡◌, ◌<◌, ◌≤◌, ◌+◌, ◌-◌, ◌++◌, suc, length, take, drop, get_or, refl, ap, ◌∙◌, sym, arith, ℕ}
+use Rattle.std.proofs.lemmas.List.{take-take}
+use Rattle.tbr_wrap.specs.Stretches.{tags_of}
+use Rattle.tbr_wrap.proofs.storage.StretchTags.{cut, drop_on, has_stretch, in_order, offset_in, parted, resized, stretch_at, tags_of-append}
 use Rattle.tbr_wrap.proofs.flat.tags.Stretches.remove_before.Goals as goal
-use Rattle.tbr_wrap.proofs.flat.tags.Stretches.remove_before.Goals.{After-place_before-to}
+use Rattle.tbr_wrap.proofs.flat.tags.Stretches.remove_before.Goals.{After-index_mut, After-end_at-first}
 
 pub place_before-from-requires : goal.place_before-from-requires
 place_before-from-requires g c = omega (arith, c.requires.within, ap length c.self.view_is)
@@ -14,66 +11,59 @@ place_before-from-requires g c = omega (arith, c.requires.within, ap length c.se
 pub place_before-to-requires : goal.place_before-to-requires
 place_before-to-requires g c = omega (arith, c.requires.within, ap length c.self.view_is)
 
--- the stretches, and the two places among them
-module _ (g : Over) (c : After-place_before-to g) where
-  abbrev xs : List (Stretch g.row.T.Denot)
-  xs = c.self.inside.stretches.items
-
-  abbrev p : Place
-  p = c.place_before-from.result
-
-  abbrev q : Place
-  q = c.place_before-to.result
-
-  from : IsPlace xs p.stretch p.offset (c.args.last + c.args.count)
-  from = c.place_before-from.ensures
-
-  to : IsPlace xs q.stretch q.offset c.args.last
-  to = c.place_before-to.ensures
-
-  some : 0 < c.args.count
-  some = omega (arith, c.if-count-eq0.false)
-
-  order : p.stretch ≤ q.stretch
-  order = omega (arith, in_order xs p.stretch q.stretch p.offset q.offset c.args.last c.args.count some from to)
-
-  in_xs : p.stretch < length xs
-  in_xs = has_stretch xs p.stretch (omega (arith, from.tags, some))
+-- both places are in one stretch
+offsets : (g : _) (c : After-index_mut g) → (c.place_before-to.result.offset ≡ c.place_before-from.result.offset + c.args.count) × (c.place_before-to.result.offset ≤ c.index_mut.result.now.more)
+offsets g c =
+    let xs = c.self.inside.stretches.items in let q = c.place_before-to.result in let s = c.index_mut.result.now in (
+      omega (arith, c.place_before-from.ensures.tags, c.place_before-to.ensures.tags, ap (λ i. length (tags_of (drop i xs))) c.if-from-to.true),
+      offset_in xs q.stretch q.offset c.args.last s c.place_before-to.ensures (c.index_mut.ensures.value ∙ ap (λ i. get_or xs i s) c.if-from-to.true),
+    )
 
 pub overflow_sub-index_mut : goal.overflow_sub-index_mut
-overflow_sub-index_mut g c =
-    let at = (goal.at.overflow_sub-index_mut g c).After-place_before-to in
-    let same : IsPlace (xs g at) (p g at).stretch (q g at).offset c.args.last = subst (λ (m : ℕ). IsPlace (xs g at) m (q g at).offset c.args.last) (sym c.if-from-to.true) (to g at) in
-    omega (arith, (from g at).tags, same.tags, offset_in (xs g at) (p g at).stretch (q g at).offset c.args.last c.index_mut.result.now same (in_xs g at) c.index_mut.ensures.value)
+overflow_sub-index_mut g c = omega (arith, (offsets g c).0, (offsets g c).1)
 
 pub returns-then-from-to : goal.returns-then-from-to
 returns-then-from-to g c =
-    let at = (goal.at.returns-then-from-to g c).After-place_before-to in let last = c.args.last in
-    let same : IsPlace (xs g at) (p g at).stretch (q g at).offset last = subst (λ (m : ℕ). IsPlace (xs g at) m (q g at).offset last) (sym c.if-from-to.true) (to g at) in
-    shrunk (xs g at) zero (p g at).stretch (p g at).offset (q g at).offset last c.args.count c.index_mut.result.now _ (omega arith) (from g at) same (some g at) (in_xs g at) c.index_mut.ensures.value refl
-    ∙ ap (λ ts. take (length ts - (last + c.args.count)) ts ++ drop (length ts - last) ts) c.self.view_is
+    let xs = c.self.inside.stretches.items in let tags = c.args.self.now in let last = c.args.last in let s = c.index_mut.result.now in
+    let i = c.place_before-from.result.stretch in let a = c.place_before-from.result.offset in let b = c.place_before-to.result.offset in
+    let o = offsets g (goal.at.returns-then-from-to g c).After-index_mut in let from = c.place_before-from.ensures.tags in
+    let in_xs : i < length xs = has_stretch xs i (omega (arith, from, c.if-count-eq0.false)) in
+    let front = sym (cut xs tags i a (last + c.args.count) c.self.view_is from).0 in
+    let behind = sym ((cut xs tags i b last c.self.view_is (omega (arith, from, o.0))).1 ∙ (parted (drop i xs) (drop (suc i) xs) s b (suc s.more - b) (stretch_at xs i s in_xs c.index_mut.ensures.value) (omega (arith, o.1))).1) in
+    resized xs i a (suc s.more - a) (suc s.more - b) s _ in_xs c.index_mut.ensures.value (omega (arith, o.0, o.1)) (omega (arith, o.0, o.1)) refl ∙ (λ k. front k ++ behind k)
 
 pub end_at-first-requires : goal.end_at-first-requires
-end_at-first-requires g c = (c.args.last + c.args.count, from g (goal.at.end_at-first-requires g c).After-place_before-to)
+end_at-first-requires g c = (c.args.last + c.args.count, c.place_before-from.ensures)
+
+-- the places are in two stretches
+next : (g : _) (c : After-end_at-first g) → c.place_before-from.result.stretch < c.place_before-to.result.stretch
+next g c =
+    let p = c.place_before-from.result in let q = c.place_before-to.result in
+    let order = in_order c.self.inside.stretches.items p.stretch q.stretch p.offset q.offset c.args.last c.args.count (omega (arith, c.if-count-eq0.false)) c.place_before-from.ensures c.place_before-to.ensures in
+    omega (arith, order, c.if-from-to.false)
 
 pub begin_at-requires : goal.begin_at-requires
 begin_at-requires g c =
-    let at = (goal.at.begin_at-requires g c).After-place_before-to in
-    let next : suc (p g at).stretch ≤ (q g at).stretch = omega (arith, order g at, c.if-from-to.false) in
-    (c.args.last, place_kept (xs g at) c.end_at-first.new.stretches.items (p g at).stretch (q g at).stretch (q g at).offset c.args.last (to g at) next c.end_at-first.ensures.len c.end_at-first.ensures.behind)
+    let i = c.place_before-from.result.stretch in let j = c.place_before-to.result.stretch in let to = c.place_before-to.ensures in
+    let less = next g (goal.at.begin_at-requires g c).After-end_at-first in
+    let same = λ (m : ℕ) (h : i < m). ap (λ ys. length (tags_of ys)) (drop_on (suc i) m c.end_at-first.new.stretches.items c.self.inside.stretches.items h c.end_at-first.ensures.behind) in (
+      c.args.last,
+      record {
+        within = omega (arith, to.within, c.end_at-first.ensures.len);
+        tags = same j less ∙ to.tags;
+        inside = λ some. omega (arith, same (suc j) (omega (arith, less)), to.inside some);
+      },
+    )
 
 pub drain-requires-clause-start_le_end : goal.drain-requires-clause-start_le_end
-drain-requires-clause-start_le_end g c =
-    omega (arith, order g (goal.at.drain-requires-clause-start_le_end g c).After-place_before-to, c.if-from-to.false, c.end_at-first.ensures.next.1)
+drain-requires-clause-start_le_end g c = omega (arith, next g (goal.at.drain-requires-clause-start_le_end g c).After-end_at-first, c.end_at-first.ensures.next.1)
 
 pub returns : goal.returns
 returns g c =
-    let at = (goal.at.returns g c).After-place_before-to in
-    let last = c.args.last in let count = c.args.count in
-    let next : suc (p g at).stretch ≤ (q g at).stretch = omega (arith, order g at, c.if-from-to.false) in
-    let one = c.end_at-first.new.stretches.items in let two = c.begin_at.new.stretches.items in
-    let first = c.end_at-first.result in let e = c.end_at-first.ensures in
-    let inside : first ≤ length two = omega (arith, e.next.2, c.begin_at.ensures.len) in
-    ap tags_of (c.drop-drain.ensures.items ∙ c.drain.ensures.kept)
-    ∙ taken_out (xs g at) one two zero (p g at).stretch (q g at).stretch (p g at).offset (q g at).offset first last count (omega arith) next (from g at) (to g at) e.next.0 e.next.1 inside e.front e.behind c.begin_at.ensures.front c.begin_at.ensures.tags
-    ∙ ap (λ ts. take (length ts - (last + count)) ts ++ drop (length ts - last) ts) c.self.view_is
+    let xs = c.self.inside.stretches.items in let one = c.end_at-first.new.stretches.items in let two = c.begin_at.new.stretches.items in let tags = c.args.self.now in
+    let p = c.place_before-from.result in let q = c.place_before-to.result in let first = c.end_at-first.result in let e = c.end_at-first.ensures in
+    let less = next g (goal.at.returns g c).After-end_at-first in
+    let same : take first two ≡ take first one = sym (take-take first q.stretch two (omega (arith, e.next.1, less))) ∙ ap (take first) c.begin_at.ensures.front ∙ take-take first q.stretch one (omega (arith, e.next.1, less)) in
+    let front = ap tags_of same ∙ e.front ∙ sym (cut xs tags p.stretch p.offset (c.args.last + c.args.count) c.self.view_is c.place_before-from.ensures.tags).0 in
+    let behind = c.begin_at.ensures.tags ∙ ap (λ ys. drop q.offset (tags_of ys)) (drop_on (suc p.stretch) q.stretch one xs less e.behind) ∙ sym (cut xs tags q.stretch q.offset c.args.last c.self.view_is c.place_before-to.ensures.tags).1 in
+    ap tags_of (c.drop-drain.ensures.items ∙ c.drain.ensures.kept) ∙ tags_of-append (take first two) (drop q.stretch two) ∙ (λ k. front k ++ behind k)
