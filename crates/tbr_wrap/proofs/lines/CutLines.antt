@@ -1,8 +1,8 @@
 -- Lines that are cut out of the items of all of them.
-use Rattle.std.proofs.Common.{◌≡◌, ℕ, ◌≤◌, ◌||◌, List, [], ◌∷◌, ◌++◌, map, length, take, drop, refl, ap, sym, ◌∙◌, subst, arith, append_assoc}
+use Rattle.std.proofs.Common.{◌≡◌, ℕ, ◌||◌, List, [], ◌∷◌, ◌++◌, map, length, take, drop, refl, ap, sym, ◌∙◌, subst, arith, append_assoc}
 use Rattle.std.specs.List.{AllZip, list_any}
 use Rattle.std.proofs.Math.Bool.{or-false}
-use Rattle.std.proofs.lemmas.List.{take_at, drop_at, length-take}
+use Rattle.std.proofs.lemmas.List.{take_at, drop_at}
 use Rattle.tbr_model.specs.Run.{Item, has_character}
 use Rattle.tbr_model.specs.Layout.{joined}
 use Rattle.tbr_model.proofs.words.Items.{has_character-append}
@@ -50,10 +50,6 @@ module _ {A : Type 0} where
   -- the first line, and those behind it
   first_len : (n : ℕ) (ns : List ℕ) (placed : List (Item A)) → AreLines (n ∷ ns) placed (cut (n ∷ ns) placed) → length (take n placed) ≡ n
   first_len n ns placed h = let both : n ∷ ns ≡ length (take n placed) ∷ map length (cut ns (drop n placed)) = h.lens_is in cc
-
-  pub first_fits : (n : ℕ) (ns lens : List ℕ) (placed : List (Item A)) → lens ≡ n ∷ ns → AreLines lens placed (cut lens placed) → n ≤ length placed
-  first_fits n ns lens placed e h =
-      omega (arith, first_len n ns placed (subst (λ ms. AreLines ms placed (cut ms placed)) e h), length-take n placed)
 
   lines_behind : (n : ℕ) (ns : List ℕ) (placed : List (Item A)) → AreLines (n ∷ ns) placed (cut (n ∷ ns) placed) → AreLines ns (drop n placed) (cut ns (drop n placed))
   lines_behind n ns placed h =

@@ -95,10 +95,7 @@ put_fresh {A} columns width r (j ∷ js) (suc n) some small full fits =
     let first : put_item columns width r j ≡ put_item columns width (end_line r) j = rw (old, narrow, new) refl in
     ap (λ (l : Laid A). put_items columns width l (take n js)) first
 
--- a word's first item is as narrow as all of them
-pub narrow_first : {A : Type 0} (columns : ℕ → Option ℕ) (width : ℕ) (word rest : List (Item A)) (i : Item A) → word ≡ i ∷ rest → IsNarrow columns width word → (item_width columns i ≤ width) × IsNarrow columns width rest
-narrow_first columns width word rest i e h = let k = subst (IsNarrow columns width) e h in (k.0, k.1)
-
+-- the rest of a word is as narrow as all of it
 pub narrow_rest : {A : Type 0} (columns : ℕ → Option ℕ) (width n : ℕ) (word : List (Item A)) → IsNarrow columns width word → IsNarrow columns width (drop n word)
 narrow_rest columns width zero word h = h
 narrow_rest columns width (suc n) [] h = h

@@ -11,7 +11,7 @@ use Rattle.std.proofs.lemmas.List.Concat.{flat_map-append}
 use Rattle.tbr_wrap.specs.Flat.{Flat, flat, glyphs}
 use Rattle.tbr_tagged.proofs.SameItems.{same_items, same_items_trans, same_items_append}
 use Rattle.std.specs.Cmp.{IsEquivalence}
-use Rattle.std.proofs.Math.Seq.{take-add, drop-append_seam}
+use Rattle.std.proofs.Math.Seq.{take-add}
 
 glyphs_none : {A : Type 0} (cs : List ℕ) → glyphs {A = A} cs [] ≡ []
 glyphs_none [] = refl

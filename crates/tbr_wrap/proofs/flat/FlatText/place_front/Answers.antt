@@ -25,16 +25,16 @@ returns-clause-some g c = λ some fits.
     let word = ap (λ (f : Flat g.row.T.Denot). f.word) c.self.view_is in
     let first : 1 ≤ before_first markers = character_first text c.args.self.now.word markers c.self.invariant.1 some c.in_default.ensures.1 word in
     let same : take 1 text ≡ take 1 c.args.self.now.word = sym (taken_front text markers 1 first c.self.invariant.1) ∙ ap (take 1) word in
-    c.place_fitting-count.ensures.some (omega (arith, first, c.requires, c.before-2.ensures, ap before_first c.in_default.ensures.0, c.min-longest.ensures)) (omega (arith, first, first_within markers, c.self.invariant.1))
+    c.in_ok-count.ensures.some (omega (arith, first, c.requires, c.before-2.ensures, ap before_first c.in_default.ensures.0, c.min-longest.ensures)) (omega (arith, first, first_within markers, c.self.invariant.1))
     (omega (arith, fits, ap (items_width g.W.CharWidth.columns) same))
 
 pub returns-clause-markers : goal.returns-clause-markers
 returns-clause-markers g c =
-    let within : c.place_fitting-count.result.0 ≤ before_first c.self.inside.word = omega (arith, c.place_fitting-count.ensures.most, c.before-2.ensures, ap before_first c.in_default.ensures.0, c.min-longest.ensures) in
-    sym (characters_alone _ (none_in_front c.self.inside.text.word c.args.self.now.word c.self.inside.word c.place_fitting-count.result.0 within c.self.invariant.1 c.holds_characters.ensures.word (ap (λ (f : Flat g.row.T.Denot). f.word) c.self.view_is)))
+    let within : c.in_ok-count.count ≤ before_first c.self.inside.word = omega (arith, c.in_ok-count.ensures.most, c.before-2.ensures, ap before_first c.in_default.ensures.0, c.min-longest.ensures) in
+    sym (characters_alone _ (none_in_front c.self.inside.text.word c.args.self.now.word c.self.inside.word c.in_ok-count.count within c.self.invariant.1 c.holds_characters.ensures.word (ap (λ (f : Flat g.row.T.Denot). f.word) c.self.view_is)))
 
 pub returns-clause-placed : goal.returns-clause-placed
 returns-clause-placed g c =
-    let within : c.place_fitting-count.result.0 ≤ before_first c.self.inside.word = omega (arith, c.place_fitting-count.ensures.most, c.before-2.ensures, ap before_first c.in_default.ensures.0, c.min-longest.ensures) in
-    characters_placed c.self.inside.text c.place_fitting-count.new.self c.args.self.now c.self.inside.placed c.self.inside.word c.add_characters.new.self c.remove_first.new.self c.place_fitting-count.result.0 c.self.invariant.0 c.self.invariant.1 within
-    c.place_fitting-count.ensures.placed c.in_default-add_characters.ensures.ok (c.remove_first.ensures ∙ ap (λ (m : MarkerPlaces). shortened c.place_fitting-count.result.0 m) c.in_default.ensures.0) c.self.view_is
+    let within : c.in_ok-count.count ≤ before_first c.self.inside.word = omega (arith, c.in_ok-count.ensures.most, c.before-2.ensures, ap before_first c.in_default.ensures.0, c.min-longest.ensures) in
+    characters_placed c.self.inside.text c.place_fitting.new.self c.args.self.now c.self.inside.placed c.self.inside.word c.add_characters.new.self c.remove_first.new.self c.in_ok-count.count c.self.invariant.0 c.self.invariant.1 within
+    c.in_ok-count.ensures.placed c.in_default-add_characters.ensures.ok (c.remove_first.ensures ∙ ap (λ (m : MarkerPlaces). shortened c.in_ok-count.count m) c.in_default.ensures.0) c.self.view_is

@@ -5,10 +5,10 @@ use Rattle.tbr_wrap.proofs.storage.MarkedItems.{marked_count}
 use Rattle.tbr_wrap.proofs.storage.MarkedText.{word_placed, word_fits}
 use Rattle.tbr_wrap.proofs.flat.FlatText.place_word.Goals as goal
 
-pub invariant_of-self-2 : goal.invariant_of-self-2
-invariant_of-self-2 g c =
+pub invariant_of-self-in_default : goal.invariant_of-self-in_default
+invariant_of-self-in_default g c =
     let e = c.in_default.ensures.ok in
-    word_fits c.self.inside.text c.place_word.new.self c.self.inside.placed c.self.inside.word c.append.new.self c.append.new.other c.self.invariant.0 c.self.invariant.1 c.place_word.ensures e.0 e.1
+    word_fits c.self.inside.text c.place_word.new.self c.self.inside.placed c.self.inside.word c.append.new.self c.append.new.other c.self.invariant.0 c.self.invariant.1 c.in_ok-place_word.ensures.ok e.0 e.1
 
 pub returns-clause-markers : goal.returns-clause-markers
 returns-clause-markers g c =
@@ -18,5 +18,5 @@ returns-clause-markers g c =
 pub returns-clause-placed : goal.returns-clause-placed
 returns-clause-placed g c =
     let e = c.in_default.ensures.ok in
-    word_placed c.self.inside.text c.place_word.new.self c.self.inside.placed c.self.inside.word c.append.new.self c.append.new.other c.self.invariant.0 c.place_word.ensures e.0 e.1
+    word_placed c.self.inside.text c.place_word.new.self c.self.inside.placed c.self.inside.word c.append.new.self c.append.new.other c.self.invariant.0 c.in_ok-place_word.ensures.ok e.0 e.1
     ∙ ap (λ (f : Flat g.row.T.Denot). record { placed = f.placed ++ f.word; word = [] }) c.self.view_is

@@ -3,30 +3,30 @@ use Rattle.tbr_model.specs.Layout.{joined}
 use Rattle.tbr_wrap.proofs.lines.TrimmedSpaces.{same_leading, removed_len, markers_left, removed_width, lays_trimmed}
 use Rattle.tbr_wrap.proofs.laid_lines.LaidLines.trim.Goals as goal
 
-pub trim-requires : goal.trim-requires
-trim-requires g c =
+pub trim-removed-requires : goal.trim-removed-requires
+trim-removed-requires g c =
     let h = c.requires.lays.5 in
     omega (arith, h.holds.len, ap length h.holds.placed, length-append (joined (c.requires.lays.1 ++ h.laid.done)) h.laid.line)
 
 pub overflow_sub-self : goal.overflow_sub-self
 overflow_sub-self g c =
     let w = c.requires.lays in let h = w.5 in
-    removed_len w.0 w.4 g.T.PartialEq.eq c.args.self.now w.1 w.2 w.3 h c.in_ok-removed.removed (c.in_ok-removed.ensures.placed (joined (w.1 ++ h.laid.done)) h.laid.line h.holds.placed (sym h.holds.len)).1
+    removed_len w.0 w.4 g.T.PartialEq.eq c.args.self.now w.1 w.2 w.3 h c.trim-removed.result (c.trim-removed.ensures.placed (joined (w.1 ++ h.laid.done)) h.laid.line h.holds.placed (sym h.holds.len)).1
 
-pub invariant_of-self-2-clause-marked : goal.invariant_of-self-2-clause-marked
-invariant_of-self-2-clause-marked g c =
+pub invariant_of-self-clause-marked : goal.invariant_of-self-clause-marked
+invariant_of-self-clause-marked g c =
     let w = c.requires.lays in let h = w.5 in
-    markers_left w.0 w.4 g.T.PartialEq.eq c.args.self.now w.1 w.2 w.3 h c.in_ok-removed.removed (c.in_ok-removed.ensures.placed (joined (w.1 ++ h.laid.done)) h.laid.line h.holds.placed (sym h.holds.len)).1
+    markers_left w.0 w.4 g.T.PartialEq.eq c.args.self.now w.1 w.2 w.3 h c.trim-removed.result (c.trim-removed.ensures.placed (joined (w.1 ++ h.laid.done)) h.laid.line h.holds.placed (sym h.holds.len)).1
 
 pub overflow_sub-self-2 : goal.overflow_sub-self-2
 overflow_sub-self-2 g c =
     let w = c.requires.lays in let h = w.5 in
-    removed_width w.0 w.4 g.T.PartialEq.eq c.args.self.now w.1 w.2 w.3 h c.in_ok-removed.removed (c.in_ok-removed.ensures.placed (joined (w.1 ++ h.laid.done)) h.laid.line h.holds.placed (sym h.holds.len)).1
+    removed_width w.0 w.4 g.T.PartialEq.eq c.args.self.now w.1 w.2 w.3 h c.trim-removed.result (c.trim-removed.ensures.placed (joined (w.1 ++ h.laid.done)) h.laid.line h.holds.placed (sym h.holds.len)).1
 
 pub returns-clause-trimmed : goal.returns-clause-trimmed
-returns-clause-trimmed g c = λ columns one before given r h.
-    let p = c.in_ok-removed.ensures.placed (joined (before ++ h.laid.done)) h.laid.line h.holds.placed (sym h.holds.len) in
-    lays_trimmed columns one g.T.PartialEq.eq c.args.self.now before given r h c.in_ok-removed.removed p.1 _ (record { width = refl; may_overflow = refl }) p.0 refl refl refl refl
+returns-clause-trimmed g c = λ columns before given r one h.
+    let p = c.trim-removed.ensures.placed (joined (before ++ h.laid.done)) h.laid.line h.holds.placed (sym h.holds.len) in
+    lays_trimmed columns one g.T.PartialEq.eq c.args.self.now before given r h c.trim-removed.result p.1 _ (record { width = refl; may_overflow = refl }) p.0 refl refl refl refl
 
 pub returns-clause-word : goal.returns-clause-word
-returns-clause-word g c = λ js same. rw c.in_ok-removed.ensures.word (same_leading g.T.PartialEq.eq c.args.self.now.flat.word js same)
+returns-clause-word g c = λ js same. rw c.trim-removed.ensures.word (same_leading g.T.PartialEq.eq c.args.self.now.flat.word js same)

@@ -10,8 +10,8 @@ trim-requires g c =
 
 pub returns-clause-trimmed : goal.returns-clause-trimmed
 returns-clause-trimmed g c = λ before given p s t.
-    let columns = g.W.CharWidth.columns in let eq = g.T.PartialEq.eq in let k = c.in_ok-trim.ensures in
+    let columns = g.W.CharWidth.columns in let eq = g.T.PartialEq.eq in let k = c.trim.ensures in
     let word = k.word p.word t.word in
-    let lays = k.trimmed columns (g.met.W.CharWidth.drawn_in_one 32 refl) before given p.laid t.lays in
+    let lays = k.trimmed columns before given p.laid (g.met.W.CharWidth.drawn_in_one 32 refl) t.lays in
     let wide = c.in_ok-self.ensures ∙ same_width columns eq c.trim.new.self.flat.word (without_leading p.word) word in
     search (rules, lays, word, wide)

@@ -7,7 +7,7 @@ returns-clause-placed g c =
       p.0,
       p.2,
       rw (← c.self.view_is, c.in_default-push_spaces.ensures.ok, p.3)
-      (space_placed g.T.PartialEq.eq c.self.inside.placed c.self.inside.word c.self.inside.tags p.1 c.args.count p.0 c.len.result c.self.invariant c.len.ensures.len),
+          (space_placed g.T.PartialEq.eq c.self.inside.placed c.self.inside.word c.self.inside.tags p.1 c.args.count p.0 c.len.result c.self.invariant c.len.ensures.len),
     )
 
 pub returns-clause-word : goal.returns-clause-word

@@ -1,4 +1,4 @@
-use Rattle.std.proofs.Common.{◌≡◌, ◌-◌, ◌++◌, ◌∷◌, replicate, length, ap, sym, ◌∙◌, arith, refl}
+use Rattle.std.proofs.Common.{◌≡◌, ◌-◌, ◌++◌, replicate, length, ap, sym, ◌∙◌, arith, refl}
 use Rattle.std.specs.String.{string_bytes}
 use Rattle.tbr_wrap.proofs.storage.TextEnds.{spaces_within, spaces_boundary, spaces_gone}
 use Rattle.tbr_wrap.proofs.flat.text_queue.TextQueue.pop_spaces.Goals as goal
