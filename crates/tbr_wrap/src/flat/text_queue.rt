@@ -160,8 +160,9 @@ impl TextQueue {
         ensures all { result < most → (c : ℕ) → (rest : List ℕ) → self.new ≡ c ∷ rest → is_whitespace c ≡ false }
         ensures rest { self.new ≡ drop result self.old }
     {
-        let count = blanks_in_front(self.as_str(), most);
-        let bytes = bytes_of(self.as_str(), count);
+        let text = self.as_str();
+        let count = blanks_in_front(text, most);
+        let bytes = bytes_of(text, count);
         self.forget(count, bytes);
         count
     }
@@ -175,9 +176,10 @@ impl TextQueue {
         ensures rest { IfOk result (λ _. self.new ≡ drop count self.old) }
         ensures err { OnErr result (self.new ≡ self.old) }
     {
-        let bytes = bytes_of(self.as_str(), count);
+        let text = self.as_str();
+        let bytes = bytes_of(text, count);
         let mut taken = String::with_capacity(*self.text.allocator(), bytes.max(LEAST_ROOM))?;
-        taken.push_str(self.front(count, bytes))?;
+        taken.push_str(front(text, count, bytes))?;
         self.forget(count, bytes);
         Ok(taken)
     }
@@ -191,8 +193,9 @@ impl TextQueue {
         ensures rest { OnOk result (self.new ≡ drop count self.old) }
         ensures err { OnErr result (self.new ≡ self.old) }
     {
-        let bytes = bytes_of(self.as_str(), count);
-        text.push_str(self.front(count, bytes))?;
+        let left = self.as_str();
+        let bytes = bytes_of(left, count);
+        text.push_str(front(left, count, bytes))?;
         self.forget(count, bytes);
         Ok(())
     }
@@ -217,21 +220,15 @@ impl TextQueue {
         ensures rest { IfOk result (λ r. self.new ≡ drop r.0 self.old) }
         ensures err { OnErr result ((self.new ≡ self.old) × (text.new ≡ text.old)) }
     {
-        let fitting = fitting::<W>(self.as_str(), most, room);
-        text.push_str(self.front(fitting.count, fitting.bytes), fitting.count)?;
+        let left = self.as_str();
+        let fitting = fitting::<W>(left, most, room);
+        text.push_str(front(left, fitting.count, fitting.bytes), fitting.count)?;
         self.forget(fitting.count, fitting.bytes);
         Ok((fitting.count, fitting.columns))
     }
 
-    /// The first `count` characters, which are `bytes` bytes.
-    fn front(&self, count: usize, bytes: usize) -> &str
-        requires { bytes ≡ length (encodes (take count self.now)) }
-        ensures { chars result.now ≡ take count self.now }
-    {
-        &self.as_str()[..bytes]
-    }
-
     /// Forgets the first `count` characters, which are `bytes` bytes.
+    #[inline]
     fn forget(&mut self, count: usize, bytes: usize)
         requires count { count ≤ length self.old }
         requires bytes { bytes ≡ length (encodes (take count self.old)) }
@@ -243,18 +240,25 @@ impl TextQueue {
     }
 
     /// Gives back the memory of what was taken, where that is the greater part and so pays for moving the rest.
+    #[inline]
     fn give_back(&mut self)
         ensures { self.new ≡ self.old }
     {
         let left = self.text.len() - self.start;
-        if self.start < FEW || self.start < left {
-            return;
+        if self.start >= FEW && self.start >= left {
+            self.begin_anew();
         }
-        if self.text.replace_range(0..self.start, "").is_err() {
-            return;
+    }
+
+    /// Moves what is left to the beginning, and gives the rest of the memory back.
+    #[inline(never)]
+    fn begin_anew(&mut self)
+        ensures { self.new ≡ self.old }
+    {
+        if self.text.replace_range(0..self.start, "").is_ok() {
+            self.text.shrink_to_fit();
+            self.start = 0;
         }
-        self.text.shrink_to_fit();
-        self.start = 0;
     }
 
     /// Forgets all characters.
@@ -265,6 +269,15 @@ impl TextQueue {
         self.start = 0;
         self.len = 0;
     }
+}
+
+/// The first `count` characters of a text, which are `bytes` bytes.
+#[inline]
+fn front(text: &str, count: usize, bytes: usize) -> &str
+    requires { bytes ≡ length (encodes (take count (chars text.now))) }
+    ensures { chars result.now ≡ take count (chars text.now) }
+{
+    &text[..bytes]
 }
 
 /// How many bytes the first `count` characters take.
