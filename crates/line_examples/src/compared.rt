@@ -14,3 +14,11 @@ pub fn shows<E: Debug + Drop>(rt: &impl Abort, text: Result<String, E>, expected
         Err(error) => panic!(rt; "{error:?}"),
     }
 }
+
+/// What was asked under that name holds.
+pub fn holds<E: Debug + Drop>(rt: &impl Abort, name: &str, answer: Result<bool, E>) {
+    match answer {
+        Ok(answer) => assert!(rt; answer, "{name}"),
+        Err(error) => panic!(rt; "{name}: {error:?}"),
+    }
+}

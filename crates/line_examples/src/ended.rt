@@ -2,16 +2,25 @@
 ghost use Rattle.std.specs.Prelude.{◌<◌};
 
 use crate::compared::counts;
+use crate::steps::{add, mark_with, plain};
 use example_parts::columns::EveryOne;
 use example_parts::texts::{Voice, append_marked_line};
 use std::alloc::Global;
 use std::test::Fail;
-use tbr_lines::{
-    CharWidth, EndedLines, Error, TaggedLineElement, UnicodeColumns, WhiteSpace, WrappedBlock,
-};
+use tbr_lines::{CharWidth, EndedLines, Error, UnicodeColumns, WhiteSpace, WrappedBlock};
 
 /// What is expected of a text in eight columns.
 const WRAPPED: &str = "Hello,\nworld.\nSuperlon\ngwordrea\nlly\n";
+
+/// A marker and a text join the run.
+fn fill<W: CharWidth + Drop>(
+    block: &mut WrappedBlock<Voice, W>,
+    alloc: Global,
+    text: &str,
+) -> Result<(), Error> {
+    mark_with(block, alloc, "m")?;
+    add(block, WhiteSpace::Normal, text)
+}
 
 /// The lines of a text behind a marker.
 fn ended<W: CharWidth + Drop>(
@@ -21,16 +30,8 @@ fn ended<W: CharWidth + Drop>(
 ) -> Result<EndedLines<Voice>, Error>
     requires { 0 < width }
 {
-    let mut block: WrappedBlock<Voice, W> = WrappedBlock::new(
-        alloc,
-        width,
-        false,
-        false,
-        Voice::First,
-    );
-    let name = String::from_str(alloc, "m")?;
-    block.add_element(TaggedLineElement::FragmentStart(name))?;
-    block.add_text(text, WhiteSpace::Normal, &Voice::First, &Voice::Second)?;
+    let mut block = plain::<W>(alloc, width);
+    fill(&mut block, alloc, text)?;
     block.flush()?;
     Ok(block.into_ended())
 }
