@@ -9,7 +9,6 @@ ghost use Rattle.tbr_tagged.specs.View.{chars_of};
 use crate::plain::Stretch;
 use std::alloc::Global;
 use std::marker::Model;
-use std::mem;
 use std::str::Chars;
 use tbr_model::CharWidth;
 use tbr_tagged::{OutOfMemory, spaces, text_width};
@@ -135,12 +134,7 @@ impl TextQueue {
         ensures ok { OnOk result ((self.new ≡ self.old ++ other.old) × (other.new ≡ [])) }
         ensures err { OnErr result ((self.new ≡ self.old) × (other.new ≡ other.old)) }
     {
-        // A text that has nothing left takes the other's memory.
-        if self.is_empty() {
-            mem::swap(self, other);
-        } else {
-            self.push_str(other.as_str(), other.len())?;
-        }
+        self.push_str(other.as_str(), other.len())?;
         other.clear();
         Ok(())
     }
