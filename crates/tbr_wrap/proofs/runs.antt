@@ -1,4 +1,5 @@
 pub mod Courses
+pub mod RuleWidths
 pub mod EndedRuns
 pub mod FittingLines
 pub mod LinesLeft

@@ -186,7 +186,7 @@ module _ {A : Type 0} (columns : ℕ → Option ℕ) where
     abbrev seen : Course A → State A
     seen d = state_of columns width may padding failure d
 
-    joins_events : (es : List (Event A)) → JoinsRun (seen c) (run_of es) (seen (went width c es))
+    pub joins_events : (es : List (Event A)) → JoinsRun (seen c) (run_of es) (seen (went width c es))
     joins_events es =
         let more = steps_add width es c.progress in
         let s : State A = seen (went width c es) in

@@ -212,6 +212,10 @@ module _ {A : Type 0} (columns : ℕ → Option ℕ) (width : ℕ) where
     too_narrow_normal e breaks some wider fit =
         wider (subst (IsNarrow columns width) (sym stands.1.word) (broken_fits run e breaks (subst (λ (js : List (Item A)). 0 < items_width columns js) stands.1.word some) fit))
 
+    -- a word that a break point ends has none
+    pub narrow_if_ended : (e : Entry A) → is_break_entry e ≡ true → 0 < items_width columns (progress columns width es).word → EndedWordsFit columns width (run ++ e ∷ []) → IsNarrow columns width (progress columns width es).word
+    narrow_if_ended e breaks some fit = subst (IsNarrow columns width) (sym stands.1.word) (broken_fits run e breaks (subst (λ (js : List (Item A)). 0 < items_width columns js) stands.1.word some) fit)
+
     -- nor by the end of the run
     pub too_narrow_end : ¬ (IsNarrow columns width (progress columns width es).word) → ¬ (WordsFit columns width run)
     too_narrow_end wider fit = wider (subst (IsNarrow columns width) (sym stands.1.word) (last_fits run fit))

@@ -21,7 +21,7 @@ module _ {A : Type 0} (a b : A) (mode : WhiteSpace) where
     joins = subst (λ es. JoinsRun r es t) (sym (entries-append h.front k.front)) (joins_more r s t (text_entries h.front a b mode) (text_entries k.front a b mode) h.joins k.joins);
   }
 
-  no_chars : (rest : List ℕ) → (length rest == 0) ≡ true → chars rest ≡ []
+  pub no_chars : (rest : List ℕ) → (length rest == 0) ≡ true → chars rest ≡ []
   no_chars [] e = chars-nil
   no_chars (c ∷ cs) e = absurd (let f : true ≡ false = sym e ∙ ne_eqb (length (c ∷ cs)) 0 (λ z. omega (arith, z)) in cc)
 
