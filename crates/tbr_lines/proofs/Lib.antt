@@ -1,4 +1,5 @@
 pub mod NormalTexts
+pub use Rattle.tbr_wrap.proofs.runs.BlockLaws
 pub use Rattle.tbr_wrap.proofs.runs.LinesLeft
 pub use Rattle.tbr_wrap.proofs.runs.MappedRuns
 pub use Rattle.tbr_tagged.proofs.SameItems

@@ -1,3 +1,5 @@
+pub mod Blocks
+pub mod BlockLaws
 pub mod Courses
 pub mod RuleWidths
 pub mod EndedRuns
@@ -6,4 +8,3 @@ pub mod LinesLeft
 pub mod MappedRuns
 pub mod NormalRuns
 pub mod ShownMeanings
-pub mod TextFronts
