@@ -1,16 +1,19 @@
-use Rattle.std.proofs.Common.{◌≡◌, Some, Result, Err, map, ap, sym, ◌∙◌, subst}
+use Rattle.std.proofs.Common.{◌≡◌, Some, List, [], fold, Result, Err, map, ap, sym, ◌∙◌, subst}
 use Rattle.std.specs.Result.{IsErrAnd}
 use Rattle.std.specs.Global.{Vec}
 use Rattle.tbr_model.specs.Rule.{run_of}
-use Rattle.tbr_lines.specs.Block.{loose, state_seen}
-use Rattle.tbr_lines.specs.State.{State}
+use Rattle.tbr_model.specs.Run.{Item}
+use Rattle.tbr_lines.specs.Block.{left, loose, state_seen}
+use Rattle.tbr_lines.specs.State.{State, lines_left}
 use Rattle.tbr_lines.specs.View.{element_of}
 use Rattle.tbr_lines.specs.declared.Error.{Error}
 use Rattle.tbr_lines.specs.declared.Error.TheVariants as E
 use Rattle.tbr_lines.proofs.Copies.{list_copies_equal}
-use Rattle.tbr_renderer.specs.Renderer.{block_width, may_overflow}
+use Rattle.tbr_renderer.specs.Meant.{meant}
+use Rattle.tbr_renderer.specs.Renderer.{Renderer, with_line, block_width, may_overflow}
 use Rattle.tbr_renderer.specs.View.{block_seen, names_of, IsFresh}
-use Rattle.tbr_renderer.specs.Flush.{RunFits}
+use Rattle.tbr_renderer.specs.Flush.{RunFits, line_meant}
+use Rattle.tbr_renderer.proofs.Blank.{none_left}
 use Rattle.tbr_renderer.proofs.Flushing.{markers_named, are_markers, block_flushed, block_refused}
 use Rattle.tbr_renderer.proofs.sub.SubRenderer.try_flush.Goals as goal
 
@@ -42,3 +45,16 @@ returns-clause-ok g c =
     block_flushed f g.W.CharWidth.columns c.args.self.now (state_seen columns c.into_inner-block.result) seen fresh (state_seen columns c.flush.new.self) (state_seen columns c.take_trailing_fragments.new.self) flushed.0 flushed.1 (names_of (map element_of c.in_ok-markers.markers.items))
     c.take_block.new.self c.add_lines_of.new.self c.add_waiting.new.self fits flushed.2 flushed.3 c.in_ok-markers.ensures.taken c.in-Some.ensures.rest c.in_ok-add_lines_of.ensures.lines
     (names ∙ ap (λ (s : State (Vec g.row.D-Annotation.Denot)). s.loose) flushed.3) c.in_ok-add_waiting.ensures.waiting
+
+pub returns-clause-blank : goal.returns-clause-blank
+returns-clause-blank g c = λ blank.
+    let R = Renderer g.row.D.Denot g.row.D-Annotation.Denot (Vec g.row.D-Annotation.Denot) in
+    let f = g.D.TextDecorator.meaning in let columns = g.W.CharWidth.columns in
+    let seen = ap (λ b. block_seen (Some (state_seen columns b))) c.into_inner-block.ensures ∙ c.in-Some.ensures.block in
+    let fresh = subst (λ b. IsFresh (block_width c.args.self.now) (may_overflow c.args.self.now) (state_seen columns b)) (sym c.into_inner-block.ensures) c.in-Some.ensures.opened in
+    let none = none_left columns c.args.self.now (state_seen columns c.into_inner-block.result) seen fresh blank in
+    let gone : left columns c.take_trailing_fragments.new.self ≡ [] = ap lines_left c.in_ok-markers.ensures.taken ∙ c.in_ok-flush.ensures.blank none.0 ∙ none.1 in
+    ap (λ (q : R). (meant f q).lines) c.in_ok-add_waiting.ensures.waiting
+    ∙ ap (λ (m : Renderer g.row.D.Denot g.D.TextDecorator.Meaning (List g.D.TextDecorator.Meaning)). m.lines)
+    (c.in_ok-add_lines_of.ensures.lines ∙ ap (λ (ls : List (List (Item (Vec g.row.D-Annotation.Denot)))). fold (with_line columns) (meant f c.take_block.new.self) (map (line_meant columns f (state_seen columns c.take_trailing_fragments.new.self)) ls)) gone)
+    ∙ ap (λ (q : R). (meant f q).lines) c.in-Some.ensures.rest
