@@ -1,0 +1,5 @@
+pub mod NormalTexts
+pub mod TerminalColumns
+pub mod PreservedTexts
+pub mod Markers
+pub mod WideCharacters
