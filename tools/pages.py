@@ -32,8 +32,8 @@ PLACEHOLDER = re.compile(r"(?:^|/)[A-Z][A-Z_]*(?:\.(?:edit|txt|script|out|md))?(
 # The code that names come from, with what begins a comment there.
 SOURCES = {"crates/**/*.rt": "//", "crates/**/*.antt": "--", "tools/*": "#", "bench/*": "#", "include/*.h": "\0"}
 SOURCES |= {"bindings/**/*.rs": "//", "bindings/**/*.py": "#", "examples/*/*.[prc]*": "\0", "crates.txt": "#"}
-# Names of other repositories: std's, the toolchain's, and those of html2text that have none here.
-FOREIGN = Path(__file__).with_name("foreign_names")
+# Names of html2text and of std that have none here.
+FOREIGN = {"UnicodeWidthStr", "to_string", "extend_to", "Deref", "DerefMut", "non_exhaustive"}
 
 
 @dataclass
@@ -111,7 +111,7 @@ def dead_links(page):
 @lru_cache(maxsize=None)
 def known_names():
     """The names in the code of this repository, and those of others that pages may use."""
-    names = set(FOREIGN.read_text(encoding="utf-8").split())
+    names = set(FOREIGN)
     for pattern, comment in SOURCES.items():
         for file in TOP.glob(pattern):
             if file.is_file() and "out" not in file.parts:
