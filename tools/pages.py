@@ -1,7 +1,7 @@
 """What a page may not have: more words than there is room for, long sentences, dead links, names of nothing.
 
-A word is what `wc -w` counts, in tables and code too. A sentence is a paragraph's, an item's or a table cell's; there a
-piece of code counts as one word.
+A word has a letter or a digit; those in tables and code count too. A sentence is one of a paragraph, an item or a cell of
+a table, where a piece of code counts as one word.
 """
 import re
 from dataclasses import dataclass
@@ -19,6 +19,7 @@ DEFINES = ("docs/MODEL.md",)
 LINES = {"README.md": 125, "docs/architecture.md": 70, "docs/CONTRIBUTING.md": 70}
 CRATE_LINES = 70
 
+WORD = re.compile(r"\S*[^\W_]\S*")
 FENCED = re.compile(r"^ *```.*?^ *```$", re.M | re.S)
 CODE = re.compile(r"`([^`\n]+(?:\n[^`\n]+)?)`")
 LINK = re.compile(r"\[((?:[^\[\]]|\[[^\]]*\])*)\]\(([^)\s]+)\)")
@@ -31,7 +32,10 @@ NAME = re.compile(r"[A-Za-z_]\w{2,}(?:::\w+)*(?:\(\))?$")
 PLACEHOLDER = re.compile(r"(?:^|/)[A-Z][A-Z_]*(?:\.(?:edit|txt|script|out|md))?(?:/|$)")
 # The code that names come from, with what begins a comment there.
 SOURCES = {"crates/**/*.rt": "//", "crates/**/*.antt": "--", "tools/*": "#", "bench/*": "#", "include/*.h": "\0"}
-SOURCES |= {"bindings/**/*.rs": "//", "bindings/**/*.py": "#", "examples/*/*.[prc]*": "\0", "crates.txt": "#"}
+SOURCES |= {"bindings/**/*.rs": "//", "bindings/**/*.py": "#", "crates.txt": "#"}
+SOURCES |= {"examples/**/*.rs": "//", "examples/**/*.py": "#", "examples/**/*.c": "//"}
+# Folders of what is built.
+BUILT = {"out", "target", "build"}
 # Names of html2text and of std that have none here.
 FOREIGN = {"UnicodeWidthStr", "to_string", "extend_to", "Deref", "DerefMut", "non_exhaustive"}
 
@@ -44,7 +48,7 @@ class Page:
     text: str
 
     def words(self):
-        return len(self.text.split())
+        return len(WORD.findall(self.text))
 
     def prose(self):
         """The text without code blocks."""
@@ -60,7 +64,7 @@ class Page:
         for paragraph in paragraphs(self.prose()):
             plain = LINK.sub(r"\1", CODE.sub("Code", paragraph))
             for sentence in ENDS.split(plain):
-                yield len(re.findall(r"[^\W_][^\s]*", sentence)), " ".join(sentence.split())
+                yield len(WORD.findall(sentence)), " ".join(sentence.split())
 
 
 def paragraphs(prose):
@@ -79,8 +83,12 @@ def paragraphs(prose):
 def pages():
     """All pages of this repository."""
     found = [*TOP.glob("*.md"), *TOP.glob("*/**/*.md")]
-    paths = sorted(str(it.relative_to(TOP)) for it in found if "out" not in it.relative_to(TOP).parts)
+    paths = sorted(str(it.relative_to(TOP)) for it in found if not is_built(it))
     return [Page(it, (TOP / it).read_text(encoding="utf-8")) for it in paths if not it.startswith(".")]
+
+
+def is_built(file):
+    return not BUILT.isdisjoint(file.relative_to(TOP).parts[:-1])
 
 
 def long_sentences(page):
@@ -114,7 +122,7 @@ def known_names():
     names = set(FOREIGN)
     for pattern, comment in SOURCES.items():
         for file in TOP.glob(pattern):
-            if file.is_file() and "out" not in file.parts:
+            if file.is_file() and not is_built(file):
                 names.update(re.findall(r"\w+", re.sub(f"{comment}.*", "", file.read_text(encoding="utf-8"))))
     return names
 
