@@ -29,7 +29,7 @@ ENDS = re.compile(r"(?<=[.!?])[)\"*]*\s+(?=[^a-z])")
 FILE = re.compile(r"[\w.*-]+(?:/[\w.*-]+)*\.(?:rt|antt|md|txt|py|script|out|edit|c|h|rs|toml)$|[\w.*-]+(?:/[\w.*-]+)+/?$")
 NAME = re.compile(r"[A-Za-z_]\w{2,}(?:::\w+)*(?:\(\))?$")
 # What stands for a name that a reader puts there.
-PLACEHOLDER = re.compile(r"(?:^|/)[A-Z][A-Z_]*(?:\.(?:edit|txt|script|out|md))?(?:/|$)")
+PLACEHOLDER = re.compile(r"(?:^|/)[A-Z][A-Z_]*(?:\.(?:edit|txt|script|out))?(?:/|$)")
 # The code that names come from, with what begins a comment there.
 SOURCES = {"crates/**/*.rt": "//", "crates/**/*.antt": "--", "tools/*": "#", "bench/*": "#", "include/*.h": "\0"}
 SOURCES |= {"bindings/**/*.rs": "//", "bindings/**/*.py": "#", "crates.txt": "#"}
@@ -49,6 +49,9 @@ class Page:
 
     def words(self):
         return len(WORD.findall(self.text))
+
+    def lines(self):
+        return self.text.count("\n")
 
     def prose(self):
         """The text without code blocks."""
@@ -82,8 +85,7 @@ def paragraphs(prose):
 
 def pages():
     """All pages of this repository."""
-    found = [*TOP.glob("*.md"), *TOP.glob("*/**/*.md")]
-    paths = sorted(str(it.relative_to(TOP)) for it in found if not is_built(it))
+    paths = sorted(str(it.relative_to(TOP)) for it in TOP.glob("**/*.md") if not is_built(it))
     return [Page(it, (TOP / it).read_text(encoding="utf-8")) for it in paths if not it.startswith(".")]
 
 
@@ -100,8 +102,8 @@ def long_sentences(page):
 
 def long_page(page):
     limit = CRATE_LINES if page.path.startswith("crates/") else LINES.get(page.path)
-    if limit and page.text.count("\n") > limit:
-        yield f"{page.text.count(chr(10))} lines, {limit} at most"
+    if limit and page.lines() > limit:
+        yield f"{page.lines()} lines, {limit} at most"
 
 
 def dead_links(page):
@@ -152,6 +154,7 @@ def complaints(page):
 
 
 def total(found):
+    """The words of pages, but for those of the bindings."""
     return sum(page.words() for page in found if not page.path.startswith("bindings/"))
 
 
