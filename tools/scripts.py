@@ -56,7 +56,7 @@ def replays(path, content):
 
 
 def with_answer_beside(path, content):
-    yield printed(str(path), content, path.with_suffix(".out").read_text(encoding="utf-8"))
+    yield printed(f"{path.parent.name}/{path.name}", content, path.with_suffix(".out").read_text(encoding="utf-8"))
 
 
 def of_page(path, content):
