@@ -37,10 +37,9 @@ def crates():
     return {crate.name: crate for crate in library().crates_below(TOP)}
 
 
-def needed_by(name):
-    """A crate after those of this repository that it uses, each after what it needs itself."""
-    crate = crates()[name]
-    needed = {it.name for it in crate.below()} | {name}
+def needed_by(*names):
+    """Crates and those of this repository that they use, each after what it needs itself."""
+    needed = {below.name for name in names for below in crates()[name].below()} | {*names}
     return [it for it in crates().values() if it.name in needed]
 
 
