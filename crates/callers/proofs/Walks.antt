@@ -1,11 +1,14 @@
 -- Markers that are walked over, and lines that are taken one by one.
-use Rattle.std.proofs.Common.{◌≡◌, ℕ, zero, suc, ◌<◌, Bool, Option, take, drop, subst, List, [], ◌∷◌, ◌++◌, map, length, get_or, refl, ap, sym, ◌∙◌, arith, append_assoc}
+use Rattle.std.proofs.Common.{◌≡◌, ℕ, zero, suc, ◌<◌, Bool, Option, take, drop, subst, List, [], ◌∷◌, ◌++◌, map, length, get_or, refl, ap, sym, ◌∙◌, arith, append_assoc, append-nil}
 use Rattle.std.specs.List.{AllZip}
 use Rattle.std.proofs.lemmas.List.{map-append}
-use Rattle.tbr_model.specs.Run.{Entry, marker_entry, Item}
-use Rattle.tbr_model.specs.Markers.{marker_run}
+use Rattle.tbr_model.specs.Run.{Item, marker_entry}
+use Rattle.tbr_model.specs.Rule.{Event, entry}
 use Rattle.tbr_lines.specs.Elements.{Element, marker_element}
-use Rattle.tbr_lines.specs.State.{State, JoinsAsMarker, EndsRun, lines_left, line_taken, lines_taken}
+use Rattle.tbr_lines.specs.Block.{Block, grown, after_marker}
+use Rattle.tbr_lines.specs.Outcome.{done}
+use Rattle.tbr_lines.proofs.Outcomes.{live_done}
+use Rattle.tbr_lines.specs.State.{State, EndsRun, lines_left, line_taken, lines_taken}
 use Rattle.tbr_lines.specs.Wrapped.{ShowsText}
 use Rattle.tbr_lines.proofs.LinesLeft.{lines_left-lines_taken, taken_one_more, many_padding, many_width, handed_and_left, ends_lines_taken}
 use Rattle.tbr_lines.proofs.SameItems.{all_zip_append}
@@ -30,13 +33,15 @@ same_names T (m ∷ ms) [] e = cc
 same_names T (m ∷ ms) (n ∷ ns) e = let rest = same_names T ms ns cc in let first : m ≡ n = cc in cc
 
 -- a run with markers, and one more
-pub one_marker_more : {T : Type 0} (first old new : State T) (names loose : List (List ℕ)) (name : List ℕ) → old ≡ record first { run = first.run ++ marker_run names; loose = loose } → JoinsAsMarker old name new →
-    (now : List (List ℕ)) × (new ≡ record first { run = first.run ++ marker_run (names ++ name ∷ []); loose = now })
-one_marker_more {T} first old new names loose name is joins = (
-  joins.loose,
-  joins.is ∙ ap (λ (s : State T). record s { run = s.run ++ marker_entry name ∷ []; loose = joins.loose }) is
-      ∙ ap (λ (r : List (Entry T)). record first { run = r; loose = joins.loose }) (append_assoc first.run (marker_run names) (marker_entry name ∷ []) ∙ ap (λ r. first.run ++ r) (sym (map-append marker_entry names (name ∷ [])))),
-)
+pub no_marker_yet : {T : Type 0} (s : Block T) → s ≡ grown s []
+no_marker_yet {T} s = ap (λ (es : List (Event T)). record s { events = es }) (sym (append-nil s.events))
+
+pub one_marker_more : {T : Type 0} (first old new : Block T) (names : List (List ℕ)) (name : List ℕ) → old ≡ grown first (map (λ n. entry (marker_entry n)) names) → after_marker name old ≡ done new → new ≡ grown first (map (λ n. entry (marker_entry n)) (names ++ name ∷ []))
+one_marker_more {T} first old new names name is after =
+    let joined : grown old (entry (marker_entry name) ∷ []) ≡ new = let e = (live_done old.failure _ new after).1 in cc in
+    sym joined ∙ ap (λ (s : Block T). grown s (entry (marker_entry name) ∷ [])) is
+    ∙ ap (λ (es : List (Event T)). record first { events = es })
+    (append_assoc first.events (map (λ n. entry (marker_entry n)) names) (entry (marker_entry name) ∷ []) ∙ ap (λ (es : List (Event T)). first.events ++ es) (sym (map-append (λ n. let e : Event T = entry (marker_entry n) in e) names (name ∷ []))))
 
 -- ---- lines that are taken one by one
 

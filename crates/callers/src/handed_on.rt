@@ -1,7 +1,9 @@
 //! Markers that wait behind the lines of one block go on into another.
-ghost use Rattle.std.specs.Prelude.{◌≡◌, ◌++◌, OnOk, List, ℕ};
-ghost use Rattle.tbr_model.specs.Markers.{marker_run};
-ghost use Rattle.tbr_lines.specs.State.{loose_taken};
+ghost use Rattle.std.specs.Prelude.{◌≡◌, OnOk, map};
+ghost use Rattle.tbr_model.specs.Run.{marker_entry};
+ghost use Rattle.tbr_model.specs.Rule.{entry};
+ghost use Rattle.tbr_lines.specs.Block.{after_taking, grown, loose};
+ghost use Rattle.tbr_lines.specs.Outcome.{done};
 
 use tbr_lines::{CharWidth, Error, WrappedBlock};
 
@@ -10,9 +12,9 @@ pub fn hand_on<T: Eq + Clone + Drop, W: CharWidth>(
     block: &mut WrappedBlock<T, W>,
     other: &mut WrappedBlock<T, W>,
 ) -> Result<(), Error>
-    ensures taken { OnOk result (block.new ≡ loose_taken block.old) }
-    ensures joined { OnOk result ((loose : List (List ℕ)) × (other.new ≡
-        record other.old { run = other.old.run ++ marker_run block.old.loose; loose = loose })) }
+    ensures taken { OnOk result (after_taking W.columns block.old ≡ done block.new) }
+    ensures joined { let markers = map (λ name. entry (marker_entry name)) (loose W.columns block.old) in
+        OnOk result (other.new ≡ grown other.old markers) }
 {
     for marker in block.take_trailing_fragments()? {
         other.add_element(marker)?;

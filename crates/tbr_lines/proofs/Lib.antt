@@ -1,8 +1,10 @@
 pub mod NormalTexts
+pub use Rattle.tbr_wrap.proofs.runs.BlockLaws
 pub use Rattle.tbr_wrap.proofs.runs.LinesLeft
 pub use Rattle.tbr_wrap.proofs.runs.MappedRuns
 pub use Rattle.tbr_tagged.proofs.SameItems
 pub use Rattle.tbr_tagged.proofs.Copies
+pub use Rattle.tbr_tagged.proofs.Outcomes
 pub use Rattle.tbr_tagged.proofs.TextBehind
 pub use Rattle.tbr_tagged.proofs.TextColumns
 pub use Rattle.tbr_tagged.proofs.MappedTags

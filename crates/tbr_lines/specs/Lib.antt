@@ -5,11 +5,13 @@ pub use Rattle.tbr_tagged.specs.Copies
 pub use Rattle.tbr_tagged.specs.Elements
 pub use Rattle.tbr_tagged.specs.Equal
 pub use Rattle.tbr_tagged.specs.Mapped
+pub use Rattle.tbr_tagged.specs.Outcome
 pub use Rattle.tbr_tagged.specs.Padding
 pub use Rattle.tbr_tagged.specs.Sums
 pub use Rattle.tbr_tagged.specs.UnicodeColumns
 pub use Rattle.tbr_tagged.specs.View
 pub use Rattle.tbr_tagged.specs.Walks
+pub use Rattle.tbr_wrap.specs.Block
 pub use Rattle.tbr_wrap.specs.EndedLines
 pub use Rattle.tbr_wrap.specs.State
 pub use Rattle.tbr_wrap.specs.Wrapped

@@ -12,3 +12,4 @@ pub mod LaidText
 pub mod Printable
 pub mod PreservingModes
 pub mod AlwaysLaid
+pub mod WiderLines

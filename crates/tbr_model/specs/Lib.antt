@@ -5,6 +5,7 @@ pub mod Run
 pub mod Layout
 pub mod Cuts
 pub mod Longest
+pub mod Fits
 pub mod Entry
 pub mod Slot
 pub mod Regions
@@ -12,6 +13,7 @@ pub mod Greedy
 pub mod Laid
 pub mod Rule
 pub mod Markers
+pub mod TakenOut
 pub mod Hard
 pub mod Mapped
 pub mod Shown

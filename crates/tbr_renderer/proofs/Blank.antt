@@ -1,11 +1,11 @@
 -- Renderers in which nothing stands.
-use Rattle.std.proofs.Common.{◌≡◌, ℕ, ◌&&◌, ◌||◌, ◌↔◌, not, IsTrue, Bool, true, false, is_none, Option, None, Some, List, [], ◌∷◌, map, refl, ap, ◌∙◌, subst}
+use Rattle.std.proofs.Common.{◌≡◌, ℕ, ◌&&◌, ◌||◌, ◌↔◌, not, IsTrue, Bool, true, false, is_none, Option, None, Some, List, [], ◌∷◌, ◌++◌, map, drop, refl, ap, sym, ◌∙◌, subst}
 use Rattle.std.specs.Global.{Vec}
 use Rattle.std.proofs.lemmas.Bool.{and_parts}
 use Rattle.tbr_model.specs.Run.{kept_items, has_character}
 use Rattle.tbr_model.proofs.words.Items.{no_character_no_width}
 use Rattle.tbr_lines.specs.declared.Error.{Error}
-use Rattle.tbr_lines.specs.State.{State, IsNormal, WrapsNormally, RunDecides, has_begun, is_some_list}
+use Rattle.tbr_lines.specs.State.{State, IsNormal, WrapsNormally, RunDecides, has_begun, is_some_list, lines_left}
 use Rattle.tbr_renderer.specs.Renderer.{Open, Renderer, block_width, may_overflow}
 use Rattle.tbr_renderer.specs.Meant.{tag_meant, map_line, meant}
 use Rattle.tbr_renderer.specs.View.{IsFresh, block_seen}
@@ -23,6 +23,13 @@ module _ {D A : Type 0} (columns : ℕ → Option ℕ) (r : Renderer D A (Vec A)
   -- what a block answers
   pub block_asked : (blank : Bool) → blank ≡ is_none b.failure && (not (has_begun b) && b.no_character) → blank ≡ block_is_blank r.block
   block_asked blank asked = asked ∙ ap (λ (o : Option Error). is_none o && (not (has_begun b) && b.no_character)) fresh.unfailed ∙ ap block_is_blank seen
+
+  -- a blank one has no line that is left
+  pub none_left : block_is_blank r.block ≡ true → (b.no_character ≡ true) × (lines_left b ≡ [])
+  none_left blank =
+      let parts = and_parts (not (has_begun b)) b.no_character (ap block_is_blank seen ∙ blank) in
+      let none : b.lines ≡ [] = none_of_not b.lines (ap (λ (begun : Bool). not (begun || is_some_list b.lines)) (sym fresh.begun) ∙ parts.0) in
+      (parts.1, λ i. fresh.ended i ++ drop (fresh.handed i) (none i))
 
   -- and what that tells of a `Normal` run
   pub block_tells : (WrapsNormally b → RunDecides columns b) → TellsBlank columns r

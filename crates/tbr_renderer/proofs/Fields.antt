@@ -1,5 +1,5 @@
 -- What the fields of a renderer hold after they change.
-use Rattle.std.proofs.Common.{◌≡◌, List, [], ◌∷◌, ◌++◌, map, refl, ap, sym, ◌∙◌, subst}
+use Rattle.std.proofs.Common.{◌≡◌, ℕ, Option, List, [], ◌∷◌, ◌++◌, map, refl, ap, sym, ◌∙◌, subst}
 use Rattle.std.specs.Global.{Vec}
 use Rattle.std.proofs.lemmas.List.{map-append}
 use Rattle.tbr_lines.specs.Elements.{Element, piece, marker_element}
@@ -21,21 +21,21 @@ markers_append {T} es fs h k =
     ap (map (λ n. let e : Element T = marker_element n in e)) (names_append es fs) ∙ map-append (λ n. let e : Element T = marker_element n in e) (names_of es) (names_of fs)
     ∙ ap (λ xs. xs ++ map (λ n. let e : Element T = marker_element n in e) (names_of fs)) h ∙ ap (λ xs. es ++ xs) k
 
-module _ {D W A : Type 0} (r : Inside D W A) (more : List (TaggedLineElement (Vec A))) (waiting : Vec (TaggedLineElement (Vec A))) (is : waiting.items ≡ r.waiting.items ++ more) where
+module _ {D W A : Type 0} (columns : ℕ → Option ℕ) (r : Inside D W A) (more : List (TaggedLineElement (Vec A))) (waiting : Vec (TaggedLineElement (Vec A))) (is : waiting.items ≡ r.waiting.items ++ more) where
   elements : map element_of waiting.items ≡ map element_of r.waiting.items ++ map element_of more
   elements = ap (map element_of) is ∙ map-append element_of r.waiting.items more
 
   -- more markers wait
-  pub holds_waiting : HoldsRenderer r → AreMarkers (map element_of more) → HoldsRenderer (record r { waiting = waiting })
+  pub holds_waiting : HoldsRenderer columns r → AreMarkers (map element_of more) → HoldsRenderer columns (record r { waiting = waiting })
   holds_waiting h markers = record {
-    columns = h.columns;
+    some = h.some;
     fresh = λ live. let f = h.fresh live in record {
       opened = f.opened;
       markers = subst AreMarkers (sym elements) (markers_append (map element_of r.waiting.items) (map element_of more) f.markers markers);
     };
   }
 
-  pub waiting_seen : (s : Renderer D A (Vec A)) → renderer_of r ≡ s → renderer_of (record r { waiting = waiting }) ≡ record s { waiting = s.waiting ++ names_of (map element_of more) }
+  pub waiting_seen : (s : Renderer D A (Vec A)) → renderer_of columns r ≡ s → renderer_of columns (record r { waiting = waiting }) ≡ record s { waiting = s.waiting ++ names_of (map element_of more) }
   waiting_seen s view =
-      ap (λ ns. record (renderer_of r) { waiting = ns }) (ap names_of elements ∙ names_append (map element_of r.waiting.items) (map element_of more))
+      ap (λ ns. record (renderer_of columns r) { waiting = ns }) (ap names_of elements ∙ names_append (map element_of r.waiting.items) (map element_of more))
       ∙ ap (λ (q : Renderer D A (Vec A)). record q { waiting = q.waiting ++ names_of (map element_of more) }) view

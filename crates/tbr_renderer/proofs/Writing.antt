@@ -17,7 +17,7 @@ use Rattle.tbr_lines.specs.State.{State, text_entries, run_with, JoinsRun, Joins
 use Rattle.tbr_lines.specs.Wrapped.{EndedWordsFit}
 use Rattle.tbr_renderer.specs.Renderer.{Open, Renderer, new_block, open_block, open_run, text_annotations, last_mode, entries_under, with_entries, block_width, may_overflow}
 use Rattle.tbr_renderer.specs.Meant.{tag_meant, map_open, meant}
-use Rattle.tbr_renderer.specs.View.{IsFresh, block_seen, block_meant}
+use Rattle.tbr_renderer.specs.View.{IsFresh, block_seen, state_meant}
 use Rattle.tbr_renderer.specs.Flush.{with_run, RunGoesOn, RunStops}
 use Rattle.tbr_renderer.specs.Steps.{BlockIsAtLineStart, BlockIsEmpty}
 use Rattle.tbr_renderer.proofs.Fits.{normal_unmap, run_goes_on-map, run_stops-map}
@@ -28,22 +28,22 @@ text_entries-map {A} {B} f (c ∷ cs) a b mode = ap (λ (es : List (Entry B)). c
 
 module _ {D A M : Type 0} (f : A → M) (columns : ℕ → Option ℕ) (old : State (Vec A)) (width : ℕ) (overflows : Bool) (fresh : IsFresh width overflows old) (cs : List ℕ) (v w : Vec A) (mode : WhiteSpace) (r : Renderer D M (List M)) (preformatted : D → Bool → M)
     (main : tag_meant f v ≡ text_annotations preformatted false r) (continued : tag_meant f w ≡ text_annotations preformatted true r) (is_mode : mode ≡ last_mode r.modes) where
-  run_written : map_run (tag_meant f) (run_with old cs v w mode) ≡ (block_meant f old).run ++ entries_under preformatted r cs
+  run_written : map_run (tag_meant f) (run_with old cs v w mode) ≡ (state_meant f old).run ++ entries_under preformatted r cs
   run_written =
       map-append (map_entry (tag_meant f)) old.run (text_entries cs v w mode)
       ∙ ap (λ es. map_run (tag_meant f) old.run ++ es) (text_entries-map (tag_meant f) cs v w mode ∙ ap (λ a. text_entries cs a (tag_meant f w) mode) main
       ∙ ap (λ b. text_entries cs (text_annotations preformatted false r) b mode) continued ∙ ap (text_entries cs (text_annotations preformatted false r) (text_annotations preformatted true r)) is_mode)
 
-  pub written : (new : State (Vec A)) → JoinsRun old (text_entries cs v w mode) new → block_meant f new ≡ with_run (block_meant f old) (entries_under preformatted r cs)
-  written new joins = ap (block_meant f) joins.is ∙ ap (λ (es : List (Entry (List M))). record (block_meant f old) { run = es }) run_written
+  pub written : (new : State (Vec A)) → JoinsRun old (text_entries cs v w mode) new → state_meant f new ≡ with_run (state_meant f old) (entries_under preformatted r cs)
+  written new joins = ap (state_meant f) joins.is ∙ ap (λ (es : List (Entry (List M))). record (state_meant f old) { run = es }) run_written
 
-  pub goes_on : (old.may_overflow ≡ false → IsNormal (run_with old cs v w mode) → EndedWordsFit columns old.width (run_with old cs v w mode)) → RunGoesOn columns width overflows ((block_meant f old).run ++ entries_under preformatted r cs)
+  pub goes_on : (old.may_overflow ≡ false → IsNormal (run_with old cs v w mode) → EndedWordsFit columns old.width (run_with old cs v w mode)) → RunGoesOn columns width overflows ((state_meant f old).run ++ entries_under preformatted r cs)
   goes_on fits =
       let here : RunGoesOn columns width overflows (run_with old cs v w mode) =
       subst (λ (n : ℕ). RunGoesOn columns n overflows (run_with old cs v w mode)) fresh.width_is (subst (λ (o : Bool). RunGoesOn columns old.width o (run_with old cs v w mode)) fresh.may_overflow fits) in
       subst (λ (es : List (Entry (List M))). RunGoesOn columns width overflows es) run_written (run_goes_on-map (tag_meant f) columns width overflows (run_with old cs v w mode) here)
 
-  pub stops : RunStops columns old.width old.may_overflow (run_with old cs v w mode) → RunStops columns width overflows ((block_meant f old).run ++ entries_under preformatted r cs)
+  pub stops : RunStops columns old.width old.may_overflow (run_with old cs v w mode) → RunStops columns width overflows ((state_meant f old).run ++ entries_under preformatted r cs)
   stops wide =
       let here : RunStops columns width overflows (run_with old cs v w mode) =
       subst (λ (n : ℕ). RunStops columns n overflows (run_with old cs v w mode)) fresh.width_is (subst (λ (o : Bool). RunStops columns old.width o (run_with old cs v w mode)) fresh.may_overflow wide) in
@@ -70,11 +70,11 @@ module _ {A M : Type 0} (f : A → M) (width : ℕ) (overflows : Bool) (old new 
     unfailed = fresh.unfailed;
   })
 
-  pub marked : block_meant f new ≡ with_run (block_meant f old) (marker_entry name ∷ [])
-  marked = ap (block_meant f) joins.is ∙ ap (λ (es : List (Entry (List M))). record (block_meant f old) { run = es }) (map-append (map_entry (tag_meant f)) old.run (marker_entry name ∷ []))
+  pub marked : state_meant f new ≡ with_run (state_meant f old) (marker_entry name ∷ [])
+  marked = ap (state_meant f) joins.is ∙ ap (λ (es : List (Entry (List M))). record (state_meant f old) { run = es }) (map-append (map_entry (tag_meant f)) old.run (marker_entry name ∷ []))
 
 -- a renderer whose block has a marker more
-pub marker_added : {D A M : Type 0} (f : A → M) (r taken put : Renderer D A (Vec A)) (old new : State (Vec A)) (name : List ℕ) → taken ≡ record r { block = None } → block_meant f old ≡ open_block (meant f r) → block_meant f new ≡ with_run (block_meant f old) (marker_entry name ∷ []) → put ≡ record taken { block = block_seen (Some new) } →
+pub marker_added : {D A M : Type 0} (f : A → M) (r taken put : Renderer D A (Vec A)) (old new : State (Vec A)) (name : List ℕ) → taken ≡ record r { block = None } → state_meant f old ≡ open_block (meant f r) → state_meant f new ≡ with_run (state_meant f old) (marker_entry name ∷ []) → put ≡ record taken { block = block_seen (Some new) } →
     meant f put ≡ with_entries (meant f r) (marker_entry name ∷ [])
 marker_added {D} {A} {M} f r taken put old new name emptied before is done =
     ap (meant f) done ∙ ap (λ (q : Renderer D A (Vec A)). meant f (record q { block = block_seen (Some new) })) emptied

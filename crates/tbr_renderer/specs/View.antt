@@ -6,6 +6,7 @@ use Rattle.tbr_lines.specs.View.{element_of}
 use Rattle.tbr_renderer.specs.Meant.{tag_meant, map_open}
 use Rattle.tbr_renderer.specs.declared.sub.SubRenderer.TheInside.{Inside}
 use Rattle.tbr_lines.specs.Elements.{Element, piece, marker_element, items_of}
+use Rattle.tbr_lines.specs.Block.{Block, state_seen}
 use Rattle.tbr_lines.specs.State.{State, has_begun}
 use Rattle.tbr_decor.specs.Start as start
 use Rattle.tbr_decor.specs.End as end
@@ -29,17 +30,20 @@ line_seen (Rule b) = border b
 abbrev pub open_seen : {T : Type 0} → State T → Open T
 open_seen b = record { padding = b.padding; run = b.run; blank = not (has_begun b) && b.no_character }
 
--- what stands in a box, if there is one
-abbrev pub unboxed : {T : Type 0} → Option (Box T) → Option T
-unboxed boxed = option_map (λ b. b.value) boxed
+-- the block that stands in a box, if there is one
+abbrev pub unboxed : {T : Type 0} → (ℕ → Option ℕ) → Option (Box (Block T)) → Option (State T)
+unboxed columns boxed = option_map (λ b. state_seen columns b.value) boxed
 
 -- and so the open block, if there is one
 abbrev pub block_seen : {T : Type 0} → Option (State T) → Option (Open T)
 block_seen block = option_map open_seen block
 
 -- a block by what its tags mean
-abbrev pub block_meant : {A M : Type 0} → (A → M) → State (Vec A) → Open (List M)
-block_meant meaning b = map_open (tag_meant meaning) (open_seen b)
+abbrev pub state_meant : {A M : Type 0} → (A → M) → State (Vec A) → Open (List M)
+state_meant meaning b = map_open (tag_meant meaning) (open_seen b)
+
+abbrev pub block_meant : {A M : Type 0} → (ℕ → Option ℕ) → (A → M) → Block (Vec A) → Open (List M)
+block_meant columns meaning b = state_meant meaning (state_seen columns b)
 
 -- the names of markers
 abbrev pub names_of : {T : Type 0} → List (Element T) → List (List ℕ)
@@ -66,13 +70,13 @@ IsOpened width overflows None = ⊤
 IsOpened width overflows (Some b) = IsFresh width overflows b
 
 -- what a contract sees of the fields
-abbrev pub renderer_of : {D W A : Type 0} → Inside D W A → Renderer D A (Vec A)
-renderer_of r = record {
+abbrev pub renderer_of : {D W A : Type 0} → (ℕ → Option ℕ) → Inside D W A → Renderer D A (Vec A)
+renderer_of columns r = record {
   width = r.width;
   options = r.options;
   decorator = r.decorator;
   lines = r.lines;
-  block = block_seen (unboxed r.wrapping);
+  block = block_seen (unboxed columns r.wrapping);
   waiting = names_of (map element_of r.waiting.items);
   block_ended = r.block_ended;
   annotations = r.annotations.items;
@@ -84,15 +88,15 @@ renderer_of r = record {
 }
 
 -- What the fields of a renderer that hasn't failed hold: a fresh block, if any, and markers that wait.
-pub record HoldsFresh {D W A : Type 0} (r : Inside D W A) : Type 0 where
+pub record HoldsFresh {D W A : Type 0} (columns : ℕ → Option ℕ) (r : Inside D W A) : Type 0 where
   pub opened : IsOpened (least r.width r.options.wrap_width)
-      (overflows r.options (least r.width r.options.wrap_width)) (unboxed r.wrapping)
+      (overflows r.options (least r.width r.options.wrap_width)) (unboxed columns r.wrapping)
   pub markers : AreMarkers (map element_of r.waiting.items)
 
 -- and what those of any renderer do
-pub record HoldsRenderer {D W A : Type 0} (r : Inside D W A) : Type 0 where
-  pub columns : 0 < least r.width r.options.wrap_width
-  pub fresh : r.failure ≡ None → HoldsFresh r
+pub record HoldsRenderer {D W A : Type 0} (columns : ℕ → Option ℕ) (r : Inside D W A) : Type 0 where
+  pub some : 0 < least r.width r.options.wrap_width
+  pub fresh : r.failure ≡ None → HoldsFresh columns r
 
 -- what is opened or closed
 abbrev pub start_of : Opened → start.Start

@@ -1,3 +1,4 @@
+pub mod Outcomes
 pub mod Copies
 pub mod ElementLoops
 pub mod EqualLines

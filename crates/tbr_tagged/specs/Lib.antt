@@ -1,4 +1,5 @@
 pub mod Copies
+pub mod Outcome
 pub mod Elements
 pub mod View
 pub mod Stored

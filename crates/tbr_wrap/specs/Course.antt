@@ -1,13 +1,10 @@
--- Where the changes of a block have led, by the rule of the model.
-use Rattle.std.specs.Prelude.{ℕ, suc, ◌==◌, not, ◌&&◌, ◌||◌, if◌then◌else◌, Bool, false, Option, List, [], ◌∷◌, ◌++◌, map, length, drop, fold, string_bytes}
-use Rattle.tbr_model.specs.declared.white_space.WhiteSpace.{WhiteSpace}
-use Rattle.tbr_model.specs.Run.{Entry, character, marker_entry, Item, items_width, has_character}
+-- Where a block is in its run, by the rule of the model.
+use Rattle.std.specs.Prelude.{ℕ, suc, ◌==◌, not, ◌&&◌, ◌||◌, if◌then◌else◌, Bool, false, Option, List, [], ◌∷◌, ◌++◌, length, drop}
+use Rattle.tbr_model.specs.Run.{Entry, Item, items_width, has_character}
 use Rattle.tbr_model.specs.Markers.{names_in_items, marker_run, without_last_markers}
-use Rattle.tbr_model.specs.Rule.{Event, call, entry, run_of, Progress, at_start, step, finished, waiting}
+use Rattle.tbr_model.specs.Rule.{Event, run_of, Progress, at_start, step, finished, waiting}
 use Rattle.tbr_tagged.specs.declared.error.Error.{Error}
 use Rattle.tbr_wrap.specs.State.{State, is_some_list}
-use Rattle.tbr_wrap.specs.declared.run_change.RunChange.{RunChange}
-use Rattle.tbr_wrap.specs.declared.run_change.RunChange.TheVariants.{Called, Character, Marker, Taken, Ended, HandedOut}
 
 -- Whether a line has ended in an earlier run; the lines of earlier runs that aren't handed out; how many lines of the
 -- current run were handed out; its entries; and where the rule stands in it.
@@ -51,21 +48,6 @@ abbrev pub line_handed : {A : Type 0} → Course A → Course A
 line_handed c =
     if is_some_list c.ended then record c { ended = drop 1 c.ended } else record c { handed = suc c.handed }
 
-abbrev pub after : {A : Type 0} → (ℕ → Option ℕ) → ℕ → Course A → RunChange × A × A → Course A
-after columns width c (Called, a, b) = stepped columns width c call
-after columns width c (Character ch mode, a, b) = stepped columns width c (entry (character ch a b mode))
-after columns width c (Marker name, a, b) = stepped columns width c (entry (marker_entry (string_bytes name)))
-after columns width c (Taken, a, b) = word_taken c
-after columns width c (Ended, a, b) = run_ended columns width c
-after columns width c (HandedOut, a, b) = line_handed c
-
--- a text's characters come
-abbrev pub text_changes : {A : Type 0} → List ℕ → A → A → WhiteSpace → List (RunChange × A × A)
-text_changes cs a b mode = map (λ c. (Character c mode, a, b)) cs
-
-abbrev pub course : {A : Type 0} → (ℕ → Option ℕ) → ℕ → List (RunChange × A × A) → Course A
-course columns width changes = fold (after columns width) at_first changes
-
 -- the names of a word's markers, if it has no character
 abbrev pub loose_names : {A : Type 0} → List (Item A) → List (List ℕ)
 loose_names word = if has_character word then [] else names_in_items word
@@ -86,9 +68,3 @@ state_of columns width may_overflow padding failure c = record {
   loose = loose_names c.progress.word;
   failure = failure;
 }
-
--- what a contract sees where these changes came
-abbrev pub viewed : {A : Type 0} → (ℕ → Option ℕ) → ℕ → Bool → Option A → Option Error
-    → List (RunChange × A × A) → State A
-viewed columns width may_overflow padding failure changes =
-    state_of columns width may_overflow padding failure (course columns width changes)

@@ -1,11 +1,14 @@
--- What the fields of a block hold of its course.
-use Rattle.std.specs.Prelude.{◌≡◌, ℕ, ◌≤◌, ◌||◌, Bool, Option, List, length, take}
+-- What the fields of a block hold, and what a contract sees of them.
+use Rattle.std.specs.Prelude.{◌≡◌, ℕ, ◌≤◌, ◌||◌, if◌then◌else◌, Bool, Option, None, Some, List, length, take}
 use Rattle.std.specs.List.{AllZip}
 use Rattle.tbr_model.specs.Run.{Item}
 use Rattle.tbr_model.specs.Rule.{Event, run_of, progress}
 use Rattle.tbr_tagged.specs.Elements.{SameItems}
 use Rattle.tbr_wrap.specs.State.{is_some_list}
 use Rattle.tbr_wrap.specs.Course.{Course}
+use Rattle.tbr_wrap.specs.Block.{Block, course_of}
+use Rattle.tbr_wrap.specs.Story.{story}
+use Rattle.tbr_wrap.specs.declared.block.WrappedBlock.TheInside.{Inside}
 use Rattle.tbr_wrap.specs.Wrapper.{IsAtProgress}
 use Rattle.tbr_wrap.specs.declared.wrapper.Wrapper.{Wrapper}
 
@@ -21,3 +24,26 @@ pub record HoldsCourse {A : Type 0} (columns : ℕ → Option ℕ) (eq : A → A
   pub run_is : run_of events ≡ c.run
   pub progress_is : progress columns b.lines.width events ≡ c.progress
   pub has_begun : begun || is_some_list b.lines.ended.items ≡ c.begun || is_some_list c.progress.laid.done
+
+-- the tag of the padding, where lines are padded
+abbrev pub padding_tag : {A W : Type 0} → Inside A W → Option A
+padding_tag b = if b.pads then Some b.default_tag else None
+
+-- what a contract sees of the fields
+abbrev pub block_of : {A W : Type 0} → (ℕ → Option ℕ) → Inside A W → Block A
+block_of columns b =
+    let s = story columns b.wrapper.lines.width b.wrapper.lines.may_overflow (padding_tag b) b.changes.items in
+    record {
+      width = b.wrapper.lines.width;
+      may_overflow = b.wrapper.lines.may_overflow;
+      padding = padding_tag b;
+      failure = b.failure;
+      begun = s.begun;
+      ended = s.ended;
+      events = s.events;
+      handed = s.handed;
+    }
+
+-- and what those of a block that hasn't failed hold
+abbrev pub HoldsBlock : {A W : Type 0} → (ℕ → Option ℕ) → (A → A → Bool) → Inside A W → Type 0
+HoldsBlock columns eq b = b.failure ≡ None → HoldsCourse columns eq b.wrapper b.begun (course_of columns (block_of columns b))

@@ -6,5 +6,7 @@ pub mod Plain
 pub mod Wrapper
 pub mod State
 pub mod Course
+pub mod Block
+pub mod Story
 pub mod Held
 pub mod EndedLines

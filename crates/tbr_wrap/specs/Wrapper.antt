@@ -1,12 +1,15 @@
 -- What the fields of a wrapper say of the pending space and of the word under way.
-use Rattle.std.specs.Prelude.{◌≡◌, ◌≤◌, ◌<◌, ◌+◌, ◌∷◌, chars, ◌⊎◌, ℕ, Bool, true, false, Option, None, Some, List, [], ◌++◌, fold, length, take, Result, OnOk}
+use Rattle.std.specs.Prelude.{◌≡◌, ◌≤◌, ◌<◌, ◌+◌, ◌∷◌, chars, ◌⊎◌, ℕ, Bool, true, false, Option, None, Some, List, [], ◌++◌, fold, length, take, Result, OnOk, Err}
 use Rattle.std.specs.List.{AllZip, AllByRecursion as Each}
 use Rattle.tbr_model.specs.declared.white_space.WhiteSpace.{WhiteSpace}
 use Rattle.tbr_model.specs.declared.white_space.WhiteSpace.TheVariants.{Normal}
 use Rattle.tbr_model.specs.Greedy.{IsNarrow}
 use Rattle.tbr_model.specs.Run.{Item, Entry, items_width, is_break}
 use Rattle.tbr_model.specs.Rule.{Space, Progress, at_start, is_pre, join, enter, finished, waiting}
+use Rattle.tbr_model.specs.Fits.{lines_fit}
 use Rattle.tbr_tagged.specs.Elements.{SameItems}
+use Rattle.tbr_tagged.specs.declared.error.Error.{Error}
+use Rattle.tbr_tagged.specs.declared.error.Error.TheVariants as E
 use Rattle.tbr_wrap.specs.Plain.{JoinWord, AreWords}
 use Rattle.tbr_wrap.specs.Wrapped.{FitsBlock}
 use Rattle.tbr_wrap.specs.LaidLines.{HoldsRule}
@@ -75,6 +78,14 @@ abbrev pub WrapperFollows : {A X E : Type 0} → (ℕ → Option ℕ) → (A →
     (Progress A → Progress A) → Type 0
 WrapperFollows {A} columns eq b c result f = (before given : List (List (Item A))) (p : Progress A) →
     IsAtProgress columns eq b before given p → OnOk result (IsAtProgress columns eq c before given (f p))
+
+-- Wherever the rule stands, a call that answers `TooNarrow` does so where a line of the rule, as `f` leads there, is wider
+-- than a line may be, and none may be wider.
+abbrev pub RefusesWider : {A X : Type 0} → (ℕ → Option ℕ) → (A → A → Bool) → Wrapper A → Result X Error →
+    (Progress A → List (List (Item A))) → Type 0
+RefusesWider {A} columns eq b result f = result ≡ Err E.TooNarrow → (before given : List (List (Item A)))
+    (p : Progress A) → IsAtProgress columns eq b before given p →
+    (b.lines.may_overflow ≡ false) × (lines_fit columns b.lines.width (f p) ≡ false)
 
 -- Wherever the rule stands, these entries lead on.
 abbrev pub Enters : {A : Type 0} → (ℕ → Option ℕ) → (A → A → Bool) → Wrapper A → Wrapper A → List (Entry A) → Type 0

@@ -1,13 +1,14 @@
 //! A block of wrapped text.
-ghost use Rattle.std.specs.Prelude.{◌≡◌, ◌≢◌, ℕ, ◌≤◌, ◌<◌, ◌++◌, ◌∷◌, [], not, ◌&&◌, ◌||◌, ◌⊎◌, nat_lt, is_none, is_some, if◌then◌else◌, None, Some, List, OnOk, IfOk, IfErr, IsErr, IsSomeAnd, MatchResult, Err, Ok, true, false, chars, string_bytes, length, map, IsTrue};
+ghost use Rattle.std.specs.Prelude.{◌≡◌, ◌≢◌, ℕ, ◌≤◌, ◌<◌, ◌++◌, ◌∷◌, [], not, ◌&&◌, ◌⊎◌, nat_lt, is_none, is_some, if◌then◌else◌, None, Some, List, OnOk, IfOk, IfErr, IsErr, IsSomeAnd, MatchResult, Err, Ok, true, false, chars, string_bytes, length, map, IsTrue};
 ghost use Rattle.std.specs.List.{AllZip};
 ghost use Rattle.std.specs.Str.{IsUtf8};
 ghost use Rattle.tbr_model.specs.Run.{Item};
 ghost use Rattle.tbr_model.specs.Hard.{is_visible};
+ghost use Rattle.tbr_model.specs.Rule.{call, entry, run_of};
 ghost use Rattle.tbr_model.specs.Shown.{run_shows_columns};
 ghost use Rattle.tbr_tagged.specs.Copies.{CopiesAreEqual};
 ghost use Rattle.tbr_tagged.specs.Elements.{items_of, SameItems, IsMerged};
-ghost use Rattle.tbr_wrap.specs.Wrapped.{WordsFit, EndedWordsFit, ShowsText, padding_of};
+ghost use Rattle.tbr_wrap.specs.Wrapped.{HasBestLines, WordsFit, EndedWordsFit, ShowsText, padding_of};
 ghost use Rattle.tbr_wrap.specs.State.{IsNormal, CharactersFit, VisibleFit, is_some_list};
 ghost use Rattle.tbr_tagged.specs.declared.error.Error.TheVariants as E;
 
@@ -27,7 +28,7 @@ use tbr_tagged::{Error, OutOfMemory, TaggedLine, TaggedLineElement, UnicodeColum
 /// the run.
 ///
 /// A call that refuses leaves the block failed. It keeps that refusal, which each later call that can refuse answers,
-/// doing nothing else. A contract sees what [`State`] lists.
+/// doing nothing else. A contract sees what [`Block`] lists, and says by an equation what each call makes of it.
 ///
 /// Text that was handed out gives its memory back as more is, and its tags go with it.
 #[derive(Drop)]
@@ -46,27 +47,25 @@ pub struct WrappedBlock<T: Eq + Clone, W: CharWidth = UnicodeColumns> {
 }
 
 impl<T: Eq + Clone, W: CharWidth> Model for WrappedBlock<T, W> {
-    ghost use Rattle.tbr_wrap.specs.State.{State};
+    ghost use Rattle.tbr_wrap.specs.Block.{Block};
 
-    ghost Value = { State T };
+    ghost Value = { Block T };
 
-    ghost use Rattle.std.specs.Prelude.{◌≡◌, None, Some, if◌then◌else◌};
-    ghost use Rattle.tbr_wrap.specs.Course.{course, viewed};
-    ghost use Rattle.tbr_wrap.specs.Held.{HoldsCourse};
+    ghost use Rattle.tbr_wrap.specs.Held.{block_of, HoldsBlock};
 
-    ghost view = { λ b. let padding = if b.pads then Some b.default_tag else None in
-        viewed W.columns b.wrapper.lines.width b.wrapper.lines.may_overflow padding b.failure b.changes.items };
+    ghost view = { λ b. block_of W.columns b };
 
-    ghost invariant = { λ b. b.failure ≡ None →
-        HoldsCourse W.columns T.eq b.wrapper b.begun (course W.columns b.wrapper.lines.width b.changes.items) };
+    ghost invariant = { λ b. HoldsBlock W.columns T.eq b };
 }
 
 impl<T: Eq + Clone, W: CharWidth> WrappedBlock<T, W> {
-    ghost use Rattle.tbr_model.specs.Run.{trailing};
+    ghost use Rattle.tbr_model.specs.Run.{marker_entry, trailing};
     ghost use Rattle.tbr_model.specs.Markers.{names_in_items, names_in_run, names_behind, last};
     ghost use Rattle.tbr_tagged.specs.Elements.{marker_element};
     ghost use Rattle.tbr_tagged.specs.View.{element_of};
-    ghost use Rattle.tbr_wrap.specs.State.{empty_block, text_entries, JoinsRun, JoinsFront, JoinsAsMarker, EndsRun, has_begun, run_with, KeepsRefusal, WrapsNormally, RunDecides, AreLastOf, loose_taken, lines_left, line_taken, run_flushed};
+    ghost use Rattle.tbr_tagged.specs.Outcome.{Answers, done, refused};
+    ghost use Rattle.tbr_wrap.specs.Block.{Block, new_block, settings_of, failure_of, lines, all_lines, left, any_line, takes_no_columns, has_no_character, loose, allows, grown, settled, HasGrown, after_text, after_marker, after_taking, after_flush, after_line, line_handed_out, HandsOutFirst, state_seen};
+    ghost use Rattle.tbr_wrap.specs.State.{text_entries, JoinsRun, JoinsAsMarker, EndsRun, run_with, KeepsRefusal, WrapsNormally, RunDecides, AreLastOf, loose_taken, line_taken, run_flushed};
 
     /// A block without text, whose lines take `width` columns at most; it asks for at least 1. It takes no memory.
     ///
@@ -84,7 +83,7 @@ impl<T: Eq + Clone, W: CharWidth> WrappedBlock<T, W> {
         T: Drop,
         requires { 0 < width }
         ensures { let padding = if pad_blocks then Some default_tag else None in
-            result ≡ empty_block width (allow_overflow && nat_lt width 2) padding }
+            result ≡ new_block width (allow_overflow && nat_lt width 2) padding }
     {
         WrappedBlock {
             alloc,
@@ -115,8 +114,8 @@ impl<T: Eq + Clone, W: CharWidth> WrappedBlock<T, W> {
     /// Whether open line and word take no columns. In a `Normal` run, where no line may be wider than the block, that is
     /// so exactly where no kept character of the run takes any. It is false on a block that has failed.
     pub fn at_line_start(&self) -> bool
-        ensures asks { result ≡ is_none self.now.failure && self.now.no_columns }
-        ensures normal { WrapsNormally self.now → RunDecides W.columns self.now }
+        ensures asks { result ≡ is_none self.now.failure && takes_no_columns W.columns self.now }
+        ensures normal { let now = state_seen W.columns self.now in WrapsNormally now → RunDecides W.columns now }
     {
         self.known();
         self.failure.is_none() && self.has_no_columns()
@@ -124,10 +123,11 @@ impl<T: Eq + Clone, W: CharWidth> WrappedBlock<T, W> {
 
     /// Whether no line has ended yet, and open line and word take no columns. It is false on a block that has failed.
     pub fn is_empty(&self) -> bool
-        ensures asks { result ≡ is_none self.now.failure && (not (has_begun self.now) && self.now.no_columns) }
-        ensures normal { WrapsNormally self.now → RunDecides W.columns self.now }
-        ensures shows { self.now.failure ≡ None → run_shows_columns W.columns self.now.run ≡ true →
-            (is_some_list self.now.lines ≡ true) ⊎ (self.now.no_columns ≡ false) }
+        ensures asks { result ≡ is_none self.now.failure
+            && (not (any_line W.columns self.now) && takes_no_columns W.columns self.now) }
+        ensures normal { let now = state_seen W.columns self.now in WrapsNormally now → RunDecides W.columns now }
+        ensures shows { self.now.failure ≡ None → run_shows_columns W.columns (run_of self.now.events) ≡ true →
+            (is_some_list (lines W.columns self.now) ≡ true) ⊎ (takes_no_columns W.columns self.now ≡ false) }
     {
         self.known();
         self.failure.is_none() && !self.has_begun() && self.has_no_columns()
@@ -137,10 +137,11 @@ impl<T: Eq + Clone, W: CharWidth> WrappedBlock<T, W> {
     /// wider than the block, these hold none exactly where the run has no kept character. It is false on a block that
     /// has failed.
     pub fn is_blank(&self) -> bool
-        ensures asks { result ≡ is_none self.now.failure && (not (has_begun self.now) && self.now.no_character) }
-        ensures normal { WrapsNormally self.now → RunDecides W.columns self.now }
-        ensures shows { self.now.failure ≡ None → run_shows_columns W.columns self.now.run ≡ true →
-            (is_some_list self.now.lines ≡ true) ⊎ (self.now.no_character ≡ false) }
+        ensures asks { result ≡ is_none self.now.failure
+            && (not (any_line W.columns self.now) && has_no_character W.columns self.now) }
+        ensures normal { let now = state_seen W.columns self.now in WrapsNormally now → RunDecides W.columns now }
+        ensures shows { self.now.failure ≡ None → run_shows_columns W.columns (run_of self.now.events) ≡ true →
+            (is_some_list (lines W.columns self.now) ≡ true) ⊎ (has_no_character W.columns self.now ≡ false) }
     {
         self.known();
         self.failure.is_none() && !self.has_begun() && self.has_no_character()
@@ -149,7 +150,7 @@ impl<T: Eq + Clone, W: CharWidth> WrappedBlock<T, W> {
     /// Whether open line and word take no columns.
     fn has_no_columns(&self) -> bool
         requires { self.now.failure ≡ None }
-        ensures { result ≡ self.now.no_columns }
+        ensures { result ≡ takes_no_columns W.columns self.now }
     {
         self.wrapper.lines.line_width == 0 && self.wrapper.word_width == 0
     }
@@ -157,7 +158,7 @@ impl<T: Eq + Clone, W: CharWidth> WrappedBlock<T, W> {
     /// Whether open line and word hold no character.
     fn has_no_character(&self) -> bool
         requires { self.now.failure ≡ None }
-        ensures { result ≡ self.now.no_character }
+        ensures { result ≡ has_no_character W.columns self.now }
     {
         !self.wrapper.lines.has_line() && !self.wrapper.lines.flat.has_word()
     }
@@ -165,7 +166,7 @@ impl<T: Eq + Clone, W: CharWidth> WrappedBlock<T, W> {
     /// Whether a line has ended.
     fn has_begun(&self) -> bool
         requires { self.now.failure ≡ None }
-        ensures { result ≡ self.now.begun || is_some_list self.now.lines }
+        ensures { result ≡ any_line W.columns self.now }
     {
         self.begun || !self.wrapper.lines.ended.is_empty()
     }
@@ -185,7 +186,7 @@ impl<T: Eq + Clone, W: CharWidth> WrappedBlock<T, W> {
     where
         T: Drop,
         requires { self.old.failure ≡ None }
-        ensures { self.new ≡ self.old }
+        ensures { self.new ≡ grown self.old (call ∷ []) }
     {
         self.wrapper.begin_call();
         self.changes = self
@@ -207,13 +208,14 @@ impl<T: Eq + Clone, W: CharWidth> WrappedBlock<T, W> {
         requires unfailed { self.old.failure ≡ None }
         requires some { 0 < length text.now }
         ensures ok { IfOk result (λ rest.
-            JoinsFront self.old text.now rest.now main_tag.now wrap_tag.now mode self.new) }
+            HasGrown self.old [] text.now rest.now main_tag.now wrap_tag.now mode self.new) }
         ensures rest { IfOk result (λ rest. IsUtf8 rest.now × (length rest.now < length text.now)) }
         ensures failed { IfErr result (λ e. self.new.failure ≡ Some e) }
-        ensures too_narrow { result ≡ Err E.TooNarrow →
-            (self.old.may_overflow ≡ false) × ¬ (CharactersFit W.columns self.old.width self.old.run) }
-        ensures normal_too_narrow { let run = run_with self.old (chars text.now) main_tag.now wrap_tag.now mode in
-            IsNormal run → result ≡ Err E.TooNarrow → ¬ (EndedWordsFit W.columns self.old.width run) }
+        ensures settings { settings_of self.new ≡ settings_of self.old }
+        ensures too_narrow { result ≡ Err E.TooNarrow → settled W.columns
+            (grown self.old (map entry (text_entries (chars text.now) main_tag.now wrap_tag.now mode)))
+            ≡ refused E.TooNarrow }
+        ensures wide { 0 < self.old.width }
     {
         let added = self.wrapper.add_front::<W>(text, main_tag, wrap_tag, mode);
         let (bytes, count) = keep(&mut self.failure, added)?;
@@ -222,13 +224,15 @@ impl<T: Eq + Clone, W: CharWidth> WrappedBlock<T, W> {
         Ok(rest)
     }
 
-    /// Does nothing. It tells what the fields of a `Normal` run say of it.
+    /// Does nothing. It tells what the fields say of a block.
     fn known(&self)
-        ensures fit { WrapsNormally self.now → EndedWordsFit W.columns self.now.width self.now.run }
-        ensures decides { WrapsNormally self.now → RunDecides W.columns self.now }
-        ensures shows { self.now.failure ≡ None → run_shows_columns W.columns self.now.run ≡ true →
-            (is_some_list self.now.lines ≡ true) ⊎ (self.now.no_columns ≡ false) }
-        ensures held { self.now.failure ≡ None → self.now.no_columns ≡ false → self.now.no_character ≡ false }
+        ensures wide { 0 < self.now.width }
+        ensures allows { self.now.failure ≡ None → allows W.columns self.now (lines W.columns self.now) ≡ true }
+        ensures decides { let now = state_seen W.columns self.now in WrapsNormally now → RunDecides W.columns now }
+        ensures shows { self.now.failure ≡ None → run_shows_columns W.columns (run_of self.now.events) ≡ true →
+            (is_some_list (lines W.columns self.now) ≡ true) ⊎ (takes_no_columns W.columns self.now ≡ false) }
+        ensures held { self.now.failure ≡ None → takes_no_columns W.columns self.now ≡ false →
+            has_no_character W.columns self.now ≡ false }
     {
         let _ = &self.failure;
     }
@@ -249,18 +253,23 @@ impl<T: Eq + Clone, W: CharWidth> WrappedBlock<T, W> {
     where
         T: Drop,
         requires { CopiesAreEqual T.is_clone T.eq }
+        ensures answers { let after = after_text W.columns (chars text.now) main_tag.now wrap_tag.now ws_mode in
+            Answers failure_of settings_of (after self.old) self.old result self.new }
         ensures ok { let more = text_entries (chars text.now) main_tag.now wrap_tag.now ws_mode in
-            OnOk result (JoinsRun self.old more self.new) }
-        ensures fit { let run = run_with self.old (chars text.now) main_tag.now wrap_tag.now ws_mode in
+            OnOk result (JoinsRun (state_seen W.columns self.old) more (state_seen W.columns self.new)) }
+        ensures fit { let old = state_seen W.columns self.old in
+            let run = run_with old (chars text.now) main_tag.now wrap_tag.now ws_mode in
             OnOk result (self.old.may_overflow ≡ false → IsNormal run → EndedWordsFit W.columns self.old.width run) }
-        ensures too_narrow { let run = run_with self.old (chars text.now) main_tag.now wrap_tag.now ws_mode in
+        ensures too_narrow { let old = state_seen W.columns self.old in
+            let run = run_with old (chars text.now) main_tag.now wrap_tag.now ws_mode in
             self.old.failure ≡ None → result ≡ Err E.TooNarrow →
             (self.old.may_overflow ≡ false) × ¬ (CharactersFit W.columns self.old.width run) }
-        ensures normal_too_narrow { let run = run_with self.old (chars text.now) main_tag.now wrap_tag.now ws_mode in
+        ensures normal_too_narrow { let old = state_seen W.columns self.old in
+            let run = run_with old (chars text.now) main_tag.now wrap_tag.now ws_mode in
             self.old.failure ≡ None → IsNormal run → result ≡ Err E.TooNarrow →
             ¬ (EndedWordsFit W.columns self.old.width run) }
         ensures two_columns { self.old.failure ≡ None → 2 ≤ self.old.width → result ≢ Err E.TooNarrow }
-        ensures kept { KeepsRefusal self.old result self.new }
+        ensures kept { KeepsRefusal (state_seen W.columns self.old) result (state_seen W.columns self.new) }
     {
         self.refusal()?;
         self.begin_call();
@@ -279,10 +288,12 @@ impl<T: Eq + Clone, W: CharWidth> WrappedBlock<T, W> {
     where
         T: Drop,
         requires { (name : List ℕ) × (element_of element ≡ marker_element name) }
+        ensures answers { (name : List ℕ) → element_of element ≡ marker_element name →
+            Answers failure_of settings_of (after_marker name self.old) self.old result self.new }
         ensures ok { (name : List ℕ) → element_of element ≡ marker_element name →
-            OnOk result (JoinsAsMarker self.old name self.new) }
+            OnOk result (JoinsAsMarker (state_seen W.columns self.old) name (state_seen W.columns self.new)) }
         ensures memory { self.old.failure ≡ None → IfErr result (λ e. e ≡ E.OutOfMemory) }
-        ensures kept { KeepsRefusal self.old result self.new }
+        ensures kept { KeepsRefusal (state_seen W.columns self.old) result (state_seen W.columns self.new) }
     {
         self.refusal()?;
         match element {
@@ -296,8 +307,9 @@ impl<T: Eq + Clone, W: CharWidth> WrappedBlock<T, W> {
     where
         T: Drop,
         requires { self.old.failure ≡ None }
-        ensures ok { OnOk result (JoinsAsMarker self.old (string_bytes name) self.new) }
+        ensures ok { OnOk result (self.new ≡ grown self.old (entry (marker_entry (string_bytes name)) ∷ [])) }
         ensures failed { IfErr result (λ e. (e ≡ E.OutOfMemory) × (self.new.failure ≡ Some e)) }
+        ensures settings { settings_of self.new ≡ settings_of self.old }
     {
         let (changes, name) = with_marker(&self.changes, name, &self.default_tag);
         let added = self.wrapper.add_marker(name);
@@ -313,14 +325,17 @@ impl<T: Eq + Clone, W: CharWidth> WrappedBlock<T, W> {
     pub fn take_trailing_fragments(&mut self) -> Result<Vec<TaggedLineElement<T>>, Error>
     where
         T: Drop,
-        ensures taken { OnOk result (self.new ≡ loose_taken self.old) }
-        ensures markers { IfOk result (λ es. map element_of es.items ≡ map marker_element self.old.loose) }
-        ensures behind { OnOk result (AreLastOf self.old.loose (names_behind (is_visible W.columns) self.old.run)) }
-        ensures last { OnOk result (self.old.loose ≡ last (length self.old.loose) (names_in_run self.old.run)) }
-        ensures trailing { WrapsNormally self.old →
-            OnOk result (self.old.loose ≡ names_in_items (trailing W.columns self.old.run)) }
+        ensures answers { Answers failure_of settings_of (after_taking W.columns self.old) self.old result self.new }
+        ensures markers { IfOk result (λ es. map element_of es.items ≡ map marker_element (loose W.columns self.old)) }
+        ensures taken { OnOk result (state_seen W.columns self.new ≡ loose_taken (state_seen W.columns self.old)) }
+        ensures behind { OnOk result (AreLastOf (loose W.columns self.old)
+            (names_behind (is_visible W.columns) (run_of self.old.events))) }
+        ensures last { let names = loose W.columns self.old in
+            OnOk result (names ≡ last (length names) (names_in_run (run_of self.old.events))) }
+        ensures trailing { WrapsNormally (state_seen W.columns self.old) → OnOk result
+            (loose W.columns self.old ≡ names_in_items (trailing W.columns (run_of self.old.events))) }
         ensures memory { self.old.failure ≡ None → IfErr result (λ e. e ≡ E.OutOfMemory) }
-        ensures kept { KeepsRefusal self.old result self.new }
+        ensures kept { KeepsRefusal (state_seen W.columns self.old) result (state_seen W.columns self.new) }
     {
         self.refusal()?;
         if self.wrapper.lines.flat.has_word() {
@@ -344,18 +359,25 @@ impl<T: Eq + Clone, W: CharWidth> WrappedBlock<T, W> {
     where
         T: Drop,
         requires { CopiesAreEqual T.is_clone T.eq }
-        ensures ok { OnOk result ((texts : List (List (Item T))) × (names : List (List ℕ))
-            × EndsRun W.columns self.old texts names × (self.new ≡ run_flushed self.old texts names)) }
-        ensures fit { OnOk result (WrapsNormally self.old → WordsFit W.columns self.old.width self.old.run) }
+        ensures answers { Answers failure_of settings_of (after_flush W.columns self.old) self.old result self.new }
+        ensures best { let old = state_seen W.columns self.old in WrapsNormally old →
+            OnOk result (HasBestLines W.columns self.old.width old.run (all_lines W.columns self.old)) }
+        ensures ok { let old = state_seen W.columns self.old in
+            OnOk result ((texts : List (List (Item T))) × (names : List (List ℕ))
+            × EndsRun W.columns old texts names × (state_seen W.columns self.new ≡ run_flushed old texts names)) }
+        ensures fit { let old = state_seen W.columns self.old in
+            OnOk result (WrapsNormally old → WordsFit W.columns self.old.width old.run) }
         ensures visible_fit { OnOk result (self.old.may_overflow ≡ false →
-            VisibleFit W.columns self.old.width self.old.run) }
+            VisibleFit W.columns self.old.width (run_of self.old.events)) }
         ensures too_narrow { self.old.failure ≡ None → result ≡ Err E.TooNarrow →
-            (self.old.may_overflow ≡ false) × ¬ (CharactersFit W.columns self.old.width self.old.run) }
-        ensures normal_too_narrow { self.old.failure ≡ None → IsNormal self.old.run → result ≡ Err E.TooNarrow →
-            ¬ (WordsFit W.columns self.old.width self.old.run) }
+            (self.old.may_overflow ≡ false) × ¬ (CharactersFit W.columns self.old.width (run_of self.old.events)) }
+        ensures normal_too_narrow { let run = run_of self.old.events in
+            self.old.failure ≡ None → IsNormal run → result ≡ Err E.TooNarrow →
+            ¬ (WordsFit W.columns self.old.width run) }
         ensures two_columns { self.old.failure ≡ None → 2 ≤ self.old.width → result ≢ Err E.TooNarrow }
-        ensures blank { self.old.no_character ≡ true → OnOk result (lines_left self.new ≡ lines_left self.old) }
-        ensures kept { KeepsRefusal self.old result self.new }
+        ensures blank { has_no_character W.columns self.old ≡ true →
+            OnOk result (left W.columns self.new ≡ left W.columns self.old) }
+        ensures kept { KeepsRefusal (state_seen W.columns self.old) result (state_seen W.columns self.new) }
     {
         self.refusal()?;
         keep(&mut self.failure, self.wrapper.finish::<W>())?;
@@ -372,13 +394,16 @@ impl<T: Eq + Clone, W: CharWidth> WrappedBlock<T, W> {
     where
         T: Drop,
         requires { CopiesAreEqual T.is_clone T.eq }
-        ensures some { (text : List (Item T)) (rest : List (List (Item T))) → lines_left self.old ≡ text ∷ rest →
+        ensures answers { Answers failure_of settings_of (after_line W.columns self.old) self.old result self.new }
+        ensures line { IfOk result (HandsOutFirst W.columns T.eq self.old (left W.columns self.old)) }
+        ensures some { (text : List (Item T)) (rest : List (List (Item T))) → left W.columns self.old ≡ text ∷ rest →
             IfOk result (λ o. IsSomeAnd o (λ line.
             ShowsText W.columns T.eq self.old.padding self.old.width line text)) }
-        ensures taken { IfOk result (λ o. IsTrue (is_some o) → self.new ≡ line_taken self.old) }
-        ensures none { lines_left self.old ≡ [] → self.old.failure ≡ None → (result ≡ Ok None) × (self.new ≡ self.old) }
+        ensures taken { IfOk result (λ o. IsTrue (is_some o) → self.new ≡ line_handed_out self.old) }
+        ensures none { left W.columns self.old ≡ [] → self.old.failure ≡ None →
+            (result ≡ Ok None) × (self.new ≡ self.old) }
         ensures memory { self.old.failure ≡ None → IfErr result (λ e. e ≡ E.OutOfMemory) }
-        ensures kept { KeepsRefusal self.old result self.new }
+        ensures kept { KeepsRefusal (state_seen W.columns self.old) result (state_seen W.columns self.new) }
     {
         self.refusal()?;
         let Some(mut line) = self.take_line()? else {
@@ -395,13 +420,13 @@ impl<T: Eq + Clone, W: CharWidth> WrappedBlock<T, W> {
         T: Drop,
         requires faithful { CopiesAreEqual T.is_clone T.eq }
         requires unfailed { self.old.failure ≡ None }
-        ensures some { (text : List (Item T)) (rest : List (List (Item T))) → lines_left self.old ≡ text ∷ rest →
+        ensures some { (text : List (Item T)) (rest : List (List (Item T))) → left W.columns self.old ≡ text ∷ rest →
             IfOk result (λ o. IsSomeAnd o (λ line. SameItems T.eq (items_of line) text)) }
         ensures merged { IfOk result (λ o. (line : TaggedLine T) → o ≡ Some line → IsMerged T.eq line) }
-        ensures taken { IfOk result (λ o. IsTrue (is_some o) → self.new ≡ line_taken self.old) }
-        ensures none { lines_left self.old ≡ [] → (result ≡ Ok None) × (self.new ≡ self.old) }
+        ensures taken { IfOk result (λ o. IsTrue (is_some o) → self.new ≡ line_handed_out self.old) }
+        ensures none { left W.columns self.old ≡ [] → (result ≡ Ok None) × (self.new ≡ self.old) }
         ensures failed { IfErr result (λ e. (e ≡ E.OutOfMemory) × (self.new.failure ≡ Some e)) }
-        ensures settings { (self.new.padding ≡ self.old.padding) × (self.new.width ≡ self.old.width) }
+        ensures settings { settings_of self.new ≡ settings_of self.old }
     {
         let taken = self.wrapper.lines.take_line();
         let Some(line) = keep_want(&mut self.failure, taken)? else {
@@ -438,15 +463,20 @@ impl<T: Eq + Clone, W: CharWidth> WrappedBlock<T, W> {
     where
         T: Drop,
         requires { CopiesAreEqual T.is_clone T.eq }
+        ensures gives { IfOk result (λ lines. (s : Block T) × (after_flush W.columns self ≡ done s)
+            × AllZip (ShowsText W.columns T.eq self.padding self.width) lines.items s.ended) }
+        ensures refuses { result ≡ Err E.TooNarrow → after_flush W.columns self ≡ refused E.TooNarrow }
         ensures lines { IfOk result (λ lines. (texts : List (List (Item T))) × (names : List (List ℕ))
-            × EndsRun W.columns self texts names
-            × AllZip (ShowsText W.columns T.eq self.padding self.width) lines.items (lines_left self ++ texts)) }
-        ensures fit { OnOk result (WrapsNormally self → WordsFit W.columns self.width self.run) }
-        ensures visible_fit { OnOk result (self.may_overflow ≡ false → VisibleFit W.columns self.width self.run) }
+            × EndsRun W.columns (state_seen W.columns self) texts names
+            × AllZip (ShowsText W.columns T.eq self.padding self.width) lines.items (left W.columns self ++ texts)) }
+        ensures fit { let old = state_seen W.columns self in
+            OnOk result (WrapsNormally old → WordsFit W.columns self.width old.run) }
+        ensures visible_fit { OnOk result (self.may_overflow ≡ false →
+            VisibleFit W.columns self.width (run_of self.events)) }
         ensures too_narrow { self.failure ≡ None → result ≡ Err E.TooNarrow →
-            (self.may_overflow ≡ false) × ¬ (CharactersFit W.columns self.width self.run) }
-        ensures normal_too_narrow { self.failure ≡ None → IsNormal self.run → result ≡ Err E.TooNarrow →
-            ¬ (WordsFit W.columns self.width self.run) }
+            (self.may_overflow ≡ false) × ¬ (CharactersFit W.columns self.width (run_of self.events)) }
+        ensures normal_too_narrow { let run = run_of self.events in
+            self.failure ≡ None → IsNormal run → result ≡ Err E.TooNarrow → ¬ (WordsFit W.columns self.width run) }
         ensures two_columns { self.failure ≡ None → 2 ≤ self.width → result ≢ Err E.TooNarrow }
         ensures kept { (e : _) → self.failure ≡ Some e → result ≡ Err e }
     {
@@ -457,7 +487,7 @@ impl<T: Eq + Clone, W: CharWidth> WrappedBlock<T, W> {
     /// How many lines have ended and aren't handed out yet. It asks that the block hasn't failed.
     pub fn lines_left(&self) -> usize
         requires { self.now.failure ≡ None }
-        ensures { result ≡ length (lines_left self.now) }
+        ensures { result ≡ length (left W.columns self.now) }
     {
         self.wrapper.lines.ended.len()
     }
@@ -471,8 +501,8 @@ impl<T: Eq + Clone, W: CharWidth> WrappedBlock<T, W> {
     where
         T: Drop,
         requires unfailed { self.failure ≡ None }
-        requires ended { self.no_character ≡ true }
-        ensures { AllZip (SameItems T.eq) result (lines_left self) }
+        requires ended { has_no_character W.columns self ≡ true }
+        ensures { AllZip (SameItems T.eq) result (left W.columns self) }
     {
         EndedLines::new(self.wrapper.lines.flat, self.wrapper.lines.ended)
     }
@@ -484,7 +514,7 @@ impl<T: Eq + Clone, W: CharWidth> WrappedBlock<T, W> {
         requires faithful { CopiesAreEqual T.is_clone T.eq }
         requires live { self.old.failure ≡ None }
         ensures lines { IfOk result (λ lines.
-            AllZip (ShowsText W.columns T.eq self.old.padding self.old.width) lines.items (lines_left self.old)) }
+            AllZip (ShowsText W.columns T.eq self.old.padding self.old.width) lines.items (left W.columns self.old)) }
         ensures memory { IfErr result (λ e. e ≡ E.OutOfMemory) }
     {
         let mut lines = Vec::new(self.alloc);

@@ -1,6 +1,6 @@
 //! What happens to the runs of a block, which only contracts read.
 ghost use Rattle.std.specs.Prelude.{◌≡◌, ◌++◌, ◌∷◌, [], length, chars};
-ghost use Rattle.tbr_wrap.specs.Course.{text_changes};
+ghost use Rattle.tbr_wrap.specs.Story.{text_changes};
 
 use tbr_model::{History, WhiteSpace};
 

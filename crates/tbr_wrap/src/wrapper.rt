@@ -108,7 +108,7 @@ impl<T: Eq + Clone + Drop> Wrapper<T> {
     ghost use Rattle.tbr_wrap.specs.LaidLines.{KeepsLimits};
     ghost use Rattle.tbr_wrap.specs.Plain.{JoinWord, IsFront, IsStretch, AreWords};
     ghost use Rattle.tbr_wrap.specs.State.{text_entries};
-    ghost use Rattle.tbr_wrap.specs.Wrapper.{IsAtProgress, IsUnderWay, Wherever, WrapperFollows, Enters, EndsWideWord, RunIsFinished, SameSpace, KeepsTag, DropsSpace, AreMoved, held_width, join_all};
+    ghost use Rattle.tbr_wrap.specs.Wrapper.{IsAtProgress, IsUnderWay, Wherever, WrapperFollows, RefusesWider, Enters, EndsWideWord, RunIsFinished, SameSpace, KeepsTag, DropsSpace, AreMoved, held_width, join_all};
 
     /// The tag that a call's characters come under where no continuation begins.
     fn call_tag<'a>(&self, main_tag: &'a T, wrap_tag: &'a T) -> &'a T
@@ -269,6 +269,7 @@ impl<T: Eq + Clone + Drop> Wrapper<T> {
         requires faithful { CopiesAreEqual T.is_clone T.eq }
         requires stands { IsUnderWay W.columns T.eq self.old }
         ensures laid { WrapperFollows W.columns T.eq self.old self.new result (lay W.columns self.old.lines.width) }
+        ensures wider { RefusesWider W.columns T.eq self.old result (λ p. (lay W.columns self.old.lines.width p).laid.done) }
         ensures too_narrow { result ≡ Err E.TooNarrow → Wherever W.columns T.eq self.old (λ p.
             (self.old.lines.may_overflow ≡ false) × ¬ (IsNarrow W.columns self.old.lines.width p.word)) }
         ensures limits { KeepsLimits self.old.lines self.new.lines }
@@ -287,6 +288,8 @@ impl<T: Eq + Clone + Drop> Wrapper<T> {
         requires stands { IsUnderWay W.columns T.eq self.old }
         ensures laid { WrapperFollows W.columns T.eq self.old self.new result
             (flush_word W.columns self.old.lines.width) }
+        ensures wider { RefusesWider W.columns T.eq self.old result (λ p.
+            (flush_word W.columns self.old.lines.width p).laid.done) }
         ensures too_narrow { result ≡ Err E.TooNarrow → Wherever W.columns T.eq self.old (λ p.
             (self.old.lines.may_overflow ≡ false) × (has_character p.word ≡ true)
             × ¬ (IsNarrow W.columns self.old.lines.width p.word)) }
@@ -304,6 +307,8 @@ impl<T: Eq + Clone + Drop> Wrapper<T> {
         requires stands { IsUnderWay W.columns T.eq self.old }
         ensures laid { WrapperFollows W.columns T.eq self.old self.new result
             (break_word W.columns self.old.lines.width) }
+        ensures wider { RefusesWider W.columns T.eq self.old result (λ p.
+            (break_word W.columns self.old.lines.width p).laid.done) }
         ensures too_narrow { result ≡ Err E.TooNarrow → Wherever W.columns T.eq self.old (λ p.
             (self.old.lines.may_overflow ≡ false) × (0 < items_width W.columns p.word)
             × ¬ (IsNarrow W.columns self.old.lines.width p.word)) }
@@ -521,6 +526,8 @@ impl<T: Eq + Clone + Drop> Wrapper<T> {
         requires stands { IsUnderWay W.columns T.eq self.old }
         ensures preserved { WrapperFollows W.columns T.eq self.old self.new result
             (preserve W.columns self.old.lines.width c main_tag.now wrap_tag.now mode) }
+        ensures wider { RefusesWider W.columns T.eq self.old result (λ p.
+            (preserve W.columns self.old.lines.width c main_tag.now wrap_tag.now mode p).laid.done) }
         ensures too_narrow { result ≡ Err E.TooNarrow → Wherever W.columns T.eq self.old (λ p.
             (self.old.lines.may_overflow ≡ false) × ¬ (IsNarrow W.columns self.old.lines.width p.word)) }
         ensures limits { KeepsLimits self.old.lines self.new.lines }
@@ -556,6 +563,8 @@ impl<T: Eq + Clone + Drop> Wrapper<T> {
         requires stands { IsUnderWay W.columns T.eq self.old }
         ensures entered { (a : T) → T.eq tag.now a ≡ true →
             WrapperFollows W.columns T.eq self.old self.new result (enter_normal W.columns self.old.lines.width c a) }
+        ensures wider { (a : T) → RefusesWider W.columns T.eq self.old result (λ p.
+            (enter_normal W.columns self.old.lines.width c a p).laid.done) }
         ensures too_narrow { result ≡ Err E.TooNarrow → Wherever W.columns T.eq self.old (λ p.
             (self.old.lines.may_overflow ≡ false) × (is_break c ≡ true)
             × (0 < items_width W.columns p.word) × ¬ (IsNarrow W.columns self.old.lines.width p.word)) }
@@ -584,6 +593,8 @@ impl<T: Eq + Clone + Drop> Wrapper<T> {
         requires stands { IsUnderWay W.columns T.eq self.old }
         ensures entered { WrapperFollows W.columns T.eq self.old self.new result (λ p.
             enter W.columns self.old.lines.width p (character c main_tag.now wrap_tag.now mode)) }
+        ensures wider { RefusesWider W.columns T.eq self.old result (λ p.
+            (enter W.columns self.old.lines.width p (character c main_tag.now wrap_tag.now mode)).laid.done) }
         ensures too_narrow { result ≡ Err E.TooNarrow → Wherever W.columns T.eq self.old (λ p.
             (self.old.lines.may_overflow ≡ false) × ¬ (IsNarrow W.columns self.old.lines.width p.word)
             × (mode ≡ Normal → (is_break c ≡ true) × (0 < items_width W.columns p.word))) }
@@ -792,6 +803,9 @@ impl<T: Eq + Clone + Drop> Wrapper<T> {
         ensures front { IfOk result (λ n. IsFront text.now n.0 n.1) }
         ensures entered { IfOk result (λ n. Enters W.columns T.eq self.old self.new
             (text_entries (chars (take n.0 text.now)) main_tag.now wrap_tag.now mode)) }
+        ensures wider { RefusesWider W.columns T.eq self.old result (λ p.
+            (fold (enter W.columns self.old.lines.width) p
+            (text_entries (chars text.now) main_tag.now wrap_tag.now mode)).laid.done) }
         ensures too_narrow { result ≡ Err E.TooNarrow → Wherever W.columns T.eq self.old (λ p.
             (self.old.lines.may_overflow ≡ false) × EndsWideWord W.columns self.old.lines.width mode text.now p) }
         ensures limits { KeepsLimits self.old.lines self.new.lines }
@@ -847,6 +861,8 @@ impl<T: Eq + Clone + Drop> Wrapper<T> {
         ensures finished { (before given : List (List (Item T))) (p : Progress T) →
             IsAtProgress W.columns T.eq self.old before given p →
             OnOk result (RunIsFinished W.columns T.eq self.old self.new before given p) }
+        ensures wider { RefusesWider W.columns T.eq self.old result (λ p.
+            (model.finished W.columns self.old.lines.width p).done) }
         ensures too_narrow { result ≡ Err E.TooNarrow → Wherever W.columns T.eq self.old (λ p.
             (self.old.lines.may_overflow ≡ false) × (has_character p.word ≡ true)
             × ¬ (IsNarrow W.columns self.old.lines.width p.word)) }

@@ -37,7 +37,7 @@ put_item_under {A} columns width d l i =
     (if_same (under d) (nat_le (item_width columns i) width) _ _ _ _ (ap (λ (m : Laid A). extended m (i ∷ []) (item_width columns i)) (end_line_under d l))
     (ap (λ (m : Laid A). end_line (extended m (i ∷ []) (item_width columns i))) (end_if_columns_under d l) ∙ end_line_under d (extended (end_if_columns l) (i ∷ []) (item_width columns i))))
 
-put_items_under : {A : Type 0} (columns : ℕ → Option ℕ) (width : ℕ) (d : List (List (Item A))) (l : Laid A) (is : List (Item A)) → put_items columns width (under d l) is ≡ under d (put_items columns width l is)
+pub put_items_under : {A : Type 0} (columns : ℕ → Option ℕ) (width : ℕ) (d : List (List (Item A))) (l : Laid A) (is : List (Item A)) → put_items columns width (under d l) is ≡ under d (put_items columns width l is)
 put_items_under columns width d l [] = refl
 put_items_under {A} columns width d l (i ∷ is) =
     ap (λ (m : Laid A). put_items columns width m is) (put_item_under columns width d l i) ∙ put_items_under columns width d (put_item columns width l i) is
@@ -91,13 +91,13 @@ flush_word_behind columns width d p = if_same (behind d) (has_character p.word) 
 break_word_behind : {A : Type 0} (columns : ℕ → Option ℕ) (width : ℕ) (d : List (List (Item A))) (p : Progress A) → break_word columns width (behind d p) ≡ behind d (break_word columns width p)
 break_word_behind columns width d p = if_same (behind d) (nat_lt 0 (items_width columns p.word)) _ _ _ _ (lay_behind columns width d p) refl
 
-collapse_behind : {A : Type 0} (c : ℕ) (a : A) (d : List (List (Item A))) (p : Progress A) → collapse c a (behind d p) ≡ behind d (collapse c a p)
+pub collapse_behind : {A : Type 0} (c : ℕ) (a : A) (d : List (List (Item A))) (p : Progress A) → collapse c a (behind d p) ≡ behind d (collapse c a p)
 collapse_behind c a d p = if_same (behind d) (is_blank c && (nat_lt 0 p.laid.width && is_none p.space)) _ _ _ _ refl refl
 
 pub newline_behind : {A : Type 0} (d : List (List (Item A))) (p : Progress A) → newline (behind d p) ≡ behind d (newline p)
 newline_behind {A} d p = ap (λ (l : Laid A). record p { laid = l; space = None; continuation_flag = false; in_continuation = false }) (end_line_under d p.laid)
 
-tab_behind : {A : Type 0} (width : ℕ) (a : A) (d : List (List (Item A))) (p : Progress A) → tab width a (behind d p) ≡ behind d (tab width a p)
+pub tab_behind : {A : Type 0} (width : ℕ) (a : A) (d : List (List (Item A))) (p : Progress A) → tab width a (behind d p) ≡ behind d (tab width a p)
 tab_behind {A} width a d p =
     let column : ℕ = p.laid.width + pending_width p.space in
     ap (λ (l : Laid A). record p { laid = l })
@@ -114,7 +114,7 @@ keep_character_behind : {A : Type 0} (columns : ℕ → Option ℕ) (width c : �
 keep_character_behind columns width c a b mode d None p = refl
 keep_character_behind columns width c a b mode d (Some n) p = if_same (behind d) (is_pre mode && passes columns width n p) _ _ _ _ refl refl
 
-preserve_behind : {A : Type 0} (columns : ℕ → Option ℕ) (width c : ℕ) (a b : A) (mode : WhiteSpace) (d : List (List (Item A))) (p : Progress A) →
+pub preserve_behind : {A : Type 0} (columns : ℕ → Option ℕ) (width c : ℕ) (a b : A) (mode : WhiteSpace) (d : List (List (Item A))) (p : Progress A) →
     preserve columns width c a b mode (behind d p) ≡ behind d (preserve columns width c a b mode p)
 preserve_behind {A} columns width c a b mode d p =
     if_same (behind d) (c == 8203) _ _ _ _ refl
@@ -125,7 +125,7 @@ preserve_behind {A} columns width c a b mode d p =
     flushed : flush_word columns width (behind d p) ≡ behind d (flush_word columns width p)
     flushed = flush_word_behind columns width d p
 
-enter_behind : {A : Type 0} (columns : ℕ → Option ℕ) (width : ℕ) (d : List (List (Item A))) (p : Progress A) (e : Entry A) → enter columns width (behind d p) e ≡ behind d (enter columns width p e)
+pub enter_behind : {A : Type 0} (columns : ℕ → Option ℕ) (width : ℕ) (d : List (List (Item A))) (p : Progress A) (e : Entry A) → enter columns width (behind d p) e ≡ behind d (enter columns width p e)
 enter_behind columns width d p (marker_entry name) = refl
 enter_behind {A} columns width d p (character c a b Normal) =
     if_same (behind d) (is_break c) _ _ _ _

@@ -8,6 +8,7 @@ use Rattle.tbr_model.specs.Run.{Entry, character, marker_entry, Item, glyph, mar
 use Rattle.tbr_model.specs.Laid.{extended, end_if_character, put_items}
 use Rattle.tbr_model.specs.Rule.{Event, call, entry, run_of, Space, Progress, at_start, spaces, pending_width, space_of, is_white_item, without_leading, wrap_space_by, wrap_space, put_pending, lay_here, lay_fresh, lay, flush_word, break_word, join, collapse, newline, tab, keep_space, is_pre, passes, tag_of, keep_character, preserve, enter_normal, enter, step, progress}
 use Rattle.tbr_model.specs.Markers.{names_in_run, without_last_markers}
+use Rattle.tbr_model.specs.TakenOut.{without_markers}
 use Rattle.tbr_model.proofs.words.Items.{items_width-append, has_character-append, back_has, no_character_no_width}
 use Rattle.tbr_model.proofs.rule.HardLines.{run_of-append}
 use Rattle.std.proofs.Math.Bool.{or-false}
@@ -39,20 +40,64 @@ without_last-append {A} n (marker_entry name ∷ es) fs h = go (nat_lt (length (
         let test : nat_lt (length (names_in_run (es ++ fs))) n ≡ false = le-ltb _ _ (omega (arith, both, ltb-false _ _ e)) in
         rw (test, e) (ap (λ (gs : List (Entry A)). marker_entry name ∷ gs) rest)
 
--- one more character, and one more marker that goes
-without_behind : {A : Type 0} (n : ℕ) (es : List (Entry A)) (c : ℕ) (a b : A) (mode : WhiteSpace) → without_last_markers n (es ++ character c a b mode ∷ []) ≡ without_last_markers n es ++ character c a b mode ∷ []
-without_behind {A} n es c a b mode =
-    without_last-append n es (character c a b mode ∷ []) (omega arith)
-    ∙ ap (λ k. without_last_markers k es ++ character c a b mode ∷ []) (let e : n - 0 ≡ n = omega arith in e)
+-- ---- the last markers among events
 
-without_one : {A : Type 0} (n : ℕ) (es : List (Entry A)) (name : List ℕ) → without_last_markers (n + 1) (es ++ marker_entry name ∷ []) ≡ without_last_markers n es
+pub run_without : {A : Type 0} (n : ℕ) (es : List (Event A)) → run_of (without_markers n es) ≡ without_last_markers n (run_of es)
+run_without n [] = refl
+run_without n (call ∷ es) = run_without n es
+run_without {A} n (entry (character c a b mode) ∷ es) = ap (λ (fs : List (Entry A)). character c a b mode ∷ fs) (run_without n es)
+run_without {A} n (entry (marker_entry name) ∷ es) = go (nat_lt (length (names_in_run (run_of es))) n) (run_without n es)
+  where
+    go : (x : Bool) → run_of (without_markers n es) ≡ without_last_markers n (run_of es) →
+        run_of (if x then without_markers n es else entry (marker_entry name) ∷ without_markers n es) ≡ (if x then without_last_markers n (run_of es) else marker_entry name ∷ without_last_markers n (run_of es))
+    go true rest = rest
+    go false rest = ap (λ (fs : List (Entry A)). marker_entry name ∷ fs) rest
+
+pub without_no_event : {A : Type 0} (es : List (Event A)) → without_markers 0 es ≡ es
+without_no_event [] = refl
+without_no_event {A} (call ∷ es) = ap (λ (fs : List (Event A)). call ∷ fs) (without_no_event es)
+without_no_event {A} (entry (character c a b mode) ∷ es) = ap (λ (fs : List (Event A)). entry (character c a b mode) ∷ fs) (without_no_event es)
+without_no_event {A} (entry (marker_entry name) ∷ es) = rw (le-ltb (length (names_in_run (run_of es))) 0 (omega arith)) (ap (λ (fs : List (Event A)). entry (marker_entry name) ∷ fs) (without_no_event es))
+
+without_events-append : {A : Type 0} (n : ℕ) (es fs : List (Event A)) → length (names_in_run (run_of fs)) ≤ n →
+    without_markers n (es ++ fs) ≡ without_markers (n - length (names_in_run (run_of fs))) es ++ without_markers n fs
+without_events-append n [] fs h = refl
+without_events-append {A} n (call ∷ es) fs h = ap (λ (gs : List (Event A)). call ∷ gs) (without_events-append n es fs h)
+without_events-append {A} n (entry (character c a b mode) ∷ es) fs h = ap (λ (gs : List (Event A)). entry (character c a b mode) ∷ gs) (without_events-append n es fs h)
+without_events-append {A} n (entry (marker_entry name) ∷ es) fs h = go (nat_lt (length (names_in_run (run_of es))) (n - length (names_in_run (run_of fs)))) refl (without_events-append n es fs h)
+  where
+    both : length (names_in_run (run_of (es ++ fs))) ≡ length (names_in_run (run_of es)) + length (names_in_run (run_of fs))
+    both = ap (λ (gs : List (Entry A)). length (names_in_run gs)) (run_of-append es fs) ∙ ap length (names_in_run-append (run_of es) (run_of fs)) ∙ length-append (names_in_run (run_of es)) (names_in_run (run_of fs))
+
+    go : (x : Bool) → nat_lt (length (names_in_run (run_of es))) (n - length (names_in_run (run_of fs))) ≡ x →
+        without_markers n (es ++ fs) ≡ without_markers (n - length (names_in_run (run_of fs))) es ++ without_markers n fs →
+        without_markers n (entry (marker_entry name) ∷ (es ++ fs)) ≡ without_markers (n - length (names_in_run (run_of fs))) (entry (marker_entry name) ∷ es) ++ without_markers n fs
+    go true e rest =
+        let test : nat_lt (length (names_in_run (run_of (es ++ fs)))) n ≡ true = lt-ltb _ _ (omega (arith, both, ltb-true _ _ e)) in
+        rw (test, e) rest
+    go false e rest =
+        let test : nat_lt (length (names_in_run (run_of (es ++ fs)))) n ≡ false = le-ltb _ _ (omega (arith, both, ltb-false _ _ e)) in
+        rw (test, e) (ap (λ (gs : List (Event A)). entry (marker_entry name) ∷ gs) rest)
+
+-- one more event that is no marker, and one more marker that goes
+without_behind : {A : Type 0} (n : ℕ) (es : List (Event A)) (c : ℕ) (a b : A) (mode : WhiteSpace) → without_markers n (es ++ entry (character c a b mode) ∷ []) ≡ without_markers n es ++ entry (character c a b mode) ∷ []
+without_behind {A} n es c a b mode =
+    without_events-append n es (entry (character c a b mode) ∷ []) (omega arith)
+    ∙ ap (λ k. without_markers k es ++ entry (character c a b mode) ∷ []) (let e : n - 0 ≡ n = omega arith in e)
+
+without_call : {A : Type 0} (n : ℕ) (es : List (Event A)) → without_markers n (es ++ call ∷ []) ≡ without_markers n es ++ call ∷ []
+without_call {A} n es =
+    without_events-append n es (call ∷ []) (omega arith)
+    ∙ ap (λ k. without_markers k es ++ call ∷ []) (let e : n - 0 ≡ n = omega arith in e)
+
+without_one : {A : Type 0} (n : ℕ) (es : List (Event A)) (name : List ℕ) → without_markers (n + 1) (es ++ entry (marker_entry name) ∷ []) ≡ without_markers n es
 without_one {A} n es name =
     let goes : nat_lt 0 (n + 1) ≡ true = lt-ltb _ _ (omega arith) in
-    let one : List (Entry A) = marker_entry name ∷ [] in
-    let alone : without_last_markers (n + 1) one ≡ [] = rw goes refl in
-    without_last-append (n + 1) es (marker_entry name ∷ []) (omega arith)
-    ∙ ap (λ (fs : List (Entry A)). without_last_markers ((n + 1) - 1) es ++ fs) alone ∙ append-nil (without_last_markers ((n + 1) - 1) es)
-    ∙ ap (λ k. without_last_markers k es) (let e : (n + 1) - 1 ≡ n = omega arith in e)
+    let one : List (Event A) = entry (marker_entry name) ∷ [] in
+    let alone : without_markers (n + 1) one ≡ [] = rw goes refl in
+    without_events-append (n + 1) es (entry (marker_entry name) ∷ []) (omega arith)
+    ∙ ap (λ (fs : List (Event A)). without_markers ((n + 1) - 1) es ++ fs) alone ∙ append-nil (without_markers ((n + 1) - 1) es)
+    ∙ ap (λ k. without_markers k es) (let e : (n + 1) - 1 ≡ n = omega arith in e)
 
 -- ---- markers at the end of items
 
@@ -248,9 +293,9 @@ module _ {A : Type 0} (columns : ℕ → Option ℕ) (width : ℕ) where
 
   -- ---- a run
 
-  -- events without the markers that end the word
+  -- without the markers that end the word
   abbrev Without : List (Event A) → List (Item A) → List (Item A) → Type 0
-  Without es front ms = (fs : List (Event A)) × (run_of fs ≡ without_last_markers (length ms) (run_of es)) × (progress columns width fs ≡ with_word (progress columns width es) front)
+  Without es front ms = progress columns width (without_markers (length ms) es) ≡ with_word (progress columns width es) front
 
   abbrev CanTakeOut : List (Event A) → Type 0
   CanTakeOut es = (front ms : List (Item A)) → (progress columns width es).word ≡ front ++ ms → has_character ms ≡ false → Without es front ms
@@ -259,24 +304,21 @@ module _ {A : Type 0} (columns : ℕ → Option ℕ) (width : ℕ) where
   nothing_out : (es : List (Event A)) (front ms : List (Item A)) → (progress columns width es).word ≡ front ++ ms → ms ≡ [] → Without es front ms
   nothing_out es front ms e none =
       let word : (progress columns width es).word ≡ front = e ∙ ap (λ (is : List (Item A)). front ++ is) none ∙ append-nil front in
-      (es, sym (without_none (run_of es)) ∙ ap (λ (is : List (Item A)). without_last_markers (length is) (run_of es)) (sym none), ap (with_word (progress columns width es)) word)
+      ap (λ (is : List (Item A)). progress columns width (without_markers (length is) es)) none ∙ ap (progress columns width) (without_no_event es) ∙ ap (with_word (progress columns width es)) word
 
   progress-push : (es : List (Event A)) (x : Event A) → progress columns width (es ++ x ∷ []) ≡ step columns width (progress columns width es) x
   progress-push es x = fold-append (step columns width) at_start es (x ∷ [])
 
   -- an event that is no marker
   out_behind : (es : List (Event A)) (x : Event A) → CanTakeOut es → Leaves (λ q. step columns width q x) (progress columns width es) →
-      ((n : ℕ) → without_last_markers n (run_of es ++ run_of (x ∷ [])) ≡ without_last_markers n (run_of es) ++ run_of (x ∷ [])) → CanTakeOut (es ++ x ∷ [])
+      ((n : ℕ) → without_markers n (es ++ x ∷ []) ≡ without_markers n es ++ x ∷ []) → CanTakeOut (es ++ x ∷ [])
   out_behind es x can leaves stays front ms e h =
       let now : (step columns width (progress columns width es) x).word ≡ front ++ ms = ap (λ (p : Progress A). p.word) (sym (progress-push es x)) ∙ e in
       elim (leaves front ms h now) [
         | inl none ↦ nothing_out (es ++ x ∷ []) front ms e none
         | inr r ↦
-            let (fs, run, state) = can r.0 ms r.1 h in (
-              fs ++ x ∷ [],
-              run_of-append fs (x ∷ []) ∙ ap (λ (es : List (Entry A)). es ++ run_of (x ∷ [])) run ∙ sym (stays (length ms)) ∙ ap (without_last_markers (length ms)) (sym (run_of-append es (x ∷ []))),
-              progress-push fs x ∙ ap (λ (p : Progress A). step columns width p x) state ∙ r.2 ∙ ap (λ (p : Progress A). with_word p front) (sym (progress-push es x)),
-            )
+            ap (progress columns width) (stays (length ms)) ∙ progress-push (without_markers (length ms) es) x
+            ∙ ap (λ (p : Progress A). step columns width p x) (can r.0 ms r.1 h) ∙ r.2 ∙ ap (λ (p : Progress A). with_word p front) (sym (progress-push es x))
       ]
 
   out_marker : (es : List (Event A)) (name : List ℕ) → CanTakeOut es → CanTakeOut (es ++ entry (marker_entry name) ∷ [])
@@ -288,25 +330,25 @@ module _ {A : Type 0} (columns : ℕ → Option ℕ) (width : ℕ) where
         | inr r ↦
             let bare : has_character r.0 ≡ false = (or_parts (has_character r.0) false (sym (has_character-append r.0 (marker name ∷ [])) ∙ ap has_character (sym r.1) ∙ h)).0 in
             let count : length ms ≡ length r.0 + 1 = ap length r.1 ∙ length-append r.0 (marker name ∷ []) in
-            let (fs, run, state) = can front r.0 r.2 bare in (
-              fs,
-              run ∙ sym (without_one (length r.0) (run_of es) name) ∙ ap (λ n. without_last_markers n (run_of es ++ marker_entry name ∷ [])) (sym count)
-                  ∙ ap (without_last_markers (length ms)) (sym (run_of-append es (entry (marker_entry name) ∷ []))),
-              state ∙ ap (λ (q : Progress A). with_word q front) (sym (progress-push es (entry (marker_entry name)))),
-            )
+            ap (λ n. progress columns width (without_markers n (es ++ entry (marker_entry name) ∷ []))) count ∙ ap (progress columns width) (without_one (length r.0) es name)
+            ∙ can front r.0 r.2 bare ∙ ap (λ (q : Progress A). with_word q front) (sym (progress-push es (entry (marker_entry name))))
       ]
 
   out_event : (es : List (Event A)) (x : Event A) → CanTakeOut es → CanTakeOut (es ++ x ∷ [])
-  out_event es call can = out_behind es call can (λ front ms h e. inr (front, e, refl)) (λ n. ap (without_last_markers n) (append-nil (run_of es)) ∙ sym (append-nil (without_last_markers n (run_of es))))
+  out_event es call can = out_behind es call can (λ front ms h e. inr (front, e, refl)) (λ n. without_call n es)
   out_event es (entry (marker_entry name)) can = out_marker es name can
   out_event es (entry (character c a b mode)) can =
-      out_behind es (entry (character c a b mode)) can (enter_leaves c a b mode (progress columns width es)) (λ n. without_behind n (run_of es) c a b mode)
+      out_behind es (entry (character c a b mode)) can (enter_leaves c a b mode (progress columns width es)) (λ n. without_behind n es c a b mode)
 
   out_events : (es so_far : List (Event A)) → CanTakeOut so_far → CanTakeOut (so_far ++ es)
   out_events [] so_far can = subst CanTakeOut (sym (append-nil so_far)) can
   out_events (x ∷ es) so_far can = subst CanTakeOut (append_assoc so_far (x ∷ []) es) (out_events es (so_far ++ x ∷ []) (out_event so_far x can))
 
   -- Without the markers that end the word under way, a run stands at the same place but for them.
+  pub taken_events : (es : List (Event A)) (front ms : List (Item A)) → (progress columns width es).word ≡ front ++ ms → has_character ms ≡ false →
+      progress columns width (without_markers (length ms) es) ≡ record (progress columns width es) { word = front }
+  taken_events es = out_events es [] (λ front ms e h. nothing_out [] front ms e (append_none front ms e))
+
   pub taken_out : (es : List (Event A)) (front ms : List (Item A)) → (progress columns width es).word ≡ front ++ ms → has_character ms ≡ false →
       (fs : List (Event A)) × (run_of fs ≡ without_last_markers (length ms) (run_of es)) × (progress columns width fs ≡ record (progress columns width es) { word = front })
-  taken_out es = out_events es [] (λ front ms e h. nothing_out [] front ms e (append_none front ms e))
+  taken_out es front ms e h = (without_markers (length ms) es, run_without (length ms) es, taken_events es front ms e h)

@@ -1,48 +1,36 @@
 -- What each change leaves of a block's course, and what a contract sees of that.
-use Rattle.std.proofs.Common.{◌≡◌, ℕ, zero, suc, ◌+◌, ◌-◌, ◌<◌, ◌==◌, not, ◌&&◌, ◌||◌, ◌⊎◌, inl, inr, Bool, true, false, Option, Some, List, [], ◌∷◌, ◌++◌, fold, map, length, take, drop, refl, ap, sym, ◌∙◌, subst, arith, append_assoc, append-nil, length-append, lt-ltb, nat_lt}
+use Rattle.std.proofs.Common.{◌≡◌, ℕ, zero, suc, ◌+◌, ◌-◌, ◌<◌, ◌==◌, not, ◌&&◌, ◌||◌, ◌⊎◌, inl, inr, Bool, true, false, Option, List, [], ◌∷◌, ◌++◌, fold, map, length, take, drop, refl, ap, sym, ◌∙◌, subst, arith, append_assoc, append-nil, length-append, lt-ltb, nat_lt}
 use Rattle.std.proofs.Math.Bool.{or_assoc, or-false, or-true}
-use Rattle.std.proofs.lemmas.List.{take_at, drop_at, drop-append-le, length-take-le, length-map}
+use Rattle.std.proofs.lemmas.List.{take_at, drop_at, length-take-le, length-map}
 use Rattle.std.proofs.lemmas.List.Elements.{length_all_zip}
 use Rattle.std.proofs.lemmas.List.Sums.{fold-append}
 use Rattle.std.proofs.lemmas.Bool.{and_left, and_right, and_parts, ne_eqb}
-use Rattle.std.specs.List.{AllZip, AllByRecursion as Each}
-use Rattle.tbr_model.specs.Run.{Item, glyph, marker, is_kept, items_width, kept_items, Entry, character, marker_entry, has_character}
-use Rattle.tbr_model.specs.Markers.{names_in_items, names_in_run, marker_run, marker_items, names_behind, last, without_last_markers}
+use Rattle.std.specs.List.{AllZip}
+use Rattle.tbr_model.specs.Run.{Item, glyph, marker, items_width, Entry, marker_entry, has_character}
+use Rattle.tbr_model.specs.Markers.{names_in_items, names_in_run, marker_items, names_behind, last, without_last_markers}
 use Rattle.tbr_model.specs.Laid.{Laid, end_if_character}
 use Rattle.tbr_model.specs.Layout.{joined}
-use Rattle.tbr_model.specs.Rule.{Event, entry, run_of, Progress, at_start, enter, step, progress, finished, waiting, lines_of}
-use Rattle.tbr_model.proofs.rule.DoneLines.{if_same, step_adds, finished_adds}
+use Rattle.tbr_model.specs.Rule.{Event, entry, run_of, Progress, at_start, enter, step, progress, finished, waiting}
+use Rattle.tbr_model.proofs.rule.DoneLines.{step_adds, finished_adds}
 use Rattle.tbr_model.proofs.rule.HardLines.{run_of-append, not_flushed}
-use Rattle.tbr_model.proofs.rule.Markers.{markers_run, markers_at_end, waiting_none, marker_items_alone, names_in_items-append, markers_lead, run_of_markers}
+use Rattle.tbr_model.proofs.rule.Markers.{markers_run, waiting_none, marker_items_alone, names_in_items-append, markers_lead, run_of_markers}
 use Rattle.tbr_model.proofs.rule.TakenOutMarkers.{taken_out, without_none}
-use Rattle.tbr_model.specs.declared.white_space.WhiteSpace.{WhiteSpace}
-use Rattle.tbr_model.specs.declared.white_space.WhiteSpace.TheVariants.{Normal, Pre}
-use Rattle.tbr_model.specs.Hard.{HasMode, entry_letters, is_visible, hard_lines, Parted}
-use Rattle.tbr_model.specs.Shown.{without_spaces, InventsNothing, ComesWithRun, ShowsInOrder, IsNotPre, ShowsOwn, run_shows_columns, HasColumns}
+use Rattle.tbr_model.specs.Hard.{is_visible}
+use Rattle.tbr_model.specs.Shown.{run_shows_columns, HasColumns}
 use Rattle.tbr_model.proofs.lines.Columns.{columns_show}
-use Rattle.tbr_model.proofs.lines.KeptOrder.{shown_in_order}
-use Rattle.tbr_model.proofs.lines.MarkersAlone.{no_line_ends}
-use Rattle.tbr_model.proofs.lines.NormalItems.{normal_keeps}
-use Rattle.tbr_model.proofs.lines.NothingInvented.{nothing_invented}
-use Rattle.tbr_model.proofs.lines.OwnAnnotations.{own_shown}
-use Rattle.tbr_model.proofs.lines.RunCharacters.{come_with_run}
-use Rattle.tbr_model.proofs.lines.WaitingMarkers.{waits_behind_visible, waits_behind_kept}
+use Rattle.tbr_model.proofs.lines.WaitingMarkers.{waits_behind_visible}
 use Rattle.tbr_tagged.specs.Elements.{SameItems}
 use Rattle.tbr_tagged.specs.declared.error.Error.{Error}
 use Rattle.tbr_model.proofs.words.Items.{items_width-append, no_character_no_width}
 use Rattle.tbr_tagged.proofs.SameItems.{all_zip_append, same_has}
-use Rattle.tbr_wrap.specs.Wrapped.{FitsBlock}
-use Rattle.tbr_wrap.specs.State.{State, JoinsRun, JoinsAsMarker, EndsRun, ShowsFitting, AreLastOf, IsShownBy, is_some_list, text_entries, lines_left, loose_taken, line_taken, run_flushed}
-use Rattle.tbr_wrap.specs.Course.{Course, at_first, stepped, word_taken, run_ended, line_handed, after, text_changes, course, loose_names, state_of, viewed}
+use Rattle.tbr_wrap.specs.State.{State, JoinsRun, JoinsAsMarker, AreLastOf, is_some_list, loose_taken}
+use Rattle.tbr_wrap.specs.Course.{Course, at_first, stepped, word_taken, run_ended, line_handed, loose_names, state_of}
 use Rattle.tbr_wrap.specs.EndedLines.{AreLines}
 use Rattle.tbr_wrap.specs.Held.{HoldsCourse}
 use Rattle.tbr_wrap.specs.LaidLines.{HoldsLaid, LaidLikeRule, LeavesAfterLine, KeepsLimits}
 use Rattle.tbr_wrap.specs.Wrapper.{IsAtProgress, RunIsFinished}
 use Rattle.tbr_wrap.specs.declared.laid_lines.LaidLines.{LaidLines}
-use Rattle.tbr_wrap.specs.declared.run_change.RunChange.{RunChange}
 use Rattle.tbr_wrap.specs.declared.wrapper.Wrapper.{Wrapper}
-use Rattle.tbr_wrap.proofs.runs.EndedRuns.{shown_run, waits_normal}
-use Rattle.tbr_wrap.proofs.runs.FittingLines.{fitting_lines}
 use Rattle.tbr_wrap.proofs.runs.LinesLeft.{first_of}
 
 -- ---- whether there are lines
@@ -128,45 +116,16 @@ last_of_none xs = ap (last 0) (sym (append-nil xs)) ∙ last_of_two xs []
 pub no_loose : {A : Type 0} (word : List (Item A)) → has_character word ≡ true → loose_names word ≡ []
 no_loose word some = rw some refl
 
--- ---- more changes
+-- ---- several events
 
 pub entries_run : {A : Type 0} (es : List (Entry A)) → run_of (map entry es) ≡ es
 entries_run [] = refl
 entries_run {A} (e ∷ es) = ap (λ (fs : List (Entry A)). e ∷ fs) (entries_run es)
 
 module _ {A : Type 0} (columns : ℕ → Option ℕ) where
-  module _ (width width' : ℕ) (changes changes' new : List (RunChange × A × A)) (same : width' ≡ width) (more : changes' ≡ changes ++ new) where
-    pub course_more : course columns width' changes' ≡ fold (after columns width) (course columns width changes) new
-    course_more = (λ i. course columns (same i) (more i)) ∙ fold-append (after columns width) at_first changes new
-
-    pub viewed_more : (may may' : Bool) (padding : Option A) (failure failure' : Option Error) → may' ≡ may → failure' ≡ failure →
-        viewed columns width' may' padding failure' changes' ≡ state_of columns width may padding failure (fold (after columns width) (course columns width changes) new)
-    viewed_more may may' padding failure failure' never kept = (λ i. state_of columns (same i) (never i) padding (kept i) (course_more i))
-
-  module _ (width width' : ℕ) (changes changes' : List (RunChange × A × A)) (change : RunChange × A × A) (same : width' ≡ width) (more : changes' ≡ changes ++ change ∷ []) where
-    pub course_after : course columns width' changes' ≡ after columns width (course columns width changes) change
-    course_after = course_more width width' changes changes' (change ∷ []) same more
-
-    pub viewed_after : (may may' : Bool) (padding : Option A) (failure failure' : Option Error) → may' ≡ may → failure' ≡ failure →
-        viewed columns width' may' padding failure' changes' ≡ state_of columns width may padding failure (after columns width (course columns width changes) change)
-    viewed_after = viewed_more width width' changes changes' (change ∷ []) same more
-
-  -- ---- several events
-
   -- these events come
   abbrev pub went : ℕ → Course A → List (Event A) → Course A
   went width c es = record c { run = c.run ++ run_of es; progress = fold (step columns width) c.progress es }
-
-  went_on : (width : ℕ) (c : Course A) (e : Event A) (es : List (Event A)) → went width (stepped columns width c e) es ≡ went width c (e ∷ es)
-  went_on width c e es =
-      ap (λ run. record (went width c (e ∷ es)) { run = run }) (append_assoc c.run (run_of (e ∷ [])) (run_of es) ∙ ap (λ r. c.run ++ r) (sym (run_of-append (e ∷ []) es)))
-
-  -- the characters of a text
-  pub text_went : (width : ℕ) (c : Course A) (cs : List ℕ) (a b : A) (mode : WhiteSpace) → fold (after columns width) c (text_changes cs a b mode) ≡ went width c (map entry (text_entries cs a b mode))
-  text_went width c [] a b mode = ap (λ run. record c { run = run }) (sym (append-nil c.run))
-  text_went width c (x ∷ cs) a b mode =
-      let e : Event A = entry (character x a b mode) in
-      text_went width (stepped columns width c e) cs a b mode ∙ went_on width c e (map entry (text_entries cs a b mode))
 
   pub entries_entered : (width : ℕ) (es : List (Entry A)) (p : Progress A) → fold (step columns width) p (map entry es) ≡ fold (enter columns width) p es
   entries_entered width [] p = refl
@@ -186,7 +145,7 @@ module _ {A : Type 0} (columns : ℕ → Option ℕ) where
     abbrev seen : Course A → State A
     seen d = state_of columns width may padding failure d
 
-    joins_events : (es : List (Event A)) → JoinsRun (seen c) (run_of es) (seen (went width c es))
+    pub joins_events : (es : List (Event A)) → JoinsRun (seen c) (run_of es) (seen (went width c es))
     joins_events es =
         let more = steps_add width es c.progress in
         let s : State A = seen (went width c es) in
@@ -229,6 +188,14 @@ module _ {A : Type 0} (columns : ℕ → Option ℕ) where
           either = loose_either word name (has_character word) refl;
           first = λ none. loose_more word name (not_true _ (and_parts (not (has_character c.progress.laid.line)) (not (has_character word)) none).1);
         }
+
+  -- where open line and word have no character, the end of the run adds no line
+  pub none_ended : (width : ℕ) (p : Progress A) → not (has_character p.laid.line) && not (has_character p.word) ≡ true → (finished columns width p).done ≡ p.laid.done
+  none_ended width p none =
+      let (line, word) = and_parts (not (has_character p.laid.line)) (not (has_character p.word)) none in
+      let laid : finished columns width p ≡ end_if_character p.laid = ap (λ (q : Progress A). end_if_character q.laid) (not_flushed columns width p (not_true _ word)) in
+      let same : end_if_character p.laid ≡ p.laid = let bare = not_true _ line in rw bare refl in
+      ap (λ (l : Laid A). l.done) (laid ∙ same)
 
   -- ---- what the fields hold
 
@@ -385,21 +352,6 @@ module _ {A : Type 0} (columns : ℕ → Option ℕ) where
       all_count : length all_lines ≡ length c.progress.laid.done + length added
       all_count = ap length all_is ∙ length-append c.progress.laid.done added
 
-      -- where open line and word have no character, it adds none
-      none_added : not (has_character c.progress.laid.line) && not (has_character c.progress.word) ≡ true → all_lines ≡ c.progress.laid.done
-      none_added none =
-          let (line, word) = and_parts (not (has_character c.progress.laid.line)) (not (has_character c.progress.word)) none in
-          let laid : finished columns b.lines.width c.progress ≡ end_if_character c.progress.laid = ap (λ (p : Progress A). end_if_character p.laid) (not_flushed columns b.lines.width c.progress (not_true _ word)) in
-          let same : end_if_character c.progress.laid ≡ c.progress.laid = let bare = not_true _ line in rw bare refl in
-          ap (λ (l : Laid A). l.done) (laid ∙ same)
-
-      pub none_more : (may : Bool) (padding : Option A) (failure : Option Error) → not (has_character c.progress.laid.line) && not (has_character c.progress.word) ≡ true →
-          lines_left (state_of columns b.lines.width may padding failure (run_ended columns b.lines.width c)) ≡ c.ended ++ drop c.handed c.progress.laid.done
-      none_more may padding failure none = append-nil (c.ended ++ drop c.handed all_lines) ∙ ap (λ ls. c.ended ++ drop c.handed ls) (none_added none)
-
-      pub lines_of_run : lines_of columns b.lines.width h.events ≡ all_lines
-      lines_of_run = ap (λ p. (finished columns b.lines.width p).done) h.progress_is
-
       pub holds_ended : (d : Wrapper A) → KeepsLimits b.lines d.lines → RunIsFinished columns eq b d h.before given c.progress → HoldsCourse columns eq d begun (run_ended columns b.lines.width c)
       holds_ended d limits e =
           let rest : drop c.handed all_lines ≡ e.rest = ap (drop c.handed) e.split ∙ drop_at given e.rest c.handed given_count in
@@ -417,64 +369,6 @@ module _ {A : Type 0} (columns : ℕ → Option ℕ) where
                 (omega (arith, old_count, all_count, many, parts, length-append h.before e.now, lines_count d (h.before ++ e.now) [] (record at_start { word = left }) e.stands)) all_count h.has_begun
                 ∙ sym (or-false (c.begun || is_some_list all_lines));
           }
-
-      module _ (may : Bool) (padding : Option A) (failure : Option Error) where
-        abbrev before_end : State A
-        before_end = state_of columns b.lines.width may padding failure c
-
-        pub ended_seen : state_of columns b.lines.width may padding failure (run_ended columns b.lines.width c) ≡ run_flushed before_end added left_names
-        ended_seen =
-            let columns_none : items_width columns left ≡ 0 = no_character_no_width columns left left_none in
-            let no_columns : ((0 == 0) && (items_width columns left == 0)) ≡ true = rw columns_none refl in
-            let no_character : not false && not (has_character left) ≡ true = rw left_none refl in
-            let names : loose_names left ≡ left_names = rw left_none refl in
-            let ended : c.ended ++ drop c.handed all_lines ≡ (c.ended ++ drop c.handed c.progress.laid.done) ++ added =
-            ap (λ ls. c.ended ++ ls) (ap (drop c.handed) all_is ∙ drop-append-le c.handed c.progress.laid.done added h.within) ∙ sym (append_assoc c.ended (drop c.handed c.progress.laid.done) added) in
-            λ i. record before_end {
-              begun = c.begun || is_some_list (all_is i);
-              ended = ended i;
-              lines = [];
-              handed = 0;
-              run = marker_run left_names;
-              no_columns = no_columns i;
-              no_character = no_character i;
-              loose = names i;
-            }
-
-        -- what holds of the lines of the events' run holds of this run and its lines
-        as_run : (P : List (Entry A) → List (List (Item A)) → Type 0) → P (run_of h.events) (lines_of columns b.lines.width h.events) → P c.run (c.progress.laid.done ++ added)
-        as_run P holds = subst (P c.run) (lines_of_run ∙ all_is) (subst (λ (es : List (Entry A)). P es (lines_of columns b.lines.width h.events)) h.run_is holds)
-
-        pub ends_run : columns 32 ≡ Some 1 → 0 < b.lines.width → Each (FitsBlock columns b.lines.width may) all_lines → EndsRun columns before_end added left_names
-        ends_run one_space wide fits =
-            let Same : A → A → Type 0 = λ a b. a ≡ b in
-            let fit : Each (FitsBlock columns b.lines.width may) (lines_of columns b.lines.width h.events) = subst (Each (FitsBlock columns b.lines.width may)) (sym lines_of_run) fits in
-            let waits : waiting columns b.lines.width (progress columns b.lines.width h.events) ≡ left = ap (waiting columns b.lines.width) h.progress_is in
-            let of_run : (P : List (Entry A) → Type 0) → P c.run → P (run_of h.events) = λ P holds. subst P (sym h.run_is) holds in
-            record {
-              shown = as_run (IsShownBy columns b.lines.width may) (shown_run columns b.lines.width one_space wide may h.events fit);
-              fits = subst (Each (FitsBlock columns b.lines.width may)) all_is fits;
-              markers = as_run (λ es ls. names_in_items (joined ls) ++ left_names ≡ names_in_run es)
-                  (ap (λ is. names_in_items (joined (lines_of columns b.lines.width h.events)) ++ names_in_items is) (sym waits) ∙ markers_at_end columns b.lines.width h.events);
-              invents = as_run (InventsNothing columns Same) (nothing_invented columns b.lines.width Same (λ a. refl) h.events);
-              come = as_run (λ es ls. Each (ComesWithRun Same es) (joined ls)) (come_with_run columns b.lines.width Same (λ a. refl) h.events);
-              order = as_run (λ es ls. ShowsInOrder columns Same es ls left_names)
-                  (subst (λ (is : List (Item A)). ShowsInOrder columns Same (run_of h.events) (lines_of columns b.lines.width h.events) (names_in_items is)) waits
-                  (shown_in_order columns b.lines.width Same (λ a. refl) h.events));
-              own = λ plain. as_run (ShowsOwn columns Same) (own_shown columns b.lines.width Same (λ a. refl) h.events (of_run (Each IsNotPre) plain));
-              fitting = λ pre. as_run (λ es. Parted (ShowsFitting columns Same b.lines.width) (hard_lines es))
-                  (fitting_lines columns Same (λ a. refl) b.lines.width h.events (of_run (Each (HasMode Pre)) pre));
-              kept = λ normal. as_run (λ es ls. without_spaces (joined ls) ++ marker_items left_names ≡ kept_items columns es)
-                  (ap (λ is. without_spaces (joined (lines_of columns b.lines.width h.events)) ++ is) (sym left_is ∙ sym waits) ∙ normal_keeps columns b.lines.width h.events (of_run (Each (HasMode Normal)) normal));
-              behind = as_run (λ es _. AreLastOf left_names (names_behind (is_visible columns) es))
-                  (subst (λ (is : List (Item A)). AreLastOf (names_in_items is) (names_behind (is_visible columns) (run_of h.events))) waits (waits_behind_visible columns b.lines.width h.events));
-              behind_kept = λ normal. as_run (λ es _. AreLastOf left_names (names_behind (is_kept columns) es))
-                  (subst (λ (is : List (Item A)). AreLastOf (names_in_items is) (names_behind (is_kept columns) (run_of h.events))) waits
-                  (waits_behind_kept columns b.lines.width h.events (of_run (Each (HasMode Normal)) normal)));
-              alone = λ none. sym (lines_of_run ∙ all_is) ∙ no_line_ends columns b.lines.width h.events (ap entry_letters h.run_is ∙ none);
-              waits = λ never normal. sym left_is ∙ sym waits
-                  ∙ waits_normal columns b.lines.width h.events (subst (λ o. Each (FitsBlock columns b.lines.width o) (lines_of columns b.lines.width h.events)) never fit) c.run h.run_is normal;
-            }
 
       -- ---- a line is handed out
 
@@ -582,10 +476,6 @@ module _ {A : Type 0} (columns : ℕ → Option ℕ) where
                   progress_is = ap (λ w. progress columns w h.events) same.width ∙ h.progress_is;
                   has_begun = sym (ended_one some);
                 })
-
-      module _ (may : Bool) (padding : Option A) (failure : Option Error) where
-        pub handed_seen : state_of columns b.lines.width may padding failure (line_handed c) ≡ line_taken (state_of columns b.lines.width may padding failure c)
-        handed_seen = sym (if_same (state_of columns b.lines.width may padding failure) (is_some_list c.ended) _ _ _ _ refl refl)
 
       -- ---- what is open
 

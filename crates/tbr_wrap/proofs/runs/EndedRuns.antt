@@ -176,6 +176,13 @@ module _ {A : Type 0} (columns : ℕ → Option ℕ) (width : ℕ) where
       cond_both (has_character r.items) _ _ (λ (ws : List (Word A)). Each (λ w. IsNarrow columns width w.items) ws → IsNarrow columns width r.items)
       (λ _ k. (each_back (λ w. IsNarrow columns width w.items) r.words (word_of r ∷ []) k).0) (λ none _. narrow_markers columns width r.items none) fit
 
+  -- the words that have ended are some of all
+  pub ended_of_all : (run : List (Entry A)) → WordsFit columns width run → EndedWordsFit columns width run
+  ended_of_all run fit =
+      let r : Reading A = reading columns run in
+      cond_both (has_character r.items) _ _ (λ (ws : List (Word A)). Each (λ w. IsNarrow columns width w.items) ws → Each (λ w. IsNarrow columns width w.items) r.words)
+      (λ _ k. each_front (λ w. IsNarrow columns width w.items) r.words (word_of r ∷ []) k) (λ _ k. k) fit
+
   -- a break point ends the items under way, if they take columns
   broken_fits : (run : List (Entry A)) (e : Entry A) → is_break_entry e ≡ true → 0 < items_width columns (reading columns run).items → EndedWordsFit columns width (run ++ e ∷ []) → IsNarrow columns width (reading columns run).items
   broken_fits run e breaks some fit =
@@ -211,6 +218,13 @@ module _ {A : Type 0} (columns : ℕ → Option ℕ) (width : ℕ) where
     pub too_narrow_normal : (e : Entry A) → is_break_entry e ≡ true → 0 < items_width columns (progress columns width es).word → ¬ (IsNarrow columns width (progress columns width es).word) → ¬ (EndedWordsFit columns width (run ++ e ∷ []))
     too_narrow_normal e breaks some wider fit =
         wider (subst (IsNarrow columns width) (sym stands.1.word) (broken_fits run e breaks (subst (λ (js : List (Item A)). 0 < items_width columns js) stands.1.word some) fit))
+
+    -- a word that a break point ends has none
+    pub narrow_if_ended : (e : Entry A) → is_break_entry e ≡ true → 0 < items_width columns (progress columns width es).word → EndedWordsFit columns width (run ++ e ∷ []) → IsNarrow columns width (progress columns width es).word
+    narrow_if_ended e breaks some fit = subst (IsNarrow columns width) (sym stands.1.word) (broken_fits run e breaks (subst (λ (js : List (Item A)). 0 < items_width columns js) stands.1.word some) fit)
+
+    pub narrow_if_all : WordsFit columns width run → IsNarrow columns width (progress columns width es).word
+    narrow_if_all fit = subst (IsNarrow columns width) (sym stands.1.word) (last_fits run fit)
 
     -- nor by the end of the run
     pub too_narrow_end : ¬ (IsNarrow columns width (progress columns width es).word) → ¬ (WordsFit columns width run)

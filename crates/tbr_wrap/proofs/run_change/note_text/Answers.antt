@@ -1,7 +1,7 @@
 use Rattle.std.proofs.Common.{◌≡◌, ◌++◌, ◌∷◌, [], ℕ, List, ap, sym, ◌∙◌, arith, append_assoc}
 use Rattle.std.proofs.lemmas.List.{map-append}
 use Rattle.tbr_model.specs.declared.white_space.WhiteSpace.{WhiteSpace}
-use Rattle.tbr_wrap.specs.Course.{text_changes}
+use Rattle.tbr_wrap.specs.Story.{text_changes}
 use Rattle.tbr_wrap.specs.declared.run_change.RunChange.{RunChange}
 use Rattle.tbr_wrap.specs.declared.run_change.RunChange.TheVariants.{Character}
 use Rattle.tbr_wrap.proofs.storage.TextBytes.{read_more, all_read}

@@ -2,7 +2,7 @@ use Rattle.std.proofs.Common.{◌≡◌, ◌++◌, Result, Err, List, ap, sym, �
 use Rattle.std.specs.Global.{Vec}
 use Rattle.std.specs.Result.{IsErrAnd}
 use Rattle.tbr_model.specs.Run.{Entry}
-use Rattle.tbr_lines.specs.State.{State}
+use Rattle.tbr_lines.specs.Block.{Block}
 use Rattle.tbr_lines.specs.declared.Error.{Error}
 use Rattle.tbr_lines.specs.declared.Error.TheVariants as E
 use Rattle.tbr_renderer.specs.Meant.{meant}
@@ -21,7 +21,7 @@ returns-in_err-write-clause-too_narrow g c = λ is.
     let cs = chars c.args.text.now in
     let e : c.write.result ≡ Err E.TooNarrow =
     c.in_err-write.was ∙ ap Err (sym (subst (λ (r : Result (Unit {0}) Error). IsErrAnd r (λ x. x ≡ c.in_err-write.field-0.0)) is c.from_residual-in_err-write.ensures.1)) in
-    let here = subst (λ (q : Renderer g.row.D.Denot g.row.D-Annotation.Denot (Vec g.row.D-Annotation.Denot)). RunStops columns (block_width q) (may_overflow q) ((block_meant f block).run ++ entries_of columns g.D.TextDecorator.preformatted (meant f q) cs))
+    let here = subst (λ (q : Renderer g.row.D.Denot g.row.D-Annotation.Denot (Vec g.row.D-Annotation.Denot)). RunStops columns (block_width q) (may_overflow q) ((block_meant columns f block).run ++ entries_of columns g.D.TextDecorator.preformatted (meant f q) cs))
     c.in_ok-block.ensures.rest (c.write.ensures.too_narrow e) in
-    let run = ap (λ (b : State (Vec g.row.D-Annotation.Denot)). (block_meant f b).run) c.deref_mut.ensures.value ∙ ap (λ (b : Open (List g.D.TextDecorator.Meaning)). b.run) c.in_ok-block.ensures.block ∙ open_run_is (meant f old) in
+    let run = ap (λ (b : Block (Vec g.row.D-Annotation.Denot)). (block_meant columns f b).run) c.deref_mut.ensures.value ∙ ap (λ (b : Open (List g.D.TextDecorator.Meaning)). b.run) c.in_ok-block.ensures.block ∙ open_run_is (meant f old) in
     subst (λ (es : List (Entry (List g.D.TextDecorator.Meaning))). RunStops columns (block_width old) (may_overflow old) (es ++ entries_of columns g.D.TextDecorator.preformatted (meant f old) cs)) run here

@@ -1,32 +1,44 @@
-use Rattle.std.proofs.Common.{ap, ◌∙◌, sym, subst, string_bytes}
+use Rattle.std.proofs.Common.{[], ◌∷◌, refl, ap, ◌∙◌, sym, subst, string_bytes}
 use Rattle.tbr_model.specs.Run.{marker_entry}
 use Rattle.tbr_model.specs.Rule.{entry, enter}
-use Rattle.tbr_wrap.specs.State.{JoinsAsMarker}
-use Rattle.tbr_wrap.specs.Course.{course, state_of}
-use Rattle.tbr_wrap.specs.Held.{HoldsCourse}
+use Rattle.tbr_wrap.specs.Block.{Block, grown, settings_of, course_of, progress_of}
+use Rattle.tbr_wrap.specs.Held.{HoldsCourse, block_of}
 use Rattle.tbr_wrap.specs.Wrapper.{IsAtProgress}
-use Rattle.tbr_wrap.proofs.runs.Courses.{course_after, viewed_after, holds_stepped, joins_marker, given}
+use Rattle.tbr_wrap.proofs.runs.Courses.{holds_went, given}
+use Rattle.tbr_wrap.proofs.runs.Blocks.{led_on, settings_kept, course_grown}
 use Rattle.tbr_wrap.proofs.block.WrappedBlock.add_marker.Goals as goal
 
 pub invariant_of-self-2 : goal.invariant_of-self-2
 invariant_of-self-2 g c = λ live.
-    let columns = g.W.CharWidth.columns in let eq = g.T.PartialEq.eq in let b = c.self.inside.wrapper in
-    let d = c.add_marker-added.new.self in let changes = c.self.inside.changes.items in
-    let now = course columns b.lines.width changes in let done = c.in_ok-keep_want.ensures.ok in
-    let k = c.self.invariant (sym done.1 ∙ live) in
+    let columns = g.W.CharWidth.columns in let eq = g.T.PartialEq.eq in let r = c.self.inside in
+    let t = record r { wrapper = c.add_marker-added.new.self; failure = c.keep_want.new.failure; changes = c.with_marker-changes.result.0 } in
+    let name = string_bytes c.args.name in
+    let done = c.in_ok-keep_want.ensures.ok in
+    let was = sym done.1 ∙ live in
+    let k = c.self.invariant was in
     let behind = given _ _ _ _ _ k in
     let limits = c.add_marker-added.ensures.limits in
-    let named = subst (λ name. IsAtProgress columns eq d k.before behind (enter columns b.lines.width now.progress (marker_entry name))) (ap string_bytes c.with_marker-changes.ensures.name)
-    (rw done.0 at (c.add_marker-added.ensures.added columns k.before behind now.progress k.stands)) in
-    subst (HoldsCourse columns eq d c.self.inside.begun) (sym (course_after columns b.lines.width d.lines.width changes _ _ limits.width c.with_marker-changes.ensures.changes))
-    (holds_stepped _ _ _ _ _ k d (entry (marker_entry (string_bytes c.args.name))) limits named)
+    let named = subst (λ n. IsAtProgress columns eq t.wrapper k.before behind (enter columns r.wrapper.lines.width (progress_of columns (block_of columns r)) (marker_entry n))) (ap string_bytes c.with_marker-changes.ensures.name)
+    (rw done.0 at (c.add_marker-added.ensures.added columns k.before behind _ k.stands)) in
+    subst (HoldsCourse columns eq t.wrapper r.begun)
+    (sym (ap (course_of columns) (led_on columns r t _ limits refl c.with_marker-changes.ensures.changes was live) ∙ course_grown columns (block_of columns r) (entry (marker_entry name) ∷ [])))
+    (holds_went _ _ _ _ _ k t.wrapper (entry (marker_entry name) ∷ []) limits named)
 
 pub returns-clause-ok : goal.returns-clause-ok
 returns-clause-ok g c =
-    let columns = g.W.CharWidth.columns in let b = c.self.inside.wrapper in let d = c.add_marker-added.new.self in
-    let changes = c.self.inside.changes.items in let now = course columns b.lines.width changes in
-    let limits = c.add_marker-added.ensures.limits in let failure = c.self.inside.failure in
-    rw (← c.self.view_is)
-    (subst (JoinsAsMarker (state_of columns b.lines.width b.lines.may_overflow _ failure now) (string_bytes c.args.name))
-    (sym (viewed_after columns b.lines.width d.lines.width changes _ _ limits.width c.with_marker-changes.ensures.changes b.lines.may_overflow d.lines.may_overflow _ failure c.keep_want.new.failure limits.may_overflow c.in_ok-keep_want.ensures.ok.1))
-    (joins_marker columns b.lines.width b.lines.may_overflow _ failure now (string_bytes c.args.name)))
+    let columns = g.W.CharWidth.columns in let r = c.self.inside in
+    let t = record r { wrapper = c.add_marker-added.new.self; failure = c.keep_want.new.failure; changes = c.with_marker-changes.result.0 } in
+    let was = ap (λ (s : Block g.row.T.Denot). s.failure) c.self.view_is ∙ c.requires in
+    led_on columns r t _ c.add_marker-added.ensures.limits refl c.with_marker-changes.ensures.changes was (c.in_ok-keep_want.ensures.ok.1 ∙ was)
+    ∙ ap (λ (s : Block g.row.T.Denot). grown s (entry (marker_entry (string_bytes c.args.name)) ∷ [])) c.self.view_is
+
+pub returns-clause-settings : goal.returns-clause-settings
+returns-clause-settings g c =
+    let r = c.self.inside in
+    settings_kept g.W.CharWidth.columns r (record r { wrapper = c.add_marker-added.new.self; failure = c.keep_want.new.failure; changes = c.with_marker-changes.result.0 }) c.add_marker-added.ensures.limits refl
+    ∙ ap settings_of c.self.view_is
+
+pub returns-in_err-keep_want-clause-settings : goal.returns-in_err-keep_want-clause-settings
+returns-in_err-keep_want-clause-settings g c =
+    let r = c.self.inside in
+    settings_kept g.W.CharWidth.columns r (record r { wrapper = c.add_marker-added.new.self; failure = c.keep_want.new.failure }) c.add_marker-added.ensures.limits refl ∙ ap settings_of c.self.view_is

@@ -1,16 +1,23 @@
-use Rattle.std.proofs.Common.{◌≡◌, ◌<◌, Ok, Some, true, false, [], length, ap, ◌∙◌, sym, subst, IfSome}
+use Rattle.std.proofs.Common.{◌≡◌, ◌<◌, Ok, Some, true, false, [], length, refl, ap, ◌∙◌, sym, subst, IfSome}
 use Rattle.tbr_tagged.specs.Elements.{items_of, IsMerged}
 use Rattle.tbr_tagged.proofs.SameItems.{same_items_trans}
+use Rattle.tbr_wrap.specs.Block.{Block, left, line_handed_out, settings_of, course_of}
+use Rattle.tbr_wrap.specs.Held.{HoldsCourse, block_of}
 use Rattle.tbr_wrap.proofs.runs.LinesLeft.{ok_of}
-use Rattle.tbr_wrap.specs.State.{State}
-use Rattle.tbr_wrap.specs.Held.{HoldsCourse}
-use Rattle.tbr_wrap.proofs.runs.Courses.{course_after, viewed_after, no_lines, holds_handed, handed_seen, first_left, some_left, none_left, none_held, some_held, laid}
+use Rattle.tbr_wrap.proofs.runs.Courses.{no_lines, holds_handed, first_left, some_left, none_left, none_held, some_held, laid}
+use Rattle.tbr_wrap.proofs.runs.Blocks.{led_on, settings_kept, course_handed}
 use Rattle.tbr_wrap.proofs.block.WrappedBlock.take_line.Goals as goal
 
 pub returns-in_err-line-clause-none : goal.returns-in_err-line-clause-none
-returns-in_err-line-clause-none g c =
-    let k = c.self.invariant (ap (λ (s : State g.row.T.Denot). s.failure) c.self.view_is ∙ c.requires.unfailed) in
-    rw (← c.self.view_is) (λ e. absurd (let was = (c.take_line-taken.ensures.none (none_left _ _ _ _ _ k e)).0 in let no : false ≡ true = rw was at c.in_err-line.ensures.failed.0 in cc))
+returns-in_err-line-clause-none g c = λ e.
+    let k = c.self.invariant (ap (λ (s : Block g.row.T.Denot). s.failure) c.self.view_is ∙ c.requires.unfailed) in
+    let none = none_left _ _ _ _ _ k (ap (left g.W.CharWidth.columns) c.self.view_is ∙ e) in
+    absurd (let was = (c.take_line-taken.ensures.none none).0 in let no : false ≡ true = rw was at c.in_err-line.ensures.failed.0 in cc)
+
+pub returns-in_err-line-clause-settings : goal.returns-in_err-line-clause-settings
+returns-in_err-line-clause-settings g c =
+    let r = c.self.inside in
+    settings_kept g.W.CharWidth.columns r (record r { wrapper = record r.wrapper { lines = c.take_line-taken.new.self }; failure = c.keep_want.new.failure }) c.take_line-taken.ensures.limits refl ∙ ap settings_of c.self.view_is
 
 pub invariant_of-self-in_default : goal.invariant_of-self-in_default
 invariant_of-self-in_default g c = λ live.
@@ -21,35 +28,37 @@ invariant_of-self-in_default g c = λ live.
     rw (c.take_line-taken.ensures.none none).1 k
 
 pub returns-in_default-clause-some : goal.returns-in_default-clause-some
-returns-in_default-clause-some g c =
-    let k = c.self.invariant (ap (λ (s : State g.row.T.Denot). s.failure) c.self.view_is ∙ c.requires.unfailed) in
+returns-in_default-clause-some g c = λ text rest e.
+    let k = c.self.invariant (ap (λ (s : Block g.row.T.Denot). s.failure) c.self.view_is ∙ c.requires.unfailed) in
     let none : c.self.inside.wrapper.lines.ended.items ≡ [] = no_lines c.self.inside.wrapper.lines.ended.items (λ some.
     let f = some_left _ _ _ _ _ k some in
     ok_of c.take_line-taken.result _ _ (c.in_ok-line.ensures.ok.0 ∙ ap Ok c.in_default.is) (c.take_line-taken.ensures.taken k.before (laid _ _ _ _ _ k) f.0 f.1 k.stands.lays.holds f.2)) in
-    rw (← c.self.view_is) (some_held _ _ _ _ _ k none)
+    some_held _ _ _ _ _ k none text rest (ap (left g.W.CharWidth.columns) c.self.view_is ∙ e)
 
 pub invariant_of-self-2 : goal.invariant_of-self-2
 invariant_of-self-2 g c = λ live.
-    let columns = g.W.CharWidth.columns in let b = c.self.inside.wrapper in let changes = c.self.inside.changes.items in
-    let k = c.self.invariant (sym c.in_ok-line.ensures.ok.1 ∙ live) in
+    let columns = g.W.CharWidth.columns in let r = c.self.inside in
+    let t = record r { wrapper = record r.wrapper { lines = c.take_line-taken.new.self }; failure = c.keep_want.new.failure; begun = true; changes = c.appended-self-inside.result } in
+    let before = sym c.in_ok-line.ensures.ok.1 ∙ live in
+    let k = c.self.invariant before in
     let was = c.in_ok-line.ensures.ok.0 ∙ ap Ok c.in-Some.is in
-    let some = ok_of c.take_line-taken.result (Some c.in-Some.line) (λ o. IfSome o (λ _. 0 < length b.lines.ended.items)) was c.take_line-taken.ensures.some in
+    let some = ok_of c.take_line-taken.result (Some c.in-Some.line) (λ o. IfSome o (λ _. 0 < length r.wrapper.lines.ended.items)) was c.take_line-taken.ensures.some in
     let limits = c.take_line-taken.ensures.limits in let f = some_left _ _ _ _ _ k some in
-    let t = ok_of c.take_line-taken.result _ _ was (c.take_line-taken.ensures.taken k.before (laid _ _ _ _ _ k) f.0 f.1 k.stands.lays.holds f.2) in
-    subst (HoldsCourse columns g.T.PartialEq.eq _ true) (sym (course_after columns b.lines.width c.take_line-taken.new.self.width changes _ _ limits.width c.appended-self-inside.ensures))
-    (holds_handed _ _ _ _ _ k c.take_line-taken.new.self limits f.0 f.1 f.2 t.2 some)
+    let taken = ok_of c.take_line-taken.result _ _ was (c.take_line-taken.ensures.taken k.before (laid _ _ _ _ _ k) f.0 f.1 k.stands.lays.holds f.2) in
+    subst (HoldsCourse columns g.T.PartialEq.eq _ true)
+    (sym (ap (course_of columns) (led_on columns r t _ limits refl c.appended-self-inside.ensures before live) ∙ course_handed columns (block_of columns r)))
+    (holds_handed _ _ _ _ _ k c.take_line-taken.new.self limits f.0 f.1 f.2 taken.2 some)
 
 pub returns-clause-some : goal.returns-clause-some
-returns-clause-some g c =
-    let k = c.self.invariant (ap (λ (s : State g.row.T.Denot). s.failure) c.self.view_is ∙ c.requires.unfailed) in
-    rw (← c.self.view_is) (λ text rest e.
-    let f = first_left _ _ _ _ _ k text rest e in
+returns-clause-some g c = λ text rest e.
+    let k = c.self.invariant (ap (λ (s : Block g.row.T.Denot). s.failure) c.self.view_is ∙ c.requires.unfailed) in
+    let f = first_left _ _ _ _ _ k text rest (ap (left g.W.CharWidth.columns) c.self.view_is ∙ e) in
     let t = ok_of c.take_line-taken.result _ _ (c.in_ok-line.ensures.ok.0 ∙ ap Ok c.in-Some.is) (c.take_line-taken.ensures.taken k.before (laid _ _ _ _ _ k) f.0 f.1 k.stands.lays.holds f.2) in
-    same_items_trans g.T.PartialEq.eq g.met.T.Eq.laws (items_of c.in-Some.line) f.0 text t.0 f.3)
+    same_items_trans g.T.PartialEq.eq g.met.T.Eq.laws (items_of c.in-Some.line) f.0 text t.0 f.3
 
 pub returns-clause-merged : goal.returns-clause-merged
 returns-clause-merged g c =
-    let k = c.self.invariant (ap (λ (s : State g.row.T.Denot). s.failure) c.self.view_is ∙ c.requires.unfailed) in
+    let k = c.self.invariant (ap (λ (s : Block g.row.T.Denot). s.failure) c.self.view_is ∙ c.requires.unfailed) in
     let was = c.in_ok-line.ensures.ok.0 ∙ ap Ok c.in-Some.is in
     let some = ok_of c.take_line-taken.result (Some c.in-Some.line) (λ o. IfSome o (λ _. 0 < length c.self.inside.wrapper.lines.ended.items)) was c.take_line-taken.ensures.some in
     let f = some_left _ _ _ _ _ k some in
@@ -58,15 +67,19 @@ returns-clause-merged g c =
 
 pub returns-clause-taken : goal.returns-clause-taken
 returns-clause-taken g c = λ _.
-    let columns = g.W.CharWidth.columns in let b = c.self.inside.wrapper in let changes = c.self.inside.changes.items in
-    let k = c.self.invariant (ap (λ (s : State g.row.T.Denot). s.failure) c.self.view_is ∙ c.requires.unfailed) in
-    let limits = c.take_line-taken.ensures.limits in let failure = c.self.inside.failure in
-    rw (← c.self.view_is)
-    (viewed_after columns b.lines.width c.take_line-taken.new.self.width changes _ _ limits.width c.appended-self-inside.ensures b.lines.may_overflow c.take_line-taken.new.self.may_overflow _ failure c.keep_want.new.failure limits.may_overflow c.in_ok-line.ensures.ok.1
-    ∙ handed_seen _ _ _ _ _ k b.lines.may_overflow _ failure)
+    let columns = g.W.CharWidth.columns in let r = c.self.inside in
+    let t = record r { wrapper = record r.wrapper { lines = c.take_line-taken.new.self }; failure = c.keep_want.new.failure; begun = true; changes = c.appended-self-inside.result } in
+    let before = ap (λ (s : Block g.row.T.Denot). s.failure) c.self.view_is ∙ c.requires.unfailed in
+    led_on columns r t _ c.take_line-taken.ensures.limits refl c.appended-self-inside.ensures before (c.in_ok-line.ensures.ok.1 ∙ before) ∙ ap line_handed_out c.self.view_is
+
+pub returns-clause-settings : goal.returns-clause-settings
+returns-clause-settings g c =
+    let r = c.self.inside in
+    settings_kept g.W.CharWidth.columns r (record r { wrapper = record r.wrapper { lines = c.take_line-taken.new.self }; failure = c.keep_want.new.failure; begun = true; changes = c.appended-self-inside.result }) c.take_line-taken.ensures.limits refl
+    ∙ ap settings_of c.self.view_is
 
 pub returns-clause-none : goal.returns-clause-none
-returns-clause-none g c =
-    let k = c.self.invariant (ap (λ (s : State g.row.T.Denot). s.failure) c.self.view_is ∙ c.requires.unfailed) in
+returns-clause-none g c = λ e.
+    let k = c.self.invariant (ap (λ (s : Block g.row.T.Denot). s.failure) c.self.view_is ∙ c.requires.unfailed) in
     let some = ok_of c.take_line-taken.result (Some c.in-Some.line) (λ o. IfSome o (λ _. 0 < length c.self.inside.wrapper.lines.ended.items)) (c.in_ok-line.ensures.ok.0 ∙ ap Ok c.in-Some.is) c.take_line-taken.ensures.some in
-    rw (← c.self.view_is) (λ e. absurd (none_held _ _ _ _ _ k e some))
+    absurd (none_held _ _ _ _ _ k (ap (left g.W.CharWidth.columns) c.self.view_is ∙ e) some)

@@ -1,9 +1,14 @@
-use Rattle.std.proofs.Common.{◌≡◌, ℕ, ◌∙◌, sym, subst, Err}
+use Rattle.std.proofs.Common.{◌≡◌, true, false, ℕ, ◌∙◌, sym, subst, Err}
 use Rattle.std.proofs.lemmas.Result.{err_from_is_err_and}
+use Rattle.tbr_model.specs.declared.white_space.WhiteSpace.TheVariants.{PreWrap}
 use Rattle.tbr_model.specs.Greedy.{IsNarrow}
 use Rattle.tbr_model.specs.Rule.{break_word, tag_of}
 use Rattle.tbr_model.proofs.rule.NarrowWords.{narrow_break}
 use Rattle.tbr_tagged.specs.declared.error.Error.TheVariants as E
+use Rattle.tbr_model.specs.Run.{is_break}
+use Rattle.tbr_model.specs.Rule.{preserve}
+use Rattle.tbr_model.specs.Fits.{lines_fit}
+use Rattle.tbr_model.proofs.rule.WiderLines.{unfit_preserve}
 use Rattle.tbr_wrap.proofs.wrapper.Wrapper.add_char.Goals as goal
 
 pub returns-in-Normal-clause-too_narrow : goal.returns-in-Normal-clause-too_narrow
@@ -44,3 +49,34 @@ pub returns-else-is_wordbreak_point-clause-too_narrow : goal.returns-else-is_wor
 returns-else-is_wordbreak_point-clause-too_narrow g c = λ e before given p s.
     let k = c.preserve-in-PreWrap.ensures.too_narrow e before given p s in
     let mode = c.in-PreWrap.is in (k.0, k.1, λ m. cc)
+
+pub returns-in-Normal-clause-wider : goal.returns-in-Normal-clause-wider
+returns-in-Normal-clause-wider g c = λ e before given p s.
+    let k = c.enter_normal.ensures.wider (tag_of p c.args.main_tag.now c.args.wrap_tag.now) e before given p s in (k.0, rw c.in-Normal.is k.1)
+
+pub returns-in-Pre-clause-wider : goal.returns-in-Pre-clause-wider
+returns-in-Pre-clause-wider g c = λ e before given p s.
+    let k = c.preserve.ensures.wider e before given p s in (k.0, rw c.in-Pre.is (rw c.in-Pre.is at k.1))
+
+pub returns-in_err-break_word-in-PreWrap-clause-wider : goal.returns-in_err-break_word-in-PreWrap-clause-wider
+returns-in_err-break_word-in-PreWrap-clause-wider g c = λ e before given p s.
+    let columns = g.W.CharWidth.columns in let width = c.args.self.now.lines.width in
+    let q = err_from_is_err_and c.from_residual.result c.from_residual.ensures.1 in
+    let is : c.break_word.result ≡ Err E.TooNarrow = cc (q.1, q.2, e, c.in_err-break_word-in-PreWrap.was) in
+    let k = c.break_word.ensures.wider is before given p s in
+    let breaks : is_break c.args.c ≡ true = sym c.is_wordbreak_point.ensures ∙ c.if-is_wordbreak_point.true in
+    (k.0, rw (c.in-PreWrap.is, breaks) (unfit_preserve columns width c.args.c c.args.main_tag.now c.args.wrap_tag.now PreWrap (break_word columns width p) k.1))
+
+pub returns-then-is_wordbreak_point-clause-wider : goal.returns-then-is_wordbreak_point-clause-wider
+returns-then-is_wordbreak_point-clause-wider g c = λ e before given p s.
+    let columns = g.W.CharWidth.columns in let width = c.args.self.now.lines.width in
+    let b = c.in_ok-break_word-in-PreWrap.ensures in let q = break_word columns width p in
+    let k = c.preserve-then-is_wordbreak_point.ensures.wider e before given q (b.laid before given p s) in
+    let breaks : is_break c.args.c ≡ true = sym c.is_wordbreak_point.ensures ∙ c.if-is_wordbreak_point.true in
+    (sym b.limits.may_overflow ∙ k.0, rw (c.in-PreWrap.is, breaks) (rw c.in-PreWrap.is at (subst (λ (w : ℕ). lines_fit columns w (preserve columns w c.args.c c.args.main_tag.now c.args.wrap_tag.now c.args.mode q).laid.done ≡ false) b.limits.width k.1)))
+
+pub returns-else-is_wordbreak_point-clause-wider : goal.returns-else-is_wordbreak_point-clause-wider
+returns-else-is_wordbreak_point-clause-wider g c = λ e before given p s.
+    let k = c.preserve-in-PreWrap.ensures.wider e before given p s in
+    let goes : is_break c.args.c ≡ false = sym c.is_wordbreak_point.ensures ∙ c.if-is_wordbreak_point.false in
+    (k.0, rw (c.in-PreWrap.is, goes) (rw c.in-PreWrap.is at k.1))

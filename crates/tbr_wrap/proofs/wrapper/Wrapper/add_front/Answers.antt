@@ -1,10 +1,15 @@
-use Rattle.std.proofs.Common.{◌≡◌, [], ◌∷◌, chars, take, ap, sym, ◌∙◌, arith, length-take-le, Err}
+use Rattle.std.proofs.Common.{◌≡◌, ℕ, false, List, fold, subst, [], ◌∷◌, chars, take, ap, sym, ◌∙◌, arith, length-take-le, Err}
 use Rattle.std.proofs.lemmas.Result.{err_from_is_err_and}
 use Rattle.std.proofs.lemmas.Str.{IsUtf8-from_ascii, IsCharBoundary-from_take, chars_past_char}
 use Rattle.tbr_tagged.specs.declared.error.Error.TheVariants as E
 use Rattle.tbr_wrap.proofs.storage.TextBytes.{chars_within}
 use Rattle.tbr_wrap.proofs.words.Letters.{ascii_front, front_of, encoded_one}
 use Rattle.tbr_wrap.proofs.words.PlainWords.{all_ascii}
+use Rattle.tbr_model.specs.Run.{Entry, character}
+use Rattle.tbr_model.specs.Rule.{enter}
+use Rattle.tbr_model.specs.Fits.{lines_fit}
+use Rattle.tbr_model.proofs.rule.WiderLines.{unfit_entries}
+use Rattle.tbr_wrap.specs.State.{text_entries}
 use Rattle.tbr_wrap.proofs.wrapper.Wrapper.add_front.Goals as goal
 
 pub range-requires-clause-end_boundary : goal.range-requires-clause-end_boundary
@@ -76,3 +81,18 @@ returns-clause-entered g c = λ before given p s.
     let split = chars_past_char c.args.text.now rest x c.utf8.text (sym c.chars.ensures.rest ∙ c.in-Some-next.ensures.steps.0) in
     let front = front_of c.args.text.now (x ∷ []) (chars rest) c.len_utf8.result c.utf8.text split (omega (arith, c.len_utf8.ensures.value, encoded_one [] x)) in
     rw front.1 (c.in_ok-add_char.ensures.entered before given p s)
+
+pub returns-in_err-add_char-clause-wider : goal.returns-in_err-add_char-clause-wider
+returns-in_err-add_char-clause-wider g c = λ e before given p s.
+    let columns = g.W.CharWidth.columns in let width = c.args.self.now.lines.width in
+    let main = c.args.main_tag.now in let wrap = c.args.wrap_tag.now in let mode = c.args.mode in
+    let rest = c.next.new.self.rest.now in
+    let split = chars_past_char c.args.text.now rest c.in-Some-next.c c.utf8.text (sym c.chars.ensures.rest ∙ c.in-Some-next.ensures.steps.0) in
+    let q = err_from_is_err_and c.from_residual-in_err-add_char.result c.from_residual-in_err-add_char.ensures.1 in
+    let is : c.add_char.result ≡ Err E.TooNarrow = cc (q.1, q.2, e, c.in_err-add_char.was) in
+    let k = c.add_char.ensures.wider is before given p s in
+    let first : Entry g.row.T.Denot = character c.in-Some-next.c main wrap mode in (
+      k.0,
+      subst (λ (cs : List ℕ). lines_fit columns width (fold (enter columns width) p (text_entries cs main wrap mode)).laid.done ≡ false) (sym split)
+          (unfit_entries columns width (text_entries (chars rest) main wrap mode) (enter columns width p first) k.1),
+    )

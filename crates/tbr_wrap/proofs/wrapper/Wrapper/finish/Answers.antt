@@ -10,6 +10,7 @@ use Rattle.tbr_model.proofs.words.Items.{no_character_no_width}
 use Rattle.tbr_tagged.proofs.SameItems.{same_has}
 use Rattle.tbr_wrap.proofs.lines.HeldLines.{keeps_trans}
 use Rattle.tbr_wrap.proofs.words.RunEnds.{fresh_none, append_none, run_finished}
+use Rattle.tbr_model.proofs.rule.WiderLines.{unfit_end}
 use Rattle.tbr_wrap.proofs.wrapper.Wrapper.finish.Goals as goal
 
 pub returns-in_err-flush_word-clause-too_narrow : goal.returns-in_err-flush_word-clause-too_narrow
@@ -29,3 +30,11 @@ returns-clause-finished g c = λ before given p s.
     let u = c.in_ok-unplace.ensures (joined (before ++ l.0.laid.done)) l.0.laid.line l.0.holds.placed (sym l.0.holds.len) (same_has eq l.0.laid.line (end_if_character q.laid).line l.0.shows.last ∙ fresh_none q.laid) in
     run_finished columns eq g.met.T.Eq.laws b _ d before given p l.0 word none (keeps_trans b.lines c.flush_word.new.self.lines d k.limits f.limits)
     (ap (λ x. x.placed) u) (ap (λ x. x.word) u) refl refl refl l.1 (t.word_width ∙ no_character_no_width columns q.word (flush_flushes columns b.lines.width p)) refl refl refl refl
+
+pub returns-in_err-flush_word-clause-wider : goal.returns-in_err-flush_word-clause-wider
+returns-in_err-flush_word-clause-wider g c = λ e before given p s.
+    let columns = g.W.CharWidth.columns in let width = c.args.self.now.lines.width in
+    let q = err_from_is_err_and c.from_residual.result c.from_residual.ensures.1 in
+    let is : c.flush_word.result ≡ Err E.TooNarrow = cc (q.1, q.2, e, c.in_err-flush_word.was) in
+    let k = c.flush_word.ensures.wider is before given p s in
+    (k.0, unfit_end columns width (flush_word columns width p).laid k.1)

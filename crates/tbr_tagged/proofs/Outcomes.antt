@@ -1,0 +1,46 @@
+-- What calls answer, by their outcomes.
+use Rattle.std.proofs.Common.{◌≡◌, Option, None, Some, Result, Ok, Err, refl, ap, sym, ◌∙◌, subst}
+use Rattle.tbr_tagged.specs.declared.error.Error.{Error}
+use Rattle.tbr_tagged.specs.declared.error.Error.TheVariants as E
+use Rattle.tbr_tagged.specs.Outcome.{Outcome, done, refused, if_live, Answers}
+
+-- what is done was live
+pub live_done : {S : Type 0} (failure : Option Error) (outcome : Outcome S) (t : S) → if_live failure outcome ≡ done t → (failure ≡ None) × (outcome ≡ done t)
+live_done None outcome t e = (refl, e)
+live_done (Some x) outcome t e = cc
+
+pub live_goes : {S : Type 0} (failure : Option Error) (outcome : Outcome S) → failure ≡ None → if_live failure outcome ≡ outcome
+live_goes failure outcome live = ap (λ f. if_live f outcome) live
+
+-- a live one is refused by its outcome alone
+pub live_refused : {S : Type 0} (failure : Option Error) (outcome : Outcome S) (e : Error) → failure ≡ None → if_live failure outcome ≡ refused e → outcome ≡ refused e
+live_refused failure outcome e live is = sym (live_goes failure outcome live) ∙ is
+
+module _ {S K R : Type 0} (failure : S → Option Error) (settings : S → K) (outcome : Outcome S) (old : S) where
+  pub answers_ok : (x : R) (new : S) → failure old ≡ None → outcome ≡ done new → settings new ≡ settings old → Answers failure settings (if_live (failure old) outcome) old (Ok x) new
+  answers_ok x new live is stay = record {
+    ok = live_goes (failure old) outcome live ∙ is;
+    too_narrow = λ e. cc;
+    left = tt;
+    settings_stay = stay;
+    kept = λ e was. absurd (let n : None ≡ Some e = sym live ∙ was in cc);
+  }
+
+  pub answers_err : (e : Error) (result : Result R Error) (new : S) → result ≡ Err e → failure old ≡ None → (e ≡ E.TooNarrow → outcome ≡ refused E.TooNarrow) → failure new ≡ Some e → settings new ≡ settings old →
+      Answers failure settings (if_live (failure old) outcome) old result new
+  answers_err e result new is live narrow left stay = subst (λ r. Answers failure settings (if_live (failure old) outcome) old r new) (sym is) (record {
+    ok = tt;
+    too_narrow = λ was. live_goes (failure old) outcome live ∙ narrow (cc);
+    left = left;
+    settings_stay = stay;
+    kept = λ d was. absurd (let n : None ≡ Some d = sym live ∙ was in cc);
+  })
+
+  pub answers_kept : (e : Error) (result : Result R Error) → result ≡ Err e → failure old ≡ Some e → Answers failure settings (if_live (failure old) outcome) old result old
+  answers_kept e result is was = subst (λ r. Answers failure settings (if_live (failure old) outcome) old r old) (sym is) (record {
+    ok = tt;
+    too_narrow = λ narrow. let same : e ≡ E.TooNarrow = cc in ap (λ f. if_live f outcome) was ∙ ap refused same;
+    left = was;
+    settings_stay = refl;
+    kept = λ d is_d. (let n : Some e ≡ Some d = sym was ∙ is_d in cc, refl);
+  })

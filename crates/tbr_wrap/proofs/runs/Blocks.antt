@@ -1,0 +1,234 @@
+-- What each change leaves of a block, and where it allows its lines.
+use Rattle.std.proofs.Common.{◌≡◌, ℕ, if◌then◌else◌, ◌==◌, ◌||◌, length, Bool, true, false, Option, None, Some, List, [], ◌∷◌, ◌++◌, map, fold, chars, refl, ap, sym, ◌∙◌, arith, append_assoc, append-nil, le-leb, ne_eqb, inl, inr}
+use Rattle.std.proofs.lemmas.Bool.{cond_both}
+use Rattle.std.proofs.lemmas.List.{length-map}
+use Rattle.std.proofs.lemmas.List.Sums.{fold-append}
+use Rattle.std.proofs.lemmas.Str.{chars-nil}
+use Rattle.std.specs.List.{AllByRecursion as Each}
+use Rattle.tbr_model.specs.declared.white_space.WhiteSpace.{WhiteSpace}
+use Rattle.tbr_model.specs.Run.{Entry, character, Item, marker, has_character}
+use Rattle.tbr_model.specs.Markers.{names_in_items, marker_items}
+use Rattle.tbr_model.specs.Rule.{Event, call, entry, Progress, at_start, step, enter, waiting}
+use Rattle.tbr_model.specs.Fits.{lines_fit}
+use Rattle.tbr_model.specs.TakenOut.{without_markers}
+use Rattle.tbr_model.proofs.rule.DoneLines.{if_same}
+use Rattle.tbr_model.proofs.rule.HardLines.{run_of-append}
+use Rattle.tbr_model.proofs.rule.Markers.{waiting_none, marker_items_alone, markers_lead, run_of_markers}
+use Rattle.tbr_model.proofs.rule.TakenOutMarkers.{taken_events, run_without, without_no_event}
+use Rattle.tbr_tagged.specs.declared.error.Error.TheVariants as E
+use Rattle.tbr_tagged.specs.Elements.{Element}
+use Rattle.tbr_tagged.specs.Outcome.{done, refused}
+use Rattle.tbr_wrap.specs.Wrapped.{FitsBlock, ShowsText}
+use Rattle.tbr_wrap.specs.State.{is_some_list, text_entries}
+use Rattle.tbr_wrap.specs.Course.{run_ended, line_handed, word_taken, loose_names}
+use Rattle.tbr_wrap.specs.Block.{Block, new_block, progress_of, lines, left, loose, allows, grown, settled, settings_of, text_events, flushed, line_handed_out, HandsOutFirst, without_loose, course_of, HasGrown}
+use Rattle.tbr_wrap.specs.Story.{changed, story, text_changes}
+use Rattle.tbr_wrap.specs.Held.{padding_tag, block_of}
+use Rattle.tbr_wrap.specs.LaidLines.{KeepsLimits}
+use Rattle.tbr_wrap.specs.declared.block.WrappedBlock.TheInside.{Inside}
+use Rattle.tbr_wrap.specs.declared.run_change.RunChange.{RunChange}
+use Rattle.tbr_wrap.specs.declared.run_change.RunChange.TheVariants.{Called, Character, Marker, Taken, Ended, HandedOut}
+use Rattle.tbr_wrap.proofs.runs.Courses.{went, entries_entered}
+
+no_chars : (rest : List ℕ) → (length rest == 0) ≡ true → chars rest ≡ []
+no_chars [] e = chars-nil
+no_chars (c ∷ cs) e = absurd (let f : true ≡ false = sym e ∙ ne_eqb (length (c ∷ cs)) 0 (λ z. omega (arith, z)) in cc)
+
+module _ {A : Type 0} (columns : ℕ → Option ℕ) where
+  -- ---- settings
+
+  record HasSettings (width : ℕ) (may : Bool) (padding : Option A) (s : Block A) : Type 0 where
+    pub width_is : s.width ≡ width
+    pub may_is : s.may_overflow ≡ may
+    pub padding_is : s.padding ≡ padding
+    pub live : s.failure ≡ None
+
+  module _ (width : ℕ) (may : Bool) (padding : Option A) where
+    one_kept : (s : Block A) (x : RunChange × A × A) → HasSettings width may padding s → HasSettings width may padding (changed columns s x)
+    one_kept s (Called, a, b) h = record { width_is = h.width_is; may_is = h.may_is; padding_is = h.padding_is; live = h.live }
+    one_kept s (Character c m, a, b) h = record { width_is = h.width_is; may_is = h.may_is; padding_is = h.padding_is; live = h.live }
+    one_kept s (Marker n, a, b) h = record { width_is = h.width_is; may_is = h.may_is; padding_is = h.padding_is; live = h.live }
+    one_kept s (Taken, a, b) h = record { width_is = h.width_is; may_is = h.may_is; padding_is = h.padding_is; live = h.live }
+    one_kept s (Ended, a, b) h = record { width_is = h.width_is; may_is = h.may_is; padding_is = h.padding_is; live = h.live }
+    one_kept s (HandedOut, a, b) h = cond_both (is_some_list s.ended) _ _ (λ (t : Block A). HasSettings width may padding t)
+        (λ _. record { width_is = h.width_is; may_is = h.may_is; padding_is = h.padding_is; live = h.live })
+        (λ _. record { width_is = h.width_is; may_is = h.may_is; padding_is = h.padding_is; live = h.live })
+
+    all_kept : (changes : List (RunChange × A × A)) (s : Block A) → HasSettings width may padding s → HasSettings width may padding (fold (changed columns) s changes)
+    all_kept [] s h = h
+    all_kept (x ∷ changes) s h = all_kept changes (changed columns s x) (one_kept s x h)
+
+    settings : (changes : List (RunChange × A × A)) → HasSettings width may padding (story columns width may padding changes)
+    settings changes = all_kept changes (new_block width may padding) (record { width_is = refl; may_is = refl; padding_is = refl; live = refl })
+
+  -- ---- what a contract sees of the fields
+
+  module _ {W : Type 0} where
+    -- where a block hasn't failed, that is what its changes have led to
+    seen_is : (r : Inside A W) → r.failure ≡ None → block_of columns r ≡ story columns r.wrapper.lines.width r.wrapper.lines.may_overflow (padding_tag r) r.changes.items
+    seen_is r live =
+        let has = settings r.wrapper.lines.width r.wrapper.lines.may_overflow (padding_tag r) r.changes.items in
+        λ i. record (story columns r.wrapper.lines.width r.wrapper.lines.may_overflow (padding_tag r) r.changes.items) {
+          width = sym has.width_is i;
+          may_overflow = sym has.may_is i;
+          padding = sym has.padding_is i;
+          failure = (live ∙ sym has.live) i;
+        }
+
+    -- more changes lead on
+    pub led_on : (r t : Inside A W) (new : List (RunChange × A × A)) → KeepsLimits r.wrapper.lines t.wrapper.lines → padding_tag t ≡ padding_tag r → t.changes.items ≡ r.changes.items ++ new → r.failure ≡ None → t.failure ≡ None →
+        block_of columns t ≡ fold (changed columns) (block_of columns r) new
+    led_on r t new same pads more live still =
+        seen_is t still
+        ∙ (λ i. story columns (same.width i) (same.may_overflow i) (pads i) (more i))
+        ∙ fold-append (changed columns) (new_block r.wrapper.lines.width r.wrapper.lines.may_overflow (padding_tag r)) r.changes.items new
+        ∙ ap (λ (s : Block A). fold (changed columns) s new) (sym (seen_is r live))
+
+    pub settings_kept : (r t : Inside A W) → KeepsLimits r.wrapper.lines t.wrapper.lines → padding_tag t ≡ padding_tag r → settings_of (block_of columns t) ≡ settings_of (block_of columns r)
+    settings_kept r t same pads = λ i. record { width = same.width i; may_overflow = same.may_overflow i; padding = pads i }
+
+  pub grown_more : (s : Block A) (es fs : List (Event A)) → grown (grown s es) fs ≡ grown s (es ++ fs)
+  grown_more s es fs = ap (λ (gs : List (Event A)). record s { events = gs }) (append_assoc s.events es fs)
+
+  pub text_grown : (s : Block A) (cs : List ℕ) (a b : A) (mode : WhiteSpace) → fold (changed columns) s (text_changes cs a b mode) ≡ grown s (map entry (text_entries cs a b mode))
+  text_grown s [] a b mode = ap (λ (gs : List (Event A)). record s { events = gs }) (sym (append-nil s.events))
+  text_grown s (x ∷ cs) a b mode =
+      let e : Event A = entry (character x a b mode) in
+      text_grown (grown s (e ∷ [])) cs a b mode ∙ grown_more s (e ∷ []) (map entry (text_entries cs a b mode))
+
+  -- ---- courses
+
+  pub course_grown : (s : Block A) (es : List (Event A)) → course_of columns (grown s es) ≡ went columns s.width (course_of columns s) es
+  course_grown s es = λ i. record (course_of columns s) {
+    run = run_of-append s.events es i;
+    progress = fold-append (step columns s.width) at_start s.events es i;
+  }
+
+  pub course_ended : (s : Block A) → course_of columns (flushed columns s) ≡ run_ended columns s.width (course_of columns s)
+  course_ended s =
+      let left : List (Item A) = waiting columns s.width (progress_of columns s) in
+      let is : left ≡ marker_items (names_in_items left) = marker_items_alone left (waiting_none columns s.width (progress_of columns s)) in
+      (λ i. record (run_ended columns s.width (course_of columns s)) {
+        run = run_of_markers (names_in_items left) i;
+        progress = (markers_lead columns s.width (names_in_items left) ∙ ap (λ (js : List (Item A)). record at_start { word = js }) (sym is)) i;
+      })
+
+  -- a line is handed out
+  pub course_handed : (s : Block A) → course_of columns (line_handed_out s) ≡ line_handed (course_of columns s)
+  course_handed s = sym (if_same (course_of columns) (is_some_list s.ended) _ _ _ _ refl refl)
+
+  -- the word's markers are taken out
+  loose_count : (word : List (Item A)) → has_character word ≡ false → length (loose_names word) ≡ length word
+  loose_count word none =
+      let names : loose_names word ≡ names_in_items word = rw none refl in
+      ap length names ∙ sym (ap length (marker_items_alone word none) ∙ length-map (names_in_items word) marker)
+
+  pub course_taken : (s : Block A) → has_character (progress_of columns s).word ≡ false → course_of columns (without_loose columns s) ≡ word_taken (course_of columns s)
+  course_taken s none =
+      let word : List (Item A) = (progress_of columns s).word in
+      (λ i. course_of columns (record s { events = without_markers (loose_count word none i) s.events }))
+      ∙ (λ i. record (course_of columns s) {
+        run = run_without (length word) s.events i;
+        progress = taken_events columns s.width s.events [] word refl none i;
+      })
+
+  pub none_taken : (s : Block A) → has_character (progress_of columns s).word ≡ true → without_loose columns s ≡ s
+  none_taken s some =
+      let none : loose columns s ≡ [] = rw some refl in
+      ap (λ (names : List (List ℕ)). record s { events = without_markers (length names) s.events }) none
+      ∙ ap (λ (es : List (Event A)). record s { events = es }) (without_no_event s.events)
+
+  -- ---- what is allowed
+
+  fit_all : (width : ℕ) (ls : List (List (Item A))) → Each (FitsBlock columns width false) ls → lines_fit columns width ls ≡ true
+  fit_all width [] h = refl
+  fit_all width (l ∷ ls) h = elim h.0 [
+    | inl fits ↦ let test = le-leb _ width fits in rw test (fit_all width ls h.1)
+    | inr never ↦ absurd (let t : false ≡ true = never.0 in cc)
+  ]
+
+  pub fit_allows : (width : ℕ) (may : Bool) (ls : List (List (Item A))) → Each (FitsBlock columns width may) ls → may || lines_fit columns width ls ≡ true
+  fit_allows width true ls h = refl
+  fit_allows width false ls h = fit_all width ls h
+
+  pub not_allowed : (s : Block A) (ls : List (List (Item A))) → s.may_overflow ≡ false → lines_fit columns s.width ls ≡ false → allows columns s ls ≡ false
+  not_allowed s ls never h = ap (λ may. may || lines_fit columns s.width ls) never ∙ h
+
+  pub if_allowed : (b : Bool) (t : Block A) → b ≡ true → (if b then done t else refused E.TooNarrow) ≡ done t
+  if_allowed b t e = rw e refl
+
+  pub if_not_allowed : (b : Bool) (t : Block A) → b ≡ false → (if b then done t else refused E.TooNarrow) ≡ refused E.TooNarrow
+  if_not_allowed b t e = rw e refl
+
+  -- ---- a text
+
+  entries_append : (cs ds : List ℕ) (a b : A) (mode : WhiteSpace) → map entry (text_entries (cs ++ ds) a b mode) ≡ map entry (text_entries cs a b mode) ++ map entry (text_entries ds a b mode)
+  entries_append [] ds a b mode = refl
+  entries_append (x ∷ cs) ds a b mode = ap (λ (es : List (Event A)). entry (character x a b mode) ∷ es) (entries_append cs ds a b mode)
+
+  front_and_rest : (s : Block A) (es : List (Event A)) (cs ds : List ℕ) (a b : A) (mode : WhiteSpace) →
+      grown (grown s (es ++ map entry (text_entries cs a b mode))) (map entry (text_entries ds a b mode)) ≡ grown s (es ++ map entry (text_entries (cs ++ ds) a b mode))
+  front_and_rest s es cs ds a b mode =
+      grown_more s (es ++ map entry (text_entries cs a b mode)) (map entry (text_entries ds a b mode))
+      ∙ ap (grown s) (append_assoc es (map entry (text_entries cs a b mode)) (map entry (text_entries ds a b mode)) ∙ ap (λ (fs : List (Event A)). es ++ fs) (sym (entries_append cs ds a b mode)))
+
+  pub grown_on : (r s t : Block A) (es : List (Event A)) (text rest more : List ℕ) (a b : A) (mode : WhiteSpace) → HasGrown r es text rest a b mode s → HasGrown s [] rest more a b mode t → HasGrown r es text more a b mode t
+  grown_on r s t es text rest more a b mode h k = record {
+    front = h.front ++ k.front;
+    split = h.split ∙ ap (λ cs. h.front ++ cs) k.split ∙ sym (append_assoc h.front k.front (chars more));
+    is = k.is ∙ ap (λ (q : Block A). grown q (map entry (text_entries k.front a b mode))) h.is ∙ front_and_rest r es h.front k.front a b mode;
+  }
+
+  -- with what is left it is as with the whole
+  pub grown_whole : (r s : Block A) (es : List (Event A)) (text rest : List ℕ) (a b : A) (mode : WhiteSpace) → HasGrown r es text rest a b mode s →
+      grown s (map entry (text_entries (chars rest) a b mode)) ≡ grown r (es ++ map entry (text_entries (chars text) a b mode))
+  grown_whole r s es text rest a b mode h =
+      ap (λ (q : Block A). grown q (map entry (text_entries (chars rest) a b mode))) h.is
+      ∙ front_and_rest r es h.front (chars rest) a b mode
+      ∙ ap (λ cs. grown r (es ++ map entry (text_entries cs a b mode))) (sym h.split)
+
+  pub grown_all : (r s : Block A) (es : List (Event A)) (text rest : List ℕ) (a b : A) (mode : WhiteSpace) → (length rest == 0) ≡ true → HasGrown r es text rest a b mode s → s ≡ grown r (es ++ map entry (text_entries (chars text) a b mode))
+  grown_all r s es text rest a b mode e h =
+      ap (λ (fs : List (Event A)). record s { events = fs }) (sym (append-nil s.events))
+      ∙ ap (λ cs. grown s (map entry (text_entries cs a b mode))) (sym (no_chars rest e))
+      ∙ grown_whole r s es text rest a b mode h
+
+  module _ (r s : Block A) (text rest : List ℕ) (a b : A) (mode : WhiteSpace) (h : HasGrown r (call ∷ []) text rest a b mode s) (live : r.failure ≡ None) where
+    -- the whole text has come
+    pub text_done : (length rest == 0) ≡ true → allows columns s (lines columns s) ≡ true → settled columns (grown r (text_events (chars text) a b mode)) ≡ done s
+    text_done e test = ap (settled columns) (sym (grown_all r s (call ∷ []) text rest a b mode e h)) ∙ if_allowed (allows columns s (lines columns s)) s test
+
+    -- what is left of it is refused
+    pub text_refused : settled columns (grown s (map entry (text_entries (chars rest) a b mode))) ≡ refused E.TooNarrow → settled columns (grown r (text_events (chars text) a b mode)) ≡ refused E.TooNarrow
+    text_refused e = ap (settled columns) (sym (grown_whole r s (call ∷ []) text rest a b mode h)) ∙ e
+
+  -- a word of the text is too wide
+  pub refused_text : (s : Block A) (es : List (Entry A)) → s.may_overflow ≡ false → lines_fit columns s.width (fold (enter columns s.width) (progress_of columns s) es).laid.done ≡ false → settled columns (grown s (map entry es)) ≡ refused E.TooNarrow
+  refused_text s es never h =
+      let t : Block A = grown s (map entry es) in
+      if_not_allowed (allows columns t (lines columns t)) t (not_allowed t (lines columns t) never
+      (ap (λ (p : Progress A). lines_fit columns s.width p.laid.done) (fold-append (step columns s.width) at_start s.events (map entry es) ∙ entries_entered columns s.width es (progress_of columns s)) ∙ h))
+
+  -- ---- a line
+
+  pub hands_first : (eq : A → A → Bool) (s : Block A) (ls : List (List (Item A))) (line : List (Element A)) → (ls ≡ [] → ⊥) →
+      ((text : List (Item A)) (rest : List (List (Item A))) → ls ≡ text ∷ rest → ShowsText columns eq s.padding s.width line text) → HandsOutFirst columns eq s ls (Some line)
+  hands_first eq s [] line some shows = absurd (some refl)
+  hands_first eq s (text ∷ rest) line some shows = shows text rest refl
+
+  pub no_line : (s t : Block A) → left columns s ≡ [] → t ≡ s → done (if is_some_list (left columns s) then line_handed_out s else s) ≡ done t
+  no_line s t none is = ap (λ (ls : List (List (Item A))). done (if is_some_list ls then line_handed_out s else s)) none ∙ ap done (sym is)
+
+  pub one_line : (s t : Block A) (text : List (Item A)) (rest : List (List (Item A))) → left columns s ≡ text ∷ rest → t ≡ line_handed_out s → done (if is_some_list (left columns s) then line_handed_out s else s) ≡ done t
+  one_line s t text rest some is = ap (λ (ls : List (List (Item A))). done (if is_some_list ls then line_handed_out s else s)) some ∙ ap done (sym is)
+
+pub none_first : {X : Type 0} (xs : List X) → ((x : X) (rest : List X) → xs ≡ x ∷ rest → ⊥) → xs ≡ []
+none_first [] h = refl
+none_first (x ∷ xs) h = absurd (h x xs refl)
+
+module _ {A : Type 0} (s : Block A) where
+  pub handed_failure : (line_handed_out s).failure ≡ s.failure
+  handed_failure = cond_both (is_some_list s.ended) _ _ (λ (t : Block A). t.failure ≡ s.failure) (λ _. refl) (λ _. refl)
+
+  pub handed_settings : settings_of (line_handed_out s) ≡ settings_of s
+  handed_settings = cond_both (is_some_list s.ended) _ _ (λ (t : Block A). settings_of t ≡ settings_of s) (λ _. refl) (λ _. refl)
