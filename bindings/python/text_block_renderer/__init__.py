@@ -23,6 +23,7 @@ from .lines import Annotation, FragmentStart, Kind, TaggedLine, TaggedString
 from .options import CellAlign, Colour, Decorator, ImageRenderMode, WhiteSpace
 from .renderer import Renderer
 from .script import render_script
+from .widths import text_width
 
 __all__ = [
     "Annotation",
@@ -54,4 +55,5 @@ __all__ = [
     "TooNarrowError",
     "WhiteSpace",
     "render_script",
+    "text_width",
 ]
