@@ -69,9 +69,9 @@ BLOCKS = frozenset(tag for tag, kind in KINDS.items() if issubclass(kind, (Divis
 ENDED_BY: dict[str, tuple[frozenset[str], frozenset[str]]] = {
     **dict.fromkeys(BLOCKS, (frozenset({"p"}), TABLE_PARTS | {"li", "blockquote"})),
     **dict.fromkeys(["dt", "dd"], (frozenset({"dt", "dd"}), frozenset({"dl"}))),
-    **dict.fromkeys(SECTIONS, (SECTIONS | CELLS | {"tr"}, frozenset({"table"}))),
+    **dict.fromkeys(SECTIONS, (SECTIONS | {"tr", "caption"}, frozenset({"table"}))),
     **dict.fromkeys(CELLS, (CELLS, frozenset({"table"}))),
-    "tr": (CELLS | {"tr"}, frozenset({"table"})),
+    "tr": (frozenset({"tr", "caption"}), frozenset({"table"})),
     "li": (frozenset({"li"}), frozenset({"ul", "ol"})),
 }
 # What is deeper than this stands beside what it should stand in, so that no mail is too deep to be drawn.

@@ -83,10 +83,13 @@ def two_texts(writing: str) -> tuple[str, str]:
 
 
 def number(digits: str, least: int = 0, most: int = MOST) -> int:
-    """A number in decimal digits alone, within these bounds."""
-    if not (digits.isascii() and digits.isdecimal() and least <= int(digits) <= most):
+    """A number in decimal digits alone, within these bounds. Python reads no number of thousands of digits."""
+    significant = digits.lstrip("0")
+    if not (digits.isascii() and digits.isdecimal() and len(significant) <= len(str(MOST))):
         raise NotACommand
-    return int(digits)
+    if not least <= int(significant or "0") <= most:
+        raise NotACommand
+    return int(significant or "0")
 
 
 def size(digits: str) -> int:

@@ -15,6 +15,7 @@ from text_block_renderer import (
     Renderer,
     TaggedLine,
     WhiteSpace,
+    text_width,
 )
 
 Calls = Callable[[Renderer], object]
@@ -40,6 +41,10 @@ class Text(unittest.TestCase):
     def test_columns_are_counted(self) -> None:
         text = rendered(lambda r: r.add_inline_text("漢字漢字 cafe\u0301!"), 5)
         self.assertEqual(text, "漢字\n漢字\ncafe\u0301!\n")
+
+    def test_a_text_has_a_width(self) -> None:
+        widths = {"": 0, "a b": 3, "  ": 2, " a ": 3, "漢字": 4, "cafe\u0301": 4, "a\tb\n\u200bc": 3}
+        self.assertEqual({text: text_width(text) for text in widths}, widths)
 
     def test_a_nul_is_a_character_like_others(self) -> None:
         def calls(r: Renderer) -> None:

@@ -9,6 +9,7 @@ mod options;
 mod renderer;
 mod script;
 mod sys;
+mod width;
 
 pub use error::Error;
 pub use line::{Colour, RichAnnotation, TaggedLine, TaggedLineElement, TaggedString};
@@ -16,3 +17,4 @@ pub use lines::Lines;
 pub use options::{Cell, CellAlign, ImageRenderMode, Options, WhiteSpace};
 pub use renderer::Renderer;
 pub use script::{render_script, ScriptError};
+pub use width::text_width;

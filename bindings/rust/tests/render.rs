@@ -1,8 +1,8 @@
 //! What comes out of the renderer. The texts are those of docs/SCRIPT.md, where the same calls are lines of a script.
 
 use text_block_renderer::{
-    Cell, CellAlign, Colour, Error, ImageRenderMode, Options, Renderer, RichAnnotation, TaggedLine, TaggedLineElement,
-    WhiteSpace,
+    text_width, Cell, CellAlign, Colour, Error, ImageRenderMode, Options, Renderer, RichAnnotation, TaggedLine,
+    TaggedLineElement, WhiteSpace,
 };
 
 type Tested = Result<(), Error>;
@@ -32,6 +32,14 @@ fn words_go_on_the_line_or_are_cut() -> Tested {
 fn texts_come_with_all_their_characters() -> Tested {
     let text = rendered(Options::plain(5), |r| r.add_inline_text("漢字漢字 cafe\u{301}!"))?;
     assert_eq!(text, "漢字\n漢字\ncafe\u{301}!\n");
+    Ok(())
+}
+
+#[test]
+fn a_text_has_a_width() -> Tested {
+    for (text, width) in [("", 0), ("a b", 3), ("  ", 2), (" a ", 3), ("漢字", 4), ("a\tb\n\u{200b}c", 3)] {
+        assert_eq!(text_width(text)?, width, "{text:?}");
+    }
     Ok(())
 }
 
