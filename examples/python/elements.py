@@ -37,10 +37,13 @@ class Element:
         self.tag = tag
         self.attributes = attributes
         self.children: list[Element | Text] = []
+        self._is_blank: bool | None = None
 
     def is_blank(self) -> bool:
-        """Whether nothing is to be seen of it."""
-        return all(child.is_blank() for child in self.children)
+        """Whether nothing is to be seen of it, once its children are there."""
+        if self._is_blank is None:
+            self._is_blank = all(child.is_blank() for child in self.children)
+        return self._is_blank
 
     def draw(self, page: Renderer) -> None:
         """Draws it on a page."""
