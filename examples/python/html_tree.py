@@ -74,7 +74,8 @@ ENDED_BY: dict[str, tuple[frozenset[str], frozenset[str]]] = {
     "tr": (frozenset({"tr", "caption"}), frozenset({"table"})),
     "li": (frozenset({"li"}), frozenset({"ul", "ol"})),
 }
-# What is deeper than this stands beside what it should stand in, so that no mail is too deep to be drawn.
+# What is deeper than this stands beside what it should stand in, so that no mail is too deep to be drawn. A table that is
+# less deep has its cells.
 DEEPEST = 200
 
 
@@ -139,8 +140,9 @@ class TreeBuilder(HTMLParser):
         return element
 
     def _add(self, element: Element) -> None:
-        self._open[-1].children.append(element)
-        if element.tag not in VOID and len(self._open) < DEEPEST:
+        parent = self._open[-1]
+        parent.children.append(element)
+        if element.tag not in VOID and (len(self._open) < DEEPEST or parent.tag in ABOVE_CELLS):
             self._open.append(element)
 
     def _end(self, tags: frozenset[str], bounds: frozenset[str]) -> None:
