@@ -1,6 +1,7 @@
 """The elements of a mail: each kind draws what it shows on a page, and tells a ruler how wide that is.
 
-A page is a renderer. A block draws `end_block` before and after its content: the text that comes next begins a block.
+A page is a renderer. A block calls `end_block` before its content and after it, so that the text that comes next begins a
+block, however many of them begin or end there.
 """
 
 from collections.abc import Iterator
@@ -80,6 +81,8 @@ class Unseen(Element):
 
 
 class Emphasis(Element):
+    """Emphasised text."""
+
     def draw(self, page: Renderer) -> None:
         page.start_emphasis()
         super().draw(page)
@@ -87,6 +90,8 @@ class Emphasis(Element):
 
 
 class Strong(Element):
+    """Strong text."""
+
     def draw(self, page: Renderer) -> None:
         page.start_strong()
         super().draw(page)
@@ -94,6 +99,8 @@ class Strong(Element):
 
 
 class Strikeout(Element):
+    """Text that doesn't count any more."""
+
     def draw(self, page: Renderer) -> None:
         page.start_strikeout()
         super().draw(page)
@@ -101,6 +108,8 @@ class Strikeout(Element):
 
 
 class Code(Element):
+    """Code in a line of text."""
+
     def draw(self, page: Renderer) -> None:
         page.start_code()
         super().draw(page)
@@ -111,6 +120,7 @@ class Superscript(Element):
     """A superscript. One of digits alone is written by the characters for them."""
 
     def digits(self) -> str | None:
+        """Its digits as such characters, where it has nothing else."""
         match self.children:
             case [Text(text=text)] if text.isascii() and text.isdigit():
                 return text.translate(SUPERSCRIPTS)
@@ -160,6 +170,7 @@ class Image(Element):
 
     @property
     def title(self) -> str:
+        """The text in its place."""
         return (self.attributes.get("alt") or self.attributes.get("title") or "").strip()
 
     def is_blank(self) -> bool:
@@ -214,10 +225,9 @@ class Block(Division):
     """A paragraph, or another block with an empty line before it and after it."""
 
     def draw(self, page: Renderer) -> None:
-        if self.is_blank():
-            return
         page.end_block()
-        super().draw(page)
+        if not self.is_blank():
+            super().draw(page)
         page.end_block()
 
 
@@ -257,6 +267,7 @@ class Prefixed(Element):
     """A block, each line of which comes behind a prefix."""
 
     def prefix(self, page: Renderer) -> str:
+        """The prefix that the page's decorator has for it."""
         raise NotImplementedError
 
     def draw(self, page: Renderer) -> None:
@@ -281,6 +292,8 @@ class Heading(Prefixed):
 
 
 class Quote(Prefixed):
+    """A quoted block."""
+
     def prefix(self, page: Renderer) -> str:
         return page.quote_prefix()
 
@@ -288,7 +301,7 @@ class Quote(Prefixed):
 # ---- lists
 
 
-class Item(Element):
+class Item(Division):
     """An item of a list, which draws its mark."""
 
 
@@ -311,9 +324,9 @@ class List(Element):
                 yield marks.get(child, "").ljust(columns), child
 
     def draw(self, page: Renderer) -> None:
-        if self.is_nested:
-            page.new_line()
-        else:
+        if self.is_blank():
+            return
+        if not self.is_nested:
             page.start_block()
         for mark, item in self.marked(page):
             with inside(page, mark, " " * len(mark)):
@@ -328,6 +341,8 @@ class List(Element):
 
 
 class OrderedList(List):
+    """A list whose items are numbered."""
+
     def mark(self, page: Renderer, number: int) -> str:
         return page.ordered_item_prefix(self.number("start", 1, -(10**6), 10**6) + number)
 

@@ -53,20 +53,20 @@ class Ruler:
         """Ends the open line, if there is one."""
         words = [self._line.expandtabs()] if self._is_preformatted else BREAKS.split(self._line.strip())
         self._line = ""
-        self.add_lines(Size(text_width(" ".join(words)), max(map(text_width, words))))
+        self.add_lines(Size(text_width(" ".join(words)), min(max(map(text_width, words)), LONGEST_WORD)))
 
     def add_lines(self, size: Size) -> None:
         """Adds lines of this size below the others."""
-        self.size = self.size.widest(Size(size.most, min(size.least, LONGEST_WORD)))
+        self.size = self.size.widest(size)
 
     @contextmanager
     def preformatted(self) -> Iterator[None]:
         """What is added keeps its white space, on lines of its own."""
         self.end_line()
-        self._is_preformatted = True
+        outside, self._is_preformatted = self._is_preformatted, True
         yield
         self.end_line()
-        self._is_preformatted = False
+        self._is_preformatted = outside
 
     @contextmanager
     def behind(self, prefix: str) -> Iterator[None]:

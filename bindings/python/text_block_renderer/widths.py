@@ -13,6 +13,8 @@ _LAST = "."
 
 def text_width(text: str) -> int:
     """The columns that the characters of a text take; control characters, as a tab or a newline, take none."""
+    if text.isascii() and text.isprintable():
+        return len(text)
     with Renderer(_WIDEST, Decorator.TRIVIAL) as renderer:
         renderer.push_ws(WhiteSpace.PRE)
         renderer.add_inline_text(text.translate(_LAID_OUT) + _LAST)
