@@ -15,6 +15,19 @@ use tbr_lines::{CharWidth, Error};
 use tbr_script::TextPair;
 use text_block_renderer::{Renderer, SubRenderer};
 
+/// What a decorator has a prefix for.
+#[derive(Clone, Copy, Debug, PartialEq, Eq)]
+pub enum DecoratorPrefix {
+    /// Each line of a header of a level.
+    Header(usize),
+    /// Each line of a quoted block.
+    Quote,
+    /// An item of a list.
+    Item,
+    /// The item of a list that has this number.
+    OrderedItem(i64),
+}
+
 /// How many prefixes come behind the first.
 const OTHERS: usize = usize::MAX - 1;
 

@@ -1,0 +1,46 @@
+//! Annotations under any decorator.
+ghost use Rattle.std.specs.Prelude.{◌≡◌, true, refl, IfOk, map};
+ghost use Rattle.tbr_decor.specs.RichLaws.{copies_equal};
+ghost use Rattle.tbr_decor.specs.declared.annotation.RichAnnotation.TheVariants.{Default};
+
+use std::alloc::{AllocError, Global};
+use tbr_decor::RichAnnotation;
+
+/// What text of some decorator is annotated with, and what C sees of it.
+pub trait Annotation: Eq + Clone + Drop {
+    // What C sees of one.
+    ghost shown: { Self → RichAnnotation };
+
+    /// The same annotations as C sees them.
+    fn show(alloc: Global, annotations: Vec<Self>) -> Result<Vec<RichAnnotation>, AllocError>
+        ensures { IfOk result (λ shown. shown.items ≡ map Self.shown annotations.items) };
+
+    ghost copies_equal: { (a b : Self) → Self.is_clone a b → Self.eq a b ≡ true };
+}
+
+impl Annotation for () {
+    ghost shown = { λ _. Default };
+
+    ghost copies_equal = { λ _ _ _. refl };
+
+    fn show(alloc: Global, annotations: Vec<()>) -> Result<Vec<RichAnnotation>, AllocError> {
+        let mut shown = Vec::with_capacity(alloc, annotations.len())?;
+        for () in annotations {
+            shown.push(RichAnnotation::Default)?;
+        }
+        Ok(shown)
+    }
+}
+
+impl Annotation for RichAnnotation {
+    ghost shown = { λ a. a };
+
+    ghost copies_equal = { copies_equal };
+
+    fn show(
+        _alloc: Global,
+        annotations: Vec<RichAnnotation>,
+    ) -> Result<Vec<RichAnnotation>, AllocError> {
+        Ok(annotations)
+    }
+}
