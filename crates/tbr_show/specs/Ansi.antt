@@ -2,7 +2,7 @@
 use Rattle.std.specs.Prelude.{ℕ, List, [], ◌∷◌, ◌++◌, flat_map, codes, string_bytes, Vec}
 use Rattle.std.specs.declared.alloc.Global.{Global}
 use Rattle.tbr_model.specs.Codes.{newline_character}
-use Rattle.tbr_lines.specs.Elements.{Element, piece, marker_element}
+use Rattle.tbr_lines.specs.Elements.{Element, piece, marker_element, characters}
 use Rattle.tbr_decor.specs.declared.annotation.RichAnnotation.{RichAnnotation}
 use Rattle.tbr_decor.specs.declared.annotation.RichAnnotation.TheVariants as rich
 use Rattle.tbr_show.specs.Written.{printable, colour_parts}
@@ -54,3 +54,7 @@ element (marker_element name) = []
 -- a line with its newline
 abbrev pub line : List (Element (Vec RichAnnotation Global)) → List ℕ
 line es = flat_map element es ++ newline_character ∷ []
+
+-- the characters of a line that are no control characters, with a newline
+abbrev pub bare_line : {A : Type 0} → List (Element A) → List ℕ
+bare_line es = printable (characters es) ++ newline_character ∷ []
