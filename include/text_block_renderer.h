@@ -1,32 +1,35 @@
 /*
- * A text block renderer: calls go in, as text, blocks, links, images and rows of cells, and lines of a width in columns
- * come out, as text or as pieces under annotations. C99 and later, and C++.
+ * A text block renderer: calls go in, as text, blocks, links, images and rows of cells, and lines of a width in
+ * columns come out, as text or as pieces under annotations. C99 and later, and C++.
  *
- * UNITS. Widths are in columns: most characters take one, those of East Asian scripts mostly two, combining marks none.
- * Lengths, rooms and places in a text are in bytes. Texts are UTF-8; those that come out have no NUL behind them.
+ * UNITS. Widths are in columns: most characters take one, those of East Asian scripts mostly two, combining marks
+ * none. Lengths, rooms and places in a text are in bytes. Texts are UTF-8; those that come out have no NUL behind
+ * them.
  *
- * TEXTS THAT GO IN. A function whose name ends in _n takes bytes and their number, where the pointer may be NULL if the
- * number is 0. The one without _n takes a NUL-terminated text, and NULL as the empty one. All are copied: a caller may
- * free them after the call.
+ * TEXTS THAT GO IN. A function whose name ends in _n takes bytes and their number, where the pointer may be NULL if
+ * the number is 0. The one without _n takes a NUL-terminated text, and NULL as the empty one. All are copied: a
+ * caller may free them after the call.
  *
- * TEXTS THAT COME OUT go into a buffer of the caller's, of `room` bytes, which may be NULL if the room is 0. `*length` is
- * the number of bytes of the whole text. Where the room is smaller, the answer is TBR_BUFFER_TOO_SMALL, nothing is
- * written, and a second call with more room has all of it. A buffer may not overlap what another argument points to.
+ * TEXTS THAT COME OUT go into a buffer of the caller's, of `room` bytes, which may be NULL if the room is 0.
+ * `*length` is the number of bytes of the whole text. Where the room is smaller, the answer is TBR_BUFFER_TOO_SMALL,
+ * nothing is written, and a second call with more room has all of it. A buffer may not overlap what another argument
+ * points to.
  *
- * STATUSES. Each call answers TBR_OK or says why it did nothing. TBR_OUT_OF_MEMORY and TBR_TOO_NARROW are kept: what the
- * renderer was filled with is lost, and each later call but tbr_free answers the same. All other refusals leave the
- * renderer as it was. Calls that keep none say so. What an out pointer points to is written only where a call answers
- * TBR_OK, but for `*length` at TBR_BUFFER_TOO_SMALL, and for tbr_new. No call aborts, prints, or reads the environment.
+ * STATUSES. Each call answers TBR_OK or says why it did nothing. TBR_OUT_OF_MEMORY and TBR_TOO_NARROW are kept: what
+ * the renderer was filled with is lost, and each later call but tbr_free answers the same. All other refusals leave
+ * the renderer as it was. Calls that keep none say so. What an out pointer points to is written only where a call
+ * answers TBR_OK, but for `*length` at TBR_BUFFER_TOO_SMALL, and for tbr_new. No call aborts, prints, or reads the
+ * environment.
  *
- * OWNERSHIP. tbr_new makes a renderer, which belongs to the caller until tbr_free. Its memory is taken by the program's
- * malloc and realloc, and given back by free. The pointer stays the same all the while.
+ * OWNERSHIP. tbr_new makes a renderer, which belongs to the caller until tbr_free. Its memory is taken by the
+ * program's malloc and realloc, and given back by free. The pointer stays the same all the while.
  *
  * THREADS. A renderer is used by one call at a time, on the thread that made it. Any number of threads may each have
- * their own; the library has no state beside them. No call may come from a signal handler, nor in the forked child of a
- * process with threads.
+ * their own; the library has no state beside them. No call may come from a signal handler, nor in the forked child
+ * of a process with threads.
  *
- * WHAT C CAN'T STOP, and the library can't see: a call with a renderer after tbr_free, a second tbr_free, a pointer that
- * tbr_new didn't give, bytes fewer than their number says, and an out pointer that is NULL.
+ * WHAT C CAN'T STOP, and the library can't see: a call with a renderer after tbr_free, a second tbr_free, a pointer
+ * that tbr_new didn't give, bytes fewer than their number says, and an out pointer that is NULL.
  */
 #ifndef TEXT_BLOCK_RENDERER_H
 #define TEXT_BLOCK_RENDERER_H
@@ -338,10 +341,11 @@ static inline bool tbr_is_missing(const char *text, size_t length) {
 /* ---- a script as a whole ---- */
 
 /*
- * Renders a script, whose language docs/SCRIPT.md teaches. As much of its text is written as `out` has room for, and the
- * answer's length is that of the whole text, as of snprintf: there is more where it is greater than the room.
+ * Renders a script, whose language docs/SCRIPT.md teaches. As much of its text is written as `out` has room for, and
+ * the answer's length is that of the whole text, as of snprintf: there is more where it is greater than the room.
  *
- * Any bytes may come as a script. At a status but TBR_OK the line at fault is told where one is, and nothing is written.
+ * Any bytes may come as a script. At a status but TBR_OK the line at fault is told where one is, and nothing is
+ * written.
  */
 static inline tbr_answer tbr_render(const char *script, size_t length, char *out, size_t room) {
     uint8_t spare = 0;
@@ -355,7 +359,8 @@ static inline tbr_answer tbr_render(const char *script, size_t length, char *out
 /* ---- making a renderer ---- */
 
 /* Options of a plain renderer of so many columns: lines as wide as it, neither padded nor wider; no footnotes, whose
-   targets are cut where there are any; strokes on struck out text; borders drawn; nothing for an image without a title. */
+   targets are cut where there are any; strokes on struck out text; borders drawn; nothing for an image without a
+   title. */
 static inline tbr_options tbr_options_default(size_t width) {
     tbr_options options;
     options.width = width;
@@ -478,8 +483,9 @@ static inline tbr_status tbr_add_marker(tbr_renderer *renderer, const char *name
 /* ---- filling it: decorated text ---- */
 
 /*
- * A stretch is begun and ended in the same level. An end asks only that its own beginning came more often, and answers
- * TBR_NOTHING_TO_END else, so that stretches needn't lie within one another. What the decorator writes for one is text.
+ * A stretch is begun and ended in the same level. An end asks only that its own beginning came more often, and
+ * answers TBR_NOTHING_TO_END else, so that stretches needn't lie within one another. What the decorator writes for
+ * one is text.
  */
 
 /* Begins a link to a target, which may be empty. TBR_NOT_UTF8 where it isn't UTF-8. */
@@ -589,9 +595,9 @@ static inline tbr_status tbr_add_image(tbr_renderer *renderer, const char *sourc
 /* ---- filling it: levels ---- */
 
 /*
- * A level is a renderer inside another one, with the same options and annotations, in which all else begins anew. Levels
- * lie within one another to any depth. A level takes columns of its own: leave room for the prefixes behind which its
- * lines are appended.
+ * A level is a renderer inside another one, with the same options and annotations, in which all else begins anew.
+ * Levels lie within one another to any depth. A level takes columns of its own: leave room for the prefixes behind
+ * which its lines are appended.
  */
 
 /* Opens a level of so many columns, whose lines tbr_append_sub takes. TBR_BAD_WIDTH at 0. */
@@ -630,10 +636,10 @@ static inline tbr_status tbr_end_cell(tbr_renderer *renderer) {
     return renderer ? (tbr_status)tbr1_end_cell(tbr_handle_of(renderer), &renderer) : TBR_NO_RENDERER;
 }
 
-/* Adds the cells that wait as a row, side by side, joined to a border that is the last line, with a border below. What a
-   cell of more rows has below this one overhangs into the next. With `collapse` borders at the tops and bottoms of
-   cells become one with those of the row. TBR_ROW_DOES_NOT_FIT where cells are in the way of what overhangs; they go on
-   waiting then. */
+/* Adds the cells that wait as a row, side by side, joined to a border that is the last line, with a border below.
+   What a cell of more rows has below this one overhangs into the next. With `collapse` borders at the tops and
+   bottoms of cells become one with those of the row. TBR_ROW_DOES_NOT_FIT where cells are in the way of what
+   overhangs; they go on waiting then. */
 static inline tbr_status tbr_add_row(tbr_renderer *renderer, bool collapse) {
     return renderer ? (tbr_status)tbr1_add_row(tbr_handle_of(renderer), collapse, &renderer) : TBR_NO_RENDERER;
 }
@@ -643,15 +649,16 @@ static inline tbr_status tbr_add_vertical_row(tbr_renderer *renderer) {
     return renderer ? (tbr_status)tbr1_add_vertical_row(tbr_handle_of(renderer), &renderer) : TBR_NO_RENDERER;
 }
 
-/* Ends the last line, and with footnotes adds the targets of all links. Then lines can be taken, and the renderer can't
-   be filled any more. TBR_STILL_OPEN where a level is open or cells wait. */
+/* Ends the last line, and with footnotes adds the targets of all links. Then lines can be taken, and the renderer
+   can't be filled any more. TBR_STILL_OPEN where a level is open or cells wait. */
 static inline tbr_status tbr_finish(tbr_renderer *renderer) {
     return renderer ? (tbr_status)tbr1_finish(tbr_handle_of(renderer), &renderer) : TBR_NO_RENDERER;
 }
 
 /* ---- questions to a renderer that is being filled ---- */
 
-/* Those but tbr_refusal answer TBR_FINISHED after tbr_finish. They change nothing, and a refusal of theirs isn't kept. */
+/* Those but tbr_refusal answer TBR_FINISHED after tbr_finish. They change nothing, and a refusal of theirs isn't
+   kept. */
 
 /* The refusal that is kept, or TBR_OK, also after tbr_finish. */
 static inline tbr_status tbr_refusal(tbr_renderer *renderer) {
@@ -663,8 +670,8 @@ static inline tbr_status tbr_is_empty(tbr_renderer *renderer, bool *is_empty) {
     return renderer ? (tbr_status)tbr1_is_empty(tbr_handle_of(renderer), is_empty, &renderer) : TBR_NO_RENDERER;
 }
 
-/* Whether lines of cells that span more rows than came yet still wait in the innermost level. Those that wait when it is
-   closed or finished are lost. */
+/* Whether lines of cells that span more rows than came yet still wait in the innermost level. Those that wait when
+   it is closed or finished are lost. */
 static inline tbr_status tbr_has_overhang(tbr_renderer *renderer, bool *has_overhang) {
     return renderer ? (tbr_status)tbr1_has_overhang(tbr_handle_of(renderer), has_overhang, &renderer)
                     : TBR_NO_RENDERER;
@@ -675,8 +682,8 @@ static inline tbr_status tbr_width(tbr_renderer *renderer, size_t *columns) {
     return renderer ? (tbr_status)tbr1_width(tbr_handle_of(renderer), columns, &renderer) : TBR_NO_RENDERER;
 }
 
-/* The columns that the innermost level has left behind a prefix, but `least` at least. TBR_TOO_NARROW, which isn't kept,
-   where fewer than these are left and `overflow` isn't on. */
+/* The columns that the innermost level has left behind a prefix, but `least` at least. TBR_TOO_NARROW, which isn't
+   kept, where fewer than these are left and `overflow` isn't on. */
 static inline tbr_status tbr_width_minus(tbr_renderer *renderer, size_t prefix, size_t least, size_t *columns) {
     return renderer ? (tbr_status)tbr1_width_minus(tbr_handle_of(renderer), prefix, least, columns, &renderer)
                     : TBR_NO_RENDERER;
@@ -749,8 +756,8 @@ static inline tbr_status tbr_header_prefix(tbr_renderer *renderer, size_t level,
 
 /* All calls from here answer TBR_NOT_FINISHED before tbr_finish. */
 
-/* The text of all lines that tbr_next_line hasn't taken, each with a newline. It takes none. TBR_OUT_OF_MEMORY, which is
-   kept. */
+/* The text of all lines that tbr_next_line hasn't taken, each with a newline. It takes none. TBR_OUT_OF_MEMORY,
+   which is kept. */
 static inline tbr_status tbr_text(tbr_renderer *renderer, char *out, size_t room, size_t *length) {
     uint8_t spare = 0;
     if (tbr_is_missing(out, room)) {
@@ -760,8 +767,8 @@ static inline tbr_status tbr_text(tbr_renderer *renderer, char *out, size_t room
                     : TBR_NO_RENDERER;
 }
 
-/* Takes the next line, of which the calls below then speak, and frees the one before. TBR_NO_LINE where none is left, and
-   the line stays the one that was taken last. TBR_OUT_OF_MEMORY, which is kept. */
+/* Takes the next line, of which the calls below then speak, and frees the one before. TBR_NO_LINE where none is
+   left, and the line stays the one that was taken last. TBR_OUT_OF_MEMORY, which is kept. */
 static inline tbr_status tbr_next_line(tbr_renderer *renderer, tbr_line *line) {
     return renderer ? (tbr_status)tbr1_next_line(tbr_handle_of(renderer), line, &renderer) : TBR_NO_RENDERER;
 }
@@ -796,16 +803,16 @@ static inline tbr_status tbr_marker_name(tbr_renderer *renderer, size_t place, c
                     : TBR_NO_RENDERER;
 }
 
-/* An annotation of the piece at a place, by its own place from 0, that of the outermost stretch. TBR_NO_PIECE where there
-   is none. */
+/* An annotation of the piece at a place, by its own place from 0, that of the outermost stretch. TBR_NO_PIECE where
+   there is none. */
 static inline tbr_status tbr_get_annotation(tbr_renderer *renderer, size_t piece, size_t place,
     tbr_annotation *annotation) {
     return renderer ? (tbr_status)tbr1_get_annotation(tbr_handle_of(renderer), piece, place, annotation, &renderer)
                     : TBR_NO_RENDERER;
 }
 
-/* The target of a link, or the source of an image, by the place of its annotation. TBR_NO_PIECE where no annotation with
-   one is there. */
+/* The target of a link, or the source of an image, by the place of its annotation. TBR_NO_PIECE where no annotation
+   with one is there. */
 static inline tbr_status tbr_annotation_target(tbr_renderer *renderer, size_t piece, size_t place, char *out,
     size_t room, size_t *length) {
     uint8_t spare = 0;

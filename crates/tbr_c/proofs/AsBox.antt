@@ -6,9 +6,9 @@ use Rattle.std_alloc.proofs.BoxSteps.Form.{Bx}
 use Rattle.std_heap.specs.contracts.Global as Heap
 use Rattle.std_heap.specs.contracts.GlobalAllocator.TheImpl.{ghosts, dict}
 use Rattle.std_heap.proofs.Global.TheLaws as heap
-use Rattle.tbr_c.specs.contracts.Held as Home
-use Rattle.tbr_c.proofs.Held.TheLaws as home
-use Rattle.tbr_c.specs.contracts.Handle as Sealed
+use Rattle.tbr_c.specs.contracts.held.Held as Home
+use Rattle.tbr_c.proofs.held.Held.TheLaws as home
+use Rattle.tbr_c.specs.contracts.handle.Handle as Sealed
 
 abbrev pub E : Bx
 E = record { row = Home.the_row; laws = home.the_row_laws; al = record { row = Heap.the_row; laws = heap.the_row_laws; g = ghosts; d = dict; drops = impl [] tnil dnil } }

@@ -1,3 +1,2 @@
 pub mod Owned
 pub mod State
-pub mod Status

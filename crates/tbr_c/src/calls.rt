@@ -1,11 +1,11 @@
 //! Calls that fill a renderer.
 ghost use Rattle.tbr_commands.specs.Command.{command_of, IsSized};
 
-use crate::fault::{Fault, status};
 use crate::handle::{Handle, hand_back};
 use crate::held::Held;
 use crate::options::Options;
 use std::alloc::Global;
+use tbr_c_lines::{Fault, status};
 use tbr_commands::{Beginning, Command, Kind, Layout, NewCell, Request};
 use tbr_decor::Colour;
 use tbr_lines::{CellAlign, WhiteSpace};
@@ -60,32 +60,56 @@ fn add_text(held: &mut Held, text: &[u8]) -> Result<(), Fault> {
 
 #[unsafe(no_mangle)]
 pub extern "C" fn tbr1_start_block(renderer: Handle, back: &mut *mut u8) -> u32 {
-    run(renderer, &Command::Ask(Request::Layout(Layout::StartBlock)), back)
+    run(
+        renderer,
+        &Command::Ask(Request::Layout(Layout::StartBlock)),
+        back,
+    )
 }
 
 #[unsafe(no_mangle)]
 pub extern "C" fn tbr1_end_block(renderer: Handle, back: &mut *mut u8) -> u32 {
-    run(renderer, &Command::Ask(Request::Layout(Layout::EndBlock)), back)
+    run(
+        renderer,
+        &Command::Ask(Request::Layout(Layout::EndBlock)),
+        back,
+    )
 }
 
 #[unsafe(no_mangle)]
 pub extern "C" fn tbr1_start_table(renderer: Handle, back: &mut *mut u8) -> u32 {
-    run(renderer, &Command::Ask(Request::Layout(Layout::StartTable)), back)
+    run(
+        renderer,
+        &Command::Ask(Request::Layout(Layout::StartTable)),
+        back,
+    )
 }
 
 #[unsafe(no_mangle)]
 pub extern "C" fn tbr1_new_line(renderer: Handle, back: &mut *mut u8) -> u32 {
-    run(renderer, &Command::Ask(Request::Layout(Layout::NewLine)), back)
+    run(
+        renderer,
+        &Command::Ask(Request::Layout(Layout::NewLine)),
+        back,
+    )
 }
 
 #[unsafe(no_mangle)]
 pub extern "C" fn tbr1_new_line_hard(renderer: Handle, back: &mut *mut u8) -> u32 {
-    run(renderer, &Command::Ask(Request::Layout(Layout::HardNewLine)), back)
+    run(
+        renderer,
+        &Command::Ask(Request::Layout(Layout::HardNewLine)),
+        back,
+    )
 }
 
 #[unsafe(no_mangle)]
 pub extern "C" fn tbr1_add_empty_line(renderer: Handle, back: &mut *mut u8) -> u32 {
-    run(renderer, &Command::Ask(Request::Layout(Layout::EmptyLine)), back)
+    run(
+        renderer,
+        &Command::Ask(Request::Layout(Layout::EmptyLine)),
+        back,
+    )
 }
 
 #[unsafe(no_mangle)]
@@ -99,7 +123,11 @@ pub extern "C" fn tbr1_add_border_width(
     columns: usize,
     back: &mut *mut u8,
 ) -> u32 {
-    run(renderer, &Command::Ask(Request::Border(Some(columns))), back)
+    run(
+        renderer,
+        &Command::Ask(Request::Border(Some(columns))),
+        back,
+    )
 }
 
 #[unsafe(no_mangle)]
@@ -127,7 +155,11 @@ pub extern "C" fn tbr1_pop_white_space(renderer: Handle, back: &mut *mut u8) -> 
 
 #[unsafe(no_mangle)]
 pub extern "C" fn tbr1_start_preformatted(renderer: Handle, back: &mut *mut u8) -> u32 {
-    run(renderer, &Command::Ask(Request::Begin(Beginning::Preformat)), back)
+    run(
+        renderer,
+        &Command::Ask(Request::Begin(Beginning::Preformat)),
+        back,
+    )
 }
 
 #[unsafe(no_mangle)]
@@ -155,7 +187,11 @@ pub extern "C" fn tbr1_end_link(renderer: Handle, back: &mut *mut u8) -> u32 {
 
 #[unsafe(no_mangle)]
 pub extern "C" fn tbr1_start_emphasis(renderer: Handle, back: &mut *mut u8) -> u32 {
-    run(renderer, &Command::Ask(Request::Begin(Beginning::Emphasis)), back)
+    run(
+        renderer,
+        &Command::Ask(Request::Begin(Beginning::Emphasis)),
+        back,
+    )
 }
 
 #[unsafe(no_mangle)]
@@ -165,7 +201,11 @@ pub extern "C" fn tbr1_end_emphasis(renderer: Handle, back: &mut *mut u8) -> u32
 
 #[unsafe(no_mangle)]
 pub extern "C" fn tbr1_start_strong(renderer: Handle, back: &mut *mut u8) -> u32 {
-    run(renderer, &Command::Ask(Request::Begin(Beginning::Strong)), back)
+    run(
+        renderer,
+        &Command::Ask(Request::Begin(Beginning::Strong)),
+        back,
+    )
 }
 
 #[unsafe(no_mangle)]
@@ -175,7 +215,11 @@ pub extern "C" fn tbr1_end_strong(renderer: Handle, back: &mut *mut u8) -> u32 {
 
 #[unsafe(no_mangle)]
 pub extern "C" fn tbr1_start_strikeout(renderer: Handle, back: &mut *mut u8) -> u32 {
-    run(renderer, &Command::Ask(Request::Begin(Beginning::Strikeout)), back)
+    run(
+        renderer,
+        &Command::Ask(Request::Begin(Beginning::Strikeout)),
+        back,
+    )
 }
 
 #[unsafe(no_mangle)]
@@ -185,7 +229,11 @@ pub extern "C" fn tbr1_end_strikeout(renderer: Handle, back: &mut *mut u8) -> u3
 
 #[unsafe(no_mangle)]
 pub extern "C" fn tbr1_start_code(renderer: Handle, back: &mut *mut u8) -> u32 {
-    run(renderer, &Command::Ask(Request::Begin(Beginning::Code)), back)
+    run(
+        renderer,
+        &Command::Ask(Request::Begin(Beginning::Code)),
+        back,
+    )
 }
 
 #[unsafe(no_mangle)]
@@ -195,12 +243,20 @@ pub extern "C" fn tbr1_end_code(renderer: Handle, back: &mut *mut u8) -> u32 {
 
 #[unsafe(no_mangle)]
 pub extern "C" fn tbr1_start_superscript(renderer: Handle, back: &mut *mut u8) -> u32 {
-    run(renderer, &Command::Ask(Request::Begin(Beginning::Superscript)), back)
+    run(
+        renderer,
+        &Command::Ask(Request::Begin(Beginning::Superscript)),
+        back,
+    )
 }
 
 #[unsafe(no_mangle)]
 pub extern "C" fn tbr1_end_superscript(renderer: Handle, back: &mut *mut u8) -> u32 {
-    run(renderer, &Command::Ask(Request::End(Kind::Superscript)), back)
+    run(
+        renderer,
+        &Command::Ask(Request::End(Kind::Superscript)),
+        back,
+    )
 }
 
 #[unsafe(no_mangle)]
@@ -242,7 +298,11 @@ pub extern "C" fn tbr1_start_background(
 
 #[unsafe(no_mangle)]
 pub extern "C" fn tbr1_end_background(renderer: Handle, back: &mut *mut u8) -> u32 {
-    run(renderer, &Command::Ask(Request::End(Kind::Background)), back)
+    run(
+        renderer,
+        &Command::Ask(Request::End(Kind::Background)),
+        back,
+    )
 }
 
 #[unsafe(no_mangle)]
@@ -331,12 +391,7 @@ pub extern "C" fn tbr1_start_cell(
     status(done)
 }
 
-fn start_cell(
-    held: &mut Held,
-    width: usize,
-    span: usize,
-    alignment: u32,
-) -> Result<(), Fault> {
+fn start_cell(held: &mut Held, width: usize, span: usize, alignment: u32) -> Result<(), Fault> {
     let align = match alignment {
         0 => CellAlign::Left,
         1 => CellAlign::Right,

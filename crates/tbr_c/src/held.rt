@@ -1,13 +1,14 @@
 //! What C holds.
-ghost use Rattle.std.specs.Prelude.{◌≢◌, ◌<◌, Some};
+ghost use Rattle.std.specs.Prelude.{◌≡◌, ◌≢◌, ◌<◌, None, Some, IfOk, IfErr, MatchResult};
+ghost use Rattle.tbr_c.specs.State.{HasEnded, IsKept, HasNoNext, TakesLine, current_of};
+ghost use Rattle.tbr_c_lines.specs.declared.fault.Fault.TheVariants as F;
 ghost use Rattle.tbr_commands.specs.Command.{command_of, IsSized};
 
-use crate::fault::Fault;
-use crate::line::{Line, LineSize};
 use crate::state::{Facts, State};
 use std::alloc::Global;
 use std::marker::Model;
 use std::{mem, str};
+use tbr_c_lines::{Fault, Line, LineSize};
 use tbr_commands::{Command, Opening};
 use tbr_lines::Error;
 use tbr_runner::DecoratorPrefix;
@@ -47,6 +48,8 @@ impl Held {
     /// refusal answers that, and one that is finished `Finished`.
     pub fn run(&mut self, command: &Command) -> Result<(), Fault>
         requires { IsSized (command_of command.now) }
+        ensures ended { HasEnded self.old result }
+        ensures left { IfErr result (λ fault. (IsKept fault → ⊥) → self.new ≡ self.old) }
     {
         let done = self.state.run(self.alloc, command);
         self.state.keep(done)
@@ -113,13 +116,19 @@ impl Held {
 
     /// Takes the next line, and answers its size. `NotFinished` where it is still filled, `NoLine` where none is left.
     /// `OutOfMemory` is kept.
-    pub fn next_line(&mut self) -> Result<LineSize, Fault> {
+    pub fn next_line(&mut self) -> Result<LineSize, Fault>
+        ensures taken { IfOk result (λ size. TakesLine self.old self.new size) }
+        ensures none { IfErr result (λ fault. fault ≢ F.OutOfMemory → fault ≢ F.TooNarrow →
+            HasNoNext self.old fault × (self.new ≡ self.old)) }
+    {
         let size = self.state.next_line(self.alloc);
         self.state.keep(size)
     }
 
     /// The line that was taken last. `NotFinished` where the renderer is still filled, `NoLine` where none was taken.
-    pub fn line(&self) -> Result<&Line, Fault> {
+    pub fn line(&self) -> Result<&Line, Fault>
+        ensures { MatchResult result (λ line. current_of self.now ≡ Some line.now) (λ _. current_of self.now ≡ None) }
+    {
         self.state.lines()?.current()
     }
 

@@ -2,15 +2,10 @@
 //! inline functions call what is exported here, says what each does.
 #![tactic(auto)]
 
-mod annotation;
 mod calls;
-mod fault;
 mod handle;
 mod held;
-mod line;
-mod lines;
 mod options;
-mod out;
 mod parts;
 mod questions;
 mod script;

@@ -1,7 +1,7 @@
 //! What C tells a new renderer.
 ghost use Rattle.std.specs.Prelude.{◌≢◌, ◌<◌, Some, IfOk};
 
-use crate::fault::Fault;
+use tbr_c_lines::Fault;
 use tbr_commands::{Decorator, Opening};
 use tbr_renderer::{ImageRenderMode, RenderOptions};
 

@@ -1,9 +1,8 @@
 //! Questions to a renderer that is filled.
 
-use crate::fault::{Fault, status};
 use crate::handle::{Handle, hand_back};
-use crate::out::{answer, copy_out};
 use crate::state::Facts;
+use tbr_c_lines::{Fault, answer, copy_out, status};
 use tbr_runner::DecoratorPrefix;
 
 /// What a renderer answers of its innermost level.
@@ -74,7 +73,10 @@ pub extern "C" fn tbr1_waiting_cells(
     count: &mut usize,
     back: &mut *mut u8,
 ) -> u32 {
-    status(answer(facts(renderer, back).map(|facts| facts.waiting_cells), count))
+    status(answer(
+        facts(renderer, back).map(|facts| facts.waiting_cells),
+        count,
+    ))
 }
 
 /// Writes a prefix of the decorator.
@@ -119,7 +121,13 @@ pub extern "C" fn tbr1_ordered_item_prefix(
     length: &mut usize,
     back: &mut *mut u8,
 ) -> u32 {
-    prefix(renderer, DecoratorPrefix::OrderedItem(number), out, length, back)
+    prefix(
+        renderer,
+        DecoratorPrefix::OrderedItem(number),
+        out,
+        length,
+        back,
+    )
 }
 
 #[unsafe(no_mangle)]

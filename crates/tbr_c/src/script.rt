@@ -3,8 +3,8 @@ ghost use Rattle.std.specs.Prelude.{◌≡◌, ◌≢◌, ℕ, List, length, tak
 ghost use Rattle.tbr_lines.specs.UnicodeColumns.{unicode_columns};
 ghost use Rattle.tbr_runner.specs.Meaning.{Gives};
 
-use crate::fault::Fault;
 use std::alloc::Global;
+use tbr_c_lines::Fault;
 use tbr_runner::run;
 use tbr_script::{RunError, StdSink, StdSource};
 

@@ -1,13 +1,12 @@
 //! How far a renderer is that C holds.
-ghost use Rattle.std.specs.Prelude.{◌≡◌, ◌≢◌, ◌<◌, true, Some, Err, IfOk, IfErr, OnOk};
+ghost use Rattle.std.specs.Prelude.{◌≡◌, ◌≢◌, ◌<◌, true, Some, Err, IfOk, IfErr, OnOk, MatchResult};
 ghost use Rattle.tbr_commands.specs.Command.{command_of, IsSized};
-ghost use Rattle.tbr_c.specs.State.{CanGoOn, MayFinish, IsKept, HasEnded};
-ghost use Rattle.tbr_c.specs.declared.fault.Fault.TheVariants as F;
+ghost use Rattle.tbr_c.specs.State.{CanGoOn, MayFinish, IsKept, HasEnded, HasNoLines, TakesLine, HasNoNext};
+ghost use Rattle.tbr_c.specs.declared.state.State.TheVariants as S;
+ghost use Rattle.tbr_c_lines.specs.declared.fault.Fault.TheVariants as F;
 
-use crate::fault::{Fault, of_command};
-use crate::line::LineSize;
-use crate::lines::{Lines, Rest};
 use std::alloc::Global;
+use tbr_c_lines::{Fault, LineSize, Lines, Rest, of_command};
 use tbr_commands::{Command, Decorator, Opening};
 use tbr_decor::{PlainDecorator, RichDecorator, TextDecorator, TrivialDecorator};
 use tbr_lines::{Error, UnicodeColumns};
@@ -164,7 +163,9 @@ impl State {
     }
 
     /// The lines. `NotFinished` where it is still filled.
-    pub fn lines(&self) -> Result<&Lines, Fault> {
+    pub fn lines(&self) -> Result<&Lines, Fault>
+        ensures { MatchResult result (λ lines. self.now ≡ S.Finished lines.now) (λ fault. HasNoLines self.now fault) }
+    {
         match self {
             State::Finished(lines) => Ok(lines),
             State::Refused(e) => Err(Fault::from(*e)),
@@ -173,7 +174,13 @@ impl State {
     }
 
     /// Takes the next line, and answers its size. `NotFinished` where it is still filled, `NoLine` where none is left.
-    pub fn next_line(&mut self, alloc: Global) -> Result<LineSize, Fault> {
+    pub fn next_line(&mut self, alloc: Global) -> Result<LineSize, Fault>
+        requires { CanGoOn self.old }
+        ensures taken { IfOk result (λ size. TakesLine self.old self.new size) }
+        ensures none { IfErr result (λ fault. fault ≢ F.OutOfMemory →
+            HasNoNext self.old fault × (self.new ≡ self.old)) }
+        ensures goes_on { CanGoOn self.new }
+    {
         match self {
             State::Finished(lines) => lines.next(alloc),
             State::Refused(e) => Err(Fault::from(*e)),
@@ -183,6 +190,11 @@ impl State {
 
     /// Keeps a refusal that is to be kept.
     pub fn keep<T: Drop>(&mut self, done: Result<T, Fault>) -> Result<T, Fault>
+        requires { MatchResult done (λ _. CanGoOn self.old) (λ fault. (IsKept fault → ⊥) → CanGoOn self.old) }
+        ensures goes_on { CanGoOn self.new }
+        ensures done { result ≡ done }
+        ensures left { MatchResult done (λ _. self.new ≡ self.old)
+            (λ fault. (IsKept fault → ⊥) → self.new ≡ self.old) }
     {
         match done {
             Err(Fault::OutOfMemory) => *self = State::Refused(Error::OutOfMemory),

@@ -1,10 +1,10 @@
 //! Lines of a renderer that is finished.
 
-use crate::fault::{Fault, status};
 use crate::handle::{Handle, hand_back};
 use crate::held::Held;
-use crate::line::{AnnotationKind, LineSize, PiecePlace, kind, target};
-use crate::out::{answer, copy_out};
+use tbr_c_lines::{
+    AnnotationKind, Fault, LineSize, PiecePlace, answer, copy_out, kind, status, target,
+};
 
 #[unsafe(no_mangle)]
 pub extern "C" fn tbr1_text(
@@ -76,12 +76,7 @@ pub extern "C" fn tbr1_marker_name(
     status(done)
 }
 
-fn marker_name(
-    held: &Held,
-    place: usize,
-    out: &mut [u8],
-    length: &mut usize,
-) -> Result<(), Fault> {
+fn marker_name(held: &Held, place: usize, out: &mut [u8], length: &mut usize) -> Result<(), Fault> {
     copy_out(held.line()?.marker_name(place)?.as_bytes(), out, length)
 }
 

@@ -15,13 +15,14 @@ ghost use Rattle.tbr_commands.specs.Command.{command_of, IsSized};
 ghost use Rattle.tbr_runner.specs.Progress.{progress_meant, nothing_pending, IsSpanned, GoesOn};
 ghost use Rattle.tbr_runner.specs.declared.opened.Opener.{Opener as By};
 ghost use Rattle.tbr_runner.specs.Closing.{ClosesIn, ClosingIsTooNarrow};
+ghost use Rattle.tbr_runner.specs.Overhang.{overhangs};
 ghost use Rattle.tbr_runner.specs.Prefixes.{asked_prefix};
 ghost use Rattle.tbr_runner.specs.Meaning.{opener, Closes, RequestDoes, RequestRefuses, LinkDoes, LinkRefuses, EndLinkDoes, EndLinkRefuses, LevelOpens, AppendDoes, AppendRefuses, CellDoes, CellRefuses, VerticalRowDoes, VerticalRowRefuses, RowDoes, RowRefuses, CommandDoes, CommandRefuses, LineDoes, LineRefuses, Ends};
 
 use crate::closing::{close, close_lines};
 use crate::opened::{OpenLevels, Opener};
 use crate::pending::Pending;
-use crate::prefixes::{DecoratorPrefix, append_behind};
+use crate::prefixes::{DecoratorPrefix, append_behind, prefix_of};
 use std::alloc::Global;
 use std::collections::LinkedList;
 use std::marker::Model;
@@ -337,19 +338,14 @@ impl<D: TextDecorator, W: CharWidth> Program<D, W> {
         ensures unchanged { self.new ≡ self.old }
     {
         let top = self.renderers.top_mut();
-        match prefix {
-            DecoratorPrefix::Header(level) => top.header_prefix(level),
-            DecoratorPrefix::Quote => top.quote_prefix(),
-            DecoratorPrefix::Item => top.unordered_item_prefix(),
-            DecoratorPrefix::OrderedItem(number) => top.ordered_item_prefix(number),
-        }
+        prefix_of(top, prefix)
     }
 
     /// Whether lines of cells still wait for their rows in the innermost level: whether a row would not fit that is one
     /// cell with a text, as wide as can be. It refuses only for want of memory.
     pub fn has_overhang(&self, alloc: Global) -> Result<bool, Error>
         requires { GoesOn self.now }
-        ensures hangs { IfOk result (λ hangs. OfTop (λ r. hangs ≡ not (row_fits r.hanging widest_spots)) self.now.stack) }
+        ensures hangs { IfOk result (λ hangs. OfTop (λ r. hangs ≡ overhangs r) self.now.stack) }
         ensures memory { IfErr result (λ e. e ≡ Refusal.OutOfMemory) }
     {
         let top = self.renderers.top();

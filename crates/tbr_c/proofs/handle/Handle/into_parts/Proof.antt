@@ -25,10 +25,10 @@ use denote.Triple.Walked.{says, Stays, stay_dropped, walk_of, ends_at, Goes-drop
 use Rattle.std_alloc.proofs.BoxSteps.Form.{D, B, word, box_typed}
 use Rattle.std_alloc.proofs.BoxSteps.Steps.{box_out, box_in}
 use Rattle.tbr_c.proofs.AsBox.{E, FromSeal as From}
-use Rattle.tbr_c.specs.contracts.Handle.into_parts as F
-use Rattle.tbr_c.specs.contracts.Handle.into_parts.Key.{name as #self}
-use Rattle.tbr_c.proofs.Handle.into_parts.Statement as stated
-use Rattle.tbr_c.proofs.Handle.into_parts.Code as code
+use Rattle.tbr_c.specs.contracts.handle.Handle.into_parts as F
+use Rattle.tbr_c.specs.contracts.handle.Handle.into_parts.Key.{name as #self}
+use Rattle.tbr_c.proofs.handle.Handle.into_parts.Statement as stated
+use Rattle.tbr_c.proofs.handle.Handle.into_parts.Code as code
 
 abbrev stayed : Stays (F.ended).signature.params (F.ended).kept
 stayed = (stay_dropped From yes, tt)

@@ -2,8 +2,8 @@
 use Rattle.std.specs.Prelude.{ℕ, Result, Ok, Err}
 use Rattle.tbr_lines.specs.declared.Error.{Error}
 use Rattle.tbr_lines.specs.declared.Error.TheVariants as block
-use Rattle.tbr_c.specs.declared.fault.Fault.{Fault}
-use Rattle.tbr_c.specs.declared.fault.Fault.TheVariants.{OutOfMemory, TooNarrow, NotACommand, NothingToEnd, RowDoesNotFit, NotUtf8, BadWidth, BadArgument, StillOpen, Finished, NotFinished, NoLine, NoPiece, BufferTooSmall}
+use Rattle.tbr_c_lines.specs.declared.fault.Fault.{Fault}
+use Rattle.tbr_c_lines.specs.declared.fault.Fault.TheVariants.{OutOfMemory, TooNarrow, NotACommand, NothingToEnd, RowDoesNotFit, NotUtf8, BadWidth, BadArgument, StillOpen, Finished, NotFinished, NoLine, NoPiece, BufferTooSmall}
 
 abbrev pub code_of : Fault → ℕ
 code_of OutOfMemory = 1

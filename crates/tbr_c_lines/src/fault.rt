@@ -1,7 +1,7 @@
 //! Why a call did nothing.
 ghost use Rattle.std.specs.Prelude.{◌≡◌};
-ghost use Rattle.tbr_c.specs.Status.{code_of, status_of, fault_of};
-ghost use Rattle.tbr_c.specs.declared.fault.Fault.TheVariants as F;
+ghost use Rattle.tbr_c_lines.specs.Status.{code_of, status_of, fault_of};
+ghost use Rattle.tbr_c_lines.specs.declared.fault.Fault.TheVariants as F;
 
 use std::alloc::{AllocError, AllocFailed};
 use tbr_lines::{Error, OutOfMemory, TooNarrow};
