@@ -12,7 +12,7 @@ from pathlib import Path
 import kit
 
 CRATE = "tbr_c"
-PROGRAMS = ["blockrender"]
+PROGRAMS = ["blockrender", "blockview"]
 NAME = "text_block_renderer"
 HEADER = Path(kit.TOP, "include", f"{NAME}.h")
 VERSION = re.compile(r'^#define TBR_VERSION "([^"]+)"$', re.M)

@@ -11,6 +11,8 @@ needs() {
         case $word in
         rt) [ -x /opt/rattle/bin/rt ] || command -v rt >/dev/null || lack rt "the command of the Rattle kit, on the path or in /opt/rattle/bin" ;;
         python3) command -v python3 >/dev/null || lack python3 "Python 3.8 or later, on Debian the package python3" ;;
+        c++) command -v c++ >/dev/null || lack c++ "a C++ compiler, on Debian the package g++" ;;
+        cargo) command -v cargo >/dev/null || lack cargo "the package manager of Rust, on Debian the package cargo" ;;
         cc) command -v cc >/dev/null || lack cc "a C compiler, on Debian the package gcc" ;;
         esac
     done
