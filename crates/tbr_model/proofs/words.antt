@@ -7,3 +7,4 @@ pub mod SlotsByRegion
 pub mod StoredEntries
 pub mod RestSlots
 pub mod Items
+pub mod SpacedGaps

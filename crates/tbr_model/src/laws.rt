@@ -1,9 +1,9 @@
 //! The laws of layouts, each as the contract of a function that does nothing.
-ghost use Rattle.std.specs.Prelude.{◌≡◌, ◌↔◌, ℕ, ◌+◌, ◌≤◌, ◌<◌, Option, Some, IsTrue, List, ◌∷◌, ◌++◌, map, length, flat_map, slice_get, slice_index, slice_range};
+ghost use Rattle.std.specs.Prelude.{◌≡◌, ◌↔◌, ℕ, ◌+◌, ◌≤◌, ◌<◌, Option, None, Some, IsTrue, List, ◌∷◌, ◌++◌, map, length, flat_map, slice_get, slice_index, slice_range};
 ghost use Rattle.std.specs.List.{AllByRecursion as Each};
-ghost use Rattle.tbr_model.specs.Run.{Entry, kept_items, words_of, trailing};
-ghost use Rattle.tbr_model.specs.Regions.{Region, IsParted, words_between, markers_left};
-ghost use Rattle.tbr_model.specs.Layout.{Slot, slots_of, joined, placed, line_text, line_has_character, IsLegal, HasLegalLines, AllItemsFit, IsBest, IsGreedy, HasNoEmptyLine};
+ghost use Rattle.tbr_model.specs.Run.{Entry, Word, blank_of, kept_items, words_of, trailing};
+ghost use Rattle.tbr_model.specs.Regions.{Region, first_blank, IsParted, words_between, markers_left};
+ghost use Rattle.tbr_model.specs.Layout.{Slot, word_slots, gap_text, slots_of, joined, placed, line_text, line_has_character, IsLegal, HasLegalLines, AllItemsFit, IsBest, IsGreedy, HasNoEmptyLine};
 ghost use Rattle.tbr_model.specs.Cuts.{IsLayout, lines_between, cuts_of, placed_by_cuts, IsLegalLayout, IsBestLayout, with_gap};
 
 /// A legal layout without empty lines, each line as long as a legal one can be, is ahead of every legal layout.
@@ -66,6 +66,17 @@ pub fn words_stand_between_working_breaks<T>()
         (regions : List (Region T)) (rest : List (Entry T)) →
         IsParted columns run regions rest →
         trailing columns run ≡ markers_left columns rest }
+{}
+
+/// Between neighbouring words of a line stands one space where the gap between them is spaced, and else nothing. It is
+/// spaced exactly where a blank stood there.
+pub fn gaps_are_one_space<T>()
+    ensures line { (columns : ℕ → Option ℕ) (width : ℕ) (w : Word T) (ws : List (Word T)) →
+        Each (λ v. 0 < length v.items) (w ∷ ws) →
+        line_text (flat_map (word_slots columns width) (w ∷ ws))
+        ≡ w.items ++ flat_map (λ v. gap_text v.gap ++ v.items) ws }
+    ensures spaced { (between : List (Entry T)) →
+        (first_blank between ≡ None) ↔ Each (λ e. blank_of e ≡ None) between }
 {}
 
 /// Layouts as cuts are layouts as lines.

@@ -1,13 +1,21 @@
 //! The laws of blocks, each as the contract of a function that does nothing.
-ghost use Rattle.std.specs.Prelude.{◌≡◌, ◌≢◌, ◌↔◌, ℕ, ◌++◌, [], Bool, Option, List, map, take};
+ghost use Rattle.std.specs.Prelude.{◌≡◌, ◌≢◌, ◌↔◌, ℕ, ◌<◌, ◌++◌, [], false, Bool, Option, None, Some, List, map, take};
 ghost use Rattle.std.specs.Option.{option_map};
 ghost use Rattle.std.specs.List.{AllZip};
 ghost use Rattle.tbr_model.specs.Run.{Item, Entry};
 ghost use Rattle.tbr_model.specs.Mapped.{map_items, map_lines};
+ghost use Rattle.tbr_model.specs.Layout.{slots_of, joined, HasLegalLines};
+ghost use Rattle.tbr_model.specs.Markers.{marker_items};
+ghost use Rattle.tbr_model.specs.Rule.{run_of, waiting};
+ghost use Rattle.tbr_model.specs.Run.{kept_items};
+ghost use Rattle.tbr_model.specs.Shown.{without_spaces};
 ghost use Rattle.tbr_tagged.specs.Elements.{Element, items_of};
 ghost use Rattle.tbr_tagged.specs.Mapped.{MeansEqual};
+ghost use Rattle.tbr_tagged.specs.Outcome.{refused};
+ghost use Rattle.tbr_tagged.specs.declared.error.Error.TheVariants as E;
+ghost use Rattle.tbr_wrap.specs.Block.{Block, all_lines, after_flush, progress_of};
 ghost use Rattle.tbr_wrap.specs.Wrapped.{ShowsText, padding_of};
-ghost use Rattle.tbr_wrap.specs.State.{State, map_state, empty_block, JoinsRun, JoinsAsMarker, EndsRun, loose_taken, lines_left, line_taken, lines_taken, HandsOutEnded, run_flushed};
+ghost use Rattle.tbr_wrap.specs.State.{State, IsNormal, map_state, empty_block, JoinsRun, JoinsAsMarker, EndsRun, loose_taken, lines_left, line_taken, lines_taken, HandsOutEnded, run_flushed};
 
 /// The lines that are handed out one by one, and then those that are left, are in order those that were left before;
 /// and what the end of the run promises stays the same. So the lines of `next_line`, and then those of `into_lines`,
@@ -62,4 +70,20 @@ pub fn texts_are_shown_by_meaning<A, B>()
         AllZip (ShowsText columns eq padding width) lines texts →
         map (λ es. map_items f (items_of es)) lines
         ≡ map (λ is. map_items f is ++ padding_of columns (option_map f padding) width (map_items f is)) texts }
+{}
+
+/// A `Normal` run whose lines may not be wider than its block is too narrow exactly where it has no legal layout.
+pub fn too_narrow_is_no_legal_layout<T>()
+    ensures { (columns : ℕ → Option ℕ) → columns 32 ≡ Some 1 → (s : Block T) → 0 < s.width →
+        s.failure ≡ None → s.may_overflow ≡ false → IsNormal (run_of s.events) →
+        (after_flush columns s ≡ refused E.TooNarrow)
+        ↔ ¬ (HasLegalLines s.width (slots_of columns s.width (run_of s.events))) }
+{}
+
+/// The lines of a `Normal` run, and then what waits, have its kept characters and its markers, in order, each character
+/// under its own tag: also those of a word under two tags, and of one that is cut, and where lines may be wider.
+pub fn words_keep_their_tags<T>()
+    ensures { (columns : ℕ → Option ℕ) (s : Block T) → IsNormal (run_of s.events) →
+        without_spaces (joined (all_lines columns s)) ++ waiting columns s.width (progress_of columns s)
+        ≡ kept_items columns (run_of s.events) }
 {}

@@ -6,6 +6,7 @@ use Rattle.std.proofs.lemmas.List.{map-append}
 use Rattle.tbr_model.specs.declared.white_space.WhiteSpace.TheVariants.{Normal}
 use Rattle.tbr_model.specs.Run.{Item, glyph, marker, item_width, items_width, has_character}
 use Rattle.tbr_model.specs.Layout.{Slot, slot_of, slots_within, line_text, rest_text, gap_text, line_width, rest_width, gap_width, line_has_character}
+use Rattle.tbr_model.proofs.words.SpacedGaps.{rest_text-append}
 use Rattle.tbr_model.specs.Greedy.{Lines, close, fill, place_word, IsNarrow}
 use Rattle.tbr_model.specs.Laid.{Laid, extended, end_if_character, put_item, put_items}
 use Rattle.tbr_model.specs.Rule.{Progress, Space, lay}
@@ -40,10 +41,6 @@ laid_word columns width l gap items =
     else put_items columns width (end_if_character l) items
 
 -- ---- texts of slots
-
-rest_text-append : {A : Type 0} (a b : List (Slot A)) → rest_text (a ++ b) ≡ rest_text a ++ rest_text b
-rest_text-append [] b = refl
-rest_text-append (s ∷ a) b = rw (rest_text-append a b) (sym (append_assoc (gap_text s.gap ++ s.item ∷ []) (rest_text a) (rest_text b)))
 
 no_gaps_text : {A : Type 0} (ss : List (Slot A)) → Each (λ t. t.gap ≡ None) ss → rest_text ss ≡ map (λ t. t.item) ss
 no_gaps_text [] h = refl

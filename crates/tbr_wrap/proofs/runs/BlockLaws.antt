@@ -5,7 +5,8 @@ use Rattle.std.proofs.lemmas.Bool.{and_parts}
 use Rattle.std.specs.List.{AllByRecursion as Each}
 use Rattle.tbr_model.specs.Run.{Item, Entry, marker_entry, items_width, kept_items, has_character}
 use Rattle.tbr_model.specs.Markers.{names_in_items, names_in_run, marker_run, marker_items}
-use Rattle.tbr_model.specs.Layout.{joined}
+use Rattle.tbr_model.specs.Layout.{joined, slots_of, HasLegalLines}
+use Rattle.tbr_model.proofs.words.KeptItems.{narrow_if_legal, each_words_narrow}
 use Rattle.tbr_model.specs.Hard.{hard_lines, Parted}
 use Rattle.tbr_model.specs.Shown.{without_spaces, InventsNothing, ComesWithRun, ShowsInOrder, ShowsOwn}
 use Rattle.tbr_model.specs.Rule.{entry, run_of, Progress, at_start, progress, waiting}
@@ -24,7 +25,7 @@ use Rattle.tbr_model.proofs.lines.WaitingMarkers.{waits_behind_visible, waits_be
 use Rattle.tbr_tagged.specs.declared.error.Error.{Error}
 use Rattle.tbr_tagged.specs.declared.error.Error.TheVariants as E
 use Rattle.tbr_tagged.specs.Outcome.{Outcome, done, refused, Answers}
-use Rattle.tbr_tagged.proofs.Outcomes.{live_done, live_refused}
+use Rattle.tbr_tagged.proofs.Outcomes.{live_done, live_goes, live_refused}
 use Rattle.tbr_wrap.specs.Wrapped.{FitsBlock, HasBestLines, WordsFit, EndedWordsFit}
 use Rattle.tbr_wrap.specs.State.{State, IsNormal, CharactersFit, VisibleFit, JoinsRun, JoinsAsMarker, EndsRun, ShowsFitting, IsShownBy, KeepsRefusal, is_some_list, text_entries}
 use Rattle.tbr_wrap.specs.State as state
@@ -35,7 +36,7 @@ use Rattle.tbr_wrap.proofs.runs.EndedRuns.{shown_run, waits_normal, ended_words_
 use Rattle.tbr_wrap.proofs.runs.FittingLines.{fitting_lines}
 use Rattle.tbr_wrap.proofs.runs.LinesLeft.{lines_left-taken}
 use Rattle.tbr_wrap.proofs.runs.Courses.{went, entries_run, joins_events, joins_marker, kept_seen, none_ended, taken_seen as word_taken_seen}
-use Rattle.tbr_wrap.proofs.runs.Blocks.{course_grown, course_ended, course_taken, none_taken, fit_allows}
+use Rattle.tbr_wrap.proofs.runs.Blocks.{course_grown, course_ended, course_taken, none_taken, fit_allows, if_allowed, if_not_allowed}
 use Rattle.tbr_wrap.proofs.runs.RuleWidths.{run_fits, end_fits, normal_run_fits, normal_end_fits}
 
 or_right : (x y : Bool) → y ≡ true → x || y ≡ true
@@ -202,6 +203,21 @@ module _ {A : Type 0} (columns : ℕ → Option ℕ) where
 
       pub flush_wide_word : IsNormal (run_of s.events) → ¬ (WordsFit columns s.width (run_of s.events))
       flush_wide_word normal fit = refused_where s (all_lines columns s) not_all (normal_end_fits columns s.width one wide s.events normal fit)
+
+    -- a `Normal` run that is refused so has no legal layout, and one that has none is
+    module _ (live : s.failure ≡ None) where
+      pub no_layout_if_refused : after_flush columns s ≡ refused E.TooNarrow → IsNormal (run_of s.events) → ¬ (HasLegalLines s.width (slots_of columns s.width (run_of s.events)))
+      no_layout_if_refused e normal some =
+          flush_wide_word live e normal (each_words_narrow columns s.width (run_of s.events) (narrow_if_legal columns s.width (run_of s.events) some.0 some.1))
+
+      pub refused_if_no_layout : s.may_overflow ≡ false → IsNormal (run_of s.events) → ¬ (HasLegalLines s.width (slots_of columns s.width (run_of s.events))) → after_flush columns s ≡ refused E.TooNarrow
+      refused_if_no_layout never normal none = go (allows columns s (all_lines columns s)) refl
+        where
+          go : (b : Bool) → allows columns s (all_lines columns s) ≡ b → after_flush columns s ≡ refused E.TooNarrow
+          go false not_all = live_goes s.failure _ live ∙ if_not_allowed columns (allows columns s (all_lines columns s)) (flushed columns s) not_all
+          go true all =
+              let best = flush_best (flushed columns s) (live_goes s.failure _ live ∙ if_allowed columns (allows columns s (all_lines columns s)) (flushed columns s) all) never normal in
+              absurd (none (best.lines, best.best.legal))
 
   -- behind it nothing of the run under way has ended
   pub left_of_flushed : (s t : Block A) → after_flush columns s ≡ done t → left columns t ≡ t.ended
