@@ -23,7 +23,7 @@ impl Model for Handle {
 impl Handle {
     /// The renderer that C gives up.
     pub fn open(self) -> Box<Held>
-        ensures { result ≡ self.value }
+        ensures { result.value ≡ self.value }
     {
         self.into_parts().into_box()
     }

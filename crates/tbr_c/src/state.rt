@@ -1,6 +1,7 @@
 //! How far a renderer is that C holds.
-ghost use Rattle.std.specs.Prelude.{◌≡◌, ◌≢◌, ◌<◌, true, Some, Err, IfOk, IfErr, OnOk, MatchResult};
+ghost use Rattle.std.specs.Prelude.{◌≡◌, ◌≢◌, ◌<◌, [], Some, Err, IfOk, IfErr, OnOk, MatchResult};
 ghost use Rattle.tbr_commands.specs.Command.{command_of, IsSized};
+ghost use Rattle.tbr_runner.specs.Progress.{GoesOn};
 ghost use Rattle.tbr_c.specs.State.{CanGoOn, MayFinish, IsKept, HasEnded, HasNoLines, TakesLine, HasNoNext};
 ghost use Rattle.tbr_c.specs.declared.state.State.TheVariants as S;
 ghost use Rattle.tbr_c_lines.specs.declared.fault.Fault.TheVariants as F;
@@ -80,14 +81,13 @@ impl State {
         ensures left { IfErr result (λ fault. (IsKept fault → ⊥) → self.new ≡ self.old) }
         ensures ended { HasEnded self.old result }
     {
-        let done = match self {
-            State::Plain(program) => program.run(alloc, 0, command),
-            State::Trivial(program) => program.run(alloc, 0, command),
-            State::Rich(program) => program.run(alloc, 0, command),
-            State::Finished(_) => return Err(Fault::Finished),
-            State::Refused(e) => return Err(Fault::from(*e)),
-        };
-        done.map_err(of_command)
+        match self {
+            State::Plain(program) => run_on(program, alloc, command),
+            State::Trivial(program) => run_on(program, alloc, command),
+            State::Rich(program) => run_on(program, alloc, command),
+            State::Finished(_) => Err(Fault::Finished),
+            State::Refused(e) => Err(Fault::from(*e)),
+        }
     }
 
     /// What it answers while it is filled.
@@ -97,9 +97,9 @@ impl State {
         ensures closed { IfOk result (λ facts. facts.open_levels ≡ 0 → facts.waiting_cells ≡ 0 → MayFinish self.now) }
     {
         match self {
-            State::Plain(program) => Ok(facts(program)),
-            State::Trivial(program) => Ok(facts(program)),
-            State::Rich(program) => Ok(facts(program)),
+            State::Plain(program) => Ok(facts_of(program)),
+            State::Trivial(program) => Ok(facts_of(program)),
+            State::Rich(program) => Ok(facts_of(program)),
             State::Finished(_) => Err(Fault::Finished),
             State::Refused(e) => Err(Fault::from(*e)),
         }
@@ -205,8 +205,26 @@ impl State {
     }
 }
 
+/// Does what a command asks a program for. After `OutOfMemory` and `TooNarrow` it isn't to be used any more, and each
+/// other refusal leaves it as it was.
+fn run_on<D: TextDecorator>(
+    program: &mut Program<D, UnicodeColumns>,
+    alloc: Global,
+    command: &Command,
+) -> Result<(), Fault>
+    requires goes_on { GoesOn program.old }
+    requires sized { IsSized (command_of command.now) }
+    ensures goes_on { OnOk result (GoesOn program.new) }
+    ensures left { IfErr result (λ fault. (IsKept fault → ⊥) → program.new ≡ program.old) }
+{
+    match program.run(alloc, 0, command) {
+        Ok(()) => Ok(()),
+        Err(e) => Err(of_command(e)),
+    }
+}
+
 /// What a program answers of its innermost level.
-fn facts<D: TextDecorator>(program: &Program<D, UnicodeColumns>) -> Facts
+fn facts_of<D: TextDecorator>(program: &Program<D, UnicodeColumns>) -> Facts
     requires { GoesOn program.now }
     ensures closed { result.open_levels ≡ 0 → program.now.opened ≡ [] }
     ensures cells { result.waiting_cells ≡ 0 → program.now.pending.cells ≡ [] }

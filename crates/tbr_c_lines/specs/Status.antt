@@ -2,6 +2,8 @@
 use Rattle.std.specs.Prelude.{ℕ, Result, Ok, Err}
 use Rattle.tbr_lines.specs.declared.Error.{Error}
 use Rattle.tbr_lines.specs.declared.Error.TheVariants as block
+use Rattle.tbr_script.specs.declared.error.RunError.{RunError}
+use Rattle.tbr_script.specs.declared.error.RunError.TheVariants as script
 use Rattle.tbr_c_lines.specs.declared.fault.Fault.{Fault}
 use Rattle.tbr_c_lines.specs.declared.fault.Fault.TheVariants.{OutOfMemory, TooNarrow, NotACommand, NothingToEnd, RowDoesNotFit, NotUtf8, BadWidth, BadArgument, StillOpen, Finished, NotFinished, NoLine, NoPiece, BufferTooSmall}
 
@@ -30,3 +32,13 @@ status_of (Err fault) = code_of fault
 abbrev pub fault_of : Error → Fault
 fault_of block.OutOfMemory = OutOfMemory
 fault_of block.TooNarrow = TooNarrow
+
+-- a refusal of a script's command
+abbrev pub fault_of_command : RunError → Fault
+fault_of_command script.TooNarrow = TooNarrow
+fault_of_command (script.NotACommand number) = StillOpen
+fault_of_command (script.NothingToEnd number) = NothingToEnd
+fault_of_command (script.RowDoesNotFit number) = RowDoesNotFit
+fault_of_command script.OutOfMemory = OutOfMemory
+fault_of_command script.ReadFailed = OutOfMemory
+fault_of_command script.WriteFailed = OutOfMemory

@@ -1,6 +1,6 @@
 //! Why a call did nothing.
 ghost use Rattle.std.specs.Prelude.{◌≡◌};
-ghost use Rattle.tbr_c_lines.specs.Status.{code_of, status_of, fault_of};
+ghost use Rattle.tbr_c_lines.specs.Status.{code_of, status_of, fault_of, fault_of_command};
 ghost use Rattle.tbr_c_lines.specs.declared.fault.Fault.TheVariants as F;
 
 use std::alloc::{AllocError, AllocFailed};
@@ -119,7 +119,9 @@ impl<T: Drop> From<AllocFailed<T>> for Fault {
 
 /// What a refusal of a script's command is to a call that has no line. Streams, which a call doesn't have, count as
 /// memory.
-pub fn of_command(e: RunError) -> Fault {
+pub fn of_command(e: RunError) -> Fault
+    ensures { result ≡ fault_of_command e }
+{
     match e {
         RunError::TooNarrow => Fault::TooNarrow,
         RunError::NotACommand(_) => Fault::StillOpen,
