@@ -1,7 +1,7 @@
 """The elements of a mail: each kind draws what it shows on a page, and tells a ruler how wide that is.
 
-A page is a renderer. A block calls `end_block` before its content and after it, so that the text that comes next begins a
-block, however many of them begin or end there.
+A page is a renderer. A block calls `end_block` before its content and after it, so that the text that comes next
+begins a block, however many of them begin or end there.
 """
 
 from collections.abc import Iterator

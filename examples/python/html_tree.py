@@ -65,7 +65,8 @@ TABLE_PARTS = ABOVE_CELLS | CELLS
 OUTSIDE_CELLS = TABLE_PARTS - {"table"} | frozenset("col colgroup form input script style template".split())
 
 # Elements that begin a block, and so end a paragraph.
-BLOCKS = frozenset(tag for tag, kind in KINDS.items() if issubclass(kind, (Division, Heading, List, Quote, Rule, Table)))
+BLOCK_KINDS = (Division, Heading, List, Quote, Rule, Table)
+BLOCKS = frozenset(tag for tag, kind in KINDS.items() if issubclass(kind, BLOCK_KINDS))
 # What a start tag ends, as far as it is open inside of the innermost of the second tags.
 ENDED_BY: dict[str, tuple[frozenset[str], frozenset[str]]] = {
     **dict.fromkeys(BLOCKS, (frozenset({"p"}), TABLE_PARTS | {"li", "blockquote"})),
@@ -77,8 +78,8 @@ ENDED_BY: dict[str, tuple[frozenset[str], frozenset[str]]] = {
     "li": (frozenset({"li"}), frozenset({"ul", "ol"})),
     "a": (frozenset({"a"}), TABLE_PARTS),
 }
-# What is deeper than this stands beside what it should stand in, so that no mail is too deep to be drawn. A table that is
-# less deep has its cells.
+# What is deeper than this stands beside what it should stand in, so that no mail is too deep to be drawn. A table that
+# is less deep has its cells.
 DEEPEST = 200
 
 
