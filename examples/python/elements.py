@@ -1,7 +1,7 @@
 """The elements of a mail: each kind draws what it shows on a page, and tells a ruler how wide that is.
 
-A page is a renderer. A block calls `end_block` before its content and after it, so that the text that comes next begins a
-block, however many of them begin or end there.
+A page is a renderer. A block calls `end_block` before its content and after it, so that the text that comes next
+begins a block, however many of them begin or end there.
 """
 
 from collections.abc import Iterator
@@ -315,13 +315,15 @@ class List(Element):
         return page.unordered_item_prefix()
 
     def marked(self, page: Renderer) -> Iterator[tuple[str, "Element | Text"]]:
-        """What stands in the list, each with its mark; what isn't an item has an empty one."""
+        """What stands in the list, each behind its mark, or behind spaces where it is no item."""
         items = [child for child in self.children if isinstance(child, Item)]
         marks = {item: self.mark(page, number) for number, item in enumerate(items)}
         columns = max(map(len, marks.values()), default=len(page.unordered_item_prefix()))
         for child in self.children:
-            if isinstance(child, Item) or not child.is_blank():
-                yield marks.get(child, "").ljust(columns), child
+            if isinstance(child, Item):
+                yield marks[child].ljust(columns), child
+            elif not child.is_blank():
+                yield " " * columns, child
 
     def draw(self, page: Renderer) -> None:
         if self.is_blank():

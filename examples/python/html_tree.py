@@ -55,27 +55,31 @@ KINDS: dict[str, type[Element]] = {
 }
 # Elements that have no end tag.
 VOID = frozenset("area base br col embed hr img input link meta source track wbr".split())
+HEADINGS = frozenset("h1 h2 h3 h4 h5 h6".split())
 
 CELLS = frozenset("td th caption".split())
 SECTIONS = frozenset("thead tbody tfoot".split())
-# Parts of a table whose content stands in parts inside of them, or in nothing that is seen.
 ABOVE_CELLS = SECTIONS | {"table", "tr"}
 TABLE_PARTS = ABOVE_CELLS | CELLS
-WITHIN_ROWS = TABLE_PARTS - {"table"} | frozenset("col colgroup form input script style template".split())
+# What may stand in a table outside of its cells.
+OUTSIDE_CELLS = TABLE_PARTS - {"table"} | frozenset("col colgroup form input script style template".split())
 
 # Elements that begin a block, and so end a paragraph.
-BLOCKS = frozenset(tag for tag, kind in KINDS.items() if issubclass(kind, (Division, Heading, List, Quote, Rule, Table)))
+BLOCK_KINDS = (Division, Heading, List, Quote, Rule, Table)
+BLOCKS = frozenset(tag for tag, kind in KINDS.items() if issubclass(kind, BLOCK_KINDS))
 # What a start tag ends, as far as it is open inside of the innermost of the second tags.
 ENDED_BY: dict[str, tuple[frozenset[str], frozenset[str]]] = {
     **dict.fromkeys(BLOCKS, (frozenset({"p"}), TABLE_PARTS | {"li", "blockquote"})),
+    **dict.fromkeys(HEADINGS, (HEADINGS | {"p"}, TABLE_PARTS | {"li", "blockquote"})),
     **dict.fromkeys(["dt", "dd"], (frozenset({"dt", "dd"}), frozenset({"dl"}))),
     **dict.fromkeys(SECTIONS, (SECTIONS | {"tr", "caption"}, frozenset({"table"}))),
     **dict.fromkeys(CELLS, (CELLS, frozenset({"table"}))),
     "tr": (frozenset({"tr", "caption"}), frozenset({"table"})),
     "li": (frozenset({"li"}), frozenset({"ul", "ol"})),
+    "a": (frozenset({"a"}), TABLE_PARTS),
 }
-# What is deeper than this stands beside what it should stand in, so that no mail is too deep to be drawn. A table that is
-# less deep has its cells.
+# What is deeper than this stands beside what it should stand in, so that no mail is too deep to be drawn. A table that
+# is less deep has its cells.
 DEEPEST = 200
 
 
@@ -99,7 +103,7 @@ class TreeBuilder(HTMLParser):
     def handle_starttag(self, tag: str, attrs: list[tuple[str, str | None]]) -> None:
         if tag in ENDED_BY:
             self._end(*ENDED_BY[tag])
-        if tag not in WITHIN_ROWS:
+        if tag not in OUTSIDE_CELLS:
             self._open_cell()
         elif tag in CELLS and not isinstance(self._open[-1], Row) and tag != "caption":
             self._add(Row("tr", {}))
@@ -142,7 +146,8 @@ class TreeBuilder(HTMLParser):
     def _add(self, element: Element) -> None:
         parent = self._open[-1]
         parent.children.append(element)
-        if element.tag not in VOID and (len(self._open) < DEEPEST or parent.tag in ABOVE_CELLS):
+        is_empty = element.tag in VOID or (element.tag == "form" and parent.tag in ABOVE_CELLS)
+        if not is_empty and (len(self._open) < DEEPEST or parent.tag in ABOVE_CELLS):
             self._open.append(element)
 
     def _end(self, tags: frozenset[str], bounds: frozenset[str]) -> None:

@@ -1,7 +1,7 @@
 #!/usr/bin/env python3
-"""Reads a script from standard input, makes each of its calls by this package, and writes the text, as `blockrender` does.
+"""Reads a script from standard input, makes each of its calls by this package, and writes the text.
 
-docs/SCRIPT.md teaches the language.
+It answers as the program `blockrender` does. docs/SCRIPT.md teaches the language.
 """
 
 import re

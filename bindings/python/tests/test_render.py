@@ -276,7 +276,8 @@ class Lines(unittest.TestCase):
             r.pop_preformat()
             r.pop_ws()
 
-        kinds = [piece.annotations[0].kind for line in lines(calls, 3, Decorator.RICH) for piece in line.tagged_strings()]
+        pieces = [piece for line in lines(calls, 3, Decorator.RICH) for piece in line.tagged_strings()]
+        kinds = [piece.annotations[0].kind for piece in pieces]
         self.assertEqual(kinds, [Kind.PREFORMATTED, Kind.PREFORMATTED_CONTINUED])
 
     def test_markers_stand_between_the_words(self) -> None:

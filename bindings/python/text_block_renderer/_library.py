@@ -4,6 +4,7 @@ import ctypes
 import os
 from ctypes import POINTER, Structure, c_bool, c_char_p, c_int64, c_size_t, c_uint8, c_uint32, c_void_p
 from pathlib import Path
+from typing import Any
 
 FOLDER = "TEXT_BLOCK_RENDERER_LIB"
 FILE = "libtext_block_renderer.so"
@@ -65,7 +66,7 @@ _SIZE = (POINTER(c_size_t),)
 _FLAG = (POINTER(c_bool),)
 
 # What each call takes between the renderer that goes in and the pointer by which it comes back.
-CALLS: dict[str, tuple[type, ...]] = {
+CALLS: dict[str, tuple[type[Any], ...]] = {
     "add_text": _TEXT,
     "start_block": (),
     "end_block": (),

@@ -19,12 +19,13 @@ class Renderer:
     """Writes blocks of text, one below another, into lines of a width in columns.
 
     Its calls have the names of html2text's renderer. They fill the innermost level that is open: a level is a renderer
-    inside another one, which takes its lines behind prefixes or as a cell of a table. What begins in a level ends there.
+    inside another one, which takes its lines behind prefixes or as a cell of a table. What begins in a level ends
+    there.
 
-    A call that does nothing raises a `RendererError`. `OutOfMemoryError` and `TooNarrowError` leave the renderer refusing
-    all that follows with the same; each other refusal leaves it as it was. `TooNarrowError` comes only where a line has
-    one column. Beside what is said of a call, any that takes memory can raise `OutOfMemoryError`, and any that places a
-    word `TooNarrowError`.
+    A call that does nothing raises a `RendererError`. `OutOfMemoryError` and `TooNarrowError` leave the renderer
+    refusing all that follows with the same; each other refusal leaves it as it was. `TooNarrowError` comes only where a
+    line has one column. Beside what is said of a call, any that takes memory can raise `OutOfMemoryError`, and any that
+    places a word `TooNarrowError`.
 
     A renderer is used on the thread that made it; another one gets a `RuntimeError`. Use it by `with`, or `close` it.
     """
@@ -147,7 +148,10 @@ class Renderer:
         self._owned.call("start_block")
 
     def end_block(self) -> None:
-        """Ends a block: text that comes begins a new one, and white space before it is ignored. It may come any time."""
+        """Ends a block: text that comes begins a new one, and white space before it is ignored.
+
+        It may come any time.
+        """
         self._owned.call("end_block")
 
     def start_table(self) -> None:
@@ -183,7 +187,7 @@ class Renderer:
         self._owned.call("pop_white_space")
 
     def record_frag_start(self, name: str) -> None:
-        """Puts a marker where the text stands, as an anchor for links. `NotUtf8Error` where its name has a surrogate."""
+        """Puts a marker where the text stands, as an anchor for links. `NotUtf8Error` where it has a surrogate."""
         self._owned.with_texts("add_marker", name)
 
     # ---- decorated text: an end asks only that its own beginning came more often, and raises `NothingToEndError` else
@@ -213,7 +217,7 @@ class Renderer:
         self._owned.call("end_strong")
 
     def start_strikeout(self) -> None:
-        """Begins struck out text: each of its characters that takes columns gets a stroke, U+0336, where these are on."""
+        """Begins struck out text, in which each character that takes columns gets a stroke where these are on."""
         self._owned.call("start_strikeout")
 
     def end_strikeout(self) -> None:

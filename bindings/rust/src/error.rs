@@ -7,8 +7,8 @@ use std::fmt;
 pub enum Error {
     /// Memory was refused, or a size passes `usize`. A renderer keeps this refusal.
     OutOfMemory,
-    /// A word holds a character that is wider than the line. It doesn't come in lines of two columns or more. A renderer
-    /// keeps this refusal.
+    /// A word holds a character that is wider than the line. It doesn't come in lines of two columns or more. A
+    /// renderer keeps this refusal.
     TooNarrow,
     /// A line of a script isn't a command, or it comes where none like it may.
     NotACommand,

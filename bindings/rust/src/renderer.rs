@@ -6,7 +6,8 @@ use std::fmt;
 /// Writes blocks of text, one below another, into lines of a width in columns.
 ///
 /// Its calls have the names of html2text's renderer. They fill the innermost level that is open: a level is a renderer
-/// inside another one, which takes its lines behind prefixes or as a cell of a table. What begins in a level ends there.
+/// inside another one, which takes its lines behind prefixes or as a cell of a table. What begins in a level ends
+/// there.
 ///
 /// A call that answers `OutOfMemory` or `TooNarrow` leaves the renderer refusing all that follows with the same; each
 /// other refusal leaves it as it was. [`TooNarrow`](Error::TooNarrow) comes only where a line has one column. Beside
@@ -48,8 +49,8 @@ impl Renderer {
 
 /// Text, blocks and lines.
 impl Renderer {
-    /// Adds text, whose white space counts as the mode says that was pushed last. A text ends no word: two texts without
-    /// white space between them make one.
+    /// Adds text, whose white space counts as the mode says that was pushed last. A text ends no word: two texts
+    /// without white space between them make one.
     pub fn add_inline_text(&mut self, text: &str) -> Result<(), Error> {
         self.handle.with_text(sys::tbr1_add_text, text)
     }
@@ -249,9 +250,9 @@ impl Renderer {
         self.handle.call(|it, back| unsafe { sys::tbr1_start_sub(it, width, back) })
     }
 
-    /// Closes the level that `start_subrender` opened, and adds its lines to the one outside: the first behind one text,
-    /// each other behind another. `NothingToEnd` where the innermost level is no such one, `StillOpen` where cells wait
-    /// in it.
+    /// Closes the level that `start_subrender` opened, and adds its lines to the one outside: the first behind one
+    /// text, each other behind another. `NothingToEnd` where the innermost level is no such one, `StillOpen` where
+    /// cells wait in it.
     pub fn append_subrender(&mut self, first: &str, others: &str) -> Result<(), Error> {
         self.handle.with_texts(sys::tbr1_append_sub, first, others)
     }
@@ -323,8 +324,8 @@ impl Renderer {
         self.handle.ask(|it, answer, back| unsafe { sys::tbr1_width(it, answer, back) })
     }
 
-    /// The columns that it has left behind a prefix, but `min_width` at least. `TooNarrow`, which isn't kept, where fewer
-    /// than these are left and no overflow is allowed.
+    /// The columns that it has left behind a prefix, but `min_width` at least. `TooNarrow`, which isn't kept, where
+    /// fewer than these are left and no overflow is allowed.
     pub fn width_minus(&self, prefix_len: usize, min_width: usize) -> Result<usize, Error> {
         // SAFETY: as above.
         self.handle.ask(|it, answer, back| unsafe { sys::tbr1_width_minus(it, prefix_len, min_width, answer, back) })

@@ -3,8 +3,8 @@
 use crate::column::{widths, Column};
 use text_block_renderer::{Cell, Error, Options, Renderer};
 
-/// A title, a table of records, of which the first has the headings, and how many there are. Where the columns don't fit
-/// the width, the fields of each record stand one below another.
+/// A title, a table of records, of which the first has the headings, and how many there are. Where the columns don't
+/// fit the width, the fields of each record stand one below another.
 pub fn report(title: &str, records: &[Vec<String>], width: usize) -> Result<String, Error> {
     let mut page = Renderer::new(&Options::plain(width).draw_borders(false).allow_width_overflow(true))?;
     let prefix = page.header_prefix(1)?;
