@@ -1,7 +1,7 @@
 -- Lists of footnotes.
 use Rattle.std.proofs.Common.{◌≡◌, ℕ, ◌+◌, ◌<◌, List, [], ◌∷◌, ◌++◌, map, take, length, slice_index_or, refl, sym, ap, ◌∙◌, subst, arith}
 use Rattle.std.proofs.lemmas.List.{take_more, map_push, length-map, length-take-le}
-use Rattle.tbr_lines.specs.Elements.{Element}
+use Rattle.tbr_tagged.specs.Elements.{Element}
 use Rattle.tbr_decor.specs.Meant.{meant, lines_meant}
 use Rattle.tbr_decor.specs.Usual.{footnote, footnotes_from, IsFootnote, AreFootnotes, AreFootnotesFrom}
 

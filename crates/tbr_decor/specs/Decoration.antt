@@ -1,6 +1,6 @@
 -- A decorator by what its calls give: texts and annotations by its state, and the state that a call leaves.
 use Rattle.std.specs.Prelude.{ℕ, Bool, List, Option}
-use Rattle.tbr_lines.specs.Elements.{Element}
+use Rattle.tbr_tagged.specs.Elements.{Element}
 use Rattle.tbr_decor.specs.declared.colour.Colour.{Colour}
 use Rattle.tbr_decor.specs.Start.{Start}
 use Rattle.tbr_decor.specs.End.{End}

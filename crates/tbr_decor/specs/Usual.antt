@@ -1,7 +1,7 @@
 -- What a decorator answers that has no answer of its own.
 use Rattle.std.specs.Prelude.{◌≡◌, ℕ, ◌+◌, List, [], ◌∷◌, ◌++◌, codes}
 use Rattle.std.specs.Fmt.{decimal}
-use Rattle.tbr_lines.specs.Elements.{Element, piece}
+use Rattle.tbr_tagged.specs.Elements.{Element, piece}
 
 -- the text before a superscript, and the text behind it
 abbrev pub superscript_start : List ℕ

@@ -1,8 +1,8 @@
 //! What a decorator is.
 ghost use Rattle.std.specs.Prelude.{◌≡◌, ℕ, Bool, true, false, List, Option, map, chars, IsTrue, ◌↔◌, IfOk, OnOk, OnErr};
 ghost use Rattle.std.specs.Option.{option_map};
-ghost use Rattle.tbr_lines.specs.View.{chars_of};
-ghost use Rattle.tbr_lines.specs.Elements.{Element};
+ghost use Rattle.tbr_tagged.specs.View.{chars_of};
+ghost use Rattle.tbr_tagged.specs.Elements.{Element};
 ghost use Rattle.tbr_decor.specs.declared.colour.Colour.{Colour};
 ghost use Rattle.tbr_decor.specs.Start as start;
 ghost use Rattle.tbr_decor.specs.End as end;
@@ -14,7 +14,7 @@ ghost use Rattle.tbr_decor.specs.Meant.{lines_meant};
 use crate::colour::Colour;
 use std::alloc::Global;
 use std::fmt::Debug;
-use tbr_lines::{OutOfMemory, TaggedLine};
+use tbr_tagged::{OutOfMemory, TaggedLine};
 
 /// Puts texts round parts of a document, such as `*` round emphasised text, and gives annotations of what stands
 /// between, such as its colour.

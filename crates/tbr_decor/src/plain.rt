@@ -8,7 +8,7 @@ use crate::colour::Colour;
 use crate::decorator::TextDecorator;
 use crate::{text, usual};
 use std::alloc::Global;
-use tbr_lines::{OutOfMemory, TaggedLine};
+use tbr_tagged::{OutOfMemory, TaggedLine};
 
 /// Shows what a document has by plain characters, as `[` and `]` round a link, and annotates nothing.
 #[derive(Clone, Debug, Drop)]

@@ -13,7 +13,7 @@ use crate::colour::Colour;
 use crate::decorator::TextDecorator;
 use crate::{text, usual};
 use std::alloc::Global;
-use tbr_lines::{OutOfMemory, TaggedLine};
+use tbr_tagged::{OutOfMemory, TaggedLine};
 
 /// Shows what a document has by annotations. The characters that it gives are prefixes, `^{` and `}` round
 /// superscripts, the titles of images, and the lines `[1]: target` of footnotes.

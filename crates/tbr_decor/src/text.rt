@@ -3,11 +3,11 @@ ghost use Rattle.std.specs.Prelude.{◌≡◌, ◌++◌, [], chars, codes, IsTru
 ghost use Rattle.std.specs.List.{list_all};
 ghost use Rattle.std.specs.Char.{is_ascii};
 ghost use Rattle.std.specs.Fmt.{signed_decimal};
-ghost use Rattle.tbr_lines.specs.View.{chars_of};
+ghost use Rattle.tbr_tagged.specs.View.{chars_of};
 ghost use Rattle.tbr_decor.specs.Plain as plain;
 
 use std::alloc::Global;
-use tbr_lines::OutOfMemory;
+use tbr_tagged::OutOfMemory;
 
 /// The empty text. It takes no memory.
 pub fn empty(alloc: Global) -> String

@@ -1,14 +1,14 @@
 //! What a decorator answers that has no answer of its own.
 ghost use Rattle.std.specs.Prelude.{◌≡◌, false, None, map, chars, codes, ◌++◌, IfOk};
 ghost use Rattle.std.specs.Fmt.{decimal};
-ghost use Rattle.tbr_lines.specs.View.{chars_of};
+ghost use Rattle.tbr_tagged.specs.View.{chars_of};
 ghost use Rattle.tbr_decor.specs.Usual as usual;
 ghost use Rattle.tbr_decor.specs.Usual.{AreFootnotes, IsFootnote};
 
 use crate::colour::Colour;
 use crate::text;
 use std::alloc::Global;
-use tbr_lines::{OutOfMemory, TaggedLine, TaggedString};
+use tbr_tagged::{OutOfMemory, TaggedLine, TaggedString};
 
 /// The text before a superscript, `^{`, and the default annotation. It refuses only for want of memory.
 pub fn superscript_start<A: Default>(alloc: Global) -> Result<(String, A), OutOfMemory>

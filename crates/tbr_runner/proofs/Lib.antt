@@ -9,3 +9,4 @@ pub mod LinesGive
 pub mod OfScript
 pub mod Results
 pub mod once
+pub mod Overhang

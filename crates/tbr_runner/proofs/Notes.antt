@@ -1,4 +1,4 @@
--- The text at the end of a script.
+-- The lines at the end of a script.
 use Rattle.std.proofs.Common.{◌≡◌, ◌==◌, ℕ, Bool, true, false, Option, None, List, [], ◌∷◌, fold, flat_map, length, chars, encode_utf8_all, refl, sym, ap, ◌∙◌, subst}
 use Rattle.std.proofs.lemmas.Bool.{false≢true, eqb-true}
 use Rattle.std.proofs.lemmas.Str.{encodes-chars}
@@ -8,12 +8,12 @@ use Rattle.tbr_lines.specs.Elements.{Element}
 use Rattle.tbr_decor.specs.Decoration.{Decoration}
 use Rattle.tbr_decor.specs.Meant.{lines_meant}
 use Rattle.tbr_renderer.specs.Footnotes.{footnote_lines, with_footnotes}
-use Rattle.text_block_renderer.specs.Renderer.{Renderer, Open, has_content, with_line}
+use Rattle.text_block_renderer.specs.Renderer.{Renderer, Line, Open, has_content, with_line}
 use Rattle.text_block_renderer.specs.Steps.{block_started, StartsBlock}
 use Rattle.text_block_renderer.specs.Text.{lines_text}
 use Rattle.text_block_renderer.specs.Flush.{Flushes, FlushesBlock, BlockIsTooNarrow, FlushIsTooNarrow}
 use Rattle.text_block_renderer.proofs.Moves.{flushed_none}
-use Rattle.tbr_runner.specs.Closing.{with_notes, footnotes_of, finalised, ClosesAs}
+use Rattle.tbr_runner.specs.Closing.{with_notes, footnotes_of, finalised, ClosesAs, ClosesIn, FlushesAsClosed}
 
 -- ---- footnotes open no block
 
@@ -57,18 +57,16 @@ some_lines columns f [] r e = absurd (false≢true (sym e))
 some_lines columns f (line ∷ lines) r e = refl
 
 module _ {D M : Type 0} (columns : ℕ → Option ℕ) (decoration : Decoration D M) (targets : List (List ℕ)) (r : Renderer D M (List M)) where
-  abbrev Text : List (List (Element M)) → Renderer D M (List M) → List ℕ → Type 0
-  Text notes s text = chars text ≡ lines_text (let t = with_notes columns notes s in t.lines)
+  -- the bytes of lines
+  pub text_closes : (lines : List (Line (List M))) (text : List ℕ) → IsUtf8 text → chars text ≡ lines_text lines → ClosesIn columns decoration targets r lines → ClosesAs columns decoration targets r text
+  text_closes lines text is_text is h = (h.0, h.1, sym (encodes-chars text is_text) ∙ ap encode_utf8_all (is ∙ ap lines_text h.2))
 
   module _ {A : Type 0} (f : A → M) (lines : List (List (Element A))) where
-    closes : lines_meant f lines ≡ footnotes_of columns decoration targets r → (text : List ℕ) → IsUtf8 text → (s : Renderer D M (List M)) → Flushes columns (finalised columns decoration targets r) s → Text (lines_meant f lines) s text → ClosesAs columns decoration targets r text
-    closes are text is_text s flushes is =
-        let here : Text (footnotes_of columns decoration targets r) s text = subst (λ notes. Text notes s text) are is in
-        (s, flushes, sym (encodes-chars text is_text) ∙ ap encode_utf8_all here)
-
-    pub closes_without : lines_meant f lines ≡ footnotes_of columns decoration targets r → (length lines == 0) ≡ true → (text : List ℕ) → IsUtf8 text →
-        ((s : Renderer D M (List M)) × Flushes columns (finalised columns decoration targets r) s × (chars text ≡ lines_text s.lines)) → ClosesAs columns decoration targets r text
-    closes_without are none text is_text h = closes are text is_text h.0 h.1 (subst (λ notes. Text notes h.0 text) (sym (no_lines f lines none)) h.2)
+    pub closed_without : lines_meant f lines ≡ footnotes_of columns decoration targets r → (length lines == 0) ≡ true → FlushesAsClosed columns decoration targets r (finalised columns decoration targets r)
+    closed_without are none = record {
+      lines = λ s flushes. (s, flushes, ap (λ (notes : List (List (Element M))). let t = with_notes columns notes s in t.lines) (sym (no_lines f lines none) ∙ are));
+      too_narrow = λ h. h;
+    }
 
     module _ (begun noted : Renderer D M (List M)) (starts : StartsBlock columns (finalised columns decoration targets r) begun) (is : noted ≡ with_footnotes columns begun (lines_meant f lines)) where
       all : noted ≡ with_footnotes columns (block_started columns starts.0) (lines_meant f lines)
@@ -77,16 +75,14 @@ module _ {D M : Type 0} (columns : ℕ → Option ℕ) (decoration : Decoration 
       none_open : noted.block ≡ None
       none_open = ap (λ (q : Renderer D M (List M)). q.block) all ∙ noted_none columns (finalised columns decoration targets r) starts.0 (lines_meant f lines) starts.1
 
-      pub closes_with : lines_meant f lines ≡ footnotes_of columns decoration targets r → (length lines == 0) ≡ false → (text : List ℕ) → IsUtf8 text →
-          ((s : Renderer D M (List M)) × Flushes columns noted s × (chars text ≡ lines_text s.lines)) → ClosesAs columns decoration targets r text
-      closes_with are some text is_text h =
-          let same = still columns noted h.0 none_open h.1 ∙ all ∙ sym (some_lines columns f lines starts.0 some) in
-          closes are text is_text starts.0 starts.1 (h.2 ∙ ap (λ (q : Renderer D M (List M)). lines_text q.lines) same)
+      pub closed_with : lines_meant f lines ≡ footnotes_of columns decoration targets r → (length lines == 0) ≡ false → FlushesAsClosed columns decoration targets r noted
+      closed_with are some = record {
+        lines = λ s flushes.
+            let same = still columns noted s none_open flushes ∙ all ∙ sym (some_lines columns f lines starts.0 some) ∙ ap (λ (notes : List (List (Element M))). with_notes columns notes starts.0) are in
+            (starts.0, starts.1, ap (λ (q : Renderer D M (List M)). q.lines) same);
+        too_narrow = λ h. absurd (fits columns noted none_open h);
+      }
 
-      -- behind footnotes nothing is too narrow
-      pub nothing_narrow : FlushIsTooNarrow columns noted → ⊥
-      nothing_narrow h = fits columns noted none_open h
-
-      -- and nothing has failed
+      -- nothing has failed
       pub unfailed : begun.failure ≡ None → noted.failure ≡ None
       unfailed live = ap (λ (q : Renderer D M (List M)). q.failure) is ∙ lines_failure columns (flat_map (footnote_lines columns begun) (lines_meant f lines)) begun ∙ live

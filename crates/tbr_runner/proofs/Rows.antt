@@ -25,6 +25,14 @@ use Rattle.tbr_runner.specs.Progress.{Pending, Progress, cell_meant, pending_mea
 use Rattle.tbr_runner.specs.Meaning.{renderers_of, without_cells, with_blank, MayLook, MayFit, CellsAreTooNarrow, RowDoes, RowRefuses}
 use Rattle.tbr_runner.proofs.Meant.{on_top_meant, top_is_meant}
 
+pub same_some : {X : Type 0} {x y : X} → Some x ≡ Some y → x ≡ y
+same_some e = cc e
+
+-- the same top and the same cells
+pub fits_there : {D A T : Type 0} {r s : Renderer D A T} {cells others : List (Renderer D A T × ℕ)} {fits : Bool} → r ≡ s → cells ≡ others → row_fits r.hanging (spots_of cells) ≡ fits → row_fits s.hanging (spots_of others) ≡ fits
+fits_there {D} {A} {T} {r} {s} {cells} {others} top same is =
+    ap (λ (q : Renderer D A T). row_fits q.hanging (spots_of others)) (sym top) ∙ ap (λ (cs : List (Renderer D A T × ℕ)). row_fits r.hanging (spots_of cs)) (sym same) ∙ is
+
 same_if_some : {X Y : Type 0} (f : X → Y) (xs : List X) → is_some_list xs ≡ is_some_list (map f xs)
 same_if_some f [] = refl
 same_if_some f (x ∷ xs) = refl

@@ -4,7 +4,7 @@ use Rattle.tbr_lines.specs.Elements.{Element}
 use Rattle.tbr_decor.specs.Change as change
 use Rattle.tbr_decor.specs.Decoration.{Decoration}
 use Rattle.tbr_renderer.specs.Footnotes.{listed, with_footnotes}
-use Rattle.text_block_renderer.specs.Renderer.{Renderer}
+use Rattle.text_block_renderer.specs.Renderer.{Renderer, Line}
 use Rattle.text_block_renderer.specs.Steps.{block_started}
 use Rattle.text_block_renderer.specs.Text.{lines_text}
 use Rattle.text_block_renderer.specs.Flush.{Flushes, FlushIsTooNarrow}
@@ -34,3 +34,15 @@ module _ {D M : Type 0} (columns : ℕ → Option ℕ) (decoration : Decoration 
   -- The flush at the end is answered by `TooNarrow`.
   abbrev pub ClosingIsTooNarrow : Renderer D M (List M) → Type 0
   ClosingIsTooNarrow r = FlushIsTooNarrow columns (finalised r)
+
+  -- The lines behind a flush, and the footnotes behind them.
+  abbrev pub ClosesIn : Renderer D M (List M) → List (Line (List M)) → Type 0
+  ClosesIn r lines =
+      (s : Renderer D M (List M)) × Flushes columns (finalised r) s
+      × (lines ≡ (let t = with_notes columns (footnotes_of r) s in t.lines))
+
+  -- A flush of a renderer leaves the lines of another one with its footnotes, and is answered by `TooNarrow` only where
+  -- the flush of that one is.
+  pub record FlushesAsClosed (r noted : Renderer D M (List M)) : Type 0 where
+    pub lines : (s : Renderer D M (List M)) → Flushes columns noted s → ClosesIn r s.lines
+    pub too_narrow : FlushIsTooNarrow columns noted → ClosingIsTooNarrow r

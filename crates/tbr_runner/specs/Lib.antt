@@ -4,3 +4,4 @@ pub mod Decorations
 pub mod Closing
 pub mod Meaning
 pub mod Normal
+pub mod Overhang

@@ -3,17 +3,19 @@ ghost use Rattle.std.specs.Prelude.{◌≡◌, None, Err, map, IfOk, string_byte
 ghost use Rattle.tbr_lines.specs.View.{chars_of};
 ghost use Rattle.tbr_lines.specs.declared.Error.TheVariants as E;
 ghost use Rattle.tbr_decor.specs.Decoration.{decoration_of};
-ghost use Rattle.text_block_renderer.specs.Meant.{meant};
-ghost use Rattle.tbr_runner.specs.Closing.{ClosesAs, ClosingIsTooNarrow};
+ghost use Rattle.text_block_renderer.specs.Meant.{tag_meant, map_line, meant};
+ghost use Rattle.text_block_renderer.specs.View.{line_seen};
+ghost use Rattle.tbr_runner.specs.Closing.{ClosesAs, ClosesIn, ClosingIsTooNarrow, FlushesAsClosed};
 
+use std::collections::LinkedList;
 use tbr_decor::TextDecorator;
-use tbr_lines::{CharWidth, Error};
+use tbr_lines::{CharWidth, Error, RenderLine};
 use text_block_renderer::{Renderer, SubRenderer};
 
 /// The text of a renderer whose links have these targets: its lines, and behind them the footnotes as a block of their
 /// own, if there are any.
 pub fn close<D: TextDecorator, W: CharWidth>(
-    mut renderer: SubRenderer<D, W>,
+    renderer: SubRenderer<D, W>,
     targets: Vec<String>,
 ) -> Result<String, Error>
     requires { renderer.failure ≡ None }
@@ -24,11 +26,44 @@ pub fn close<D: TextDecorator, W: CharWidth>(
         result ≡ Err E.TooNarrow →
         ClosingIsTooNarrow W.columns (decoration_of D.TextDecorator) links (meant D.meaning renderer) }
 {
+    with_footnotes(renderer, targets)?.into_string()
+}
+
+/// The same as lines.
+pub fn close_lines<D: TextDecorator, W: CharWidth>(
+    renderer: SubRenderer<D, W>,
+    targets: Vec<String>,
+) -> Result<LinkedList<RenderLine<Vec<D::Annotation>>>, Error>
+    requires { renderer.failure ≡ None }
+    ensures lines { let links = map chars_of targets.items in
+        IfOk result (λ lines. ClosesIn W.columns (decoration_of D.TextDecorator) links (meant D.meaning renderer)
+        (map (map_line (tag_meant D.meaning)) (map line_seen lines))) }
+    ensures too_narrow { let links = map chars_of targets.items in
+        result ≡ Err E.TooNarrow →
+        ClosingIsTooNarrow W.columns (decoration_of D.TextDecorator) links (meant D.meaning renderer) }
+{
+    with_footnotes(renderer, targets)?.into_lines()
+}
+
+/// The renderer, and behind its lines the footnotes.
+fn with_footnotes<D: TextDecorator, W: CharWidth>(
+    mut renderer: SubRenderer<D, W>,
+    targets: Vec<String>,
+) -> Result<SubRenderer<D, W>, Error>
+    requires { renderer.failure ≡ None }
+    ensures noted { let links = map chars_of targets.items in
+        IfOk result (λ noted. FlushesAsClosed W.columns (decoration_of D.TextDecorator) links
+        (meant D.meaning renderer) (meant D.meaning noted)) }
+    ensures live { IfOk result (λ noted. noted.failure ≡ None) }
+    ensures too_narrow { let links = map chars_of targets.items in
+        result ≡ Err E.TooNarrow →
+        ClosingIsTooNarrow W.columns (decoration_of D.TextDecorator) links (meant D.meaning renderer) }
+{
     let footnotes = renderer.finalise(targets)?;
     if footnotes.is_empty() {
-        return renderer.into_string();
+        return Ok(renderer);
     }
     renderer.start_block()?;
     renderer.fmt_links(footnotes)?;
-    renderer.into_string()
+    Ok(renderer)
 }

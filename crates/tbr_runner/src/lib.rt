@@ -2,6 +2,8 @@
 #![tactic(auto)]
 
 pub use laws::a_script_gives_one_thing;
+pub use prefixes::DecoratorPrefix;
+pub use program::Program;
 pub use runner::run;
 
 mod closing;

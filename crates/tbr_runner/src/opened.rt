@@ -1,5 +1,5 @@
 //! Levels that are open.
-ghost use Rattle.std.specs.Prelude.{◌≡◌, ◌≢◌, ◌↔◌, ◌<◌, ℕ, true, None, Some, [], ◌∷◌, OnOk, IfSome, IfNone};
+ghost use Rattle.std.specs.Prelude.{◌≡◌, ◌≢◌, ◌↔◌, ◌<◌, ℕ, true, None, Some, [], ◌∷◌, length, OnOk, IfSome, IfNone};
 ghost use Rattle.tbr_lines.specs.declared.CellAlign.{CellAlign as Align};
 ghost use Rattle.tbr_runner.specs.Progress.{IsSpanned};
 ghost use Rattle.tbr_runner.specs.declared.opened.Opener.{Opener as By};
@@ -79,6 +79,13 @@ impl<D: TextDecorator, W: CharWidth> OpenLevels<D, W> {
         ensures { (result ≡ true) ↔ (self.now ≡ []) }
     {
         self.levels.is_empty()
+    }
+
+    /// How many levels are open.
+    pub fn len(&self) -> usize
+        ensures { result ≡ length self.now }
+    {
+        self.levels.len()
     }
 
     /// Whether `sub` opened the innermost level.

@@ -75,6 +75,13 @@ impl<D: TextDecorator, W: CharWidth> Pending<D, W> {
         !self.cells.is_empty()
     }
 
+    /// The cells that wait, each with the rows that it spans.
+    pub fn cells(&self) -> &Vec<(SubRenderer<D, W>, usize)>
+        ensures { result.now.items ≡ self.now.cells }
+    {
+        &self.cells
+    }
+
     /// Lets a renderer wait as a cell of so many rows, at least 1, whose texts are aligned so. Where memory is refused
     /// the cell is dropped.
     pub fn add_cell(

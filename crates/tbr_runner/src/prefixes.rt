@@ -1,5 +1,6 @@
 //! Lines that are appended behind prefixes.
-ghost use Rattle.std.specs.Prelude.{◌≡◌, ◌⊎◌, List, length, None, Err, OnOk, string_bytes};
+ghost use Rattle.std.specs.Prelude.{◌≡◌, ◌⊎◌, List, length, None, Err, OnOk, IfOk, IfErr, string_bytes};
+ghost use Rattle.tbr_lines.specs.View.{chars_of};
 ghost use Rattle.tbr_lines.specs.declared.Error.TheVariants as E;
 ghost use Rattle.tbr_decor.specs.Decoration.{decoration_of};
 ghost use Rattle.text_block_renderer.specs.Renderer.{Line};
@@ -7,13 +8,26 @@ ghost use Rattle.text_block_renderer.specs.Meant.{meant};
 ghost use Rattle.text_block_renderer.specs.Flush.{FlushIsTooNarrow};
 ghost use Rattle.text_block_renderer.specs.Appended.{HandsOut, HoldsBack};
 ghost use Rattle.text_block_renderer.specs.Calls.{Does, append_subrender};
-ghost use Rattle.tbr_runner.specs.Prefixes.{prefixes};
+ghost use Rattle.tbr_runner.specs.Prefixes.{prefixes, asked_prefix};
 
 use std::iter;
 use tbr_decor::TextDecorator;
 use tbr_lines::{CharWidth, Error};
 use tbr_script::TextPair;
 use text_block_renderer::{Renderer, SubRenderer};
+
+/// What a decorator has a prefix for.
+#[derive(Clone, Copy, Debug, PartialEq, Eq)]
+pub enum DecoratorPrefix {
+    /// Each line of a header of a level.
+    Header(usize),
+    /// Each line of a quoted block.
+    Quote,
+    /// An item of a list.
+    Item,
+    /// The item of a list that has this number.
+    OrderedItem(i64),
+}
 
 /// How many prefixes come behind the first.
 const OTHERS: usize = usize::MAX - 1;
@@ -35,4 +49,22 @@ pub fn append_behind<D: TextDecorator, W: CharWidth>(
     let first = iter::once(texts.first.as_str());
     let others = iter::repeat_n(texts.second.as_str(), OTHERS);
     renderer.append_subrender(inside, first.chain(others))
+}
+
+/// The text of a prefix of the renderer's decorator. It refuses only for want of memory, and changes nothing.
+pub fn prefix_of<D: TextDecorator, W: CharWidth>(
+    renderer: &mut SubRenderer<D, W>,
+    prefix: DecoratorPrefix,
+) -> Result<String, Error>
+    ensures text { IfOk result (λ text.
+        chars_of text ≡ D.prefix_text renderer.old.decorator (asked_prefix prefix)) }
+    ensures memory { IfErr result (λ e. e ≡ E.OutOfMemory) }
+    ensures unchanged { renderer.new ≡ renderer.old }
+{
+    match prefix {
+        DecoratorPrefix::Header(level) => renderer.header_prefix(level),
+        DecoratorPrefix::Quote => renderer.quote_prefix(),
+        DecoratorPrefix::Item => renderer.unordered_item_prefix(),
+        DecoratorPrefix::OrderedItem(number) => renderer.ordered_item_prefix(number),
+    }
 }

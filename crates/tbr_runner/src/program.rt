@@ -1,30 +1,40 @@
 //! A script's commands, one after another.
-ghost use Rattle.std.specs.Prelude.{◌≡◌, [], ◌≢◌, ◌<◌, None, Some, Ok, Err, IfOk, IfErr, OnOk, string_bytes};
+ghost use Rattle.std.specs.Prelude.{◌≡◌, [], ◌≢◌, ◌<◌, None, Some, Ok, Err, IfOk, IfErr, OnOk, length, map, string_bytes};
+ghost use Rattle.tbr_lines.specs.View.{chars_of};
+ghost use Rattle.tbr_lines.specs.declared.Error.TheVariants as Refusal;
 ghost use Rattle.tbr_decor.specs.Decoration.{decoration_of};
 ghost use Rattle.text_block_renderer.specs.Renderer.{new_renderer};
+ghost use Rattle.text_block_renderer.specs.Meant.{tag_meant, map_line, meant};
+ghost use Rattle.text_block_renderer.specs.View.{line_seen};
 ghost use Rattle.tbr_script.specs.declared.error.RunError.TheVariants as E;
-ghost use Rattle.tbr_stack.specs.Stack.{new_stack};
+ghost use Rattle.tbr_stack.specs.Stack.{new_stack, top_of};
+ghost use Rattle.tbr_stack.specs.Top.{OfTop};
+ghost use Rattle.tbr_stack.specs.Links.{open_links};
 ghost use Rattle.tbr_commands.specs.Request.{request_of};
 ghost use Rattle.tbr_commands.specs.Command.{command_of, IsSized};
 ghost use Rattle.tbr_runner.specs.Progress.{progress_meant, nothing_pending, IsSpanned, GoesOn};
 ghost use Rattle.tbr_runner.specs.declared.opened.Opener.{Opener as By};
+ghost use Rattle.tbr_runner.specs.Closing.{ClosesIn, ClosingIsTooNarrow};
+ghost use Rattle.tbr_runner.specs.Overhang.{overhangs};
+ghost use Rattle.tbr_runner.specs.Prefixes.{asked_prefix};
 ghost use Rattle.tbr_runner.specs.Meaning.{opener, Closes, RequestDoes, RequestRefuses, LinkDoes, LinkRefuses, EndLinkDoes, EndLinkRefuses, LevelOpens, AppendDoes, AppendRefuses, CellDoes, CellRefuses, VerticalRowDoes, VerticalRowRefuses, RowDoes, RowRefuses, CommandDoes, CommandRefuses, LineDoes, LineRefuses, Ends};
 
-use crate::closing::close;
+use crate::closing::{close, close_lines};
 use crate::opened::{OpenLevels, Opener};
 use crate::pending::Pending;
-use crate::prefixes::append_behind;
+use crate::prefixes::{DecoratorPrefix, append_behind, prefix_of};
 use std::alloc::Global;
+use std::collections::LinkedList;
 use std::marker::Model;
 use std::mem;
 use tbr_commands::{Command, NewCell, Request};
 use tbr_decor::TextDecorator;
-use tbr_lines::CharWidth;
+use tbr_lines::{CharWidth, Error, RenderLine};
 use tbr_script::{RunError, TextPair};
 use tbr_stack::TextRenderer;
 use text_block_renderer::{RenderOptions, Renderer, SubRenderer};
 
-/// What a script has called so far behind its first command. After a refusal it isn't used any more.
+/// What a script has called so far behind its first command.
 #[derive(Drop)]
 pub struct Program<D: TextDecorator, W: CharWidth> {
     renderers: TextRenderer<D, W>,
@@ -91,7 +101,9 @@ impl<D: TextDecorator, W: CharWidth> Program<D, W> {
     }
 
     /// Does what a command asks for, on the line of this number.
-    fn run(&mut self, alloc: Global, number: usize, command: &Command) -> Result<(), RunError>
+    ///
+    /// After `OutOfMemory` and `TooNarrow` the program isn't to be used any more. Each other refusal leaves it as it was.
+    pub fn run(&mut self, alloc: Global, number: usize, command: &Command) -> Result<(), RunError>
         requires live { GoesOn self.old }
         requires sized { IsSized (command_of command.now) }
         ensures done { OnOk result (CommandDoes W.columns (decoration_of D.TextDecorator)
@@ -100,6 +112,7 @@ impl<D: TextDecorator, W: CharWidth> Program<D, W> {
         ensures refused { IfErr result (λ e. e ≢ RunError.OutOfMemory →
             CommandRefuses W.columns (decoration_of D.TextDecorator) (progress_meant D.meaning self.old) number
             (command_of command.now) e) }
+        ensures left { IfErr result (λ e. e ≢ RunError.OutOfMemory → e ≢ RunError.TooNarrow → self.new ≡ self.old) }
     {
         match command {
             Command::Ask(request) => self.call(number, request),
@@ -126,6 +139,7 @@ impl<D: TextDecorator, W: CharWidth> Program<D, W> {
         ensures refused { IfErr result (λ e. e ≢ RunError.OutOfMemory →
             RequestRefuses W.columns (decoration_of D.TextDecorator) (progress_meant D.meaning self.old) number
             (request_of request.now) e) }
+        ensures left { IfErr result (λ e. e ≢ RunError.OutOfMemory → e ≢ RunError.TooNarrow → self.new ≡ self.old) }
     {
         if self.pending.lacks(request) {
             return Err(RunError::NothingToEnd(number));
@@ -157,6 +171,7 @@ impl<D: TextDecorator, W: CharWidth> Program<D, W> {
         ensures live { OnOk result (GoesOn self.new) }
         ensures refused { IfErr result (λ e. e ≢ RunError.OutOfMemory →
             EndLinkRefuses W.columns (decoration_of D.TextDecorator) (progress_meant D.meaning self.old) number e) }
+        ensures left { IfErr result (λ e. e ≢ RunError.OutOfMemory → e ≢ RunError.TooNarrow → self.new ≡ self.old) }
     {
         if self.renderers.open_links() == 0 {
             return Err(RunError::NothingToEnd(number));
@@ -204,6 +219,7 @@ impl<D: TextDecorator, W: CharWidth> Program<D, W> {
         ensures live { OnOk result (GoesOn self.new) }
         ensures refused { IfErr result (λ e. e ≢ RunError.OutOfMemory →
             AppendRefuses W.columns (progress_meant D.meaning self.old) number e) }
+        ensures left { IfErr result (λ e. e ≢ RunError.OutOfMemory → e ≢ RunError.TooNarrow → self.new ≡ self.old) }
     {
         if !self.opened.is_sub() {
             return Err(RunError::NothingToEnd(number));
@@ -225,6 +241,7 @@ impl<D: TextDecorator, W: CharWidth> Program<D, W> {
         ensures live { OnOk result (GoesOn self.new) }
         ensures refused { IfErr result (λ e. e ≢ RunError.OutOfMemory →
             CellRefuses (progress_meant D.meaning self.old) number e) }
+        ensures left { IfErr result (λ e. e ≢ RunError.OutOfMemory → e ≢ RunError.TooNarrow → self.new ≡ self.old) }
     {
         let Some((span, align)) = self.opened.cell() else {
             return Err(RunError::NothingToEnd(number));
@@ -245,12 +262,13 @@ impl<D: TextDecorator, W: CharWidth> Program<D, W> {
         ensures live { OnOk result (GoesOn self.new) }
         ensures refused { IfErr result (λ e. e ≢ RunError.OutOfMemory →
             RowRefuses W.columns (progress_meant D.meaning self.old) number e) }
+        ensures left { IfErr result (λ e. e ≢ RunError.OutOfMemory → e ≢ RunError.TooNarrow → self.new ≡ self.old) }
     {
-        let (cells, aligns) = self.pending.take_cells(alloc);
-        let top = self.renderers.top_mut();
-        if !top.row_fits(&cells) {
+        if !self.renderers.top().row_fits(self.pending.cells()) {
             return Err(RunError::RowDoesNotFit(number));
         }
+        let (cells, aligns) = self.pending.take_cells(alloc);
+        let top = self.renderers.top_mut();
         top.append_columns_aligned(cells, &aligns, collapse)?;
         Ok(())
     }
@@ -285,5 +303,78 @@ impl<D: TextDecorator, W: CharWidth> Program<D, W> {
         }
         let (renderer, targets) = self.renderers.into_inner();
         Ok(close(renderer, targets)?)
+    }
+
+    /// The lines of the text, where no level is open and no cell waits. It refuses as `finish` does then.
+    pub fn finish_lines(self) -> Result<LinkedList<RenderLine<Vec<D::Annotation>>>, Error>
+        requires live { GoesOn self }
+        requires opened { self.opened ≡ [] }
+        requires cells { self.pending.cells ≡ [] }
+        ensures lines { IfOk result (λ lines. OfTop (λ r. ClosesIn W.columns (decoration_of D.TextDecorator)
+            self.stack.links (meant D.meaning r) (map (map_line (tag_meant D.meaning)) (map line_seen lines)))
+            self.stack) }
+        ensures too_narrow { result ≡ Err Refusal.TooNarrow → OfTop (λ r. ClosingIsTooNarrow W.columns
+            (decoration_of D.TextDecorator) self.stack.links (meant D.meaning r)) self.stack }
+    {
+        let (renderer, targets) = self.renderers.into_inner();
+        close_lines(renderer, targets)
+    }
+
+    /// The renderer of the innermost level.
+    pub fn top(&self) -> &SubRenderer<D, W>
+        requires { GoesOn self.now }
+        ensures { top_of self.now.stack ≡ Some result.now }
+    {
+        self.renderers.top()
+    }
+
+    /// The text of a prefix of the decorator of the innermost level. It refuses only for want of memory, and changes
+    /// nothing.
+    pub fn prefix(&mut self, prefix: DecoratorPrefix) -> Result<String, Error>
+        requires { GoesOn self.old }
+        ensures text { IfOk result (λ text.
+            OfTop (λ r. chars_of text ≡ D.prefix_text r.decorator (asked_prefix prefix)) self.old.stack) }
+        ensures memory { IfErr result (λ e. e ≡ Refusal.OutOfMemory) }
+        ensures unchanged { self.new ≡ self.old }
+    {
+        let top = self.renderers.top_mut();
+        prefix_of(top, prefix)
+    }
+
+    /// Whether lines of cells still wait for their rows in the innermost level: whether a row would not fit that is one
+    /// cell with a text, as wide as can be. It refuses only for want of memory.
+    pub fn has_overhang(&self, alloc: Global) -> Result<bool, Error>
+        requires { GoesOn self.now }
+        ensures hangs { IfOk result (λ hangs. OfTop (λ r. hangs ≡ overhangs r) self.now.stack) }
+        ensures memory { IfErr result (λ e. e ≡ Refusal.OutOfMemory) }
+    {
+        let top = self.renderers.top();
+        let mut cell = top.new_sub_renderer(usize::MAX)?;
+        cell.fail(Error::TooNarrow);
+        let mut row = Vec::new(alloc);
+        row.push((cell, 1))?;
+        Ok(!top.row_fits(&row))
+    }
+
+    /// How many levels are open inside the outermost one.
+    pub fn open_levels(&self) -> usize
+        ensures { result ≡ length self.now.opened }
+    {
+        self.opened.len()
+    }
+
+    /// How many links are open in the innermost level.
+    pub fn open_links(&self) -> usize
+        requires { GoesOn self.now }
+        ensures { result ≡ length (open_links self.now.stack) }
+    {
+        self.renderers.open_links()
+    }
+
+    /// How many cells wait in the innermost level.
+    pub fn waiting_cells(&self) -> usize
+        ensures { result ≡ length self.now.pending.cells }
+    {
+        self.pending.cells().len()
     }
 }

@@ -7,8 +7,8 @@ pub use tbr_decor::{
     usual,
 };
 pub use tbr_lines::{
-    BorderHoriz, BorderSegHoriz, CellAlign, CharWidth, Chars, Error, IntoIter, Iter, OutOfMemory,
-    RenderLine, TaggedLine, TaggedLineElement, TaggedString, TaggedStrings, TooNarrow,
+    BorderHoriz, BorderSegHoriz, CellAlign, CharWidth, Chars, EndedLines, Error, IntoIter, Iter,
+    OutOfMemory, RenderLine, TaggedLine, TaggedLineElement, TaggedString, TaggedStrings, TooNarrow,
     UnicodeColumns, WhiteSpace, WrappedBlock, always_takes_space, is_wordbreak_point, text_width,
 };
 pub use tbr_renderer::{ImageRenderMode, RenderOptions, Renderer, SubRenderer};

@@ -1,0 +1,265 @@
+/*
+ * Uses the library wrongly in every way that it can see, and wants the status that the header says, and that the
+ * renderer goes on as it was.
+ */
+#include <stdio.h>
+
+#include "text_block_renderer.h"
+
+static int failures = 0;
+
+#define WANT(call, wanted) want((call), (wanted), #call, __LINE__)
+
+static void want(tbr_status answer, tbr_status wanted, const char *call, int line) {
+    if (answer != wanted) {
+        printf("line %d: %s answers \"%s\", not \"%s\"\n", line, call, tbr_status_text(answer),
+            tbr_status_text(wanted));
+        failures++;
+    }
+}
+
+static void want_text(tbr_renderer *r, const char *wanted) {
+    char text[256];
+    size_t length = 0;
+    WANT(tbr_text(r, text, sizeof text, &length), TBR_OK);
+    if (length != strlen(wanted) || memcmp(text, wanted, length)) {
+        printf("the text is\n%.*snot\n%s", (int)length, text, wanted);
+        failures++;
+    }
+}
+
+static tbr_renderer *new_renderer(size_t width) {
+    tbr_options options = tbr_options_default(width);
+    tbr_renderer *r;
+    WANT(tbr_new(&options, &r), TBR_OK);
+    return r;
+}
+
+/* ---- options ---- */
+
+static void bad_options(void) {
+    tbr_renderer *r;
+    tbr_options options = tbr_options_default(0);
+    WANT(tbr_new(&options, &r), TBR_BAD_WIDTH);
+    options.width = 20;
+    options.decorator = 3;
+    WANT(tbr_new(&options, &r), TBR_BAD_ARGUMENT);
+    options.decorator = TBR_RICH;
+    options.images = 3;
+    WANT(tbr_new(&options, &r), TBR_BAD_ARGUMENT);
+    if (r) {
+        puts("a renderer that wasn't made isn't NULL");
+        failures++;
+    }
+}
+
+static void no_renderer(void) {
+    size_t size;
+    tbr_line line;
+    WANT(tbr_add_text(NULL, "text"), TBR_NO_RENDERER);
+    WANT(tbr_finish(NULL), TBR_NO_RENDERER);
+    WANT(tbr_width(NULL, &size), TBR_NO_RENDERER);
+    WANT(tbr_next_line(NULL, &line), TBR_NO_RENDERER);
+    tbr_free(NULL);
+}
+
+/* ---- a renderer that is filled ---- */
+
+static void bad_arguments(tbr_renderer *r) {
+    WANT(tbr_add_text_n(r, "\xff", 1), TBR_NOT_UTF8);
+    WANT(tbr_start_link(r, "\xc3"), TBR_NOT_UTF8);
+    WANT(tbr_add_marker(r, "\xed\xa0\x80"), TBR_NOT_UTF8);
+    WANT(tbr_add_image(r, "a.png", "\x80"), TBR_NOT_UTF8);
+    WANT(tbr_add_image(r, "\x80", "a"), TBR_NOT_UTF8);
+    WANT(tbr_append_sub(r, "> ", "\xff"), TBR_NOT_UTF8);
+    WANT(tbr_add_text_n(r, NULL, 1), TBR_BAD_ARGUMENT);
+    WANT(tbr_add_text_n(r, NULL, 0), TBR_OK);
+    WANT(tbr_add_text(r, NULL), TBR_OK);
+    WANT(tbr_push_white_space(r, (tbr_white_space)3), TBR_BAD_ARGUMENT);
+    WANT(tbr_start_sub(r, 0), TBR_BAD_WIDTH);
+    WANT(tbr_start_cell(r, 0, 1, TBR_LEFT), TBR_BAD_WIDTH);
+    WANT(tbr_start_cell(r, 1, 0, TBR_LEFT), TBR_BAD_ARGUMENT);
+    WANT(tbr_start_cell(r, 1, 1, (tbr_alignment)3), TBR_BAD_ARGUMENT);
+}
+
+static void nothing_to_end(tbr_renderer *r) {
+    WANT(tbr_pop_white_space(r), TBR_NOTHING_TO_END);
+    WANT(tbr_end_preformatted(r), TBR_NOTHING_TO_END);
+    WANT(tbr_end_link(r), TBR_NOTHING_TO_END);
+    WANT(tbr_end_emphasis(r), TBR_NOTHING_TO_END);
+    WANT(tbr_end_strong(r), TBR_NOTHING_TO_END);
+    WANT(tbr_end_strikeout(r), TBR_NOTHING_TO_END);
+    WANT(tbr_end_code(r), TBR_NOTHING_TO_END);
+    WANT(tbr_end_superscript(r), TBR_NOTHING_TO_END);
+    WANT(tbr_end_colour(r), TBR_NOTHING_TO_END);
+    WANT(tbr_end_background(r), TBR_NOTHING_TO_END);
+    WANT(tbr_append_sub(r, "", ""), TBR_NOTHING_TO_END);
+    WANT(tbr_end_cell(r), TBR_NOTHING_TO_END);
+}
+
+static void lines_too_early(tbr_renderer *r) {
+    char text[8];
+    size_t length;
+    tbr_line line;
+    tbr_piece piece;
+    tbr_annotation annotation;
+    WANT(tbr_text(r, text, sizeof text, &length), TBR_NOT_FINISHED);
+    WANT(tbr_next_line(r, &line), TBR_NOT_FINISHED);
+    WANT(tbr_line_text(r, text, sizeof text, &length), TBR_NOT_FINISHED);
+    WANT(tbr_get_piece(r, 0, &piece), TBR_NOT_FINISHED);
+    WANT(tbr_marker_name(r, 0, text, sizeof text, &length), TBR_NOT_FINISHED);
+    WANT(tbr_get_annotation(r, 0, 0, &annotation), TBR_NOT_FINISHED);
+    WANT(tbr_annotation_target(r, 0, 0, text, sizeof text, &length), TBR_NOT_FINISHED);
+}
+
+/* What is open where a level or the whole would end. */
+static void still_open(tbr_renderer *r) {
+    WANT(tbr_start_sub(r, 9), TBR_OK);
+    WANT(tbr_finish(r), TBR_STILL_OPEN);
+    WANT(tbr_start_cell(r, 3, 1, TBR_LEFT), TBR_OK);
+    WANT(tbr_append_sub(r, "", ""), TBR_NOTHING_TO_END);
+    WANT(tbr_end_cell(r), TBR_OK);
+    WANT(tbr_append_sub(r, "", ""), TBR_STILL_OPEN);
+    WANT(tbr_add_vertical_row(r), TBR_OK);
+    WANT(tbr_append_sub(r, "", ""), TBR_OK);
+    WANT(tbr_start_cell(r, 3, 1, TBR_LEFT), TBR_OK);
+    WANT(tbr_end_cell(r), TBR_OK);
+    WANT(tbr_finish(r), TBR_STILL_OPEN);
+    WANT(tbr_add_row(r, false), TBR_OK);
+}
+
+/* ---- a renderer that is finished ---- */
+
+static void fill_too_late(tbr_renderer *r) {
+    size_t count;
+    bool is_so;
+    char text[8];
+    WANT(tbr_add_text(r, "late"), TBR_FINISHED);
+    WANT(tbr_start_block(r), TBR_FINISHED);
+    WANT(tbr_start_link(r, "late"), TBR_FINISHED);
+    WANT(tbr_start_sub(r, 3), TBR_FINISHED);
+    WANT(tbr_add_row(r, false), TBR_FINISHED);
+    WANT(tbr_finish(r), TBR_FINISHED);
+    WANT(tbr_is_empty(r, &is_so), TBR_FINISHED);
+    WANT(tbr_has_overhang(r, &is_so), TBR_FINISHED);
+    WANT(tbr_width(r, &count), TBR_FINISHED);
+    WANT(tbr_width_minus(r, 2, 1, &count), TBR_FINISHED);
+    WANT(tbr_open_levels(r, &count), TBR_FINISHED);
+    WANT(tbr_quote_prefix(r, text, sizeof text, &count), TBR_FINISHED);
+    WANT(tbr_refusal(r), TBR_OK);
+}
+
+static void pieces_that_are_not_there(tbr_renderer *r) {
+    tbr_line line;
+    tbr_piece piece;
+    tbr_annotation annotation;
+    char text[8];
+    size_t length;
+    WANT(tbr_line_text(r, text, sizeof text, &length), TBR_NO_LINE);
+    WANT(tbr_get_piece(r, 0, &piece), TBR_NO_LINE);
+    WANT(tbr_next_line(r, &line), TBR_OK);
+    WANT(tbr_get_piece(r, line.pieces, &piece), TBR_NO_PIECE);
+    WANT(tbr_marker_name(r, 0, text, sizeof text, &length), TBR_NO_PIECE);
+    WANT(tbr_get_annotation(r, 0, 0, &annotation), TBR_NO_PIECE);
+    WANT(tbr_annotation_target(r, 0, 0, text, sizeof text, &length), TBR_NO_PIECE);
+    WANT(tbr_line_text(r, text, line.bytes - 1, &length), TBR_BUFFER_TOO_SMALL);
+    WANT(tbr_line_text(r, NULL, 1, &length), TBR_BAD_ARGUMENT);
+    WANT(tbr_line_text(r, NULL, 0, &length), TBR_BUFFER_TOO_SMALL);
+    WANT(tbr_line_text(r, text, sizeof text, &length), TBR_OK);
+    while (tbr_next_line(r, &line) == TBR_OK) {
+    }
+    WANT(tbr_next_line(r, &line), TBR_NO_LINE);
+    WANT(tbr_line_text(r, text, sizeof text, &length), TBR_OK);
+}
+
+static void each_in_one_renderer(void) {
+    tbr_renderer *r = new_renderer(12);
+    WANT(tbr_add_text(r, "two words"), TBR_OK);
+    bad_arguments(r);
+    nothing_to_end(r);
+    lines_too_early(r);
+    still_open(r);
+    WANT(tbr_finish(r), TBR_OK);
+    fill_too_late(r);
+    want_text(r, "two words\n───\n   \n───\n");
+    pieces_that_are_not_there(r);
+    want_text(r, "");
+    tbr_free(r);
+}
+
+/* ---- refusals that are kept, and a row that goes on waiting ---- */
+
+static void too_narrow(void) {
+    tbr_renderer *r = new_renderer(1);
+    size_t columns;
+    tbr_line line;
+    WANT(tbr_width_minus(r, 1, 2, &columns), TBR_TOO_NARROW);
+    WANT(tbr_refusal(r), TBR_OK);
+    WANT(tbr_add_text(r, "漢 "), TBR_TOO_NARROW);
+    WANT(tbr_refusal(r), TBR_TOO_NARROW);
+    WANT(tbr_add_text(r, "a"), TBR_TOO_NARROW);
+    WANT(tbr_end_link(r), TBR_TOO_NARROW);
+    WANT(tbr_width(r, &columns), TBR_TOO_NARROW);
+    WANT(tbr_finish(r), TBR_TOO_NARROW);
+    WANT(tbr_next_line(r, &line), TBR_TOO_NARROW);
+    tbr_free(r);
+}
+
+static void add_cell(tbr_renderer *r, const char *text, size_t width, size_t span) {
+    WANT(tbr_start_cell(r, width, span, TBR_LEFT), TBR_OK);
+    WANT(tbr_add_text(r, text), TBR_OK);
+    WANT(tbr_end_cell(r), TBR_OK);
+}
+
+/* A row that doesn't fit leaves its cells waiting; one below another they fit. */
+static void row_that_does_not_fit(void) {
+    tbr_renderer *r = new_renderer(9);
+    size_t count = 0;
+    bool has_overhang = false;
+    add_cell(r, "AB", 1, 2);
+    WANT(tbr_add_row(r, false), TBR_OK);
+    WANT(tbr_has_overhang(r, &has_overhang), TBR_OK);
+    add_cell(r, "x", 1, 1);
+    WANT(tbr_add_row(r, false), TBR_ROW_DOES_NOT_FIT);
+    WANT(tbr_waiting_cells(r, &count), TBR_OK);
+    WANT(tbr_add_row(r, true), TBR_ROW_DOES_NOT_FIT);
+    WANT(tbr_add_vertical_row(r), TBR_OK);
+    if (count != 1 || !has_overhang) {
+        puts("the cells of a row that doesn't fit don't wait");
+        failures++;
+    }
+    tbr_free(r);
+}
+
+/* ---- scripts ---- */
+
+static void want_answer(const char *script, tbr_status status, size_t line) {
+    char out[64] = "untouched";
+    tbr_answer answer = tbr_render(script, strlen(script), out, sizeof out);
+    WANT((tbr_status)answer.status, status);
+    if (answer.line != line || answer.length || strcmp(out, "untouched")) {
+        printf("a script is answered wrongly: line %zu\n", answer.line);
+        failures++;
+    }
+}
+
+static void scripts(void) {
+    want_answer("", TBR_NOT_A_COMMAND, 1);
+    want_answer("new 8 plain\ntext", TBR_NOT_A_COMMAND, 2);
+    want_answer("new 8 plain\n\nendem\n", TBR_NOTHING_TO_END, 3);
+    want_answer("new 1 plain\ntext \xe6\xbc\xa2", TBR_TOO_NARROW, 0);
+    want_answer("new 9 plain\ncell 1 2\ntext AB\nendcell\nrow\ncell 1 1\ntext x\nendcell\nrow\n",
+        TBR_ROW_DOES_NOT_FIT, 9);
+    WANT((tbr_status)tbr_render(NULL, 1, NULL, 0).status, TBR_BAD_ARGUMENT);
+}
+
+int main(void) {
+    bad_options();
+    no_renderer();
+    each_in_one_renderer();
+    too_narrow();
+    row_that_does_not_fit();
+    scripts();
+    printf("misuse: %s\n", failures ? "failed" : "each answered by its status");
+    return failures ? 1 : 0;
+}

@@ -1,0 +1,87 @@
+"""The library is called as its header declares it."""
+
+import ctypes
+import re
+import unittest
+from pathlib import Path
+
+from text_block_renderer import CellAlign, Decorator, ImageRenderMode, Kind, WhiteSpace, errors
+from text_block_renderer import _library as library
+
+HEADER = Path(__file__).resolve().parents[3] / "include" / "text_block_renderer.h"
+C_TYPES = {
+    "size_t": ctypes.c_size_t,
+    "uint32_t": ctypes.c_uint32,
+    "uint8_t": ctypes.c_uint8,
+    "int64_t": ctypes.c_int64,
+    "bool": ctypes.c_bool,
+    "const uint8_t *": ctypes.c_char_p,
+    "uint8_t *": ctypes.c_char_p,
+    "size_t *": ctypes.POINTER(ctypes.c_size_t),
+    "bool *": ctypes.POINTER(ctypes.c_bool),
+    "tbr_line *": ctypes.POINTER(library.Line),
+    "tbr_piece *": ctypes.POINTER(library.Piece),
+    "tbr_annotation *": ctypes.POINTER(library.Annotation),
+}
+STRUCTS = {
+    "tbr_options": library.Options,
+    "tbr_answer": library.Answer,
+    "tbr_line": library.Line,
+    "tbr_piece": library.Piece,
+    "tbr_annotation": library.Annotation,
+}
+ENUMS = {
+    "tbr_decorator": Decorator,
+    "tbr_images": ImageRenderMode,
+    "tbr_white_space": WhiteSpace,
+    "tbr_alignment": CellAlign,
+    "tbr_annotation_kind": Kind,
+}
+
+
+def declared(text: str) -> list[tuple[str, str]]:
+    """The type and the name of each parameter or field."""
+    return re.findall(r"([\w ]+?[ *]+)(\w+)\s*(?:[,;]|$)", " ".join(text.split()))
+
+
+def c_types(text: str) -> list[type]:
+    return [C_TYPES[kind.strip()] for kind, _ in declared(text)]
+
+
+class Declarations(unittest.TestCase):
+    @classmethod
+    def setUpClass(cls) -> None:
+        cls.header = re.sub(r"/\*.*?\*/", "", HEADER.read_text(), flags=re.S)
+
+    def test_each_call_is_declared(self) -> None:
+        calls = re.findall(
+            r"^uint32_t tbr1_(\w+)\(tbr_handle renderer,([^;]*?),?\s*tbr_renderer \*\*back\);", self.header, re.M
+        )
+        taken = {name: tuple(c_types(parameters)) for name, parameters in calls}
+        self.assertEqual(taken, library.CALLS)
+
+    def test_each_struct_has_its_fields(self) -> None:
+        for name, struct in STRUCTS.items():
+            fields = re.search(rf"typedef struct {name} {{(.*?)}}", self.header, re.S)
+            assert fields
+            expected = [(field, C_TYPES[kind.strip()]) for kind, field in declared(fields[1])]
+            self.assertEqual(struct._fields_, expected, name)
+
+    def test_each_enum_has_its_values(self) -> None:
+        for name, enum in ENUMS.items():
+            values = re.search(rf"typedef enum {name} {{(.*?)}}", self.header, re.S)
+            assert values
+            numbers = [int(number) for number in re.findall(r"= (\d+)", values[1])]
+            self.assertEqual([value.value for value in enum], numbers, name)
+
+    def test_each_status_has_its_exception(self) -> None:
+        texts = re.findall(r'case TBR_(\w+): return "(.*?)";', self.header)
+        numbers = dict(re.findall(r"TBR_(\w+) = (\d+)", self.header[: self.header.index("} tbr_status;")]))
+        for name, text in texts:
+            refused = errors.refusal(int(numbers[name]))
+            self.assertEqual(str(refused) if refused else "well", text, name)
+        self.assertEqual(len(texts), len(numbers))
+
+
+if __name__ == "__main__":
+    unittest.main()

@@ -1,0 +1,142 @@
+"""Why a call did nothing: an exception for each status of the library."""
+
+
+class RendererError(Exception):
+    """What all refusals of the library are."""
+
+    message = "no status"
+
+    def __init__(self) -> None:
+        super().__init__(self.message)
+
+
+class OutOfMemoryError(RendererError, MemoryError):
+    """Memory was refused, or a size passes that of the machine. A renderer keeps this refusal."""
+
+    message = "out of memory"
+
+
+class TooNarrowError(RendererError):
+    """A word holds a character that is wider than the line.
+
+    It doesn't come in lines of two columns or more. A renderer keeps this refusal.
+    """
+
+    message = "too narrow"
+
+
+class NotACommandError(RendererError):
+    """A line of a script isn't a command, or it comes where none like it may."""
+
+    message = "not a command"
+
+
+class NothingToEndError(RendererError):
+    """An end of what wasn't begun, or was ended already, in the level that is open."""
+
+    message = "nothing to end"
+
+
+class RowDoesNotFitError(RendererError):
+    """The cells of a row are in the way of what overhangs from the rows above."""
+
+    message = "row does not fit"
+
+
+class NotUtf8Error(RendererError, ValueError):
+    """A text has a surrogate, or bytes aren't UTF-8."""
+
+    message = "not UTF-8"
+
+
+class BadWidthError(RendererError, ValueError):
+    """A width of 0 columns."""
+
+    message = "a width of 0 columns"
+
+
+class BadArgumentError(RendererError, ValueError):
+    """A span of 0 rows, or a number that the library has no meaning for."""
+
+    message = "bad argument"
+
+
+class StillOpenError(RendererError):
+    """What would end has a level inside that is open, or cells that wait for a row."""
+
+    message = "a level is open or cells wait"
+
+
+class FinishedError(RendererError):
+    """The renderer is finished."""
+
+    message = "the renderer is finished"
+
+
+class NotFinishedError(RendererError):
+    """The renderer isn't finished."""
+
+    message = "the renderer is not finished"
+
+
+class NoLineError(RendererError):
+    """There is no line."""
+
+    message = "no line"
+
+
+class NoPieceError(RendererError):
+    """The line has no such piece, or the piece no such annotation."""
+
+    message = "no such piece"
+
+
+class BufferTooSmallError(RendererError):
+    """A text has more bytes than there is room for."""
+
+    message = "the buffer is too small"
+
+
+class NoRendererError(RendererError):
+    """The renderer was closed."""
+
+    message = "no renderer"
+
+
+class ScriptError(Exception):
+    """Why a script isn't rendered: `reason`, and the number of the line at fault, from 1, or None."""
+
+    def __init__(self, reason: RendererError, line: int | None) -> None:
+        super().__init__(f"line {line}: {reason}" if line else str(reason))
+        self.reason = reason
+        self.line = line
+
+
+_BY_STATUS: dict[int, type[RendererError]] = {
+    1: OutOfMemoryError,
+    2: TooNarrowError,
+    3: NotACommandError,
+    4: NothingToEndError,
+    5: RowDoesNotFitError,
+    6: NotUtf8Error,
+    7: BadWidthError,
+    8: BadArgumentError,
+    9: StillOpenError,
+    10: FinishedError,
+    11: NotFinishedError,
+    12: NoLineError,
+    13: NoPieceError,
+    14: BufferTooSmallError,
+    15: NoRendererError,
+}
+
+
+def refusal(status: int) -> RendererError | None:
+    """The exception of a status, or None where it is well."""
+    return _BY_STATUS.get(status, RendererError)() if status else None
+
+
+def check(status: int) -> None:
+    """Raises the exception of a status, if it has one."""
+    if refused := refusal(status):
+        raise refused

@@ -1,0 +1,55 @@
+"""What a renderer and its calls are told."""
+
+from dataclasses import dataclass
+from enum import IntEnum
+
+
+class Decorator(IntEnum):
+    """How decorated text is shown."""
+
+    PLAIN = 0
+    """By characters, as `[` and `]` about a link."""
+    TRIVIAL = 1
+    """By nothing but a superscript's `^{` and `}`."""
+    RICH = 2
+    """As `TRIVIAL`, and by annotations of each piece of a line."""
+
+
+class ImageRenderMode(IntEnum):
+    """What an image without a title shows."""
+
+    IGNORE_EMPTY = 0
+    """Nothing."""
+    SHOW_ALWAYS = 1
+    """The empty title, as the decorator shows it."""
+    FILENAME = 2
+    """What follows the last `/` of its source."""
+
+
+class WhiteSpace(IntEnum):
+    """What becomes of white space."""
+
+    NORMAL = 0
+    """A stretch of it counts as one space, and as none at the ends of lines."""
+    PRE = 1
+    """It is kept, and lines are cut where they are full."""
+    PRE_WRAP = 2
+    """It is kept, and words go on a fresh line where they don't fit."""
+
+
+class CellAlign(IntEnum):
+    """Where the lines of a cell stand in its columns."""
+
+    LEFT = 0
+    RIGHT = 1
+    CENTRE = 2
+    """In the middle, with the odd column on the right."""
+
+
+@dataclass(frozen=True)
+class Colour:
+    """A colour, by its red, green and blue parts, each from 0 to 255."""
+
+    r: int
+    g: int
+    b: int

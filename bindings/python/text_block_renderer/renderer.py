@@ -1,0 +1,390 @@
+"""The renderer."""
+
+import warnings
+from collections.abc import Iterator
+from contextlib import contextmanager, suppress
+from types import TracebackType
+
+from . import _library as library
+from ._handle import OwnedRenderer, size
+from .errors import NoLineError, RendererError, refusal
+from .lines import Annotation, FragmentStart, Kind, TaggedLine, TaggedString
+from .options import CellAlign, Colour, Decorator, ImageRenderMode, WhiteSpace
+
+# The bytes that most prefixes have at most.
+_PREFIX_ROOM = 24
+
+
+class Renderer:
+    """Writes blocks of text, one below another, into lines of a width in columns.
+
+    Its calls have the names of html2text's renderer. They fill the innermost level that is open: a level is a renderer
+    inside another one, which takes its lines behind prefixes or as a cell of a table. What begins in a level ends
+    there.
+
+    A call that does nothing raises a `RendererError`. `OutOfMemoryError` and `TooNarrowError` leave the renderer
+    refusing all that follows with the same; each other refusal leaves it as it was. `TooNarrowError` comes only where a
+    line has one column. Beside what is said of a call, any that takes memory can raise `OutOfMemoryError`, and any that
+    places a word `TooNarrowError`.
+
+    A renderer is used on the thread that made it; another one gets a `RuntimeError`. Use it by `with`, or `close` it.
+    """
+
+    def __init__(
+        self,
+        width: int,
+        decorator: Decorator = Decorator.PLAIN,
+        *,
+        wrap_width: int | None = None,
+        allow_width_overflow: bool = False,
+        pad_block_width: bool = False,
+        draw_borders: bool = True,
+        wrap_links: bool = True,
+        include_link_footnotes: bool = False,
+        use_unicode_strikeout: bool = True,
+        img_mode: ImageRenderMode = ImageRenderMode.IGNORE_EMPTY,
+    ) -> None:
+        """A renderer of so many columns, at least 1: `BadWidthError` else.
+
+        wrap_width: the most columns that a line of wrapped text takes, where these are fewer.
+        allow_width_overflow: a character that is wider than a line goes on a line of its own, and isn't too narrow.
+        pad_block_width: lines are filled with spaces up to their width.
+        draw_borders: borders of tables are drawn.
+        wrap_links: the targets of footnotes are cut where they don't fit a line.
+        include_link_footnotes: links show numbers, and their targets come after the text under these.
+        use_unicode_strikeout: struck out text has strokes.
+        img_mode: what an image without a title shows.
+        """
+        self._owned = OwnedRenderer(
+            library.Options(
+                width=size(width),
+                wrap_width=size(wrap_width or 0),
+                decorator=decorator,
+                images=img_mode,
+                overflow=allow_width_overflow,
+                pad=pad_block_width,
+                footnotes=include_link_footnotes,
+                wrap_links=wrap_links,
+                strikeout_strokes=use_unicode_strikeout,
+                draw_borders=draw_borders,
+            )
+        )
+
+    def close(self) -> None:
+        """Frees the renderer and its lines. A second time does nothing."""
+        self._owned.close()
+
+    def __enter__(self) -> "Renderer":
+        return self
+
+    def __exit__(
+        self, kind: type[BaseException] | None, raised: BaseException | None, trace: TracebackType | None
+    ) -> None:
+        self.close()
+
+    def __del__(self) -> None:
+        owned = getattr(self, "_owned", None)
+        if owned and not owned.is_closed:
+            warnings.warn("a renderer wasn't closed", ResourceWarning, source=self)
+            with suppress(RuntimeError):
+                owned.close()
+
+    # ---- taking its lines
+
+    def into_lines(self) -> Iterator[TaggedLine]:
+        """Its lines, one by one, with the footnotes of its links after them. It can't be filled any more.
+
+        `StillOpenError` where a level is open or cells wait.
+        """
+        self._owned.call("finish")
+        return self._lines()
+
+    def into_string(self) -> str:
+        """The text of its lines, each with a newline. It can't be filled any more, and refuses as `into_lines` does."""
+        self._owned.call("finish")
+        return self._owned.text(0, "text")
+
+    def _lines(self) -> Iterator[TaggedLine]:
+        while True:
+            try:
+                line = self._owned.fill(library.Line(), "next_line")
+            except NoLineError:
+                return
+            yield self._line(line)
+
+    def _line(self, line: library.Line) -> TaggedLine:
+        text = self._owned.text(line.bytes, "line_text").encode()
+        elements = tuple(self._element(place, text) for place in range(line.pieces))
+        return TaggedLine(elements, line.columns, line.is_border)
+
+    def _element(self, place: int, text: bytes) -> TaggedString | FragmentStart:
+        piece = self._owned.fill(library.Piece(), "get_piece", place)
+        if piece.kind:
+            return FragmentStart(self._owned.text(piece.name_bytes, "marker_name", place))
+        annotations = tuple(self._annotation(place, at) for at in range(piece.annotations))
+        return TaggedString(text[piece.begin : piece.end].decode(), annotations)
+
+    def _annotation(self, piece: int, place: int) -> Annotation:
+        found = self._owned.fill(library.Annotation(), "get_annotation", piece, place)
+        kind = Kind(found.kind)
+        if kind in (Kind.LINK, Kind.IMAGE):
+            return Annotation(kind, self._owned.text(found.target_bytes, "annotation_target", piece, place))
+        if kind in (Kind.COLOUR, Kind.BACKGROUND):
+            return Annotation(kind, colour=Colour(found.red, found.green, found.blue))
+        return Annotation(kind)
+
+    # ---- text, blocks and lines
+
+    def add_inline_text(self, text: str) -> None:
+        """Adds text, whose white space counts as the mode says that was pushed last.
+
+        A text ends no word: two texts without white space between them make one. `NotUtf8Error` where it has a
+        surrogate.
+        """
+        self._owned.with_texts("add_text", text)
+
+    def start_block(self) -> None:
+        """Begins a block: ends the open line, and adds an empty one below lines that have content."""
+        self._owned.call("start_block")
+
+    def end_block(self) -> None:
+        """Ends a block: text that comes begins a new one, and white space before it is ignored.
+
+        It may come any time.
+        """
+        self._owned.call("end_block")
+
+    def start_table(self) -> None:
+        """Begins a table, as a block is begun."""
+        self._owned.call("start_table")
+
+    def new_line(self) -> None:
+        """Ends the open line, if there is one."""
+        self._owned.call("new_line")
+
+    def new_line_hard(self) -> None:
+        """Ends the open line, and where there is none adds an empty one."""
+        self._owned.call("new_line_hard")
+
+    def add_empty_line(self) -> None:
+        """Ends the open line, and adds an empty one."""
+        self._owned.call("add_empty_line")
+
+    def add_horizontal_border(self) -> None:
+        """Ends the open line, and adds a border of the level's width."""
+        self._owned.call("add_border")
+
+    def add_horizontal_border_width(self, columns: int) -> None:
+        """The same of so many columns, which may be 0, and more than the level has."""
+        self._owned.call("add_border_width", size(columns))
+
+    def push_ws(self, mode: WhiteSpace) -> None:
+        """Begins a mode of white space. Where none has begun, all is `NORMAL`."""
+        self._owned.call("push_white_space", mode)
+
+    def pop_ws(self) -> None:
+        """Ends the mode that was pushed last. `NothingToEndError` where none was."""
+        self._owned.call("pop_white_space")
+
+    def record_frag_start(self, name: str) -> None:
+        """Puts a marker where the text stands, as an anchor for links. `NotUtf8Error` where it has a surrogate."""
+        self._owned.with_texts("add_marker", name)
+
+    # ---- decorated text: an end asks only that its own beginning came more often, and raises `NothingToEndError` else
+
+    def start_link(self, target: str) -> None:
+        """Begins a link to a target, which may be empty. `NotUtf8Error` where it has a surrogate."""
+        self._owned.with_texts("start_link", target)
+
+    def end_link(self) -> None:
+        """Ends the link that was begun last, and with footnotes shows its number."""
+        self._owned.call("end_link")
+
+    def start_emphasis(self) -> None:
+        """Begins emphasised text."""
+        self._owned.call("start_emphasis")
+
+    def end_emphasis(self) -> None:
+        """Ends emphasised text."""
+        self._owned.call("end_emphasis")
+
+    def start_strong(self) -> None:
+        """Begins strong text."""
+        self._owned.call("start_strong")
+
+    def end_strong(self) -> None:
+        """Ends strong text."""
+        self._owned.call("end_strong")
+
+    def start_strikeout(self) -> None:
+        """Begins struck out text, in which each character that takes columns gets a stroke where these are on."""
+        self._owned.call("start_strikeout")
+
+    def end_strikeout(self) -> None:
+        """Ends struck out text."""
+        self._owned.call("end_strikeout")
+
+    def start_code(self) -> None:
+        """Begins code."""
+        self._owned.call("start_code")
+
+    def end_code(self) -> None:
+        """Ends code."""
+        self._owned.call("end_code")
+
+    def start_superscript(self) -> None:
+        """Begins a superscript."""
+        self._owned.call("start_superscript")
+
+    def end_superscript(self) -> None:
+        """Ends a superscript."""
+        self._owned.call("end_superscript")
+
+    def push_preformat(self) -> None:
+        """Begins a preformatted stretch. That is a matter of annotations: push `WhiteSpace.PRE` to keep white space."""
+        self._owned.call("start_preformatted")
+
+    def pop_preformat(self) -> None:
+        """Ends a preformatted stretch."""
+        self._owned.call("end_preformatted")
+
+    def push_colour(self, colour: Colour) -> None:
+        """Begins text in a colour. `ValueError` where a part of it isn't between 0 and 255."""
+        self._owned.call("start_colour", *_parts(colour))
+
+    def pop_colour(self) -> None:
+        """Ends the colour that was pushed last."""
+        self._owned.call("end_colour")
+
+    def push_bgcolour(self, colour: Colour) -> None:
+        """Begins text on a background in a colour. `ValueError` where a part of it isn't between 0 and 255."""
+        self._owned.call("start_background", *_parts(colour))
+
+    def pop_bgcolour(self) -> None:
+        """Ends the background that was pushed last."""
+        self._owned.call("end_background")
+
+    def add_image(self, source: str, title: str) -> None:
+        """Adds an image by its title. What one without a title shows, `img_mode` says."""
+        self._owned.with_texts("add_image", source, title)
+
+    # ---- levels, and rows of cells
+
+    @contextmanager
+    def subrender(self, width: int, first: str, others: str) -> Iterator[None]:
+        """Fills a level of so many columns, and adds its lines: the first behind one text, each other behind another.
+
+        Leave room for the prefixes, as by `width_minus`. Where an exception leaves the block, the level stays open.
+        """
+        self.start_subrender(width)
+        yield
+        self.append_subrender(first, others)
+
+    def start_subrender(self, width: int) -> None:
+        """Opens a level of so many columns, whose lines `append_subrender` takes. `BadWidthError` at 0."""
+        self._owned.call("start_sub", size(width))
+
+    def append_subrender(self, first: str, others: str) -> None:
+        """Closes the level that `start_subrender` opened, and adds its lines to the one outside, behind prefixes.
+
+        `NothingToEndError` where the innermost level is no such one, `StillOpenError` where cells wait in it.
+        """
+        self._owned.with_texts("append_sub", first, others)
+
+    @contextmanager
+    def cell(self, width: int, span: int = 1, align: CellAlign = CellAlign.LEFT) -> Iterator[None]:
+        """Fills a cell of so many columns that spans so many rows, and then waits for a row.
+
+        Where an exception leaves the block, the cell stays open.
+        """
+        self.start_cell(width, span, align)
+        yield
+        self.end_cell()
+
+    def start_cell(self, width: int, span: int = 1, align: CellAlign = CellAlign.LEFT) -> None:
+        """Opens a cell. `BadWidthError` at 0 columns, `BadArgumentError` at 0 rows."""
+        self._owned.call("start_cell", size(width), size(span), align)
+
+    def end_cell(self) -> None:
+        """Closes the cell that is open, which then waits for a row.
+
+        `NothingToEndError` where the innermost level is none, `StillOpenError` where cells wait in it.
+        """
+        self._owned.call("end_cell")
+
+    def append_columns_with_borders(self, collapse: bool = False) -> None:
+        """Adds the cells that wait as a row, side by side, joined to a border that is the last line, with one below.
+
+        What a cell of more rows has below this one overhangs into the next. With `collapse` borders at the tops and
+        bottoms of cells become one with those of the row. `RowDoesNotFitError` where cells are in the way of what
+        overhangs; they go on waiting then.
+        """
+        self._owned.call("add_row", collapse)
+
+    def append_vert_row(self) -> None:
+        """Adds the cells that wait, one below another, whatever rows they span."""
+        self._owned.call("add_vertical_row")
+
+    # ---- questions, of the innermost level that is open, which change nothing
+
+    def failure(self) -> RendererError | None:
+        """The refusal that is kept, if there is one."""
+        return refusal(self._owned.refusal())
+
+    def empty(self) -> bool:
+        """Whether it has no line, and no text on an open one."""
+        return self._owned.flag("is_empty")
+
+    def has_overhang(self) -> bool:
+        """Whether lines of cells that span more rows than came yet still wait. Those that wait at the end are lost."""
+        return self._owned.flag("has_overhang")
+
+    def width(self) -> int:
+        """Its columns."""
+        return self._owned.number("width")
+
+    def width_minus(self, prefix_len: int, min_width: int) -> int:
+        """The columns that it has left behind a prefix, but `min_width` at least.
+
+        `TooNarrowError`, which isn't kept, where fewer than these are left and no overflow is allowed.
+        """
+        return self._owned.number("width_minus", size(prefix_len), size(min_width))
+
+    def depth(self) -> int:
+        """How many levels are open inside the renderer."""
+        return self._owned.number("open_levels")
+
+    def open_links(self) -> int:
+        """How many links are open."""
+        return self._owned.number("open_links")
+
+    def waiting_cells(self) -> int:
+        """How many cells wait for a row."""
+        return self._owned.number("waiting_cells")
+
+    # ---- the prefixes of the decorator, for `append_subrender`
+
+    def header_prefix(self, level: int) -> str:
+        """Behind which each line of a header of a level comes, as `## `."""
+        return self._owned.text(_PREFIX_ROOM, "header_prefix", size(level))
+
+    def quote_prefix(self) -> str:
+        """Behind which each line of a quoted block comes, as `> `."""
+        return self._owned.text(_PREFIX_ROOM, "quote_prefix")
+
+    def unordered_item_prefix(self) -> str:
+        """Behind which the first line of an item of a list comes, as `* `. The others come behind as many spaces."""
+        return self._owned.text(_PREFIX_ROOM, "item_prefix")
+
+    def ordered_item_prefix(self, number: int) -> str:
+        """The same of the item of a list that has a number, as `3. `. `ValueError` past 64 bits."""
+        if not -(2**63) <= number < 2**63:
+            raise ValueError(f"{number} doesn't fit 64 bits")
+        return self._owned.text(_PREFIX_ROOM, "ordered_item_prefix", number)
+
+
+def _parts(colour: Colour) -> tuple[int, int, int]:
+    parts = (colour.r, colour.g, colour.b)
+    if not all(0 <= part <= 255 for part in parts):
+        raise ValueError(f"{colour} has a part that isn't between 0 and 255")
+    return parts

@@ -1,0 +1,91 @@
+use std::error;
+use std::fmt;
+
+/// Why a call did nothing.
+#[derive(Clone, Copy, Debug, PartialEq, Eq, Hash)]
+#[non_exhaustive]
+pub enum Error {
+    /// Memory was refused, or a size passes `usize`. A renderer keeps this refusal.
+    OutOfMemory,
+    /// A word holds a character that is wider than the line. It doesn't come in lines of two columns or more. A
+    /// renderer keeps this refusal.
+    TooNarrow,
+    /// A line of a script isn't a command, or it comes where none like it may.
+    NotACommand,
+    /// An end of what wasn't begun, or was ended already, in the level that is open.
+    NothingToEnd,
+    /// The cells of a row are in the way of what overhangs from the rows above.
+    RowDoesNotFit,
+    /// Bytes that aren't UTF-8.
+    NotUtf8,
+    /// A width of 0 columns.
+    BadWidth,
+    /// A span of 0 rows, or a number that the library has no meaning for.
+    BadArgument,
+    /// What would end has a level inside that is open, or cells that wait for a row.
+    StillOpen,
+    /// The renderer is finished.
+    Finished,
+    /// The renderer isn't finished.
+    NotFinished,
+    /// There is no line.
+    NoLine,
+    /// The line has no such piece, or the piece no such annotation.
+    NoPiece,
+    /// A text has more bytes than there is room for.
+    BufferTooSmall,
+    /// There is no renderer.
+    NoRenderer,
+    /// A status that a later version of the library answers.
+    Unknown(u32),
+}
+
+impl Error {
+    /// What a status says. Not all of them can come from a call of this crate.
+    pub(crate) fn check(status: u32) -> Result<(), Error> {
+        Err(match status {
+            0 => return Ok(()),
+            1 => Error::OutOfMemory,
+            2 => Error::TooNarrow,
+            3 => Error::NotACommand,
+            4 => Error::NothingToEnd,
+            5 => Error::RowDoesNotFit,
+            6 => Error::NotUtf8,
+            7 => Error::BadWidth,
+            8 => Error::BadArgument,
+            9 => Error::StillOpen,
+            10 => Error::Finished,
+            11 => Error::NotFinished,
+            12 => Error::NoLine,
+            13 => Error::NoPiece,
+            14 => Error::BufferTooSmall,
+            15 => Error::NoRenderer,
+            other => Error::Unknown(other),
+        })
+    }
+}
+
+impl fmt::Display for Error {
+    fn fmt(&self, f: &mut fmt::Formatter<'_>) -> fmt::Result {
+        f.write_str(match self {
+            Error::OutOfMemory => "out of memory",
+            Error::TooNarrow => "too narrow",
+            Error::NotACommand => "not a command",
+            Error::NothingToEnd => "nothing to end",
+            Error::RowDoesNotFit => "row does not fit",
+            Error::NotUtf8 => "not UTF-8",
+            Error::BadWidth => "a width of 0 columns",
+            Error::BadArgument => "bad argument",
+            Error::StillOpen => "a level is open or cells wait",
+            Error::Finished => "the renderer is finished",
+            Error::NotFinished => "the renderer is not finished",
+            Error::NoLine => "no line",
+            Error::NoPiece => "no such piece",
+            Error::BufferTooSmall => "the buffer is too small",
+            Error::NoRenderer => "no renderer",
+            Error::Unknown(status) => return write!(f, "status {status}"),
+        })
+    }
+}
+
+impl error::Error for Error {}

@@ -1,0 +1,20 @@
+#![doc = include_str!("../README.md")]
+#![warn(missing_docs)]
+
+mod error;
+mod handle;
+mod line;
+mod lines;
+mod options;
+mod renderer;
+mod script;
+mod sys;
+mod width;
+
+pub use error::Error;
+pub use line::{Colour, RichAnnotation, TaggedLine, TaggedLineElement, TaggedString};
+pub use lines::Lines;
+pub use options::{Cell, CellAlign, ImageRenderMode, Options, WhiteSpace};
+pub use renderer::Renderer;
+pub use script::{render_script, ScriptError};
+pub use width::text_width;

@@ -1,0 +1,195 @@
+use crate::sys;
+
+/// What a renderer is told to do: its width and how decorated text is shown, and settings that can be changed.
+///
+/// The settings have the names that html2text gives them.
+///
+/// ```
+/// use text_block_renderer::{Options, Renderer};
+///
+/// let mut renderer = Renderer::new(&Options::plain(9).draw_borders(false))?;
+/// for (width, text) in [(3, "a"), (5, "bc")] {
+///     renderer.cell(width, |cell| cell.add_inline_text(text))?;
+/// }
+/// renderer.append_columns_with_borders(false)?;
+/// assert_eq!(renderer.into_string()?, "a   bc   \n");
+/// # Ok::<(), text_block_renderer::Error>(())
+/// ```
+#[derive(Clone, Copy, Debug, PartialEq, Eq)]
+pub struct Options {
+    width: usize,
+    decorator: Decorator,
+    wrap_width: Option<usize>,
+    allow_width_overflow: bool,
+    pad_block_width: bool,
+    draw_borders: bool,
+    wrap_links: bool,
+    include_link_footnotes: bool,
+    use_unicode_strikeout: bool,
+    img_mode: ImageRenderMode,
+}
+
+/// How decorated text is shown.
+#[derive(Clone, Copy, Debug, PartialEq, Eq)]
+enum Decorator {
+    Plain = 0,
+    Trivial = 1,
+    Rich = 2,
+}
+
+/// What an image without a title shows.
+#[derive(Clone, Copy, Debug, Default, PartialEq, Eq, Hash)]
+pub enum ImageRenderMode {
+    /// Nothing.
+    #[default]
+    IgnoreEmpty = 0,
+    /// The empty title, as the decorator shows it.
+    ShowAlways = 1,
+    /// What follows the last `/` of its source.
+    Filename = 2,
+}
+
+impl Options {
+    /// A renderer of so many columns that shows decorated text by characters, as `[` and `]` about a link.
+    pub fn plain(width: usize) -> Options {
+        Options::new(width, Decorator::Plain)
+    }
+
+    /// One that shows the text alone, but for `^{` and `}` about a superscript.
+    pub fn trivial(width: usize) -> Options {
+        Options::new(width, Decorator::Trivial)
+    }
+
+    /// One that shows the same and has annotations on each piece of a line.
+    pub fn rich(width: usize) -> Options {
+        Options::new(width, Decorator::Rich)
+    }
+
+    fn new(width: usize, decorator: Decorator) -> Options {
+        Options {
+            width,
+            decorator,
+            wrap_width: None,
+            allow_width_overflow: false,
+            pad_block_width: false,
+            draw_borders: true,
+            wrap_links: true,
+            include_link_footnotes: false,
+            use_unicode_strikeout: true,
+            img_mode: ImageRenderMode::default(),
+        }
+    }
+
+    /// The most columns that a line of wrapped text takes. At first, and at 0, as many as the renderer has.
+    pub fn wrap_width(self, columns: usize) -> Options {
+        let wrap_width = Some(columns).filter(|&columns| columns > 0);
+        Options { wrap_width, ..self }
+    }
+
+    /// Whether a character that is wider than a line goes on a line of its own. At first it is too narrow.
+    pub fn allow_width_overflow(self, allow_width_overflow: bool) -> Options {
+        Options { allow_width_overflow, ..self }
+    }
+
+    /// Whether lines are filled with spaces up to their width. At first they aren't.
+    pub fn pad_block_width(self, pad_block_width: bool) -> Options {
+        Options { pad_block_width, ..self }
+    }
+
+    /// Whether borders of tables are drawn. At first they are.
+    pub fn draw_borders(self, draw_borders: bool) -> Options {
+        Options { draw_borders, ..self }
+    }
+
+    /// Whether the targets of footnotes are cut where they don't fit a line. At first they are.
+    pub fn wrap_links(self, wrap_links: bool) -> Options {
+        Options { wrap_links, ..self }
+    }
+
+    /// Whether links show numbers, and their targets come after the text under these. At first they don't.
+    pub fn include_link_footnotes(self, include_link_footnotes: bool) -> Options {
+        Options { include_link_footnotes, ..self }
+    }
+
+    /// Whether struck out text has strokes. At first it has.
+    pub fn use_unicode_strikeout(self, use_unicode_strikeout: bool) -> Options {
+        Options { use_unicode_strikeout, ..self }
+    }
+
+    /// What an image without a title shows. At first nothing.
+    pub fn img_mode(self, img_mode: ImageRenderMode) -> Options {
+        Options { img_mode, ..self }
+    }
+
+    pub(crate) fn to_sys(self) -> sys::Options {
+        sys::Options {
+            width: self.width,
+            wrap_width: self.wrap_width.unwrap_or(0),
+            decorator: self.decorator as u32,
+            images: self.img_mode as u32,
+            overflow: self.allow_width_overflow,
+            pad: self.pad_block_width,
+            footnotes: self.include_link_footnotes,
+            wrap_links: self.wrap_links,
+            strikeout_strokes: self.use_unicode_strikeout,
+            draw_borders: self.draw_borders,
+        }
+    }
+}
+
+/// What becomes of white space.
+#[derive(Clone, Copy, Debug, Default, PartialEq, Eq, Hash)]
+pub enum WhiteSpace {
+    /// A stretch of it counts as one space, and as none at the ends of lines.
+    #[default]
+    Normal = 0,
+    /// It is kept, and lines are cut where they are full.
+    Pre = 1,
+    /// It is kept, and words go on a fresh line where they don't fit.
+    PreWrap = 2,
+}
+
+/// Where the lines of a cell stand in its columns.
+#[derive(Clone, Copy, Debug, Default, PartialEq, Eq, Hash)]
+pub enum CellAlign {
+    /// At the left.
+    #[default]
+    Left = 0,
+    /// At the right.
+    Right = 1,
+    /// In the middle, with the odd column on the right.
+    Centre = 2,
+}
+
+/// A cell to open: its columns, the rows that it spans, and where its lines stand in the columns.
+///
+/// A number of columns alone is a cell of one row whose lines stand at the left.
+#[derive(Clone, Copy, Debug, PartialEq, Eq)]
+pub struct Cell {
+    pub(crate) width: usize,
+    pub(crate) span: usize,
+    pub(crate) align: CellAlign,
+}
+
+impl Cell {
+    /// A cell of so many columns and one row, with its lines at the left.
+    pub fn new(width: usize) -> Cell {
+        Cell { width, span: 1, align: CellAlign::Left }
+    }
+
+    /// The rows that it takes, at least 1.
+    pub fn span(self, span: usize) -> Cell {
+        Cell { span, ..self }
+    }
+
+    /// Where its lines stand.
+    pub fn align(self, align: CellAlign) -> Cell {
+        Cell { align, ..self }
+    }
+}
+
+impl From<usize> for Cell {
+    fn from(width: usize) -> Cell {
+        Cell::new(width)
+    }
+}

@@ -1,0 +1,395 @@
+use crate::handle::Handle;
+use crate::sys;
+use crate::{Cell, Colour, Error, Lines, Options, WhiteSpace};
+use std::fmt;
+
+/// Writes blocks of text, one below another, into lines of a width in columns.
+///
+/// Its calls have the names of html2text's renderer. They fill the innermost level that is open: a level is a renderer
+/// inside another one, which takes its lines behind prefixes or as a cell of a table. What begins in a level ends
+/// there.
+///
+/// A call that answers `OutOfMemory` or `TooNarrow` leaves the renderer refusing all that follows with the same; each
+/// other refusal leaves it as it was. [`TooNarrow`](Error::TooNarrow) comes only where a line has one column. Beside
+/// what is said of a call, any that takes memory can answer `OutOfMemory`, and any that places a word `TooNarrow`.
+///
+/// The library asks that a renderer be used on the thread that made it, so it is neither `Send` nor `Sync`:
+///
+/// ```compile_fail
+/// fn is_sent<T: Send>() {}
+/// is_sent::<text_block_renderer::Renderer>();
+/// ```
+///
+/// ```compile_fail
+/// fn is_shared<T: Sync>() {}
+/// is_shared::<text_block_renderer::Renderer>();
+/// ```
+pub struct Renderer {
+    handle: Handle,
+}
+
+/// Making a renderer, and taking its lines.
+impl Renderer {
+    /// A renderer. `BadWidth` where its width is 0.
+    pub fn new(options: &Options) -> Result<Renderer, Error> {
+        Ok(Renderer { handle: Handle::new(options)? })
+    }
+
+    /// Its lines, with the footnotes of its links after them. `StillOpen` where a level is open or cells wait.
+    pub fn into_lines(self) -> Result<Lines, Error> {
+        self.handle.plain(sys::tbr1_finish)?;
+        Ok(Lines::new(self.handle))
+    }
+
+    /// The text of its lines, each with a newline. It refuses as [`into_lines`](Renderer::into_lines) does.
+    pub fn into_string(self) -> Result<String, Error> {
+        self.into_lines()?.text()
+    }
+}
+
+/// Text, blocks and lines.
+impl Renderer {
+    /// Adds text, whose white space counts as the mode says that was pushed last. A text ends no word: two texts
+    /// without white space between them make one.
+    pub fn add_inline_text(&mut self, text: &str) -> Result<(), Error> {
+        self.handle.with_text(sys::tbr1_add_text, text)
+    }
+
+    /// Begins a block: ends the open line, and adds an empty one below lines that have content.
+    pub fn start_block(&mut self) -> Result<(), Error> {
+        self.handle.plain(sys::tbr1_start_block)
+    }
+
+    /// Ends a block: text that comes begins a new one, and white space before it is ignored. It may come at any time.
+    pub fn end_block(&mut self) -> Result<(), Error> {
+        self.handle.plain(sys::tbr1_end_block)
+    }
+
+    /// Begins a table, as a block is begun.
+    pub fn start_table(&mut self) -> Result<(), Error> {
+        self.handle.plain(sys::tbr1_start_table)
+    }
+
+    /// Ends the open line, if there is one.
+    pub fn new_line(&mut self) -> Result<(), Error> {
+        self.handle.plain(sys::tbr1_new_line)
+    }
+
+    /// Ends the open line, and where there is none adds an empty one.
+    pub fn new_line_hard(&mut self) -> Result<(), Error> {
+        self.handle.plain(sys::tbr1_new_line_hard)
+    }
+
+    /// Ends the open line, and adds an empty one.
+    pub fn add_empty_line(&mut self) -> Result<(), Error> {
+        self.handle.plain(sys::tbr1_add_empty_line)
+    }
+
+    /// Ends the open line, and adds a border of the level's width.
+    pub fn add_horizontal_border(&mut self) -> Result<(), Error> {
+        self.handle.plain(sys::tbr1_add_border)
+    }
+
+    /// The same of so many columns, which may be 0, and more than the level has.
+    pub fn add_horizontal_border_width(&mut self, columns: usize) -> Result<(), Error> {
+        // SAFETY: the renderer is live.
+        self.handle.call(|it, back| unsafe { sys::tbr1_add_border_width(it, columns, back) })
+    }
+
+    /// Begins a mode of white space. Where none has begun, all is `Normal`.
+    pub fn push_ws(&mut self, mode: WhiteSpace) -> Result<(), Error> {
+        // SAFETY: the renderer is live.
+        self.handle.call(|it, back| unsafe { sys::tbr1_push_white_space(it, mode as u32, back) })
+    }
+
+    /// Ends the mode that was pushed last. `NothingToEnd` where none was.
+    pub fn pop_ws(&mut self) -> Result<(), Error> {
+        self.handle.plain(sys::tbr1_pop_white_space)
+    }
+
+    /// Puts a marker where the text stands, as an anchor for links.
+    pub fn record_frag_start(&mut self, name: &str) -> Result<(), Error> {
+        self.handle.with_text(sys::tbr1_add_marker, name)
+    }
+}
+
+/// Decorated text. An end asks only that its own beginning came more often in the level, and answers `NothingToEnd`
+/// else, so that stretches needn't lie within one another.
+impl Renderer {
+    /// Begins a link to a target, which may be empty.
+    pub fn start_link(&mut self, target: &str) -> Result<(), Error> {
+        self.handle.with_text(sys::tbr1_start_link, target)
+    }
+
+    /// Ends the link that was begun last, and with footnotes shows its number.
+    pub fn end_link(&mut self) -> Result<(), Error> {
+        self.handle.plain(sys::tbr1_end_link)
+    }
+
+    /// Begins emphasised text.
+    pub fn start_emphasis(&mut self) -> Result<(), Error> {
+        self.handle.plain(sys::tbr1_start_emphasis)
+    }
+
+    /// Ends emphasised text.
+    pub fn end_emphasis(&mut self) -> Result<(), Error> {
+        self.handle.plain(sys::tbr1_end_emphasis)
+    }
+
+    /// Begins strong text.
+    pub fn start_strong(&mut self) -> Result<(), Error> {
+        self.handle.plain(sys::tbr1_start_strong)
+    }
+
+    /// Ends strong text.
+    pub fn end_strong(&mut self) -> Result<(), Error> {
+        self.handle.plain(sys::tbr1_end_strong)
+    }
+
+    /// Begins struck out text, in which each character that takes columns gets a stroke, U+0336, where these are on.
+    pub fn start_strikeout(&mut self) -> Result<(), Error> {
+        self.handle.plain(sys::tbr1_start_strikeout)
+    }
+
+    /// Ends struck out text.
+    pub fn end_strikeout(&mut self) -> Result<(), Error> {
+        self.handle.plain(sys::tbr1_end_strikeout)
+    }
+
+    /// Begins code.
+    pub fn start_code(&mut self) -> Result<(), Error> {
+        self.handle.plain(sys::tbr1_start_code)
+    }
+
+    /// Ends code.
+    pub fn end_code(&mut self) -> Result<(), Error> {
+        self.handle.plain(sys::tbr1_end_code)
+    }
+
+    /// Begins a superscript.
+    pub fn start_superscript(&mut self) -> Result<(), Error> {
+        self.handle.plain(sys::tbr1_start_superscript)
+    }
+
+    /// Ends a superscript.
+    pub fn end_superscript(&mut self) -> Result<(), Error> {
+        self.handle.plain(sys::tbr1_end_superscript)
+    }
+
+    /// Begins a preformatted stretch. That is a matter of annotations: push `Pre` to keep white space.
+    pub fn push_preformat(&mut self) -> Result<(), Error> {
+        self.handle.plain(sys::tbr1_start_preformatted)
+    }
+
+    /// Ends a preformatted stretch.
+    pub fn pop_preformat(&mut self) -> Result<(), Error> {
+        self.handle.plain(sys::tbr1_end_preformatted)
+    }
+
+    /// Begins text in a colour.
+    pub fn push_colour(&mut self, colour: Colour) -> Result<(), Error> {
+        let Colour { r, g, b } = colour;
+        // SAFETY: the renderer is live.
+        self.handle.call(|it, back| unsafe { sys::tbr1_start_colour(it, r, g, b, back) })
+    }
+
+    /// Ends the colour that was pushed last.
+    pub fn pop_colour(&mut self) -> Result<(), Error> {
+        self.handle.plain(sys::tbr1_end_colour)
+    }
+
+    /// Begins text on a background in a colour.
+    pub fn push_bgcolour(&mut self, colour: Colour) -> Result<(), Error> {
+        let Colour { r, g, b } = colour;
+        // SAFETY: the renderer is live.
+        self.handle.call(|it, back| unsafe { sys::tbr1_start_background(it, r, g, b, back) })
+    }
+
+    /// Ends the background that was pushed last.
+    pub fn pop_bgcolour(&mut self) -> Result<(), Error> {
+        self.handle.plain(sys::tbr1_end_background)
+    }
+
+    /// Adds an image by its title. What one without a title shows, the options say.
+    pub fn add_image(&mut self, source: &str, title: &str) -> Result<(), Error> {
+        self.handle.with_texts(sys::tbr1_add_image, source, title)
+    }
+}
+
+/// Levels, and rows of cells.
+impl Renderer {
+    /// Fills a level of so many columns, and adds its lines: the first behind one text, each other behind another.
+    /// `BadWidth` at 0 columns. Leave room for the prefixes, as by [`width_minus`](Renderer::width_minus).
+    ///
+    /// Where `fill` refuses, its refusal is the answer, and the level stays open.
+    ///
+    /// ```
+    /// use text_block_renderer::{Options, Renderer};
+    ///
+    /// let mut renderer = Renderer::new(&Options::plain(20))?;
+    /// renderer.add_inline_text("She wrote:")?;
+    /// renderer.subrender(18, "> ", "> ", |quote| quote.add_inline_text("See you at nine, at the gate."))?;
+    /// assert_eq!(renderer.into_string()?, "She wrote:\n> See you at nine,\n> at the gate.\n");
+    /// # Ok::<(), text_block_renderer::Error>(())
+    /// ```
+    pub fn subrender(
+        &mut self,
+        width: usize,
+        first: &str,
+        others: &str,
+        fill: impl FnOnce(&mut Renderer) -> Result<(), Error>,
+    ) -> Result<(), Error> {
+        self.start_subrender(width)?;
+        fill(self)?;
+        self.append_subrender(first, others)
+    }
+
+    /// Opens a level of so many columns, whose lines `append_subrender` takes. `BadWidth` at 0.
+    pub fn start_subrender(&mut self, width: usize) -> Result<(), Error> {
+        // SAFETY: the renderer is live.
+        self.handle.call(|it, back| unsafe { sys::tbr1_start_sub(it, width, back) })
+    }
+
+    /// Closes the level that `start_subrender` opened, and adds its lines to the one outside: the first behind one
+    /// text, each other behind another. `NothingToEnd` where the innermost level is no such one, `StillOpen` where
+    /// cells wait in it.
+    pub fn append_subrender(&mut self, first: &str, others: &str) -> Result<(), Error> {
+        self.handle.with_texts(sys::tbr1_append_sub, first, others)
+    }
+
+    /// Fills a cell, which then waits for a row. `BadWidth` at 0 columns, `BadArgument` at 0 rows.
+    ///
+    /// Where `fill` refuses, its refusal is the answer, and the cell stays open.
+    pub fn cell(
+        &mut self,
+        cell: impl Into<Cell>,
+        fill: impl FnOnce(&mut Renderer) -> Result<(), Error>,
+    ) -> Result<(), Error> {
+        self.start_cell(cell)?;
+        fill(self)?;
+        self.end_cell()
+    }
+
+    /// Opens a cell. `BadWidth` at 0 columns, `BadArgument` at 0 rows.
+    pub fn start_cell(&mut self, cell: impl Into<Cell>) -> Result<(), Error> {
+        let Cell { width, span, align } = cell.into();
+        // SAFETY: the renderer is live.
+        self.handle.call(|it, back| unsafe { sys::tbr1_start_cell(it, width, span, align as u32, back) })
+    }
+
+    /// Closes the cell that is open, which then waits for a row. `NothingToEnd` where the innermost level is none,
+    /// `StillOpen` where cells wait in it.
+    pub fn end_cell(&mut self) -> Result<(), Error> {
+        self.handle.plain(sys::tbr1_end_cell)
+    }
+
+    /// Adds the cells that wait as a row, side by side, joined to a border that is the last line, with a border below.
+    /// What a cell of more rows has below this one overhangs into the next. With `collapse` borders at the tops and
+    /// bottoms of cells become one with those of the row.
+    ///
+    /// `RowDoesNotFit` where cells are in the way of what overhangs; they go on waiting then.
+    pub fn append_columns_with_borders(&mut self, collapse: bool) -> Result<(), Error> {
+        // SAFETY: the renderer is live.
+        self.handle.call(|it, back| unsafe { sys::tbr1_add_row(it, collapse, back) })
+    }
+
+    /// Adds the cells that wait, one below another, whatever rows they span.
+    pub fn append_vert_row(&mut self) -> Result<(), Error> {
+        self.handle.plain(sys::tbr1_add_vertical_row)
+    }
+}
+
+/// Questions, of the innermost level that is open. They change nothing.
+impl Renderer {
+    /// The refusal that is kept, if there is one.
+    pub fn failure(&self) -> Option<Error> {
+        self.handle.plain(sys::tbr1_refusal).err()
+    }
+
+    /// Whether it has no line, and no text on an open one.
+    pub fn empty(&self) -> Result<bool, Error> {
+        // SAFETY: the renderer is live, and so is the answer.
+        self.handle.ask(|it, answer, back| unsafe { sys::tbr1_is_empty(it, answer, back) })
+    }
+
+    /// Whether lines of cells that span more rows than came yet still wait. Those that wait at the end are lost.
+    pub fn has_overhang(&self) -> Result<bool, Error> {
+        // SAFETY: as above.
+        self.handle.ask(|it, answer, back| unsafe { sys::tbr1_has_overhang(it, answer, back) })
+    }
+
+    /// Its columns.
+    pub fn width(&self) -> Result<usize, Error> {
+        // SAFETY: as above.
+        self.handle.ask(|it, answer, back| unsafe { sys::tbr1_width(it, answer, back) })
+    }
+
+    /// The columns that it has left behind a prefix, but `min_width` at least. `TooNarrow`, which isn't kept, where
+    /// fewer than these are left and no overflow is allowed.
+    pub fn width_minus(&self, prefix_len: usize, min_width: usize) -> Result<usize, Error> {
+        // SAFETY: as above.
+        self.handle.ask(|it, answer, back| unsafe { sys::tbr1_width_minus(it, prefix_len, min_width, answer, back) })
+    }
+
+    /// How many levels are open inside the renderer.
+    pub fn depth(&self) -> Result<usize, Error> {
+        // SAFETY: as above.
+        self.handle.ask(|it, answer, back| unsafe { sys::tbr1_open_levels(it, answer, back) })
+    }
+
+    /// How many links are open.
+    pub fn open_links(&self) -> Result<usize, Error> {
+        // SAFETY: as above.
+        self.handle.ask(|it, answer, back| unsafe { sys::tbr1_open_links(it, answer, back) })
+    }
+
+    /// How many cells wait for a row.
+    pub fn waiting_cells(&self) -> Result<usize, Error> {
+        // SAFETY: as above.
+        self.handle.ask(|it, answer, back| unsafe { sys::tbr1_waiting_cells(it, answer, back) })
+    }
+}
+
+/// The prefixes of the decorator, for [`append_subrender`](Renderer::append_subrender). They change nothing.
+impl Renderer {
+    /// Behind which each line of a header of a level comes, as `## `.
+    pub fn header_prefix(&self, level: usize) -> Result<String, Error> {
+        // SAFETY: the renderer is live, and so is the room.
+        self.handle.text(PREFIX_ROOM, |it, out, length, back| unsafe {
+            sys::tbr1_header_prefix(it, level, out.as_mut_ptr(), out.len(), length, back)
+        })
+    }
+
+    /// Behind which each line of a quoted block comes, as `> `.
+    pub fn quote_prefix(&self) -> Result<String, Error> {
+        // SAFETY: as above.
+        self.handle.text(PREFIX_ROOM, |it, out, length, back| unsafe {
+            sys::tbr1_quote_prefix(it, out.as_mut_ptr(), out.len(), length, back)
+        })
+    }
+
+    /// Behind which the first line of an item of a list comes, as `* `. The others come behind as many spaces.
+    pub fn unordered_item_prefix(&self) -> Result<String, Error> {
+        // SAFETY: as above.
+        self.handle.text(PREFIX_ROOM, |it, out, length, back| unsafe {
+            sys::tbr1_item_prefix(it, out.as_mut_ptr(), out.len(), length, back)
+        })
+    }
+
+    /// The same of the item of a list that has a number, as `3. `.
+    pub fn ordered_item_prefix(&self, number: i64) -> Result<String, Error> {
+        // SAFETY: as above.
+        self.handle.text(PREFIX_ROOM, |it, out, length, back| unsafe {
+            sys::tbr1_ordered_item_prefix(it, number, out.as_mut_ptr(), out.len(), length, back)
+        })
+    }
+}
+
+/// The bytes that most prefixes have at most.
+const PREFIX_ROOM: usize = 24;
+
+impl fmt::Debug for Renderer {
+    fn fmt(&self, f: &mut fmt::Formatter<'_>) -> fmt::Result {
+        f.debug_struct("Renderer").field("width", &self.width()).field("depth", &self.depth()).finish_non_exhaustive()
+    }
+}

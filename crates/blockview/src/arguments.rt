@@ -1,0 +1,123 @@
+//! What the command line asks for.
+
+use clap::builder::ArgAction;
+use clap::error::ErrorKind;
+use clap::parser::ValueSource;
+use clap::{Arg, ArgMatches, Command, Error, value_parser};
+use std::alloc::Global;
+use tbr_commands::Decorator;
+use tbr_view::Format;
+
+/// How a script is written, and what the exit status says.
+const AFTER_HELP: &str =
+    "A script begins with `new W DECORATOR OPTIONS`, as `new 60 plain footnotes`. A line is a command:
+
+  text T                  a text; two of them without a space between make one word
+  block, line, empty      a new block, a new line, an empty line
+  heading N .. endheading a heading of level N
+  quote .. endquote       a quotation
+  item .. enditem         an item of a list; ordered N .. endordered: with its number
+  em, strong, strike, code, super   begin what endem, endstrong, endstrike, endcode, endsuper end
+  link TARGET .. endlink  a link; image SOURCE | TITLE: an image; frag NAME: a place to link to
+  colour R G B .. endcolour, bg R G B .. endbg   colours of text and of its background
+  border [N]              a border
+  cell N SPAN [left|right|centre] .. endcell    a cell of N columns and SPAN rows, which waits
+  row, row collapse, vrow the cells that wait, side by side or one below another
+  sub N .. append P | Q   a block of N columns, whose lines stand behind P, and then behind Q
+  ws pre|prewrap .. endws white space that is kept
+  # ..                    a comment
+
+In texts \\n, \\t, \\\\ and \\u{h} are a newline, a tab, a backslash and the character of that code. The options of `new`:
+wrap=N pad overflow footnotes nowraplinks nostrike noborders img=ignore|always|filename. Decorators: plain trivial rich;
+rich keeps emphasis, links and colours for ansi, json and html.
+
+Exit status: 0 all was shown; 1 a text is too narrow, or memory is refused; 2 a script or the command line is wrong;
+3 a file isn't read, or the output isn't written. Of several files it is the greatest.";
+
+/// The command line, but for its words.
+pub fn command(alloc: Global) -> Result<Command<'static>, Error> {
+    let files = Arg::new(alloc, "FILE")
+        .help("Scripts, each shown by itself; standard input where none is given, or for `-`")
+        .action(ArgAction::Append)
+        .num_args(0..)
+        .default_value("-");
+    let format = Arg::new(alloc, "format")
+        .long("format")
+        .value_name("FORMAT")
+        .value_parser(["text", "ansi", "json", "html"].as_slice())
+        .default_value("text")
+        .help("text as blockrender writes it; for a terminal; an object of JSON a line; a <pre>");
+    let width = Arg::new(alloc, "width")
+        .long("width")
+        .value_name("N")
+        .value_parser(value_parser!(usize).range(1..))
+        .help("Columns, in the place of those of `new`");
+    let decorator = Arg::new(alloc, "decorator")
+        .long("decorator")
+        .value_name("NAME")
+        .value_parser(["plain", "trivial", "rich"].as_slice())
+        .help("The decorator, in the place of that of `new`");
+    Ok(
+        Command::new(alloc, "blockview")
+            .version("0.1.0")
+            .about("Shows scripts of text blocks: letters, tables, help pages")
+            .after_help(AFTER_HELP)
+            .arg(files)?
+            .arg(format)?
+            .arg(width)?
+            .arg(decorator)?
+            .arg(colour(alloc))?
+            .arg(ambiguous(alloc))?,
+    )
+}
+
+/// `--colour`.
+fn colour(alloc: Global) -> Arg<'static> {
+    Arg::new(alloc, "colour")
+        .long("colour")
+        .value_name("WHEN")
+        .value_parser(["auto", "always", "never"].as_slice())
+        .default_value("auto")
+        .help("Control sequences of ansi; auto: on a terminal, and without NO_COLOR")
+}
+
+/// `--ambiguous`.
+fn ambiguous(alloc: Global) -> Arg<'static> {
+    Arg::new(alloc, "ambiguous")
+        .long("ambiguous")
+        .value_name("WIDTH")
+        .value_parser(["narrow", "wide"].as_slice())
+        .default_value("narrow")
+        .help("Columns of East Asian ambiguous characters: one, or two")
+}
+
+/// Whether `--colour` was given with another format than `ansi`, where it would say nothing.
+pub fn has_idle_colour(matches: &ArgMatches) -> bool {
+    matches.value_source("colour") == Some(ValueSource::CommandLine)
+        && matches.get_str("format") != Some("ansi")
+}
+
+/// The format that is asked for. `shows_colours` is what `auto` stands for.
+pub fn format_of(matches: &ArgMatches, shows_colours: bool) -> Format {
+    let is_coloured = match matches.get_str("colour") {
+        Some("always") => true,
+        Some("never") => false,
+        _ => shows_colours,
+    };
+    match matches.get_str("format") {
+        Some("ansi") if is_coloured => Format::Ansi,
+        Some("ansi") => Format::Bare,
+        Some("json") => Format::Ndjson,
+        Some("html") => Format::Html,
+        _ => Format::Text,
+    }
+}
+
+/// The decorator that is asked for, if one is.
+pub fn decorator_of(matches: &ArgMatches) -> Option<Decorator> {
+    match matches.get_str("decorator")? {
+        "plain" => Some(Decorator::Plain),
+        "trivial" => Some(Decorator::Trivial),
+        _ => Some(Decorator::Rich),
+    }
+}

@@ -1,0 +1,158 @@
+//! Shows scripts for people: as text, for a terminal, as JSON or as HTML.
+#![tactic(auto)]
+
+use crate::arguments::{command, decorator_of, format_of, has_idle_colour};
+use crate::report::report;
+use clap::error::ErrorKind;
+use clap::{ArgMatches, Error};
+use std::io::{IsTerminal, Read, Write};
+use std::process::ExitCode;
+use std::{env, fs, io};
+use tbr_lines::UnicodeColumns;
+use tbr_show::{AmbiguousWide, html};
+use tbr_view::{Format, Refusal, Settings, Shown, view};
+
+mod arguments;
+mod report;
+
+/// The status where memory is refused.
+const OUT_OF_MEMORY: u8 = 1;
+
+/// The status where a file isn't read, or the output isn't written.
+const FAILED: u8 = 3;
+
+fn main(rt: HostRuntime) -> ExitCode {
+    let Ok(words) = words_of(&rt) else {
+        let _ = rt.eprintln("blockview: the command line isn't UTF-8, or memory is refused");
+        return ExitCode::from(OUT_OF_MEMORY);
+    };
+    match matches_of(&rt, words.as_slice()) {
+        Ok(matches) => ExitCode::from(show_all(&rt, &matches)),
+        Err(e) => {
+            let _ = e.print(&rt);
+            ExitCode::from(if e.use_stderr() { 2 } else { 0 })
+        }
+    }
+}
+
+/// The words of the command line.
+fn words_of(rt: &HostRuntime) -> io::Result<Vec<String>> {
+    Ok(env::args(rt)?.collect(rt.alloc())?)
+}
+
+/// What the words ask for.
+fn matches_of<'a>(rt: &HostRuntime, words: &'a [String]) -> Result<ArgMatches<'a>, Error> {
+    let mut command = command(rt.alloc())?;
+    let matches = command.try_get_matches_from_mut(words)?;
+    if has_idle_colour(&matches) {
+        let message = "the argument '--colour' says nothing without '--format ansi'";
+        return Err(command.error(ErrorKind::ArgumentConflict, message)?);
+    }
+    Ok(matches)
+}
+
+/// Whether colours are shown where nothing is said of them: standard output is a terminal, and `NO_COLOR` is empty or
+/// isn't set.
+fn shows_colours(rt: &HostRuntime) -> bool {
+    let asks_for_none = match env::var(rt, "NO_COLOR") {
+        Ok(value) => !value.is_empty(),
+        Err(_) => false,
+    };
+    rt.stdout().is_terminal() && !asks_for_none
+}
+
+/// Shows all files, and answers the status.
+fn show_all(rt: &HostRuntime, matches: &ArgMatches) -> u8 {
+    let shown = Settings {
+        format: format_of(matches, shows_colours(rt)),
+        width: matches.get_one::<usize>("width"),
+        decorator: decorator_of(matches),
+    };
+    let is_wide = matches.get_str("ambiguous") == Some("wide");
+    let files = matches.get_strs("FILE").unwrap_or(&[]);
+    let begun = begin(rt, shown.format);
+    let mut status = 0;
+    for file in files {
+        status = status.max(show_file(rt, file, shown, is_wide));
+    }
+    if begun.is_err() || end(rt, shown.format).is_err() {
+        return FAILED;
+    }
+    status
+}
+
+/// Writes what stands before all files.
+fn begin(rt: &HostRuntime, format: Format) -> io::Result<()> {
+    match format {
+        Format::Html => write(rt, html::BEGINNING),
+        _ => Ok(()),
+    }
+}
+
+/// Writes what stands behind all files.
+fn end(rt: &HostRuntime, format: Format) -> io::Result<()> {
+    match format {
+        Format::Html => write(rt, html::END),
+        _ => Ok(()),
+    }
+}
+
+/// Writes a text to standard output.
+fn write(rt: &HostRuntime, text: &str) -> io::Result<()> {
+    io::writer(rt).write_all(text.as_bytes())
+}
+
+/// Shows a file, and answers the status.
+fn show_file(rt: &HostRuntime, file: &str, shown: Settings, is_wide: bool) -> u8 {
+    let Ok(script) = read(rt, file) else {
+        let _ = eprintln!(rt; "blockview: {file} can't be read");
+        return FAILED;
+    };
+    let result = if is_wide {
+        view::<AmbiguousWide>(rt.alloc(), &script, shown)
+    } else {
+        view::<UnicodeColumns>(rt.alloc(), &script, shown)
+    };
+    match result {
+        Ok(shown) => write_shown(rt, file, &script, &shown),
+        Err(Refusal::Script(problem)) => {
+            tell(rt, file, &script, &problem);
+            problem.status
+        }
+        Err(Refusal::OutOfMemory) => {
+            let _ = eprintln!(rt; "blockview: out of memory");
+            OUT_OF_MEMORY
+        }
+    }
+}
+
+/// All bytes of a file, or of standard input.
+fn read(rt: &HostRuntime, file: &str) -> io::Result<Vec<u8>> {
+    if file != "-" {
+        return fs::read(rt, file);
+    }
+    let mut script = Vec::new(rt.alloc());
+    rt.reader().read_to_end(&mut script)?;
+    Ok(script)
+}
+
+/// Writes what is shown of a file, tells what was lost, and answers the status.
+fn write_shown(rt: &HostRuntime, file: &str, script: &[u8], shown: &Shown) -> u8 {
+    for problem in &shown.lost {
+        tell(rt, file, script, problem);
+    }
+    match write(rt, shown.text.as_str()) {
+        Ok(()) => 0,
+        Err(_) => {
+            let _ = eprintln!(rt; "blockview: standard output can't be written");
+            FAILED
+        }
+    }
+}
+
+/// Tells a problem on standard error.
+fn tell(rt: &HostRuntime, file: &str, script: &[u8], problem: &tbr_view::Problem) {
+    if let Ok(text) = report(rt.alloc(), file, script, problem) {
+        let _ = rt.eprint(text.as_str());
+    }
+}

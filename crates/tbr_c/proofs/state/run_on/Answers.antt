@@ -1,0 +1,9 @@
+use Rattle.std.proofs.Common.{sym, subst}
+use Rattle.tbr_c.specs.State.{IsKept}
+use Rattle.tbr_c.proofs.Kept.{not_kept}
+use Rattle.tbr_c.proofs.state.run_on.Goals as goal
+
+pub returns-in-Err-clause-left : goal.returns-in-Err-clause-left
+returns-in-Err-clause-left g c = λ other.
+    let not = not_kept c.in-Err.e (λ is. other (subst IsKept (sym c.of_command.ensures) is)) in
+    c.in-Err.ensures.left not.0 not.1

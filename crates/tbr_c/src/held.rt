@@ -1,0 +1,141 @@
+//! What C holds.
+ghost use Rattle.std.specs.Prelude.{◌≡◌, ◌≢◌, ◌<◌, None, Some, IfOk, IfErr, MatchResult};
+ghost use Rattle.tbr_c.specs.State.{HasEnded, IsKept, HasNoNext, TakesLine, current_of};
+ghost use Rattle.tbr_c_lines.specs.declared.fault.Fault.TheVariants as F;
+ghost use Rattle.tbr_commands.specs.Command.{command_of, IsSized};
+
+use crate::state::{Facts, State};
+use std::alloc::Global;
+use std::marker::Model;
+use std::{mem, str};
+use tbr_c_lines::{Fault, Line, LineSize};
+use tbr_commands::{Command, Opening};
+use tbr_lines::Error;
+use tbr_runner::DecoratorPrefix;
+
+/// A renderer that C fills, then finishes, and then takes lines of.
+#[derive(Drop)]
+pub struct Held {
+    alloc: Global,
+    state: State,
+}
+
+impl Model for Held {
+    ghost use Rattle.tbr_c.specs.declared.state.State.{State};
+
+    ghost Value = { State };
+
+    ghost view = { λ h. h.state };
+
+    ghost use Rattle.tbr_c.specs.State.{CanGoOn};
+
+    ghost invariant = { λ h. CanGoOn h.state };
+}
+
+impl Held {
+    /// A renderer without text. It refuses only for want of memory.
+    pub fn new(alloc: Global, opening: Opening) -> Result<Held, Fault>
+        requires width { 0 < opening.width }
+        requires wrap_width { opening.options.wrap_width ≢ Some 0 }
+    {
+        let state = State::new(alloc, opening)?;
+        Ok(Held { alloc, state })
+    }
+
+    /// Does what a command asks for.
+    ///
+    /// `OutOfMemory` and `TooNarrow` are kept, and each other refusal leaves the renderer as it was. One that keeps a
+    /// refusal answers that, and one that is finished `Finished`.
+    pub fn run(&mut self, command: &Command) -> Result<(), Fault>
+        requires { IsSized (command_of command.now) }
+        ensures ended { HasEnded self.old result }
+        ensures left { IfErr result (λ fault. (IsKept fault → ⊥) → self.new ≡ self.old) }
+    {
+        let done = self.state.run(self.alloc, command);
+        self.state.keep(done)
+    }
+
+    /// A copy of a text to fill the renderer with. It refuses as `run` does, and by `NotUtf8`.
+    pub fn text(&mut self, bytes: &[u8]) -> Result<String, Fault> {
+        self.state.facts()?;
+        let Ok(text) = str::from_utf8(bytes) else {
+            return Err(Fault::NotUtf8);
+        };
+        let copy = String::from_str(self.alloc, text).map_err(Fault::from);
+        self.state.keep(copy)
+    }
+
+    /// Ends the last line, and lets the lines be taken.
+    ///
+    /// `StillOpen` where a level is open or cells wait. It refuses as `run` does.
+    pub fn finish(&mut self) -> Result<(), Fault> {
+        let facts = self.state.facts()?;
+        if facts.open_levels > 0 || facts.waiting_cells > 0 {
+            return Err(Fault::StillOpen);
+        }
+        let filled = mem::replace(&mut self.state, State::Refused(Error::OutOfMemory));
+        match filled.into_lines() {
+            Ok(lines) => {
+                self.state = State::Finished(lines);
+                Ok(())
+            }
+            Err(e) => {
+                self.state = State::Refused(e);
+                Err(Fault::from(e))
+            }
+        }
+    }
+
+    /// The refusal that is kept, if there is one.
+    pub fn refusal(&self) -> Result<(), Fault> {
+        match &self.state {
+            State::Refused(e) => Err(Fault::from(*e)),
+            _ => Ok(()),
+        }
+    }
+
+    /// What it answers while it is filled. It keeps no refusal, and neither do the questions below.
+    pub fn facts(&self) -> Result<Facts, Fault> {
+        self.state.facts()
+    }
+
+    /// Whether lines of cells still wait for their rows in the innermost level.
+    pub fn has_overhang(&self) -> Result<bool, Fault> {
+        self.state.has_overhang(self.alloc)
+    }
+
+    /// The columns of the innermost level behind a prefix, but so many at least.
+    pub fn width_minus(&self, prefix: usize, least: usize) -> Result<usize, Fault> {
+        self.state.width_minus(prefix, least)
+    }
+
+    /// The text of a prefix of the decorator.
+    pub fn prefix(&mut self, prefix: DecoratorPrefix) -> Result<String, Fault> {
+        self.state.prefix(prefix)
+    }
+
+    /// Takes the next line, and answers its size. `NotFinished` where it is still filled, `NoLine` where none is left.
+    /// `OutOfMemory` is kept.
+    pub fn next_line(&mut self) -> Result<LineSize, Fault>
+        ensures taken { IfOk result (λ size. TakesLine self.old self.new size) }
+        ensures none { IfErr result (λ fault. fault ≢ F.OutOfMemory → fault ≢ F.TooNarrow →
+            HasNoNext self.old fault × (self.new ≡ self.old)) }
+    {
+        let size = self.state.next_line(self.alloc);
+        self.state.keep(size)
+    }
+
+    /// The line that was taken last. `NotFinished` where the renderer is still filled, `NoLine` where none was taken.
+    pub fn line(&self) -> Result<&Line, Fault>
+        ensures { MatchResult result (λ line. current_of self.now ≡ Some line.now) (λ _. current_of self.now ≡ None) }
+    {
+        self.state.lines()?.current()
+    }
+
+    /// The text of all lines that weren't taken, each with a newline. `NotFinished` where the renderer is still filled.
+    /// `OutOfMemory` is kept.
+    pub fn rest_text(&mut self) -> Result<String, Fault> {
+        let text = self.state.lines()?.text(self.alloc).map_err(Fault::from);
+        self.state.keep(text)
+    }
+}

@@ -1,0 +1,19 @@
+//! A renderer that C fills call by call and whose lines it takes, and whole scripts. `text_block_renderer.h`, whose
+//! inline functions call what is exported here, says what each does.
+#![tactic(auto)]
+
+mod calls;
+mod handle;
+mod held;
+mod options;
+mod parts;
+mod questions;
+mod script;
+mod state;
+mod taking;
+
+#[cfg(test)]
+mod tests {
+    #[test]
+    fn it_compiles() {}
+}

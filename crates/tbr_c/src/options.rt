@@ -1,0 +1,71 @@
+//! What C tells a new renderer.
+ghost use Rattle.std.specs.Prelude.{◌≢◌, ◌<◌, Some, IfOk};
+
+use tbr_c_lines::Fault;
+use tbr_commands::{Decorator, Opening};
+use tbr_renderer::{ImageRenderMode, RenderOptions};
+
+/// `tbr_options`.
+#[repr(C)]
+#[derive(Clone, Copy, Drop)]
+pub struct Options {
+    pub width: usize,
+    pub wrap_width: usize,
+    pub decorator: u32,
+    pub images: u32,
+    pub overflow: bool,
+    pub pad: bool,
+    pub footnotes: bool,
+    pub wrap_links: bool,
+    pub strikeout_strokes: bool,
+    pub draw_borders: bool,
+}
+
+impl Options {
+    /// What a script that asks for the same begins with.
+    ///
+    /// It answers `BadWidth` where the width is 0, and `BadArgument` where the decorator or what images show is none.
+    pub fn opening(&self) -> Result<Opening, Fault>
+        ensures width { IfOk result (λ opening. 0 < opening.width) }
+        ensures wrap_width { IfOk result (λ opening. opening.options.wrap_width ≢ Some 0) }
+    {
+        if self.width == 0 {
+            return Err(Fault::BadWidth);
+        }
+        Ok(Opening {
+            width: self.width,
+            decorator: decorator(self.decorator)?,
+            options: RenderOptions {
+                wrap_width: (self.wrap_width > 0).then_some(self.wrap_width),
+                allow_width_overflow: self.overflow,
+                pad_block_width: self.pad,
+                draw_borders: self.draw_borders,
+                wrap_links: self.wrap_links,
+                include_link_footnotes: self.footnotes,
+                use_unicode_strikeout: self.strikeout_strokes,
+                img_mode: images(self.images)?,
+                ..RenderOptions::default()
+            },
+        })
+    }
+}
+
+/// The decorator of a number.
+fn decorator(number: u32) -> Result<Decorator, Fault> {
+    match number {
+        0 => Ok(Decorator::Plain),
+        1 => Ok(Decorator::Trivial),
+        2 => Ok(Decorator::Rich),
+        _ => Err(Fault::BadArgument),
+    }
+}
+
+/// What images without a title show, by a number.
+fn images(number: u32) -> Result<ImageRenderMode, Fault> {
+    match number {
+        0 => Ok(ImageRenderMode::IgnoreEmpty),
+        1 => Ok(ImageRenderMode::ShowAlways),
+        2 => Ok(ImageRenderMode::Filename),
+        _ => Err(Fault::BadArgument),
+    }
+}

@@ -1,0 +1,62 @@
+//! A script as a whole.
+ghost use Rattle.std.specs.Prelude.{◌≡◌, ◌≢◌, ℕ, List, length, take, Ok};
+ghost use Rattle.tbr_lines.specs.UnicodeColumns.{unicode_columns};
+ghost use Rattle.tbr_runner.specs.Meaning.{Gives};
+
+use std::alloc::Global;
+use tbr_c_lines::Fault;
+use tbr_runner::run;
+use tbr_script::{RunError, StdSink, StdSource};
+
+/// `tbr_answer`.
+#[repr(C)]
+#[derive(Clone, Copy, Drop)]
+pub struct Answer {
+    pub status: u32,
+    pub line: usize,
+    pub length: usize,
+}
+
+/// The text of a script, as much of it as the buffer has room for. The length is that of the whole text.
+#[unsafe(no_mangle)]
+pub extern "C" fn tbr1_render(alloc: Global, script: &[u8], out: &mut [u8]) -> Answer
+    ensures room { length out.new ≡ length out.old }
+    ensures text { result.status ≡ 0 → (text : List ℕ) × Gives unicode_columns script.now (Ok text)
+        × (result.length ≡ length text) × (take (length text) out.new ≡ take (length out.old) text) }
+{
+    let mut source = StdSource::new(script);
+    let mut sink = StdSink::new(Vec::new(alloc));
+    match run(alloc, &mut source, &mut sink) {
+        Ok(()) => {
+            let text = sink.into_inner();
+            let count = text.len().min(out.len());
+            out[..count].copy_from_slice(&text[..count]);
+            Answer {
+                status: 0,
+                line: 0,
+                length: text.len(),
+            }
+        }
+        Err(e) => refused(e),
+    }
+}
+
+/// What is answered of a script that is refused. Streams in memory fail only for want of it.
+fn refused(e: RunError) -> Answer
+    ensures { result.status ≢ 0 }
+{
+    let (fault, line) = match e {
+        RunError::TooNarrow => (Fault::TooNarrow, 0),
+        RunError::NotACommand(line) => (Fault::NotACommand, line),
+        RunError::NothingToEnd(line) => (Fault::NothingToEnd, line),
+        RunError::RowDoesNotFit(line) => (Fault::RowDoesNotFit, line),
+        RunError::OutOfMemory | RunError::ReadFailed | RunError::WriteFailed => {
+            (Fault::OutOfMemory, 0)
+        }
+    };
+    Answer {
+        status: fault.code(),
+        line,
+        length: 0,
+    }
+}

@@ -1,0 +1,240 @@
+//! How far a renderer is that C holds.
+ghost use Rattle.std.specs.Prelude.{◌≡◌, ◌≢◌, ◌<◌, [], Some, Err, IfOk, IfErr, OnOk, MatchResult};
+ghost use Rattle.tbr_commands.specs.Command.{command_of, IsSized};
+ghost use Rattle.tbr_runner.specs.Progress.{GoesOn};
+ghost use Rattle.tbr_c.specs.State.{CanGoOn, MayFinish, IsKept, HasEnded, HasNoLines, TakesLine, HasNoNext};
+ghost use Rattle.tbr_c.specs.declared.state.State.TheVariants as S;
+ghost use Rattle.tbr_c_lines.specs.declared.fault.Fault.TheVariants as F;
+
+use std::alloc::Global;
+use tbr_c_lines::{Fault, LineSize, Lines, Rest, of_command};
+use tbr_commands::{Command, Decorator, Opening};
+use tbr_decor::{PlainDecorator, RichDecorator, TextDecorator, TrivialDecorator};
+use tbr_lines::{Error, UnicodeColumns};
+use tbr_renderer::Renderer;
+use tbr_runner::{DecoratorPrefix, Program};
+
+/// How far a renderer is.
+#[derive(Drop)]
+pub enum State {
+    /// Calls go in, under the plain decorator.
+    Plain(Program<PlainDecorator, UnicodeColumns>),
+    /// The same under the trivial one.
+    Trivial(Program<TrivialDecorator, UnicodeColumns>),
+    /// The same under the rich one.
+    Rich(Program<RichDecorator, UnicodeColumns>),
+    /// Lines come out.
+    Finished(Lines),
+    /// Neither, since a call has refused.
+    Refused(Error),
+}
+
+/// What a renderer that is filled answers, and of its innermost level.
+#[derive(Clone, Copy, Drop)]
+pub struct Facts {
+    /// The level's columns.
+    pub width: usize,
+    /// Whether the level has neither a line nor text on an open one.
+    pub is_empty: bool,
+    /// How many levels are open.
+    pub open_levels: usize,
+    /// How many links are open in the level.
+    pub open_links: usize,
+    /// How many cells wait in the level.
+    pub waiting_cells: usize,
+}
+
+impl State {
+    /// A renderer without text. It refuses only for want of memory.
+    pub fn new(alloc: Global, opening: Opening) -> Result<State, Fault>
+        requires width { 0 < opening.width }
+        requires wrap_width { opening.options.wrap_width ≢ Some 0 }
+        ensures { IfOk result (λ state. CanGoOn state) }
+    {
+        let Opening {
+            width,
+            decorator,
+            options,
+        } = opening;
+        Ok(match decorator {
+            Decorator::Plain => {
+                let decorator = PlainDecorator::new();
+                State::Plain(Program::new(alloc, width, options, decorator).map_err(of_command)?)
+            }
+            Decorator::Trivial => {
+                let decorator = TrivialDecorator::new();
+                State::Trivial(Program::new(alloc, width, options, decorator).map_err(of_command)?)
+            }
+            Decorator::Rich => {
+                let decorator = RichDecorator::new();
+                State::Rich(Program::new(alloc, width, options, decorator).map_err(of_command)?)
+            }
+        })
+    }
+
+    /// Does what a command asks for. After `OutOfMemory` and `TooNarrow` it isn't to be used any more, and each other
+    /// refusal leaves it as it was.
+    pub fn run(&mut self, alloc: Global, command: &Command) -> Result<(), Fault>
+        requires goes_on { CanGoOn self.old }
+        requires sized { IsSized (command_of command.now) }
+        ensures goes_on { OnOk result (CanGoOn self.new) }
+        ensures left { IfErr result (λ fault. (IsKept fault → ⊥) → self.new ≡ self.old) }
+        ensures ended { HasEnded self.old result }
+    {
+        match self {
+            State::Plain(program) => run_on(program, alloc, command),
+            State::Trivial(program) => run_on(program, alloc, command),
+            State::Rich(program) => run_on(program, alloc, command),
+            State::Finished(_) => Err(Fault::Finished),
+            State::Refused(e) => Err(Fault::from(*e)),
+        }
+    }
+
+    /// What it answers while it is filled.
+    pub fn facts(&self) -> Result<Facts, Fault>
+        requires { CanGoOn self.now }
+        ensures ended { HasEnded self.now result }
+        ensures closed { IfOk result (λ facts. facts.open_levels ≡ 0 → facts.waiting_cells ≡ 0 → MayFinish self.now) }
+    {
+        match self {
+            State::Plain(program) => Ok(facts_of(program)),
+            State::Trivial(program) => Ok(facts_of(program)),
+            State::Rich(program) => Ok(facts_of(program)),
+            State::Finished(_) => Err(Fault::Finished),
+            State::Refused(e) => Err(Fault::from(*e)),
+        }
+    }
+
+    /// Whether lines of cells still wait for their rows in the innermost level. It refuses for want of memory too.
+    pub fn has_overhang(&self, alloc: Global) -> Result<bool, Fault>
+        requires { CanGoOn self.now }
+        ensures ended { HasEnded self.now result }
+    {
+        Ok(match self {
+            State::Plain(program) => program.has_overhang(alloc)?,
+            State::Trivial(program) => program.has_overhang(alloc)?,
+            State::Rich(program) => program.has_overhang(alloc)?,
+            State::Finished(_) => return Err(Fault::Finished),
+            State::Refused(e) => return Err(Fault::from(*e)),
+        })
+    }
+
+    /// The columns of the innermost level behind a prefix, but so many at least.
+    pub fn width_minus(&self, prefix: usize, least: usize) -> Result<usize, Fault>
+        requires { CanGoOn self.now }
+        ensures ended { HasEnded self.now result }
+    {
+        Ok(match self {
+            State::Plain(program) => program.top().width_minus(prefix, least)?,
+            State::Trivial(program) => program.top().width_minus(prefix, least)?,
+            State::Rich(program) => program.top().width_minus(prefix, least)?,
+            State::Finished(_) => return Err(Fault::Finished),
+            State::Refused(e) => return Err(Fault::from(*e)),
+        })
+    }
+
+    /// The text of a prefix of the decorator. It refuses for want of memory too.
+    pub fn prefix(&mut self, prefix: DecoratorPrefix) -> Result<String, Fault>
+        requires { CanGoOn self.old }
+        ensures left { self.new ≡ self.old }
+        ensures ended { HasEnded self.old result }
+    {
+        Ok(match self {
+            State::Plain(program) => program.prefix(prefix)?,
+            State::Trivial(program) => program.prefix(prefix)?,
+            State::Rich(program) => program.prefix(prefix)?,
+            State::Finished(_) => return Err(Fault::Finished),
+            State::Refused(e) => return Err(Fault::from(*e)),
+        })
+    }
+
+    /// The lines of a renderer in which no level is open and no cell waits.
+    pub fn into_lines(self) -> Result<Lines, Error>
+        requires goes_on { CanGoOn self }
+        requires closed { MayFinish self }
+    {
+        match self {
+            State::Plain(program) => Ok(Lines::new(Rest::Bare(program.finish_lines()?))),
+            State::Trivial(program) => Ok(Lines::new(Rest::Bare(program.finish_lines()?))),
+            State::Rich(program) => Ok(Lines::new(Rest::Rich(program.finish_lines()?))),
+            State::Finished(lines) => Ok(lines),
+            State::Refused(e) => Err(e),
+        }
+    }
+
+    /// The lines. `NotFinished` where it is still filled.
+    pub fn lines(&self) -> Result<&Lines, Fault>
+        ensures { MatchResult result (λ lines. self.now ≡ S.Finished lines.now) (λ fault. HasNoLines self.now fault) }
+    {
+        match self {
+            State::Finished(lines) => Ok(lines),
+            State::Refused(e) => Err(Fault::from(*e)),
+            _ => Err(Fault::NotFinished),
+        }
+    }
+
+    /// Takes the next line, and answers its size. `NotFinished` where it is still filled, `NoLine` where none is left.
+    pub fn next_line(&mut self, alloc: Global) -> Result<LineSize, Fault>
+        requires { CanGoOn self.old }
+        ensures taken { IfOk result (λ size. TakesLine self.old self.new size) }
+        ensures none { IfErr result (λ fault. fault ≢ F.OutOfMemory →
+            HasNoNext self.old fault × (self.new ≡ self.old)) }
+        ensures goes_on { CanGoOn self.new }
+    {
+        match self {
+            State::Finished(lines) => lines.next(alloc),
+            State::Refused(e) => Err(Fault::from(*e)),
+            _ => Err(Fault::NotFinished),
+        }
+    }
+
+    /// Keeps a refusal that is to be kept.
+    pub fn keep<T: Drop>(&mut self, done: Result<T, Fault>) -> Result<T, Fault>
+        requires { MatchResult done (λ _. CanGoOn self.old) (λ fault. (IsKept fault → ⊥) → CanGoOn self.old) }
+        ensures goes_on { CanGoOn self.new }
+        ensures done { result ≡ done }
+        ensures left { MatchResult done (λ _. self.new ≡ self.old)
+            (λ fault. (IsKept fault → ⊥) → self.new ≡ self.old) }
+    {
+        match done {
+            Err(Fault::OutOfMemory) => *self = State::Refused(Error::OutOfMemory),
+            Err(Fault::TooNarrow) => *self = State::Refused(Error::TooNarrow),
+            _ => {}
+        }
+        done
+    }
+}
+
+/// Does what a command asks a program for. After `OutOfMemory` and `TooNarrow` it isn't to be used any more, and each
+/// other refusal leaves it as it was.
+fn run_on<D: TextDecorator>(
+    program: &mut Program<D, UnicodeColumns>,
+    alloc: Global,
+    command: &Command,
+) -> Result<(), Fault>
+    requires goes_on { GoesOn program.old }
+    requires sized { IsSized (command_of command.now) }
+    ensures goes_on { OnOk result (GoesOn program.new) }
+    ensures left { IfErr result (λ fault. (IsKept fault → ⊥) → program.new ≡ program.old) }
+{
+    match program.run(alloc, 0, command) {
+        Ok(()) => Ok(()),
+        Err(e) => Err(of_command(e)),
+    }
+}
+
+/// What a program answers of its innermost level.
+fn facts_of<D: TextDecorator>(program: &Program<D, UnicodeColumns>) -> Facts
+    requires { GoesOn program.now }
+    ensures closed { result.open_levels ≡ 0 → program.now.opened ≡ [] }
+    ensures cells { result.waiting_cells ≡ 0 → program.now.pending.cells ≡ [] }
+{
+    let top = program.top();
+    Facts {
+        width: top.width(),
+        is_empty: top.empty(),
+        open_levels: program.open_levels(),
+        open_links: program.open_links(),
+        waiting_cells: program.waiting_cells(),
+    }
+}

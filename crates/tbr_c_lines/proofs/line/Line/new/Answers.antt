@@ -1,0 +1,15 @@
+use Rattle.std.proofs.Common.{◌≡◌, ◌∙◌, ap, sym}
+use Rattle.tbr_lines.proofs.Copies.{list_copies_equal}
+use Rattle.tbr_c_lines.specs.Line.{line_of}
+use Rattle.tbr_c_lines.proofs.Places.{whole_line}
+use Rattle.tbr_c_lines.proofs.line.Line.new.Goals as goal
+
+pub into_tagged_line-requires : goal.into_tagged_line-requires
+into_tagged_line-requires g c = λ v w copy. list_copies_equal g.A.Clone.is_clone g.A.PartialEq.eq g.met.A.Annotation.copies_equal v.items w.items copy.0
+
+pub returns : goal.returns
+returns g c =
+    let es = c.in_ok-tagged.tagged in
+    let shown = g.A.Annotation.shown in
+    let seen = whole_line shown c.in_ok-to_text.field-0 c.in_ok-width.field-0 c.is_border-is_border.result c.in_ok-placed.field-0.items es c.in_ok-to_text.ensures c.in_ok-width.ensures c.in_ok-placed.ensures in
+    (es, c.in_ok-tagged.ensures.text, c.in_ok-tagged.ensures.items, seen ∙ ap (λ b. line_of shown b es) c.is_border-is_border.ensures)

@@ -1,0 +1,25 @@
+use Rattle.std.proofs.Common.{[], ◌∷◌, ◌++◌, map, flat_map, chars, ap, sym, ◌∙◌, append-nil}
+use Rattle.std.proofs.lemmas.Iterator.Consumers.{YieldsList-from_rest, YieldsList-end}
+use Rattle.std.proofs.lemmas.List.{map_push}
+use Rattle.std.proofs.lemmas.List.Concat.{flat_map-append}
+use Rattle.std.proofs.lemmas.Str.{chars-nil}
+use Rattle.tbr_c_lines.specs.Lines as left
+use Rattle.tbr_c_lines.proofs.lines.text_of.Goals as goal
+
+pub loop-line-init : goal.loop-line-init
+loop-line-init g c = ap chars c.new-text.ensures.bytes ∙ chars-nil
+
+pub loop-line-preserved : goal.loop-line-preserved
+loop-line-preserved g c =
+    let line = c.in-Some.line in
+    let yielded = c.loop-line.yielded in
+    let before = map (λ l. l.now) yielded in
+    let more = ap (flat_map left.line_text) (map_push (λ l. l.now) yielded line) ∙ flat_map-append left.line_text before (line.now ∷ []) ∙ ap (λ cs. flat_map left.line_text before ++ cs) (append-nil (left.line_text line.now)) in
+    c.in_ok-append_line.ensures ∙ ap (λ cs. cs ++ left.line_text line.now) c.loop-line.invariant ∙ sym more
+
+pub returns : goal.returns
+returns g c =
+    let given = c.into_iter-line-iterator.ensures.into_iter_gives in
+    let list = YieldsList-from_rest c.args.lines.now given.0 in
+    let end = YieldsList-end list c.loop-line.yielded c.loop-line.line-iterator c.loop-line.yielded_by c.next.result c.next.new.self c.in-None.is c.next.ensures.steps in
+    c.loop-line.invariant ∙ ap (flat_map left.line_text) end.0

@@ -1,0 +1,132 @@
+//! Why a call did nothing.
+ghost use Rattle.std.specs.Prelude.{◌≡◌};
+ghost use Rattle.tbr_c_lines.specs.Status.{code_of, status_of, fault_of, fault_of_command};
+ghost use Rattle.tbr_c_lines.specs.declared.fault.Fault.TheVariants as F;
+
+use std::alloc::{AllocError, AllocFailed};
+use tbr_lines::{Error, OutOfMemory, TooNarrow};
+use tbr_script::RunError;
+
+/// Why a call did nothing. `text_block_renderer.h` has the same under the names of its statuses.
+#[derive(Clone, Copy, Debug, PartialEq, Eq)]
+pub enum Fault {
+    /// Memory was refused, or a size passes `usize`.
+    OutOfMemory,
+    /// A character is wider than the line.
+    TooNarrow,
+    /// A line of a script isn't a command.
+    NotACommand,
+    /// What would end wasn't begun.
+    NothingToEnd,
+    /// The waiting cells are in the way of what overhangs.
+    RowDoesNotFit,
+    /// A text isn't UTF-8.
+    NotUtf8,
+    /// A width of 0 columns.
+    BadWidth,
+    /// A number that names nothing.
+    BadArgument,
+    /// A level is open, or cells wait.
+    StillOpen,
+    /// The renderer is finished.
+    Finished,
+    /// The renderer isn't finished.
+    NotFinished,
+    /// There is no line.
+    NoLine,
+    /// There is no such piece.
+    NoPiece,
+    /// A buffer has less room than a text has bytes.
+    BufferTooSmall,
+}
+
+impl Fault {
+    /// The number of its status.
+    pub fn code(self) -> u32
+        ensures { result ≡ code_of self }
+    {
+        match self {
+            Fault::OutOfMemory => 1,
+            Fault::TooNarrow => 2,
+            Fault::NotACommand => 3,
+            Fault::NothingToEnd => 4,
+            Fault::RowDoesNotFit => 5,
+            Fault::NotUtf8 => 6,
+            Fault::BadWidth => 7,
+            Fault::BadArgument => 8,
+            Fault::StillOpen => 9,
+            Fault::Finished => 10,
+            Fault::NotFinished => 11,
+            Fault::NoLine => 12,
+            Fault::NoPiece => 13,
+            Fault::BufferTooSmall => 14,
+        }
+    }
+}
+
+/// The number of the status of a call.
+pub fn status(done: Result<(), Fault>) -> u32
+    ensures { result ≡ status_of done }
+{
+    match done {
+        Ok(()) => 0,
+        Err(fault) => fault.code(),
+    }
+}
+
+impl From<Error> for Fault {
+    ghost from_gives = { λ e fault. fault ≡ fault_of e };
+
+    fn from(e: Error) -> Fault {
+        match e {
+            Error::OutOfMemory => Fault::OutOfMemory,
+            Error::TooNarrow => Fault::TooNarrow,
+        }
+    }
+}
+
+impl From<TooNarrow> for Fault {
+    ghost from_gives = { λ _ fault. fault ≡ F.TooNarrow };
+
+    fn from(_e: TooNarrow) -> Fault {
+        Fault::TooNarrow
+    }
+}
+
+impl From<OutOfMemory> for Fault {
+    ghost from_gives = { λ _ fault. fault ≡ F.OutOfMemory };
+
+    fn from(_e: OutOfMemory) -> Fault {
+        Fault::OutOfMemory
+    }
+}
+
+impl From<AllocError> for Fault {
+    ghost from_gives = { λ _ fault. fault ≡ F.OutOfMemory };
+
+    fn from(_e: AllocError) -> Fault {
+        Fault::OutOfMemory
+    }
+}
+
+impl<T: Drop> From<AllocFailed<T>> for Fault {
+    ghost from_gives = { λ _ fault. fault ≡ F.OutOfMemory };
+
+    fn from(_e: AllocFailed<T>) -> Fault {
+        Fault::OutOfMemory
+    }
+}
+
+/// What a refusal of a script's command is to a call that has no line. Streams, which a call doesn't have, count as
+/// memory.
+pub fn of_command(e: RunError) -> Fault
+    ensures { result ≡ fault_of_command e }
+{
+    match e {
+        RunError::TooNarrow => Fault::TooNarrow,
+        RunError::NotACommand(_) => Fault::StillOpen,
+        RunError::NothingToEnd(_) => Fault::NothingToEnd,
+        RunError::RowDoesNotFit(_) => Fault::RowDoesNotFit,
+        RunError::OutOfMemory | RunError::ReadFailed | RunError::WriteFailed => Fault::OutOfMemory,
+    }
+}

@@ -1,0 +1,14 @@
+//! Lines as C sees them: their texts, and their pieces and annotations by numbers. And why a call did nothing.
+#![tactic(auto)]
+
+pub use annotation::Annotation;
+pub use fault::{Fault, of_command, status};
+pub use line::{AnnotationKind, Line, LineSize, PiecePlace, kind, target};
+pub use lines::{Lines, Rest};
+pub use out::{answer, copy_out};
+
+mod annotation;
+mod fault;
+mod line;
+mod lines;
+mod out;

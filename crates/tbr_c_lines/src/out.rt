@@ -1,0 +1,26 @@
+//! Answers that go out to C.
+ghost use Rattle.std.specs.Prelude.{◌≡◌, ◌≤◌, ◌<◌, ◌++◌, Ok, Err, length, drop};
+ghost use Rattle.tbr_c_lines.specs.declared.fault.Fault.TheVariants as F;
+
+use crate::fault::Fault;
+
+/// Copies a text into a buffer, if that has room for all of it. What is needed is told in any case.
+pub fn copy_out(text: &[u8], out: &mut [u8], needed: &mut usize) -> Result<(), Fault>
+    ensures needed { needed.new ≡ length text.now }
+    ensures whole { length text.now ≤ length out.old →
+        (result ≡ Ok tt) × (out.new ≡ text.now ++ drop (length text.now) out.old) }
+    ensures small { length out.old < length text.now → (result ≡ Err F.BufferTooSmall) × (out.new ≡ out.old) }
+{
+    *needed = text.len();
+    if out.len() < text.len() {
+        return Err(Fault::BufferTooSmall);
+    }
+    out[..text.len()].copy_from_slice(text);
+    Ok(())
+}
+
+/// Puts an answer where C wants it. Where there is none nothing changes there.
+pub fn answer<T: Copy>(answer: Result<T, Fault>, out: &mut T) -> Result<(), Fault> {
+    *out = answer?;
+    Ok(())
+}

@@ -1,0 +1,112 @@
+-- What loops append, one part after another.
+use Rattle.std.proofs.Common.{◌≡◌, ℕ, ◌+◌, ◌<◌, Bool, true, false, not, Option, Some, Result, Ok, Err, List, [], ◌∷◌, ◌++◌, length, get_or, take, refl, ap, sym, ◌∙◌, map, append_assoc, append-nil}
+use Rattle.std.specs.Prelude.{filter, flat_map, OnOk}
+use Rattle.std.specs.Char.{is_control}
+use Rattle.std.proofs.lemmas.List.{take_more, map_push}
+use Rattle.std.proofs.lemmas.List.Concat.{flat_map-append}
+use Rattle.std.proofs.lemmas.List.Elements.{filter-append}
+use Rattle.tbr_show.specs.Written.{printable}
+use Rattle.tbr_show.specs.Html.{escaped, between, is_wide_behind, shown_from, shown}
+
+-- one more part behind those that were appended already
+pub one_behind : {X : Type 0} (start so_far more text new : List X) → text ≡ start ++ so_far → new ≡ text ++ more → new ≡ start ++ (so_far ++ more)
+one_behind {X} start so_far more text new is e = e ∙ ap (λ (ys : List X). ys ++ more) is ∙ append_assoc start so_far more
+
+module _ {X Y : Type 0} (f : X → List Y) where
+  pub flat_map_push : (xs : List X) (x : X) → flat_map f (xs ++ x ∷ []) ≡ flat_map f xs ++ f x
+  flat_map_push xs x = flat_map-append f xs (x ∷ []) ∙ ap (λ (ys : List Y). flat_map f xs ++ ys) (append-nil (f x))
+
+  pub flat_map_more : (xs : List X) (i : ℕ) (x : X) → i < length xs → x ≡ get_or xs i x → flat_map f (take (i + 1) xs) ≡ flat_map f (take i xs) ++ f x
+  flat_map_more xs i x below is =
+      ap (flat_map f) (take_more xs i x below ∙ ap (λ (y : X). take i xs ++ y ∷ []) (sym is)) ∙ flat_map_push (take i xs) x
+
+pub printable_control : (cs : List ℕ) (c : ℕ) → is_control c ≡ true → printable (cs ++ c ∷ []) ≡ printable cs
+printable_control cs c h = filter-append (λ (d : ℕ). not (is_control d)) cs (c ∷ []) ∙ rw h (append-nil (printable cs))
+
+pub printable_shown : (cs : List ℕ) (c : ℕ) → is_control c ≡ false → printable (cs ++ c ∷ []) ≡ printable cs ++ c ∷ []
+printable_shown cs c h = filter-append (λ (d : ℕ). not (is_control d)) cs (c ∷ []) ∙ rw h refl
+
+module _ {X Y Z : Type 0} (f : Y → List Z) (g : X → Y) where
+  pub flat_map-map_push : (xs : List X) (x : X) → flat_map f (map g (xs ++ x ∷ [])) ≡ flat_map f (map g xs) ++ f (g x)
+  flat_map-map_push xs x = ap (flat_map f) (map_push g xs x) ∙ flat_map_push f (map g xs) (g x)
+
+-- ---- characters in their columns
+
+module _ (columns : ℕ → Option ℕ) where
+  -- characters without what closes behind them
+  abbrev pub shown_open : Bool → List ℕ → List ℕ
+  shown_open is_wide [] = []
+  shown_open is_wide (c ∷ cs) = between is_wide (columns c) ++ (escaped c ++ shown_open (is_wide_behind is_wide (columns c)) cs)
+
+  -- whether an element is open behind them
+  abbrev pub wide_behind : Bool → List ℕ → Bool
+  wide_behind is_wide [] = is_wide
+  wide_behind is_wide (c ∷ cs) = wide_behind (is_wide_behind is_wide (columns c)) cs
+
+  pub shown_closed : (is_wide : Bool) (cs : List ℕ) → shown_from columns is_wide cs ≡ shown_open is_wide cs ++ between (wide_behind is_wide cs) (Some 1)
+  shown_closed is_wide [] = refl
+  shown_closed is_wide (c ∷ cs) =
+      let open_there = is_wide_behind is_wide (columns c) in
+      ap (λ ds. between is_wide (columns c) ++ (escaped c ++ ds)) (shown_closed open_there cs)
+      ∙ ap (λ ds. between is_wide (columns c) ++ ds) (sym (append_assoc (escaped c) (shown_open open_there cs) (between (wide_behind open_there cs) (Some 1))))
+      ∙ sym (append_assoc (between is_wide (columns c)) (escaped c ++ shown_open open_there cs) (between (wide_behind open_there cs) (Some 1)))
+
+  pub shown_push : (is_wide : Bool) (cs : List ℕ) (c : ℕ) → shown_open is_wide (cs ++ c ∷ []) ≡ shown_open is_wide cs ++ (between (wide_behind is_wide cs) (columns c) ++ escaped c)
+  shown_push is_wide [] c = ap (λ ds. between is_wide (columns c) ++ ds) (append-nil (escaped c))
+  shown_push is_wide (d ∷ cs) c =
+      let open_there = is_wide_behind is_wide (columns d) in
+      let more = between (wide_behind open_there cs) (columns c) ++ escaped c in
+      ap (λ ds. between is_wide (columns d) ++ (escaped d ++ ds)) (shown_push open_there cs c)
+      ∙ ap (λ ds. between is_wide (columns d) ++ ds) (sym (append_assoc (escaped d) (shown_open open_there cs) more))
+      ∙ sym (append_assoc (between is_wide (columns d)) (escaped d ++ shown_open open_there cs) more)
+
+  pub wide_push : (is_wide : Bool) (cs : List ℕ) (c : ℕ) → wide_behind is_wide (cs ++ c ∷ []) ≡ is_wide_behind (wide_behind is_wide cs) (columns c)
+  wide_push is_wide [] c = refl
+  wide_push is_wide (d ∷ cs) c = wide_push (is_wide_behind is_wide (columns d)) cs c
+
+-- ---- lists behind a call that may refuse
+
+pub on_ok_then : {T E : Type 0} {P Q : Type 0} (r : Result T E) → (P → Q) → OnOk r P → OnOk r Q
+on_ok_then (Ok x) f h = f h
+on_ok_then (Err e) f h = h
+
+pub map_both : {X Y Z : Type 0} (g : Y → Z) (h : X → Y) (xs : List X) → map (λ x. g (h x)) xs ≡ map g (map h xs)
+map_both g h [] = refl
+map_both g h (x ∷ xs) = ap (λ ys. g (h x) ∷ ys) (map_both g h xs)
+
+module _ (columns : ℕ → Option ℕ) (start cs : List ℕ) (text : List ℕ) (is_wide : Bool)
+    (is : text ≡ start ++ shown_open columns false (printable cs)) (wide : is_wide ≡ wide_behind columns false (printable cs)) where
+  -- one more character that is shown
+  module _ (c : ℕ) (width : Option ℕ) (shows : is_control c ≡ false) (takes : width ≡ columns c) where
+    pub shown_more : (mark marked new : List ℕ) → mark ≡ between is_wide width → marked ≡ text ++ mark → new ≡ marked ++ escaped c →
+        new ≡ start ++ shown_open columns false (printable (cs ++ c ∷ []))
+    shown_more mark marked new m e f =
+        one_behind start (shown_open columns false (printable cs)) (mark ++ escaped c) text new is (f ∙ ap (λ ds. ds ++ escaped c) e ∙ append_assoc text mark (escaped c))
+        ∙ ap (λ ds. start ++ (shown_open columns false (printable cs) ++ (ds ++ escaped c))) (m ∙ ap (λ b. between b width) wide ∙ ap (between (wide_behind columns false (printable cs))) takes)
+        ∙ ap (λ ds. start ++ ds) (sym (shown_push columns false (printable cs) c) ∙ ap (shown_open columns false) (sym (printable_shown cs c shows)))
+
+    pub wide_more : (behind : Bool) → behind ≡ is_wide_behind is_wide width → behind ≡ wide_behind columns false (printable (cs ++ c ∷ []))
+    wide_more behind e =
+        e ∙ ap (λ b. is_wide_behind b width) wide ∙ ap (is_wide_behind (wide_behind columns false (printable cs))) takes
+        ∙ sym (wide_push columns false (printable cs) c) ∙ ap (wide_behind columns false) (sym (printable_shown cs c shows))
+
+  -- and the end
+  pub shown_all : (mark new : List ℕ) → mark ≡ between is_wide (Some 1) → new ≡ text ++ mark → new ≡ start ++ shown columns (printable cs)
+  shown_all mark new m e =
+      one_behind start (shown_open columns false (printable cs)) mark text new is e
+      ∙ ap (λ ds. start ++ (shown_open columns false (printable cs) ++ ds)) (m ∙ ap (λ b. between b (Some 1)) wide)
+      ∙ ap (λ ds. start ++ ds) (sym (shown_closed columns false (printable cs)))
+
+-- ---- an object of JSON
+
+-- three tokens, more, two tokens, more, and two tokens, one behind another
+module _ {X : Type 0} (t u1 u2 u3 u4 u5 u6 u7 u8 u9 : List X) (x y z k o p q : X) (columns parts : List X)
+    (e1 : u1 ≡ t ++ x ∷ []) (e2 : u2 ≡ u1 ++ y ∷ []) (e3 : u3 ≡ u2 ++ z ∷ []) (e4 : u4 ≡ u3 ++ columns) (e5 : u5 ≡ u4 ++ k ∷ [])
+    (e6 : u6 ≡ u5 ++ o ∷ []) (e7 : u7 ≡ u6 ++ parts) (e8 : u8 ≡ u7 ++ p ∷ []) (e9 : u9 ≡ u8 ++ q ∷ []) where
+  pub object_written : u9 ≡ t ++ (((x ∷ y ∷ z ∷ []) ++ columns) ++ (k ∷ o ∷ parts) ++ p ∷ q ∷ [])
+  object_written =
+      let head = one_behind t (x ∷ y ∷ []) (z ∷ []) u2 u3 (one_behind t (x ∷ []) (y ∷ []) u1 u2 e1 e2) e3 in
+      let first = one_behind t (x ∷ y ∷ z ∷ []) columns u3 u4 head e4 in
+      let middle = one_behind u4 (k ∷ o ∷ []) parts u6 u7 (one_behind u4 (k ∷ []) (o ∷ []) u5 u6 e5 e6) e7 in
+      let most = one_behind t ((x ∷ y ∷ z ∷ []) ++ columns) (k ∷ o ∷ parts) u4 u7 first middle in
+      one_behind t (((x ∷ y ∷ z ∷ []) ++ columns) ++ (k ∷ o ∷ parts)) (p ∷ q ∷ []) u7 u9 most (one_behind u7 (p ∷ []) (q ∷ []) u8 u9 e8 e9)

@@ -1,0 +1,9 @@
+use Rattle.std.proofs.Common.{◌≡◌, ◌++◌}
+use Rattle.std.specs.Prelude.{flat_map}
+use Rattle.tbr_lines.specs.View.{chars_of}
+use Rattle.tbr_show.specs.Written.{printable}
+use Rattle.tbr_show.specs.Html.{escaped}
+use Rattle.tbr_show.proofs.html.push_escaped.Given as goal
+
+abbrev pub invariant-loop-c : goal.invariant-loop-c
+invariant-loop-c l = chars_of l.text ≡ chars_of l.initial.text ++ flat_map escaped (printable l.yielded)

@@ -1,0 +1,11 @@
+use Rattle.std.proofs.Common.{◌≡◌, ◌++◌, map}
+use Rattle.std.specs.Prelude.{flat_map}
+use Rattle.tbr_lines.specs.View.{element_of}
+use Rattle.tbr_show.specs.Ndjson.{element_tokens}
+use Rattle.tbr_show.proofs.ndjson.write_elements.Given as goal
+
+abbrev pub invariant-loop-element : goal.invariant-loop-element
+invariant-loop-element g l = record {
+  tokens : l.writer.tokens ≡ l.initial.writer.tokens ++ flat_map (element_tokens g.W.CharWidth.columns) (map (λ e. element_of e.now) l.yielded);
+  before : l.writer.before ≡ l.initial.writer.before;
+}

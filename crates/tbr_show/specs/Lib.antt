@@ -1,0 +1,6 @@
+pub mod Written
+pub mod Target
+pub mod Ansi
+pub mod Html
+pub mod Ndjson
+pub mod Ambiguous

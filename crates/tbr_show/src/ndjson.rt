@@ -1,0 +1,242 @@
+//! Lines as JSON, an object a line.
+ghost use Rattle.std.specs.Prelude.{◌≡◌, ◌++◌, ◌<◌, chars, flat_map, OnOk};
+ghost use Rattle.std.specs.Char.{digit_char};
+ghost use Rattle.tbr_lines.specs.View.{chars_of, element_of};
+ghost use Rattle.tbr_lines.specs.Walks.{piece_of};
+ghost use Rattle.tbr_show.specs.Ndjson as model;
+
+use crate::text::{push_ascii, push_char};
+use json::Writer;
+use tbr_decor::{Colour, RichAnnotation};
+use tbr_lines::{CharWidth, OutOfMemory, TaggedLine, TaggedLineElement, TaggedString};
+
+/// Appends a line, which may be a border, as an object, with a newline. It has the columns of the line, and its pieces
+/// and markers in order: of each piece its text, its columns and its annotations, the outermost first.
+///
+/// It refuses for want of memory, and where the line's columns pass `usize`. Some may be missing then.
+pub fn push_line<W: CharWidth>(
+    text: &mut String,
+    line: &TaggedLine<Vec<RichAnnotation>>,
+    is_border: bool,
+) -> Result<(), OutOfMemory>
+    ensures { OnOk result (chars_of text.new ≡ chars_of text.old ++ model.line W.columns is_border line.now) }
+{
+    let mut writer = Writer::new(Vec::new(*text.allocator()));
+    write_line::<W>(&mut writer, line, is_border)?;
+    let bytes = writer.into_inner();
+    push_escaped(text, str::from_utf8(bytes.as_slice()).unwrap())?;
+    push_ascii(text, "\n")
+}
+
+/// Writes a line.
+fn write_line<W: CharWidth>(
+    writer: &mut Writer,
+    line: &TaggedLine<Vec<RichAnnotation>>,
+    is_border: bool,
+) -> Result<(), OutOfMemory>
+    ensures tokens { OnOk result
+        (writer.new.tokens ≡ writer.old.tokens ++ model.line_tokens W.columns is_border line.now) }
+    ensures before { OnOk result (writer.new.before ≡ writer.old.before) }
+{
+    writer.begin_object()?;
+    writer.key("border")?;
+    writer.boolean(is_border)?;
+    write_columns(writer, line.width::<W>()?)?;
+    writer.key("pieces")?;
+    writer.begin_array()?;
+    write_elements::<W>(writer, line)?;
+    writer.end_array()?;
+    writer.end_object()?;
+    Ok(())
+}
+
+/// Writes the elements of a line.
+fn write_elements<W: CharWidth>(
+    writer: &mut Writer,
+    line: &TaggedLine<Vec<RichAnnotation>>,
+) -> Result<(), OutOfMemory>
+    ensures tokens { OnOk result
+        (writer.new.tokens ≡ writer.old.tokens ++ flat_map (model.element_tokens W.columns) line.now) }
+    ensures before { OnOk result (writer.new.before ≡ writer.old.before) }
+{
+    for element in line.iter() {
+        write_element::<W>(writer, element)?;
+    }
+    Ok(())
+}
+
+/// Writes the columns that something takes.
+fn write_columns(writer: &mut Writer, columns: usize) -> Result<(), OutOfMemory>
+    ensures tokens { OnOk result (writer.new.tokens ≡ writer.old.tokens ++ model.columns_tokens columns) }
+    ensures before { OnOk result (writer.new.before ≡ writer.old.before) }
+{
+    writer.key("columns")?;
+    writer.u64(columns as u64)?;
+    Ok(())
+}
+
+/// Writes an element of a line.
+fn write_element<W: CharWidth>(
+    writer: &mut Writer,
+    element: &TaggedLineElement<Vec<RichAnnotation>>,
+) -> Result<(), OutOfMemory>
+    ensures tokens { OnOk result
+        (writer.new.tokens ≡ writer.old.tokens ++ model.element_tokens W.columns (element_of element.now)) }
+    ensures before { OnOk result (writer.new.before ≡ writer.old.before) }
+{
+    match element {
+        TaggedLineElement::Str(piece) => write_piece::<W>(writer, piece),
+        TaggedLineElement::FragmentStart(name) => write_marker(writer, name.as_str()),
+    }
+}
+
+/// Writes a piece of a line.
+fn write_piece<W: CharWidth>(
+    writer: &mut Writer,
+    piece: &TaggedString<Vec<RichAnnotation>>,
+) -> Result<(), OutOfMemory>
+    ensures tokens { OnOk result
+        (writer.new.tokens ≡ writer.old.tokens ++ model.element_tokens W.columns (piece_of piece.now)) }
+    ensures before { OnOk result (writer.new.before ≡ writer.old.before) }
+{
+    writer.begin_object()?;
+    writer.key("text")?;
+    writer.string(piece.s.as_str())?;
+    write_columns(writer, piece.width::<W>()?)?;
+    writer.key("annotations")?;
+    writer.begin_array()?;
+    write_annotations(writer, piece.tag.as_slice())?;
+    writer.end_array()?;
+    writer.end_object()?;
+    Ok(())
+}
+
+/// Writes annotations.
+fn write_annotations(writer: &mut Writer, annotations: &[RichAnnotation]) -> Result<(), OutOfMemory>
+    ensures tokens { OnOk result
+        (writer.new.tokens ≡ writer.old.tokens ++ flat_map model.annotation_tokens annotations.now) }
+    ensures before { OnOk result (writer.new.before ≡ writer.old.before) }
+{
+    for annotation in annotations {
+        write_annotation(writer, annotation)?;
+    }
+    Ok(())
+}
+
+/// Writes a marker.
+fn write_marker(writer: &mut Writer, name: &str) -> Result<(), OutOfMemory>
+    ensures tokens { OnOk result (writer.new.tokens ≡ writer.old.tokens ++ model.marker_tokens name.now) }
+    ensures before { OnOk result (writer.new.before ≡ writer.old.before) }
+{
+    writer.begin_object()?;
+    writer.key("marker")?;
+    writer.string(name)?;
+    writer.end_object()?;
+    Ok(())
+}
+
+/// Writes an annotation.
+fn write_annotation(writer: &mut Writer, annotation: &RichAnnotation) -> Result<(), OutOfMemory>
+    ensures tokens { OnOk result (writer.new.tokens ≡ writer.old.tokens ++ model.annotation_tokens annotation.now) }
+    ensures before { OnOk result (writer.new.before ≡ writer.old.before) }
+{
+    writer.begin_object()?;
+    writer.key("kind")?;
+    writer.string(kind(annotation))?;
+    write_details(writer, annotation)?;
+    writer.end_object()?;
+    Ok(())
+}
+
+/// The name of an annotation's kind.
+fn kind(annotation: &RichAnnotation) -> &'static str
+    ensures { result.now ≡ model.kind annotation.now }
+{
+    match annotation {
+        RichAnnotation::Default => "default",
+        RichAnnotation::Link(_) => "link",
+        RichAnnotation::Image(_) => "image",
+        RichAnnotation::Emphasis => "emphasis",
+        RichAnnotation::Strong => "strong",
+        RichAnnotation::Strikeout => "strikeout",
+        RichAnnotation::Code => "code",
+        RichAnnotation::Preformat(_) => "preformatted",
+        RichAnnotation::Colour(_) => "colour",
+        RichAnnotation::BgColour(_) => "background",
+    }
+}
+
+/// Writes what an annotation has beside its kind.
+fn write_details(writer: &mut Writer, annotation: &RichAnnotation) -> Result<(), OutOfMemory>
+    ensures tokens { OnOk result (writer.new.tokens ≡ writer.old.tokens ++ model.details annotation.now) }
+    ensures before { OnOk result (writer.new.before ≡ writer.old.before) }
+{
+    match annotation {
+        RichAnnotation::Link(target) => write_text(writer, "target", target.as_str()),
+        RichAnnotation::Image(source) => write_text(writer, "source", source.as_str()),
+        RichAnnotation::Preformat(is_continued) => {
+            writer.key("continued")?;
+            writer.boolean(*is_continued)?;
+            Ok(())
+        }
+        RichAnnotation::Colour(colour) | RichAnnotation::BgColour(colour) => {
+            write_colour(writer, *colour)
+        }
+        _ => Ok(()),
+    }
+}
+
+/// Writes a text under a key.
+fn write_text(writer: &mut Writer, key: &str, text: &str) -> Result<(), OutOfMemory>
+    ensures tokens { OnOk result (writer.new.tokens ≡ writer.old.tokens ++ model.text_tokens key.now text.now) }
+    ensures before { OnOk result (writer.new.before ≡ writer.old.before) }
+{
+    writer.key(key)?;
+    writer.string(text)?;
+    Ok(())
+}
+
+/// Writes the parts of a colour.
+fn write_colour(writer: &mut Writer, colour: Colour) -> Result<(), OutOfMemory>
+    ensures tokens { OnOk result (writer.new.tokens ≡ writer.old.tokens ++ model.colour_tokens colour) }
+    ensures before { OnOk result (writer.new.before ≡ writer.old.before) }
+{
+    writer.key("rgb")?;
+    writer.begin_array()?;
+    writer.u64(u64::from(colour.r))?;
+    writer.u64(u64::from(colour.g))?;
+    writer.u64(u64::from(colour.b))?;
+    writer.end_array()?;
+    Ok(())
+}
+
+/// Appends JSON that has no control characters but those which JSON allows in strings, U+007F to U+009F, with these as
+/// escapes.
+fn push_escaped(text: &mut String, more: &str) -> Result<(), OutOfMemory>
+    ensures { OnOk result (chars_of text.new ≡ chars_of text.old ++ flat_map model.escaped (chars more.now)) }
+{
+    for c in more.chars() {
+        push_character(text, c)?;
+    }
+    Ok(())
+}
+
+/// Appends a character of JSON, or its escape.
+fn push_character(text: &mut String, c: char) -> Result<(), OutOfMemory>
+    ensures { OnOk result (chars_of text.new ≡ chars_of text.old ++ model.escaped c) }
+{
+    if !matches!(c, '\u{7f}'..='\u{9f}') {
+        return push_char(text, c);
+    }
+    push_ascii(text, "\\u00")?;
+    push_char(text, digit(c as u32 / 16))?;
+    push_char(text, digit(c as u32 % 16))
+}
+
+/// The hexadecimal digit of a value below 16.
+fn digit(value: u32) -> char
+    requires { value < 16 }
+    ensures { result ≡ digit_char value }
+{
+    char::from_digit(value, 16).unwrap()
+}

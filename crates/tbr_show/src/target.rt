@@ -1,0 +1,43 @@
+//! Targets of links.
+ghost use Rattle.std.specs.Prelude.{◌≡◌, ◌++◌, OnOk};
+ghost use Rattle.tbr_lines.specs.View.{chars_of};
+ghost use Rattle.tbr_show.specs.Target.{encoded, is_followed};
+
+use percent_encoding::{AsciiSet, CONTROLS, ascii_set, utf8_percent_encode};
+use tbr_lines::OutOfMemory;
+
+/// What stands in no URL, of ASCII. All that isn't ASCII stands in none either.
+pub const NOT_OF_URLS: AsciiSet = ascii_set!(
+    CONTROLS
+        .add(b' ')
+        .add(b'"')
+        .add(b'<')
+        .add(b'>')
+        .add(b'\\')
+        .add(b'^')
+        .add(b'`')
+        .add(b'{')
+        .add(b'|')
+        .add(b'}')
+);
+
+/// Appends a target, with each byte that stands in no URL as `%` and two hexadecimal digits. What is written so already
+/// stays. It refuses only for want of memory.
+pub fn push_target(text: &mut String, target: &str) -> Result<(), OutOfMemory>
+    ensures { OnOk result (chars_of text.new ≡ chars_of text.old ++ encoded target.now) }
+{
+    utf8_percent_encode(target, NOT_OF_URLS).append_to(text)?;
+    Ok(())
+}
+
+/// Whether a link to a target leads there: the target has no scheme, or `http`, `https`, `mailto` or `ftp`.
+pub fn is_followed(target: &str) -> bool
+    ensures { result ≡ is_followed target.now }
+{
+    let bytes = target.as_bytes();
+    !bytes.contains(&b':')
+        || bytes.starts_with(b"http://")
+        || bytes.starts_with(b"https://")
+        || bytes.starts_with(b"mailto:")
+        || bytes.starts_with(b"ftp://")
+}

@@ -1,0 +1,243 @@
+//! What errors say: what is wrong with a line, and one way to put it right.
+
+use crate::block::Block;
+use crate::fault::{Fault, fault_of};
+use crate::level::{Level, Notes, TooWide};
+use crate::problem::{Problem, Refusal, Related};
+use std::alloc::{AllocError, Global};
+use tbr_commands::{Command, Kind, Request};
+
+/// The status where a text is too narrow.
+const TOO_NARROW: u8 = 1;
+
+/// The status where a line is wrong.
+const WRONG: u8 = 2;
+
+/// A problem with a line, or the want of memory for its text.
+fn refusal(
+    line: usize,
+    related: Option<Related>,
+    status: u8,
+    texts: Result<(String, String), AllocError>,
+) -> Refusal {
+    match texts {
+        Ok((message, help)) => Refusal::Script(Problem {
+            line,
+            message,
+            related,
+            help,
+            status,
+        }),
+        Err(_) => Refusal::OutOfMemory,
+    }
+}
+
+/// The line is no command.
+pub fn not_a_command(alloc: Global, line: usize, writing: &[u8]) -> Refusal {
+    match fault_of(alloc, writing, false) {
+        Ok(Fault { message, help }) => refusal(line, None, WRONG, Ok((message, help))),
+        Err(_) => Refusal::OutOfMemory,
+    }
+}
+
+/// The line isn't the first command that it should be.
+pub fn not_an_opening(alloc: Global, line: usize, writing: &[u8]) -> Refusal {
+    match fault_of(alloc, writing, true) {
+        Ok(Fault { message, help }) => refusal(line, None, WRONG, Ok((message, help))),
+        Err(_) => Refusal::OutOfMemory,
+    }
+}
+
+/// There is no first command.
+pub fn nothing_there(alloc: Global, line: usize) -> Refusal {
+    let texts = both(
+        alloc,
+        "the script has no command",
+        "begin it with `new 60 plain`",
+    );
+    refusal(line, None, WRONG, texts)
+}
+
+/// A command ends what isn't open, or another level than the innermost.
+pub fn not_open(alloc: Global, line: usize, word: &str, level: Option<&Level>) -> Refusal {
+    let Some(level) = level else {
+        return refusal(line, None, WRONG, nothing_to_end(alloc, word));
+    };
+    let related = Some(Related {
+        line: level.line,
+        note: level.by.note(),
+    });
+    refusal(line, related, WRONG, inside(alloc, word, level))
+}
+
+/// What is said where nothing is open that a command ends.
+fn nothing_to_end(alloc: Global, word: &str) -> Result<(String, String), AllocError> {
+    Ok((
+        format!(in alloc; "nothing that `{word}` ends is open")?,
+        format!(in alloc; "take the line away, or begin what it ends before it")?,
+    ))
+}
+
+/// What is said where a level is open inside which nothing is open that a command ends.
+fn inside(alloc: Global, word: &str, level: &Level) -> Result<(String, String), AllocError> {
+    let name = level.by.name();
+    let end = level.by.end();
+    Ok((
+        format!(in alloc; "nothing that `{word}` ends is open inside {name}")?,
+        format!(in alloc; "write `{end}` first")?,
+    ))
+}
+
+/// A level is still open at the end of the script.
+pub fn still_open(alloc: Global, line: usize, level: &Level) -> Refusal {
+    let related = Some(Related {
+        line: level.line,
+        note: level.by.note(),
+    });
+    let name = level.by.name();
+    let end = level.by.end();
+    refusal(line, related, WRONG, unended(alloc, name, end))
+}
+
+/// What is said where a level isn't ended.
+fn unended(alloc: Global, name: &str, end: &str) -> Result<(String, String), AllocError> {
+    Ok((
+        format!(in alloc; "the script ends inside {name}")?,
+        format!(in alloc; "write `{end}` before the end")?,
+    ))
+}
+
+/// A level closes, or the script ends, before the row of cells that wait.
+pub fn cells_wait(alloc: Global, line: usize, first_cell: Option<usize>) -> Refusal {
+    let related = first_cell.map(|line| Related {
+        line,
+        note: "the first cell that waits was opened here",
+    });
+    let texts = both(alloc, "cells wait for their row", "write `row` before it");
+    refusal(line, related, WRONG, texts)
+}
+
+/// A row is in the way of what hangs down from the rows above it.
+pub fn row_does_not_fit(alloc: Global, line: usize, columns: usize, notes: &Notes) -> Refusal {
+    let related = notes.spanning.map(|line| Related {
+        line,
+        note: "this cell takes more rows than one",
+    });
+    refusal(
+        line,
+        related,
+        WRONG,
+        in_the_way(alloc, columns, notes.row_columns),
+    )
+}
+
+/// What is said of a row that doesn't fit.
+fn in_the_way(
+    alloc: Global,
+    columns: usize,
+    row_columns: usize,
+) -> Result<(String, String), AllocError> {
+    Ok((
+        format!(in alloc;
+            "the row takes {row_columns} of {columns} columns, and text of it stands where a cell hangs down"
+        )?,
+        format!(in alloc; "leave the cell empty that stands under the other one")?,
+    ))
+}
+
+/// A text has a character that is wider than its block.
+pub fn too_narrow(alloc: Global, line: usize, too_wide: Option<TooWide>) -> Refusal {
+    let related = too_wide.map(|found| Related {
+        line: found.line,
+        note: "the text is here",
+    });
+    refusal(line, related, TOO_NARROW, wider(alloc, too_wide))
+}
+
+/// What is said of a character that is wider than its block.
+fn wider(alloc: Global, too_wide: Option<TooWide>) -> Result<(String, String), AllocError> {
+    let message = match too_wide {
+        Some(
+            TooWide {
+                character,
+                columns,
+                ..
+            },
+        ) => format!(in alloc; "`{character}` takes 2 columns, and its block has {columns}")?,
+        None => format!(in alloc; "a character is wider than its block")?,
+    };
+    let help = format!(in alloc; "give the block two columns, or `new` the option `overflow`")?;
+    Ok((message, help))
+}
+
+/// The prefix of a block leaves it no column.
+pub fn no_room(alloc: Global, line: usize, block: Block, columns: usize, width: usize) -> Refusal {
+    let name = block.name();
+    refusal(line, None, WRONG, no_column(alloc, name, columns, width))
+}
+
+/// What is said of a prefix that leaves no column.
+fn no_column(
+    alloc: Global,
+    name: &str,
+    columns: usize,
+    width: usize,
+) -> Result<(String, String), AllocError> {
+    Ok((
+        format!(in alloc; "the prefix of {name} takes {columns} columns, and there are {width}")?,
+        format!(in alloc; "give it more columns, or put it further out")?,
+    ))
+}
+
+/// A cell takes more rows than come.
+pub fn lost_lines(alloc: Global, line: usize, cell: usize) -> Result<Problem, AllocError> {
+    let (message, help) = both(
+        alloc,
+        "a cell takes more rows than come, and what is left of it isn't shown",
+        "write a `row` for each row that the cell takes, or give it fewer",
+    )?;
+    Ok(Problem {
+        line,
+        message,
+        related: Some(Related {
+            line: cell,
+            note: "the cell was opened here",
+        }),
+        help,
+        status: 0,
+    })
+}
+
+/// Two texts.
+fn both(alloc: Global, message: &str, help: &str) -> Result<(String, String), AllocError> {
+    Ok((
+        String::from_str(alloc, message)?,
+        String::from_str(alloc, help)?,
+    ))
+}
+
+/// The word of a command that ends something.
+pub fn word(command: &Command) -> &'static str {
+    match command {
+        Command::Ask(Request::End(kind)) => ending(*kind),
+        Command::EndLink => "endlink",
+        Command::EndCell => "endcell",
+        Command::Append(_) => "append",
+        _ => "it",
+    }
+}
+
+/// The word that ends what is of a kind.
+fn ending(kind: Kind) -> &'static str {
+    match kind {
+        Kind::Mode => "endws",
+        Kind::Preformat => "endpre",
+        Kind::Emphasis => "endem",
+        Kind::Strong => "endstrong",
+        Kind::Strikeout => "endstrike",
+        Kind::Code => "endcode",
+        Kind::Superscript => "endsuper",
+        Kind::Colour => "endcolour",
+        Kind::Background => "endbg",
+    }
+}

@@ -1,0 +1,16 @@
+//! Scripts for people: comments, blocks with the decorator's own prefixes, and errors that say what is wrong.
+#![tactic(auto)]
+
+pub use problem::{Problem, Refusal, Related};
+pub use view::{Format, Settings, Shown, view};
+
+mod advice;
+mod block;
+mod fault;
+mod level;
+mod problem;
+mod session;
+mod show;
+mod statement;
+mod view;
+mod words;

@@ -1,0 +1,348 @@
+//! A script for people, line after line, on a program.
+ghost use Rattle.std.specs.Prelude.{◌≡◌, ◌≢◌, ◌<◌, None, Some, IfOk, OnOk};
+ghost use Rattle.tbr_commands.specs.Command.{command_of};
+ghost use Rattle.tbr_commands.specs.Command as asked;
+ghost use Rattle.tbr_runner.specs.Progress.{GoesOn};
+
+use crate::advice;
+use crate::block::Block;
+use crate::level::{Level, Notes, Opener, TooWide};
+use crate::problem::{Problem, Refusal};
+use crate::statement::Statement;
+use std::alloc::Global;
+use std::collections::LinkedList;
+use std::mem;
+use tbr_commands::{Command, Layout, Request};
+use tbr_decor::TextDecorator;
+use tbr_lines::{CharWidth, RenderLine, text_width};
+use tbr_runner::Program;
+use tbr_script::{RunError, TextPair};
+use text_block_renderer::{RenderOptions, Renderer};
+
+/// A script of which some lines were done.
+#[derive(Drop)]
+pub struct Session<D: TextDecorator, W: CharWidth> {
+    alloc: Global,
+    program: Program<D, W>,
+    /// The levels that are open, the innermost last.
+    levels: Vec<Level>,
+    /// Of the innermost level.
+    notes: Notes,
+    /// What was lost so far.
+    lost: Vec<Problem>,
+}
+
+impl<D: TextDecorator, W: CharWidth> Session<D, W> {
+    /// A script behind its first command.
+    pub fn new(
+        alloc: Global,
+        width: usize,
+        options: RenderOptions,
+        decorator: D,
+    ) -> Result<Session<D, W>, Refusal>
+        requires width { 0 < width }
+        requires wrap_width { options.wrap_width ≢ Some 0 }
+        ensures { IfOk result (λ session. GoesOn session.program) }
+    {
+        let Ok(program) = Program::new(alloc, width, options, decorator) else {
+            return Err(Refusal::OutOfMemory);
+        };
+        Ok(Session {
+            alloc,
+            program,
+            levels: Vec::new(alloc),
+            notes: Notes::default(),
+            lost: Vec::new(alloc),
+        })
+    }
+
+    /// Does what the line of this number asks for. An empty line and a comment ask for nothing.
+    pub fn run_line(&mut self, number: usize, line: &[u8]) -> Result<(), Refusal>
+        requires { GoesOn self.old.program }
+        ensures { OnOk result (GoesOn self.new.program) }
+    {
+        if line.is_empty() || line.starts_with(b"#") {
+            return Ok(());
+        }
+        match Statement::parse(self.alloc, line)? {
+            Some(Statement::Command(command)) => self.run(number, &command),
+            Some(Statement::Open(block)) => self.open(number, block),
+            Some(Statement::Close(by)) => self.close(number, by),
+            None => Err(advice::not_a_command(self.alloc, number, line)),
+        }
+    }
+
+    /// Does what a command of `blockrender` asks for.
+    fn run(&mut self, number: usize, command: &Command) -> Result<(), Refusal>
+        requires live { GoesOn self.old.program }
+        requires sized { asked.IsSized (command_of command.now) }
+        ensures { OnOk result (GoesOn self.new.program) }
+    {
+        if matches!(command, Command::Append(_)) && self.is_in_a_block() {
+            return Err(self.not_open("append", number));
+        }
+        self.note_texts(number, command);
+        if matches!(command, Command::Append(_) | Command::EndCell) {
+            self.note_losses(number)?;
+        }
+        self.command(number, command)?;
+        self.note_levels(number, command)
+    }
+
+    /// Whether the innermost level is a block with a prefix.
+    fn is_in_a_block(&self) -> bool {
+        match self.levels.last() {
+            Some(level) => matches!(level.by, Opener::Block(_, _)),
+            None => false,
+        }
+    }
+
+    /// Does what a command asks for, and says why it refuses.
+    fn command(&mut self, number: usize, command: &Command) -> Result<(), Refusal>
+        requires live { GoesOn self.old.program }
+        requires sized { asked.IsSized (command_of command.now) }
+        ensures { OnOk result (GoesOn self.new.program) }
+    {
+        let columns = self.program.top().width();
+        match self.program.run(self.alloc, number, command) {
+            Ok(()) => Ok(()),
+            Err(RunError::NothingToEnd(_)) => Err(self.not_open(advice::word(command), number)),
+            Err(RunError::NotACommand(_)) => Err(self.cells_wait(number)),
+            Err(RunError::RowDoesNotFit(_)) => Err(self.row_does_not_fit(number, columns)),
+            Err(RunError::TooNarrow) => Err(self.too_narrow(number)),
+            Err(_) => Err(Refusal::OutOfMemory),
+        }
+    }
+
+    /// Opens a block with a prefix of the decorator, in as many columns as the prefix leaves.
+    fn open(&mut self, number: usize, block: Block) -> Result<(), Refusal>
+        requires { GoesOn self.old.program }
+        ensures { OnOk result (GoesOn self.new.program) }
+    {
+        let Ok(prefix) = self.program.prefix(block.prefix()) else {
+            return Err(Refusal::OutOfMemory);
+        };
+        let columns = text_width::<W>(prefix.as_str())?;
+        let width = self.program.top().width();
+        if width <= columns {
+            return Err(advice::no_room(self.alloc, number, block, columns, width));
+        }
+        let prefixes = block.prefixes::<W>(self.alloc, prefix)?;
+        if block.stands_apart() {
+            self.lay_out(number, Layout::StartBlock)?;
+        }
+        self.command(number, &Command::Sub(width - columns))?;
+        self.push_level(number, Opener::Block(block, prefixes))
+    }
+
+    /// Closes the block that this command ends.
+    fn close(&mut self, number: usize, by: &'static str) -> Result<(), Refusal>
+        requires { GoesOn self.old.program }
+        ensures { OnOk result (GoesOn self.new.program) }
+    {
+        if !self.levels.last().is_some_and(|level| level.by.end() == by) {
+            return Err(self.not_open(by, number));
+        }
+        self.note_losses(number)?;
+        match self.levels.pop() {
+            Some(
+                Level {
+                    by: Opener::Block(block, prefixes),
+                    line: _,
+                    outside,
+                },
+            ) => {
+                self.leave(outside);
+                self.close_block(number, block, prefixes)
+            }
+            _ => Err(self.not_open(by, number)),
+        }
+    }
+
+    /// Appends a block behind its prefixes to the level outside.
+    fn close_block(
+        &mut self,
+        number: usize,
+        block: Block,
+        prefixes: TextPair,
+    ) -> Result<(), Refusal>
+        requires { GoesOn self.old.program }
+        ensures { OnOk result (GoesOn self.new.program) }
+    {
+        self.command(number, &Command::Append(prefixes))?;
+        if block.stands_apart() {
+            self.lay_out(number, Layout::EndBlock)?;
+        }
+        Ok(())
+    }
+
+    /// Begins or ends a block of lines.
+    fn lay_out(&mut self, number: usize, layout: Layout) -> Result<(), Refusal>
+        requires { GoesOn self.old.program }
+        ensures { OnOk result (GoesOn self.new.program) }
+    {
+        self.command(number, &Command::Ask(Request::Layout(layout)))
+    }
+
+    /// Notes that a level was opened.
+    fn push_level(&mut self, line: usize, by: Opener) -> Result<(), Refusal>
+        requires { GoesOn self.old.program }
+        ensures { OnOk result (GoesOn self.new.program) }
+    {
+        let outside = mem::replace(&mut self.notes, Notes::default());
+        self.levels.push(Level { by, line, outside })?;
+        Ok(())
+    }
+
+    /// Notes that the innermost level was closed, outside which this was known.
+    fn leave(&mut self, outside: Notes)
+        requires { GoesOn self.old.program }
+        ensures { GoesOn self.new.program }
+    {
+        let too_wide = outside.too_wide.or(self.notes.too_wide);
+        self.notes = Notes {
+            too_wide,
+            ..outside
+        };
+    }
+
+    /// Notes a text with a character that is wider than its block, if it is the first.
+    fn note_texts(&mut self, number: usize, command: &Command)
+        requires { GoesOn self.old.program }
+        ensures { GoesOn self.new.program }
+    {
+        let text = match command {
+            Command::Ask(Request::Text(text)) => text.as_str(),
+            Command::Ask(Request::Image(image)) => image.second.as_str(),
+            _ => return,
+        };
+        let top = self.program.top();
+        let columns = top
+            .options()
+            .wrap_width
+            .unwrap_or(usize::MAX)
+            .min(top.width());
+        if columns >= 2 || self.notes.too_wide.is_some() {
+            return;
+        }
+        self.notes.too_wide = first_wide::<W>(text).map(|character| TooWide {
+            line: number,
+            character,
+            columns,
+        });
+    }
+
+    /// Notes what a command opened and closed.
+    fn note_levels(&mut self, number: usize, command: &Command) -> Result<(), Refusal>
+        requires { GoesOn self.old.program }
+        ensures { OnOk result (GoesOn self.new.program) }
+    {
+        match command {
+            Command::Sub(_) => self.push_level(number, Opener::Sub),
+            Command::Cell(cell) => {
+                self.notes.add_cell(number, cell.width, cell.span);
+                self.push_level(number, Opener::Cell)
+            }
+            Command::Append(_) | Command::EndCell => {
+                if let Some(Level { outside, .. }) = self.levels.pop() {
+                    self.leave(outside);
+                }
+                Ok(())
+            }
+            Command::Row { .. } | Command::VerticalRow => {
+                self.notes.take_cells();
+                Ok(())
+            }
+            _ => Ok(()),
+        }
+    }
+
+    /// Notes that lines of a cell which takes several rows are lost in the innermost level, if some are.
+    fn note_losses(&mut self, number: usize) -> Result<(), Refusal>
+        requires { GoesOn self.old.program }
+        ensures { OnOk result (GoesOn self.new.program) }
+    {
+        let Some(line) = self.notes.spanning else {
+            return Ok(());
+        };
+        let Ok(hangs) = self.program.has_overhang(self.alloc) else {
+            return Err(Refusal::OutOfMemory);
+        };
+        if hangs {
+            let problem = advice::lost_lines(self.alloc, number, line)?;
+            self.lost.push(problem)?;
+        }
+        Ok(())
+    }
+
+    /// What was lost of the script, behind its last line, whose number is one less than this one. It refuses where a
+    /// level is open or cells wait.
+    fn end(&mut self, number: usize) -> Result<Vec<Problem>, Refusal>
+        requires { GoesOn self.old.program }
+        ensures live { OnOk result (GoesOn self.new.program) }
+    {
+        if let Some(level) = self.levels.last() {
+            return Err(advice::still_open(self.alloc, number, level));
+        }
+        if self.program.waiting_cells() > 0 {
+            return Err(self.cells_wait(number));
+        }
+        self.note_losses(number)?;
+        Ok(mem::replace(&mut self.lost, Vec::new(self.alloc)))
+    }
+
+    /// The lines of the script, and what was lost of it. The number is that of the line behind the last.
+    pub fn finish(
+        mut self,
+        number: usize,
+    ) -> Result<(LinkedList<RenderLine<Vec<D::Annotation>>>, Vec<Problem>), Refusal>
+        requires { GoesOn self.program }
+    {
+        let lost = self.end(number)?;
+        let Session {
+            program,
+            notes,
+            alloc,
+            ..
+        } = self;
+        if program.open_levels() > 0 || program.waiting_cells() > 0 {
+            return Err(Refusal::OutOfMemory);
+        }
+        match program.finish_lines() {
+            Ok(lines) => Ok((lines, lost)),
+            Err(tbr_lines::Error::TooNarrow) => {
+                Err(advice::too_narrow(alloc, number, notes.too_wide))
+            }
+            Err(tbr_lines::Error::OutOfMemory) => Err(Refusal::OutOfMemory),
+        }
+    }
+
+    /// A command ends what isn't open here.
+    fn not_open(&self, word: &str, number: usize) -> Refusal {
+        advice::not_open(self.alloc, number, word, self.levels.last())
+    }
+
+    /// A command comes before the row of cells that wait.
+    fn cells_wait(&self, number: usize) -> Refusal {
+        advice::cells_wait(self.alloc, number, self.notes.first_cell)
+    }
+
+    /// A row is in the way of cells above it.
+    fn row_does_not_fit(&self, number: usize, columns: usize) -> Refusal {
+        advice::row_does_not_fit(self.alloc, number, columns, &self.notes)
+    }
+
+    /// A text has a character that is wider than its block.
+    fn too_narrow(&self, number: usize) -> Refusal {
+        let outside = self.levels.iter().rev();
+        let too_wide = self.notes.too_wide.or_else(|| outside
+            .filter_map(|level| level.outside.too_wide)
+            .next());
+        advice::too_narrow(self.alloc, number, too_wide)
+    }
+}
+
+/// The first character of a text that takes two columns.
+fn first_wide<W: CharWidth>(text: &str) -> Option<char> {
+    text.chars().find(|c| W::width(*c) == Some(2))
+}

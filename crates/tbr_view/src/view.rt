@@ -1,0 +1,146 @@
+//! From a script for people to what is shown of it.
+ghost use Rattle.std.specs.Prelude.{◌≢◌, ◌<◌, Some, IfOk};
+
+use crate::advice;
+use crate::problem::{Problem, Refusal};
+use crate::session::Session;
+use crate::show::{show_plain, show_rich};
+use std::alloc::Global;
+use std::collections::LinkedList;
+use tbr_commands::{Decorator, Opening};
+use tbr_decor::{PlainDecorator, RichDecorator, TextDecorator, TrivialDecorator};
+use tbr_lines::{CharWidth, RenderLine};
+use tbr_script::split_line;
+
+/// What is written.
+#[derive(Clone, Copy, Debug, PartialEq, Eq)]
+pub enum Format {
+    /// The characters of the lines, as `blockrender` writes them.
+    Text,
+    /// The same without control characters.
+    Bare,
+    /// The same for a terminal, with the control sequences of annotations.
+    Ansi,
+    /// An object of JSON a line.
+    Ndjson,
+    /// The lines in HTML, as they stand in a `<pre>`.
+    Html,
+}
+
+/// How a script is shown.
+#[derive(Clone, Copy, Debug)]
+pub struct Settings {
+    /// What is written.
+    pub format: Format,
+    /// The columns of the renderer, in the place of those of the script. 0 counts as none.
+    pub width: Option<usize>,
+    /// The decorator, in the place of that of the script.
+    pub decorator: Option<Decorator>,
+}
+
+/// What is shown of a script.
+#[derive(Debug, Drop)]
+pub struct Shown {
+    /// In the format that was asked for.
+    pub text: String,
+    /// What was lost.
+    pub lost: Vec<Problem>,
+}
+
+/// What is shown of a script. It refuses where the script is at fault, and for want of memory.
+pub fn view<W: CharWidth>(alloc: Global, script: &[u8], view: Settings) -> Result<Shown, Refusal> {
+    let (opening, number, rest) = first_command(alloc, script)?;
+    let opening = with_width(opening, view.width);
+    match view.decorator.unwrap_or(opening.decorator) {
+        Decorator::Plain => {
+            let decorator = PlainDecorator::new();
+            let (lines, lost) = run::<_, W>(alloc, opening, decorator, number, rest)?;
+            let text = show_plain::<W>(alloc, lines, view.format)?;
+            Ok(Shown { text, lost })
+        }
+        Decorator::Trivial => {
+            let decorator = TrivialDecorator::new();
+            let (lines, lost) = run::<_, W>(alloc, opening, decorator, number, rest)?;
+            let text = show_plain::<W>(alloc, lines, view.format)?;
+            Ok(Shown { text, lost })
+        }
+        Decorator::Rich => {
+            let decorator = RichDecorator::new();
+            let (lines, lost) = run::<_, W>(alloc, opening, decorator, number, rest)?;
+            let text = show_rich::<W>(alloc, lines, view.format)?;
+            Ok(Shown { text, lost })
+        }
+    }
+}
+
+/// The same with other columns, if some are given.
+fn with_width(opening: Opening, width: Option<usize>) -> Opening
+    requires width { 0 < opening.width }
+    requires wrap_width { opening.options.wrap_width ≢ Some 0 }
+    ensures width { 0 < result.width }
+    ensures wrap_width { result.options.wrap_width ≢ Some 0 }
+{
+    let Opening {
+        width: own,
+        decorator,
+        options,
+    } = opening;
+    let width = match width {
+        Some(columns) if columns > 0 => columns,
+        _ => own,
+    };
+    Opening {
+        width,
+        decorator,
+        options,
+    }
+}
+
+/// The first command of a script, the number of the line behind it, and what follows it.
+fn first_command(alloc: Global, script: &[u8]) -> Result<(Opening, usize, &[u8]), Refusal>
+    ensures width { IfOk result (λ r. 0 < r.0.width) }
+    ensures wrap_width { IfOk result (λ r. r.0.options.wrap_width ≢ Some 0) }
+{
+    let mut rest = script;
+    let mut number = 1usize;
+    while !rest.is_empty() {
+        let (line, behind) = split_line(rest);
+        if !line.is_empty() && !line.starts_with(b"#") {
+            let Some(opening) = Opening::parse(line) else {
+                return Err(advice::not_an_opening(alloc, number, line));
+            };
+            return Ok((opening, number.saturating_add(1), behind));
+        }
+        rest = behind;
+        number = number.saturating_add(1);
+    }
+    Err(advice::nothing_there(alloc, number))
+}
+
+/// The lines of a script behind its first command, and what was lost of them.
+fn run<D: TextDecorator, W: CharWidth>(
+    alloc: Global,
+    opening: Opening,
+    decorator: D,
+    number: usize,
+    script: &[u8],
+) -> Result<(LinkedList<RenderLine<Vec<D::Annotation>>>, Vec<Problem>), Refusal>
+    requires width { 0 < opening.width }
+    requires wrap_width { opening.options.wrap_width ≢ Some 0 }
+{
+    let mut session: Session<D, W> = Session::new(
+        alloc,
+        opening.width,
+        opening.options,
+        decorator,
+    )?;
+    let mut rest = script;
+    let mut number = number;
+    while !rest.is_empty() {
+        let (line, behind) = split_line(rest);
+        session.run_line(number, line)?;
+        rest = behind;
+        number = number.saturating_add(1);
+    }
+    session.finish(number)
+}

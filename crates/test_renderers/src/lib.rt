@@ -1,0 +1,52 @@
+//! Tests of renderers, alone and on a stack: tables of calls on a new one, each with the lines that they leave; what
+//! renderers answer beside their lines; what they refuse, also where memory is; and what is printed of them.
+#![tactic(auto)]
+
+#[cfg(test)]
+mod blocks;
+#[cfg(test)]
+mod borders;
+#[cfg(test)]
+mod colours;
+#[cfg(test)]
+mod compared;
+#[cfg(test)]
+mod decorated;
+#[cfg(test)]
+mod every_call;
+#[cfg(test)]
+mod expected;
+#[cfg(test)]
+mod footnotes;
+#[cfg(test)]
+mod images;
+#[cfg(test)]
+mod markers;
+#[cfg(test)]
+mod memory;
+#[cfg(test)]
+mod narrow;
+#[cfg(test)]
+mod padding;
+#[cfg(test)]
+mod prefixes;
+#[cfg(test)]
+mod preserved;
+#[cfg(test)]
+mod printed;
+#[cfg(test)]
+mod refusals;
+#[cfg(test)]
+mod rows;
+#[cfg(test)]
+mod stacks;
+#[cfg(test)]
+mod strikeouts;
+#[cfg(test)]
+mod sub_blocks;
+#[cfg(test)]
+mod sub_renderers;
+#[cfg(test)]
+mod vertical_rows;
+#[cfg(test)]
+mod wrapping;

@@ -1,0 +1,91 @@
+/*
+ * Prints a letter of the village: a heading, a paragraph with a link, a quote, a list and a table of prices.
+ */
+#include <stdio.h>
+#include <stdlib.h>
+
+#include "text_block_renderer.h"
+
+enum { WIDTH = 44 };
+
+/* Ends the program where a call refuses. */
+static void well(tbr_status status) {
+    if (status != TBR_OK) {
+        fprintf(stderr, "letter: %s\n", tbr_status_text(status));
+        exit(EXIT_FAILURE);
+    }
+}
+
+/* A block inside, whose lines come behind prefixes. */
+static void add_block(tbr_renderer *letter, const char *text, const char *first, const char *others) {
+    size_t columns;
+    well(tbr_width_minus(letter, strlen(first), 1, &columns));
+    well(tbr_start_sub(letter, columns));
+    well(tbr_add_text(letter, text));
+    well(tbr_append_sub(letter, first, others));
+}
+
+static void add_greeting(tbr_renderer *letter) {
+    well(tbr_add_text(letter, "The "));
+    well(tbr_start_link(letter, "https://example.org/bridge"));
+    well(tbr_add_text(letter, "old bridge"));
+    well(tbr_end_link(letter));
+    well(tbr_add_text(letter, " opens again on Sunday, after "));
+    well(tbr_start_strikeout(letter));
+    well(tbr_add_text(letter, "one year"));
+    well(tbr_end_strikeout(letter));
+    well(tbr_add_text(letter, " two years of work. The smith writes:"));
+    well(tbr_start_block(letter));
+    add_block(letter, "Come early. There is coffee on both sides of the river.", "> ", "> ");
+}
+
+static void add_list(tbr_renderer *letter) {
+    well(tbr_start_block(letter));
+    well(tbr_add_text(letter, "Please bring"));
+    add_block(letter, "a cup, since there are never enough of them,", "* ", "  ");
+    add_block(letter, "and a flag.", "* ", "  ");
+}
+
+static void add_cell(tbr_renderer *letter, const char *text, size_t width, tbr_alignment alignment) {
+    well(tbr_start_cell(letter, width, 1, alignment));
+    well(tbr_add_text(letter, text));
+    well(tbr_end_cell(letter));
+}
+
+static void add_price(tbr_renderer *letter, const char *what, const char *price) {
+    add_cell(letter, what, 20, TBR_LEFT);
+    add_cell(letter, price, 8, TBR_RIGHT);
+    well(tbr_add_row(letter, false));
+}
+
+static void add_prices(tbr_renderer *letter) {
+    well(tbr_start_table(letter));
+    well(tbr_add_border_width(letter, 29));
+    add_price(letter, "Bread, a dark loaf", "3.20");
+    add_price(letter, "Cherry cake, by the slice", "2.80");
+}
+
+/* Prints all lines, each behind its number. */
+static void print_lines(tbr_renderer *letter) {
+    tbr_line line;
+    for (int number = 1; tbr_next_line(letter, &line) == TBR_OK; number++) {
+        char text[4 * WIDTH + 1];
+        size_t length;
+        well(tbr_line_text(letter, text, sizeof text, &length));
+        printf("%2d  %.*s\n", number, (int)length, text);
+    }
+}
+
+int main(void) {
+    tbr_options options = tbr_options_default(WIDTH);
+    options.footnotes = true;
+    tbr_renderer *letter;
+    well(tbr_new(&options, &letter));
+    add_greeting(letter);
+    add_list(letter);
+    add_prices(letter);
+    well(tbr_finish(letter));
+    print_lines(letter);
+    tbr_free(letter);
+    return EXIT_SUCCESS;
+}

@@ -1,0 +1,78 @@
+"""How wide the content of a table's cell is, before it is drawn."""
+
+import re
+from collections.abc import Iterator
+from contextlib import contextmanager
+from dataclasses import dataclass
+
+from text_block_renderer import Renderer, text_width
+
+# Words of more columns may be cut, so that a long address doesn't take a whole table apart.
+LONGEST_WORD = 24
+# A line is wrapped at white space, but not at a no-break space.
+BREAKS = re.compile("[^\\S\u00a0]+|\u200b")
+
+
+@dataclass(frozen=True)
+class Size:
+    """The columns that a content takes: `most` where no line is wrapped, `least` where no word is cut."""
+
+    most: int = 0
+    least: int = 0
+
+    def widest(self, other: "Size") -> "Size":
+        """That of both, one below the other."""
+        return Size(max(self.most, other.most), max(self.least, other.least))
+
+    def beside(self, columns: int) -> "Size":
+        """That of the content beside something of so many columns."""
+        return Size(self.most + columns, self.least + columns)
+
+
+class Ruler:
+    """Takes texts and the ends of lines, as a renderer takes them, and has their size."""
+
+    def __init__(self, page: Renderer) -> None:
+        self.page = page
+        self.size = Size()
+        self._line = ""
+        self._is_preformatted = False
+
+    def add_text(self, text: str) -> None:
+        """Adds text to the open line. In preformatted text a newline ends it."""
+        if not self._is_preformatted:
+            self._line += text
+            return
+        first, *others = text.split("\n")
+        self._line += first
+        for line in others:
+            self.end_line()
+            self._line = line
+
+    def end_line(self) -> None:
+        """Ends the open line, if there is one."""
+        words = [self._line.expandtabs()] if self._is_preformatted else BREAKS.split(self._line.strip())
+        self._line = ""
+        self.add_lines(Size(text_width(" ".join(words)), min(max(map(text_width, words)), LONGEST_WORD)))
+
+    def add_lines(self, size: Size) -> None:
+        """Adds lines of this size below the others."""
+        self.size = self.size.widest(size)
+
+    @contextmanager
+    def preformatted(self) -> Iterator[None]:
+        """What is added keeps its white space, on lines of its own."""
+        self.end_line()
+        outside, self._is_preformatted = self._is_preformatted, True
+        yield
+        self.end_line()
+        self._is_preformatted = outside
+
+    @contextmanager
+    def behind(self, prefix: str) -> Iterator[None]:
+        """What is added comes behind a prefix, on lines of its own."""
+        self.end_line()
+        outside, self.size = self.size, Size()
+        yield
+        self.end_line()
+        self.size = outside.widest(self.size.beside(text_width(prefix)))

@@ -1,0 +1,856 @@
+/*
+ * A text block renderer: calls go in, as text, blocks, links, images and rows of cells, and lines of a width in
+ * columns come out, as text or as pieces under annotations. C99 and later, and C++.
+ *
+ * UNITS. Widths are in columns: most characters take one, those of East Asian scripts mostly two, combining marks
+ * none. Lengths, rooms and places in a text are in bytes. Texts are UTF-8; those that come out have no NUL behind
+ * them.
+ *
+ * TEXTS THAT GO IN. A function whose name ends in _n takes bytes and their number, where the pointer may be NULL if
+ * the number is 0. The one without _n takes a NUL-terminated text, and NULL as the empty one. All are copied: a
+ * caller may free them after the call.
+ *
+ * TEXTS THAT COME OUT go into a buffer of the caller's, of `room` bytes, which may be NULL if the room is 0.
+ * `*length` is the number of bytes of the whole text. Where the room is smaller, the answer is TBR_BUFFER_TOO_SMALL,
+ * nothing is written, and a second call with more room has all of it. A buffer may not overlap what another argument
+ * points to.
+ *
+ * STATUSES. Each call answers TBR_OK or says why it did nothing. TBR_OUT_OF_MEMORY and TBR_TOO_NARROW are kept: what
+ * the renderer was filled with is lost, and each later call but tbr_free answers the same. All other refusals leave
+ * the renderer as it was. Calls that keep none say so. What an out pointer points to is written only where a call
+ * answers TBR_OK, but for `*length` at TBR_BUFFER_TOO_SMALL, and for tbr_new. No call aborts, prints, or reads the
+ * environment.
+ *
+ * OWNERSHIP. tbr_new makes a renderer, which belongs to the caller until tbr_free. Its memory is taken by the
+ * program's malloc and realloc, and given back by free. The pointer stays the same all the while.
+ *
+ * THREADS. A renderer is used by one call at a time, on the thread that made it. Any number of threads may each have
+ * their own; the library has no state beside them. No call may come from a signal handler, nor in the forked child
+ * of a process with threads.
+ *
+ * WHAT C CAN'T STOP, and the library can't see: a call with a renderer after tbr_free, a second tbr_free, a pointer
+ * that tbr_new didn't give, bytes fewer than their number says, and an out pointer that is NULL.
+ */
+#ifndef TEXT_BLOCK_RENDERER_H
+#define TEXT_BLOCK_RENDERER_H
+
+#include <stdbool.h>
+#include <stddef.h>
+#include <stdint.h>
+#include <string.h>
+
+#define TBR_VERSION_MAJOR 0
+#define TBR_VERSION_MINOR 1
+#define TBR_VERSION_PATCH 0
+#define TBR_VERSION "0.1.0"
+
+#ifdef __cplusplus
+extern "C" {
+#endif
+
+/* ---- types ---- */
+
+/* What a call answers. */
+typedef enum tbr_status {
+    TBR_OK = 0,
+    /* Memory was refused, or a size passes SIZE_MAX. Kept. */
+    TBR_OUT_OF_MEMORY = 1,
+    /* A word that is placed holds a character wider than the line, and `overflow` isn't on. Never in lines of two
+       columns or more. Kept. */
+    TBR_TOO_NARROW = 2,
+    /* Of tbr_render alone: a line of the script isn't a command, or stands where it may not. */
+    TBR_NOT_A_COMMAND = 3,
+    /* An end of what wasn't begun, or was ended already, in the level that is open. */
+    TBR_NOTHING_TO_END = 4,
+    /* The cells of a row are in the way of what overhangs from the rows above. */
+    TBR_ROW_DOES_NOT_FIT = 5,
+    /* Bytes that aren't UTF-8. */
+    TBR_NOT_UTF8 = 6,
+    /* A width of 0 columns. */
+    TBR_BAD_WIDTH = 7,
+    /* A number that names nothing, as a decorator 9; a span of 0 rows; or NULL for a text that has bytes. */
+    TBR_BAD_ARGUMENT = 8,
+    /* What would end has a level inside that is open, or cells that wait for a row. */
+    TBR_STILL_OPEN = 9,
+    /* A call that fills, questions or finishes a renderer, after tbr_finish. */
+    TBR_FINISHED = 10,
+    /* A question for lines, before tbr_finish. */
+    TBR_NOT_FINISHED = 11,
+    /* No line comes after those that were taken, or none has been taken yet. */
+    TBR_NO_LINE = 12,
+    /* The line has no piece of that place, or the piece no annotation of that place, or what was asked of it. */
+    TBR_NO_PIECE = 13,
+    /* The buffer has less room than the text has bytes. */
+    TBR_BUFFER_TOO_SMALL = 14,
+    /* The renderer is NULL. */
+    TBR_NO_RENDERER = 15
+} tbr_status;
+
+/* How decorated text is shown. */
+typedef enum tbr_decorator {
+    /* By characters, as [ and ] about a link. */
+    TBR_PLAIN = 0,
+    /* By nothing but a superscript's ^{ and }. */
+    TBR_TRIVIAL = 1,
+    /* As TBR_TRIVIAL, and by annotations of each piece. */
+    TBR_RICH = 2
+} tbr_decorator;
+
+/* What an image without a title shows. */
+typedef enum tbr_images {
+    /* Nothing. */
+    TBR_IMAGES_IGNORED = 0,
+    /* The empty title, as the decorator shows it. */
+    TBR_IMAGES_ALWAYS = 1,
+    /* What follows the last / of its source. */
+    TBR_IMAGES_FILE_NAME = 2
+} tbr_images;
+
+/* What becomes of white space. */
+typedef enum tbr_white_space {
+    /* A stretch of it counts as one space, and as none at the ends of lines. */
+    TBR_NORMAL = 0,
+    /* It is kept, and lines are cut where they are full. */
+    TBR_PRE = 1,
+    /* It is kept, and words go on a fresh line where they don't fit. */
+    TBR_PRE_WRAP = 2
+} tbr_white_space;
+
+/* Where the lines of a cell stand in its columns. */
+typedef enum tbr_alignment {
+    TBR_LEFT = 0,
+    TBR_RIGHT = 1,
+    /* The odd column is on the right. */
+    TBR_CENTRE = 2
+} tbr_alignment;
+
+/* What a renderer is told to do. Make it by tbr_options_default, so that fields of a later version are set too. */
+typedef struct tbr_options {
+    /* The columns of the renderer, at least 1. */
+    size_t width;
+    /* The most columns that a line of wrapped text takes, or 0 for as many as the renderer has. */
+    size_t wrap_width;
+    /* A tbr_decorator. */
+    uint32_t decorator;
+    /* A tbr_images. */
+    uint32_t images;
+    /* Whether a character that is wider than a line goes on a line of its own. It is too narrow else. */
+    bool overflow;
+    /* Whether lines are filled with spaces up to their width. */
+    bool pad;
+    /* Whether links show numbers, and tbr_finish lists their targets under these. */
+    bool footnotes;
+    /* Whether the targets listed there are cut where they don't fit a line. */
+    bool wrap_links;
+    /* Whether struck out text has strokes. */
+    bool strikeout_strokes;
+    /* Whether borders of tables are drawn; those of tbr_add_border always are. */
+    bool draw_borders;
+} tbr_options;
+
+/* A renderer. */
+typedef struct tbr_renderer tbr_renderer;
+
+/* What tbr_render answers. */
+typedef struct tbr_answer {
+    /* A tbr_status. */
+    uint32_t status;
+    /* The line at fault, from 1, at TBR_NOT_A_COMMAND, TBR_NOTHING_TO_END and TBR_ROW_DOES_NOT_FIT; 0 else. */
+    size_t line;
+    /* The bytes of the whole text at TBR_OK; 0 else. */
+    size_t length;
+} tbr_answer;
+
+/* A line. */
+typedef struct tbr_line {
+    /* The bytes of its text, which has no newline. */
+    size_t bytes;
+    /* The columns that it takes. */
+    size_t columns;
+    /* How many pieces it has, markers among them. */
+    size_t pieces;
+    /* Whether it is a border, which may hold texts of cells that span it. */
+    bool is_border;
+} tbr_line;
+
+/* What a piece is. */
+typedef enum tbr_piece_kind {
+    /* Text under annotations. */
+    TBR_TEXT = 0,
+    /* A marker, which has a name, and no text. */
+    TBR_MARKER = 1
+} tbr_piece_kind;
+
+/* A piece of a line. Those of text are the longest stretches under equal annotations; end to end they are the line. */
+typedef struct tbr_piece {
+    /* Where its bytes begin in the line's text, and where they end. Both are the same of a marker. */
+    size_t begin;
+    size_t end;
+    /* How many annotations it stands under: one for each stretch that is open there. None of a marker. */
+    size_t annotations;
+    /* The bytes of a marker's name; 0 of a text. */
+    size_t name_bytes;
+    /* A tbr_piece_kind. */
+    uint32_t kind;
+} tbr_piece;
+
+/* What a stretch of text is. */
+typedef enum tbr_annotation_kind {
+    /* Nothing in particular; so are all under TBR_PLAIN and TBR_TRIVIAL. */
+    TBR_DEFAULT = 0,
+    /* A link. Its target is the annotation's. */
+    TBR_LINK = 1,
+    /* Text that stands for an image. The image's source is the annotation's target. */
+    TBR_IMAGE = 2,
+    TBR_EMPHASIS = 3,
+    TBR_STRONG = 4,
+    TBR_STRIKEOUT = 5,
+    TBR_CODE = 6,
+    /* Preformatted text. */
+    TBR_PREFORMATTED = 7,
+    /* Preformatted text on a line that continues one which was too long. */
+    TBR_PREFORMATTED_CONTINUED = 8,
+    /* Text in a colour. */
+    TBR_COLOUR = 9,
+    /* Text on a background in a colour. */
+    TBR_BACKGROUND = 10
+} tbr_annotation_kind;
+
+/* An annotation. */
+typedef struct tbr_annotation {
+    /* The bytes of its target, of TBR_LINK and TBR_IMAGE; 0 else. */
+    size_t target_bytes;
+    /* A tbr_annotation_kind. */
+    uint32_t kind;
+    /* The parts of its colour, of TBR_COLOUR and TBR_BACKGROUND; 0 else. */
+    uint8_t red;
+    uint8_t green;
+    uint8_t blue;
+} tbr_annotation;
+
+/* ---- what the library exports ---- */
+
+/*
+ * These are called by the inline functions below, and by bindings. A renderer goes in by value, as the one field of a
+ * struct, and comes back through the last pointer, also where a call refuses; it is the same pointer. No other pointer
+ * may be NULL, also where the number of bytes behind it is 0. A number that an enum has no name for is
+ * TBR_BAD_ARGUMENT. Their names begin with the version of this interface: what a later one changes gets a new name.
+ */
+typedef struct tbr_handle {
+    tbr_renderer *at;
+} tbr_handle;
+
+tbr_answer tbr1_render(const uint8_t *script, size_t length, uint8_t *out, size_t room);
+uint32_t tbr1_new(const tbr_options *options, tbr_renderer **back);
+void tbr1_free(tbr_handle renderer);
+
+uint32_t tbr1_add_text(tbr_handle renderer, const uint8_t *text, size_t length, tbr_renderer **back);
+uint32_t tbr1_start_block(tbr_handle renderer, tbr_renderer **back);
+uint32_t tbr1_end_block(tbr_handle renderer, tbr_renderer **back);
+uint32_t tbr1_start_table(tbr_handle renderer, tbr_renderer **back);
+uint32_t tbr1_new_line(tbr_handle renderer, tbr_renderer **back);
+uint32_t tbr1_new_line_hard(tbr_handle renderer, tbr_renderer **back);
+uint32_t tbr1_add_empty_line(tbr_handle renderer, tbr_renderer **back);
+uint32_t tbr1_add_border(tbr_handle renderer, tbr_renderer **back);
+uint32_t tbr1_add_border_width(tbr_handle renderer, size_t columns, tbr_renderer **back);
+uint32_t tbr1_push_white_space(tbr_handle renderer, uint32_t mode, tbr_renderer **back);
+uint32_t tbr1_pop_white_space(tbr_handle renderer, tbr_renderer **back);
+uint32_t tbr1_start_preformatted(tbr_handle renderer, tbr_renderer **back);
+uint32_t tbr1_end_preformatted(tbr_handle renderer, tbr_renderer **back);
+uint32_t tbr1_start_link(tbr_handle renderer, const uint8_t *target, size_t length, tbr_renderer **back);
+uint32_t tbr1_end_link(tbr_handle renderer, tbr_renderer **back);
+uint32_t tbr1_start_emphasis(tbr_handle renderer, tbr_renderer **back);
+uint32_t tbr1_end_emphasis(tbr_handle renderer, tbr_renderer **back);
+uint32_t tbr1_start_strong(tbr_handle renderer, tbr_renderer **back);
+uint32_t tbr1_end_strong(tbr_handle renderer, tbr_renderer **back);
+uint32_t tbr1_start_strikeout(tbr_handle renderer, tbr_renderer **back);
+uint32_t tbr1_end_strikeout(tbr_handle renderer, tbr_renderer **back);
+uint32_t tbr1_start_code(tbr_handle renderer, tbr_renderer **back);
+uint32_t tbr1_end_code(tbr_handle renderer, tbr_renderer **back);
+uint32_t tbr1_start_superscript(tbr_handle renderer, tbr_renderer **back);
+uint32_t tbr1_end_superscript(tbr_handle renderer, tbr_renderer **back);
+uint32_t tbr1_start_colour(tbr_handle renderer, uint8_t red, uint8_t green, uint8_t blue, tbr_renderer **back);
+uint32_t tbr1_end_colour(tbr_handle renderer, tbr_renderer **back);
+uint32_t tbr1_start_background(tbr_handle renderer, uint8_t red, uint8_t green, uint8_t blue, tbr_renderer **back);
+uint32_t tbr1_end_background(tbr_handle renderer, tbr_renderer **back);
+uint32_t tbr1_add_image(tbr_handle renderer, const uint8_t *source, size_t source_length, const uint8_t *title,
+    size_t title_length, tbr_renderer **back);
+uint32_t tbr1_add_marker(tbr_handle renderer, const uint8_t *name, size_t length, tbr_renderer **back);
+uint32_t tbr1_start_sub(tbr_handle renderer, size_t width, tbr_renderer **back);
+uint32_t tbr1_append_sub(tbr_handle renderer, const uint8_t *first, size_t first_length, const uint8_t *others,
+    size_t others_length, tbr_renderer **back);
+uint32_t tbr1_start_cell(tbr_handle renderer, size_t width, size_t span, uint32_t alignment, tbr_renderer **back);
+uint32_t tbr1_end_cell(tbr_handle renderer, tbr_renderer **back);
+uint32_t tbr1_add_row(tbr_handle renderer, bool collapse, tbr_renderer **back);
+uint32_t tbr1_add_vertical_row(tbr_handle renderer, tbr_renderer **back);
+uint32_t tbr1_finish(tbr_handle renderer, tbr_renderer **back);
+
+uint32_t tbr1_refusal(tbr_handle renderer, tbr_renderer **back);
+uint32_t tbr1_is_empty(tbr_handle renderer, bool *is_empty, tbr_renderer **back);
+uint32_t tbr1_has_overhang(tbr_handle renderer, bool *has_overhang, tbr_renderer **back);
+uint32_t tbr1_width(tbr_handle renderer, size_t *columns, tbr_renderer **back);
+uint32_t tbr1_width_minus(tbr_handle renderer, size_t prefix, size_t least, size_t *columns, tbr_renderer **back);
+uint32_t tbr1_open_levels(tbr_handle renderer, size_t *count, tbr_renderer **back);
+uint32_t tbr1_open_links(tbr_handle renderer, size_t *count, tbr_renderer **back);
+uint32_t tbr1_waiting_cells(tbr_handle renderer, size_t *count, tbr_renderer **back);
+uint32_t tbr1_quote_prefix(tbr_handle renderer, uint8_t *out, size_t room, size_t *length, tbr_renderer **back);
+uint32_t tbr1_item_prefix(tbr_handle renderer, uint8_t *out, size_t room, size_t *length, tbr_renderer **back);
+uint32_t tbr1_ordered_item_prefix(tbr_handle renderer, int64_t number, uint8_t *out, size_t room, size_t *length,
+    tbr_renderer **back);
+uint32_t tbr1_header_prefix(tbr_handle renderer, size_t level, uint8_t *out, size_t room, size_t *length,
+    tbr_renderer **back);
+
+uint32_t tbr1_text(tbr_handle renderer, uint8_t *out, size_t room, size_t *length, tbr_renderer **back);
+uint32_t tbr1_next_line(tbr_handle renderer, tbr_line *line, tbr_renderer **back);
+uint32_t tbr1_line_text(tbr_handle renderer, uint8_t *out, size_t room, size_t *length, tbr_renderer **back);
+uint32_t tbr1_get_piece(tbr_handle renderer, size_t place, tbr_piece *piece, tbr_renderer **back);
+uint32_t tbr1_marker_name(tbr_handle renderer, size_t place, uint8_t *out, size_t room, size_t *length,
+    tbr_renderer **back);
+uint32_t tbr1_get_annotation(tbr_handle renderer, size_t piece, size_t place, tbr_annotation *annotation,
+    tbr_renderer **back);
+uint32_t tbr1_annotation_target(tbr_handle renderer, size_t piece, size_t place, uint8_t *out, size_t room,
+    size_t *length, tbr_renderer **back);
+
+/* ---- helpers of this header ---- */
+
+static inline tbr_handle tbr_handle_of(tbr_renderer *renderer) {
+    tbr_handle handle;
+    handle.at = renderer;
+    return handle;
+}
+
+/* A pointer that isn't NULL, to no byte where a text is NULL. */
+static inline const uint8_t *tbr_bytes_of(const char *text) {
+    return (const uint8_t *)(text ? text : "");
+}
+
+static inline size_t tbr_length_of(const char *text) {
+    return text ? strlen(text) : 0;
+}
+
+/* The same of a buffer that comes with a byte of the caller's. */
+static inline uint8_t *tbr_room_of(char *out, uint8_t *spare) {
+    return out ? (uint8_t *)out : spare;
+}
+
+/* Whether a text is NULL that is said to have bytes. */
+static inline bool tbr_is_missing(const char *text, size_t length) {
+    return !text && length;
+}
+
+/* ---- a script as a whole ---- */
+
+/*
+ * Renders a script, whose language docs/SCRIPT.md teaches. As much of its text is written as `out` has room for, and
+ * the answer's length is that of the whole text, as of snprintf: there is more where it is greater than the room.
+ *
+ * Any bytes may come as a script. At a status but TBR_OK the line at fault is told where one is, and nothing is
+ * written.
+ */
+static inline tbr_answer tbr_render(const char *script, size_t length, char *out, size_t room) {
+    uint8_t spare = 0;
+    if (tbr_is_missing(script, length) || tbr_is_missing(out, room)) {
+        tbr_answer missing = {TBR_BAD_ARGUMENT, 0, 0};
+        return missing;
+    }
+    return tbr1_render(tbr_bytes_of(script), length, tbr_room_of(out, &spare), room);
+}
+
+/* ---- making a renderer ---- */
+
+/* Options of a plain renderer of so many columns: lines as wide as it, neither padded nor wider; no footnotes, whose
+   targets are cut where there are any; strokes on struck out text; borders drawn; nothing for an image without a
+   title. */
+static inline tbr_options tbr_options_default(size_t width) {
+    tbr_options options;
+    options.width = width;
+    options.wrap_width = 0;
+    options.decorator = TBR_PLAIN;
+    options.images = TBR_IMAGES_IGNORED;
+    options.overflow = false;
+    options.pad = false;
+    options.footnotes = false;
+    options.wrap_links = true;
+    options.strikeout_strokes = true;
+    options.draw_borders = true;
+    return options;
+}
+
+/*
+ * Makes a renderer. Free it by tbr_free.
+ *
+ * TBR_BAD_WIDTH where its width is 0, TBR_BAD_ARGUMENT where the decorator or what images show is none of its values,
+ * TBR_OUT_OF_MEMORY. `*renderer` is NULL then.
+ */
+static inline tbr_status tbr_new(const tbr_options *options, tbr_renderer **renderer) {
+    *renderer = NULL;
+    return (tbr_status)tbr1_new(options, renderer);
+}
+
+/* Gives a renderer up, in whatever state it is. NULL is let be. */
+static inline void tbr_free(tbr_renderer *renderer) {
+    if (renderer) {
+        tbr1_free(tbr_handle_of(renderer));
+    }
+}
+
+/* ---- filling it: text, blocks and lines ---- */
+
+/*
+ * All calls from here to tbr_finish fill the innermost level that is open. Besides what is said at each, they answer
+ * TBR_OUT_OF_MEMORY, TBR_TOO_NARROW where they place a word, and TBR_FINISHED after tbr_finish.
+ */
+
+/* Adds text. White space counts as the mode says that was pushed last. A text ends no word: two texts without white
+   space between them make one. TBR_NOT_UTF8 where it isn't UTF-8. */
+static inline tbr_status tbr_add_text_n(tbr_renderer *renderer, const char *text, size_t length) {
+    if (tbr_is_missing(text, length)) {
+        return TBR_BAD_ARGUMENT;
+    }
+    return renderer ? (tbr_status)tbr1_add_text(tbr_handle_of(renderer), tbr_bytes_of(text), length, &renderer)
+                    : TBR_NO_RENDERER;
+}
+
+static inline tbr_status tbr_add_text(tbr_renderer *renderer, const char *text) {
+    return tbr_add_text_n(renderer, text, tbr_length_of(text));
+}
+
+/* Begins a block: ends the open line, and adds an empty one below lines that have content. */
+static inline tbr_status tbr_start_block(tbr_renderer *renderer) {
+    return renderer ? (tbr_status)tbr1_start_block(tbr_handle_of(renderer), &renderer) : TBR_NO_RENDERER;
+}
+
+/* Ends a block: text that comes begins a new one, and white space before it is ignored. It may come at any time. */
+static inline tbr_status tbr_end_block(tbr_renderer *renderer) {
+    return renderer ? (tbr_status)tbr1_end_block(tbr_handle_of(renderer), &renderer) : TBR_NO_RENDERER;
+}
+
+/* Begins a table, as a block is begun. */
+static inline tbr_status tbr_start_table(tbr_renderer *renderer) {
+    return renderer ? (tbr_status)tbr1_start_table(tbr_handle_of(renderer), &renderer) : TBR_NO_RENDERER;
+}
+
+/* Ends the open line, if there is one. */
+static inline tbr_status tbr_new_line(tbr_renderer *renderer) {
+    return renderer ? (tbr_status)tbr1_new_line(tbr_handle_of(renderer), &renderer) : TBR_NO_RENDERER;
+}
+
+/* Ends the open line, and where there is none adds an empty one. */
+static inline tbr_status tbr_new_line_hard(tbr_renderer *renderer) {
+    return renderer ? (tbr_status)tbr1_new_line_hard(tbr_handle_of(renderer), &renderer) : TBR_NO_RENDERER;
+}
+
+/* Ends the open line, and adds an empty one. */
+static inline tbr_status tbr_add_empty_line(tbr_renderer *renderer) {
+    return renderer ? (tbr_status)tbr1_add_empty_line(tbr_handle_of(renderer), &renderer) : TBR_NO_RENDERER;
+}
+
+/* Ends the open line, and adds a border of the level's width. Where lines are padded the border is text. */
+static inline tbr_status tbr_add_border(tbr_renderer *renderer) {
+    return renderer ? (tbr_status)tbr1_add_border(tbr_handle_of(renderer), &renderer) : TBR_NO_RENDERER;
+}
+
+/* The same of so many columns, which may be 0, and more than the level has. */
+static inline tbr_status tbr_add_border_width(tbr_renderer *renderer, size_t columns) {
+    return renderer ? (tbr_status)tbr1_add_border_width(tbr_handle_of(renderer), columns, &renderer)
+                    : TBR_NO_RENDERER;
+}
+
+/* Begins a mode of white space. TBR_BAD_ARGUMENT where it is none. Where none has begun, all is TBR_NORMAL. */
+static inline tbr_status tbr_push_white_space(tbr_renderer *renderer, tbr_white_space mode) {
+    return renderer ? (tbr_status)tbr1_push_white_space(tbr_handle_of(renderer), (uint32_t)mode, &renderer)
+                    : TBR_NO_RENDERER;
+}
+
+/* Ends the mode that was pushed last. TBR_NOTHING_TO_END where none was. */
+static inline tbr_status tbr_pop_white_space(tbr_renderer *renderer) {
+    return renderer ? (tbr_status)tbr1_pop_white_space(tbr_handle_of(renderer), &renderer) : TBR_NO_RENDERER;
+}
+
+/* Puts a marker where the text stands, as an anchor for links. TBR_NOT_UTF8 where its name isn't. */
+static inline tbr_status tbr_add_marker_n(tbr_renderer *renderer, const char *name, size_t length) {
+    if (tbr_is_missing(name, length)) {
+        return TBR_BAD_ARGUMENT;
+    }
+    return renderer ? (tbr_status)tbr1_add_marker(tbr_handle_of(renderer), tbr_bytes_of(name), length, &renderer)
+                    : TBR_NO_RENDERER;
+}
+
+static inline tbr_status tbr_add_marker(tbr_renderer *renderer, const char *name) {
+    return tbr_add_marker_n(renderer, name, tbr_length_of(name));
+}
+
+/* ---- filling it: decorated text ---- */
+
+/*
+ * A stretch is begun and ended in the same level. An end asks only that its own beginning came more often, and
+ * answers TBR_NOTHING_TO_END else, so that stretches needn't lie within one another. What the decorator writes for
+ * one is text.
+ */
+
+/* Begins a link to a target, which may be empty. TBR_NOT_UTF8 where it isn't UTF-8. */
+static inline tbr_status tbr_start_link_n(tbr_renderer *renderer, const char *target, size_t length) {
+    if (tbr_is_missing(target, length)) {
+        return TBR_BAD_ARGUMENT;
+    }
+    return renderer ? (tbr_status)tbr1_start_link(tbr_handle_of(renderer), tbr_bytes_of(target), length, &renderer)
+                    : TBR_NO_RENDERER;
+}
+
+static inline tbr_status tbr_start_link(tbr_renderer *renderer, const char *target) {
+    return tbr_start_link_n(renderer, target, tbr_length_of(target));
+}
+
+/* Ends the link that was begun last, and with footnotes shows its number. */
+static inline tbr_status tbr_end_link(tbr_renderer *renderer) {
+    return renderer ? (tbr_status)tbr1_end_link(tbr_handle_of(renderer), &renderer) : TBR_NO_RENDERER;
+}
+
+static inline tbr_status tbr_start_emphasis(tbr_renderer *renderer) {
+    return renderer ? (tbr_status)tbr1_start_emphasis(tbr_handle_of(renderer), &renderer) : TBR_NO_RENDERER;
+}
+
+static inline tbr_status tbr_end_emphasis(tbr_renderer *renderer) {
+    return renderer ? (tbr_status)tbr1_end_emphasis(tbr_handle_of(renderer), &renderer) : TBR_NO_RENDERER;
+}
+
+static inline tbr_status tbr_start_strong(tbr_renderer *renderer) {
+    return renderer ? (tbr_status)tbr1_start_strong(tbr_handle_of(renderer), &renderer) : TBR_NO_RENDERER;
+}
+
+static inline tbr_status tbr_end_strong(tbr_renderer *renderer) {
+    return renderer ? (tbr_status)tbr1_end_strong(tbr_handle_of(renderer), &renderer) : TBR_NO_RENDERER;
+}
+
+/* Begins struck out text. With strokes on, each of its characters that takes columns gets U+0336 behind it. */
+static inline tbr_status tbr_start_strikeout(tbr_renderer *renderer) {
+    return renderer ? (tbr_status)tbr1_start_strikeout(tbr_handle_of(renderer), &renderer) : TBR_NO_RENDERER;
+}
+
+static inline tbr_status tbr_end_strikeout(tbr_renderer *renderer) {
+    return renderer ? (tbr_status)tbr1_end_strikeout(tbr_handle_of(renderer), &renderer) : TBR_NO_RENDERER;
+}
+
+static inline tbr_status tbr_start_code(tbr_renderer *renderer) {
+    return renderer ? (tbr_status)tbr1_start_code(tbr_handle_of(renderer), &renderer) : TBR_NO_RENDERER;
+}
+
+static inline tbr_status tbr_end_code(tbr_renderer *renderer) {
+    return renderer ? (tbr_status)tbr1_end_code(tbr_handle_of(renderer), &renderer) : TBR_NO_RENDERER;
+}
+
+static inline tbr_status tbr_start_superscript(tbr_renderer *renderer) {
+    return renderer ? (tbr_status)tbr1_start_superscript(tbr_handle_of(renderer), &renderer) : TBR_NO_RENDERER;
+}
+
+static inline tbr_status tbr_end_superscript(tbr_renderer *renderer) {
+    return renderer ? (tbr_status)tbr1_end_superscript(tbr_handle_of(renderer), &renderer) : TBR_NO_RENDERER;
+}
+
+/* Begins a preformatted stretch. That is a matter of annotations: push TBR_PRE to keep white space. */
+static inline tbr_status tbr_start_preformatted(tbr_renderer *renderer) {
+    return renderer ? (tbr_status)tbr1_start_preformatted(tbr_handle_of(renderer), &renderer) : TBR_NO_RENDERER;
+}
+
+static inline tbr_status tbr_end_preformatted(tbr_renderer *renderer) {
+    return renderer ? (tbr_status)tbr1_end_preformatted(tbr_handle_of(renderer), &renderer) : TBR_NO_RENDERER;
+}
+
+/* Begins text in a colour. */
+static inline tbr_status tbr_start_colour(tbr_renderer *renderer, uint8_t red, uint8_t green, uint8_t blue) {
+    return renderer ? (tbr_status)tbr1_start_colour(tbr_handle_of(renderer), red, green, blue, &renderer)
+                    : TBR_NO_RENDERER;
+}
+
+static inline tbr_status tbr_end_colour(tbr_renderer *renderer) {
+    return renderer ? (tbr_status)tbr1_end_colour(tbr_handle_of(renderer), &renderer) : TBR_NO_RENDERER;
+}
+
+/* Begins text on a background in a colour. */
+static inline tbr_status tbr_start_background(tbr_renderer *renderer, uint8_t red, uint8_t green, uint8_t blue) {
+    return renderer ? (tbr_status)tbr1_start_background(tbr_handle_of(renderer), red, green, blue, &renderer)
+                    : TBR_NO_RENDERER;
+}
+
+static inline tbr_status tbr_end_background(tbr_renderer *renderer) {
+    return renderer ? (tbr_status)tbr1_end_background(tbr_handle_of(renderer), &renderer) : TBR_NO_RENDERER;
+}
+
+/* Adds an image by its title; what one without a title shows, the options say. TBR_NOT_UTF8 where one of the two isn't
+   UTF-8. */
+static inline tbr_status tbr_add_image_n(tbr_renderer *renderer, const char *source, size_t source_length,
+    const char *title, size_t title_length) {
+    if (tbr_is_missing(source, source_length) || tbr_is_missing(title, title_length)) {
+        return TBR_BAD_ARGUMENT;
+    }
+    return renderer ? (tbr_status)tbr1_add_image(tbr_handle_of(renderer), tbr_bytes_of(source), source_length,
+                          tbr_bytes_of(title), title_length, &renderer)
+                    : TBR_NO_RENDERER;
+}
+
+static inline tbr_status tbr_add_image(tbr_renderer *renderer, const char *source, const char *title) {
+    return tbr_add_image_n(renderer, source, tbr_length_of(source), title, tbr_length_of(title));
+}
+
+/* ---- filling it: levels ---- */
+
+/*
+ * A level is a renderer inside another one, with the same options and annotations, in which all else begins anew.
+ * Levels lie within one another to any depth. A level takes columns of its own: leave room for the prefixes behind
+ * which its lines are appended.
+ */
+
+/* Opens a level of so many columns, whose lines tbr_append_sub takes. TBR_BAD_WIDTH at 0. */
+static inline tbr_status tbr_start_sub(tbr_renderer *renderer, size_t width) {
+    return renderer ? (tbr_status)tbr1_start_sub(tbr_handle_of(renderer), width, &renderer) : TBR_NO_RENDERER;
+}
+
+/* Closes the level that tbr_start_sub opened, and adds its lines to the one outside: the first line behind one text,
+   each other behind another. TBR_NOTHING_TO_END where the innermost level is no such one, TBR_STILL_OPEN where cells
+   wait in it, TBR_NOT_UTF8 where one of the two isn't UTF-8. */
+static inline tbr_status tbr_append_sub_n(tbr_renderer *renderer, const char *first, size_t first_length,
+    const char *others, size_t others_length) {
+    if (tbr_is_missing(first, first_length) || tbr_is_missing(others, others_length)) {
+        return TBR_BAD_ARGUMENT;
+    }
+    return renderer ? (tbr_status)tbr1_append_sub(tbr_handle_of(renderer), tbr_bytes_of(first), first_length,
+                          tbr_bytes_of(others), others_length, &renderer)
+                    : TBR_NO_RENDERER;
+}
+
+static inline tbr_status tbr_append_sub(tbr_renderer *renderer, const char *first, const char *others) {
+    return tbr_append_sub_n(renderer, first, tbr_length_of(first), others, tbr_length_of(others));
+}
+
+/* Opens a cell of so many columns that spans so many rows. TBR_BAD_WIDTH at no column, TBR_BAD_ARGUMENT at no row, or
+   where the alignment is none of its values. */
+static inline tbr_status tbr_start_cell(tbr_renderer *renderer, size_t width, size_t span, tbr_alignment alignment) {
+    return renderer
+        ? (tbr_status)tbr1_start_cell(tbr_handle_of(renderer), width, span, (uint32_t)alignment, &renderer)
+        : TBR_NO_RENDERER;
+}
+
+/* Closes the cell that is open, which then waits for a row. TBR_NOTHING_TO_END where the innermost level is none,
+   TBR_STILL_OPEN where cells wait in it. */
+static inline tbr_status tbr_end_cell(tbr_renderer *renderer) {
+    return renderer ? (tbr_status)tbr1_end_cell(tbr_handle_of(renderer), &renderer) : TBR_NO_RENDERER;
+}
+
+/* Adds the cells that wait as a row, side by side, joined to a border that is the last line, with a border below.
+   What a cell of more rows has below this one overhangs into the next. With `collapse` borders at the tops and
+   bottoms of cells become one with those of the row. TBR_ROW_DOES_NOT_FIT where cells are in the way of what
+   overhangs; they go on waiting then. */
+static inline tbr_status tbr_add_row(tbr_renderer *renderer, bool collapse) {
+    return renderer ? (tbr_status)tbr1_add_row(tbr_handle_of(renderer), collapse, &renderer) : TBR_NO_RENDERER;
+}
+
+/* Adds the cells that wait, one below another, whatever rows they span. */
+static inline tbr_status tbr_add_vertical_row(tbr_renderer *renderer) {
+    return renderer ? (tbr_status)tbr1_add_vertical_row(tbr_handle_of(renderer), &renderer) : TBR_NO_RENDERER;
+}
+
+/* Ends the last line, and with footnotes adds the targets of all links. Then lines can be taken, and the renderer
+   can't be filled any more. TBR_STILL_OPEN where a level is open or cells wait. */
+static inline tbr_status tbr_finish(tbr_renderer *renderer) {
+    return renderer ? (tbr_status)tbr1_finish(tbr_handle_of(renderer), &renderer) : TBR_NO_RENDERER;
+}
+
+/* ---- questions to a renderer that is being filled ---- */
+
+/* Those but tbr_refusal answer TBR_FINISHED after tbr_finish. They change nothing, and a refusal of theirs isn't
+   kept. */
+
+/* The refusal that is kept, or TBR_OK, also after tbr_finish. */
+static inline tbr_status tbr_refusal(tbr_renderer *renderer) {
+    return renderer ? (tbr_status)tbr1_refusal(tbr_handle_of(renderer), &renderer) : TBR_NO_RENDERER;
+}
+
+/* Whether the innermost level has no line, and no text on an open one. */
+static inline tbr_status tbr_is_empty(tbr_renderer *renderer, bool *is_empty) {
+    return renderer ? (tbr_status)tbr1_is_empty(tbr_handle_of(renderer), is_empty, &renderer) : TBR_NO_RENDERER;
+}
+
+/* Whether lines of cells that span more rows than came yet still wait in the innermost level. Those that wait when
+   it is closed or finished are lost. */
+static inline tbr_status tbr_has_overhang(tbr_renderer *renderer, bool *has_overhang) {
+    return renderer ? (tbr_status)tbr1_has_overhang(tbr_handle_of(renderer), has_overhang, &renderer)
+                    : TBR_NO_RENDERER;
+}
+
+/* The columns of the innermost level. */
+static inline tbr_status tbr_width(tbr_renderer *renderer, size_t *columns) {
+    return renderer ? (tbr_status)tbr1_width(tbr_handle_of(renderer), columns, &renderer) : TBR_NO_RENDERER;
+}
+
+/* The columns that the innermost level has left behind a prefix, but `least` at least. TBR_TOO_NARROW, which isn't
+   kept, where fewer than these are left and `overflow` isn't on. */
+static inline tbr_status tbr_width_minus(tbr_renderer *renderer, size_t prefix, size_t least, size_t *columns) {
+    return renderer ? (tbr_status)tbr1_width_minus(tbr_handle_of(renderer), prefix, least, columns, &renderer)
+                    : TBR_NO_RENDERER;
+}
+
+/* How many levels are open inside the renderer. */
+static inline tbr_status tbr_open_levels(tbr_renderer *renderer, size_t *count) {
+    return renderer ? (tbr_status)tbr1_open_levels(tbr_handle_of(renderer), count, &renderer) : TBR_NO_RENDERER;
+}
+
+/* How many links are open in the innermost level. */
+static inline tbr_status tbr_open_links(tbr_renderer *renderer, size_t *count) {
+    return renderer ? (tbr_status)tbr1_open_links(tbr_handle_of(renderer), count, &renderer) : TBR_NO_RENDERER;
+}
+
+/* How many cells wait for a row in the innermost level. */
+static inline tbr_status tbr_waiting_cells(tbr_renderer *renderer, size_t *count) {
+    return renderer ? (tbr_status)tbr1_waiting_cells(tbr_handle_of(renderer), count, &renderer) : TBR_NO_RENDERER;
+}
+
+/* The prefixes of the decorator, to be passed to tbr_append_sub. All answer TBR_OUT_OF_MEMORY, which isn't kept. */
+
+/* Behind which each line of a quoted block comes, as "> ". */
+static inline tbr_status tbr_quote_prefix(tbr_renderer *renderer, char *out, size_t room, size_t *length) {
+    uint8_t spare = 0;
+    if (tbr_is_missing(out, room)) {
+        return TBR_BAD_ARGUMENT;
+    }
+    return renderer
+        ? (tbr_status)tbr1_quote_prefix(tbr_handle_of(renderer), tbr_room_of(out, &spare), room, length, &renderer)
+        : TBR_NO_RENDERER;
+}
+
+/* Behind which the first line of an item of a list comes, as "* ". The others come behind as many spaces. */
+static inline tbr_status tbr_item_prefix(tbr_renderer *renderer, char *out, size_t room, size_t *length) {
+    uint8_t spare = 0;
+    if (tbr_is_missing(out, room)) {
+        return TBR_BAD_ARGUMENT;
+    }
+    return renderer
+        ? (tbr_status)tbr1_item_prefix(tbr_handle_of(renderer), tbr_room_of(out, &spare), room, length, &renderer)
+        : TBR_NO_RENDERER;
+}
+
+/* The same of the item of a list that has a number, as "3. ". */
+static inline tbr_status tbr_ordered_item_prefix(tbr_renderer *renderer, int64_t number, char *out, size_t room,
+    size_t *length) {
+    uint8_t spare = 0;
+    if (tbr_is_missing(out, room)) {
+        return TBR_BAD_ARGUMENT;
+    }
+    return renderer ? (tbr_status)tbr1_ordered_item_prefix(tbr_handle_of(renderer), number, tbr_room_of(out, &spare),
+                          room, length, &renderer)
+                    : TBR_NO_RENDERER;
+}
+
+/* Behind which each line of a header of a level comes, as "## ". */
+static inline tbr_status tbr_header_prefix(tbr_renderer *renderer, size_t level, char *out, size_t room,
+    size_t *length) {
+    uint8_t spare = 0;
+    if (tbr_is_missing(out, room)) {
+        return TBR_BAD_ARGUMENT;
+    }
+    return renderer ? (tbr_status)tbr1_header_prefix(tbr_handle_of(renderer), level, tbr_room_of(out, &spare), room,
+                          length, &renderer)
+                    : TBR_NO_RENDERER;
+}
+
+/* ---- lines of a renderer that is finished ---- */
+
+/* All calls from here answer TBR_NOT_FINISHED before tbr_finish. */
+
+/* The text of all lines that tbr_next_line hasn't taken, each with a newline. It takes none. TBR_OUT_OF_MEMORY,
+   which is kept. */
+static inline tbr_status tbr_text(tbr_renderer *renderer, char *out, size_t room, size_t *length) {
+    uint8_t spare = 0;
+    if (tbr_is_missing(out, room)) {
+        return TBR_BAD_ARGUMENT;
+    }
+    return renderer ? (tbr_status)tbr1_text(tbr_handle_of(renderer), tbr_room_of(out, &spare), room, length, &renderer)
+                    : TBR_NO_RENDERER;
+}
+
+/* Takes the next line, of which the calls below then speak, and frees the one before. TBR_NO_LINE where none is
+   left, and the line stays the one that was taken last. TBR_OUT_OF_MEMORY, which is kept. */
+static inline tbr_status tbr_next_line(tbr_renderer *renderer, tbr_line *line) {
+    return renderer ? (tbr_status)tbr1_next_line(tbr_handle_of(renderer), line, &renderer) : TBR_NO_RENDERER;
+}
+
+/* The calls below take no memory, and answer TBR_NO_LINE where tbr_next_line has taken no line yet. */
+
+/* The text of the line, without a newline. */
+static inline tbr_status tbr_line_text(tbr_renderer *renderer, char *out, size_t room, size_t *length) {
+    uint8_t spare = 0;
+    if (tbr_is_missing(out, room)) {
+        return TBR_BAD_ARGUMENT;
+    }
+    return renderer
+        ? (tbr_status)tbr1_line_text(tbr_handle_of(renderer), tbr_room_of(out, &spare), room, length, &renderer)
+        : TBR_NO_RENDERER;
+}
+
+/* A piece of the line, by its place from 0. TBR_NO_PIECE where it has none there. */
+static inline tbr_status tbr_get_piece(tbr_renderer *renderer, size_t place, tbr_piece *piece) {
+    return renderer ? (tbr_status)tbr1_get_piece(tbr_handle_of(renderer), place, piece, &renderer) : TBR_NO_RENDERER;
+}
+
+/* The name of the marker at a place. TBR_NO_PIECE where none is there. */
+static inline tbr_status tbr_marker_name(tbr_renderer *renderer, size_t place, char *out, size_t room,
+    size_t *length) {
+    uint8_t spare = 0;
+    if (tbr_is_missing(out, room)) {
+        return TBR_BAD_ARGUMENT;
+    }
+    return renderer ? (tbr_status)tbr1_marker_name(tbr_handle_of(renderer), place, tbr_room_of(out, &spare), room,
+                          length, &renderer)
+                    : TBR_NO_RENDERER;
+}
+
+/* An annotation of the piece at a place, by its own place from 0, that of the outermost stretch. TBR_NO_PIECE where
+   there is none. */
+static inline tbr_status tbr_get_annotation(tbr_renderer *renderer, size_t piece, size_t place,
+    tbr_annotation *annotation) {
+    return renderer ? (tbr_status)tbr1_get_annotation(tbr_handle_of(renderer), piece, place, annotation, &renderer)
+                    : TBR_NO_RENDERER;
+}
+
+/* The target of a link, or the source of an image, by the place of its annotation. TBR_NO_PIECE where no annotation
+   with one is there. */
+static inline tbr_status tbr_annotation_target(tbr_renderer *renderer, size_t piece, size_t place, char *out,
+    size_t room, size_t *length) {
+    uint8_t spare = 0;
+    if (tbr_is_missing(out, room)) {
+        return TBR_BAD_ARGUMENT;
+    }
+    return renderer ? (tbr_status)tbr1_annotation_target(tbr_handle_of(renderer), piece, place,
+                          tbr_room_of(out, &spare), room, length, &renderer)
+                    : TBR_NO_RENDERER;
+}
+
+/* ---- statuses ---- */
+
+/* A status in words. The text belongs to the library. */
+static inline const char *tbr_status_text(tbr_status status) {
+    switch (status) {
+    case TBR_OK: return "well";
+    case TBR_OUT_OF_MEMORY: return "out of memory";
+    case TBR_TOO_NARROW: return "too narrow";
+    case TBR_NOT_A_COMMAND: return "not a command";
+    case TBR_NOTHING_TO_END: return "nothing to end";
+    case TBR_ROW_DOES_NOT_FIT: return "row does not fit";
+    case TBR_NOT_UTF8: return "not UTF-8";
+    case TBR_BAD_WIDTH: return "a width of 0 columns";
+    case TBR_BAD_ARGUMENT: return "bad argument";
+    case TBR_STILL_OPEN: return "a level is open or cells wait";
+    case TBR_FINISHED: return "the renderer is finished";
+    case TBR_NOT_FINISHED: return "the renderer is not finished";
+    case TBR_NO_LINE: return "no line";
+    case TBR_NO_PIECE: return "no such piece";
+    case TBR_BUFFER_TOO_SMALL: return "the buffer is too small";
+    case TBR_NO_RENDERER: return "no renderer";
+    }
+    return "no status";
+}
+
+#ifdef __cplusplus
+}
+#endif
+
+#endif
