@@ -11,7 +11,7 @@ use tbr_c_lines::{Fault, LineSize, Lines, Rest, of_command};
 use tbr_commands::{Command, Decorator, Opening};
 use tbr_decor::{PlainDecorator, RichDecorator, TextDecorator, TrivialDecorator};
 use tbr_lines::{Error, UnicodeColumns};
-use tbr_renderer::Renderer;
+use tbr_renderer::{RenderOptions, Renderer};
 use tbr_runner::{DecoratorPrefix, Program};
 
 /// How far a renderer is.
@@ -58,17 +58,12 @@ impl State {
         } = opening;
         Ok(match decorator {
             Decorator::Plain => {
-                let decorator = PlainDecorator::new();
-                State::Plain(Program::new(alloc, width, options, decorator).map_err(of_command)?)
+                State::Plain(started(alloc, width, options, PlainDecorator::new())?)
             }
             Decorator::Trivial => {
-                let decorator = TrivialDecorator::new();
-                State::Trivial(Program::new(alloc, width, options, decorator).map_err(of_command)?)
+                State::Trivial(started(alloc, width, options, TrivialDecorator::new())?)
             }
-            Decorator::Rich => {
-                let decorator = RichDecorator::new();
-                State::Rich(Program::new(alloc, width, options, decorator).map_err(of_command)?)
-            }
+            Decorator::Rich => State::Rich(started(alloc, width, options, RichDecorator::new())?),
         })
     }
 
@@ -202,6 +197,23 @@ impl State {
             _ => {}
         }
         done
+    }
+}
+
+/// A program in which nothing was called yet. It refuses only for want of memory.
+fn started<D: TextDecorator>(
+    alloc: Global,
+    width: usize,
+    options: RenderOptions,
+    decorator: D,
+) -> Result<Program<D, UnicodeColumns>, Fault>
+    requires width { 0 < width }
+    requires wrap_width { options.wrap_width ≢ Some 0 }
+    ensures { IfOk result (λ program. GoesOn program) }
+{
+    match Program::new(alloc, width, options, decorator) {
+        Ok(program) => Ok(program),
+        Err(e) => Err(of_command(e)),
     }
 }
 
