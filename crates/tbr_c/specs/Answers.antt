@@ -1,8 +1,8 @@
 -- What is answered to C.
-use Rattle.std.specs.Prelude.{◌≡◌, ℕ, ◌≤◌, ◌<◌, ◌++◌, Option, Some, Result, Ok, List, length, drop, encode_utf8_all}
+use Rattle.std.specs.Prelude.{◌≡◌, ℕ, ◌≤◌, ◌<◌, ◌++◌, Option, Some, Result, Ok, List, length, drop}
 use Rattle.tbr_c_lines.specs.Status.{status_of}
 use Rattle.tbr_c_lines.specs.Line.{Line, size_of}
-use Rattle.tbr_c_lines.specs.Lines.{NoneLeft, TakesFirst, text_of}
+use Rattle.tbr_c_lines.specs.Lines.{NoneLeft, TakesFirst}
 use Rattle.tbr_c_lines.specs.declared.fault.Fault.{Fault}
 use Rattle.tbr_c_lines.specs.declared.line.LineSize.{LineSize}
 use Rattle.tbr_c_lines.specs.declared.lines.Rest.{Rest}
@@ -30,8 +30,3 @@ IsSizeOfNext other size = ⊥
 abbrev pub HasNone : State → Type 0
 HasNone (Finished lines) = NoneLeft lines.rest
 HasNone other = ⊥
-
--- The bytes of all lines that weren't taken, each with a newline.
-abbrev pub IsRest : State → List ℕ → Type 0
-IsRest (Finished lines) bytes = bytes ≡ encode_utf8_all (text_of lines.rest)
-IsRest other bytes = ⊥

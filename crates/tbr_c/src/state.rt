@@ -1,8 +1,8 @@
 //! How far a renderer is that C holds.
-ghost use Rattle.std.specs.Prelude.{◌≡◌, ◌≢◌, ◌<◌, [], Some, Err, IfOk, IfErr, OnOk, MatchResult};
+ghost use Rattle.std.specs.Prelude.{◌≡◌, ◌≢◌, ◌<◌, [], Some, Err, IfOk, IfErr, OnOk, MatchResult, string_bytes};
 ghost use Rattle.tbr_commands.specs.Command.{command_of, IsSized};
 ghost use Rattle.tbr_runner.specs.Progress.{GoesOn};
-ghost use Rattle.tbr_c.specs.State.{CanGoOn, MayFinish, IsKept, HasEnded, HasNoLines, TakesLine, HasNoNext};
+ghost use Rattle.tbr_c.specs.State.{CanGoOn, MayFinish, IsKept, HasEnded, HasNoLines, TakesLine, HasNoNext, IsRest};
 ghost use Rattle.tbr_c.specs.declared.state.State.TheVariants as S;
 ghost use Rattle.tbr_c_lines.specs.declared.fault.Fault.TheVariants as F;
 
@@ -165,6 +165,17 @@ impl State {
             State::Finished(lines) => Ok(lines),
             State::Refused(e) => Err(Fault::from(*e)),
             _ => Err(Fault::NotFinished),
+        }
+    }
+
+    /// The text of all lines that weren't taken, each with a newline. `NotFinished` where it is still filled. It refuses
+    /// for want of memory too.
+    pub fn rest_text(&self, alloc: Global) -> Result<String, Fault>
+        ensures { IfOk result (λ text. IsRest self.now (string_bytes text)) }
+    {
+        match self.lines()?.text(alloc) {
+            Ok(text) => Ok(text),
+            Err(e) => Err(Fault::from(e)),
         }
     }
 

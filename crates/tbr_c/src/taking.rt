@@ -1,10 +1,10 @@
 //! Lines of a renderer that is finished.
-ghost use Rattle.std.specs.Prelude.{◌≡◌, ◌≢◌, ℕ, List, None, Some, Ok, Err, IfSome, IfOk, slice_get};
+ghost use Rattle.std.specs.Prelude.{◌≡◌, ◌≢◌, ℕ, List, None, Some, Ok, Err, IfSome, IfOk, IfErr, slice_get, string_bytes};
 ghost use Rattle.tbr_c_lines.specs.Line.{Line as Shown, placed, marked, annotated, kind_of, target_of};
-ghost use Rattle.tbr_c_lines.specs.Status.{status_of};
+ghost use Rattle.tbr_c_lines.specs.Status.{code_of, status_of};
 ghost use Rattle.tbr_c_lines.specs.declared.line.PiecePlace.{PiecePlace as Place};
-ghost use Rattle.tbr_c.specs.State.{current_of};
-ghost use Rattle.tbr_c.specs.Answers.{IsCopied, IsSizeOfNext, HasNone, IsRest};
+ghost use Rattle.tbr_c.specs.State.{current_of, IsRest};
+ghost use Rattle.tbr_c.specs.Answers.{IsCopied, IsSizeOfNext, HasNone};
 
 use crate::handle::{Handle, hand_back};
 use crate::held::Held;
@@ -25,7 +25,18 @@ pub extern "C" fn tbr1_text(
     let mut held = renderer.open();
     let text = held.rest_text();
     hand_back(held, back);
-    status(text.and_then(|text| copy_out(text.as_bytes(), out, needed)))
+    copied(text, out, needed)
+}
+
+/// Copies a text out, if there is one.
+fn copied(text: Result<String, Fault>, out: &mut [u8], needed: &mut usize) -> u32
+    ensures text { IfOk text (λ t. IsCopied (string_bytes t) out.old out.new needed.new result) }
+    ensures none { IfErr text (λ fault. result ≡ code_of fault) }
+{
+    match text {
+        Ok(text) => status(copy_out(text.as_bytes(), out, needed)),
+        Err(fault) => fault.code(),
+    }
 }
 
 #[unsafe(no_mangle)]
