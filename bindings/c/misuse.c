@@ -153,7 +153,7 @@ static void pieces_that_are_not_there(tbr_renderer *r) {
     tbr_line line;
     tbr_piece piece;
     tbr_annotation annotation;
-    char text[8];
+    char text[16];
     size_t length;
     WANT(tbr_line_text(r, text, sizeof text, &length), TBR_NO_LINE);
     WANT(tbr_get_piece(r, 0, &piece), TBR_NO_LINE);
@@ -173,7 +173,10 @@ static void pieces_that_are_not_there(tbr_renderer *r) {
 }
 
 static void each_in_one_renderer(void) {
-    tbr_renderer *r = new_renderer(12);
+    tbr_options options = tbr_options_default(12);
+    tbr_renderer *r;
+    options.draw_borders = false;
+    WANT(tbr_new(&options, &r), TBR_OK);
     WANT(tbr_add_text(r, "two words"), TBR_OK);
     bad_arguments(r);
     nothing_to_end(r);
@@ -181,7 +184,7 @@ static void each_in_one_renderer(void) {
     still_open(r);
     WANT(tbr_finish(r), TBR_OK);
     fill_too_late(r);
-    want_text(r, "two words\n───\n   \n───\n");
+    want_text(r, "two words\n");
     pieces_that_are_not_there(r);
     want_text(r, "");
     tbr_free(r);

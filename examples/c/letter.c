@@ -65,15 +65,17 @@ static void add_prices(tbr_renderer *letter) {
     add_price(letter, "Cherry cake, by the slice", "2.80");
 }
 
-/* Prints all lines, each behind its number. */
+/* Prints all lines, one by one. */
 static void print_lines(tbr_renderer *letter) {
     tbr_line line;
-    for (int number = 1; tbr_next_line(letter, &line) == TBR_OK; number++) {
-        char text[4 * WIDTH + 1];
+    tbr_status status;
+    while ((status = tbr_next_line(letter, &line)) == TBR_OK) {
+        char text[8 * WIDTH];
         size_t length;
         well(tbr_line_text(letter, text, sizeof text, &length));
-        printf("%2d  %.*s\n", number, (int)length, text);
+        printf("%.*s\n", (int)length, text);
     }
+    well(status == TBR_NO_LINE ? TBR_OK : status);
 }
 
 int main(void) {

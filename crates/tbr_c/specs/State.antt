@@ -1,9 +1,9 @@
 -- How far a renderer is that C holds.
-use Rattle.std.specs.Prelude.{◌≡◌, Option, None, Some, Result, Err, []}
+use Rattle.std.specs.Prelude.{◌≡◌, ℕ, Option, None, Some, Result, Err, List, [], chars}
 use Rattle.tbr_runner.specs.Progress.{GoesOn}
 use Rattle.tbr_c_lines.specs.Status.{fault_of}
 use Rattle.tbr_c_lines.specs.Line.{Line, size_of}
-use Rattle.tbr_c_lines.specs.Lines.{NoneLeft, TakesFirst}
+use Rattle.tbr_c_lines.specs.Lines.{NoneLeft, TakesFirst, text_of}
 use Rattle.tbr_c_lines.specs.declared.line.LineSize.{LineSize}
 use Rattle.tbr_c_lines.specs.declared.lines.Rest.{Rest}
 use Rattle.tbr_c_lines.specs.declared.fault.Fault.{Fault}
@@ -73,3 +73,8 @@ TakesLine (Rich program) next size = ⊥
 abbrev pub current_of : State → Option Line
 current_of (Finished lines) = lines.current
 current_of other = None
+
+-- These are the bytes of all lines that weren't taken, each with a newline.
+abbrev pub IsRest : State → List ℕ → Type 0
+IsRest (Finished lines) bytes = chars bytes ≡ text_of lines.rest
+IsRest other bytes = ⊥

@@ -1,5 +1,6 @@
 //! Calls that fill a renderer.
 ghost use Rattle.tbr_commands.specs.Command.{command_of, IsSized};
+ghost use Rattle.tbr_c.specs.Answers.{HasStatus};
 
 use crate::handle::{Handle, hand_back};
 use crate::held::Held;
@@ -38,6 +39,7 @@ pub extern "C" fn tbr1_free(renderer: Handle) {
 /// Does what a command asks for.
 fn run(renderer: Handle, command: &Command, back: &mut *mut u8) -> u32
     requires { IsSized (command_of command.now) }
+    ensures { HasStatus renderer.value result }
 {
     let mut held = renderer.open();
     let done = held.run(command);
@@ -113,7 +115,9 @@ pub extern "C" fn tbr1_add_empty_line(renderer: Handle, back: &mut *mut u8) -> u
 }
 
 #[unsafe(no_mangle)]
-pub extern "C" fn tbr1_add_border(renderer: Handle, back: &mut *mut u8) -> u32 {
+pub extern "C" fn tbr1_add_border(renderer: Handle, back: &mut *mut u8) -> u32
+    ensures { HasStatus renderer.value result }
+{
     run(renderer, &Command::Ask(Request::Border(None)), back)
 }
 
@@ -149,7 +153,9 @@ fn push_white_space(held: &mut Held, mode: u32) -> Result<(), Fault> {
 }
 
 #[unsafe(no_mangle)]
-pub extern "C" fn tbr1_pop_white_space(renderer: Handle, back: &mut *mut u8) -> u32 {
+pub extern "C" fn tbr1_pop_white_space(renderer: Handle, back: &mut *mut u8) -> u32
+    ensures { HasStatus renderer.value result }
+{
     run(renderer, &Command::Ask(Request::End(Kind::Mode)), back)
 }
 
@@ -163,7 +169,9 @@ pub extern "C" fn tbr1_start_preformatted(renderer: Handle, back: &mut *mut u8) 
 }
 
 #[unsafe(no_mangle)]
-pub extern "C" fn tbr1_end_preformatted(renderer: Handle, back: &mut *mut u8) -> u32 {
+pub extern "C" fn tbr1_end_preformatted(renderer: Handle, back: &mut *mut u8) -> u32
+    ensures { HasStatus renderer.value result }
+{
     run(renderer, &Command::Ask(Request::End(Kind::Preformat)), back)
 }
 
@@ -181,7 +189,9 @@ fn start_link(held: &mut Held, target: &[u8]) -> Result<(), Fault> {
 }
 
 #[unsafe(no_mangle)]
-pub extern "C" fn tbr1_end_link(renderer: Handle, back: &mut *mut u8) -> u32 {
+pub extern "C" fn tbr1_end_link(renderer: Handle, back: &mut *mut u8) -> u32
+    ensures { HasStatus renderer.value result }
+{
     run(renderer, &Command::EndLink, back)
 }
 
@@ -195,7 +205,9 @@ pub extern "C" fn tbr1_start_emphasis(renderer: Handle, back: &mut *mut u8) -> u
 }
 
 #[unsafe(no_mangle)]
-pub extern "C" fn tbr1_end_emphasis(renderer: Handle, back: &mut *mut u8) -> u32 {
+pub extern "C" fn tbr1_end_emphasis(renderer: Handle, back: &mut *mut u8) -> u32
+    ensures { HasStatus renderer.value result }
+{
     run(renderer, &Command::Ask(Request::End(Kind::Emphasis)), back)
 }
 
@@ -209,7 +221,9 @@ pub extern "C" fn tbr1_start_strong(renderer: Handle, back: &mut *mut u8) -> u32
 }
 
 #[unsafe(no_mangle)]
-pub extern "C" fn tbr1_end_strong(renderer: Handle, back: &mut *mut u8) -> u32 {
+pub extern "C" fn tbr1_end_strong(renderer: Handle, back: &mut *mut u8) -> u32
+    ensures { HasStatus renderer.value result }
+{
     run(renderer, &Command::Ask(Request::End(Kind::Strong)), back)
 }
 
@@ -223,7 +237,9 @@ pub extern "C" fn tbr1_start_strikeout(renderer: Handle, back: &mut *mut u8) -> 
 }
 
 #[unsafe(no_mangle)]
-pub extern "C" fn tbr1_end_strikeout(renderer: Handle, back: &mut *mut u8) -> u32 {
+pub extern "C" fn tbr1_end_strikeout(renderer: Handle, back: &mut *mut u8) -> u32
+    ensures { HasStatus renderer.value result }
+{
     run(renderer, &Command::Ask(Request::End(Kind::Strikeout)), back)
 }
 
@@ -237,7 +253,9 @@ pub extern "C" fn tbr1_start_code(renderer: Handle, back: &mut *mut u8) -> u32 {
 }
 
 #[unsafe(no_mangle)]
-pub extern "C" fn tbr1_end_code(renderer: Handle, back: &mut *mut u8) -> u32 {
+pub extern "C" fn tbr1_end_code(renderer: Handle, back: &mut *mut u8) -> u32
+    ensures { HasStatus renderer.value result }
+{
     run(renderer, &Command::Ask(Request::End(Kind::Code)), back)
 }
 
@@ -266,7 +284,9 @@ pub extern "C" fn tbr1_start_colour(
     green: u8,
     blue: u8,
     back: &mut *mut u8,
-) -> u32 {
+) -> u32
+    ensures { HasStatus renderer.value result }
+{
     let colour = Colour {
         r: red,
         g: green,
@@ -276,7 +296,9 @@ pub extern "C" fn tbr1_start_colour(
 }
 
 #[unsafe(no_mangle)]
-pub extern "C" fn tbr1_end_colour(renderer: Handle, back: &mut *mut u8) -> u32 {
+pub extern "C" fn tbr1_end_colour(renderer: Handle, back: &mut *mut u8) -> u32
+    ensures { HasStatus renderer.value result }
+{
     run(renderer, &Command::Ask(Request::End(Kind::Colour)), back)
 }
 
@@ -287,7 +309,9 @@ pub extern "C" fn tbr1_start_background(
     green: u8,
     blue: u8,
     back: &mut *mut u8,
-) -> u32 {
+) -> u32
+    ensures { HasStatus renderer.value result }
+{
     let colour = Colour {
         r: red,
         g: green,
@@ -408,17 +432,23 @@ fn start_cell(held: &mut Held, width: usize, span: usize, alignment: u32) -> Res
 }
 
 #[unsafe(no_mangle)]
-pub extern "C" fn tbr1_end_cell(renderer: Handle, back: &mut *mut u8) -> u32 {
+pub extern "C" fn tbr1_end_cell(renderer: Handle, back: &mut *mut u8) -> u32
+    ensures { HasStatus renderer.value result }
+{
     run(renderer, &Command::EndCell, back)
 }
 
 #[unsafe(no_mangle)]
-pub extern "C" fn tbr1_add_row(renderer: Handle, collapse: bool, back: &mut *mut u8) -> u32 {
+pub extern "C" fn tbr1_add_row(renderer: Handle, collapse: bool, back: &mut *mut u8) -> u32
+    ensures { HasStatus renderer.value result }
+{
     run(renderer, &Command::Row { collapse }, back)
 }
 
 #[unsafe(no_mangle)]
-pub extern "C" fn tbr1_add_vertical_row(renderer: Handle, back: &mut *mut u8) -> u32 {
+pub extern "C" fn tbr1_add_vertical_row(renderer: Handle, back: &mut *mut u8) -> u32
+    ensures { HasStatus renderer.value result }
+{
     run(renderer, &Command::VerticalRow, back)
 }
 

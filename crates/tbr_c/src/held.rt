@@ -1,6 +1,6 @@
 //! What C holds.
-ghost use Rattle.std.specs.Prelude.{◌≡◌, ◌≢◌, ◌<◌, None, Some, IfOk, IfErr, MatchResult};
-ghost use Rattle.tbr_c.specs.State.{HasEnded, IsKept, HasNoNext, TakesLine, current_of};
+ghost use Rattle.std.specs.Prelude.{◌≡◌, ◌≢◌, ◌<◌, None, Some, IfOk, IfErr, MatchResult, string_bytes};
+ghost use Rattle.tbr_c.specs.State.{HasEnded, IsKept, HasNoNext, TakesLine, current_of, IsRest};
 ghost use Rattle.tbr_c_lines.specs.declared.fault.Fault.TheVariants as F;
 ghost use Rattle.tbr_commands.specs.Command.{command_of, IsSized};
 
@@ -134,8 +134,10 @@ impl Held {
 
     /// The text of all lines that weren't taken, each with a newline. `NotFinished` where the renderer is still filled.
     /// `OutOfMemory` is kept.
-    pub fn rest_text(&mut self) -> Result<String, Fault> {
-        let text = self.state.lines()?.text(self.alloc).map_err(Fault::from);
+    pub fn rest_text(&mut self) -> Result<String, Fault>
+        ensures { IfOk result (λ text. IsRest self.old (string_bytes text)) }
+    {
+        let text = self.state.rest_text(self.alloc);
         self.state.keep(text)
     }
 }

@@ -11,9 +11,3 @@ mod questions;
 mod script;
 mod state;
 mod taking;
-
-#[cfg(test)]
-mod tests {
-    #[test]
-    fn it_compiles() {}
-}

@@ -1,8 +1,8 @@
 //! How far a renderer is that C holds.
-ghost use Rattle.std.specs.Prelude.{◌≡◌, ◌≢◌, ◌<◌, [], Some, Err, IfOk, IfErr, OnOk, MatchResult};
+ghost use Rattle.std.specs.Prelude.{◌≡◌, ◌≢◌, ◌<◌, [], Some, Err, IfOk, IfErr, OnOk, MatchResult, string_bytes};
 ghost use Rattle.tbr_commands.specs.Command.{command_of, IsSized};
 ghost use Rattle.tbr_runner.specs.Progress.{GoesOn};
-ghost use Rattle.tbr_c.specs.State.{CanGoOn, MayFinish, IsKept, HasEnded, HasNoLines, TakesLine, HasNoNext};
+ghost use Rattle.tbr_c.specs.State.{CanGoOn, MayFinish, IsKept, HasEnded, HasNoLines, TakesLine, HasNoNext, IsRest};
 ghost use Rattle.tbr_c.specs.declared.state.State.TheVariants as S;
 ghost use Rattle.tbr_c_lines.specs.declared.fault.Fault.TheVariants as F;
 
@@ -11,7 +11,7 @@ use tbr_c_lines::{Fault, LineSize, Lines, Rest, of_command};
 use tbr_commands::{Command, Decorator, Opening};
 use tbr_decor::{PlainDecorator, RichDecorator, TextDecorator, TrivialDecorator};
 use tbr_lines::{Error, UnicodeColumns};
-use tbr_renderer::Renderer;
+use tbr_renderer::{RenderOptions, Renderer};
 use tbr_runner::{DecoratorPrefix, Program};
 
 /// How far a renderer is.
@@ -58,17 +58,12 @@ impl State {
         } = opening;
         Ok(match decorator {
             Decorator::Plain => {
-                let decorator = PlainDecorator::new();
-                State::Plain(Program::new(alloc, width, options, decorator).map_err(of_command)?)
+                State::Plain(started(alloc, width, options, PlainDecorator::new())?)
             }
             Decorator::Trivial => {
-                let decorator = TrivialDecorator::new();
-                State::Trivial(Program::new(alloc, width, options, decorator).map_err(of_command)?)
+                State::Trivial(started(alloc, width, options, TrivialDecorator::new())?)
             }
-            Decorator::Rich => {
-                let decorator = RichDecorator::new();
-                State::Rich(Program::new(alloc, width, options, decorator).map_err(of_command)?)
-            }
+            Decorator::Rich => State::Rich(started(alloc, width, options, RichDecorator::new())?),
         })
     }
 
@@ -173,6 +168,17 @@ impl State {
         }
     }
 
+    /// The text of all lines that weren't taken, each with a newline. `NotFinished` where it is still filled. It refuses
+    /// for want of memory too.
+    pub fn rest_text(&self, alloc: Global) -> Result<String, Fault>
+        ensures { IfOk result (λ text. IsRest self.now (string_bytes text)) }
+    {
+        match self.lines()?.text(alloc) {
+            Ok(text) => Ok(text),
+            Err(e) => Err(Fault::from(e)),
+        }
+    }
+
     /// Takes the next line, and answers its size. `NotFinished` where it is still filled, `NoLine` where none is left.
     pub fn next_line(&mut self, alloc: Global) -> Result<LineSize, Fault>
         requires { CanGoOn self.old }
@@ -202,6 +208,23 @@ impl State {
             _ => {}
         }
         done
+    }
+}
+
+/// A program in which nothing was called yet. It refuses only for want of memory.
+fn started<D: TextDecorator>(
+    alloc: Global,
+    width: usize,
+    options: RenderOptions,
+    decorator: D,
+) -> Result<Program<D, UnicodeColumns>, Fault>
+    requires width { 0 < width }
+    requires wrap_width { options.wrap_width ≢ Some 0 }
+    ensures { IfOk result (λ program. GoesOn program) }
+{
+    match Program::new(alloc, width, options, decorator) {
+        Ok(program) => Ok(program),
+        Err(e) => Err(of_command(e)),
     }
 }
 

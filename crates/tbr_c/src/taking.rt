@@ -1,4 +1,10 @@
 //! Lines of a renderer that is finished.
+ghost use Rattle.std.specs.Prelude.{◌≡◌, ◌≢◌, ℕ, List, None, Some, Ok, Err, IfSome, IfOk, IfErr, slice_get, string_bytes};
+ghost use Rattle.tbr_c_lines.specs.Line.{Line as Shown, placed, marked, annotated, kind_of, target_of};
+ghost use Rattle.tbr_c_lines.specs.Status.{code_of, status_of};
+ghost use Rattle.tbr_c_lines.specs.declared.line.PiecePlace.{PiecePlace as Place};
+ghost use Rattle.tbr_c.specs.State.{current_of, IsRest};
+ghost use Rattle.tbr_c.specs.Answers.{IsCopied, IsSizeOfNext, HasNone};
 
 use crate::handle::{Handle, hand_back};
 use crate::held::Held;
@@ -10,17 +16,35 @@ use tbr_c_lines::{
 pub extern "C" fn tbr1_text(
     renderer: Handle,
     out: &mut [u8],
-    length: &mut usize,
+    needed: &mut usize,
     back: &mut *mut u8,
-) -> u32 {
+) -> u32
+    ensures { result ≡ 0 → (text : List ℕ) × IsRest renderer.value text
+        × IsCopied text out.old out.new needed.new result }
+{
     let mut held = renderer.open();
     let text = held.rest_text();
     hand_back(held, back);
-    status(text.and_then(|text| copy_out(text.as_bytes(), out, length)))
+    copied(text, out, needed)
+}
+
+/// Copies a text out, if there is one.
+fn copied(text: Result<String, Fault>, out: &mut [u8], needed: &mut usize) -> u32
+    ensures text { IfOk text (λ t. IsCopied (string_bytes t) out.old out.new needed.new result) }
+    ensures none { IfErr text (λ fault. result ≡ code_of fault) }
+{
+    match text {
+        Ok(text) => status(copy_out(text.as_bytes(), out, needed)),
+        Err(fault) => fault.code(),
+    }
 }
 
 #[unsafe(no_mangle)]
-pub extern "C" fn tbr1_next_line(renderer: Handle, line: &mut LineSize, back: &mut *mut u8) -> u32 {
+pub extern "C" fn tbr1_next_line(renderer: Handle, line: &mut LineSize, back: &mut *mut u8) -> u32
+    ensures taken { result ≡ 0 → IsSizeOfNext renderer.value line.new }
+    ensures none { result ≡ 12 → HasNone renderer.value }
+    ensures left { result ≢ 0 → line.new ≡ line.old }
+{
     let mut held = renderer.open();
     let size = held.next_line();
     hand_back(held, back);
@@ -31,17 +55,24 @@ pub extern "C" fn tbr1_next_line(renderer: Handle, line: &mut LineSize, back: &m
 pub extern "C" fn tbr1_line_text(
     renderer: Handle,
     out: &mut [u8],
-    length: &mut usize,
+    needed: &mut usize,
     back: &mut *mut u8,
-) -> u32 {
+) -> u32
+    ensures text { IfSome (current_of renderer.value) (λ line. IsCopied line.text out.old out.new needed.new result) }
+    ensures none { current_of renderer.value ≡ None → (result ≢ 0) × (out.new ≡ out.old) }
+{
     let held = renderer.open();
-    let done = line_text(&held, out, length);
+    let done = line_text(&held, out, needed);
     hand_back(held, back);
     status(done)
 }
 
-fn line_text(held: &Held, out: &mut [u8], length: &mut usize) -> Result<(), Fault> {
-    copy_out(held.line()?.text().as_bytes(), out, length)
+fn line_text(held: &Held, out: &mut [u8], needed: &mut usize) -> Result<(), Fault>
+    ensures text { IfSome (current_of held.now) (λ line.
+        IsCopied line.text out.old out.new needed.new (status_of result)) }
+    ensures none { current_of held.now ≡ None → (result ≢ Ok tt) × (out.new ≡ out.old) }
+{
+    copy_out(held.line()?.text().as_bytes(), out, needed)
 }
 
 #[unsafe(no_mangle)]
@@ -50,14 +81,21 @@ pub extern "C" fn tbr1_get_piece(
     place: usize,
     piece: &mut PiecePlace,
     back: &mut *mut u8,
-) -> u32 {
+) -> u32
+    ensures piece { (line : Shown) (p : Place) → current_of renderer.value ≡ Some line →
+        placed (slice_get line.pieces place) ≡ Ok p → (result ≡ 0) × (piece.new ≡ p) }
+{
     let held = renderer.open();
     let done = get_piece(&held, place, piece);
     hand_back(held, back);
     status(done)
 }
 
-fn get_piece(held: &Held, place: usize, piece: &mut PiecePlace) -> Result<(), Fault> {
+fn get_piece(held: &Held, place: usize, piece: &mut PiecePlace) -> Result<(), Fault>
+    ensures piece { (line : Shown) (p : Place) → current_of held.now ≡ Some line →
+        placed (slice_get line.pieces place) ≡ Ok p → (result ≡ Ok tt) × (piece.new ≡ p) }
+    ensures left { result ≢ Ok tt → piece.new ≡ piece.old }
+{
     *piece = held.line()?.piece(place)?;
     Ok(())
 }
@@ -67,17 +105,24 @@ pub extern "C" fn tbr1_marker_name(
     renderer: Handle,
     place: usize,
     out: &mut [u8],
-    length: &mut usize,
+    needed: &mut usize,
     back: &mut *mut u8,
-) -> u32 {
+) -> u32
+    ensures { (line : Shown) (name : List ℕ) → current_of renderer.value ≡ Some line →
+        marked (slice_get line.pieces place) ≡ Some name → IsCopied name out.old out.new needed.new result }
+{
     let held = renderer.open();
-    let done = marker_name(&held, place, out, length);
+    let done = marker_name(&held, place, out, needed);
     hand_back(held, back);
     status(done)
 }
 
-fn marker_name(held: &Held, place: usize, out: &mut [u8], length: &mut usize) -> Result<(), Fault> {
-    copy_out(held.line()?.marker_name(place)?.as_bytes(), out, length)
+fn marker_name(held: &Held, place: usize, out: &mut [u8], needed: &mut usize) -> Result<(), Fault>
+    ensures { (line : Shown) (name : List ℕ) → current_of held.now ≡ Some line →
+        marked (slice_get line.pieces place) ≡ Some name →
+        IsCopied name out.old out.new needed.new (status_of result) }
+{
+    copy_out(held.line()?.marker_name(place)?.as_bytes(), out, needed)
 }
 
 #[unsafe(no_mangle)]
@@ -110,11 +155,11 @@ pub extern "C" fn tbr1_annotation_target(
     piece: usize,
     place: usize,
     out: &mut [u8],
-    length: &mut usize,
+    needed: &mut usize,
     back: &mut *mut u8,
 ) -> u32 {
     let held = renderer.open();
-    let done = annotation_target(&held, piece, place, out, length);
+    let done = annotation_target(&held, piece, place, out, needed);
     hand_back(held, back);
     status(done)
 }
@@ -124,8 +169,8 @@ fn annotation_target(
     piece: usize,
     place: usize,
     out: &mut [u8],
-    length: &mut usize,
+    needed: &mut usize,
 ) -> Result<(), Fault> {
     let annotation = held.line()?.annotation(piece, place)?;
-    copy_out(target(annotation)?.as_bytes(), out, length)
+    copy_out(target(annotation)?.as_bytes(), out, needed)
 }

@@ -1,5 +1,5 @@
 //! Answers that go out to C.
-ghost use Rattle.std.specs.Prelude.{◌≡◌, ◌≤◌, ◌<◌, ◌++◌, Ok, Err, length, drop};
+ghost use Rattle.std.specs.Prelude.{◌≡◌, ◌≤◌, ◌<◌, ◌++◌, Ok, Err, MatchResult, length, drop};
 ghost use Rattle.tbr_c_lines.specs.declared.fault.Fault.TheVariants as F;
 
 use crate::fault::Fault;
@@ -20,7 +20,15 @@ pub fn copy_out(text: &[u8], out: &mut [u8], needed: &mut usize) -> Result<(), F
 }
 
 /// Puts an answer where C wants it. Where there is none nothing changes there.
-pub fn answer<T: Copy>(answer: Result<T, Fault>, out: &mut T) -> Result<(), Fault> {
-    *out = answer?;
-    Ok(())
+pub fn answer<T: Copy>(answer: Result<T, Fault>, out: &mut T) -> Result<(), Fault>
+    ensures { MatchResult answer (λ value. (result ≡ Ok tt) × (out.new ≡ value))
+        (λ fault. (result ≡ Err fault) × (out.new ≡ out.old)) }
+{
+    match answer {
+        Ok(value) => {
+            *out = value;
+            Ok(())
+        }
+        Err(fault) => Err(fault),
+    }
 }
