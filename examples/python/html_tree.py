@@ -72,8 +72,8 @@ ENDED_BY: dict[str, tuple[frozenset[str], frozenset[str]]] = {
     **dict.fromkeys(BLOCKS, (frozenset({"p"}), TABLE_PARTS | {"li", "blockquote"})),
     **dict.fromkeys(HEADINGS, (HEADINGS | {"p"}, TABLE_PARTS | {"li", "blockquote"})),
     **dict.fromkeys(["dt", "dd"], (frozenset({"dt", "dd"}), frozenset({"dl"}))),
-    **dict.fromkeys(SECTIONS, (SECTIONS | {"tr", "caption"}, frozenset({"table"}))),
-    **dict.fromkeys(CELLS, (CELLS, frozenset({"table"}))),
+    **dict.fromkeys(SECTIONS | {"caption"}, (TABLE_PARTS - {"table"}, frozenset({"table"}))),
+    **dict.fromkeys(["td", "th"], (CELLS, frozenset({"table"}))),
     "tr": (frozenset({"tr", "caption"}), frozenset({"table"})),
     "li": (frozenset({"li"}), frozenset({"ul", "ol"})),
     "a": (frozenset({"a"}), TABLE_PARTS),
@@ -102,7 +102,7 @@ class TreeBuilder(HTMLParser):
 
     def handle_starttag(self, tag: str, attrs: list[tuple[str, str | None]]) -> None:
         if tag in ENDED_BY:
-            self._end(*ENDED_BY[tag])
+            self._end(*ENDED_BY[tag], is_outermost=True)
         if tag not in OUTSIDE_CELLS:
             self._open_cell()
         elif tag in CELLS and not isinstance(self._open[-1], Row) and tag != "caption":
@@ -114,7 +114,7 @@ class TreeBuilder(HTMLParser):
 
     def handle_endtag(self, tag: str) -> None:
         bounds = frozenset({"table"}) if tag in TABLE_PARTS else TABLE_PARTS
-        self._end(frozenset({tag}), bounds - {tag})
+        self._end(frozenset({tag}), bounds - {tag}, is_outermost=False)
 
     def handle_data(self, data: str) -> None:
         if data.strip():
@@ -150,15 +150,17 @@ class TreeBuilder(HTMLParser):
         if not is_empty and (len(self._open) < DEEPEST or parent.tag in ABOVE_CELLS):
             self._open.append(element)
 
-    def _end(self, tags: frozenset[str], bounds: frozenset[str]) -> None:
-        """Ends the innermost open element of these tags that is inside of the bounds, and all inside of it."""
+    def _end(self, tags: frozenset[str], bounds: frozenset[str], is_outermost: bool) -> None:
+        """Ends the outermost or innermost open element of these tags inside of the bounds, and all inside of it."""
+        found = 0
         for depth in range(len(self._open) - 1, 0, -1):
             tag = self._open[depth].tag
             if tag in tags:
-                del self._open[depth:]
-                return
-            if tag in bounds:
-                return
+                found = depth
+            if tag in bounds or (found and not is_outermost):
+                break
+        if found:
+            del self._open[found:]
 
 
 def is_hidden(attributes: dict[str, str]) -> bool:

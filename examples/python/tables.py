@@ -5,6 +5,7 @@ from collections.abc import Iterable, Iterator
 from dataclasses import dataclass, replace
 from functools import cached_property
 from itertools import accumulate, groupby, pairwise
+from typing import TypeVar
 
 from elements import Block, Division, Element, Unseen
 from ruler import Ruler, Size
@@ -42,6 +43,13 @@ class Row(Block):
 
     def cells(self) -> list[Cell]:
         return [child for child in self.children if isinstance(child, Cell)]
+
+
+class Caption(Block):
+    """What stands above a table."""
+
+
+Part = TypeVar("Part", Row, Caption)
 
 
 @dataclass(frozen=True)
@@ -157,17 +165,18 @@ def widths(width: int, sizes: list[Size]) -> list[int] | None:
 class Table(Element):
     """A table. Where its columns don't fit beside one another, the cells of each row stand one below another."""
 
-    def all_rows(self) -> list[Row]:
-        return [element for element in within(self) if isinstance(element, Row)]
+    def parts(self, kind: type[Part]) -> list[Part]:
+        """Its rows or captions, in order."""
+        return [element for element in within(self) if isinstance(element, kind)]
 
     @cached_property
     def grid(self) -> Grid:
-        return Grid(self.all_rows())
+        """Its cells."""
+        return Grid(self.parts(Row))
 
     def draw(self, page: Renderer) -> None:
-        for caption in within(self):
-            if isinstance(caption, Caption):
-                caption.draw(page)
+        for caption in self.parts(Caption):
+            caption.draw(page)
         if not self.grid.rows:
             return
         page.start_table()
@@ -199,6 +208,8 @@ class Table(Element):
             page.append_vert_row()
 
     def measure(self, ruler: Ruler) -> None:
+        for caption in self.parts(Caption):
+            caption.measure(ruler)
         ruler.end_line()
         if not self.grid.rows:
             return
@@ -207,20 +218,16 @@ class Table(Element):
         ruler.add_lines(whole.beside(len(sizes) - 1))
 
 
-class Caption(Block):
-    """What stands above a table."""
-
-
 class Layout(Table):
     """A table that the sender says is none: it has no borders, and each cell stands on lines of its own."""
 
     def draw(self, page: Renderer) -> None:
-        for row in self.all_rows():
-            row.draw(page)
+        for part in [*self.parts(Caption), *self.parts(Row)]:
+            part.draw(page)
 
     def measure(self, ruler: Ruler) -> None:
-        for row in self.all_rows():
-            row.measure(ruler)
+        for part in [*self.parts(Caption), *self.parts(Row)]:
+            part.measure(ruler)
 
 
 def within(table: Element) -> Iterator[Element]:
