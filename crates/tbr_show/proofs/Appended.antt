@@ -1,6 +1,6 @@
 -- What loops append, one part after another.
 use Rattle.std.proofs.Common.{◌≡◌, ℕ, ◌+◌, ◌<◌, Bool, true, false, not, Option, Some, Result, Ok, Err, List, [], ◌∷◌, ◌++◌, length, get_or, take, refl, ap, sym, ◌∙◌, map, append_assoc, append-nil}
-use Rattle.std.specs.Prelude.{filter, flat_map, OnOk}
+use Rattle.std.specs.Prelude.{flat_map, OnOk}
 use Rattle.std.specs.Char.{is_control}
 use Rattle.std.proofs.lemmas.List.{take_more, map_push}
 use Rattle.std.proofs.lemmas.List.Concat.{flat_map-append}

@@ -6,6 +6,7 @@ pub use ambiguous::AmbiguousWide;
 mod ambiguous;
 pub mod ansi;
 pub mod html;
+pub mod laws;
 pub mod ndjson;
 mod target;
 mod text;

@@ -2,15 +2,15 @@
 #![tactic(auto)]
 
 pub use problem::{Problem, Refusal, Related};
-pub use view::{Format, Settings, Shown, view};
+pub use script::{Format, Settings, Shown, view};
 
 mod advice;
 mod block;
 mod fault;
 mod level;
 mod problem;
+mod script;
 mod session;
 mod show;
 mod statement;
-mod view;
 mod words;

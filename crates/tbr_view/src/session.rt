@@ -144,17 +144,17 @@ impl<D: TextDecorator, W: CharWidth> Session<D, W> {
             return Err(self.not_open(by, number));
         }
         self.note_losses(number)?;
-        match self.levels.pop() {
-            Some(
-                Level {
-                    by: Opener::Block(block, prefixes),
-                    line: _,
-                    outside,
-                },
-            ) => {
-                self.leave(outside);
-                self.close_block(number, block, prefixes)
-            }
+        let Some(level) = self.levels.pop() else {
+            return Err(self.not_open(by, number));
+        };
+        let Level {
+            by: opener,
+            line: _,
+            outside,
+        } = level;
+        self.leave(outside);
+        match opener {
+            Opener::Block(block, prefixes) => self.close_block(number, block, prefixes),
             _ => Err(self.not_open(by, number)),
         }
     }

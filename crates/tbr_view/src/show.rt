@@ -1,6 +1,6 @@
 //! Lines in a format.
 
-use crate::view::Format;
+use crate::script::Format;
 use std::alloc::Global;
 use std::collections::LinkedList;
 use tbr_decor::RichAnnotation;

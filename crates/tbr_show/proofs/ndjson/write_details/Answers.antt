@@ -1,5 +1,4 @@
 use Rattle.std.proofs.Common.{ap, ◌∙◌, ◌++◌, sym}
-use Rattle.json.specs.Written.{Writes}
 use Rattle.tbr_show.specs.Ndjson.{details}
 use Rattle.tbr_show.proofs.Appended.{one_behind}
 use Rattle.tbr_show.proofs.ndjson.write_details.Goals as goal

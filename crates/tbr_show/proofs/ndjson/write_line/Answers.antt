@@ -1,6 +1,5 @@
-use Rattle.std.proofs.Common.{ap, ◌∙◌, ◌++◌, [], ◌∷◌}
+use Rattle.std.proofs.Common.{ap, ◌∙◌, ◌++◌}
 use Rattle.std.specs.Prelude.{codes, flat_map}
-use Rattle.json.specs.Written.{Writes}
 use Rattle.json.specs.Token.{begin_object, end_object, begin_array, end_array, key, boolean}
 use Rattle.tbr_lines.specs.Elements.{line_width}
 use Rattle.tbr_show.specs.Ndjson.{element_tokens, columns_tokens}

@@ -1,7 +1,6 @@
 use Rattle.std.proofs.Common.{ap, ◌∙◌, ◌++◌, sym, string_bytes, [], ◌∷◌}
 use Rattle.std.specs.Prelude.{codes, encode_utf8_all, flat_map}
 use Rattle.std.proofs.lemmas.Str.{encodes-chars, IsUtf8-string_bytes}
-use Rattle.json.specs.Written.{Writes}
 use Rattle.json.specs.Token.{begin_object, end_object, begin_array, end_array, key, string}
 use Rattle.tbr_lines.specs.View.{chars_of}
 use Rattle.tbr_lines.specs.Elements.{piece, element_width}

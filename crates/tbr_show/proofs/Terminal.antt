@@ -1,0 +1,301 @@
+-- What a terminal shows of what is written for it.
+use Rattle.std.proofs.Common.{◌≡◌, ◌≢◌, ℕ, zero, suc, ◌+◌, ◌%◌, ◌/◌, ◌<◌, ◌==◌, Bool, true, false, not, List, [], ◌∷◌, ◌++◌, refl, ap, sym, subst, ◌∙◌, append_assoc, arith, cond, lit<}
+use Rattle.std.proofs.Math.Nat.{mod-lt}
+use Rattle.std.proofs.lemmas.Bool.{lt-ltb, false≢true}
+use Rattle.std.proofs.lemmas.Bool.Decides.{nat_tests}
+use Rattle.std.specs.List.{range_with_len}
+use Rattle.std.proofs.lemmas.List.FromFn.{get_or-range_with_len, length-range_with_len}
+use Rattle.std.proofs.lemmas.List.Sums.{AllPass-from_list_all}
+use Rattle.percent_encoding.specs.AsciiSet.{contains, should_percent_encode}
+use Rattle.percent_encoding.proofs.AsciiSetLemmas.{ascii_from_kept, outside_from_kept}
+use Rattle.percent_encoding.proofs.PercentLemmas.{IsEscapeByte, All-percent_encode}
+use Rattle.std.specs.Prelude.{All, flat_map, codes, string_bytes, Vec}
+use Rattle.std.specs.Char.{is_control}
+use Rattle.std.specs.Int.{is_in_range}
+use Rattle.std.specs.Fmt.{decimal, digits, digits_onto, digit_glyph}
+use Rattle.std.specs.List.{AllByRecursion as Each}
+use Rattle.std.specs.declared.alloc.Global.{Global}
+use Rattle.std.proofs.lemmas.List.Elements.{filter-append, All-head, All-tail}
+use Rattle.tbr_model.specs.Codes.{newline_character}
+use Rattle.tbr_lines.specs.Elements.{Element, piece, marker_element, characters}
+use Rattle.tbr_decor.specs.declared.colour.Colour.{Colour}
+use Rattle.tbr_decor.specs.declared.annotation.RichAnnotation.{RichAnnotation}
+use Rattle.tbr_decor.specs.declared.annotation.RichAnnotation.TheVariants as rich
+use Rattle.tbr_show.specs.Written.{printable, colour_parts}
+use Rattle.tbr_show.specs.declared.target.TheConstants.{NOT_OF_URLS}
+use Rattle.tbr_show.specs.Target.{encoded}
+use Rattle.tbr_show.specs.Ansi.{selects, links, begins, ends, element, line, escape_character}
+use Rattle.tbr_show.specs.Terminal.{seen, among, sequence, command}
+
+-- a digit or a semicolon, as a selection has them
+IsParameter : ℕ → Type 0
+IsParameter c = (is_in_range 0x40 0x7E c ≡ false) × (is_control c ≡ false)
+
+each_both : {X : Type 0} (P : X → Type 0) (xs ys : List X) → Each P xs → Each P ys → Each P (xs ++ ys)
+each_both P [] ys h k = k
+each_both P (x ∷ xs) ys h k = (h.0, each_both P xs ys h.1 k)
+
+-- ---- parameters
+
+a_digit : (d : ℕ) → d < 10 → IsParameter (48 + d)
+unfolding IsParameter
+a_digit d h = (grind (arith, nat_tests), grind (arith, nat_tests))
+
+a_glyph : (d : ℕ) → d < 10 → IsParameter (digit_glyph false d)
+a_glyph d h = rw (lt-ltb d 10 h) (a_digit d h)
+
+either : (b : Bool) (one other : List ℕ) → Each IsParameter one → Each IsParameter other → Each IsParameter (cond b one other)
+either true one other h k = h
+either false one other h k = k
+
+digits_are : (k n : ℕ) (acc : List ℕ) → Each IsParameter acc → Each IsParameter (digits_onto k 10 false n acc)
+digits_are zero n acc h = h
+digits_are (suc k) n acc h =
+    let more : Each IsParameter (digit_glyph false (n % 10) ∷ acc) = (a_glyph (n % 10) (mod-lt n (lit< tt)), h) in
+    either (n / 10 == 0) (digit_glyph false (n % 10) ∷ acc) (digits_onto k 10 false (n / 10) (digit_glyph false (n % 10) ∷ acc)) more (digits_are k (n / 10) (digit_glyph false (n % 10) ∷ acc) more)
+
+decimal_is : (n : ℕ) → Each IsParameter (decimal n)
+unfolding digits
+decimal_is n = digits_are 64 n [] tt
+
+semicolon_is : Each IsParameter (codes ";")
+unfolding IsParameter
+semicolon_is = ((refl, refl), tt)
+
+parts_are : (c : Colour) → Each IsParameter (colour_parts (codes ";") c)
+parts_are c =
+    each_both IsParameter (((decimal c.r ++ codes ";") ++ decimal c.g) ++ codes ";") (decimal c.b)
+    (each_both IsParameter ((decimal c.r ++ codes ";") ++ decimal c.g) (codes ";")
+    (each_both IsParameter (decimal c.r ++ codes ";") (decimal c.g) (each_both IsParameter (decimal c.r) (codes ";") (decimal_is c.r) semicolon_is) (decimal_is c.g)) semicolon_is)
+    (decimal_is c.b)
+
+-- ---- what a terminal shows nothing of
+
+pub Hidden : List ℕ → Type 0
+Hidden mark = (rest : List ℕ) → seen among (mark ++ rest) ≡ seen among rest
+
+hidden_both : (one other : List ℕ) → Hidden one → Hidden other → Hidden (one ++ other)
+unfolding Hidden
+hidden_both one other h k rest = ap (seen among) (append_assoc one other rest) ∙ h (other ++ rest) ∙ k rest
+
+in_sequence : (parameters rest : List ℕ) → Each IsParameter parameters → seen sequence (parameters ++ rest) ≡ seen sequence rest
+unfolding IsParameter
+in_sequence [] rest h = refl
+in_sequence (c ∷ cs) rest h = rw h.0.0 (in_sequence cs rest h.1)
+
+hidden_selects : (parameters : List ℕ) → Each IsParameter parameters → Hidden (selects parameters)
+unfolding Hidden
+hidden_selects ps h rest = ap (seen sequence) (append_assoc ps (109 ∷ []) rest) ∙ in_sequence ps (109 ∷ rest) h
+
+-- no escape
+IsPlain : ℕ → Type 0
+IsPlain c = (c == escape_character) ≡ false
+
+in_command : (cs rest : List ℕ) → Each IsPlain cs → seen command (cs ++ rest) ≡ seen command rest
+unfolding IsPlain
+in_command [] rest h = refl
+in_command (c ∷ cs) rest h = rw h.0 (in_command cs rest h.1)
+
+hidden_links : (target : List ℕ) → Each IsPlain target → Hidden (links target)
+unfolding Hidden
+hidden_links target h rest = ap (seen command) (append_assoc target (27 ∷ 92 ∷ []) rest) ∙ in_command target (27 ∷ 92 ∷ rest) h
+
+-- ---- targets
+
+-- no control character
+IsShown : ℕ → Type 0
+IsShown c = is_control c ≡ false
+
+shown_is_plain : (c : ℕ) → IsShown c → IsPlain c
+unfolding IsShown IsPlain
+shown_is_plain c h = grind (arith, nat_tests)
+
+each_more : {P Q : ℕ → Type 0} (cs : List ℕ) → ((c : ℕ) → P c → Q c) → Each P cs → Each Q cs
+each_more [] f h = tt
+each_more (c ∷ cs) f h = (f c h.0, each_more cs f h.1)
+
+controls_are_escaped : (b : ℕ) → b < 32 → contains NOT_OF_URLS b ≡ true
+controls_are_escaped b h =
+    let xs = range_with_len 0 32 in
+    let all = AllPass-from_list_all (contains NOT_OF_URLS) xs refl b 0 (omega (arith, length-range_with_len 0 32)) in
+    subst (λ n. contains NOT_OF_URLS n ≡ true) (get_or-range_with_len 0 32 b 0 h ∙ omega arith) all
+
+kept_is_shown : (b : ℕ) → should_percent_encode NOT_OF_URLS b ≡ false → IsShown b
+unfolding IsShown
+kept_is_shown b kept =
+    let below = ascii_from_kept NOT_OF_URLS b kept in
+    let outside = outside_from_kept NOT_OF_URLS b kept in
+    let high : b < 32 → ⊥ = λ h. false≢true (sym outside ∙ controls_are_escaped b h) in
+    let delete : b ≡ 127 → ⊥ = λ e. false≢true (sym outside ∙ ap (contains NOT_OF_URLS) e) in
+    grind (arith, nat_tests, below, high, delete)
+
+escape_is_shown : (b : ℕ) → IsEscapeByte b → IsShown b
+unfolding IsShown
+escape_is_shown b h = grind (arith, nat_tests)
+
+each_from_all : (P : ℕ → Type 0) (cs : List ℕ) → All P cs → Each P cs
+each_from_all P [] h = tt
+each_from_all P (c ∷ cs) h = (All-head P c cs h, each_from_all P cs (All-tail P c cs h))
+
+encoded_is_shown : (target : List ℕ) → Each IsShown (encoded target)
+encoded_is_shown target = each_from_all IsShown (encoded target) (All-percent_encode IsShown NOT_OF_URLS target kept_is_shown escape_is_shown)
+
+-- ---- annotations
+
+hidden_link : (target : List ℕ) → Hidden (links (encoded target))
+hidden_link target = hidden_links (encoded target) (each_more (encoded target) shown_is_plain (encoded_is_shown target))
+
+hidden_none : Hidden []
+unfolding Hidden
+hidden_none rest = refl
+
+hidden_begins : (a : RichAnnotation) → Hidden (begins a)
+unfolding IsParameter
+hidden_begins rich.Default = hidden_none
+hidden_begins (rich.Link target) = hidden_both (selects (codes "4")) (links (encoded (string_bytes target))) (hidden_selects (codes "4") ((refl, refl), tt)) (hidden_link (string_bytes target))
+hidden_begins (rich.Image source) = hidden_selects (codes "2") ((refl, refl), tt)
+hidden_begins rich.Emphasis = hidden_selects (codes "3") ((refl, refl), tt)
+hidden_begins rich.Strong = hidden_selects (codes "1") ((refl, refl), tt)
+hidden_begins rich.Strikeout = hidden_selects (codes "9") ((refl, refl), tt)
+hidden_begins rich.Code = hidden_selects (codes "36") ((refl, refl), ((refl, refl), tt))
+hidden_begins (rich.Preformat continued) = hidden_none
+hidden_begins (rich.Colour colour) = hidden_selects (codes "38;2;" ++ colour_parts (codes ";") colour) (each_both IsParameter (codes "38;2;") (colour_parts (codes ";") colour) five (parts_are colour))
+  where
+    five : Each IsParameter (codes "38;2;")
+    five = ((refl, refl), ((refl, refl), ((refl, refl), ((refl, refl), ((refl, refl), tt)))))
+hidden_begins (rich.BgColour colour) = hidden_selects (codes "48;2;" ++ colour_parts (codes ";") colour) (each_both IsParameter (codes "48;2;") (colour_parts (codes ";") colour) five (parts_are colour))
+  where
+    five : Each IsParameter (codes "48;2;")
+    five = ((refl, refl), ((refl, refl), ((refl, refl), ((refl, refl), ((refl, refl), tt)))))
+
+hidden_ends : (a : RichAnnotation) → Hidden (ends a)
+unfolding IsParameter
+hidden_ends rich.Default = hidden_none
+hidden_ends (rich.Link target) = hidden_both (links []) (selects (codes "24")) (hidden_links [] tt) (hidden_selects (codes "24") ((refl, refl), ((refl, refl), tt)))
+hidden_ends (rich.Image source) = hidden_selects (codes "22") ((refl, refl), ((refl, refl), tt))
+hidden_ends rich.Emphasis = hidden_selects (codes "23") ((refl, refl), ((refl, refl), tt))
+hidden_ends rich.Strong = hidden_selects (codes "22") ((refl, refl), ((refl, refl), tt))
+hidden_ends rich.Strikeout = hidden_selects (codes "29") ((refl, refl), ((refl, refl), tt))
+hidden_ends rich.Code = hidden_selects (codes "39") ((refl, refl), ((refl, refl), tt))
+hidden_ends (rich.Preformat continued) = hidden_none
+hidden_ends (rich.Colour colour) = hidden_selects (codes "39") ((refl, refl), ((refl, refl), tt))
+hidden_ends (rich.BgColour colour) = hidden_selects (codes "49") ((refl, refl), ((refl, refl), tt))
+
+hidden_all : (f : RichAnnotation → List ℕ) → ((a : RichAnnotation) → Hidden (f a)) → (xs : List RichAnnotation) → Hidden (flat_map f xs)
+hidden_all f h [] = hidden_none
+hidden_all f h (a ∷ xs) = hidden_both (f a) (flat_map f xs) (h a) (hidden_all f h xs)
+
+-- ---- characters
+
+printable_is_shown : (cs : List ℕ) → Each IsShown (printable cs)
+unfolding IsShown
+printable_is_shown [] = tt
+printable_is_shown (c ∷ cs) = by (is_control c) refl (printable_is_shown cs)
+  where
+    by : (b : Bool) → is_control c ≡ b → Each IsShown (printable cs) → Each IsShown (cond (not b) (c ∷ printable cs) (printable cs))
+    by true e more = more
+    by false e more = (e, more)
+
+among_characters : (cs rest : List ℕ) → Each IsPlain cs → seen among (cs ++ rest) ≡ cs ++ seen among rest
+unfolding IsPlain
+among_characters [] rest h = refl
+among_characters (c ∷ cs) rest h = rw h.0 (ap (λ ds. c ∷ ds) (among_characters cs rest h.1))
+
+-- ---- lines
+
+seen_piece : (before cs behind more rest : List ℕ) → Hidden before → Hidden behind →
+    seen among ((((before ++ printable cs) ++ behind) ++ more) ++ rest) ≡ printable cs ++ seen among (more ++ rest)
+unfolding Hidden
+seen_piece before cs behind more rest h k =
+    ap (seen among) (append_assoc ((before ++ printable cs) ++ behind) more rest ∙ append_assoc (before ++ printable cs) behind (more ++ rest) ∙ append_assoc before (printable cs) (behind ++ (more ++ rest)))
+    ∙ h (printable cs ++ (behind ++ (more ++ rest)))
+    ∙ among_characters (printable cs) (behind ++ (more ++ rest)) (each_more (printable cs) shown_is_plain (printable_is_shown cs))
+    ∙ ap (λ ds. printable cs ++ ds) (k (more ++ rest))
+
+pub seen_elements : (es : List (Element (Vec RichAnnotation Global))) (rest : List ℕ) → seen among (flat_map element es ++ rest) ≡ printable (characters es) ++ seen among rest
+seen_elements [] rest = refl
+seen_elements (piece cs tag ∷ es) rest =
+    seen_piece (flat_map begins tag.items) cs (flat_map ends tag.items) (flat_map element es) rest (hidden_all begins hidden_begins tag.items) (hidden_all ends hidden_ends tag.items)
+    ∙ ap (λ ds. printable cs ++ ds) (seen_elements es rest)
+    ∙ sym (append_assoc (printable cs) (printable (characters es)) (seen among rest))
+    ∙ ap (λ ds. ds ++ seen among rest) (sym (filter-append (λ (c : ℕ). not (is_control c)) cs (characters es)))
+seen_elements (marker_element name ∷ es) rest = seen_elements es rest
+
+-- ---- control characters that are written
+
+-- a control character is an escape or the newline
+abbrev pub IsOwn : ℕ → Type 0
+IsOwn c = is_control c ≡ true → c ≢ newline_character → c ≡ escape_character
+
+shown_is_own : (c : ℕ) → IsShown c → IsOwn c
+unfolding IsShown
+shown_is_own c h = λ control _. absurd (false≢true (sym h ∙ control))
+
+parameter_is_own : (c : ℕ) → IsParameter c → IsOwn c
+unfolding IsParameter
+parameter_is_own c h = λ control _. absurd (false≢true (sym h.1 ∙ control))
+
+escape_is_own : IsOwn escape_character
+escape_is_own = λ _ _. refl
+
+newline_is_own : IsOwn newline_character
+newline_is_own = λ _ other. absurd (other refl)
+
+selects_is_own : (parameters : List ℕ) → Each IsParameter parameters → Each IsOwn (selects parameters)
+selects_is_own ps h = (escape_is_own, (λ control. cc, each_both IsOwn ps (109 ∷ []) (each_more ps parameter_is_own h) (λ control. cc, tt)))
+
+links_is_own : (target : List ℕ) → Each IsShown target → Each IsOwn (links target)
+links_is_own target h =
+    (escape_is_own, (λ control. cc, (λ control. cc, (λ control. cc, (λ control. cc, each_both IsOwn target (27 ∷ 92 ∷ []) (each_more target shown_is_own h) (escape_is_own, (λ control. cc, tt)))))))
+
+begins_is_own : (a : RichAnnotation) → Each IsOwn (begins a)
+unfolding IsParameter
+begins_is_own rich.Default = tt
+begins_is_own (rich.Link target) =
+    each_both IsOwn (selects (codes "4")) (links (encoded (string_bytes target))) (selects_is_own (codes "4") ((refl, refl), tt)) (links_is_own (encoded (string_bytes target)) (encoded_is_shown (string_bytes target)))
+begins_is_own (rich.Image source) = selects_is_own (codes "2") ((refl, refl), tt)
+begins_is_own rich.Emphasis = selects_is_own (codes "3") ((refl, refl), tt)
+begins_is_own rich.Strong = selects_is_own (codes "1") ((refl, refl), tt)
+begins_is_own rich.Strikeout = selects_is_own (codes "9") ((refl, refl), tt)
+begins_is_own rich.Code = selects_is_own (codes "36") ((refl, refl), ((refl, refl), tt))
+begins_is_own (rich.Preformat continued) = tt
+begins_is_own (rich.Colour colour) = selects_is_own (codes "38;2;" ++ colour_parts (codes ";") colour) (each_both IsParameter (codes "38;2;") (colour_parts (codes ";") colour) five (parts_are colour))
+  where
+    five : Each IsParameter (codes "38;2;")
+    five = ((refl, refl), ((refl, refl), ((refl, refl), ((refl, refl), ((refl, refl), tt)))))
+begins_is_own (rich.BgColour colour) = selects_is_own (codes "48;2;" ++ colour_parts (codes ";") colour) (each_both IsParameter (codes "48;2;") (colour_parts (codes ";") colour) five (parts_are colour))
+  where
+    five : Each IsParameter (codes "48;2;")
+    five = ((refl, refl), ((refl, refl), ((refl, refl), ((refl, refl), ((refl, refl), tt)))))
+
+ends_is_own : (a : RichAnnotation) → Each IsOwn (ends a)
+unfolding IsParameter
+ends_is_own rich.Default = tt
+ends_is_own (rich.Link target) = each_both IsOwn (links []) (selects (codes "24")) (links_is_own [] tt) (selects_is_own (codes "24") ((refl, refl), ((refl, refl), tt)))
+ends_is_own (rich.Image source) = selects_is_own (codes "22") ((refl, refl), ((refl, refl), tt))
+ends_is_own rich.Emphasis = selects_is_own (codes "23") ((refl, refl), ((refl, refl), tt))
+ends_is_own rich.Strong = selects_is_own (codes "22") ((refl, refl), ((refl, refl), tt))
+ends_is_own rich.Strikeout = selects_is_own (codes "29") ((refl, refl), ((refl, refl), tt))
+ends_is_own rich.Code = selects_is_own (codes "39") ((refl, refl), ((refl, refl), tt))
+ends_is_own (rich.Preformat continued) = tt
+ends_is_own (rich.Colour colour) = selects_is_own (codes "39") ((refl, refl), ((refl, refl), tt))
+ends_is_own (rich.BgColour colour) = selects_is_own (codes "49") ((refl, refl), ((refl, refl), tt))
+
+all_are_own : (f : RichAnnotation → List ℕ) → ((a : RichAnnotation) → Each IsOwn (f a)) → (xs : List RichAnnotation) → Each IsOwn (flat_map f xs)
+all_are_own f h [] = tt
+all_are_own f h (a ∷ xs) = each_both IsOwn (f a) (flat_map f xs) (h a) (all_are_own f h xs)
+
+elements_are_own : (es : List (Element (Vec RichAnnotation Global))) → Each IsOwn (flat_map element es)
+elements_are_own [] = tt
+elements_are_own (piece cs tag ∷ es) =
+    let before = flat_map begins tag.items in
+    let behind = flat_map ends tag.items in
+    each_both IsOwn ((before ++ printable cs) ++ behind) (flat_map element es)
+    (each_both IsOwn (before ++ printable cs) behind
+    (each_both IsOwn before (printable cs) (all_are_own begins begins_is_own tag.items) (each_more (printable cs) shown_is_own (printable_is_shown cs)))
+    (all_are_own ends ends_is_own tag.items))
+    (elements_are_own es)
+elements_are_own (marker_element name ∷ es) = elements_are_own es
+
+pub line_is_own : (es : List (Element (Vec RichAnnotation Global))) → Each IsOwn (line es)
+line_is_own es = each_both IsOwn (flat_map element es) (newline_character ∷ []) (elements_are_own es) (newline_is_own, tt)
