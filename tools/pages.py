@@ -29,15 +29,15 @@ ENDS = re.compile(r"(?<=[.!?])[)\"*]*\s+(?=[^a-z])")
 FILE = re.compile(r"[\w.*-]+(?:/[\w.*-]+)*\.(?:rt|antt|md|txt|py|script|out|edit|c|h|rs|toml)$|[\w.*-]+(?:/[\w.*-]+)+/?$")
 NAME = re.compile(r"[A-Za-z_]\w{2,}(?:::\w+)*(?:\(\))?$")
 # What stands for a name that a reader puts there.
-PLACEHOLDER = re.compile(r"(?:^|/)[A-Z][A-Z_]*(?:\.(?:edit|txt|script|out))?(?:/|$)")
+PLACEHOLDER = re.compile(r"(?:^|[/.])[A-Z][A-Z_]*(?:[/.]|$)")
 # The code that names come from, with what begins a comment there.
 SOURCES = {"crates/**/*.rt": "//", "crates/**/*.antt": "--", "tools/*": "#", "bench/*": "#", "include/*.h": "\0"}
 SOURCES |= {"bindings/**/*.rs": "//", "bindings/**/*.py": "#", "crates.txt": "#"}
 SOURCES |= {"examples/**/*.rs": "//", "examples/**/*.py": "#", "examples/**/*.c": "//"}
 # Folders of what is built.
 BUILT = {"out", "target", "build"}
-# Names of html2text and of std that have none here.
-FOREIGN = {"UnicodeWidthStr", "to_string", "extend_to", "Deref", "DerefMut", "non_exhaustive"}
+# Names of html2text and of std that have none here, and of files that a reader makes.
+FOREIGN = {"UnicodeWidthStr", "to_string", "extend_to", "Deref", "DerefMut", "non_exhaustive", "first.c"}
 
 
 @dataclass
@@ -139,7 +139,8 @@ def names_of_nothing(page):
     folder = str(Path(page.path).parent)
     for code in CODE.findall(page.prose()):
         if FILE.match(code):
-            if not PLACEHOLDER.search(code) and not is_file(code, folder):
+            is_here = PLACEHOLDER.search(code) or code in FOREIGN or code.split("/")[0] in BUILT
+            if not is_here and not is_file(code, folder):
                 yield f"no file: {code}"
         elif NAME.match(code):
             missing = [it for it in re.findall(r"\w+", code) if it not in known_names()]

@@ -33,8 +33,8 @@ fn by_pkg_config() -> Result<PathBuf, String> {
     match folder {
         Some(folder) => has_library(PathBuf::from(folder.trim())),
         None => Err(format!(
-            "the library {NAME} isn't found: set {FOLDER} to the folder of lib{NAME}.a or lib{NAME}.so, which \
-             tools/c_library makes, or PKG_CONFIG_PATH to the folder of {NAME}.pc"
+            "the library {NAME} isn't found: set {FOLDER} to the folder of lib{NAME}.a or lib{NAME}.so, which ./build \
+             makes, or PKG_CONFIG_PATH to that of {NAME}.pc, which ./install puts into PREFIX/lib/pkgconfig"
         )),
     }
 }

@@ -142,7 +142,7 @@ def load() -> ctypes.CDLL:
         library = ctypes.CDLL(name)
         _declare(library)
     except (OSError, AttributeError) as error:
-        where = f"set {FOLDER} to the folder of {FILE}, which tools/c_library makes"
+        where = f"set {FOLDER} to the folder of {FILE}, which ./build makes"
         raise OSError(f"the library of text_block_renderer isn't found: {error}; {where}") from error
     return library
 
