@@ -1,5 +1,5 @@
 -- What is answered to C.
-use Rattle.std.specs.Prelude.{◌≡◌, ℕ, ◌≤◌, ◌<◌, ◌++◌, Option, Some, Result, Ok, List, length, drop}
+use Rattle.std.specs.Prelude.{◌≡◌, ℕ, ◌≤◌, ◌<◌, ◌++◌, Result, List, length, drop}
 use Rattle.tbr_c_lines.specs.Status.{status_of}
 use Rattle.tbr_c_lines.specs.Line.{Line, size_of}
 use Rattle.tbr_c_lines.specs.Lines.{NoneLeft, TakesFirst}

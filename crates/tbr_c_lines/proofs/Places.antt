@@ -1,14 +1,14 @@
 -- Pieces end to end.
 use Rattle.std.proofs.Common.{◌≡◌, ℕ, ◌+◌, Bool, List, String, [], ◌∷◌, ◌++◌, map, length, encode_utf8_all, string_bytes, refl, sym, ap, ◌∙◌, append-nil, arith}
 use Rattle.std.specs.Global.{Vec}
-use Rattle.std.proofs.lemmas.List.{length-append, map_push}
+use Rattle.std.proofs.lemmas.List.{length-append}
 use Rattle.std.proofs.lemmas.List.Concat.{flat_map-append}
 use Rattle.std.proofs.lemmas.Str.{encodes-chars, encodes-append, IsUtf8-string_bytes}
 use Rattle.tbr_lines.specs.Elements.{Element, piece, marker_element, element_characters, characters, line_width}
 use Rattle.tbr_lines.specs.UnicodeColumns.{unicode_columns}
 use Rattle.tbr_lines.specs.View.{chars_of}
 use Rattle.tbr_decor.specs.declared.annotation.RichAnnotation.{RichAnnotation}
-use Rattle.tbr_c_lines.specs.Line.{Line, Piece, under, piece_at, pieces_at, line_of}
+use Rattle.tbr_c_lines.specs.Line.{Piece, under, piece_at, pieces_at, line_of}
 
 -- a text's bytes from its characters
 pub encodes_back : {Z : Type 0} (s : String Z) → encode_utf8_all (chars_of s) ≡ string_bytes s

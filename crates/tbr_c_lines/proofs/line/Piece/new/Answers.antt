@@ -1,4 +1,4 @@
-use Rattle.std.proofs.Common.{◌≡◌, ◌+◌, ◌∙◌, ap, sym, length}
+use Rattle.std.proofs.Common.{◌+◌, ◌∙◌, ap, sym, length}
 use Rattle.tbr_lines.specs.View.{element_of}
 use Rattle.tbr_c_lines.specs.Line.{piece_at}
 use Rattle.tbr_c_lines.proofs.Places.{text_piece}

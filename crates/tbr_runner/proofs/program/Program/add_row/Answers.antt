@@ -1,8 +1,7 @@
-use Rattle.std.proofs.Common.{◌≡◌, true, false, Some, Err, refl, sym, ap, ◌∙◌, subst}
+use Rattle.std.proofs.Common.{◌≡◌, true, false, Err, refl, sym, ap, ◌∙◌, subst}
 use Rattle.std.specs.List.{AllByRecursion as Each}
 use Rattle.tbr_decor.specs.Decoration.{decoration_of}
-use Rattle.tbr_rows.specs.Cells.{row_fits}
-use Rattle.text_block_renderer.specs.Rows.{TellsBlank, spots_of}
+use Rattle.text_block_renderer.specs.Rows.{TellsBlank}
 use Rattle.tbr_runner.specs.Progress.{progress_meant, IsLive, GoesOn}
 use Rattle.tbr_runner.specs.Meaning.{RowRefuses}
 use Rattle.tbr_runner.proofs.Levels.{with_top_live, top_live}
