@@ -23,7 +23,7 @@ const AFTER_HELP: &str =
   border [N]              a border
   cell N SPAN [left|right|centre] .. endcell    a cell of N columns and SPAN rows, which waits
   row, row collapse, vrow the cells that wait, side by side or one below another
-  sub N .. append P | Q   a block of N columns, whose lines stand behind P, and then behind Q
+  sub N .. append P | Q   a block of N columns, whose lines stand after P, and then after Q
   ws pre|prewrap .. endws white space that is kept
   # ..                    a comment
 
@@ -35,7 +35,7 @@ Exit status: 0 all was shown; 1 a text is too narrow, or memory is refused; 2 a 
 3 a file isn't read, or the output isn't written. Of several files it is the greatest.";
 
 /// The command line, but for its words.
-pub fn command(alloc: Global) -> Result<Command<'static>, Error> {
+pub fn command<'a>(alloc: Global) -> Result<Command<'a>, Error> {
     let files = Arg::new(alloc, "FILE")
         .help("Scripts, each shown by itself; standard input where none is given, or for `-`")
         .action(ArgAction::Append)
@@ -72,7 +72,7 @@ pub fn command(alloc: Global) -> Result<Command<'static>, Error> {
 }
 
 /// `--colour`.
-fn colour(alloc: Global) -> Arg<'static> {
+fn colour<'a>(alloc: Global) -> Arg<'a> {
     Arg::new(alloc, "colour")
         .long("colour")
         .value_name("WHEN")
@@ -82,7 +82,7 @@ fn colour(alloc: Global) -> Arg<'static> {
 }
 
 /// `--ambiguous`.
-fn ambiguous(alloc: Global) -> Arg<'static> {
+fn ambiguous<'a>(alloc: Global) -> Arg<'a> {
     Arg::new(alloc, "ambiguous")
         .long("ambiguous")
         .value_name("WIDTH")

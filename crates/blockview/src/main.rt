@@ -4,7 +4,7 @@
 use crate::arguments::{command, decorator_of, format_of, has_idle_colour};
 use crate::report::report;
 use clap::error::ErrorKind;
-use clap::{ArgMatches, Error};
+use clap::{ArgMatches, Command, Error};
 use std::io::{IsTerminal, Read, Write};
 use std::process::ExitCode;
 use std::{env, fs, io};
@@ -42,7 +42,7 @@ fn words_of(rt: &HostRuntime) -> io::Result<Vec<String>> {
 
 /// What the words ask for.
 fn matches_of<'a>(rt: &HostRuntime, words: &'a [String]) -> Result<ArgMatches<'a>, Error> {
-    let mut command = command(rt.alloc())?;
+    let mut command: Command<'a> = command(rt.alloc())?;
     let matches = command.try_get_matches_from_mut(words)?;
     if has_idle_colour(&matches) {
         let message = "the argument '--colour' says nothing without '--format ansi'";
@@ -89,7 +89,7 @@ fn begin(rt: &HostRuntime, format: Format) -> io::Result<()> {
     }
 }
 
-/// Writes what stands behind all files.
+/// Writes what stands after all files.
 fn end(rt: &HostRuntime, format: Format) -> io::Result<()> {
     match format {
         Format::Html => write(rt, html::END),

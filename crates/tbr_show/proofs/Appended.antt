@@ -6,7 +6,7 @@ use Rattle.std.proofs.lemmas.List.{take_more, map_push}
 use Rattle.std.proofs.lemmas.List.Concat.{flat_map-append}
 use Rattle.std.proofs.lemmas.List.Elements.{filter-append}
 use Rattle.tbr_show.specs.Written.{printable}
-use Rattle.tbr_show.specs.Html.{escaped, between, is_wide_behind, shown_from, shown}
+use Rattle.tbr_show.specs.Html.{escaped, between, is_wide_after, shown_from, shown}
 
 -- one more part behind those that were appended already
 pub one_behind : {X : Type 0} (start so_far more text new : List X) → text ≡ start ++ so_far → new ≡ text ++ more → new ≡ start ++ (so_far ++ more)
@@ -36,17 +36,17 @@ module _ (columns : ℕ → Option ℕ) where
   -- characters without what closes behind them
   abbrev pub shown_open : Bool → List ℕ → List ℕ
   shown_open is_wide [] = []
-  shown_open is_wide (c ∷ cs) = between is_wide (columns c) ++ (escaped c ++ shown_open (is_wide_behind is_wide (columns c)) cs)
+  shown_open is_wide (c ∷ cs) = between is_wide (columns c) ++ (escaped c ++ shown_open (is_wide_after is_wide (columns c)) cs)
 
   -- whether an element is open behind them
   abbrev pub wide_behind : Bool → List ℕ → Bool
   wide_behind is_wide [] = is_wide
-  wide_behind is_wide (c ∷ cs) = wide_behind (is_wide_behind is_wide (columns c)) cs
+  wide_behind is_wide (c ∷ cs) = wide_behind (is_wide_after is_wide (columns c)) cs
 
   pub shown_closed : (is_wide : Bool) (cs : List ℕ) → shown_from columns is_wide cs ≡ shown_open is_wide cs ++ between (wide_behind is_wide cs) (Some 1)
   shown_closed is_wide [] = refl
   shown_closed is_wide (c ∷ cs) =
-      let open_there = is_wide_behind is_wide (columns c) in
+      let open_there = is_wide_after is_wide (columns c) in
       ap (λ ds. between is_wide (columns c) ++ (escaped c ++ ds)) (shown_closed open_there cs)
       ∙ ap (λ ds. between is_wide (columns c) ++ ds) (sym (append_assoc (escaped c) (shown_open open_there cs) (between (wide_behind open_there cs) (Some 1))))
       ∙ sym (append_assoc (between is_wide (columns c)) (escaped c ++ shown_open open_there cs) (between (wide_behind open_there cs) (Some 1)))
@@ -54,15 +54,15 @@ module _ (columns : ℕ → Option ℕ) where
   pub shown_push : (is_wide : Bool) (cs : List ℕ) (c : ℕ) → shown_open is_wide (cs ++ c ∷ []) ≡ shown_open is_wide cs ++ (between (wide_behind is_wide cs) (columns c) ++ escaped c)
   shown_push is_wide [] c = ap (λ ds. between is_wide (columns c) ++ ds) (append-nil (escaped c))
   shown_push is_wide (d ∷ cs) c =
-      let open_there = is_wide_behind is_wide (columns d) in
+      let open_there = is_wide_after is_wide (columns d) in
       let more = between (wide_behind open_there cs) (columns c) ++ escaped c in
       ap (λ ds. between is_wide (columns d) ++ (escaped d ++ ds)) (shown_push open_there cs c)
       ∙ ap (λ ds. between is_wide (columns d) ++ ds) (sym (append_assoc (escaped d) (shown_open open_there cs) more))
       ∙ sym (append_assoc (between is_wide (columns d)) (escaped d ++ shown_open open_there cs) more)
 
-  pub wide_push : (is_wide : Bool) (cs : List ℕ) (c : ℕ) → wide_behind is_wide (cs ++ c ∷ []) ≡ is_wide_behind (wide_behind is_wide cs) (columns c)
+  pub wide_push : (is_wide : Bool) (cs : List ℕ) (c : ℕ) → wide_behind is_wide (cs ++ c ∷ []) ≡ is_wide_after (wide_behind is_wide cs) (columns c)
   wide_push is_wide [] c = refl
-  wide_push is_wide (d ∷ cs) c = wide_push (is_wide_behind is_wide (columns d)) cs c
+  wide_push is_wide (d ∷ cs) c = wide_push (is_wide_after is_wide (columns d)) cs c
 
 -- ---- lists behind a call that may refuse
 
@@ -85,9 +85,9 @@ module _ (columns : ℕ → Option ℕ) (start cs : List ℕ) (text : List ℕ) 
         ∙ ap (λ ds. start ++ (shown_open columns false (printable cs) ++ (ds ++ escaped c))) (m ∙ ap (λ b. between b width) wide ∙ ap (between (wide_behind columns false (printable cs))) takes)
         ∙ ap (λ ds. start ++ ds) (sym (shown_push columns false (printable cs) c) ∙ ap (shown_open columns false) (sym (printable_shown cs c shows)))
 
-    pub wide_more : (behind : Bool) → behind ≡ is_wide_behind is_wide width → behind ≡ wide_behind columns false (printable (cs ++ c ∷ []))
+    pub wide_more : (behind : Bool) → behind ≡ is_wide_after is_wide width → behind ≡ wide_behind columns false (printable (cs ++ c ∷ []))
     wide_more behind e =
-        e ∙ ap (λ b. is_wide_behind b width) wide ∙ ap (is_wide_behind (wide_behind columns false (printable cs))) takes
+        e ∙ ap (λ b. is_wide_after b width) wide ∙ ap (is_wide_after (wide_behind columns false (printable cs))) takes
         ∙ sym (wide_push columns false (printable cs) c) ∙ ap (wide_behind columns false) (sym (printable_shown cs c shows))
 
   -- and the end

@@ -70,17 +70,17 @@ between false (Some n) = if n == 2 then codes "<span class=\"wide\">" else []
 between true (Some n) =
     if n == 2 then codes "</span><span class=\"wide\">" else if n == 1 then codes "</span>" else []
 
--- whether that element is open behind it
-abbrev pub is_wide_behind : Bool → Option ℕ → Bool
-is_wide_behind is_wide None = is_wide
-is_wide_behind is_wide (Some n) = if n == 2 then true else if n == 1 then false else is_wide
+-- whether that element is open after it
+abbrev pub is_wide_after : Bool → Option ℕ → Bool
+is_wide_after is_wide None = is_wide
+is_wide_after is_wide (Some n) = if n == 2 then true else if n == 1 then false else is_wide
 
 module _ (columns : ℕ → Option ℕ) where
-  -- characters, from where such an element is open or isn't; it is closed behind the last
+  -- characters, from where such an element is open or isn't; it is closed after the last
   abbrev pub shown_from : Bool → List ℕ → List ℕ
   shown_from is_wide [] = between is_wide (Some 1)
   shown_from is_wide (c ∷ cs) =
-      between is_wide (columns c) ++ (escaped c ++ shown_from (is_wide_behind is_wide (columns c)) cs)
+      between is_wide (columns c) ++ (escaped c ++ shown_from (is_wide_after is_wide (columns c)) cs)
 
   abbrev pub shown : List ℕ → List ℕ
   shown = shown_from false

@@ -3,7 +3,7 @@ use Rattle.std.specs.Prelude.{ℕ, ◌==◌, if◌then◌else◌, List, [], ◌�
 use Rattle.std.specs.Int.{is_in_range}
 use Rattle.tbr_show.specs.Ansi.{escape_character}
 
--- Where it is in a text: among characters, behind an escape, in a control sequence, in a command, or behind an escape in
+-- Where it is in a text: among characters, after an escape, in a control sequence, in a command, or after an escape in
 -- a command.
 pub data Place : Type 0 where
   among : Place

@@ -15,14 +15,14 @@ use tbr_lines::{CharWidth, OutOfMemory, TaggedLine, TaggedLineElement};
 pub const BEGINNING: &str =
     "<!DOCTYPE html>\n<meta charset=\"utf-8\">\n<style>\npre { font-family: monospace }\npre code { font: inherit }\npre .wide { display: inline-block; width: 2ch }\n</style>\n<pre>\n";
 
-/// What stands behind them.
+/// What stands after them.
 pub const END: &str = "</pre>\n";
 
 /// Appends a line with its newline: each piece without its control characters, in the elements of its annotations. A
 /// marker is the place that a link to its name leads to.
 ///
 /// A character of two columns stands in an element of the class `wide`, which is as wide as two of one column, with the
-/// characters of no columns behind it. A link to a target with another scheme than `http`, `https`, `mailto` and `ftp`
+/// characters of no columns after it. A link to a target with another scheme than `http`, `https`, `mailto` and `ftp`
 /// leads nowhere.
 ///
 /// It refuses only for want of memory, and some may then be missing.
@@ -178,7 +178,7 @@ fn push_character(text: &mut String, c: char) -> Result<(), OutOfMemory>
     }
 }
 
-/// The same, each character of two columns in an element with those of no columns behind it.
+/// The same, each character of two columns in an element with those of no columns after it.
 fn push_shown<W: CharWidth>(text: &mut String, more: &str) -> Result<(), OutOfMemory>
     ensures { OnOk result
         (chars_of text.new ≡ chars_of text.old ++ model.shown W.columns (printable (chars more.now))) }
@@ -189,7 +189,7 @@ fn push_shown<W: CharWidth>(text: &mut String, more: &str) -> Result<(), OutOfMe
             let width = W::width(c);
             push_ascii(text, between(is_wide, width))?;
             push_character(text, c)?;
-            is_wide = is_wide_behind(is_wide, width);
+            is_wide = is_wide_after(is_wide, width);
         }
     }
     push_ascii(text, between(is_wide, Some(1)))
@@ -208,9 +208,9 @@ fn between(is_wide: bool, width: Option<usize>) -> &'static str
     }
 }
 
-/// Whether an element is open behind a character of so many columns.
-fn is_wide_behind(is_wide: bool, width: Option<usize>) -> bool
-    ensures { result ≡ model.is_wide_behind is_wide width }
+/// Whether an element is open after a character of so many columns.
+fn is_wide_after(is_wide: bool, width: Option<usize>) -> bool
+    ensures { result ≡ model.is_wide_after is_wide width }
 {
     match width {
         Some(2) => true,

@@ -16,7 +16,7 @@ pub fn a_terminal_shows_the_characters()
         seen among (line es) ≡ printable (characters es) ++ newline_character ∷ [] }
 {}
 
-/// A line as it is written for a terminal has no control characters but the escapes of its own, and the newline behind
+/// A line as it is written for a terminal has no control characters but the escapes of its own, and the newline after
 /// it.
 pub fn no_other_control_character_is_written()
     ensures { (es : List (Element (Vec RichAnnotation Heap))) → Each (λ c. is_control c ≡ true → c ≢ newline_character →

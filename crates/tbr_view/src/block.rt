@@ -5,16 +5,16 @@ use tbr_lines::{CharWidth, OutOfMemory, spaces, text_width};
 use tbr_runner::DecoratorPrefix;
 use tbr_script::TextPair;
 
-/// A block that stands behind a prefix of the decorator.
+/// A block that stands after a prefix of the decorator.
 #[derive(Clone, Copy, Debug, PartialEq, Eq)]
 pub enum Block {
-    /// A quotation: each line behind the prefix, and empty lines round it.
+    /// A quotation: each line after the prefix, and empty lines round it.
     Quote,
-    /// An item of a list: the first line behind the prefix, and the others behind as many spaces.
+    /// An item of a list: the first line after the prefix, and the others after as many spaces.
     Item,
     /// The item of this number.
     Ordered(i64),
-    /// A heading of this level: each line behind the prefix, and empty lines round it.
+    /// A heading of this level: each line after the prefix, and empty lines round it.
     Heading(usize),
 }
 
@@ -29,7 +29,7 @@ impl Block {
         }
     }
 
-    /// Whether it is a block of its own, with an empty line before it and behind it.
+    /// Whether it is a block of its own, with an empty line before it and after it.
     pub fn stands_apart(self) -> bool {
         matches!(self, Block::Quote | Block::Heading(_))
     }

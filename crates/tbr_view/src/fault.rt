@@ -86,7 +86,7 @@ fn fault_of_spaces(alloc: Global, line: &str) -> Result<Option<Fault>, AllocErro
     let trimmed = line.trim_end_matches(' ');
     if trimmed.len() < line.len() && form_of(trimmed).is_some() {
         let fault = Fault {
-            message: String::from_str(alloc, "a space stands behind the command")?,
+            message: String::from_str(alloc, "a space stands after the command")?,
             help: format!(in alloc; "write `{trimmed}`")?,
         };
         return Ok(Some(fault));
@@ -122,7 +122,7 @@ fn unknown_word(alloc: Global, word: &str) -> Result<Fault, AllocError> {
     Ok(Fault { message, help })
 }
 
-/// Whether what stands behind a word is a text with escapes.
+/// Whether what stands after a word is a text with escapes.
 fn takes_text(word: &str) -> bool {
     matches!(word, "text" | "frag" | "link" | "image" | "append")
 }

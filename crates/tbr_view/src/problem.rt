@@ -6,7 +6,7 @@ use tbr_lines::{Error, OutOfMemory};
 /// What is wrong with a script, or what was lost of it.
 #[derive(Debug, Drop)]
 pub struct Problem {
-    /// The line at fault, counted from 1. Where the script ends too early it is the one behind the last.
+    /// The line at fault, counted from 1. Where the script ends too early it is the one after the last.
     pub line: usize,
     /// What is wrong with it.
     pub message: String,

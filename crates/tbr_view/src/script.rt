@@ -96,7 +96,7 @@ fn with_width(opening: Opening, width: Option<usize>) -> Opening
     }
 }
 
-/// The first command of a script, the number of the line behind it, and what follows it.
+/// The first command of a script, the number of the line after it, and what follows it.
 fn first_command(alloc: Global, script: &[u8]) -> Result<(Opening, usize, &[u8]), Refusal>
     ensures width { IfOk result (λ r. 0 < r.0.width) }
     ensures wrap_width { IfOk result (λ r. r.0.options.wrap_width ≢ Some 0) }
@@ -104,20 +104,20 @@ fn first_command(alloc: Global, script: &[u8]) -> Result<(Opening, usize, &[u8])
     let mut rest = script;
     let mut number = 1usize;
     while !rest.is_empty() {
-        let (line, behind) = split_line(rest);
+        let (line, after) = split_line(rest);
         if !line.is_empty() && !line.starts_with(b"#") {
             let Some(opening) = Opening::parse(line) else {
                 return Err(advice::not_an_opening(alloc, number, line));
             };
-            return Ok((opening, number.saturating_add(1), behind));
+            return Ok((opening, number.saturating_add(1), after));
         }
-        rest = behind;
+        rest = after;
         number = number.saturating_add(1);
     }
     Err(advice::nothing_there(alloc, number))
 }
 
-/// The lines of a script behind its first command, and what was lost of them.
+/// The lines of a script after its first command, and what was lost of them.
 fn run<D: TextDecorator, W: CharWidth>(
     alloc: Global,
     opening: Opening,
@@ -137,9 +137,9 @@ fn run<D: TextDecorator, W: CharWidth>(
     let mut rest = script;
     let mut number = number;
     while !rest.is_empty() {
-        let (line, behind) = split_line(rest);
+        let (line, after) = split_line(rest);
         session.run_line(number, line)?;
-        rest = behind;
+        rest = after;
         number = number.saturating_add(1);
     }
     session.finish(number)

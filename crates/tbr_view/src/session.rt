@@ -33,7 +33,7 @@ pub struct Session<D: TextDecorator, W: CharWidth> {
 }
 
 impl<D: TextDecorator, W: CharWidth> Session<D, W> {
-    /// A script behind its first command.
+    /// A script after its first command.
     pub fn new(
         alloc: Global,
         width: usize,
@@ -159,7 +159,7 @@ impl<D: TextDecorator, W: CharWidth> Session<D, W> {
         }
     }
 
-    /// Appends a block behind its prefixes to the level outside.
+    /// Appends a block after its prefixes to the level outside.
     fn close_block(
         &mut self,
         number: usize,
@@ -275,7 +275,7 @@ impl<D: TextDecorator, W: CharWidth> Session<D, W> {
         Ok(())
     }
 
-    /// What was lost of the script, behind its last line, whose number is one less than this one. It refuses where a
+    /// What was lost of the script, after its last line, whose number is one less than this one. It refuses where a
     /// level is open or cells wait.
     fn end(&mut self, number: usize) -> Result<Vec<Problem>, Refusal>
         requires { GoesOn self.old.program }
@@ -291,7 +291,7 @@ impl<D: TextDecorator, W: CharWidth> Session<D, W> {
         Ok(mem::replace(&mut self.lost, Vec::new(self.alloc)))
     }
 
-    /// The lines of the script, and what was lost of it. The number is that of the line behind the last.
+    /// The lines of the script, and what was lost of it. The number is that of the line after the last.
     pub fn finish(
         mut self,
         number: usize,

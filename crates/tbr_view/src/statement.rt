@@ -8,7 +8,7 @@ use std::alloc::{AllocError, Global};
 use tbr_commands::Command;
 use tbr_script::{parse_number, parse_size};
 
-/// What a line behind the first command asks for.
+/// What a line after the first command asks for.
 #[derive(Debug, Drop)]
 pub enum Statement {
     /// What it asks `blockrender` for.

@@ -16,7 +16,7 @@ loop-c-preserved-then-not-is_control g c =
       text = shown_more columns start c.loop-c.yielded (chars_of c.loop-c.text) c.loop-c.is_wide inv.text inv.wide c.in-Some.c c.width-width.result shows c.width-width.ensures
           c.between.result.now (chars_of c.push_ascii.new.text) (chars_of c.push_character.new.text) c.between.ensures c.in_ok-push_ascii.ensures c.in_ok-push_character.ensures;
       wide = wide_more columns start c.loop-c.yielded (chars_of c.loop-c.text) c.loop-c.is_wide inv.text inv.wide c.in-Some.c c.width-width.result shows c.width-width.ensures
-          c.is_wide_behind-is_wide.result c.is_wide_behind-is_wide.ensures;
+          c.is_wide_after-is_wide.result c.is_wide_after-is_wide.ensures;
     }
 
 pub returns : goal.returns
