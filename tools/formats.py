@@ -47,7 +47,7 @@ def require(holds, what):
 def lines_of_json(text):
     """The objects of the lines."""
     require(not CONTROL.search(text), "a control character in JSON")
-    lines = [json.loads(line) for line in text.splitlines(keepends=False)] if "\u2028" not in text and "\u0085" not in text and "\u2029" not in text else [json.loads(line) for line in text.split("\n")[:-1]]
+    lines = [json.loads(line) for line in text.split("\n")[:-1]]
     for line in lines:
         pieces = [piece for piece in line["pieces"] if "text" in piece]
         require(line["columns"] == sum(piece["columns"] for piece in pieces), "columns that aren't the sum")
@@ -69,13 +69,12 @@ def text_of_json(lines):
 
 def read_ansi(text):
     """The characters that a terminal shows, and the links, each with its characters."""
-    shown, links, target, begun = [], [], "", []
+    shown, links, target = [], [], ""
     at = 0
     while at < len(text):
         if found := SELECTS.match(text, at):
             code = found[1].split(";")[0]
             require(code in BEGINS | ENDS, f"an unknown selection {found[1]}")
-            begun.append(code) if code in BEGINS else None
         elif found := LINKS.match(text, at):
             target = found[1]
         else:
@@ -144,7 +143,7 @@ class Page(HTMLParser):
 
 
 def read_html(text):
-    """The characters that a browser shows, and the targets of links."""
+    """The characters that a browser shows. Its links lead to no script."""
     require(not CONTROL.search(text), "a control character in HTML")
     page = Page()
     page.feed(text)
@@ -155,4 +154,4 @@ def read_html(text):
     require(shown.startswith("\n"), "no newline at the front")
     for href in page.hrefs:
         require(":" not in href or href.startswith(FOLLOWED), f"a link to {href}")
-    return shown[1:], page.hrefs
+    return shown[1:]
