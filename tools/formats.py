@@ -27,8 +27,8 @@ class Wrong(Exception):
 
 
 def clean(text):
-    """A text without control characters, but for newlines."""
-    return CONTROL.sub("", text)
+    """A text without control characters."""
+    return CONTROL.sub("", text).replace("\n", "")
 
 
 def encoded(target):
