@@ -55,6 +55,7 @@ def compiled_by_ci():
     """The archive of the crate, whose libraries `rt ci` has just proved and built here, but no archive."""
     rtlib, crate = kit.library(), kit.crates()[CRATE]
     made = Path(crate.folder, "out", f"lib{CRATE}.a")
+    made.parent.mkdir(exist_ok=True)
     words = [*crate.words(["--jobs", "1"], keeps=False), "--toolchain", f"{rtlib.KIT}/toolchain", "-o", str(made)]
     run([rtlib.RATTLE, "build", *words], cwd=crate.folder)
     return made
