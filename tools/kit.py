@@ -43,6 +43,14 @@ def needed_by(*names):
     return [it for it in crates().values() if it.name in needed]
 
 
+def beside_others(*words):
+    """Runs a command of `rt` that keeps others out of its own crate alone. Nobody may change the crates below meanwhile."""
+    own = rt().rtlib
+    hold = own.lock
+    own.lock = lambda crates: hold(crates[-1:])
+    return rt().main(list(words))
+
+
 def side_by_side(memory):
     """How many commands run at a time that take so many bytes each."""
     with open("/proc/meminfo", encoding="ascii") as file:
