@@ -1,5 +1,5 @@
 -- The hard lines of a run under other annotations, and what is shown of them.
-use Rattle.std.proofs.Common.{◌≡◌, ◌≢◌, ℕ, ◌==◌, inl, inr, Bool, true, false, if◌then◌else◌, Option, List, [], ◌∷◌, map, filter, take, drop, refl, ap, subst, ◌∙◌, arith}
+use Rattle.std.proofs.Common.{◌≡◌, ◌≢◌, ℕ, ◌==◌, inl, inr, Bool, true, false, Option, List, [], ◌∷◌, map, filter, take, drop, refl, ap, subst, ◌∙◌, arith}
 use Rattle.std.specs.List.{AllZip}
 use Rattle.std.proofs.lemmas.List.{map-append, length-map, take-map, drop-map}
 use Rattle.tbr_model.specs.Codes.{newline_character}
@@ -8,6 +8,7 @@ use Rattle.tbr_model.specs.Layout.{joined}
 use Rattle.tbr_model.specs.Hard.{onto_first, hard_lines, Parted, glyphs_of, letters_of, entry_letters, is_visible, is_visible_entry, visible_glyphs, visible_entries, IsShown, ShowsVisible, IsPrintableLine, IsTabbedLine, IsSpaces, blank_lines, StandUnder, HasMain, HasContinuation, ShowsHardLine, ShowsPre, ShowsPreWrap, ShowsTabs}
 use Rattle.tbr_model.specs.Mapped.{map_item, map_items, map_entry, map_run, map_lines}
 use Rattle.tbr_model.proofs.lists.Each.{filter-map, zip-map}
+use Rattle.tbr_model.proofs.rule.DoneLines.{if_same}
 use Rattle.tbr_model.proofs.maps.Layouts.{joined-map}
 
 -- ---- hard lines
@@ -19,13 +20,10 @@ onto_first-map g x (xs ∷ xss) = refl
 pub hard_lines-map : {A B : Type 0} (f : A → B) (run : List (Entry A)) → hard_lines (map_run f run) ≡ map (map_run f) (hard_lines run)
 hard_lines-map f [] = refl
 hard_lines-map f (marker_entry name ∷ es) = ap (onto_first (marker_entry name)) (hard_lines-map f es) ∙ onto_first-map (map_entry f) (marker_entry name) (hard_lines es)
-hard_lines-map {A} {B} f (character c a b m ∷ es) = go (hard_lines-map f es) (c == newline_character)
-  where
-    go : hard_lines (map_run f es) ≡ map (map_run f) (hard_lines es) → (k : Bool) →
-        (let hs : List (List (Entry B)) = if k then [] ∷ hard_lines (map_run f es) else onto_first (character c (f a) (f b) m) (hard_lines (map_run f es)) in hs)
-        ≡ map (map_run f) (if k then [] ∷ hard_lines es else onto_first (character c a b m) (hard_lines es))
-    go rest true = ap (λ hs. [] ∷ hs) rest
-    go rest false = ap (onto_first (character c (f a) (f b) m)) rest ∙ onto_first-map (map_entry f) (character c a b m) (hard_lines es)
+hard_lines-map f (character c a b m ∷ es) =
+    let rest = hard_lines-map f es in
+    if_same (map (map_run f)) (c == newline_character) _ _ _ _ (ap (λ hs. [] ∷ hs) rest)
+    (ap (onto_first (character c (f a) (f b) m)) rest ∙ onto_first-map (map_entry f) (character c a b m) (hard_lines es))
 
 pub parted-map : {X Y Z W : Type 0} (R : Bool → X → List Y → Type 0) (S : Bool → Z → List W → Type 0) (g : X → Z) (k : Y → W) →
     ((more : Bool) (x : X) (ys : List Y) → R more x ys → S more (g x) (map k ys)) → (xs : List X) (ys : List Y) → Parted R xs ys → Parted S (map g xs) (map k ys)
