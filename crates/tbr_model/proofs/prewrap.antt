@@ -1,8 +1,7 @@
 -- Runs of `PreWrap` mode.
 pub mod Entry
-pub mod FittingLine
 pub mod Stretches
-pub mod LaidWord
+pub mod WordUnderWay
 pub mod WrappedText
 pub mod PutText
 pub mod WrappedLines

@@ -11,5 +11,5 @@ pub mod NarrowWords
 pub mod LaidText
 pub mod Printable
 pub mod PreservingModes
-pub mod AlwaysLaid
+pub mod Walk
 pub mod WiderLines

@@ -1,19 +1,19 @@
 -- Where a visible character that takes columns came, a line has ended, or the open line or the word takes columns.
 use Rattle.std.proofs.Common.{◌≡◌, ℕ, zero, suc, ◌<◌, ◌⊎◌, inl, inr, ◌||◌, nat_lt, unwrap_or, if◌then◌else◌, append_assoc, Bool, true, false, not, Option, List, [], ◌∷◌, ◌++◌, length, refl, ap, sym, ◌∙◌, arith}
-use Rattle.std.specs.List.{list_any, AllZip, AllByRecursion as Each}
+use Rattle.std.specs.List.{list_any, AllZip}
 use Rattle.std.specs.Char.{is_whitespace}
 use Rattle.std.proofs.lemmas.Bool.{and_left, and_right, not_from_true, or_cases, or_from, le-ltb}
 use Rattle.std.proofs.lemmas.List.Folds.{list_any-append}
-use Rattle.tbr_model.specs.Run.{Entry, character, marker_entry, Item, glyph, marker, item_width, items_width, is_kept}
+use Rattle.tbr_model.specs.Run.{Entry, Item, glyph, marker, item_width, items_width, is_kept}
 use Rattle.tbr_model.specs.Layout.{joined}
 use Rattle.tbr_model.specs.Laid.{Laid, extended}
-use Rattle.tbr_model.specs.Rule.{Event, run_of, Progress, at_start, without_trailing, progress}
+use Rattle.tbr_model.specs.Rule.{Event, run_of, Progress, without_trailing, progress}
 use Rattle.tbr_model.specs.Hard.{is_visible, letters_of}
 use Rattle.tbr_model.specs.Shown.{shows_columns, run_shows_columns, HasColumns}
 use Rattle.tbr_model.proofs.words.Items.{letters_of-append}
-use Rattle.tbr_model.proofs.rule.Content.{LooksAtKept, StandsFor, AnyMode, any_mode, fold_content}
+use Rattle.tbr_model.proofs.rule.Content.{LooksAtKept, AnyEntry, AnyMode, StandsFor, by_entry, found_under_way}
 use Rattle.tbr_model.proofs.rule.LaidText.{text}
-use Rattle.tbr_model.proofs.rule.AlwaysLaid.{KeptByLaying, Brings, run_stands}
+use Rattle.tbr_model.proofs.rule.Walk.{KeptByRule, any_entries, run_walked}
 use Rattle.tbr_model.proofs.lines.Passing.{passing, passing-append, looks_at_passing}
 
 positive : (n : ℕ) → (n ≡ 0) ⊎ (0 < n)
@@ -25,9 +25,9 @@ module _ {A : Type 0} (columns : ℕ → Option ℕ) where
   abbrev shown : List (Item A) → List (Item A)
   shown is = passing (shows_columns columns) is
 
-  looks_at_shown : LooksAtKept {A = A} columns AnyMode shown
+  looks_at_shown : LooksAtKept {A = A} columns AnyEntry AnyMode shown
   looks_at_shown =
-      looks_at_passing columns AnyMode (shows_columns columns)
+      looks_at_passing columns AnyEntry AnyMode (shows_columns columns) (λ c a b m h. tt)
       (λ c h. and_left (is_visible columns c) (nat_lt 0 (unwrap_or (columns c) 0)) (and_left (is_kept columns c) (not (is_whitespace c)) h))
       (λ m c h. and_left (is_visible columns c) (nat_lt 0 (unwrap_or (columns c) 0)) (and_right (is_kept columns c) (not (is_whitespace c)) (not_from_true (is_whitespace c) h)))
 
@@ -53,19 +53,21 @@ module _ {A : Type 0} (columns : ℕ → Option ℕ) where
   extended_so : (l : Laid A) (is : List (Item A)) (n : ℕ) → (n ≡ 0 → some_shown is ≡ false) → OpenSo l → OpenSo (extended l is n)
   extended_so l is n h r e = some_shown-append l.line is ∙ or_from (some_shown l.line) (some_shown is) (r (omega (arith, e))) (h (omega (arith, e)))
 
-  open_so : KeptByLaying columns (λ i. Unit {0}) (λ a. Unit {0}) OpenSo
-  open_so = record {
-    nothing = λ e. refl;
-    item = λ l i _ r. extended_so l (i ∷ []) (item_width columns i) (λ e. none_shown (i ∷ []) (omega (arith, e))) r;
-    space = λ l a _ r. extended_so l (glyph 32 a ∷ []) 1 (λ e. absurd (omega (arith, e))) r;
-    ended = λ l r e. refl;
-    trims = λ l r e. none_shown (without_trailing l.line) e;
+  open_so : (width : ℕ) → KeptByRule {A = A} columns width (λ e. Unit {0}) (λ a. Unit {0}) (λ m. Unit {0}) ⊥ (λ es l w. OpenSo l)
+  open_so width = record {
+    tags = λ c a b m h. (tt, tt, tt);
+    some = λ none. absurd none;
+    bare = λ none es l w r h. absurd none;
+    item = λ es l i w _ r. extended_so l (i ∷ []) (item_width columns i) (λ e. none_shown (i ∷ []) (omega (arith, e))) r;
+    wide = λ es l i w _ _ r e. refl;
+    space = λ es l w a _ h r. extended_so l (glyph 32 a ∷ []) 1 (λ e. absurd (omega (arith, e))) r;
+    ended = λ es l w r e. refl;
+    trims = λ _ es l w r e. none_shown (without_trailing l.line) e;
+    white = λ _ es l i w _ r. r;
+    joins = λ es l w c a b m x h either may r. r;
+    marks = λ es l w name h r. r;
+    lost = λ es l w c a b m _ r. r;
   }
-
-  all_so : (run : List (Entry A)) → Each (Brings columns (λ i. Unit {0}) (λ a. Unit {0})) run
-  all_so [] = tt
-  all_so (character c a b mode ∷ run) = ((tt, tt, λ x _ may. tt), all_so run)
-  all_so (marker_entry name ∷ run) = (tt, all_so run)
 
   -- ---- a run
 
@@ -79,20 +81,15 @@ module _ {A : Type 0} (columns : ℕ → Option ℕ) where
       go true e rest = rw e refl
       go false e rest = rest
 
-  some_alike : (is : List (Item A)) (es : List (Entry A)) → AllZip StandsFor is es → some_shown is ≡ run_shows_columns columns es
-  some_alike [] [] h = refl
-  some_alike [] (e ∷ es) h = elim h [ ]
-  some_alike (i ∷ is) [] h = elim h [ ]
-  some_alike (glyph c x ∷ is) (character d a b m ∷ es) h = rw (h.0.0) (ap (λ (b : Bool). shows_columns columns d || b) (some_alike is es h.1))
-  some_alike (glyph c x ∷ is) (marker_entry name ∷ es) h = elim h.0 [ ]
-  some_alike (marker name ∷ is) (character d a b m ∷ es) h = elim h.0 [ ]
-  some_alike (marker name ∷ is) (marker_entry other ∷ es) h = some_alike is es h.1
+  some_alike : (is : List (Item A)) (es : List (Entry A)) → AllZip (StandsFor AnyMode) is es → some_shown is ≡ run_shows_columns columns es
+  some_alike =
+      by_entry AnyMode (λ is es. some_shown is ≡ run_shows_columns columns es) refl (λ c x a b m is es either rest. ap (λ (b : Bool). shows_columns columns c || b) rest) (λ name is es rest. rest)
 
   -- lines, the open line and the word show some columns where the run does
   shown_where : (width : ℕ) (es : List (Event A)) → let p = progress columns width es in some_shown (joined p.laid.done ++ (p.laid.line ++ p.word)) ≡ run_shows_columns columns (run_of es)
   shown_where width es =
       let p : Progress A = progress columns width es in
-      let g = fold_content columns AnyMode shown looks_at_shown width es at_start (any_mode (run_of es)) tt in
+      let g = found_under_way looks_at_shown width es (any_entries (run_of es)) in
       let all : shown (joined p.laid.done ++ (p.laid.line ++ p.word)) ≡ shown g.items =
       ap shown (sym (append_assoc (joined p.laid.done) p.laid.line p.word)) ∙ passing-append (shows_columns columns) (text p.laid) p.word ∙ g.are in
       sym (some_passing (joined p.laid.done ++ (p.laid.line ++ p.word))) ∙ ap some_shown all ∙ some_passing g.items ∙ some_alike g.items (run_of es) g.stand
@@ -112,7 +109,7 @@ module _ {A : Type 0} (columns : ℕ → Option ℕ) where
 
       on_line : some_shown p.laid.line ≡ true → 0 < p.laid.width
       on_line some = elim (positive p.laid.width) [
-        | inl none ↦ absurd (let hides : some_shown p.laid.line ≡ false = (run_stands columns (λ i. Unit {0}) (λ a. Unit {0}) OpenSo open_so width es (all_so (run_of es))).laid none in cc)
+        | inl none ↦ absurd (let hides : some_shown p.laid.line ≡ false = (run_walked (open_so width) es (λ e. refl) (any_entries (run_of es))).laid none in cc)
         | inr more ↦ more
       ]
 

@@ -1,6 +1,7 @@
 -- What stands on the lines of a run comes from it.
-use Rattle.std.proofs.Common.{◌≡◌, ℕ, inl, inr, ◌==◌, Bool, true, false, not, Option, List, [], ◌∷◌, refl}
-use Rattle.std.specs.List.{Contains, AllByRecursion as Each}
+use Rattle.std.proofs.Common.{◌≡◌, ℕ, inl, inr, ◌==◌, Bool, true, false, not, Option, List, refl}
+use Rattle.std.specs.List.{Contains}
+use Rattle.std.specs.Prelude.{slice_index_or}
 use Rattle.std.specs.Char.{is_whitespace}
 use Rattle.std.proofs.lemmas.Bool.{and_parts}
 use Rattle.std.proofs.lemmas.List.Elements.{All-contains_itself, recursion_from_All}
@@ -8,8 +9,8 @@ use Rattle.tbr_model.specs.declared.white_space.WhiteSpace.{WhiteSpace}
 use Rattle.tbr_model.specs.Run.{Entry, character, marker_entry, glyph, is_kept}
 use Rattle.tbr_model.specs.Rule.{Event, run_of, lines_of}
 use Rattle.tbr_model.specs.Shown.{HasAnnotation, ComesFrom, InventsNothing}
-use Rattle.tbr_model.proofs.rule.AlwaysLaid.{MayJoin, Brings}
-use Rattle.tbr_model.proofs.lines.EachItem.{each_on_lines}
+use Rattle.tbr_model.proofs.rule.Walk.{MayJoin}
+use Rattle.tbr_model.proofs.lines.EachItem.{Brings, each_on_lines}
 
 module _ {A : Type 0} (columns : ℕ → Option ℕ) (Same : A → A → Type 0) (same : (x : A) → Same x x) (run : List (Entry A)) where
   kept_or_white : (c : ℕ) (x : A) → HasAnnotation Same run x → is_kept columns c ≡ true → ComesFrom columns Same run (glyph c x)
@@ -31,10 +32,6 @@ module _ {A : Type 0} (columns : ℕ → Option ℕ) (Same : A → A → Type 0)
   )
   brings (marker_entry name) h = h
 
-  all_bring : (es : List (Entry A)) → Each (Contains run) es → Each (Brings columns (ComesFrom columns Same run) (HasAnnotation Same run)) es
-  all_bring [] h = tt
-  all_bring (e ∷ es) h = (brings e h.0, all_bring es h.1)
-
 -- In every mode nothing stands on the lines but visible characters, white space under the run's annotations, and its
 -- markers.
 pub nothing_invented : {A : Type 0} (columns : ℕ → Option ℕ) (width : ℕ) (Same : A → A → Type 0) → ((x : A) → Same x x) → (es : List (Event A)) →
@@ -42,4 +39,4 @@ pub nothing_invented : {A : Type 0} (columns : ℕ → Option ℕ) (width : ℕ)
 nothing_invented columns width Same same es =
     let run = run_of es in
     each_on_lines columns (ComesFrom columns Same run) (HasAnnotation Same run) (λ a h. inr (refl, h)) width es
-    (all_bring columns Same same run run (recursion_from_All (Contains run) run (All-contains_itself run)))
+    (recursion_from_All (Brings columns (ComesFrom columns Same run) (HasAnnotation Same run)) run (λ k d within. brings columns Same same run (slice_index_or run k d) (All-contains_itself run k d within)))

@@ -1,14 +1,11 @@
 -- Markers and the characters that pass a test, where whoever looks at these finds all that the rule keeps.
-use Rattle.std.proofs.Common.{◌≡◌, ℕ, Bool, true, false, Option, List, [], ◌∷◌, ◌++◌, filter, refl, ap, sym, ◌∙◌, append_assoc}
+use Rattle.std.proofs.Common.{◌≡◌, ℕ, Bool, true, false, Option, List, [], ◌∷◌, ◌++◌, filter, refl, ap}
 use Rattle.std.specs.Char.{is_whitespace}
 use Rattle.std.proofs.lemmas.List.Elements.{filter-append}
 use Rattle.tbr_model.specs.declared.white_space.WhiteSpace.{WhiteSpace}
 use Rattle.tbr_model.specs.declared.white_space.WhiteSpace.TheVariants.{PreWrap}
-use Rattle.tbr_model.specs.Run.{Item, glyph, marker, has_character, is_kept}
-use Rattle.tbr_model.specs.Layout.{joined}
-use Rattle.tbr_model.specs.Laid.{end_if_character}
-use Rattle.tbr_model.specs.Rule.{Progress, flush_word, waiting, finished}
-use Rattle.tbr_model.proofs.rule.Content.{LooksAtKept, PendingIn, content, finished_content}
+use Rattle.tbr_model.specs.Run.{Entry, character, Item, glyph, marker, has_character, is_kept}
+use Rattle.tbr_model.proofs.rule.Content.{LooksAtKept}
 
 -- a marker, or a character that passes the test
 abbrev pub item_passes : {A : Type 0} → (ℕ → Bool) → Item A → Bool
@@ -24,9 +21,10 @@ passing-append test is js = filter-append (item_passes test) is js
 pub passes_none : {A : Type 0} (test : ℕ → Bool) (c : ℕ) (a : A) → test c ≡ false → passing test (glyph c a ∷ []) ≡ []
 passes_none test c a h = rw h refl
 
-pub looks_at_passing : {A : Type 0} (columns : ℕ → Option ℕ) (Modes : WhiteSpace → Type 0) (test : ℕ → Bool) →
-    ((c : ℕ) → is_kept columns c ≡ false → test c ≡ false) → (Modes PreWrap → (c : ℕ) → is_whitespace c ≡ true → test c ≡ false) → LooksAtKept {A = A} columns Modes (passing test)
-looks_at_passing columns Modes test lost white = record {
+pub looks_at_passing : {A : Type 0} (columns : ℕ → Option ℕ) (Comes : Entry A → Type 0) (Modes : WhiteSpace → Type 0) (test : ℕ → Bool) → ((c : ℕ) (a b : A) (m : WhiteSpace) → Comes (character c a b m) → Modes m) →
+    ((c : ℕ) → is_kept columns c ≡ false → test c ≡ false) → (Modes PreWrap → (c : ℕ) → is_whitespace c ≡ true → test c ≡ false) → LooksAtKept columns Comes Modes (passing test)
+looks_at_passing columns Comes Modes test modes lost white = record {
+  modes = modes;
   append = passing-append test;
   nothing = refl;
   lost = λ c a h. passes_none test c a (lost c h);
@@ -38,12 +36,3 @@ pub markers_pass : {A : Type 0} (test : ℕ → Bool) (is : List (Item A)) → h
 markers_pass test [] h = refl
 markers_pass test (glyph c a ∷ is) h = cc
 markers_pass test (marker name ∷ is) h = ap (λ js. marker name ∷ js) (markers_pass test is h)
-
--- where a run ends, its lines and what waits have what passes
-pub passing_at_end : {A : Type 0} (columns : ℕ → Option ℕ) (Modes : WhiteSpace → Type 0) (test : ℕ → Bool) → LooksAtKept {A = A} columns Modes (passing test) →
-    (width : ℕ) (p : Progress A) → PendingIn Modes p.space → passing test (joined (finished columns width p).done ++ waiting columns width p) ≡ content (passing test) p
-passing_at_end columns Modes test looks width p pending =
-    let q : Progress _ = flush_word columns width p in
-    ap (passing test) (sym (append_assoc (joined (end_if_character q.laid).done) (end_if_character q.laid).line q.word))
-    ∙ passing-append test (joined (end_if_character q.laid).done ++ (end_if_character q.laid).line) q.word
-    ∙ finished_content columns Modes (passing test) looks width p pending

@@ -7,8 +7,7 @@ use Rattle.tbr_model.specs.Layout.{joined}
 use Rattle.tbr_model.specs.Rule.{Event, run_of, lines_of}
 use Rattle.tbr_model.specs.Hard.{entry_letters}
 use Rattle.tbr_model.specs.Shown.{HasAnnotation, ComesWithRun}
-use Rattle.tbr_model.proofs.rule.AlwaysLaid.{Brings}
-use Rattle.tbr_model.proofs.lines.EachItem.{each_on_lines}
+use Rattle.tbr_model.proofs.lines.EachItem.{Brings, each_on_lines}
 
 abbrev LetterIn : {A : Type 0} → List ℕ → Entry A → Type 0
 LetterIn cs (character c a b m) = Contains cs c

@@ -1,6 +1,6 @@
--- What holds of each item of two lists, and of one behind the other.
-use Rattle.std.proofs.Common.{List, [], ◌∷◌, ◌++◌}
-use Rattle.std.specs.List.{AllByRecursion as Each}
+-- What holds of each item of two lists, of one behind the other, and of a list under a function.
+use Rattle.std.proofs.Common.{◌≡◌, Bool, true, false, if◌then◌else◌, List, [], ◌∷◌, ◌++◌, map, filter, refl, ap, ◌∙◌}
+use Rattle.std.specs.List.{AllZip, AllByRecursion as Each}
 
 pub each_front : {X : Type 0} (P : X → Type 0) (a b : List X) → Each P (a ++ b) → Each P a
 each_front P [] b h = tt
@@ -13,3 +13,27 @@ each_back P (x ∷ a) b h = each_back P a b h.1
 pub each_append : {X : Type 0} (P : X → Type 0) (a b : List X) → Each P a → Each P b → Each P (a ++ b)
 each_append P [] b h k = k
 each_append P (x ∷ a) b h k = (h.0, each_append P a b h.1 k)
+
+-- ---- under a function
+
+pub each_map : {X Y : Type 0} (g : X → Y) (P : X → Type 0) (Q : Y → Type 0) → ((x : X) → P x → Q (g x)) → (xs : List X) → Each P xs → Each Q (map g xs)
+each_map g P Q one [] h = tt
+each_map g P Q one (x ∷ xs) h = (one x h.0, each_map g P Q one xs h.1)
+
+pub each_unmap : {X Y : Type 0} (g : X → Y) (P : X → Type 0) (Q : Y → Type 0) → ((x : X) → Q (g x) → P x) → (xs : List X) → Each Q (map g xs) → Each P xs
+each_unmap g P Q one [] h = tt
+each_unmap g P Q one (x ∷ xs) h = (one x h.0, each_unmap g P Q one xs h.1)
+
+pub filter-map : {X Y : Type 0} (g : X → Y) (p : X → Bool) (q : Y → Bool) → ((x : X) → q (g x) ≡ p x) → (xs : List X) → filter q (map g xs) ≡ map g (filter p xs)
+filter-map g p q same [] = refl
+filter-map {X} {Y} g p q same (x ∷ xs) = ap (λ k. if k then g x ∷ filter q (map g xs) else filter q (map g xs)) (same x) ∙ go (filter-map g p q same xs) (p x)
+  where
+    go : filter q (map g xs) ≡ map g (filter p xs) → (k : Bool) → (let ys : List Y = if k then g x ∷ filter q (map g xs) else filter q (map g xs) in ys) ≡ map g (if k then x ∷ filter p xs else filter p xs)
+    go rest true = ap (λ ys. g x ∷ ys) rest
+    go rest false = rest
+
+pub zip-map : {X Y Z W : Type 0} (R : X → Y → Type 0) (S : Z → W → Type 0) (g : X → Z) (k : Y → W) → ((x : X) (y : Y) → R x y → S (g x) (k y)) → (xs : List X) (ys : List Y) → AllZip R xs ys → AllZip S (map g xs) (map k ys)
+zip-map R S g k each [] [] h = tt
+zip-map R S g k each [] (y ∷ ys) h = absurd h
+zip-map R S g k each (x ∷ xs) [] h = absurd h
+zip-map R S g k each (x ∷ xs) (y ∷ ys) h = (each x y h.0, zip-map R S g k each xs ys h.1)

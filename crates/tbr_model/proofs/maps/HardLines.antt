@@ -1,12 +1,14 @@
 -- The hard lines of a run under other annotations, and what is shown of them.
-use Rattle.std.proofs.Common.{◌≡◌, ℕ, ◌==◌, ◌⊎◌, inl, inr, Bool, true, false, if◌then◌else◌, Option, List, [], ◌∷◌, map, filter, take, drop, refl, ap, subst, ◌∙◌, arith}
+use Rattle.std.proofs.Common.{◌≡◌, ◌≢◌, ℕ, ◌==◌, inl, inr, Bool, true, false, Option, List, [], ◌∷◌, map, filter, take, drop, refl, ap, subst, ◌∙◌, arith}
 use Rattle.std.specs.List.{AllZip}
 use Rattle.std.proofs.lemmas.List.{map-append, length-map, take-map, drop-map}
 use Rattle.tbr_model.specs.Codes.{newline_character}
 use Rattle.tbr_model.specs.Run.{Entry, character, marker_entry, Item, glyph, marker}
 use Rattle.tbr_model.specs.Layout.{joined}
-use Rattle.tbr_model.specs.Hard.{onto_first, hard_lines, Parted, glyphs_of, letters_of, entry_letters, is_visible, visible_glyphs, visible_entries, IsShown, ShowsVisible, IsPrintableLine, IsTabbedLine, IsSpaces, blank_lines, StandUnder, HasMain, HasContinuation, ShowsHardLine, ShowsPre, ShowsPreWrap, ShowsTabs}
+use Rattle.tbr_model.specs.Hard.{onto_first, hard_lines, Parted, glyphs_of, letters_of, entry_letters, is_visible, is_visible_entry, visible_glyphs, visible_entries, IsShown, ShowsVisible, IsPrintableLine, IsTabbedLine, IsSpaces, blank_lines, StandUnder, HasMain, HasContinuation, ShowsHardLine, ShowsPre, ShowsPreWrap, ShowsTabs}
 use Rattle.tbr_model.specs.Mapped.{map_item, map_items, map_entry, map_run, map_lines}
+use Rattle.tbr_model.proofs.lists.Each.{filter-map, zip-map}
+use Rattle.tbr_model.proofs.rule.DoneLines.{if_same}
 use Rattle.tbr_model.proofs.maps.Layouts.{joined-map}
 
 -- ---- hard lines
@@ -18,13 +20,10 @@ onto_first-map g x (xs ∷ xss) = refl
 pub hard_lines-map : {A B : Type 0} (f : A → B) (run : List (Entry A)) → hard_lines (map_run f run) ≡ map (map_run f) (hard_lines run)
 hard_lines-map f [] = refl
 hard_lines-map f (marker_entry name ∷ es) = ap (onto_first (marker_entry name)) (hard_lines-map f es) ∙ onto_first-map (map_entry f) (marker_entry name) (hard_lines es)
-hard_lines-map {A} {B} f (character c a b m ∷ es) = go (hard_lines-map f es) (c == newline_character)
-  where
-    go : hard_lines (map_run f es) ≡ map (map_run f) (hard_lines es) → (k : Bool) →
-        (let hs : List (List (Entry B)) = if k then [] ∷ hard_lines (map_run f es) else onto_first (character c (f a) (f b) m) (hard_lines (map_run f es)) in hs)
-        ≡ map (map_run f) (if k then [] ∷ hard_lines es else onto_first (character c a b m) (hard_lines es))
-    go rest true = ap (λ hs. [] ∷ hs) rest
-    go rest false = ap (onto_first (character c (f a) (f b) m)) rest ∙ onto_first-map (map_entry f) (character c a b m) (hard_lines es)
+hard_lines-map f (character c a b m ∷ es) =
+    let rest = hard_lines-map f es in
+    if_same (map (map_run f)) (c == newline_character) _ _ _ _ (ap (λ hs. [] ∷ hs) rest)
+    (ap (onto_first (character c (f a) (f b) m)) rest ∙ onto_first-map (map_entry f) (character c a b m) (hard_lines es))
 
 pub parted-map : {X Y Z W : Type 0} (R : Bool → X → List Y → Type 0) (S : Bool → Z → List W → Type 0) (g : X → Z) (k : Y → W) →
     ((more : Bool) (x : X) (ys : List Y) → R more x ys → S more (g x) (map k ys)) → (xs : List X) (ys : List Y) → Parted R xs ys → Parted S (map g xs) (map k ys)
@@ -50,7 +49,7 @@ module _ {A B : Type 0} (f : A → B) where
   letters_of-map (glyph c a ∷ is) = ap (λ cs. c ∷ cs) (letters_of-map is)
   letters_of-map (marker name ∷ is) = letters_of-map is
 
-  entry_letters-map : (es : List (Entry A)) → entry_letters (map_run f es) ≡ entry_letters es
+  pub entry_letters-map : (es : List (Entry A)) → entry_letters (map_run f es) ≡ entry_letters es
   entry_letters-map [] = refl
   entry_letters-map (character c a b m ∷ es) = ap (λ cs. c ∷ cs) (entry_letters-map es)
   entry_letters-map (marker_entry name ∷ es) = entry_letters-map es
@@ -69,25 +68,14 @@ module _ {A B : Type 0} (f : A → B) where
 
   module _ (columns : ℕ → Option ℕ) where
     pub visible_glyphs-map : (gs : List (ℕ × A)) → filter (λ g. is_visible columns g.0) (map (map_glyph f) gs) ≡ map (map_glyph f) (filter (λ g. is_visible columns g.0) gs)
-    visible_glyphs-map [] = refl
-    visible_glyphs-map (g ∷ gs) = go (visible_glyphs-map gs) (is_visible columns g.0)
-      where
-        go : filter (λ g. is_visible columns g.0) (map (map_glyph f) gs) ≡ map (map_glyph f) (filter (λ g. is_visible columns g.0) gs) → (k : Bool) →
-            (let hs : List (ℕ × B) = if k then map_glyph f g ∷ filter (λ g. is_visible columns g.0) (map (map_glyph f) gs) else filter (λ g. is_visible columns g.0) (map (map_glyph f) gs) in hs)
-            ≡ map (map_glyph f) (if k then g ∷ filter (λ g. is_visible columns g.0) gs else filter (λ g. is_visible columns g.0) gs)
-        go rest true = ap (λ (hs : List (ℕ × B)). map_glyph f g ∷ hs) rest
-        go rest false = rest
+    visible_glyphs-map = filter-map (map_glyph f) (λ g. is_visible columns g.0) (λ g. is_visible columns g.0) (λ g. refl)
 
     pub visible_entries-map : (es : List (Entry A)) → visible_entries columns (map_run f es) ≡ map_run f (visible_entries columns es)
-    visible_entries-map [] = refl
-    visible_entries-map (marker_entry name ∷ es) = visible_entries-map es
-    visible_entries-map (character c a b m ∷ es) = go (visible_entries-map es) (is_visible columns c)
+    visible_entries-map = filter-map (map_entry f) (is_visible_entry columns) (is_visible_entry columns) same
       where
-        go : visible_entries columns (map_run f es) ≡ map_run f (visible_entries columns es) → (k : Bool) →
-            (let fs : List (Entry B) = if k then character c (f a) (f b) m ∷ visible_entries columns (map_run f es) else visible_entries columns (map_run f es) in fs)
-            ≡ map_run f (if k then character c a b m ∷ visible_entries columns es else visible_entries columns es)
-        go rest true = ap (λ (fs : List (Entry B)). character c (f a) (f b) m ∷ fs) rest
-        go rest false = rest
+        same : (e : Entry A) → is_visible_entry columns (map_entry f e) ≡ is_visible_entry columns e
+        same (character c a b m) = refl
+        same (marker_entry name) = refl
 
     printable_unmap : (es : List (Entry A)) → IsPrintableLine columns (map_run f es) → IsPrintableLine columns es
     printable_unmap [] h = tt
@@ -110,16 +98,13 @@ module _ {A B : Type 0} (f : A → B) where
   blank-map more h ls blank spaces = ap (map_lines f) (blank (subst IsSpaces (entry_letters-map h) spaces)) ∙ blank_lines-map more
 
   module _ (Same : A → A → Type 0) (Other : B → B → Type 0) (keeps : (x y : A) → Same x y → Other (f x) (f y)) (columns : ℕ → Option ℕ) where
-    either : (x a b : A) → Same x a ⊎ Same x b → Other (f x) (f a) ⊎ Other (f x) (f b)
-    either x a b (inl h) = inl (keeps x a h)
-    either x a b (inr h) = inr (keeps x b h)
-
     shown-map : (gs : List (ℕ × A)) (es : List (Entry A)) → AllZip (IsShown Same) gs es → AllZip (IsShown Other) (map (map_glyph f) gs) (map_run f es)
-    shown-map [] [] h = tt
-    shown-map [] (e ∷ es) h = absurd h
-    shown-map (g ∷ gs) [] h = absurd h
-    shown-map (g ∷ gs) (character c a b m ∷ es) h = ((h.0.0, either g.1 a b h.0.1), shown-map gs es h.1)
-    shown-map (g ∷ gs) (marker_entry name ∷ es) h = absurd h.0
+    shown-map = zip-map (IsShown Same) (IsShown Other) (map_glyph f) (map_entry f) one
+      where
+        one : (g : ℕ × A) (e : Entry A) → IsShown Same g e → IsShown Other (map_glyph f g) (map_entry f e)
+        one g (character c a b m) (same, inl h) = (same, inl (keeps g.1 a h))
+        one g (character c a b m) (same, inr h) = (same, inr (keeps g.1 b h))
+        one g (marker_entry name) h = absurd h
 
     pub visible-map : (run : List (Entry A)) (ls : List (List (Item A))) → ShowsVisible columns Same run ls → ShowsVisible columns Other (map_run f run) (map_lines f ls)
     visible-map run ls h =
@@ -128,16 +113,13 @@ module _ {A B : Type 0} (f : A → B) where
 
     stand-map : (Has : Entry A → A → Type 0) (HasNow : Entry B → B → Type 0) → ((e : Entry A) (x : A) → Has e x → HasNow (map_entry f e) (f x)) →
         (gs : List (ℕ × A)) (es : List (Entry A)) → StandUnder Has gs es → StandUnder HasNow (map (map_glyph f) gs) (map_run f es)
-    stand-map Has HasNow each [] [] h = tt
-    stand-map Has HasNow each [] (e ∷ es) h = absurd h
-    stand-map Has HasNow each (g ∷ gs) [] h = absurd h
-    stand-map Has HasNow each (g ∷ gs) (e ∷ es) h = (λ other. each e g.1 (h.0 other), stand-map Has HasNow each gs es h.1)
+    stand-map Has HasNow each = zip-map (λ g e. g.0 ≢ 32 → Has e g.1) (λ g e. g.0 ≢ 32 → HasNow e g.1) (map_glyph f) (map_entry f) (λ g e h other. each e g.1 (h other))
 
-    main-map : (e : Entry A) (x : A) → HasMain Same e x → HasMain Other (map_entry f e) (f x)
+    pub main-map : (e : Entry A) (x : A) → HasMain Same e x → HasMain Other (map_entry f e) (f x)
     main-map (character c a b m) x h = keeps x a h
     main-map (marker_entry name) x h = absurd h
 
-    continuation-map : (e : Entry A) (x : A) → HasContinuation Same e x → HasContinuation Other (map_entry f e) (f x)
+    pub continuation-map : (e : Entry A) (x : A) → HasContinuation Same e x → HasContinuation Other (map_entry f e) (f x)
     continuation-map (character c a b m) x h = keeps x b h
     continuation-map (marker_entry name) x h = absurd h
 

@@ -6,6 +6,7 @@ use Rattle.std.proofs.lemmas.List.{map-append, length-map, take-map}
 use Rattle.tbr_model.specs.Run.{Entry, Item, items_width, Word, words_of}
 use Rattle.tbr_model.specs.Layout.{Slot, slot_of, slots_within, word_slots, slots_of, gap_width, rest_width, line_width, gap_text, rest_text, line_text, MayFollow, FirstMayBegin, OthersMayFollow, IsLegalLine, joined, placed, HasNoEmptyLine, IsBest}
 use Rattle.tbr_model.specs.Mapped.{map_item, map_items, map_run, map_word, map_slot, map_slots, map_layout}
+use Rattle.tbr_model.proofs.lists.Each.{each_map, each_unmap}
 use Rattle.tbr_model.proofs.maps.Words.{item_width-map, items_width-map, words_of-map}
 
 module _ {A B : Type 0} (f : A → B) (columns : ℕ → Option ℕ) where
@@ -63,12 +64,10 @@ module _ {A B : Type 0} (f : A → B) where
   first-unmap (s ∷ l) h = h
 
   follow-map : (l : List (Slot A)) → Each MayFollow l → Each MayFollow (map_slots f l)
-  follow-map [] h = tt
-  follow-map (s ∷ l) h = (h.0, follow-map l h.1)
+  follow-map = each_map (map_slot f) MayFollow MayFollow (λ s h. h)
 
   follow-unmap : (l : List (Slot A)) → Each MayFollow (map_slots f l) → Each MayFollow l
-  follow-unmap [] h = tt
-  follow-unmap (s ∷ l) h = (h.0, follow-unmap l h.1)
+  follow-unmap = each_unmap (map_slot f) MayFollow MayFollow (λ s h. h)
 
   others-map : (l : List (Slot A)) → OthersMayFollow l → OthersMayFollow (map_slots f l)
   others-map [] h = tt
@@ -85,12 +84,10 @@ module _ {A B : Type 0} (f : A → B) where
   legal_line-unmap width l h = record { fits = rw (line_width-map l) at h.fits; first = first-unmap l h.first; others = others-unmap l h.others }
 
   legal_lines-map : (width : ℕ) (ls : List (List (Slot A))) → Each (IsLegalLine width) ls → Each (IsLegalLine width) (map_layout f ls)
-  legal_lines-map width [] h = tt
-  legal_lines-map width (l ∷ ls) h = (legal_line-map width l h.0, legal_lines-map width ls h.1)
+  legal_lines-map width = each_map (map_slots f) (IsLegalLine width) (IsLegalLine width) (legal_line-map width)
 
   legal_lines-unmap : (width : ℕ) (ls : List (List (Slot A))) → Each (IsLegalLine width) (map_layout f ls) → Each (IsLegalLine width) ls
-  legal_lines-unmap width [] h = tt
-  legal_lines-unmap width (l ∷ ls) h = (legal_line-unmap width l h.0, legal_lines-unmap width ls h.1)
+  legal_lines-unmap width = each_unmap (map_slots f) (IsLegalLine width) (IsLegalLine width) (legal_line-unmap width)
 
   full-map : (ls : List (List (Slot A))) → HasNoEmptyLine ls → HasNoEmptyLine (map_layout f ls)
   full-map [] h = tt

@@ -1,8 +1,9 @@
 -- The words of a run under other annotations.
-use Rattle.std.proofs.Common.{◌≡◌, ℕ, Bool, true, false, nat_lt, ◌&&◌, if◌then◌else◌, Option, None, Some, List, [], ◌∷◌, ◌++◌, map, fold, refl, ap, sym, ◌∙◌, arith}
+use Rattle.std.proofs.Common.{◌≡◌, ℕ, nat_lt, ◌&&◌, Option, None, Some, List, [], ◌∷◌, ◌++◌, map, fold, refl, ap, sym, ◌∙◌, arith}
 use Rattle.std.specs.Option.{option_map}
 use Rattle.std.proofs.lemmas.List.{map-append}
-use Rattle.tbr_model.specs.Run.{Entry, character, marker_entry, Item, glyph, marker, item_width, items_width, items_of, is_kept, is_blank, blank_of, first_of, is_break_entry, has_character, Word, word_of, Reading, start, works, read, reading, words_of, trailing}
+use Rattle.tbr_model.specs.Run.{Entry, character, marker_entry, Item, glyph, marker, item_width, items_width, items_of, is_kept, is_blank, blank_of, first_of, is_break_entry, has_character, word_of, Reading, start, works, read, reading, words_of, trailing}
+use Rattle.tbr_model.proofs.rule.DoneLines.{if_same}
 use Rattle.tbr_model.specs.Mapped.{map_item, map_items, map_entry, map_run, map_word, map_reading}
 
 module _ {A B : Type 0} (f : A → B) (columns : ℕ → Option ℕ) where
@@ -21,19 +22,11 @@ module _ {A B : Type 0} (f : A → B) (columns : ℕ → Option ℕ) where
 
   pub items_of-map : (e : Entry A) → items_of columns (map_entry f e) ≡ map_items f (items_of columns e)
   items_of-map (marker_entry name) = refl
-  items_of-map (character c a b mode) = go (is_kept columns c)
-    where
-      go : (k : Bool) → (let is : List (Item B) = if k then glyph c (f a) ∷ [] else [] in is) ≡ map_items f (if k then glyph c a ∷ [] else [])
-      go true = refl
-      go false = refl
+  items_of-map (character c a b mode) = if_same (map_items f) (is_kept columns c) _ _ _ _ refl refl
 
   pub blank_of-map : (e : Entry A) → blank_of (map_entry f e) ≡ option_map f (blank_of e)
   blank_of-map (marker_entry name) = refl
-  blank_of-map (character c a b mode) = go (is_blank c)
-    where
-      go : (k : Bool) → (let o : Option B = if k then Some (f a) else None in o) ≡ option_map f (if k then Some a else None)
-      go true = refl
-      go false = refl
+  blank_of-map (character c a b mode) = if_same (option_map f) (is_blank c) _ _ _ _ refl refl
 
   pub first_of-map : (o p : Option A) → first_of (option_map f o) (option_map f p) ≡ option_map f (first_of o p)
   first_of-map None p = refl
@@ -47,15 +40,11 @@ module _ {A B : Type 0} (f : A → B) (columns : ℕ → Option ℕ) where
   works-map r e = ap (λ b. b && nat_lt 0 (items_width columns (map_items f r.items))) (is_break-map e) ∙ ap (λ n. is_break_entry e && nat_lt 0 n) (items_width-map r.items)
 
   pub read-map : (r : Reading A) (e : Entry A) → read columns (map_reading f r) (map_entry f e) ≡ map_reading f (read columns r e)
-  read-map r e = rw works-map (go (works columns r e))
-    where
-      go : (k : Bool) →
-          (let q : Reading B = if k
-          then record { words = map (map_word f) r.words ++ word_of (map_reading f r) ∷ []; gap = blank_of (map_entry f e); items = [] }
-          else record { words = map (map_word f) r.words; gap = first_of (option_map f r.gap) (blank_of (map_entry f e)); items = map_items f r.items ++ items_of columns (map_entry f e) } in q)
-          ≡ map_reading f (if k then record { words = r.words ++ word_of r ∷ []; gap = blank_of e; items = [] } else record { words = r.words; gap = first_of r.gap (blank_of e); items = r.items ++ items_of columns e })
-      go true = let ws = map-append (map_word f) r.words (word_of r ∷ []) in let g = blank_of-map e in cc
-      go false = let g = ap (first_of (option_map f r.gap)) (blank_of-map e) ∙ first_of-map r.gap (blank_of e) in let i = ap (λ is. map_items f r.items ++ is) (items_of-map e) ∙ sym (map-append (map_item f) r.items (items_of columns e)) in cc
+  read-map r e =
+      let g = ap (first_of (option_map f r.gap)) (blank_of-map e) ∙ first_of-map r.gap (blank_of e) in
+      let i = ap (λ is. map_items f r.items ++ is) (items_of-map e) ∙ sym (map-append (map_item f) r.items (items_of columns e)) in
+      rw works-map (if_same (map_reading f) (works columns r e) _ _ _ _ (λ j. record { words = sym (map-append (map_word f) r.words (word_of r ∷ [])) j; gap = blank_of-map e j; items = [] })
+      (λ j. record { words = map (map_word f) r.words; gap = g j; items = i j }))
 
   read_all-map : (run : List (Entry A)) (r : Reading A) → fold (read columns) (map_reading f r) (map_run f run) ≡ map_reading f (fold (read columns) r run)
   read_all-map [] r = refl
@@ -65,21 +54,9 @@ module _ {A B : Type 0} (f : A → B) (columns : ℕ → Option ℕ) where
   reading-map run = read_all-map run start
 
   pub words_of-map : (run : List (Entry A)) → words_of columns (map_run f run) ≡ map (map_word f) (words_of columns run)
-  words_of-map run = rw (reading-map run, has_character-map) (go (has_character r.items))
-    where
-      r : Reading A
-      r = reading columns run
-
-      go : (k : Bool) → (let ws : List (Word B) = if k then map (map_word f) r.words ++ word_of (map_reading f r) ∷ [] else map (map_word f) r.words in ws) ≡ map (map_word f) (if k then r.words ++ word_of r ∷ [] else r.words)
-      go true = sym (map-append (map_word f) r.words (word_of r ∷ []))
-      go false = refl
+  words_of-map run =
+      let r : Reading A = reading columns run in
+      rw (reading-map run, has_character-map) (if_same (map (map_word f)) (has_character r.items) _ _ _ _ (sym (map-append (map_word f) r.words (word_of r ∷ []))) refl)
 
   pub trailing-map : (run : List (Entry A)) → trailing columns (map_run f run) ≡ map_items f (trailing columns run)
-  trailing-map run = rw (reading-map run, has_character-map) (go (has_character r.items))
-    where
-      r : Reading A
-      r = reading columns run
-
-      go : (k : Bool) → (let is : List (Item B) = if k then [] else map_items f r.items in is) ≡ map_items f (if k then [] else r.items)
-      go true = refl
-      go false = refl
+  trailing-map run = rw (reading-map run, has_character-map) (if_same (map_items f) (has_character (reading columns run).items) _ _ _ _ refl refl)

@@ -6,7 +6,7 @@ use Rattle.tbr_model.specs.Run.{Entry, Item, item_width, items_width, has_charac
 use Rattle.tbr_model.specs.Layout.{Slot, slots_of, line_text, line_width, IsBest}
 use Rattle.tbr_model.specs.Greedy.{Lines, close, no_lines, wrapped, IsNarrow}
 use Rattle.tbr_model.specs.Laid.{Laid, end_if_character}
-use Rattle.tbr_model.specs.Rule.{Event, run_of, Progress, at_start, lay, flush_word, progress, finished, lines_of}
+use Rattle.tbr_model.specs.Rule.{Event, run_of, Progress, lay, progress, finished, lines_of}
 use Rattle.tbr_model.specs.Hard.{HasMode}
 use Rattle.tbr_model.proofs.words.Items.{items_width-append, no_character_no_width}
 use Rattle.tbr_model.proofs.lists.Each.{each_append}
@@ -14,7 +14,7 @@ use Rattle.tbr_model.proofs.words.BestLayout.{wrapped_holds, holds_best}
 use Rattle.tbr_model.proofs.words.KeptItems.{held-fold}
 use Rattle.tbr_model.proofs.words.LinesHaveCharacters.{LastHas, place_characters}
 use Rattle.tbr_model.proofs.normal.LaidWords.{text_of, end_if_character_text, text_has}
-use Rattle.tbr_model.proofs.normal.StaysLaid.{AllLaid, IsNarrowItem, laid_end_if_character, laid_flush, run_waits}
+use Rattle.tbr_model.proofs.normal.StaysLaid.{AllLaid, IsNarrowItem, laid_end_if_character, laid_before_end}
 use Rattle.tbr_model.proofs.normal.LayoutSoFar.{Lined, no_words, state_of, lay_narrow, lay_reading, wrapped-push, narrow_runs, normal_state}
 
 -- A run shows no columns where it keeps none, and no character where it keeps none.
@@ -82,7 +82,7 @@ module _ {A : Type 0} (columns : ℕ → Option ℕ) (width : ℕ) where
       let P : Item A → Type 0 = IsNarrowItem columns width in
       let p : Progress A = progress columns width es in
       let r : Reading A = reading columns (run_of es) in
-      let before : AllLaid P p.laid = laid_flush P columns width p (run_waits P columns width es at_start modes tt) (laid_end_if_character P (flush_word columns width p).laid all) in
+      let before : AllLaid P p.laid = laid_before_end columns width P es modes all in
       let state = normal_state columns width es modes before in
       ends_best es state.0 state.1 (last_narrow r (has_character r.items) refl (subst (λ (q : Progress A). AllLaid P (finished columns width q)) state.0 all))
 

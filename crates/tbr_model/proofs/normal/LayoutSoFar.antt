@@ -18,7 +18,7 @@ use Rattle.tbr_model.proofs.words.KeptItems.{break_left}
 use Rattle.tbr_model.proofs.words.LinesHaveCharacters.{HasGlyph, LastHas, place_characters, wide_items}
 use Rattle.tbr_model.proofs.words.Regions.{first_of_none}
 use Rattle.tbr_model.proofs.normal.LaidWords.{gap_behind, text_of, normal_space, normal_at, laid_word, word_laid, place_wide, lay_normal}
-use Rattle.tbr_model.proofs.normal.StaysLaid.{AllLaid, IsNarrowItem, laid_extended, laid_items, collapse_laid, enter_waits, laid_run}
+use Rattle.tbr_model.proofs.normal.StaysLaid.{AllLaid, IsNarrowItem, laid_extended, laid_items, collapse_laid, laid_next}
 
 -- What is laid is the text of lines, the space that waits is that of the gap behind them, and the word holds the items. The open
 -- line takes columns unless there are no lines at all, and no line is without a character.
@@ -213,7 +213,7 @@ module _ {A : Type 0} (columns : ℕ → Option ℕ) (width : ℕ) where
       let P : Item A → Type 0 = IsNarrowItem columns width in
       let takes : nat_lt 0 (items_width columns r.items) ≡ true = lt-ltb _ _ wide in
       let entered : (enter columns width (state_of r) (character c a b Normal)).laid ≡ (lay columns width (state_of r)).laid =
-      rw (breaks, takes) (collapse_laid P columns width c a (lay columns width (state_of r))) in
+      rw (breaks, takes) (collapse_laid c a (lay columns width (state_of r))) in
       lay_narrow r (wide_items columns r.items wide) (subst (AllLaid P) entered all)
 
   goes : (r : Reading A) (e : Entry A) → HasMode Normal e → Lined r.words → (is_break_entry e ≡ true → 0 < items_width columns r.items → IsNarrow columns width r.items) → Goes r e (read columns r e)
@@ -239,7 +239,7 @@ module _ {A : Type 0} (columns : ℕ → Option ℕ) (width : ℕ) where
   runs (entry e ∷ es) r modes h all =
       let P : Item A → Type 0 = IsNarrowItem columns width in
       let waits : WaitsIn Normal (state_of r).space = waits_normally (gap_behind (wrapped columns width r.words).last r.gap) in
-      let first : AllLaid P (enter columns width (state_of r) e).laid = laid_run P columns width es (enter columns width (state_of r) e) modes.1 (enter_waits P columns width (state_of r) e modes.0 waits) all in
+      let first : AllLaid P (enter columns width (state_of r) e).laid = laid_next columns width P (state_of r) e es modes.0 modes.1 waits all in
       let now = goes r e modes.0 h (λ breaks. enter_narrow r e modes.0 breaks first) in
       let later = runs es (read columns r e) modes.1 now.1 (subst (λ (p : Progress A). AllLaid P (fold (step columns width) p es).laid) now.0 all) in
       (ap (λ (p : Progress A). fold (step columns width) p es) now.0 ∙ later.0, later.1)

@@ -5,11 +5,11 @@ use Rattle.tbr_model.specs.declared.white_space.WhiteSpace.TheVariants.{Normal}
 use Rattle.tbr_model.specs.Run.{has_character, Reading, word_of, reading, trailing}
 use Rattle.tbr_model.specs.Greedy.{Lines, wrapped, IsNarrow}
 use Rattle.tbr_model.specs.Laid.{Laid, end_if_character}
-use Rattle.tbr_model.specs.Rule.{Event, run_of, Progress, at_start, lay, flush_word, progress, finished, waiting}
+use Rattle.tbr_model.specs.Rule.{Event, run_of, Progress, lay, progress, finished, waiting}
 use Rattle.tbr_model.specs.Hard.{HasMode}
 use Rattle.tbr_model.proofs.words.LinesHaveCharacters.{LastHas, place_characters}
 use Rattle.tbr_model.proofs.normal.LaidWords.{end_if_character_text}
-use Rattle.tbr_model.proofs.normal.StaysLaid.{AllLaid, IsNarrowItem, laid_end_if_character, laid_flush, run_waits}
+use Rattle.tbr_model.proofs.normal.StaysLaid.{AllLaid, IsNarrowItem, laid_end_if_character, laid_before_end}
 use Rattle.tbr_model.proofs.normal.LayoutSoFar.{Lined, state_of, lay_narrow, lay_reading, wrapped-push, normal_state}
 
 module _ {A : Type 0} (columns : ℕ → Option ℕ) (width : ℕ) where
@@ -37,7 +37,7 @@ module _ {A : Type 0} (columns : ℕ → Option ℕ) (width : ℕ) where
       let P = IsNarrowItem {A = A} columns width in
       let p : Progress A = progress columns width es in
       let r : Reading A = reading columns (run_of es) in
-      let before : AllLaid P p.laid = laid_flush P columns width p (run_waits P columns width es at_start modes tt) (laid_end_if_character P (flush_word columns width p).laid all) in
+      let before : AllLaid P p.laid = laid_before_end columns width P es modes all in
       let state = normal_state columns width es modes before in
       let narrow = flushed_narrow r (has_character r.items) refl (subst (λ (q : Progress A). AllLaid P (finished columns width q)) state.0 all) in
       ap (waiting columns width) state.0 ∙ left_over r (has_character r.items) refl state.1 narrow

@@ -1,12 +1,12 @@
 -- What a block shows of one hard line of Pre.
-use Rattle.std.proofs.Common.{◌≡◌, ℕ, suc, ◌+◌, ◌<◌, ◌≤◌, nat_le, Bool, true, false, Option, Some, None, List, [], ◌∷◌, ◌++◌, map, fold, length, take, drop, refl, ap, sym, ◌∙◌, arith, subst, le-leb}
+use Rattle.std.proofs.Common.{◌≡◌, ℕ, suc, ◌+◌, ◌<◌, ◌≤◌, nat_le, Bool, true, false, Option, Some, None, List, [], ◌∷◌, ◌++◌, map, filter, fold, length, refl, ap, sym, ◌∙◌, arith, subst, le-leb}
 use Rattle.std.specs.List.{AllByRecursion as Each}
 use Rattle.tbr_model.specs.declared.white_space.WhiteSpace.TheVariants.{Pre}
-use Rattle.tbr_model.specs.Run.{Entry, character, marker_entry, Item, items_width, has_character}
+use Rattle.tbr_model.specs.Run.{Entry, character, marker_entry, Item, items_width, has_character, is_kept}
 use Rattle.tbr_model.specs.Layout.{joined}
 use Rattle.tbr_model.specs.Laid.{Laid, end_line, end_if_character}
 use Rattle.tbr_model.specs.Rule.{Event, run_of, Space, Progress, pending_width, space_text, flush_word, newline, finished, step}
-use Rattle.tbr_model.specs.Hard.{HasMode, is_newline, glyphs_of, letters_of, entry_letters, IsPrintableEntry, IsPrintableLine, IsSpaces, BeginsWithNonBlank, IsCutEvery, StandUnder, HasMain, HasContinuation, ShowsPre}
+use Rattle.tbr_model.specs.Hard.{HasMode, is_newline, glyphs_of, letters_of, entry_letters, IsPrintableEntry, IsPrintableLine, IsSpaces, BeginsWithNonBlank, IsCutEvery, blank_lines, ShowsPre}
 use Rattle.tbr_model.proofs.words.Items.{back_has}
 use Rattle.tbr_model.proofs.rule.HardLineStart.{BeginsHardLine}
 use Rattle.tbr_model.proofs.rule.LaidText.{joined-end_line}
@@ -74,49 +74,30 @@ module _ {A : Type 0} (columns : ℕ → Option ℕ) (width : ℕ) (p : Progress
   line_cut wide printable begins none =
       cut_laid columns width q wide (waits printable).plain none (some_waits printable (begins_other (entry_letters (run_of es)) begins))
 
-  -- the lines before a newline
-  shows_ended : (Same : A → A → Type 0) → 0 < width → ((x : A) → Same x x) → Each (λ e. is_newline e ≡ false) (run_of es) → ShowsPre columns Same width true (run_of es) (end_line laid).done
-  shows_ended Same wide reflexive more = record {
-    kept = (pre_kept columns width p es f pre).0;
-    fits = λ printable other fits. (line_fits printable other fits).same;
-    cut = λ printable begins.
-        (let none = (tags printable begins).1 in
-        let word : letters_of q.word ≡ entry_letters (run_of es) = ap (λ (o : Option (Space A)). letters_of (space_text o ++ q.word)) (sym none) ∙ all_waiting printable in
-        subst (λ (cs : List ℕ). IsCutEvery width cs (map letters_of (end_line laid).done)) word (line_cut wide printable begins none).cut);
-    blank = λ spaces. (blank_line_of columns width Pre (λ e. cc) p es f pre spaces).0;
-    main = λ printable begins.
-        (let t = tags printable begins in
-        rw (glyphs printable begins) (tagged_main Same width 0 width (glyphs_of q.word) (run_of es) (omega arith) t.0));
-    continuation = λ printable begins.
-        (let t = tags printable begins in
-        rw (glyphs printable begins) (tagged_continuation Same width 0 width (glyphs_of q.word) (run_of es) (omega arith) t.0));
-  }
-    where
-      tags : IsPrintableLine columns (run_of es) → BeginsWithNonBlank (entry_letters (run_of es)) → IsTagged Same width 0 (glyphs_of q.word) (run_of es) × (q.space ≡ None)
-      tags printable begins = pre_tags columns Same width reflexive one_space p es f pre printable begins
+  module _ (Same : A → A → Type 0) (wide : 0 < width) (reflexive : (x : A) → Same x x) where
+    tags : IsPrintableLine columns (run_of es) → BeginsWithNonBlank (entry_letters (run_of es)) → IsTagged Same width 0 (glyphs_of q.word) (run_of es) × (q.space ≡ None)
+    tags printable begins = pre_tags columns Same width reflexive one_space p es f pre printable begins
 
-      glyphs : IsPrintableLine columns (run_of es) → BeginsWithNonBlank (entry_letters (run_of es)) → glyphs_of (joined (end_line laid).done) ≡ glyphs_of q.word
-      glyphs printable begins = ap glyphs_of (joined-end_line laid ∙ (line_cut wide printable begins (tags printable begins).1).whole)
-
-  -- the lines at the end of the run
-  shows_freshened : (Same : A → A → Type 0) → 0 < width → ((x : A) → Same x x) → Each (λ e. is_newline e ≡ false) (run_of es) → ShowsPre columns Same width false (run_of es) (end_if_character laid).done
-  shows_freshened Same wide reflexive more = record {
-    kept = (pre_kept columns width p es f pre).1;
-    fits = λ printable other fits.
-        subst (λ (ls : List (List (Item A))). map letters_of ls ≡ entry_letters (run_of es) ∷ []) (ended_alike laid (line_fits printable other fits).last) (shown.fits printable other fits);
-    cut = λ printable begins. subst (λ (ls : List (List (Item A))). IsCutEvery width (entry_letters (run_of es)) (map letters_of ls)) (alike printable begins) (shown.cut printable begins);
-    blank = λ spaces. (blank_line_of columns width Pre (λ e. cc) p es f pre spaces).1;
-    main = λ printable begins.
-        subst (λ (ls : List (List (Item A))). StandUnder (HasMain Same) (take width (glyphs_of (joined ls))) (take width (run_of es))) (alike printable begins) (shown.main printable begins);
-    continuation = λ printable begins.
-        subst (λ (ls : List (List (Item A))). StandUnder (HasContinuation Same) (drop width (glyphs_of (joined ls))) (drop width (run_of es))) (alike printable begins) (shown.continuation printable begins);
-  }
-    where
-      shown : ShowsPre columns Same width true (run_of es) (end_line laid).done
-      shown = shows_ended Same wide reflexive more
-
-      alike : IsPrintableLine columns (run_of es) → BeginsWithNonBlank (entry_letters (run_of es)) → (end_line laid).done ≡ (end_if_character laid).done
-      alike printable begins = ended_alike laid (line_cut wide printable begins (pre_tags columns Same width reflexive one_space p es f pre printable begins).1).last
+    -- the lines before a newline, or others that are the same where the last one has a character
+    shows : (more : Bool) (ls : List (List (Item A))) → filter (is_kept columns) (letters_of (joined ls)) ≡ filter (is_kept columns) (entry_letters (run_of es)) →
+        (IsSpaces (entry_letters (run_of es)) → ls ≡ blank_lines more) → (has_character laid.line ≡ true → (end_line laid).done ≡ ls) → ShowsPre columns Same width more (run_of es) ls
+    shows more ls kept blank alike = record {
+      kept = kept;
+      fits = λ printable other fits. (let k = line_fits printable other fits in ap (map letters_of) (sym (alike k.last)) ∙ k.same);
+      cut = λ printable begins.
+          (let none = (tags printable begins).1 in
+          let k = line_cut wide printable begins none in
+          let word : letters_of q.word ≡ entry_letters (run_of es) = ap (λ (o : Option (Space A)). letters_of (space_text o ++ q.word)) (sym none) ∙ all_waiting printable in
+          subst (λ (ms : List (List (Item A))). IsCutEvery width (entry_letters (run_of es)) (map letters_of ms)) (alike k.last) (subst (λ (cs : List ℕ). IsCutEvery width cs (map letters_of (end_line laid).done)) word k.cut));
+      blank = blank;
+      main = λ printable begins. rw (glyphs printable begins) (tagged_main Same width 0 width (glyphs_of q.word) (run_of es) (omega arith) (tags printable begins).0);
+      continuation = λ printable begins. rw (glyphs printable begins) (tagged_continuation Same width 0 width (glyphs_of q.word) (run_of es) (omega arith) (tags printable begins).0);
+    }
+      where
+        glyphs : IsPrintableLine columns (run_of es) → BeginsWithNonBlank (entry_letters (run_of es)) → glyphs_of (joined ls) ≡ glyphs_of q.word
+        glyphs printable begins =
+            let k = line_cut wide printable begins (tags printable begins).1 in
+            ap (λ (ms : List (List (Item A))). glyphs_of (joined ms)) (sym (alike k.last)) ∙ ap glyphs_of (joined-end_line laid ∙ k.whole)
 
 -- one hard line of a run of Pre, before a newline and at the end of the run
 pub pre_line : {A : Type 0} (columns : ℕ → Option ℕ) (Same : A → A → Type 0) (width : ℕ) → columns 32 ≡ Some 1 → 0 < width → ((x : A) → Same x x) → (p : Progress A) (es : List (Event A)) → BeginsHardLine p →
@@ -124,4 +105,9 @@ pub pre_line : {A : Type 0} (columns : ℕ → Option ℕ) (Same : A → A → T
     ShowsPre columns Same width true (run_of es) (newline (flush_word columns width (fold (step columns width) p es))).laid.done
     × ShowsPre columns Same width false (run_of es) (finished columns width (fold (step columns width) p es)).done
 pre_line columns Same width one_space wide reflexive p es f pre more =
-    (shows_ended columns width p es one_space f pre Same wide reflexive more, shows_freshened columns width p es one_space f pre Same wide reflexive more)
+    let q = fold (step columns width) p es in
+    let kept = pre_kept columns width p es f pre in
+    let blank = λ (spaces : IsSpaces (entry_letters (run_of es))). blank_line_of columns width Pre (λ e. cc) p es f pre spaces in (
+      shows columns width p es one_space f pre Same wide reflexive true (newline (flush_word columns width q)).laid.done kept.0 (λ spaces. (blank spaces).0) (λ _. refl),
+      shows columns width p es one_space f pre Same wide reflexive false (finished columns width q).done kept.1 (λ spaces. (blank spaces).1) (ended_alike (flush_word columns width q).laid),
+    )

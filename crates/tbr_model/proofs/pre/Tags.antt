@@ -4,11 +4,11 @@ use Rattle.std.specs.List.{AllByRecursion as Each}
 use Rattle.std.proofs.lemmas.Bool.{cond_both, eqb-true, eqb-false}
 use Rattle.tbr_model.specs.declared.white_space.WhiteSpace.{WhiteSpace}
 use Rattle.tbr_model.specs.declared.white_space.WhiteSpace.TheVariants.{Pre}
-use Rattle.tbr_model.specs.Run.{Entry, character, marker_entry, Item, glyph, marker, items_width, has_character}
+use Rattle.tbr_model.specs.Run.{Entry, character, marker_entry, Item, glyph, items_width, has_character}
 use Rattle.tbr_model.specs.Rule.{Event, call, entry, run_of, Progress, pending_width, keep_space, keep_character, passes, tag_of, enter, step}
 use Rattle.tbr_model.specs.Hard.{HasMode, glyphs_of, entry_letters, IsPrintable, IsPrintableEntry, BeginsWithNonBlank, StandUnder, HasMain, HasContinuation}
 use Rattle.tbr_model.proofs.rule.Printable.{preserved_space, preserved_visible, visible_of}
-use Rattle.tbr_model.proofs.words.Items.{glyphs_of-append, no_glyphs, back_has}
+use Rattle.tbr_model.proofs.words.Items.{items_width-append, glyphs_of-append, no_glyphs, back_has}
 use Rattle.tbr_model.proofs.rule.HardLineStart.{BeginsHardLine}
 use Rattle.tbr_model.proofs.pre.WaitingWord.{unit_markers, units_width}
 
@@ -58,9 +58,9 @@ record AddsTagged {A : Type 0} (columns : ℕ → Option ℕ) (Same : A → A �
   space : r.space ≡ None
 
 joined_width : {A : Type 0} (columns : ℕ → Option ℕ) (is : List (Item A)) (c : ℕ) (x : A) → columns c ≡ Some 1 → items_width columns (is ++ glyph c x ∷ []) ≡ items_width columns is + 1
-joined_width columns [] c x one = rw one refl
-joined_width columns (glyph d y ∷ is) c x one = omega (arith, joined_width columns is c x one)
-joined_width columns (marker name ∷ is) c x one = omega (arith, joined_width columns is c x one)
+joined_width columns is c x one =
+    let wide : items_width columns (glyph c x ∷ []) ≡ 1 = rw one refl in
+    omega (arith, items_width-append columns is (glyph c x ∷ []), wide)
 
 module _ {A : Type 0} (columns : ℕ → Option ℕ) (Same : A → A → Type 0) (width : ℕ) (reflexive : (x : A) → Same x x) (one_space : columns 32 ≡ Some 1) where
   -- a character has joined the word, and the rest goes on

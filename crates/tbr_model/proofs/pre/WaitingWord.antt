@@ -10,7 +10,7 @@ use Rattle.tbr_model.specs.Run.{character, marker_entry, Item, glyph, marker, it
 use Rattle.tbr_model.specs.Rule.{Event, call, entry, run_of, Progress, pending_width, space_text, space_of, keep_space, keep_character, passes, tag_of, enter, step}
 use Rattle.tbr_model.specs.Hard.{HasMode, letters_of, entry_letters, IsPrintable, IsPrintableEntry, IsSpaces}
 use Rattle.tbr_model.proofs.rule.Printable.{preserved_space, preserved_visible, visible_of}
-use Rattle.tbr_model.proofs.words.Items.{letters_of-append, no_glyphs, letters_of-space_text, letters_of-space_of, back_has}
+use Rattle.tbr_model.proofs.words.Items.{each_marker, letters_of-append, no_glyphs, letters_of-space_text, letters_of-space_of, back_has}
 use Rattle.tbr_model.proofs.lists.Each.{each_append}
 use Rattle.tbr_model.proofs.rule.HardLineStart.{BeginsHardLine}
 
@@ -21,9 +21,7 @@ IsUnit columns (glyph c a) = columns c ≡ Some 1
 IsUnit columns (marker name) = Unit {0}
 
 pub unit_markers : {A : Type 0} (columns : ℕ → Option ℕ) (is : List (Item A)) → has_character is ≡ false → Each (IsUnit columns) is
-unit_markers columns [] h = tt
-unit_markers columns (glyph c a ∷ is) h = cc
-unit_markers columns (marker name ∷ is) h = (tt, unit_markers columns is h)
+unit_markers columns = each_marker (IsUnit columns) (λ name. tt)
 
 pub units_width : {A : Type 0} (columns : ℕ → Option ℕ) (is : List (Item A)) → Each (IsUnit columns) is → items_width columns is ≡ length (letters_of is)
 units_width columns [] h = refl

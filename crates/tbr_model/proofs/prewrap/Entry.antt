@@ -1,11 +1,9 @@
--- What an entry of `PreWrap` does, and the spaces at the end of a text.
-use Rattle.std.proofs.Common.{◌≡◌, ◌≢◌, ℕ, ◌<◌, ◌⊎◌, inl, inr, false, Option, Some, List, [], ◌∷◌, refl, ap, sym, ◌∙◌, lt-ltb}
-use Rattle.std.proofs.lemmas.Bool.Decides.{eqb_tells}
+-- What an entry of `PreWrap` does.
+use Rattle.std.proofs.Common.{◌≡◌, ℕ, ◌<◌, false, Option, Some, refl, ap, ◌∙◌, lt-ltb}
 use Rattle.tbr_model.specs.declared.white_space.WhiteSpace.{WhiteSpace}
 use Rattle.tbr_model.specs.declared.white_space.WhiteSpace.TheVariants.{PreWrap}
 use Rattle.tbr_model.specs.Run.{items_width, character, has_character, is_break}
 use Rattle.tbr_model.specs.Rule.{Progress, lay, break_word, join, tag_of, keep_space, enter}
-use Rattle.tbr_model.specs.Hard.{IsSpaces, without_last_spaces}
 use Rattle.tbr_model.proofs.words.Items.{no_character_no_width}
 use Rattle.tbr_model.proofs.rule.Printable.{IsVisible, break_not, preserved_space, preserved_visible}
 
@@ -31,29 +29,3 @@ break_none columns width p none = rw (no_character_no_width columns p.word none)
 -- a word that takes columns is broken
 pub break_some : {A : Type 0} (columns : ℕ → Option ℕ) (width : ℕ) (p : Progress A) → 0 < items_width columns p.word → break_word columns width p ≡ lay columns width p
 break_some columns width p some = rw (lt-ltb _ _ some) refl
-
--- ---- the spaces at the end
-
-last_front : (c : ℕ) (cs ds : List ℕ) → without_last_spaces cs ≡ ds → (without_last_spaces (c ∷ cs) ≡ c ∷ ds) ⊎ ((ds ≡ []) × (c ≡ 32) × (without_last_spaces (c ∷ cs) ≡ []))
-last_front c cs [] e = elim (eqb_tells c 32) [
-  | inl w ↦ inr (refl, w.1, rw (e, w.0) refl)
-  | inr w ↦ inl (rw (e, w.0) refl)
-]
-last_front c cs (d ∷ ds) e = inl (rw e refl)
-
-pub spaces_if : (cs : List ℕ) → without_last_spaces cs ≡ [] → IsSpaces cs
-spaces_if [] h = tt
-spaces_if (c ∷ cs) h = elim (last_front c cs (without_last_spaces cs) refl) [
-  | inl w ↦ absurd (let e : c ∷ without_last_spaces cs ≡ [] = sym w ∙ h in cc)
-  | inr w ↦ (w.1, spaces_if cs w.0)
-]
-
--- spaces alone, or the first character stands before the others without the spaces at their end
-pub last_spaces : (c : ℕ) (cs : List ℕ) → (IsSpaces (c ∷ cs) × (without_last_spaces (c ∷ cs) ≡ [])) ⊎ ((without_last_spaces (c ∷ cs) ≡ c ∷ without_last_spaces cs) × (without_last_spaces cs ≡ [] → c ≢ 32))
-last_spaces c cs = elim (last_front c cs (without_last_spaces cs) refl) [
-  | inl w ↦ inr (w, λ none same. absurd (let e : c ∷ without_last_spaces cs ≡ [] = sym w ∙ all none same in cc))
-  | inr w ↦ inl ((w.1, spaces_if cs w.0), w.2)
-]
-  where
-    all : without_last_spaces cs ≡ [] → c ≡ 32 → without_last_spaces (c ∷ cs) ≡ []
-    all none same = rw (none, same) refl

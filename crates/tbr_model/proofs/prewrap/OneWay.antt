@@ -91,7 +91,7 @@ same_behind (suc n) a b e = let rest : replicate n 32 ++ a ≡ replicate n 32 ++
 -- ---- lines
 
 -- a line behind which a stretch goes on was filled by that stretch alone
-filled : (width : ℕ) (l r : List ℕ) (ls : List (List ℕ)) → EndsWithNonBlank l → BeginsWithNonBlank r → IsWrapped width l r ls → (length l ≡ width) × (first_stretch l ≡ l)
+pub filled : (width : ℕ) (l r : List ℕ) (ls : List (List ℕ)) → EndsWithNonBlank l → BeginsWithNonBlank r → IsWrapped width l r ls → (length l ≡ width) × (first_stretch l ≡ l)
 filled width l r [] ends begins h = absurd (begins_not_spaces r begins h)
 filled width l r (m ∷ ls) ends begins h = go h.5
   where

@@ -8,8 +8,7 @@ use Rattle.tbr_model.specs.Rule.{without_trailing}
 use Rattle.tbr_model.specs.Hard.{letters_of, EndsWithNonBlank, first_stretch, BeginsBehind}
 use Rattle.tbr_model.proofs.lists.Each.{each_append}
 use Rattle.tbr_model.proofs.words.Items.{letters_of-append}
-use Rattle.tbr_model.proofs.prewrap.Stretches.{IsVisibleOrMarker}
-use Rattle.tbr_model.proofs.prewrap.LaidWord.{put_marker, put_here, put_next}
+use Rattle.tbr_model.proofs.prewrap.WordUnderWay.{IsVisibleOrMarker, put_marker, put_here, put_next}
 use Rattle.tbr_model.proofs.prewrap.WrappedText.{AreNonBlank, GoesOnFrom, ends_nonblank, stretch_front, stretch_all, longer, ended, begun, last_of}
 
 -- an open line whose text is no spaces at its end has none there
@@ -54,13 +53,15 @@ module _ {A : Type 0} (columns : ℕ → Option ℕ) (width : ℕ) (some : 0 < w
   pub record PutsText (l : Laid A) (y w : List ℕ) (r : Laid A) : Type 0 where
     pub nonblank : AreNonBlank (letters_of r.line)
     pub fits : length (letters_of r.line) ≤ width
+    pub columns_are : r.width ≡ length (letters_of r.line)
     pub measured : 0 < length y + length w → 0 < length (letters_of r.line)
     pub goes : (text : List ℕ) (ls : List (List ℕ)) → GoesOnFrom width (letters_of r.line) text ls → ReachesFrom l y w r text ls
 
-  put_none : (l : Laid A) (y : List ℕ) → letters_of l.line ≡ y → AreNonBlank y → length y ≤ width → PutsText l y [] l
-  put_none l y letters nonblank fits = record {
+  put_none : (l : Laid A) (y : List ℕ) → letters_of l.line ≡ y → AreNonBlank y → l.width ≡ length y → length y ≤ width → PutsText l y [] l
+  put_none l y letters nonblank columns_are fits = record {
     nonblank = subst AreNonBlank (sym letters) nonblank;
     fits = subst (λ (cs : List ℕ). length cs ≤ width) (sym letters) fits;
+    columns_are = columns_are ∙ ap length (sym letters);
     measured = λ h. omega (arith, h, ap length letters);
     goes = λ text ls h. (let g : GoesOnFrom width y text ls = subst (λ (cs : List ℕ). GoesOnFrom width cs text ls) letters h in record {
       all = ls;
@@ -76,6 +77,7 @@ module _ {A : Type 0} (columns : ℕ → Option ℕ) (width : ℕ) (some : 0 < w
       record {
         nonblank = k.nonblank;
         fits = k.fits;
+        columns_are = k.columns_are;
         measured = λ h. k.measured (omega (arith, more));
         goes = λ text ls h. (let g = k.goes text ls h in record {
           all = g.all;
@@ -90,6 +92,7 @@ module _ {A : Type 0} (columns : ℕ → Option ℕ) (width : ℕ) (some : 0 < w
   put_one_next l c a y w r letters nonblank full visible k = record {
     nonblank = k.nonblank;
     fits = k.fits;
+    columns_are = k.columns_are;
     measured = λ h. k.measured (omega arith);
     goes = λ text ls h.
         (let g = k.goes text ls h in
@@ -109,12 +112,12 @@ module _ {A : Type 0} (columns : ℕ → Option ℕ) (width : ℕ) (some : 0 < w
 
   pub put_text : (is : List (Item A)) (l : Laid A) (y : List ℕ) → Each (IsVisibleOrMarker columns) is → letters_of l.line ≡ y → AreNonBlank y → l.width ≡ length y → l.width ≤ width →
       PutsText l y (letters_of is) (put_items columns width l is)
-  put_text [] l y plain letters nonblank measured fits = put_none l y letters nonblank (omega (arith, measured, fits))
+  put_text [] l y plain letters nonblank measured fits = put_none l y letters nonblank measured (omega (arith, measured, fits))
   put_text (marker name ∷ is) l y plain letters nonblank measured fits =
       rw (put_marker columns width some l name fits)
       (let k = put_text is (extended l (marker name ∷ []) 0) y plain.1 (letters_of-append l.line (marker name ∷ []) ∙ append-nil (letters_of l.line) ∙ letters) nonblank
       (omega (arith, measured)) (omega (arith, fits)) in
-      record { nonblank = k.nonblank; fits = k.fits; measured = k.measured; goes = λ text ls h. (let g = k.goes text ls h in record { all = g.all; are = g.are; goes = g.goes; reach = g.reach }) })
+      record { nonblank = k.nonblank; fits = k.fits; columns_are = k.columns_are; measured = k.measured; goes = λ text ls h. (let g = k.goes text ls h in record { all = g.all; are = g.are; goes = g.goes; reach = g.reach }) })
   put_text (glyph c a ∷ is) l y plain letters nonblank measured fits =
       go (nat_le (l.width + 1) width) refl
       (λ room. put_text is (extended l (glyph c a ∷ []) 1) (y ++ c ∷ []) plain.1 (letters_of-append l.line (glyph c a ∷ []) ∙ ap (λ cs. cs ++ c ∷ []) letters)

@@ -1,13 +1,10 @@
--- Stretches of non-blanks.
-use Rattle.std.proofs.Common.{◌≡◌, ◌≢◌, ℕ, zero, suc, ◌<◌, ◌⊎◌, inl, inr, Bool, true, false, not, ◌==◌, if◌then◌else◌, Option, List, [], ◌∷◌, ◌++◌, replicate, length, refl, ap, sym, ◌∙◌, arith, append-nil, ne_eqb}
+-- Stretches of non-blanks, and where the lines of a wrapped text cut them.
+use Rattle.std.proofs.Common.{◌≡◌, ◌≢◌, ℕ, zero, suc, ◌<◌, inl, inr, Bool, true, false, not, ◌==◌, if◌then◌else◌, List, [], ◌∷◌, ◌++◌, flat_map, replicate, length, refl, ap, sym, ◌∙◌, subst, arith, append-nil, length-append, ne_eqb}
 use Rattle.std.specs.List.{AllByRecursion as Each}
 use Rattle.std.proofs.lemmas.Bool.{cond_both}
 use Rattle.std.proofs.lemmas.Bool.Decides.{eqb_tells}
-use Rattle.tbr_model.specs.Run.{Item, glyph, marker, items_width}
-use Rattle.tbr_model.specs.Layout.{joined}
-use Rattle.tbr_model.specs.Rule.{without_leading, without_trailing}
-use Rattle.tbr_model.specs.Hard.{letters_of, onto_first, begins_stretch, stretches}
-use Rattle.tbr_model.proofs.rule.Printable.{IsVisible, whitespace_not}
+use Rattle.tbr_model.specs.Hard.{IsSpaces, BeginsWithNonBlank, EndsWithNonBlank, onto_first, begins_stretch, first_stretch, stretches, IsCutOf, IsWrapped}
+use Rattle.tbr_model.proofs.prewrap.OneWay.{filled}
 
 -- ---- stretches of a text
 
@@ -36,93 +33,96 @@ begins_some (x ∷ xs) h = go (x == 32) h
     go false e = cond_both (begins_stretch xs) _ _ (λ (u : List (List ℕ)). 0 < length u) (λ _. some (stretches xs)) (λ _. omega arith)
 
 -- a space parts the stretches
-pub stretches_gap : (xs ys : List ℕ) → stretches (xs ++ 32 ∷ ys) ≡ stretches xs ++ stretches ys
+stretches_gap : (xs ys : List ℕ) → stretches (xs ++ 32 ∷ ys) ≡ stretches xs ++ stretches ys
 stretches_gap [] ys = refl
 stretches_gap (x ∷ xs) ys = elim (eqb_tells x 32) [
   | inl w ↦ rw (w.0) (stretches_gap xs ys)
   | inr w ↦ rw (w.0) (ap (λ b. pushed x b (stretches (xs ++ 32 ∷ ys))) (begins_gap xs ys) ∙ ap (pushed x (begins_stretch xs)) (stretches_gap xs ys) ∙ pushed-append x (begins_stretch xs) (stretches xs) (stretches ys) (begins_some xs))
 ]
 
-pub stretches_behind : (n : ℕ) (ys : List ℕ) → stretches (replicate n 32 ++ ys) ≡ stretches ys
+stretches_behind : (n : ℕ) (ys : List ℕ) → stretches (replicate n 32 ++ ys) ≡ stretches ys
 stretches_behind zero ys = refl
 stretches_behind (suc n) ys = stretches_behind n ys
 
--- behind a text with a space, or no text
-pub stretches_apart : (xs : List ℕ) (n : ℕ) (ys : List ℕ) → (xs ≡ []) ⊎ (0 < n) → stretches (xs ++ (replicate n 32 ++ ys)) ≡ stretches xs ++ stretches ys
-stretches_apart xs n ys (inl none) = ap (λ zs. stretches (zs ++ (replicate n 32 ++ ys))) none ∙ stretches_behind n ys ∙ ap (λ zs. stretches zs ++ stretches ys) (sym none)
-stretches_apart xs zero ys (inr some) = absurd (omega (arith, some))
-stretches_apart xs (suc n) ys (inr some) = stretches_gap xs (replicate n 32 ++ ys) ∙ ap (λ u. stretches xs ++ u) (stretches_behind n ys)
-
-stretches_before : (xs : List ℕ) (n : ℕ) → stretches (xs ++ replicate n 32) ≡ stretches xs
-stretches_before xs zero = ap stretches (append-nil xs)
-stretches_before xs (suc n) =
-    stretches_gap xs (replicate n 32) ∙ ap (λ u. stretches xs ++ u) (ap stretches (sym (append-nil (replicate n 32))) ∙ stretches_behind n []) ∙ append-nil (stretches xs)
+pub stretches_spaces : (cs : List ℕ) → IsSpaces cs → stretches cs ≡ []
+stretches_spaces [] h = refl
+stretches_spaces (c ∷ cs) h = rw (h.0) (stretches_spaces cs h.1)
 
 -- a text of non-blanks
-abbrev pub IsSolid : List ℕ → Type 0
+abbrev IsSolid : List ℕ → Type 0
 IsSolid cs = Each (λ c. c ≢ 32) cs
 
-pub stretches_solid : (c : ℕ) (cs : List ℕ) → IsSolid (c ∷ cs) → stretches (c ∷ cs) ≡ (c ∷ cs) ∷ []
-stretches_solid c [] h = let e : (c == 32) ≡ false = ne_eqb c 32 h.0 in rw e refl
-stretches_solid c (d ∷ cs) h =
+stretches_solid : (cs : List ℕ) → EndsWithNonBlank cs → IsSolid cs → stretches cs ≡ cs ∷ []
+stretches_solid [] ends h = absurd ends
+stretches_solid (c ∷ []) ends h = let e : (c == 32) ≡ false = ne_eqb c 32 h.0 in rw e refl
+stretches_solid (c ∷ d ∷ cs) ends h =
     let e : (c == 32) ≡ false = ne_eqb c 32 h.0 in
     let f : begins_stretch (d ∷ cs) ≡ true = ap not (ne_eqb d 32 h.1.0) in
-    rw (e, f) (ap (onto_first c) (stretches_solid d cs h.1))
+    rw (e, f) (ap (onto_first c) (stretches_solid (d ∷ cs) ends h.1))
 
-pub stretches_word : (cs : List ℕ) → 0 < length cs → IsSolid cs → stretches cs ≡ cs ∷ []
-stretches_word [] some h = absurd (omega (arith, some))
-stretches_word (c ∷ cs) some h = stretches_solid c cs h
+-- a text that is its first stretch
+solid : (cs : List ℕ) → first_stretch cs ≡ cs → IsSolid cs
+solid [] h = tt
+solid (c ∷ cs) h = elim (eqb_tells c 32) [
+  | inl w ↦ absurd (let none : length (first_stretch (c ∷ cs)) ≡ 0 = rw (w.0) refl in omega (arith, ap length h, none))
+  | inr w ↦ (w.1, solid cs (let rest : c ∷ first_stretch cs ≡ c ∷ cs = rw (w.0) at h in cc))
+]
 
-pub joined_solid : (cs : List ℕ) → IsSolid cs → joined (stretches cs) ≡ cs
-joined_solid [] h = refl
-joined_solid (c ∷ cs) h = ap joined (stretches_solid c cs h) ∙ append-nil (c ∷ cs)
-
--- ---- items
-
--- a visible character, or a marker
-abbrev pub IsVisibleOrMarker : {A : Type 0} → (ℕ → Option ℕ) → Item A → Type 0
-IsVisibleOrMarker columns (glyph c a) = IsVisible columns c
-IsVisibleOrMarker columns (marker name) = Unit {0}
-
-visible_solid : (columns : ℕ → Option ℕ) (c : ℕ) → IsVisible columns c → c ≢ 32
-visible_solid columns c v e = omega (arith, v.from, e)
-
-pub plain_solid : {A : Type 0} (columns : ℕ → Option ℕ) (is : List (Item A)) → Each (IsVisibleOrMarker columns) is → IsSolid (letters_of is)
-plain_solid columns [] h = tt
-plain_solid columns (glyph c a ∷ is) h = (visible_solid columns c h.0, plain_solid columns is h.1)
-plain_solid columns (marker name ∷ is) h = plain_solid columns is h.1
-
-pub plain_width : {A : Type 0} (columns : ℕ → Option ℕ) (is : List (Item A)) → Each (IsVisibleOrMarker columns) is → items_width columns is ≡ length (letters_of is)
-plain_width columns [] h = refl
-plain_width columns (glyph c a ∷ is) h = rw (h.0.one) (omega (arith, plain_width columns is h.1))
-plain_width columns (marker name ∷ is) h = omega (arith, plain_width columns is h.1)
-
--- such a word begins with no white space
-pub plain_leading : {A : Type 0} (columns : ℕ → Option ℕ) (is : List (Item A)) → Each (IsVisibleOrMarker columns) is → without_leading is ≡ is
-plain_leading columns [] h = refl
-plain_leading columns (glyph c a ∷ is) h = rw (whitespace_not c h.0.from h.0.to) refl
-plain_leading columns (marker name ∷ is) h = refl
-
-trailing_letters : {A : Type 0} (is : List (Item A)) → (n : ℕ) × (letters_of is ≡ letters_of (without_trailing is) ++ replicate n 32)
-trailing_letters [] = (0, refl)
-trailing_letters {A} (i ∷ is) = go (without_trailing is) refl (trailing_letters is)
+-- a text that begins with a non-blank has a first stretch
+some_stretch : (c : ℕ) (cs : List ℕ) → c ≢ 32 → (s : List ℕ) × (ss : List (List ℕ)) × (stretches (c ∷ cs) ≡ s ∷ ss) × (0 < length s)
+some_stretch c cs other = let e : (c == 32) ≡ false = ne_eqb c 32 other in rw e (go (begins_stretch cs) (stretches cs))
   where
-    go : (js : List (Item A)) → without_trailing is ≡ js → (n : ℕ) × (letters_of is ≡ letters_of (without_trailing is) ++ replicate n 32) →
-        (n : ℕ) × (letters_of (i ∷ is) ≡ letters_of (without_trailing (i ∷ is)) ++ replicate n 32)
-    go js e w = at i js e w.0 (w.1 ∙ ap (λ ks. letters_of ks ++ replicate w.0 32) e)
-      where
-        at : (j : Item A) (js : List (Item A)) → without_trailing is ≡ js → (n : ℕ) → letters_of is ≡ letters_of js ++ replicate n 32 →
-            (k : ℕ) × (letters_of (j ∷ is) ≡ letters_of (without_trailing (j ∷ is)) ++ replicate k 32)
-        at (glyph c a) [] e n h = elim (eqb_tells c 32) [
-          | inl w ↦ (suc n, (rw (e, w.0) (ap (λ ds. c ∷ ds) h ∙ ap (λ d. d ∷ replicate n 32) w.1)))
-          | inr w ↦ (n, (rw (e, w.0) (ap (λ ds. c ∷ ds) h)))
-        ]
-        at (glyph c a) (k ∷ ks) e n h = (n, (rw e (ap (λ ds. c ∷ ds) h)))
-        at (marker name) [] e n h = (n, (rw e h))
-        at (marker name) (k ∷ ks) e n h = (n, (rw e h))
+    go : (b : Bool) (u : List (List ℕ)) → (s : List ℕ) × (ss : List (List ℕ)) × (pushed c b u ≡ s ∷ ss) × (0 < length s)
+    go false u = (c ∷ [], u, refl, omega arith)
+    go true [] = (c ∷ [], [], refl, omega arith)
+    go true (s ∷ u) = (c ∷ s, u, refl, omega arith)
 
--- the spaces at the end of items are no stretch
-pub stretches_trailing : {A : Type 0} (is : List (Item A)) → stretches (letters_of (without_trailing is)) ≡ stretches (letters_of is)
-stretches_trailing is =
-    let w = trailing_letters is in
-    sym (ap stretches w.1 ∙ stretches_before (letters_of (without_trailing is)) w.0)
+begins_both : (l r : List ℕ) → IsSolid l → BeginsWithNonBlank r → begins_stretch (l ++ r) ≡ true
+begins_both [] [] h begins = absurd begins
+begins_both [] (d ∷ r) h begins = ap not (ne_eqb d 32 begins)
+begins_both (c ∷ l) r h begins = ap not (ne_eqb c 32 h.0)
+
+-- non-blanks in front of a stretch belong to it
+stretch_longer : (l r s : List ℕ) (ss : List (List ℕ)) → IsSolid l → BeginsWithNonBlank r → stretches r ≡ s ∷ ss → stretches (l ++ r) ≡ (l ++ s) ∷ ss
+stretch_longer [] r s ss h begins is = is
+stretch_longer (c ∷ l) r s ss h begins is =
+    let e : (c == 32) ≡ false = ne_eqb c 32 h.0 in
+    let f : begins_stretch (l ++ r) ≡ true = begins_both l r h.1 begins in
+    rw (e, f) (ap (onto_first c) (stretch_longer l r s ss h.1 begins is))
+
+-- ---- wrapped texts
+
+module _ (width : ℕ) where
+  -- stretches that aren't cut, in front of others
+  whole_first : (ss ts ps : List (List ℕ)) → IsCutOf width ts ps → IsCutOf width (ss ++ ts) (ss ++ ps)
+  whole_first [] ts ps h = h
+  whole_first (s ∷ ss) ts ps h = (s ∷ [], ss ++ ps, refl, append-nil s, λ _. refl, whole_first ss ts ps h)
+
+  apart : (l r : List ℕ) (ps : List (List ℕ)) → stretches (l ++ r) ≡ stretches l ++ stretches r → IsCutOf width (stretches r) ps → IsCutOf width (stretches (l ++ r)) (stretches l ++ ps)
+  apart l r ps is h = subst (λ (ss : List (List ℕ)). IsCutOf width ss (stretches l ++ ps)) (sym is) (whole_first (stretches l) (stretches r) ps h)
+
+  -- A line, and the lines behind it. If a stretch goes on from one to the other, it fills the line, and is cut.
+  cut_line : (l r : List ℕ) (ls : List (List ℕ)) → EndsWithNonBlank l → IsWrapped width l r ls → IsCutOf width (stretches r) (flat_map stretches ls) → IsCutOf width (stretches (l ++ r)) (stretches l ++ flat_map stretches ls)
+  cut_line l [] ls ends h k = apart l [] (flat_map stretches ls) (ap stretches (append-nil l) ∙ sym (append-nil (stretches l))) k
+  cut_line l (c ∷ r) ls ends h k = elim (eqb_tells c 32) [
+    | inl w ↦ apart l (c ∷ r) (flat_map stretches ls) (rw (w.1) (stretches_gap l r)) k
+    | inr w ↦
+        let (full, alone) = filled width l (c ∷ r) ls ends w.1 h in
+        let (s, ss, first, some) = some_stretch c r w.1 in
+        let (front, back, are, all, whole, others) = subst (λ (ts : List (List ℕ)). IsCutOf width ts (flat_map stretches ls)) first k in
+        subst (λ (ts : List (List ℕ)). IsCutOf width ts (stretches l ++ flat_map stretches ls)) (sym (stretch_longer l (c ∷ r) s ss (solid l alone) w.1 first)) (
+          l ∷ front,
+          back,
+          ap (λ (ts : List (List ℕ)). ts ++ flat_map stretches ls) (stretches_solid l ends (solid l alone)) ∙ ap (λ (ps : List (List ℕ)). l ∷ ps) are,
+          ap (λ (cs : List ℕ). l ++ cs) all,
+          λ fits. absurd (omega (arith, fits, full, some, length-append l s)),
+          others,
+        )
+  ]
+
+  -- In a wrapped text only a stretch that is wider than a line is cut.
+  pub cut_if_wrapped : (before text : List ℕ) (ls : List (List ℕ)) → IsWrapped width before text ls → IsCutOf width (stretches text) (flat_map stretches ls)
+  cut_if_wrapped before text [] h = subst (λ (ss : List (List ℕ)). IsCutOf width ss []) (sym (stretches_spaces text h)) refl
+  cut_if_wrapped before text (l ∷ ls) h =
+      subst (λ (ss : List (List ℕ)). IsCutOf width ss (stretches l ++ flat_map stretches ls)) (sym (ap stretches h.2 ∙ stretches_behind h.0 (l ++ h.1)))
+      (cut_line l h.1 ls h.3 h.6 (cut_if_wrapped l h.1 ls h.6))

@@ -11,8 +11,7 @@ use Rattle.tbr_model.specs.Rule.{Event, call, entry, run_of, Progress, Space, pe
 use Rattle.tbr_model.specs.Hard.{HasMode, letters_of, entry_letters, IsPrintableLine, IsSpaces, EndsWithNonBlank, IsWrapped}
 use Rattle.tbr_model.proofs.words.Items.{letters_of-append, some_letters, has_letters, no_letters, no_character_no_width, WaitsIn, pending_width-of}
 use Rattle.tbr_model.proofs.tabs.FittingText.{laid_letters}
-use Rattle.tbr_model.proofs.prewrap.Stretches.{IsVisibleOrMarker, plain_width, plain_leading}
-use Rattle.tbr_model.proofs.prewrap.LaidWord.{IsReadyForWord, waits, join_ready, again_ready, fresh_ready, lay_cut}
+use Rattle.tbr_model.proofs.prewrap.WordUnderWay.{IsVisibleOrMarker, plain_width, plain_leading, IsReadyForWord, waits, join_ready, again_ready, fresh_ready}
 use Rattle.tbr_model.proofs.prewrap.Entry.{enter_wrap_space, enter_wrap_visible, break_none, break_some}
 use Rattle.tbr_model.proofs.rule.Printable.{visible_of}
 use Rattle.tbr_model.proofs.rule.HardLineStart.{BeginsHardLine}
@@ -26,6 +25,9 @@ module _ {A : Type 0} (columns : ℕ → Option ℕ) (width : ℕ) (some : 0 < w
   record LaysText (p q : Progress A) : Type 0 where
     line : EndsWithNonBlank (letters_of q.laid.line) × (length (letters_of q.laid.line) ≤ width)
     measured : 0 < length (letters_of q.laid.line)
+    columns_are : q.laid.width ≡ length (letters_of q.laid.line)
+    space : q.space ≡ None
+    word : q.word ≡ []
     goes : (text : List ℕ) (ls : List (List ℕ)) → GoesOnFrom width (letters_of q.laid.line) text ls →
         (all : List (List ℕ)) × (map letters_of q.laid.done ++ ls ≡ map letters_of p.laid.done ++ all)
         × GoesOn width (letters_of p.laid.line) (replicate (pending_width p.space) 32 ++ (letters_of p.word ++ text)) all
@@ -44,6 +46,9 @@ module _ {A : Type 0} (columns : ℕ → Option ℕ) (width : ℕ) (some : 0 < w
         line = subst (λ (cs : List ℕ). EndsWithNonBlank cs × (length cs ≤ width)) (sym is)
             (ends_append line (gap ++ w) (ends_append gap w ends), omega (arith, size, fits, h.measured, plain_width columns p.word h.plain));
         measured = omega (arith, ap length is, size, long);
+        columns_are = omega (arith, ap length is, size, h.measured, plain_width columns p.word h.plain);
+        space = refl;
+        word = refl;
         goes = λ text ls g. (
           ls,
           refl,
@@ -102,6 +107,9 @@ module _ {A : Type 0} (columns : ℕ → Option ℕ) (width : ℕ) (some : 0 < w
       lays l k on = record {
         line = (ends_nonblank (letters_of (put_items columns width l p.word).line) k.nonblank (k.measured (omega (arith, long))), k.fits);
         measured = k.measured (omega (arith, long));
+        columns_are = k.columns_are;
+        space = refl;
+        word = refl;
         goes = λ text ls g. on text ls (k.goes text ls g);
       }
 
@@ -220,14 +228,14 @@ module _ {A : Type 0} (columns : ℕ → Option ℕ) (width : ℕ) (some : 0 < w
   end_wraps p h line = cond_both (has_character p.word) _ _ (λ (q : Progress A). WrapsText p (text_ahead p []) q.laid) (λ has. end_laid p h line has) (λ none. end_bare p line none)
 
   -- a space behind a word that is laid
-  space_laid : (p : Progress A) (a : A) (cs : List ℕ) (l : Laid A) → LaysText p (lay columns width p) → (lay columns width p).space ≡ None → (lay columns width p).word ≡ [] →
+  space_laid : (p : Progress A) (a : A) (cs : List ℕ) (l : Laid A) → LaysText p (lay columns width p) →
       (let n : Progress A = record (lay columns width p) { space = space_of (pending_width (lay columns width p).space + 1) a PreWrap } in WrapsText n (text_ahead n cs) l) → WrapsText p (text_ahead p (32 ∷ cs)) l
-  space_laid p a cs l k no_space no_word rest =
+  space_laid p a cs l k rest =
       let q : Progress A = lay columns width p in
       let n : Progress A = record q { space = space_of (pending_width q.space + 1) a PreWrap } in
       let ahead : text_ahead n cs ≡ 32 ∷ cs =
-      ap (λ (m : ℕ). replicate m 32 ++ (letters_of q.word ++ cs)) (pending_width-of (pending_width q.space + 1) a PreWrap ∙ ap (λ (o : Option (Space A)). pending_width o + 1) no_space)
-      ∙ ap (λ (is : List (Item A)). 32 ∷ (letters_of is ++ cs)) no_word in
+      ap (λ (m : ℕ). replicate m 32 ++ (letters_of q.word ++ cs)) (pending_width-of (pending_width q.space + 1) a PreWrap ∙ ap (λ (o : Option (Space A)). pending_width o + 1) k.space)
+      ∙ ap (λ (is : List (Item A)). 32 ∷ (letters_of is ++ cs)) k.word in
       let (all, are, goes) = k.goes (32 ∷ cs) rest.lines (subst (λ (ds : List ℕ). GoesOnFrom width (letters_of q.laid.line) ds rest.lines) ahead (goes_on_some width (letters_of q.laid.line) (text_ahead n cs) rest.lines k.measured rest.goes)) in
       record {
         lines = all;
@@ -275,12 +283,11 @@ module _ {A : Type 0} (columns : ℕ → Option ℕ) (width : ℕ) (some : 0 < w
       go true e =
           let q : Progress A = lay columns width p in
           let k = lay_text p h line e in
-          let laid = lay_cut columns width some p h e in
           let n : Progress A = spaced q (tag_of q a b) in
-          let plain : Each (IsVisibleOrMarker columns) q.word = subst (Each (IsVisibleOrMarker columns)) (sym laid.2) tt in
-          let rest = later n (waits columns q (tag_of q a b) plain laid.0.measured) (inr k.line) in
+          let plain : Each (IsVisibleOrMarker columns) q.word = subst (Each (IsVisibleOrMarker columns)) (sym k.word) tt in
+          let rest = later n (waits columns q (tag_of q a b) plain k.columns_are) (inr k.line) in
           subst (ReadsSpace es p a b) (sym (break_some columns width p (omega (arith, plain_width columns p.word h.plain, some_letters p.word e))))
-          (kept q (ap has_character laid.2) (space_laid p (tag_of q a b) (entry_letters (run_of es)) (end_laid_from n es) k laid.1 laid.2 rest))
+          (kept q (ap has_character k.word) (space_laid p (tag_of q a b) (entry_letters (run_of es)) (end_laid_from n es) k rest))
       go false e =
           let n : Progress A = spaced p (tag_of p a b) in
           let rest = later n (waits columns p (tag_of p a b) h.plain h.measured) line in

@@ -16,7 +16,7 @@ pub mode_preserves : {A : Type 0} (mode : WhiteSpace) → mode ≢ Normal → (e
 mode_preserves mode kept (character c a b m) h = λ e. kept (sym h ∙ e)
 mode_preserves mode kept (marker_entry name) h = tt
 
-all_preserve : {A : Type 0} (mode : WhiteSpace) → mode ≢ Normal → (run : List (Entry A)) → Each (HasMode mode) run → Each Preserves run
+pub all_preserve : {A : Type 0} (mode : WhiteSpace) → mode ≢ Normal → (run : List (Entry A)) → Each (HasMode mode) run → Each Preserves run
 all_preserve mode kept [] h = tt
 all_preserve mode kept (e ∷ run) h = (mode_preserves mode kept e h.0, all_preserve mode kept run h.1)
 

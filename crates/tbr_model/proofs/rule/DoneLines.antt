@@ -152,24 +152,18 @@ finished_behind {A} columns width d p =
 
 -- ---- lines are only added
 
+-- by what has no use for them
+pub adds_by : {A : Type 0} (F : Progress A → Progress A) → ((d : List (List (Item A))) (p : Progress A) → F (behind d p) ≡ behind d (F p)) → (p : Progress A) → (more : List (List (Item A))) × ((F p).laid.done ≡ p.laid.done ++ more)
+adds_by {A} F same p =
+    let bare : Progress A = record p { laid = record p.laid { done = [] } } in
+    let is : behind p.laid.done bare ≡ p = ap (λ ls. record p { laid = record p.laid { done = ls } }) (append-nil p.laid.done) in
+    ((F bare).laid.done, ap (λ (q : Progress A). (F q).laid.done) (sym is) ∙ ap (λ (q : Progress A). q.laid.done) (same p.laid.done bare))
+
 module _ {A : Type 0} (columns : ℕ → Option ℕ) (width : ℕ) (p : Progress A) where
-  -- where the rule stands, without its lines
-  abbrev bare : Progress A
-  bare = record p { laid = record p.laid { done = [] } }
-
-  bare_behind : behind p.laid.done bare ≡ p
-  bare_behind = ap (λ ls. record p { laid = record p.laid { done = ls } }) (append-nil p.laid.done)
-
   -- by an event
   pub step_adds : (e : Event A) → (more : List (List (Item A))) × ((step columns width p e).laid.done ≡ p.laid.done ++ more)
-  step_adds e = (
-    (step columns width bare e).laid.done,
-    ap (λ (q : Progress A). (step columns width q e).laid.done) (sym bare_behind) ∙ ap (λ (q : Progress A). q.laid.done) (step_behind columns width p.laid.done bare e),
-  )
+  step_adds e = adds_by (λ q. step columns width q e) (λ d q. step_behind columns width d q e) p
 
   -- by the end of the run
   pub finished_adds : (more : List (List (Item A))) × ((finished columns width p).done ≡ p.laid.done ++ more)
-  finished_adds = (
-    (finished columns width bare).done,
-    ap (λ (q : Progress A). (finished columns width q).done) (sym bare_behind) ∙ ap (λ (l : Laid A). l.done) (finished_behind columns width p.laid.done bare),
-  )
+  finished_adds = adds_by (λ q. record q { laid = finished columns width q }) (λ d q. ap (λ (l : Laid A). record q { laid = l }) (finished_behind columns width d q)) p

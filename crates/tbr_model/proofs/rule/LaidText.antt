@@ -1,11 +1,10 @@
 -- What a block has laid, as one text, and the characters of a text.
-use Rattle.std.proofs.Common.{◌≡◌, ℕ, zero, suc, ◌+◌, ◌-◌, ◌%◌, nat_le, ◌==◌, false, Option, Some, None, List, [], ◌∷◌, ◌++◌, map, filter, refl, ap, sym, ◌∙◌, append_assoc, append-nil}
+use Rattle.std.proofs.Common.{◌≡◌, ℕ, ◌+◌, nat_le, ◌==◌, false, Option, List, [], ◌∷◌, ◌++◌, map, filter, refl, ap, sym, ◌∙◌, append_assoc, append-nil}
 use Rattle.std.proofs.lemmas.Bool.{cond_both}
 use Rattle.std.proofs.lemmas.List.Elements.{filter-append}
 use Rattle.tbr_model.specs.Run.{Item, glyph, item_width, is_kept, has_character}
 use Rattle.tbr_model.specs.Layout.{joined}
 use Rattle.tbr_model.specs.Laid.{Laid, extended, end_line, end_if_character, end_if_columns, put_item, put_items}
-use Rattle.tbr_model.specs.Rule.{Space, spaces, space_text, put_space, put_spaces, put_pending, put_tab}
 use Rattle.tbr_model.specs.Hard.{letters_of}
 use Rattle.tbr_model.proofs.words.Items.{letters_of-append, no_glyphs}
 use Rattle.tbr_model.proofs.lists.Joined.{joined-append}
@@ -44,27 +43,6 @@ pub text-put_items : {A : Type 0} (columns : ℕ → Option ℕ) (width : ℕ) (
 text-put_items columns width [] l = sym (append-nil (text l))
 text-put_items columns width (i ∷ is) l =
     text-put_items columns width is (put_item columns width l i) ∙ ap (λ js. js ++ is) (text-put_item columns width l i) ∙ append_assoc (text l) (i ∷ []) is
-
-text-put_space : {A : Type 0} (width : ℕ) (a : A) (l : Laid A) → text (put_space width a l) ≡ text l ++ glyph 32 a ∷ []
-text-put_space {A} width a l =
-    cond_both (l.width + 1 == width) _ _ (λ (m : Laid A). text m ≡ text l ++ glyph 32 a ∷ [])
-    (λ _. text-end_line (extended l (glyph 32 a ∷ []) 1) ∙ text-extended l (glyph 32 a ∷ []) 1) (λ _. text-extended l (glyph 32 a ∷ []) 1)
-
-text-put_spaces : {A : Type 0} (width : ℕ) (a : A) (n : ℕ) (l : Laid A) → text (put_spaces width a n l) ≡ text l ++ spaces n a
-text-put_spaces width a zero l = sym (append-nil (text l))
-text-put_spaces width a (suc n) l =
-    text-put_spaces width a n (put_space width a l) ∙ ap (λ js. js ++ spaces n a) (text-put_space width a l) ∙ append_assoc (text l) (glyph 32 a ∷ []) (spaces n a)
-
-pub text-put_pending : {A : Type 0} (width : ℕ) (o : Option (Space A)) (l : Laid A) → text (put_pending width o l) ≡ text l ++ space_text o
-text-put_pending width None l = sym (append-nil (text l))
-text-put_pending width (Some s) l = text-put_spaces width s.tag s.width l
-
--- a tab is some spaces
-pub text-put_tab : {A : Type 0} (width column : ℕ) (a : A) (l : Laid A) → (n : ℕ) × (text (put_tab width column a l) ≡ text l ++ spaces n a)
-text-put_tab {A} width column a l =
-    cond_both (nat_le (8 - column % 8) (width - column)) _ _ (λ (m : Laid A). (n : ℕ) × (text m ≡ text l ++ spaces n a))
-    (λ _. (8 - column % 8, text-extended l (spaces (8 - column % 8) a) (8 - column % 8)))
-    (λ _. (width - column, text-end_line (extended l (spaces (width - column) a) (width - column)) ∙ text-extended l (spaces (width - column) a) (width - column)))
 
 -- ---- characters
 

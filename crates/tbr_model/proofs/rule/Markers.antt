@@ -7,7 +7,8 @@ use Rattle.tbr_model.specs.Laid.{end_if_character}
 use Rattle.tbr_model.specs.Rule.{Event, entry, run_of, Progress, at_start, flush_word, enter, step, progress, waiting, lines_of}
 use Rattle.tbr_model.specs.Markers.{names_in_items, names_in_run, marker_run, marker_items}
 use Rattle.tbr_model.proofs.words.Items.{has_character-append}
-use Rattle.tbr_model.proofs.rule.Content.{LooksAtKept, StandsFor, PendingIn, AnyMode, any_mode, content, fold_content, finished_content}
+use Rattle.tbr_model.proofs.rule.Content.{LooksAtKept, AnyEntry, AnyMode, StandsFor, by_entry, found_under_way, found_at_end}
+use Rattle.tbr_model.proofs.rule.Walk.{any_entries}
 use Rattle.tbr_model.proofs.rule.HardLines.{no_character_after_end, flush_flushes}
 
 -- ---- items and entries
@@ -28,43 +29,29 @@ marker_items_alone [] h = refl
 marker_items_alone (glyph c a ∷ is) h = cc
 marker_items_alone (marker name ∷ is) h = ap (λ js. marker name ∷ js) (marker_items_alone is h)
 
-looks_at_markers : {A : Type 0} (columns : ℕ → Option ℕ) → LooksAtKept {A = A} columns AnyMode names_in_items
-looks_at_markers columns = record { append = names_in_items-append; nothing = refl; lost = λ c a h. refl; white = λ m c a h. refl }
+looks_at_markers : {A : Type 0} (columns : ℕ → Option ℕ) → LooksAtKept {A = A} columns AnyEntry AnyMode names_in_items
+looks_at_markers columns = record { modes = λ c a b m h. tt; append = names_in_items-append; nothing = refl; lost = λ c a h. refl; white = λ m c a h. refl }
 
 -- items that stand for entries have their markers
-names_alike : {A : Type 0} (is : List (Item A)) (es : List (Entry A)) → AllZip StandsFor is es → names_in_items is ≡ names_in_run es
-names_alike [] [] h = refl
-names_alike [] (e ∷ es) h = elim h [ ]
-names_alike (i ∷ is) [] h = elim h [ ]
-names_alike (glyph c x ∷ is) (character d a b m ∷ es) h = names_alike is es h.1
-names_alike (glyph c x ∷ is) (marker_entry name ∷ es) h = elim h.0 [ ]
-names_alike (marker name ∷ is) (character d a b m ∷ es) h = elim h.0 [ ]
-names_alike (marker name ∷ is) (marker_entry other ∷ es) h = rw (h.0) (ap (λ ns. other ∷ ns) (names_alike is es h.1))
+names_alike : {A : Type 0} (is : List (Item A)) (es : List (Entry A)) → AllZip (StandsFor AnyMode) is es → names_in_items is ≡ names_in_run es
+names_alike = by_entry AnyMode (λ is es. names_in_items is ≡ names_in_run es) refl (λ c x a b m is es either rest. rest) (λ name is es rest. ap (λ ns. name ∷ ns) rest)
 
 module _ {A : Type 0} (columns : ℕ → Option ℕ) (width : ℕ) where
   -- ---- a run
-
-  named : (es : List (Event A)) → (content names_in_items (progress columns width es) ≡ names_in_run (run_of es)) × PendingIn AnyMode (progress columns width es).space
-  named es =
-      let g = fold_content columns AnyMode names_in_items (looks_at_markers columns) width es at_start (any_mode (run_of es)) tt in
-      (g.are ∙ names_alike g.items (run_of es) g.stand, g.pending)
 
   -- The markers of a run stand on its lines and in its word once, in order.
   pub markers_run : (es : List (Event A)) → let p = progress columns width es in names_in_items (joined p.laid.done) ++ (names_in_items p.laid.line ++ names_in_items p.word) ≡ names_in_run (run_of es)
   markers_run es =
       let p : Progress A = progress columns width es in
+      let g = found_under_way (looks_at_markers columns) width es (any_entries (run_of es)) in
       sym (append_assoc (names_in_items (joined p.laid.done)) (names_in_items p.laid.line) (names_in_items p.word))
-      ∙ ap (λ ns. ns ++ names_in_items p.word) (sym (names_in_items-append (joined p.laid.done) p.laid.line)) ∙ (named es).0
+      ∙ ap (λ ns. ns ++ names_in_items p.word) (sym (names_in_items-append (joined p.laid.done) p.laid.line)) ∙ g.are ∙ names_alike g.items (run_of es) g.stand
 
   -- at its end they stand on its lines, or wait
   pub markers_at_end : (es : List (Event A)) → names_in_items (joined (lines_of columns width es)) ++ names_in_items (waiting columns width (progress columns width es)) ≡ names_in_run (run_of es)
   markers_at_end es =
-      let p : Progress A = progress columns width es in
-      let q : Progress A = flush_word columns width p in
-      ap (λ ns. names_in_items (joined (end_if_character q.laid).done) ++ ns) (names_in_items-append (end_if_character q.laid).line q.word)
-      ∙ sym (append_assoc (names_in_items (joined (end_if_character q.laid).done)) (names_in_items (end_if_character q.laid).line) (names_in_items q.word))
-      ∙ ap (λ ns. ns ++ names_in_items q.word) (sym (names_in_items-append (joined (end_if_character q.laid).done) (end_if_character q.laid).line))
-      ∙ finished_content columns AnyMode names_in_items (looks_at_markers columns) width p (named es).1 ∙ (named es).0
+      let g = found_at_end (looks_at_markers columns) width es (any_entries (run_of es)) in
+      sym (names_in_items-append (joined (lines_of columns width es)) (waiting columns width (progress columns width es))) ∙ g.are ∙ names_alike g.items (run_of es) g.stand
 
   -- no character waits
   pub waiting_none : (p : Progress A) → has_character (waiting columns width p) ≡ false

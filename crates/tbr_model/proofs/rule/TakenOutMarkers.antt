@@ -21,25 +21,6 @@ without_none [] = refl
 without_none {A} (character c a b mode ∷ es) = ap (λ (fs : List (Entry A)). character c a b mode ∷ fs) (without_none es)
 without_none {A} (marker_entry name ∷ es) = rw (le-ltb (length (names_in_run es)) 0 (omega arith)) (ap (λ (fs : List (Entry A)). marker_entry name ∷ fs) (without_none es))
 
-pub without_last-append : {A : Type 0} (n : ℕ) (es fs : List (Entry A)) → length (names_in_run fs) ≤ n →
-    without_last_markers n (es ++ fs) ≡ without_last_markers (n - length (names_in_run fs)) es ++ without_last_markers n fs
-without_last-append n [] fs h = refl
-without_last-append {A} n (character c a b mode ∷ es) fs h = ap (λ (gs : List (Entry A)). character c a b mode ∷ gs) (without_last-append n es fs h)
-without_last-append {A} n (marker_entry name ∷ es) fs h = go (nat_lt (length (names_in_run es)) (n - length (names_in_run fs))) refl (without_last-append n es fs h)
-  where
-    both : length (names_in_run (es ++ fs)) ≡ length (names_in_run es) + length (names_in_run fs)
-    both = ap length (names_in_run-append es fs) ∙ length-append (names_in_run es) (names_in_run fs)
-
-    go : (x : Bool) → nat_lt (length (names_in_run es)) (n - length (names_in_run fs)) ≡ x →
-        without_last_markers n (es ++ fs) ≡ without_last_markers (n - length (names_in_run fs)) es ++ without_last_markers n fs →
-        without_last_markers n (marker_entry name ∷ (es ++ fs)) ≡ without_last_markers (n - length (names_in_run fs)) (marker_entry name ∷ es) ++ without_last_markers n fs
-    go true e rest =
-        let test : nat_lt (length (names_in_run (es ++ fs))) n ≡ true = lt-ltb _ _ (omega (arith, both, ltb-true _ _ e)) in
-        rw (test, e) rest
-    go false e rest =
-        let test : nat_lt (length (names_in_run (es ++ fs))) n ≡ false = le-ltb _ _ (omega (arith, both, ltb-false _ _ e)) in
-        rw (test, e) (ap (λ (gs : List (Entry A)). marker_entry name ∷ gs) rest)
-
 -- ---- the last markers among events
 
 pub run_without : {A : Type 0} (n : ℕ) (es : List (Event A)) → run_of (without_markers n es) ≡ without_last_markers n (run_of es)

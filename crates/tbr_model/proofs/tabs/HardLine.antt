@@ -6,11 +6,12 @@ use Rattle.std.proofs.lemmas.Bool.Decides.{eqb_tells}
 use Rattle.std.proofs.lemmas.List.{length-replicate}
 use Rattle.tbr_model.specs.declared.white_space.WhiteSpace.{WhiteSpace}
 use Rattle.tbr_model.specs.declared.white_space.WhiteSpace.TheVariants.{Normal}
-use Rattle.tbr_model.specs.Run.{Entry, character, marker_entry, has_character}
+use Rattle.tbr_model.specs.Run.{character, marker_entry, has_character}
 use Rattle.tbr_model.specs.Laid.{Laid, end_line, end_if_character}
 use Rattle.tbr_model.specs.Rule.{Event, call, entry, run_of, Progress, pending_width, space_text, lay_here, flush_word, tag_of, newline, enter, step, finished}
 use Rattle.tbr_model.specs.Hard.{HasMode, Preserves, is_newline, letters_of, entry_letters, IsPrintable, IsTabbedLine, EndsWithNonBlank, tabs_filled, ShowsTabs}
 use Rattle.tbr_model.proofs.words.Items.{back_has, no_character_no_width, no_letters}
+use Rattle.tbr_model.proofs.rule.BlankLines.{all_preserve}
 use Rattle.tbr_model.proofs.rule.HardLineStart.{BeginsHardLine}
 use Rattle.tbr_model.proofs.rule.Printable.{IsVisible, prepared, entered, preserved_tab, preserved_space, preserved_visible, visible_of}
 use Rattle.tbr_model.proofs.tabs.FittingText.{HoldsText, lay_fits, laid_letters, flush_reads, prepared_reads, space_reads, continuation_reads, character_reads, character_joins, tab_reads}
@@ -123,11 +124,6 @@ pub end_reads : {A : Type 0} (columns : ℕ → Option ℕ) (width : ℕ) (x : L
 end_reads columns width x p h fits has =
     rw has (rw (lay_fits columns width x p h fits) (line_is x (lay_here columns p).laid h.done (laid_letters columns p ∙ h.text) (laid_has columns p has)))
 
-kept_by : {A : Type 0} (mode : WhiteSpace) → mode ≢ Normal → (es : List (Entry A)) → Each (HasMode mode) es → Each Preserves es
-kept_by mode kept [] h = tt
-kept_by mode kept (character c a b m ∷ es) h = (λ e. kept (sym h.0 ∙ e), kept_by mode kept es h.1)
-kept_by mode kept (marker_entry name ∷ es) h = (tt, kept_by mode kept es h.1)
-
 some_end : (cs : List ℕ) → EndsWithNonBlank cs → Ends false cs
 some_end [] h = absurd h
 some_end (c ∷ cs) h = h
@@ -143,5 +139,5 @@ tab_line {A} columns width one some mode kept p es h no_newline modes = (record 
         IsLine (tabs_filled 0 (entry_letters (run_of es))) (flush_word columns width (fold (step columns width) p es)).laid
     line tabbed ends fits =
         let starts : Ends (has_character p.word) (entry_letters (run_of es)) = rw (h.word) (some_end (entry_letters (run_of es)) ends) in
-        let both = tabs_read columns width es [] (tabs_filled 0 (entry_letters (run_of es))) p one (kept_by mode kept (run_of es) modes) tabbed starts refl fits (fresh_reads columns p h) in
+        let both = tabs_read columns width es [] (tabs_filled 0 (entry_letters (run_of es))) p one (all_preserve mode kept (run_of es) modes) tabbed starts refl fits (fresh_reads columns p h) in
         end_reads columns width (tabs_filled 0 (entry_letters (run_of es))) (fold (step columns width) p es) both.0 fits both.1

@@ -1,5 +1,6 @@
 -- Characters and columns of items, one behind another, and of space that waits.
 use Rattle.std.proofs.Common.{◌≡◌, ℕ, zero, suc, ◌+◌, ◌<◌, true, false, not, ◌||◌, is_some, Option, Some, None, List, [], ◌∷◌, ◌++◌, map, length, replicate, refl, ap, ◌∙◌, arith}
+use Rattle.std.specs.List.{AllByRecursion as Each}
 use Rattle.std.proofs.lemmas.Bool.{and_right, or_right, not_from_true}
 use Rattle.std.proofs.lemmas.List.{map-append}
 use Rattle.tbr_model.specs.declared.white_space.WhiteSpace.{WhiteSpace}
@@ -54,6 +55,12 @@ pub has_letters : {A : Type 0} (is : List (Item A)) → 0 < length (letters_of i
 has_letters [] h = absurd (omega arith)
 has_letters (glyph c a ∷ is) h = refl
 has_letters (marker m ∷ is) h = has_letters is h
+
+-- what holds of each marker holds of each such item
+pub each_marker : {A : Type 0} (P : Item A → Type 0) → ((name : List ℕ) → P (marker name)) → (is : List (Item A)) → has_character is ≡ false → Each P is
+each_marker P mark [] h = tt
+each_marker P mark (glyph c a ∷ is) h = cc
+each_marker P mark (marker name ∷ is) h = (mark name, each_marker P mark is h)
 
 -- a break point isn't kept
 pub break_lost : (columns : ℕ → Option ℕ) (c : ℕ) → is_break c ≡ true → is_kept columns c ≡ false

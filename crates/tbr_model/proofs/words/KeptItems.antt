@@ -3,11 +3,11 @@ use Rattle.std.proofs.Common.{◌≡◌, ℕ, ◌≤◌, Bool, true, false, nat_
 use Rattle.std.specs.List.{AllByRecursion as Each}
 use Rattle.std.proofs.lemmas.Bool.{cond_both, and_parts}
 use Rattle.std.proofs.lemmas.List.Concat.{flat_map-append}
-use Rattle.tbr_model.specs.Run.{Entry, character, marker_entry, Item, glyph, marker, item_width, items_width, items_of, kept_items, is_kept, is_break_entry, has_character, Word, word_of, Reading, start, works, read, reading, words_of, trailing}
+use Rattle.tbr_model.specs.Run.{Entry, character, marker_entry, Item, item_width, items_width, items_of, kept_items, is_kept, is_break_entry, has_character, Word, word_of, Reading, start, works, read, reading, words_of, trailing}
 use Rattle.tbr_model.specs.Layout.{Slot, slot_of, word_slots, slots_of, joined, line_width, rest_width, IsLegalLine, IsLegal, IsBest}
 use Rattle.tbr_model.proofs.lists.Each.{each_front, each_back, each_append}
 use Rattle.tbr_model.specs.Greedy.{close, wrapped, IsNarrow}
-use Rattle.tbr_model.proofs.words.Items.{break_lost}
+use Rattle.tbr_model.proofs.words.Items.{each_marker, break_lost}
 use Rattle.tbr_model.proofs.words.BestLayout.{wrapped_holds, holds_best}
 
 -- ---- the items of the words
@@ -87,9 +87,7 @@ narrow_words columns width (w ∷ words) h = (
 
 -- markers have no width
 pub narrow_markers : {A : Type 0} (columns : ℕ → Option ℕ) (width : ℕ) (is : List (Item A)) → has_character is ≡ false → IsNarrow columns width is
-narrow_markers columns width [] h = tt
-narrow_markers columns width (glyph c a ∷ is) h = cc
-narrow_markers columns width (marker name ∷ is) h = (omega arith, narrow_markers columns width is h)
+narrow_markers columns width = each_marker (λ i. item_width columns i ≤ width) (λ name. omega arith)
 
 narrow_trailing : {A : Type 0} (columns : ℕ → Option ℕ) (width : ℕ) (run : List (Entry A)) → IsNarrow columns width (trailing columns run)
 narrow_trailing {A} columns width run =

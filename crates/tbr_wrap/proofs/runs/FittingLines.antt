@@ -10,8 +10,8 @@ use Rattle.tbr_model.specs.Laid.{Laid, extended, end_if_character}
 use Rattle.tbr_model.specs.Rule.{Event, call, entry, run_of, Space, Progress, spaces, pending_width, space_text, space_of, lay_here, flush_word, join, newline, tab, tag_of, keep_space, passes, keep_character, enter, step, finished, lines_of}
 use Rattle.tbr_model.specs.Hard.{HasMode, is_newline, is_visible_entry, visible_glyphs, visible_entries, IsShown, ShowsVisible, hard_lines, Parted}
 use Rattle.tbr_model.specs.Shown.{StandsUnderOwn, ShowsOwn, next_stop}
-use Rattle.tbr_model.proofs.lists.Each.{each_append}
-use Rattle.tbr_model.proofs.words.Items.{items_width-append, no_character_no_width, pending_width-of}
+use Rattle.tbr_model.proofs.lists.Each.{each_append, filter-map}
+use Rattle.tbr_model.proofs.words.Items.{each_marker, items_width-append, no_character_no_width, pending_width-of}
 use Rattle.tbr_model.proofs.rule.BlankLines.{mode_preserves}
 use Rattle.tbr_model.proofs.rule.HardLineStart.{BeginsHardLine}
 use Rattle.tbr_model.proofs.rule.HardLines.{NoNewline, hard_lines_parted}
@@ -49,18 +49,11 @@ run_own (call ∷ es) = run_own es
 run_own {A} (entry e ∷ es) = ap (λ (rs : List (Entry A)). own e ∷ rs) (run_own es)
 
 visible_own : {A : Type 0} (columns : ℕ → Option ℕ) (es : List (Entry A)) → visible_entries columns (map own es) ≡ map own (visible_entries columns es)
-visible_own columns [] = refl
-visible_own {A} columns (e ∷ es) = ap (λ k. if k then own e ∷ visible_entries columns (map own es) else visible_entries columns (map own es)) (same e) ∙ go (visible_own columns es) (is_visible_entry columns e)
+visible_own {A} columns = filter-map own (is_visible_entry columns) (is_visible_entry columns) same
   where
     same : (d : Entry A) → is_visible_entry columns (own d) ≡ is_visible_entry columns d
     same (character c a b m) = refl
     same (marker_entry name) = refl
-
-    go : visible_entries columns (map own es) ≡ map own (visible_entries columns es) → (k : Bool) →
-        (let fs : List (Entry A) = if k then own e ∷ visible_entries columns (map own es) else visible_entries columns (map own es) in fs)
-        ≡ map own (if k then e ∷ visible_entries columns es else visible_entries columns es)
-    go rest true = ap (λ (fs : List (Entry A)). own e ∷ fs) rest
-    go rest false = rest
 
 under_own : {A : Type 0} (Same : A → A → Type 0) (gs : List (ℕ × A)) (es : List (Entry A)) → AllZip (IsShown Same) gs (map own es) → AllZip (StandsUnderOwn Same) gs es
 under_own Same [] [] h = tt
@@ -234,11 +227,6 @@ module _ {A : Type 0} (columns : ℕ → Option ℕ) (Same : A → A → Type 0)
       let rest = line_fits es (column_behind columns n e) (enter columns width p e) pre.1 plain.1 has.1 fits one.0 in
       (rest.0, rest.1 ∙ ap (λ (q : Progress A). fold (step columns width) q (map own_event es)) one.1)
 
-  markers_under : (is : List (Item A)) → has_character is ≡ false → Each (IsUnderOwn Same h) is
-  markers_under [] none = tt
-  markers_under (glyph c x ∷ is) none = cc
-  markers_under (marker name ∷ is) none = (tt, markers_under is none)
-
   start_fits : (p : Progress A) → BeginsHardLine p → FitsSoFar 0 p
   start_fits p f = record {
     done = f.done;
@@ -246,7 +234,7 @@ module _ {A : Type 0} (columns : ℕ → Option ℕ) (Same : A → A → Type 0)
     flag = f.continuation_flag;
     in_continuation = f.in_continuation;
     line = rw (f.line) tt;
-    word = markers_under p.word f.word;
+    word = each_marker (IsUnderOwn Same h) (λ name. tt) p.word f.word;
     space = rw (f.space) tt;
   }
 

@@ -1,36 +1,21 @@
 -- The end of a run under other annotations.
-use Rattle.std.proofs.Common.{◌≡◌, ℕ, ◌⊎◌, inl, inr, Bool, true, false, not, if◌then◌else◌, Option, None, List, [], ◌∷◌, ◌++◌, map, filter, fold, slice_index_or, zero, suc, Contains, refl, ap, sym, ◌∙◌, arith}
-use Rattle.std.specs.List.{AllZip, AllByRecursion as Each}
+use Rattle.std.proofs.Common.{◌≡◌, ℕ, ◌⊎◌, inl, inr, Bool, true, not, if◌then◌else◌, Option, None, List, [], ◌∷◌, ◌++◌, map, filter, fold, slice_index_or, zero, suc, Contains, refl, ap, sym, ◌∙◌, arith}
+use Rattle.std.specs.List.{AllByRecursion as Each}
 use Rattle.std.proofs.lemmas.List.{map-append, length-map}
 use Rattle.tbr_model.specs.declared.white_space.WhiteSpace.{WhiteSpace}
 use Rattle.tbr_model.specs.Run.{Entry, character, marker_entry, Item, glyph, marker, is_kept, kept_items, has_character}
 use Rattle.tbr_model.specs.Layout.{slots_of, line_text, joined}
 use Rattle.tbr_model.specs.Rule.{is_space_item}
 use Rattle.tbr_model.specs.Markers.{names_in_items, names_in_run, marker_items, marked_behind}
-use Rattle.tbr_model.specs.Hard.{HasMode, Preserves, hard_lines, HasMain, HasContinuation, entry_letters, is_visible, glyphs_of, visible_glyphs, visible_entries}
+use Rattle.tbr_model.specs.Hard.{HasMode, Preserves, hard_lines, HasMain, HasContinuation, is_visible, glyphs_of, visible_glyphs, visible_entries}
 use Rattle.tbr_model.specs.Shown.{without_spaces, ComesFrom, ComesWithRun, is_visible_or_marker, is_entry_to_show, ShowsEntry, ShowsInOrder, IsNotPre, StandsUnderOwn, ShowsOwn}
 use Rattle.tbr_model.specs.Mapped.{map_item, map_items, map_entry, map_run, map_layout, map_lines}
+use Rattle.tbr_model.proofs.lists.Each.{each_map, filter-map, zip-map}
 use Rattle.tbr_model.proofs.maps.Words.{item_width-map, items_width-map, has_character-map, items_of-map, trailing-map}
 use Rattle.tbr_model.proofs.maps.Layouts.{slots_of-map, line_text-map, joined-map, best-map}
-use Rattle.tbr_model.proofs.maps.HardLines.{hard_lines-map, parted-map, map_glyph, joined_glyphs-map, visible_glyphs-map, visible_entries-map, visible-map, all_hard_lines-map, all_pre-map, all_prewrap-map, all_tabs-map}
+use Rattle.tbr_model.proofs.maps.HardLines.{entry_letters-map, main-map, continuation-map, hard_lines-map, parted-map, map_glyph, joined_glyphs-map, visible_glyphs-map, visible_entries-map, visible-map, all_hard_lines-map, all_pre-map, all_prewrap-map, all_tabs-map}
 use Rattle.tbr_wrap.specs.Wrapped.{taking_columns, FitsBlock, HasBestLines}
 use Rattle.tbr_wrap.specs.State.{State, IsShownBy, column_behind, IsUnderOwn, ShowsFitting, EndsRun, map_state}
-
--- ---- lists
-
-filter-map : {X Y : Type 0} (g : X → Y) (p : X → Bool) (q : Y → Bool) → ((x : X) → q (g x) ≡ p x) → (xs : List X) → filter q (map g xs) ≡ map g (filter p xs)
-filter-map g p q same [] = refl
-filter-map {X} {Y} g p q same (x ∷ xs) = ap (λ k. if k then g x ∷ filter q (map g xs) else filter q (map g xs)) (same x) ∙ go (filter-map g p q same xs) (p x)
-  where
-    go : filter q (map g xs) ≡ map g (filter p xs) → (k : Bool) → (let ys : List Y = if k then g x ∷ filter q (map g xs) else filter q (map g xs) in ys) ≡ map g (if k then x ∷ filter p xs else filter p xs)
-    go rest true = ap (λ ys. g x ∷ ys) rest
-    go rest false = rest
-
-zip-map : {X Y Z W : Type 0} (R : X → Y → Type 0) (S : Z → W → Type 0) (g : X → Z) (k : Y → W) → ((x : X) (y : Y) → R x y → S (g x) (k y)) → (xs : List X) (ys : List Y) → AllZip R xs ys → AllZip S (map g xs) (map k ys)
-zip-map R S g k each [] [] h = tt
-zip-map R S g k each [] (y ∷ ys) h = absurd h
-zip-map R S g k each (x ∷ xs) [] h = absurd h
-zip-map R S g k each (x ∷ xs) (y ∷ ys) h = (each x y h.0, zip-map R S g k each xs ys h.1)
 
 module _ {A B : Type 0} (f : A → B) where
   -- ---- runs
@@ -49,11 +34,6 @@ module _ {A B : Type 0} (f : A → B) where
   not_pre_unmap [] h = tt
   not_pre_unmap (character c a b m ∷ es) h = (h.0, not_pre_unmap es h.1)
   not_pre_unmap (marker_entry name ∷ es) h = (tt, not_pre_unmap es h.1)
-
-  letters-map : (run : List (Entry A)) → entry_letters (map_run f run) ≡ entry_letters run
-  letters-map [] = refl
-  letters-map (character c a b m ∷ es) = ap (λ cs. c ∷ cs) (letters-map es)
-  letters-map (marker_entry name ∷ es) = letters-map es
 
   names_in_run-map : (run : List (Entry A)) → names_in_run (map_run f run) ≡ names_in_run run
   names_in_run-map [] = refl
@@ -83,15 +63,11 @@ module _ {A B : Type 0} (f : A → B) where
   marker_items-map (name ∷ names) = ap (λ (is : List (Item B)). marker name ∷ is) (marker_items-map names)
 
   without_spaces-map : (is : List (Item A)) → without_spaces (map_items f is) ≡ map_items f (without_spaces is)
-  without_spaces-map [] = refl
-  without_spaces-map (marker name ∷ is) = ap (λ (js : List (Item B)). marker name ∷ js) (without_spaces-map is)
-  without_spaces-map (glyph c a ∷ is) = go (without_spaces-map is) (not (is_space_item (glyph c a)))
+  without_spaces-map is = filter-map (map_item f) (λ i. not (is_space_item i)) (λ i. not (is_space_item i)) same is
     where
-      go : without_spaces (map_items f is) ≡ map_items f (without_spaces is) → (k : Bool) →
-          (let js : List (Item B) = if k then glyph c (f a) ∷ without_spaces (map_items f is) else without_spaces (map_items f is) in js)
-          ≡ map_items f (if k then glyph c a ∷ without_spaces is else without_spaces is)
-      go rest true = ap (λ (js : List (Item B)). glyph c (f a) ∷ js) rest
-      go rest false = rest
+      same : (i : Item A) → not (is_space_item (map_item f i)) ≡ not (is_space_item i)
+      same (glyph c a) = refl
+      same (marker name) = refl
 
   taking_columns-map : (columns : ℕ → Option ℕ) (is : List (Item A)) → taking_columns columns (map_items f is) ≡ taking_columns columns is
   taking_columns-map columns [] = refl
@@ -107,11 +83,15 @@ module _ {A B : Type 0} (f : A → B) where
   contains-map : (run : List (Entry A)) (e : Entry A) → Contains run e → Contains (map_run f run) (map_entry f e)
   contains-map run e h = (h.0, omega (arith, h.1, length-map run (map_entry f)), index-map run h.0 e ∙ ap (map_entry f) h.2)
 
-  has_map : (e : Entry A) (x : A) → HasMain (λ a b. a ≡ b) e x ⊎ HasContinuation (λ a b. a ≡ b) e x → HasMain (λ a b. a ≡ b) (map_entry f e) (f x) ⊎ HasContinuation (λ a b. a ≡ b) (map_entry f e) (f x)
-  has_map (character c a b m) x (inl h) = inl (ap f h)
-  has_map (character c a b m) x (inr h) = inr (ap f h)
-  has_map (marker_entry name) x (inl h) = absurd h
-  has_map (marker_entry name) x (inr h) = absurd h
+  abbrev Is : {X : Type 0} → X → X → Type 0
+  Is x y = x ≡ y
+
+  own_map : (e : Entry A) (x : A) → HasMain Is e x → HasMain Is (map_entry f e) (f x)
+  own_map e x h = main-map f Is Is (λ y z same. ap f same) (λ c. None) e x h
+
+  has_map : (e : Entry A) (x : A) → HasMain Is e x ⊎ HasContinuation Is e x → HasMain Is (map_entry f e) (f x) ⊎ HasContinuation Is (map_entry f e) (f x)
+  has_map e x (inl h) = inl (own_map e x h)
+  has_map e x (inr h) = inr (continuation-map f Is Is (λ y z same. ap f same) (λ c. None) e x h)
 
   module _ (columns : ℕ → Option ℕ) (run : List (Entry A)) where
     comes-map : (i : Item A) → ComesFrom columns (λ a b. a ≡ b) run i → ComesFrom columns (λ a b. a ≡ b) (map_run f run) (map_item f i)
@@ -120,16 +100,14 @@ module _ {A B : Type 0} (f : A → B) where
     comes-map (marker name) h = contains-map run (marker_entry name) h
 
     all_come-map : (is : List (Item A)) → Each (ComesFrom columns (λ a b. a ≡ b) run) is → Each (ComesFrom columns (λ a b. a ≡ b) (map_run f run)) (map_items f is)
-    all_come-map [] h = tt
-    all_come-map (i ∷ is) h = (comes-map i h.0, all_come-map is h.1)
+    all_come-map = each_map (map_item f) (ComesFrom columns (λ a b. a ≡ b) run) (ComesFrom columns (λ a b. a ≡ b) (map_run f run)) comes-map
 
     comes_with-map : (i : Item A) → ComesWithRun (λ a b. a ≡ b) run i → ComesWithRun (λ a b. a ≡ b) (map_run f run) (map_item f i)
-    comes_with-map (glyph c x) h = ((map_entry f h.0.0, contains-map run h.0.0 h.0.1, has_map h.0.0 x h.0.2), rw (letters-map run) h.1)
+    comes_with-map (glyph c x) h = ((map_entry f h.0.0, contains-map run h.0.0 h.0.1, has_map h.0.0 x h.0.2), rw (entry_letters-map f run) h.1)
     comes_with-map (marker name) h = contains-map run (marker_entry name) h
 
     all_come_with-map : (is : List (Item A)) → Each (ComesWithRun (λ a b. a ≡ b) run) is → Each (ComesWithRun (λ a b. a ≡ b) (map_run f run)) (map_items f is)
-    all_come_with-map [] h = tt
-    all_come_with-map (i ∷ is) h = (comes_with-map i h.0, all_come_with-map is h.1)
+    all_come_with-map = each_map (map_item f) (ComesWithRun (λ a b. a ≡ b) run) (ComesWithRun (λ a b. a ≡ b) (map_run f run)) comes_with-map
 
   -- ---- order and own annotations
 
@@ -181,14 +159,12 @@ module _ {A B : Type 0} (f : A → B) where
   columns-map columns (character c a b m ∷ es) n = columns-map columns es (column_behind columns n (character c a b m))
   columns-map columns (marker_entry name ∷ es) n = columns-map columns es n
 
-  main-map : (e : Entry A) (x : A) → HasMain (λ a b. a ≡ b) e x → HasMain (λ a b. a ≡ b) (map_entry f e) (f x)
-  main-map (character c a b m) x h = ap f h
-  main-map (marker_entry name) x h = absurd h
-
   under_own-map : (es : List (Entry A)) (is : List (Item A)) → Each (IsUnderOwn (λ a b. a ≡ b) es) is → Each (IsUnderOwn (λ a b. a ≡ b) (map_run f es)) (map_items f is)
-  under_own-map es [] h = tt
-  under_own-map es (glyph c x ∷ is) h = ((map_entry f h.0.0, contains-map es h.0.0 h.0.1, main-map h.0.0 x h.0.2), under_own-map es is h.1)
-  under_own-map es (marker name ∷ is) h = (tt, under_own-map es is h.1)
+  under_own-map es = each_map (map_item f) (IsUnderOwn (λ a b. a ≡ b) es) (IsUnderOwn (λ a b. a ≡ b) (map_run f es)) one
+    where
+      one : (i : Item A) → IsUnderOwn (λ a b. a ≡ b) es i → IsUnderOwn (λ a b. a ≡ b) (map_run f es) (map_item f i)
+      one (glyph c x) h = (map_entry f h.0, contains-map es h.0 h.1, own_map h.0 x h.2)
+      one (marker name) h = tt
 
   fitting-map : (columns : ℕ → Option ℕ) (width : ℕ) (more : Bool) (h : List (Entry A)) (ls : List (List (Item A))) →
       ShowsFitting columns (λ a b. a ≡ b) width more h ls → ShowsFitting columns (λ a b. a ≡ b) width more (map_run f h) (map_lines f ls)
@@ -201,12 +177,11 @@ module _ {A B : Type 0} (f : A → B) where
   -- ---- lines
 
   fit-map : (columns : ℕ → Option ℕ) (width : ℕ) (may_overflow : Bool) (lines : List (List (Item A))) → Each (FitsBlock columns width may_overflow) lines → Each (FitsBlock columns width may_overflow) (map_lines f lines)
-  fit-map columns width may_overflow [] h = tt
-  fit-map columns width may_overflow (is ∷ ls) h = (rw (items_width-map f columns is, taking_columns-map columns is) h.0, fit-map columns width may_overflow ls h.1)
+  fit-map columns width may_overflow =
+      each_map (map_items f) (FitsBlock columns width may_overflow) (FitsBlock columns width may_overflow) (λ is h. rw (items_width-map f columns is, taking_columns-map columns is) h)
 
   full-map : (lines : List (List (Item A))) → Each (λ is. has_character is ≡ true) lines → Each (λ is. has_character is ≡ true) (map_lines f lines)
-  full-map [] h = tt
-  full-map (is ∷ ls) h = (has_character-map f (λ c. None) is ∙ h.0, full-map ls h.1)
+  full-map = each_map (map_items f) (λ is. has_character is ≡ true) (λ is. has_character is ≡ true) (λ is h. has_character-map f (λ c. None) is ∙ h)
 
   texts-map : (lines : List (List _)) → map line_text (map_layout f lines) ≡ map_lines f (map line_text lines)
   texts-map [] = refl
@@ -256,5 +231,5 @@ module _ {A B : Type 0} (f : A → B) where
         behind = rw (behind-map (is_visible columns) s.run []) h.behind;
         behind_kept = λ normal. rw (behind-map (is_kept columns) s.run []) (h.behind_kept (mode_unmap _ s.run normal));
         waits = λ narrow normal. rw (trailing-map f columns s.run) (sym (marker_items-map names) ∙ ap (map_items f) (h.waits narrow (mode_unmap _ s.run normal)));
-        alone = λ none. lines ∙ ap (map_lines f) (h.alone (sym (letters-map s.run) ∙ none));
+        alone = λ none. lines ∙ ap (map_lines f) (h.alone (sym (entry_letters-map f s.run) ∙ none));
       }
