@@ -1,4 +1,4 @@
-//! What stands at the end of a script.
+//! What comes at the end of a script.
 ghost use Rattle.std.specs.Prelude.{◌≡◌, None, Err, map, IfOk, string_bytes};
 ghost use Rattle.tbr_lines.specs.View.{chars_of};
 ghost use Rattle.tbr_lines.specs.declared.Error.TheVariants as E;
@@ -12,7 +12,7 @@ use tbr_decor::TextDecorator;
 use tbr_lines::{CharWidth, Error, RenderLine};
 use text_block_renderer::{Renderer, SubRenderer};
 
-/// The text of a renderer whose links have these targets: its lines, and behind them the footnotes as a block of their
+/// The text of a renderer whose links have these targets: its lines, and after them the footnotes as a block of their
 /// own, if there are any.
 pub fn close<D: TextDecorator, W: CharWidth>(
     renderer: SubRenderer<D, W>,
@@ -45,7 +45,7 @@ pub fn close_lines<D: TextDecorator, W: CharWidth>(
     with_footnotes(renderer, targets)?.into_lines()
 }
 
-/// The renderer, and behind its lines the footnotes.
+/// The renderer, and after its lines the footnotes.
 fn with_footnotes<D: TextDecorator, W: CharWidth>(
     mut renderer: SubRenderer<D, W>,
     targets: Vec<String>,

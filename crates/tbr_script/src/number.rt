@@ -33,7 +33,7 @@ pub fn parse_byte(digits: &str) -> Option<u8>
     digits.parse::<u8>().ok()
 }
 
-/// The character that one to six hexadecimal digits name.
+/// The character that one to six hexadecimal digits name, if they name one.
 pub fn character(digits: &str) -> Option<char>
     ensures { SomeIff result (NamesCharacter digits.now) (digits_value 16 digits.now) }
 {

@@ -10,7 +10,7 @@ use std::alloc::{AllocError, Global};
 pub struct TextPair {
     /// The one before the bar.
     pub first: String,
-    /// The one behind it.
+    /// The one after it.
     pub second: String,
 }
 

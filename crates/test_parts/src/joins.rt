@@ -18,7 +18,7 @@ pub fn border(alloc: Global, width: usize) -> Result<BorderHoriz<Voice>, OutOfMe
     BorderHoriz::new(alloc, width, Voice::First)
 }
 
-/// Puts an element in front of the cells from `pos` on, where no other stands.
+/// Puts an element in front of the cells from `pos` on, where no other is.
 fn put<W: CharWidth>(
     line: &mut BorderHoriz<Voice>,
     pos: usize,
@@ -65,7 +65,7 @@ pub fn apply<W: CharWidth>(
     }
 }
 
-/// A border of that width behind the calls.
+/// A border of that width after the calls.
 pub fn joined<W: CharWidth>(
     alloc: Global,
     width: usize,
@@ -78,7 +78,7 @@ pub fn joined<W: CharWidth>(
     Ok(line)
 }
 
-/// What a border of that width shows behind each call, each with a newline.
+/// What a border of that width shows after each call, each with a newline.
 pub fn shown<W: CharWidth>(
     alloc: Global,
     width: usize,

@@ -13,7 +13,7 @@ pub struct NewCell {
     pub width: usize,
     /// The rows that it takes, at least 1.
     pub span: usize,
-    /// Where its lines stand in its columns.
+    /// Where its lines are in its columns.
     pub align: CellAlign,
 }
 
@@ -32,7 +32,7 @@ impl NewCell {
     }
 }
 
-/// The alignment that the words behind a span tell: the left one, if there are none.
+/// The alignment that the words after a span tell: the left one, if there are none.
 fn alignment(mut words: Words<'_>) -> Option<CellAlign>
     ensures found { IfSome result (λ align. IsAlignment words.entry align) }
     ensures none { IfNone result ((align : Meant) → IsAlignment words.entry align → ⊥) }
