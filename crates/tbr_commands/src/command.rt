@@ -39,7 +39,8 @@ pub enum Command {
 }
 
 impl Command {
-    /// What a line asks for, without its newline. `None` where it is no command.
+    /// What a line asks for, without its newline. `Ok(None)` where it is no command. It refuses only where memory is
+    /// refused.
     pub fn parse(alloc: Global, line: &[u8]) -> Result<Option<Command>, AllocError>
         ensures command { IfOk result (λ found.
             IfSome found (λ command. IsCommand line.now (command_of command))) }

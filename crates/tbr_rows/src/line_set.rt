@@ -7,8 +7,8 @@ use std::alloc::Global;
 use std::fmt;
 use tbr_tagged::OutOfMemory;
 
-/// A cell of a row: the column at which it begins, how many columns it takes, how many rows it still spans, and the
-/// lines that it still has to show.
+/// A cell of a row. It has the column at which it begins, how many columns it takes, how many rows it still spans, and
+/// the lines that it still has to show.
 #[derive(Debug, Drop)]
 pub struct LineSet<T> {
     pub(crate) place: usize,

@@ -13,7 +13,8 @@ use tbr_lines::{CharWidth, Error, RenderLine};
 use text_block_renderer::{Renderer, SubRenderer};
 
 /// The text of a renderer whose links have these targets: its lines, and after them the footnotes as a block of their
-/// own, if there are any.
+/// own, if there are any. It asks for a renderer that hasn't failed, and refuses as that does. Where it refuses, the
+/// renderer and the targets are dropped.
 pub fn close<D: TextDecorator, W: CharWidth>(
     renderer: SubRenderer<D, W>,
     targets: Vec<String>,
@@ -29,7 +30,7 @@ pub fn close<D: TextDecorator, W: CharWidth>(
     with_footnotes(renderer, targets)?.into_string()
 }
 
-/// The same as lines.
+/// The same as lines. It refuses as [`close`] does.
 pub fn close_lines<D: TextDecorator, W: CharWidth>(
     renderer: SubRenderer<D, W>,
     targets: Vec<String>,

@@ -32,7 +32,10 @@ pub enum DecoratorPrefix {
 /// How many prefixes come after the first.
 const OTHERS: usize = usize::MAX - 1;
 
-/// Adds the lines of a renderer to another one: the first line after the first text, each other after the second.
+/// Adds the lines of a renderer to another one: the first line after the first text, each other after the second. It
+/// asks for another one that hasn't failed.
+///
+/// It refuses as either renderer does, and where memory is refused. The renderer inside is dropped.
 pub fn append_behind<D: TextDecorator, W: CharWidth>(
     renderer: &mut SubRenderer<D, W>,
     inside: SubRenderer<D, W>,

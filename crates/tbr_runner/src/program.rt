@@ -81,7 +81,8 @@ impl<D: TextDecorator, W: CharWidth> Program<D, W> {
 
     /// Does what the line of this number asks for. An empty line asks for nothing.
     ///
-    /// It refuses as the line does, and with `OutOfMemory` only where memory is refused.
+    /// It refuses as the line does, and with `OutOfMemory` only where memory is refused. After `OutOfMemory` and
+    /// `TooNarrow` the program isn't to be used any more. Each other refusal leaves it as it was.
     pub fn run_line(&mut self, alloc: Global, number: usize, line: &[u8]) -> Result<(), RunError>
         requires { GoesOn self.old }
         ensures done { OnOk result (LineDoes W.columns (decoration_of D.TextDecorator)

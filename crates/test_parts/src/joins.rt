@@ -14,6 +14,7 @@ pub enum Join<'a> {
     Marker(usize, &'a str),
 }
 
+/// A border of that width under the first tag.
 pub fn border(alloc: Global, width: usize) -> Result<BorderHoriz<Voice>, OutOfMemory> {
     BorderHoriz::new(alloc, width, Voice::First)
 }

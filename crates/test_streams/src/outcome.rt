@@ -16,6 +16,7 @@ pub struct Slow {
 }
 
 impl Slow {
+    /// A writer that takes so many bytes a call, and fails after so many calls.
     pub fn new(alloc: Global, bytes_a_call: usize, calls: usize) -> Slow {
         Slow {
             held: Vec::new(alloc),

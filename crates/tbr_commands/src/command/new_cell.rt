@@ -18,7 +18,8 @@ pub struct NewCell {
 }
 
 impl NewCell {
-    /// The cell that a width, a span and perhaps an alignment are, with exactly one space between two of them.
+    /// The cell that a width, a span and perhaps an alignment are, with exactly one space between two of them. `None`
+    /// where they are no cell.
     pub fn parse(writing: &str) -> Option<NewCell>
         ensures found { IfSome result (λ cell. IsNewCell writing.now cell.width cell.span cell.align) }
         ensures none { IfNone result ((width span : ℕ) (align : Meant) →
