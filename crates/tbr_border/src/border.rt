@@ -201,7 +201,7 @@ impl<T> BorderHoriz<T> {
         Ok(())
     }
 
-    /// The end of the last hole, 0 if there is none.
+    /// The column after the last hole, counted from 0, or 0 if there is none.
     pub fn span_end(&self) -> usize
         ensures { result ≡ model.span_end self.now.holes }
     {
