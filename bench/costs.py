@@ -7,7 +7,7 @@ import sys
 
 TOP = os.path.dirname(os.path.dirname(os.path.realpath(__file__)))
 BLOCKRENDER = f"{TOP}/crates/blockrender/out/blockrender"
-# Instructions a byte of html2text 0.17.4's renderer behind the same language, compiled in release.
+# Instructions a byte of html2text 0.17.4's renderer under the same language, compiled in release.
 UPSTREAM = {
     "letter": 301, "one_run": 305, "one_word": 461, "wide": 224, "annotated": 362, "quoted": 366, "table": 433,
     "spanning": 462, "preformatted": 568,

@@ -1,9 +1,9 @@
 /*
- * A text block renderer: calls go in, as text, blocks, links, images and rows of cells, and lines of a width in
- * columns come out, as text or as pieces under annotations. C99 and later, and C++.
+ * A text block renderer. Calls go in: texts, blocks, links, images and rows of cells. Lines of a width in columns come
+ * out, as text or as pieces under annotations. C99 and later, and C++.
  *
  * UNITS. Widths are in columns: most characters take one, those of East Asian scripts mostly two, combining marks
- * none. Lengths, rooms and places in a text are in bytes. Texts are UTF-8; those that come out have no NUL behind
+ * none. Lengths, rooms and places in a text are in bytes. Texts are UTF-8; those that come out have no NUL after
  * them.
  *
  * TEXTS THAT GO IN. A function whose name ends in _n takes bytes and their number, where the pointer may be NULL if
@@ -58,7 +58,7 @@ typedef enum tbr_status {
     /* A word that is placed holds a character wider than the line, and `overflow` isn't on. Never in lines of two
        columns or more. Kept. */
     TBR_TOO_NARROW = 2,
-    /* Of tbr_render alone: a line of the script isn't a command, or stands where it may not. */
+    /* Of tbr_render alone: a line of the script isn't a command, or is where it may not be. */
     TBR_NOT_A_COMMAND = 3,
     /* An end of what wasn't begun, or was ended already, in the level that is open. */
     TBR_NOTHING_TO_END = 4,
@@ -116,7 +116,7 @@ typedef enum tbr_white_space {
     TBR_PRE_WRAP = 2
 } tbr_white_space;
 
-/* Where the lines of a cell stand in its columns. */
+/* Where the lines of a cell are in its columns. */
 typedef enum tbr_alignment {
     TBR_LEFT = 0,
     TBR_RIGHT = 1,
@@ -186,7 +186,7 @@ typedef struct tbr_piece {
     /* Where its bytes begin in the line's text, and where they end. Both are the same of a marker. */
     size_t begin;
     size_t end;
-    /* How many annotations it stands under: one for each stretch that is open there. None of a marker. */
+    /* How many annotations it is under: one for each stretch that is open there. None of a marker. */
     size_t annotations;
     /* The bytes of a marker's name; 0 of a text. */
     size_t name_bytes;
@@ -200,7 +200,7 @@ typedef enum tbr_annotation_kind {
     TBR_DEFAULT = 0,
     /* A link. Its target is the annotation's. */
     TBR_LINK = 1,
-    /* Text that stands for an image. The image's source is the annotation's target. */
+    /* Text that shows an image. The image's source is the annotation's target. */
     TBR_IMAGE = 2,
     TBR_EMPHASIS = 3,
     TBR_STRONG = 4,
@@ -233,7 +233,7 @@ typedef struct tbr_annotation {
 /*
  * These are called by the inline functions below, and by bindings. A renderer goes in by value, as the one field of a
  * struct, and comes back through the last pointer, also where a call refuses; it is the same pointer. No other pointer
- * may be NULL, also where the number of bytes behind it is 0. A number that an enum has no name for is
+ * may be NULL, also where the number of bytes there is 0. A number that an enum has no name for is
  * TBR_BAD_ARGUMENT. Their names begin with the version of this interface: what a later one changes gets a new name.
  */
 typedef struct tbr_handle {
@@ -341,8 +341,8 @@ static inline bool tbr_is_missing(const char *text, size_t length) {
 /* ---- a script as a whole ---- */
 
 /*
- * Renders a script, whose language docs/SCRIPT.md teaches. As much of its text is written as `out` has room for, and
- * the answer's length is that of the whole text, as of snprintf: there is more where it is greater than the room.
+ * Renders a script, whose language docs/SCRIPT.md teaches. As much of its text is written as `out` has room for. The
+ * answer's length is that of the whole text in bytes, as of snprintf: there is more where it is greater than the room.
  *
  * Any bytes may come as a script. At a status but TBR_OK the line at fault is told where one is, and nothing is
  * written.
@@ -467,7 +467,7 @@ static inline tbr_status tbr_pop_white_space(tbr_renderer *renderer) {
     return renderer ? (tbr_status)tbr1_pop_white_space(tbr_handle_of(renderer), &renderer) : TBR_NO_RENDERER;
 }
 
-/* Puts a marker where the text stands, as an anchor for links. TBR_NOT_UTF8 where its name isn't. */
+/* Puts a marker where the text is, as an anchor for links. TBR_NOT_UTF8 where its name isn't. */
 static inline tbr_status tbr_add_marker_n(tbr_renderer *renderer, const char *name, size_t length) {
     if (tbr_is_missing(name, length)) {
         return TBR_BAD_ARGUMENT;
@@ -522,7 +522,7 @@ static inline tbr_status tbr_end_strong(tbr_renderer *renderer) {
     return renderer ? (tbr_status)tbr1_end_strong(tbr_handle_of(renderer), &renderer) : TBR_NO_RENDERER;
 }
 
-/* Begins struck out text. With strokes on, each of its characters that takes columns gets U+0336 behind it. */
+/* Begins struck out text. With strokes on, each of its characters that takes columns gets U+0336 after it. */
 static inline tbr_status tbr_start_strikeout(tbr_renderer *renderer) {
     return renderer ? (tbr_status)tbr1_start_strikeout(tbr_handle_of(renderer), &renderer) : TBR_NO_RENDERER;
 }
@@ -596,8 +596,8 @@ static inline tbr_status tbr_add_image(tbr_renderer *renderer, const char *sourc
 
 /*
  * A level is a renderer inside another one, with the same options and annotations, in which all else begins anew.
- * Levels lie within one another to any depth. A level takes columns of its own: leave room for the prefixes behind
- * which its lines are appended.
+ * Levels are within one another to any depth. A level takes columns of its own: leave room for the prefixes that come
+ * before its lines.
  */
 
 /* Opens a level of so many columns, whose lines tbr_append_sub takes. TBR_BAD_WIDTH at 0. */
@@ -605,8 +605,8 @@ static inline tbr_status tbr_start_sub(tbr_renderer *renderer, size_t width) {
     return renderer ? (tbr_status)tbr1_start_sub(tbr_handle_of(renderer), width, &renderer) : TBR_NO_RENDERER;
 }
 
-/* Closes the level that tbr_start_sub opened, and adds its lines to the one outside: the first line behind one text,
-   each other behind another. TBR_NOTHING_TO_END where the innermost level is no such one, TBR_STILL_OPEN where cells
+/* Closes the level that tbr_start_sub opened, and adds its lines to the one outside: the first line after one text,
+   each other after another. TBR_NOTHING_TO_END where the innermost level is no such one, TBR_STILL_OPEN where cells
    wait in it, TBR_NOT_UTF8 where one of the two isn't UTF-8. */
 static inline tbr_status tbr_append_sub_n(tbr_renderer *renderer, const char *first, size_t first_length,
     const char *others, size_t others_length) {
@@ -682,8 +682,8 @@ static inline tbr_status tbr_width(tbr_renderer *renderer, size_t *columns) {
     return renderer ? (tbr_status)tbr1_width(tbr_handle_of(renderer), columns, &renderer) : TBR_NO_RENDERER;
 }
 
-/* The columns that the innermost level has left behind a prefix, but `least` at least. TBR_TOO_NARROW, which isn't
-   kept, where fewer than these are left and `overflow` isn't on. */
+/* The columns that the innermost level has left after a prefix of so many, but `least` at least. TBR_TOO_NARROW, which
+   isn't kept, where fewer than these are left and `overflow` isn't on. */
 static inline tbr_status tbr_width_minus(tbr_renderer *renderer, size_t prefix, size_t least, size_t *columns) {
     return renderer ? (tbr_status)tbr1_width_minus(tbr_handle_of(renderer), prefix, least, columns, &renderer)
                     : TBR_NO_RENDERER;
@@ -706,7 +706,7 @@ static inline tbr_status tbr_waiting_cells(tbr_renderer *renderer, size_t *count
 
 /* The prefixes of the decorator, to be passed to tbr_append_sub. All answer TBR_OUT_OF_MEMORY, which isn't kept. */
 
-/* Behind which each line of a quoted block comes, as "> ". */
+/* What comes before each line of a quoted block, as "> ". */
 static inline tbr_status tbr_quote_prefix(tbr_renderer *renderer, char *out, size_t room, size_t *length) {
     uint8_t spare = 0;
     if (tbr_is_missing(out, room)) {
@@ -717,7 +717,7 @@ static inline tbr_status tbr_quote_prefix(tbr_renderer *renderer, char *out, siz
         : TBR_NO_RENDERER;
 }
 
-/* Behind which the first line of an item of a list comes, as "* ". The others come behind as many spaces. */
+/* What comes before the first line of an item of a list, as "* ". Before the others come as many spaces. */
 static inline tbr_status tbr_item_prefix(tbr_renderer *renderer, char *out, size_t room, size_t *length) {
     uint8_t spare = 0;
     if (tbr_is_missing(out, room)) {
@@ -740,7 +740,7 @@ static inline tbr_status tbr_ordered_item_prefix(tbr_renderer *renderer, int64_t
                     : TBR_NO_RENDERER;
 }
 
-/* Behind which each line of a header of a level comes, as "## ". */
+/* What comes before each line of a header of a level, as "## ". */
 static inline tbr_status tbr_header_prefix(tbr_renderer *renderer, size_t level, char *out, size_t room,
     size_t *length) {
     uint8_t spare = 0;

@@ -1,5 +1,6 @@
-"""What the formats of blockview say, read by parsers that know nothing of it: json and html.parser of Python, and a
-reader of control sequences that knows those of ECMA-48 and the hyperlinks of terminals.
+"""What the formats of blockview say, read by parsers that know nothing of it.
+
+They are json and html.parser of Python, and a reader of the control sequences of ECMA-48 and of terminals' hyperlinks.
 
 Each reader raises Wrong where a text isn't of its format, or lets a control character out.
 """
@@ -15,7 +16,7 @@ SELECTS = re.compile(r"\x1b\[((?:\d+;)*\d+)m")
 LINKS = re.compile(r"\x1b\]8;;([\x21-\x7e]*)\x1b\\")
 BEGINS = {"1", "2", "3", "4", "9", "36", "38", "48"}
 ENDS = {"22", "23", "24", "29", "39", "49"}
-# What stays as it is in a target: all that may stand in a URL, and the escapes that it has.
+# What stays as it is in a target: all that may be in a URL, and the escapes that it has.
 SAFE = "".join(chr(c) for c in range(0x21, 0x7F) if chr(c) not in '"<>\\^`{|}')
 FOLLOWED = ("http://", "https://", "mailto:", "ftp://")
 ELEMENTS = {"pre", "a", "em", "strong", "s", "code", "span"}
@@ -32,7 +33,7 @@ def clean(text):
 
 
 def encoded(target):
-    """A target as it stands in a link."""
+    """A target as it is in a link."""
     return urllib.parse.quote(target, safe=SAFE)
 
 
@@ -92,7 +93,7 @@ def read_ansi(text):
 
 
 def links_of_json(lines):
-    """The characters of links, each with its target as it stands in a link; of links inside another the inner one."""
+    """The characters of links, each with its target as it is in a link; of links inside another the inner one."""
     for line in lines:
         for piece in line["pieces"]:
             targets = [it["target"] for it in piece.get("annotations", []) if it["kind"] == "link"]
@@ -105,7 +106,7 @@ def links_of_json(lines):
 
 
 class Page(HTMLParser):
-    """The text of what stands in the elements `pre`, and the targets of its links."""
+    """The text of what is in the elements `pre`, and the targets of its links."""
 
     def __init__(self):
         super().__init__(convert_charrefs=True)

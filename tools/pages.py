@@ -28,7 +28,7 @@ ITEM = re.compile(r"^\s*(?:[-*]|\d+\.) ")
 ENDS = re.compile(r"(?<=[.!?])[)\"*]*\s+(?=[^a-z])")
 FILE = re.compile(r"[\w.*-]+(?:/[\w.*-]+)*\.(?:rt|antt|md|txt|py|script|out|edit|c|h|rs|toml)$|[\w.*-]+(?:/[\w.*-]+)+/?$")
 NAME = re.compile(r"[A-Za-z_]\w{2,}(?:::\w+)*(?:\(\))?$")
-# What stands for a name that a reader puts there.
+# In place of a name that a reader puts there.
 PLACEHOLDER = re.compile(r"(?:^|[/.])[A-Z][A-Z_]*(?:[/.]|$)")
 # The code that names come from, with what begins a comment there.
 SOURCES = {"crates/**/*.rt": "//", "crates/**/*.antt": "--", "tools/*": "#", "bench/*": "#", "include/*.h": "\0"}

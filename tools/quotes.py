@@ -1,7 +1,7 @@
 """Compares the blocks marked `rust` on pages with the sources of the crates.
 
-Each paragraph of a block has to stand in one source file, line for line but for white space in front. A line `// ..`
-in it stands for lines that the page leaves out; they stay within one function.
+Each paragraph of a block has to be in one source file, line for line but for white space in front. A line `// ..`
+in it means lines that the page leaves out; they stay within one function.
 """
 import re
 from pathlib import Path
@@ -17,7 +17,7 @@ def stripped(text):
 
 
 def paragraphs(page):
-    """The paragraphs of the page's blocks, each behind the number of its first line."""
+    """The paragraphs of the page's blocks, each after the number of its first line."""
     for block in re.finditer(r"^```rust\n(.*?)^```$", page, re.M | re.S):
         for paragraph in re.finditer(r"(?:[^\n]*\S[^\n]*\n)+", block[1]):
             yield page.count("\n", 0, block.start(1) + paragraph.start()) + 1, stripped(paragraph[0])
@@ -30,7 +30,7 @@ def is_quoted(paragraph, sources):
 
 
 def missing(pages):
-    """What stands on pages and in no source, by page and line."""
+    """What is on pages and in no source, by page and line."""
     sources = [stripped(it.read_text()) for it in sorted(TOP.glob("crates/*/src/**/*.rt"))]
     return [
         f"{page}:{line}: no source has these lines: {paragraph.splitlines()[0]} .."

@@ -494,7 +494,7 @@ static void check_target(tbr_renderer *r, size_t piece, size_t place, const tbr_
     free(target);
 }
 
-/* That each annotation of a piece is there, and none behind them. */
+/* That each annotation of a piece is there, and none after them. */
 static void check_annotations(tbr_renderer *r, size_t place, const tbr_piece *piece) {
     tbr_annotation annotation;
     for (size_t i = 0; i < piece->annotations; i++) {
@@ -515,7 +515,7 @@ static void check_marker(tbr_renderer *r, size_t place, const tbr_piece *piece) 
     free(name);
 }
 
-/* That the pieces of a line stand end to end. */
+/* That the pieces of a line are end to end. */
 static void check_pieces(tbr_renderer *r, const tbr_line *line) {
     tbr_piece piece;
     size_t end = 0;

@@ -16,7 +16,7 @@ static void well(tbr_status status) {
     }
 }
 
-/* A block inside, whose lines come behind prefixes. */
+/* A block inside, whose lines come after prefixes. */
 static void add_block(tbr_renderer *letter, const char *text, const char *first, const char *others) {
     size_t columns;
     well(tbr_width_minus(letter, strlen(first), 1, &columns));

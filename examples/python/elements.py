@@ -264,7 +264,7 @@ class Rule(Element):
 
 
 class Prefixed(Element):
-    """A block, each line of which comes behind a prefix."""
+    """A block, each line of which comes after a prefix."""
 
     def prefix(self, page: Renderer) -> str:
         """The prefix that the page's decorator has for it."""
@@ -311,11 +311,11 @@ class List(Element):
     is_nested = False
 
     def mark(self, page: Renderer, number: int) -> str:
-        """Behind which an item comes, which is the one of this number from 0."""
+        """What comes before an item, which is the one of this number from 0."""
         return page.unordered_item_prefix()
 
     def marked(self, page: Renderer) -> Iterator[tuple[str, "Element | Text"]]:
-        """What stands in the list, each behind its mark, or behind spaces where it is no item."""
+        """What is in the list, each after its mark, or after spaces where it is no item."""
         items = [child for child in self.children if isinstance(child, Item)]
         marks = {item: self.mark(page, number) for number, item in enumerate(items)}
         columns = max(map(len, marks.values()), default=len(page.unordered_item_prefix()))
@@ -362,5 +362,5 @@ class Definition(Element):
 
 
 def inside(page: Renderer, first: str, others: str) -> AbstractContextManager[None]:
-    """A block inside the page's, which comes behind prefixes of as many columns."""
+    """A block inside the page's, which comes after prefixes of as many columns."""
     return page.subrender(page.width_minus(text_width(first), 1), first, others)

@@ -61,7 +61,7 @@ CELLS = frozenset("td th caption".split())
 SECTIONS = frozenset("thead tbody tfoot".split())
 ABOVE_CELLS = SECTIONS | {"table", "tr"}
 TABLE_PARTS = ABOVE_CELLS | CELLS
-# What may stand in a table outside of its cells.
+# What may be in a table outside of its cells.
 OUTSIDE_CELLS = TABLE_PARTS - {"table"} | frozenset("col colgroup form input script style template".split())
 
 # Elements that begin a block, and so end a paragraph.
@@ -78,7 +78,7 @@ ENDED_BY: dict[str, tuple[frozenset[str], frozenset[str]]] = {
     "li": (frozenset({"li"}), frozenset({"ul", "ol"})),
     "a": (frozenset({"a"}), TABLE_PARTS),
 }
-# What is deeper than this stands beside what it should stand in, so that no mail is too deep to be drawn. A table that
+# What is deeper than this comes beside what it should be in, so that no mail is too deep to be drawn. A table that
 # is less deep has its cells.
 DEEPEST = 200
 

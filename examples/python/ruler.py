@@ -70,7 +70,7 @@ class Ruler:
 
     @contextmanager
     def behind(self, prefix: str) -> Iterator[None]:
-        """What is added comes behind a prefix, on lines of its own."""
+        """What is added comes after a prefix, on lines of its own."""
         self.end_line()
         outside, self.size = self.size, Size()
         yield

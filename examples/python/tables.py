@@ -1,4 +1,4 @@
-"""Tables: where their cells stand, how wide their columns are, and how they are drawn."""
+"""Tables: where their cells are, how wide their columns are, and how they are drawn."""
 
 from bisect import bisect_left
 from collections.abc import Iterable, Iterator
@@ -46,7 +46,7 @@ class Row(Block):
 
 
 class Caption(Block):
-    """What stands above a table."""
+    """What is above a table."""
 
 
 Part = TypeVar("Part", Row, Caption)
@@ -54,7 +54,7 @@ Part = TypeVar("Part", Row, Caption)
 
 @dataclass(frozen=True)
 class Place:
-    """Where a cell stands, by its first row and column, and how many of them it spans."""
+    """Where a cell is, by its first row and column, and how many of them it spans."""
 
     cell: Cell
     row: int
@@ -163,7 +163,7 @@ def widths(width: int, sizes: list[Size]) -> list[int] | None:
 
 
 class Table(Element):
-    """A table. Where its columns don't fit beside one another, the cells of each row stand one below another."""
+    """A table. Where its columns don't fit beside one another, the cells of each row come one below another."""
 
     def parts(self, kind: type[Part]) -> list[Part]:
         """Its rows or captions, in order."""
@@ -219,7 +219,7 @@ class Table(Element):
 
 
 class Layout(Table):
-    """A table that the sender says is none: it has no borders, and each cell stands on lines of its own."""
+    """A table that the sender says is none: it has no borders, and each cell is on lines of its own."""
 
     def draw(self, page: Renderer) -> None:
         for part in [*self.parts(Caption), *self.parts(Row)]:

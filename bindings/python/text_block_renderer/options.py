@@ -38,7 +38,7 @@ class WhiteSpace(IntEnum):
 
 
 class CellAlign(IntEnum):
-    """Where the lines of a cell stand in its columns."""
+    """Where the lines of a cell are in its columns."""
 
     LEFT = 0
     RIGHT = 1

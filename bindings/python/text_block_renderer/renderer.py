@@ -19,7 +19,7 @@ class Renderer:
     """Writes blocks of text, one below another, into lines of a width in columns.
 
     Its calls have the names of html2text's renderer. They fill the innermost level that is open: a level is a renderer
-    inside another one, which takes its lines behind prefixes or as a cell of a table. What begins in a level ends
+    inside another one, which takes its lines after prefixes or as a cell of a table. What begins in a level ends
     there.
 
     A call that does nothing raises a `RendererError`. `OutOfMemoryError` and `TooNarrowError` leave the renderer
@@ -187,7 +187,7 @@ class Renderer:
         self._owned.call("pop_white_space")
 
     def record_frag_start(self, name: str) -> None:
-        """Puts a marker where the text stands, as an anchor for links. `NotUtf8Error` where it has a surrogate."""
+        """Puts a marker where the text is, as an anchor for links. `NotUtf8Error` where it has a surrogate."""
         self._owned.with_texts("add_marker", name)
 
     # ---- decorated text: an end asks only that its own beginning came more often, and raises `NothingToEndError` else
@@ -272,7 +272,7 @@ class Renderer:
 
     @contextmanager
     def subrender(self, width: int, first: str, others: str) -> Iterator[None]:
-        """Fills a level of so many columns, and adds its lines: the first behind one text, each other behind another.
+        """Fills a level of so many columns, and adds its lines: the first after one text, each other after another.
 
         Leave room for the prefixes, as by `width_minus`. Where an exception leaves the block, the level stays open.
         """
@@ -285,7 +285,7 @@ class Renderer:
         self._owned.call("start_sub", size(width))
 
     def append_subrender(self, first: str, others: str) -> None:
-        """Closes the level that `start_subrender` opened, and adds its lines to the one outside, behind prefixes.
+        """Closes the level that `start_subrender` opened, and adds its lines to the one outside, after prefixes.
 
         `NothingToEndError` where the innermost level is no such one, `StillOpenError` where cells wait in it.
         """
@@ -344,7 +344,7 @@ class Renderer:
         return self._owned.number("width")
 
     def width_minus(self, prefix_len: int, min_width: int) -> int:
-        """The columns that it has left behind a prefix, but `min_width` at least.
+        """The columns that it has left after a prefix, but `min_width` at least.
 
         `TooNarrowError`, which isn't kept, where fewer than these are left and no overflow is allowed.
         """
@@ -365,15 +365,15 @@ class Renderer:
     # ---- the prefixes of the decorator, for `append_subrender`
 
     def header_prefix(self, level: int) -> str:
-        """Behind which each line of a header of a level comes, as `## `."""
+        """What comes before each line of a header of a level, as `## `."""
         return self._owned.text(_PREFIX_ROOM, "header_prefix", size(level))
 
     def quote_prefix(self) -> str:
-        """Behind which each line of a quoted block comes, as `> `."""
+        """What comes before each line of a quoted block, as `> `."""
         return self._owned.text(_PREFIX_ROOM, "quote_prefix")
 
     def unordered_item_prefix(self) -> str:
-        """Behind which the first line of an item of a list comes, as `* `. The others come behind as many spaces."""
+        """What comes before the first line of an item of a list, as `* `. Before the others come as many spaces."""
         return self._owned.text(_PREFIX_ROOM, "item_prefix")
 
     def ordered_item_prefix(self, number: int) -> str:

@@ -7,7 +7,7 @@ from .renderer import Renderer
 _WIDEST = 2**63
 # What a renderer takes for more than a character without columns.
 _LAID_OUT = str.maketrans("", "", "\n\t")
-# Behind white space, which a line doesn't end in.
+# Comes after white space, which a line doesn't end in.
 _LAST = "."
 
 

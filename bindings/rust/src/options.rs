@@ -149,7 +149,7 @@ pub enum WhiteSpace {
     PreWrap = 2,
 }
 
-/// Where the lines of a cell stand in its columns.
+/// Where the lines of a cell are in its columns.
 #[derive(Clone, Copy, Debug, Default, PartialEq, Eq, Hash)]
 pub enum CellAlign {
     /// At the left.
@@ -161,9 +161,9 @@ pub enum CellAlign {
     Centre = 2,
 }
 
-/// A cell to open: its columns, the rows that it spans, and where its lines stand in the columns.
+/// A cell to open: its columns, the rows that it spans, and where its lines are in the columns.
 ///
-/// A number of columns alone is a cell of one row whose lines stand at the left.
+/// A number of columns alone is a cell of one row whose lines are at the left.
 #[derive(Clone, Copy, Debug, PartialEq, Eq)]
 pub struct Cell {
     pub(crate) width: usize,
@@ -182,7 +182,7 @@ impl Cell {
         Cell { span, ..self }
     }
 
-    /// Where its lines stand.
+    /// Where its lines are.
     pub fn align(self, align: CellAlign) -> Cell {
         Cell { align, ..self }
     }

@@ -6,7 +6,7 @@ use std::fmt;
 /// Writes blocks of text, one below another, into lines of a width in columns.
 ///
 /// Its calls have the names of html2text's renderer. They fill the innermost level that is open: a level is a renderer
-/// inside another one, which takes its lines behind prefixes or as a cell of a table. What begins in a level ends
+/// inside another one, which takes its lines after prefixes or as a cell of a table. What begins in a level ends
 /// there.
 ///
 /// A call that answers `OutOfMemory` or `TooNarrow` leaves the renderer refusing all that follows with the same; each
@@ -107,7 +107,7 @@ impl Renderer {
         self.handle.plain(sys::tbr1_pop_white_space)
     }
 
-    /// Puts a marker where the text stands, as an anchor for links.
+    /// Puts a marker where the text is, as an anchor for links.
     pub fn record_frag_start(&mut self, name: &str) -> Result<(), Error> {
         self.handle.with_text(sys::tbr1_add_marker, name)
     }
@@ -218,7 +218,7 @@ impl Renderer {
 
 /// Levels, and rows of cells.
 impl Renderer {
-    /// Fills a level of so many columns, and adds its lines: the first behind one text, each other behind another.
+    /// Fills a level of so many columns, and adds its lines: the first after one text, each other after another.
     /// `BadWidth` at 0 columns. Leave room for the prefixes, as by [`width_minus`](Renderer::width_minus).
     ///
     /// Where `fill` refuses, its refusal is the answer, and the level stays open.
@@ -250,8 +250,8 @@ impl Renderer {
         self.handle.call(|it, back| unsafe { sys::tbr1_start_sub(it, width, back) })
     }
 
-    /// Closes the level that `start_subrender` opened, and adds its lines to the one outside: the first behind one
-    /// text, each other behind another. `NothingToEnd` where the innermost level is no such one, `StillOpen` where
+    /// Closes the level that `start_subrender` opened, and adds its lines to the one outside: the first after one
+    /// text, each other after another. `NothingToEnd` where the innermost level is no such one, `StillOpen` where
     /// cells wait in it.
     pub fn append_subrender(&mut self, first: &str, others: &str) -> Result<(), Error> {
         self.handle.with_texts(sys::tbr1_append_sub, first, others)
@@ -324,7 +324,7 @@ impl Renderer {
         self.handle.ask(|it, answer, back| unsafe { sys::tbr1_width(it, answer, back) })
     }
 
-    /// The columns that it has left behind a prefix, but `min_width` at least. `TooNarrow`, which isn't kept, where
+    /// The columns that it has left after a prefix, but `min_width` at least. `TooNarrow`, which isn't kept, where
     /// fewer than these are left and no overflow is allowed.
     pub fn width_minus(&self, prefix_len: usize, min_width: usize) -> Result<usize, Error> {
         // SAFETY: as above.
@@ -352,7 +352,7 @@ impl Renderer {
 
 /// The prefixes of the decorator, for [`append_subrender`](Renderer::append_subrender). They change nothing.
 impl Renderer {
-    /// Behind which each line of a header of a level comes, as `## `.
+    /// What comes before each line of a header of a level, as `## `.
     pub fn header_prefix(&self, level: usize) -> Result<String, Error> {
         // SAFETY: the renderer is live, and so is the room.
         self.handle.text(PREFIX_ROOM, |it, out, length, back| unsafe {
@@ -360,7 +360,7 @@ impl Renderer {
         })
     }
 
-    /// Behind which each line of a quoted block comes, as `> `.
+    /// What comes before each line of a quoted block, as `> `.
     pub fn quote_prefix(&self) -> Result<String, Error> {
         // SAFETY: as above.
         self.handle.text(PREFIX_ROOM, |it, out, length, back| unsafe {
@@ -368,7 +368,7 @@ impl Renderer {
         })
     }
 
-    /// Behind which the first line of an item of a list comes, as `* `. The others come behind as many spaces.
+    /// What comes before the first line of an item of a list, as `* `. Before the others come as many spaces.
     pub fn unordered_item_prefix(&self) -> Result<String, Error> {
         // SAFETY: as above.
         self.handle.text(PREFIX_ROOM, |it, out, length, back| unsafe {

@@ -2,7 +2,7 @@ use crate::{Error, Options, Renderer, WhiteSpace};
 
 /// What a renderer takes for more than a character without columns.
 const LAID_OUT: [char; 2] = ['\n', '\t'];
-/// Behind white space, which a line doesn't end in.
+/// Comes after white space, which a line doesn't end in.
 const LAST: &str = ".";
 
 /// The columns that the characters of a text take, by the widths that renderers have. Control characters, as a tab or a

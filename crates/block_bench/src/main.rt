@@ -1,7 +1,7 @@
 //! Wraps the text on standard input, so that its cost can be measured. The first line is `tags`, `markers`, `pre` or
-//! `narrow`, what follows is the text: under a tag for each character in turn, with a marker before each character,
-//! preformatted under one tag, or in one column with overflow, where an `m` is a marker. Prints how many lines there
-//! are and how many bytes they hold.
+//! `narrow`, and what follows is the text. With `tags` it is under a tag for each character in turn, and with `markers`
+//! a marker comes before each character. With `pre` it is preformatted under one tag. With `narrow` it is in one column
+//! with overflow, where an `m` is a marker. Prints how many lines there are and how many bytes they hold.
 #![tactic(auto)]
 
 ghost use Rattle.std.specs.Prelude.{◌≡◌, ℕ, List, IfOk};
@@ -20,7 +20,7 @@ const WIDTH: usize = 72;
 enum Kind {
     /// Each character by itself, under the tags 1 and 2 in turn.
     Tags,
-    /// Each character by itself, behind a marker.
+    /// Each character by itself, after a marker.
     Markers,
     /// At once, preformatted under the tag 1, and 2 where a line goes on.
     Pre,

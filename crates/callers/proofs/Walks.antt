@@ -15,7 +15,7 @@ use Rattle.tbr_lines.proofs.SameItems.{all_zip_append}
 use Rattle.tbr_lines.specs.View.{element_of}
 use Rattle.tbr_lines.specs.declared.TaggedLineElement.{TaggedLineElement}
 
--- what stands at a place is a marker
+-- what is at a place is a marker
 pub marker_at : {T : Type 0} (all : List (TaggedLineElement T)) (names : List (List ℕ)) (k : ℕ) (x : TaggedLineElement T) → map element_of all ≡ map marker_element names → k < length all → x ≡ get_or all k x → (name : List ℕ) × (element_of x ≡ marker_element name)
 marker_at [] names k x e below is = absurd (let none : ⊥ = omega (arith, below) in none)
 marker_at (y ∷ all) [] k x e below is = cc

@@ -10,7 +10,7 @@ ghost use Rattle.tbr_lines.specs.declared.Error.TheVariants as E;
 use std::alloc::Global;
 use tbr_lines::{Error, TaggedLine, WhiteSpace, WrappedBlock};
 
-/// The lines of a text at two columns or more: the best layout's. It refuses only for want of memory.
+/// The lines of a text at two columns or more: the best layout's. It refuses only where memory is refused.
 #[tactic(auto, using(tbr_lines::proofs::NormalTexts::text_normal, tbr_lines::proofs::NormalTexts::best_lines))]
 pub fn wrapped(alloc: Global, text: &str, width: usize) -> Result<Vec<TaggedLine<()>>, Error>
     requires { 2 ≤ width }

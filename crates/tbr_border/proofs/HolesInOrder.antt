@@ -18,7 +18,7 @@ pub in_order_push : {A : Type 0} (from : ℕ) (hs : List (Hole A)) (h : Hole A) 
 in_order_push from [] h end longer k p q = (p, q)
 in_order_push from (g ∷ hs) h end longer k p q = (k.0, in_order_push (g.place + g.width) hs h end longer k.1 p q)
 
--- one more of what holes stand for
+-- one more of what holes mean
 pub mapped_push : {A X : Type 0} (f : X → Hole A) (xs more : List X) (x : X) (h : Hole A) (end longer : ℕ) → more ≡ xs ++ x ∷ [] → f x ≡ h → AreInOrder 0 (map f xs) end → last_end 0 (map f xs) ≤ h.place → h.place + h.width ≤ longer → AreInOrder 0 (map f more) longer
 mapped_push {A} f xs more x h end longer e same k p q =
     subst (λ (hs : List (Hole A)). AreInOrder 0 hs longer) (sym (ap (map f) e ∙ map_push f xs x ∙ ap (λ g. map f xs ++ g ∷ []) same)) (in_order_push 0 (map f xs) h end longer k p q)

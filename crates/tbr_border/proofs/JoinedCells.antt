@@ -160,7 +160,7 @@ any_within side (a ∷ before) bs o h = ap (λ b. merges side a || b) (any_withi
     go true = refl
     go false = refl
 
--- a cell that joins stands before their end
+-- a cell that joins is before their end
 pub joins_end-within : (side : Side) (before bs : List Cell) (o : Cell) → merges side o ≡ true → length before < joins_end side (before ++ (o ∷ bs))
 joins_end-within side [] bs o h = rw (any_within side [] bs o h) (omega arith)
 joins_end-within side (a ∷ before) bs o h = rw (any_within side (a ∷ before) bs o h) (omega (arith, joins_end-within side before bs o h))
@@ -240,7 +240,7 @@ module _ {X : Type 0} (cell : X → Cell) (side : Side) (xs : List X) (i : ℕ) 
       ap (joined_under side cs place) one_cell ∙ under-push side cs place (map cell (take i xs)) (cell (get_or xs i d))
       ∙ ap (λ n. cond (merges side (cell (get_or xs i d))) (changed_at (joined side) (place + n) (joined_under side cs place (map cell (take i xs)))) (joined_under side cs place (map cell (take i xs)))) cells_so_far
 
-  -- a cell that joins stands before the joins' end
+  -- a cell that joins is before the joins' end
   pub joins_below_end : merges side (cell (get_or xs i d)) ≡ true → i < joins_end side (map cell xs)
   joins_below_end h =
       let parts : map cell xs ≡ map cell (take i xs) ++ (cell (get_or xs i d) ∷ map cell (drop (suc i) xs)) =

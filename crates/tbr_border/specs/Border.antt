@@ -1,4 +1,4 @@
--- Borders: cells, and text that stands in front of them.
+-- Borders: cells, and text in front of them.
 use Rattle.std.specs.Prelude.{◌≡◌, ℕ, zero, suc, ◌+◌, ◌-◌, ◌≤◌, ◌||◌, Bool, true, false, if◌then◌else◌, Option, List, [], ◌∷◌, ◌++◌, map, length, replicate, drop, slice_range}
 use Rattle.std.specs.List.{AllZip}
 use Rattle.tbr_model.specs.Run.{Item}
@@ -26,7 +26,7 @@ span_end [] = 0
 span_end (h ∷ []) = h.place + h.width
 span_end (h ∷ k ∷ hs) = span_end (k ∷ hs)
 
--- from a place on, the holes stand one behind another, and within the cells
+-- from a place on, the holes come one after another, and within the cells
 abbrev pub AreInOrder : {A : Type 0} → ℕ → List (Hole A) → ℕ → Type 0
 AreInOrder from [] end = from ≤ end
 AreInOrder from (h ∷ hs) end = (from ≤ h.place) × AreInOrder (h.place + h.width) hs end
@@ -36,7 +36,7 @@ without_holes cells tag = record { cells = cells; tag = tag; holes = [] }
 
 -- ---- changes of cells
 
--- with ─ behind, up to a width
+-- with ─ after them, up to a width
 abbrev pub stretched : ℕ → List Cell → List Cell
 stretched width cells = cells ++ replicate (width - length cells) horizontal
 
@@ -101,7 +101,7 @@ merged side cells place others =
 abbrev pub drawn : {A : Type 0} → List Cell → A → List (Item A)
 drawn cells tag = text_items (map character cells) tag
 
--- From a place on: where a hole stands, its element, for as many columns as its width, and in all other columns the
+-- From a place on: where a hole is, its element, for as many columns as its width. In all other columns it is the
 -- cells' characters.
 abbrev pub shown_from : {A : Type 0} → A → List Cell → ℕ → List (Hole A) → List (Item A)
 shown_from tag cells at [] = drawn (drop at cells) tag

@@ -58,7 +58,7 @@ joined side slash = slash
 joined above (arms l r u d) = arms l r true d
 joined below (arms l r u d) = arms l r u true
 
--- an arm that stands alone is completed by its opposite
+-- an arm that is alone is completed by its opposite
 abbrev pub completed : Bool → Bool → Bool → Bool → Cell
 completed l r u d =
     if one_if l + one_if r + one_if u + one_if d == 1 then arms (l || r) (l || r) (u || d) (u || d)
@@ -102,6 +102,6 @@ abbrev pub merges : Side → Cell → Bool
 merges above c = is_among (character c) (0x2534 ∷ 0x252C ∷ 0x253C ∷ 0x250C ∷ 0x2510 ∷ [])
 merges below c = is_among (character c) (0x2534 ∷ 0x252C ∷ 0x253C ∷ 0x2514 ∷ 0x2518 ∷ [])
 
--- what stands above a cell: │ above ┴ ┼ └ ┘, else a space
+-- what is above a cell: │ above ┴ ┼ └ ┘, else a space
 abbrev pub line_above : Cell → ℕ
 line_above c = if is_among (character c) (0x2534 ∷ 0x253C ∷ 0x2514 ∷ 0x2518 ∷ []) then 0x2502 else space_character

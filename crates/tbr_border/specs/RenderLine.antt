@@ -6,7 +6,7 @@ use Rattle.tbr_border.specs.declared.render_line.RenderLine.TheVariants.{Text, L
 use Rattle.tbr_tagged.specs.Elements.{Element, items_of, has_piece, SameElements, IsMerged}
 use Rattle.tbr_border.specs.Border.{shown, has_holes, SameBorder}
 
--- a line's items; a border's cells stand under its own tag
+-- a line's items; a border's cells are under its own tag
 abbrev pub line_items : {A : Type 0} → RenderLine A → List (Item A)
 line_items (Text line) = items_of line
 line_items (Line border) = shown border.tag border

@@ -19,15 +19,14 @@ use tbr_tagged::{OutOfMemory, TaggedLine, TaggedLineElement, TaggedString};
 
 mod cell;
 
-/// A horizontal border: cells under a tag, and elements that stand in front of some of them. A contract sees its cells
-/// as sets of arms, its tag, and the elements as holes, each with its place and its width in columns.
+/// A horizontal border: cells under a tag, and elements in front of some of them. A contract sees its cells as sets of
+/// arms, its tag, and the elements as holes, each with its place and its width in columns.
 #[derive(Debug, Drop)]
 pub struct BorderHoriz<T> {
     shape: Box<Shape<T>>,
 }
 
-/// What a border has. It stands in a box, so that a border takes no more room among a renderer's lines than a line of
-/// text.
+/// What a border has. It is boxed, so that a border takes no more room among a renderer's lines than a line of text.
 #[derive(Debug, Drop)]
 struct Shape<T> {
     segments: Vec<BorderSegHoriz>,
@@ -56,14 +55,14 @@ impl<T> Model for BorderHoriz<T> {
 }
 
 impl<T: Drop> BorderHoriz<T> {
-    /// A border of `width` cells `─`, without holes. It refuses only for want of memory.
+    /// A border of `width` cells `─`, one for each column, without holes. It refuses only where memory is refused.
     pub fn new(alloc: Global, width: usize, tag: T) -> Result<BorderHoriz<T>, OutOfMemory>
         ensures { IfOk result (λ b. b ≡ model.without_holes (replicate width (cell_of BorderSegHoriz.Horiz)) tag) }
     {
         BorderHoriz::new_type(alloc, width, BorderSegHoriz::Horiz, tag)
     }
 
-    /// A border of `width` cells of one kind, without holes. It refuses only for want of memory.
+    /// A border of `width` cells of one kind, without holes. It refuses only where memory is refused.
     pub fn new_type(
         alloc: Global,
         width: usize,
@@ -121,8 +120,8 @@ impl<T> BorderHoriz<T> {
         join_at(&mut self.shape.segments, Side::Below, x)
     }
 
-    /// Adds an arm down at `pos + i` for each place `i` where the other border, which is seen from above, has one of `┴
-    /// ┬ ┼ └ ┘`, also under its holes. The border is stretched as far as joins come.
+    /// Merges a border that is below. It adds an arm down at `pos + i` for each place `i` where the other has one of
+    /// `┴ ┬ ┼ └ ┘`, also under its holes. This border is stretched as far as joins come.
     ///
     /// Where memory is refused, or a place passes `usize`, the border stays as it was. A border that reaches the last
     /// join takes no memory.
@@ -144,8 +143,8 @@ impl<T> BorderHoriz<T> {
         )
     }
 
-    /// Adds an arm up at `pos + i` for each place `i` where the other border, which is seen from below, has one of `┴ ┬
-    /// ┼ ┌ ┐`, also under its holes. The border is stretched as far as joins come.
+    /// Merges a border that is above. It adds an arm up at `pos + i` for each place `i` where the other has one of
+    /// `┴ ┬ ┼ ┌ ┐`, also under its holes. This border is stretched as far as joins come.
     ///
     /// Where memory is refused, or a place passes `usize`, the border stays as it was. A border that reaches the last
     /// join takes no memory.
@@ -202,7 +201,7 @@ impl<T> BorderHoriz<T> {
         Ok(())
     }
 
-    /// The end of the last hole, 0 if there is none.
+    /// The column after the last hole, counted from 0, or 0 if there is none.
     pub fn span_end(&self) -> usize
         ensures { result ≡ model.span_end self.now.holes }
     {
@@ -212,7 +211,7 @@ impl<T> BorderHoriz<T> {
         }
     }
 
-    /// Whether something stands in front of the cells.
+    /// Whether an element is in front of the cells.
     pub fn has_holes(&self) -> bool
         ensures { result ≡ model.has_holes self.now.holes }
     {
@@ -234,7 +233,7 @@ impl<T> BorderHoriz<T> {
     }
 
     /// The text of the line above: `│` above each `┴`, `┼`, `└` and `┘`, also under holes, and spaces else. It refuses
-    /// only for want of memory.
+    /// only where memory is refused.
     pub fn to_vertical_lines_above(&self) -> Result<String, OutOfMemory>
         ensures { IfOk result (λ text. chars_of text ≡ model.lines_above self.now) }
     {
@@ -363,8 +362,8 @@ fn chop_left_at(segments: &mut Vec<BorderSegHoriz>, place: usize)
 }
 
 impl<T> BorderHoriz<T> {
-    /// The border's text: for each column what stands in front of it, or the cell's character. It refuses only for want
-    /// of memory.
+    /// The border's text: for each column what is in front of it, or the cell's character. It refuses only where memory
+    /// is refused.
     pub fn to_text(&self) -> Result<String, OutOfMemory>
         ensures { IfOk result (λ text. chars_of text ≡ item_characters (shown self.now.tag self.now)) }
     {
@@ -383,8 +382,8 @@ impl<T> BorderHoriz<T> {
 }
 
 impl<T: Eq + Clone + Drop> BorderHoriz<T> {
-    /// The border as a line of pieces: cells stand under copies of its tag, and what stands in front of them keeps tags
-    /// and markers. Pieces are the longest stretches under equal tags. It refuses only for want of memory.
+    /// The border as a line of pieces. Cells are under copies of its tag, and what is in front of them keeps tags and
+    /// markers. Pieces are the longest stretches under equal tags. It refuses only where memory is refused.
     pub fn into_tagged_line(self) -> Result<TaggedLine<T>, OutOfMemory>
         requires { CopiesAreEqual T.is_clone T.eq }
         ensures items { IfOk result (λ line. SameItems T.eq (items_of line) (shown self.tag self)) }
@@ -398,8 +397,8 @@ impl<T: Eq + Clone + Drop> BorderHoriz<T> {
         flattened(&segments, holes, &tag)
     }
 
-    /// The border as a line of pieces: cells stand under copies of the given tag, and what stands in front of them
-    /// keeps tags and markers. Pieces are the longest stretches under equal tags. It refuses only for want of memory.
+    /// The border as a line of pieces. Cells are under copies of the given tag, and what is in front of them keeps tags
+    /// and markers. Pieces are the longest stretches under equal tags. It refuses only where memory is refused.
     pub fn into_tagged_line_with(self, tag: &T) -> Result<TaggedLine<T>, OutOfMemory>
         requires { CopiesAreEqual T.is_clone T.eq }
         ensures items { IfOk result (λ line. SameItems T.eq (items_of line) (shown tag.now self)) }
@@ -413,7 +412,7 @@ impl<T: Eq + Clone + Drop> BorderHoriz<T> {
         flattened(&segments, holes, tag)
     }
 
-    /// The same cells and holes under copies of their tags. It refuses only for want of memory.
+    /// The same cells and holes under copies of their tags. It refuses only where memory is refused.
     pub fn clone(&self) -> Result<BorderHoriz<T>, OutOfMemory>
         requires { CopiesAreEqual T.is_clone T.eq }
         ensures { IfOk result (λ b. SameBorder T.eq b self.now) }
@@ -434,7 +433,7 @@ impl<T: Eq + Clone + Drop> BorderHoriz<T> {
     }
 }
 
-/// The same holes, whose pieces stand under copies of their tags.
+/// The same holes, whose pieces are under copies of their tags.
 fn copied<T: Eq + Clone + Drop>(
     alloc: Global,
     holes: &[Span<T>],
@@ -453,7 +452,7 @@ fn copied<T: Eq + Clone + Drop>(
     Ok(copies)
 }
 
-/// A line of pieces: the cells under copies of the tag, and what stands in front of them.
+/// A line of pieces: the cells under copies of the tag, and what is in front of them.
 fn flattened<T: Eq + Clone + Drop>(
     segments: &Vec<BorderSegHoriz>,
     holes: Vec<Span<T>>,

@@ -19,7 +19,8 @@ pub enum RenderLine<T> {
 }
 
 impl<T> RenderLine<T> {
-    /// The line's text: that of a line of text, or of a border, column by column. It refuses only for want of memory.
+    /// The line's text: that of a line of text, or of a border, column by column. It refuses only where memory is
+    /// refused.
     pub fn to_text(&self) -> Result<String, OutOfMemory>
         ensures { IfOk result (λ text. chars_of text ≡ item_characters (model.line_items self.now)) }
     {
@@ -55,7 +56,7 @@ impl<T> RenderLine<T> {
 
 impl<T: Eq + Clone + Drop> RenderLine<T> {
     /// A line of text itself, or a border as a line of pieces, with its cells under copies of its tag. It refuses only
-    /// for want of memory.
+    /// where memory is refused.
     pub fn into_tagged_line(self) -> Result<TaggedLine<T>, OutOfMemory>
         requires { CopiesAreEqual T.is_clone T.eq }
         ensures items { IfOk result (λ line. SameItems T.eq (items_of line) (model.line_items self)) }
@@ -68,7 +69,7 @@ impl<T: Eq + Clone + Drop> RenderLine<T> {
         }
     }
 
-    /// The same line, its pieces and cells under copies of their tags. It refuses only for want of memory.
+    /// The same line, its pieces and cells under copies of their tags. It refuses only where memory is refused.
     pub fn clone(&self) -> Result<RenderLine<T>, OutOfMemory>
         requires { CopiesAreEqual T.is_clone T.eq }
         ensures { IfOk result (λ line. model.SameLine T.eq line self.now) }

@@ -15,7 +15,7 @@ no_space digits d = not_a_digit 10 32 digits (lit≤ tt) d.0.1
 abbrev Pair : Type 0
 Pair = Bor (List ℕ) × Bor (List ℕ)
 
--- digits, and what stands behind the space behind them
+-- digits, and what comes after the space after them
 module _ (bs digits rest : List ℕ) (d : IsByte digits) (is : bs ≡ digits ++ 32 ∷ rest) where
   pub some_split : IsSplitOnceResult 32 bs None → ⊥
   some_split h = split_after 32 bs digits rest None h (lit< tt) is (no_space digits d)

@@ -35,7 +35,7 @@ no_space [] a i lt e = absurd (omega arith)
 no_space (x ∷ xs) a zero lt e = a.0 e
 no_space (x ∷ xs) a (suc i) lt e = no_space xs a.1 i (omega arith) e
 
--- the words behind which an argument stands
+-- the words after which an argument comes
 pub data Word : Type 0 where
   text_word : Word
   marker_word : Word
@@ -103,7 +103,7 @@ word_once v w xs ys e = sym (is v xs) ∙ ap read_word e ∙ is w ys
     is append_word zs = refl
     is cell_word zs = refl
 
--- what stands behind the word
+-- what comes after the word
 abbrev pub Argument : Word → List ℕ → Type 0
 Argument text_word bs = (t : List ℕ) × IsText bs t
 Argument marker_word bs = (t : List ℕ) × IsText bs t
@@ -162,7 +162,7 @@ module _ (line : List ℕ) (word rest : Bor (List ℕ)) (h : IsSplitOnceResult 3
   pub behind_it : line ≡ word.now ++ (32 ∷ rest.now)
   behind_it = (split_parts 32 line (Some (word, rest)) h (lit< tt)).0
 
-  -- what stands behind this word is no argument of it
+  -- what comes after this word is no argument of it
   no_such_argument : (w : Word) → word.now ≡ written_as w → (Argument w rest.now → ⊥) → IsWorded line → ⊥
   no_such_argument w is n v =
       let p = parts line (Some (word, rest)) h v.0 v.1 in

@@ -21,7 +21,7 @@ no_setting word a b c l n d f g h wrap (Images Filename) k = g k
 no_setting word a b c l n d f g h wrap (Images ShowAlways) k = h k
 no_setting word a b c l n d f g h wrap (Images (Replace title)) k = k
 
--- a first word has its setting, and those behind it have theirs
+-- a first word has its setting, and those after it have theirs
 pub first_setting : (words rest : List (List ℕ)) (word : List ℕ) (settings : List Setting) → words ≡ word ∷ rest → AllZip IsSetting words settings →
     ((setting : Setting) × IsSetting word setting) × ((others : List Setting) × AllZip IsSetting rest others)
 first_setting words rest word settings is all = go settings (subst (λ ws. AllZip IsSetting ws settings) is all)

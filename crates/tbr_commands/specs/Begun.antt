@@ -69,7 +69,7 @@ begins (begin what) = Some (kind_of what)
 begins (colour g c) = Some (in_colour g)
 begins other = None
 
--- the kind that a request ends, if it ends one; the end of a block, which may always come, ends none
+-- the kind that a request ends, if it ends one; the end of a block may always come, and ends none
 abbrev pub ends : Request → Option Kind
 ends (end what) = Some what
 ends other = None
@@ -100,6 +100,6 @@ abbrev pub less : Begun → Option Kind → Begun
 less begun None = begun
 less begun (Some kind) = with_count begun kind (count begun kind - 1)
 
--- what has begun behind a request
+-- what has begun after a request
 abbrev pub counted : Begun → Request → Begun
 counted begun request = less (more begun (begins request)) (ends request)

@@ -6,9 +6,9 @@ use Rattle.tbr_commands.specs.declared.command.Command as declared
 use Rattle.tbr_commands.specs.declared.command.Command.TheVariants as variant
 
 -- A request is one call of the renderer that is open. The others begin a link there and end it, open a block or a cell
--- inside it, close one, or take the cells that wait: side by side, with their borders collapsed or not, or one below
--- another. Targets and prefixes are by their bytes; a first prefix is that of the first line, the other that of all
--- others.
+-- inside it, or close one. Or they take the cells that wait: side by side, with their borders collapsed or not, or one
+-- below another. Targets and prefixes are by their bytes. A first prefix is that of the first line, the other that of
+-- all others.
 pub data Command : Type 0 where
   ask : Request → Command
   link : (target : List ℕ) → Command

@@ -13,7 +13,7 @@ name_of Plain = codes "plain"
 name_of Trivial = codes "trivial"
 name_of Rich = codes "rich"
 
--- the words behind `new`: a width of at least 1, a decorator, and options
+-- the words after `new`: a width of at least 1, a decorator, and options
 abbrev pub AsksFor : List (List ℕ) → Opening → Type 0
 AsksFor words opening =
     (digits : List ℕ) × (options : List (List ℕ)) × (words ≡ digits ∷ name_of opening.decorator ∷ options)

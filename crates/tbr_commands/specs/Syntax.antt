@@ -102,7 +102,7 @@ IsRequest line request = IsAlone line request ⊎ HasArgument line request
 
 -- ---- commands
 
--- the words behind a cell's span, and the alignment that they tell
+-- the words after a cell's span, and the alignment that they tell
 abbrev pub IsAlignment : List (List ℕ) → CellAlign → Type 0
 IsAlignment words Left = (words ≡ []) ⊎ (words ≡ codes "left" ∷ [])
 IsAlignment words Right = words ≡ codes "right" ∷ []

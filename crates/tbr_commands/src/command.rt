@@ -11,7 +11,7 @@ use tbr_script::{TextPair, parse_size, unescape};
 
 pub mod new_cell;
 
-/// What a line of a script behind the first command asks for.
+/// What a line of a script after the first command asks for.
 #[derive(Debug, Drop)]
 pub enum Command {
     /// One call of the renderer that is open.
@@ -22,7 +22,7 @@ pub enum Command {
     EndLink,
     /// A block of so many columns, at least 1, opens inside the renderer that is open.
     Sub(usize),
-    /// The block that is open closes. Its lines go into the renderer outside, each behind a prefix: that of the first
+    /// The block that is open closes. Its lines go into the renderer outside, each after a prefix: that of the first
     /// line, and that of all others.
     Append(TextPair),
     /// A cell opens inside the renderer that is open.
@@ -39,7 +39,8 @@ pub enum Command {
 }
 
 impl Command {
-    /// What a line asks for, without its newline. `None` where it is no command.
+    /// What a line asks for, without its newline. `Ok(None)` where it is no command. It refuses only where memory is
+    /// refused.
     pub fn parse(alloc: Global, line: &[u8]) -> Result<Option<Command>, AllocError>
         ensures command { IfOk result (λ found.
             IfSome found (λ command. IsCommand line.now (command_of command))) }

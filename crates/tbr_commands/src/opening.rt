@@ -63,7 +63,7 @@ impl Opening {
         Opening::behind_new(words)
     }
 
-    /// The same of what stands behind `new`.
+    /// The same of what comes after `new`.
     fn behind_new(mut words: Words<'_>) -> Option<Opening>
         ensures found { IfSome result (λ opening. AsksFor words.entry opening) }
         ensures width { IfSome result (λ opening. 0 < opening.width) }

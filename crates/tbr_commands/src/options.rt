@@ -19,9 +19,9 @@ pub enum Setting {
     Pad,
     /// Borders of tables aren't drawn.
     NoBorders,
-    /// Targets behind the text aren't cut.
+    /// Targets after the text aren't cut.
     NoWrapLinks,
-    /// Links are numbered, and their targets listed behind the text.
+    /// Links are numbered, and their targets listed after the text.
     Footnotes,
     /// Struck out text has no strokes.
     NoStrike,

@@ -49,7 +49,8 @@ pub enum Request {
 }
 
 impl Request {
-    /// What a line asks the renderer for. `None` where it asks it for nothing.
+    /// What a line asks the renderer for. `Ok(None)` where it asks it for nothing. It refuses only where memory is
+    /// refused.
     pub fn parse(alloc: Global, line: &str) -> Result<Option<Request>, AllocError>
         ensures request { IfOk result (λ found.
             IfSome found (λ request. IsRequest line.now (request_of request))) }

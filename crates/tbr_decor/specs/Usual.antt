@@ -3,7 +3,7 @@ use Rattle.std.specs.Prelude.{◌≡◌, ℕ, ◌+◌, List, [], ◌∷◌, ◌+
 use Rattle.std.specs.Fmt.{decimal}
 use Rattle.tbr_tagged.specs.Elements.{Element, piece}
 
--- the text before a superscript, and the text behind it
+-- the text before a superscript, and the text after it
 abbrev pub superscript_start : List ℕ
 superscript_start = codes "^{"
 

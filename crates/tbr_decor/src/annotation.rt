@@ -9,7 +9,7 @@ pub enum RichAnnotation {
     Default,
     /// A link, with its target.
     Link(String),
-    /// The text that stands for an image, with the image's source.
+    /// The text that shows an image, with the image's source.
     Image(String),
     /// Emphasised text.
     Emphasis,
@@ -19,7 +19,7 @@ pub enum RichAnnotation {
     Strikeout,
     /// Code.
     Code,
-    /// Preformatted text, and whether it stands on a line that continues one which was too long.
+    /// Preformatted text, and whether it is on a line that continues one which was too long.
     Preformat(bool),
     /// Text in a colour.
     Colour(Colour),

@@ -16,21 +16,20 @@ use std::alloc::Global;
 use std::fmt::Debug;
 use tbr_tagged::{OutOfMemory, TaggedLine};
 
-/// Puts texts round parts of a document, such as `*` round emphasised text, and gives annotations of what stands
-/// between, such as its colour.
+/// Puts texts round parts of a document, such as `*` round emphasised text. It gives annotations of what is between,
+/// such as its colour.
 ///
-/// The texts are wrapped with the document's own; the annotations stand beside it, for whoever shows the lines. A call
+/// The texts are wrapped with the document's own. The annotations are beside it, for whoever shows the lines. A call
 /// answers [`OutOfMemory`] where memory is refused or the size of a text passes `usize`, and then leaves the decorator
 /// as it was.
 ///
-/// What a decorator means stands in its ghost members, and code over any decorator is proved from these alone: texts as
-/// their characters, annotations by what they mean. Two annotations are equal exactly where they mean the same, and a
-/// copy of an annotation equals it. A call that may change the decorator leaves what `after` says; a decorator that
-/// holds a collection has an
-/// `impl Model`, so that this is a value.
+/// Ghost members say what a decorator means: its texts as characters, its annotations by what they mean. Code over any
+/// decorator is proved from these alone. Two annotations are equal exactly where they mean the same, and a copy of an
+/// annotation equals it. A call that may change the decorator leaves what `after` says. A decorator that holds a
+/// collection has an `impl Model`, so that this is a value.
 ///
-/// No call has a body of its own here, since a body that stands in a trait is proved for every decorator, whatever its
-/// members say. A decorator that has no superscripts, colours and footnotes of its own answers those calls by
+/// No call has a body of its own here, since a body in a trait is proved for every decorator, whatever its members say.
+/// A decorator that has no superscripts, colours and footnotes of its own answers those calls by
 /// [`usual`](crate::usual).
 pub trait TextDecorator: Drop {
     /// What a stretch of text can be annotated with.
@@ -58,7 +57,7 @@ pub trait TextDecorator: Drop {
 
     ghost ends_colour: { Self → ground.Ground → Bool };
 
-    // The lines behind a document, by the targets of its links.
+    // The lines after a document, by the targets of its links.
     ghost footnotes: { Self → List (List ℕ) → List (List (Element Self.Meaning)) };
 
     ghost subblock: { Self → Self };
@@ -66,7 +65,7 @@ pub trait TextDecorator: Drop {
     // What a call that may change the decorator leaves of it.
     ghost after: { Self → change.Change → Self };
 
-    /// The text before a link to `url`, and the annotation of what stands in the link.
+    /// The text before a link to `url`, and the annotation of what is in the link.
     fn decorate_link_start(
         &mut self,
         alloc: Global,
@@ -77,7 +76,7 @@ pub trait TextDecorator: Drop {
         ensures after { OnOk result (self.new ≡ after self.old (change.link_start (chars url.now))) }
         ensures err { OnErr result (self.new ≡ self.old) };
 
-    /// The text behind a link.
+    /// The text after a link.
     fn decorate_link_end(&mut self, alloc: Global) -> Result<String, OutOfMemory>
         ensures text { IfOk result (λ text. chars_of text ≡ end_text self.old end.link) }
         ensures after { OnOk result (self.new ≡ after self.old change.link_end) }
@@ -88,7 +87,7 @@ pub trait TextDecorator: Drop {
         ensures text { IfOk result (λ r. chars_of r.0 ≡ start_text self.now start.emphasis) }
         ensures annotation { IfOk result (λ r. meaning r.1 ≡ annotation self.now start.emphasis) };
 
-    /// The text behind emphasised text.
+    /// The text after emphasised text.
     fn decorate_em_end(&self, alloc: Global) -> Result<String, OutOfMemory>
         ensures { IfOk result (λ text. chars_of text ≡ end_text self.now end.emphasis) };
 
@@ -100,7 +99,7 @@ pub trait TextDecorator: Drop {
         ensures text { IfOk result (λ r. chars_of r.0 ≡ start_text self.now start.strong) }
         ensures annotation { IfOk result (λ r. meaning r.1 ≡ annotation self.now start.strong) };
 
-    /// The text behind strong text.
+    /// The text after strong text.
     fn decorate_strong_end(&self, alloc: Global) -> Result<String, OutOfMemory>
         ensures { IfOk result (λ text. chars_of text ≡ end_text self.now end.strong) };
 
@@ -112,7 +111,7 @@ pub trait TextDecorator: Drop {
         ensures text { IfOk result (λ r. chars_of r.0 ≡ start_text self.now start.strikeout) }
         ensures annotation { IfOk result (λ r. meaning r.1 ≡ annotation self.now start.strikeout) };
 
-    /// The text behind struck out text.
+    /// The text after struck out text.
     fn decorate_strikeout_end(&self, alloc: Global) -> Result<String, OutOfMemory>
         ensures { IfOk result (λ text. chars_of text ≡ end_text self.now end.strikeout) };
 
@@ -121,7 +120,7 @@ pub trait TextDecorator: Drop {
         ensures text { IfOk result (λ r. chars_of r.0 ≡ start_text self.now start.code) }
         ensures annotation { IfOk result (λ r. meaning r.1 ≡ annotation self.now start.code) };
 
-    /// The text behind code.
+    /// The text after code.
     fn decorate_code_end(&self, alloc: Global) -> Result<String, OutOfMemory>
         ensures { IfOk result (λ text. chars_of text ≡ end_text self.now end.code) };
 
@@ -133,7 +132,7 @@ pub trait TextDecorator: Drop {
         ensures text { IfOk result (λ r. chars_of r.0 ≡ start_text self.now start.superscript) }
         ensures annotation { IfOk result (λ r. meaning r.1 ≡ annotation self.now start.superscript) };
 
-    /// The text behind a superscript.
+    /// The text after a superscript.
     fn decorate_superscript_end(&self, alloc: Global) -> Result<String, OutOfMemory>
         ensures { IfOk result (λ text. chars_of text ≡ end_text self.now end.superscript) };
 
@@ -145,7 +144,7 @@ pub trait TextDecorator: Drop {
     fn decorate_preformat_cont(&self, alloc: Global) -> Result<Self::Annotation, OutOfMemory>
         ensures { IfOk result (λ a. meaning a ≡ preformatted self.now true) };
 
-    /// The text that stands for the image at `src`, and its annotation.
+    /// The text that shows the image at `src`, and its annotation.
     fn decorate_image(
         &mut self,
         alloc: Global,
@@ -210,7 +209,7 @@ pub trait TextDecorator: Drop {
         ensures taken { result ≡ ends_colour self.old ground.background }
         ensures after { self.new ≡ after self.old (change.pop_colour ground.background) };
 
-    /// The lines behind the document, by the targets of its links in their order. The targets are dropped.
+    /// The lines after the document, by the targets of its links in their order. The targets are dropped.
     fn finalise(
         &mut self,
         alloc: Global,

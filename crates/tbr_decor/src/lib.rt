@@ -1,4 +1,4 @@
-//! Decorators: the texts that stand round parts of a document, and the annotations of what stands between.
+//! Decorators: the texts round parts of a document, and the annotations of what is between.
 #![tactic(auto)]
 
 pub use annotation::RichAnnotation;

@@ -10,7 +10,7 @@ use crate::{text, usual};
 use std::alloc::Global;
 use tbr_tagged::{OutOfMemory, TaggedLine};
 
-/// Shows what a document has by plain characters, as `[` and `]` round a link, and annotates nothing.
+/// Shows what a document has by plain characters, such as `[` and `]` round a link, and annotates nothing.
 #[derive(Clone, Debug, Drop)]
 pub struct PlainDecorator {}
 

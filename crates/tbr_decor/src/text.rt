@@ -16,7 +16,7 @@ pub fn empty(alloc: Global) -> String
     String::new(alloc)
 }
 
-/// A copy of a text, of which it asks that it is ASCII. It refuses only for want of memory.
+/// A copy of a text, of which it asks that it is ASCII. It refuses only where memory is refused.
 pub fn ascii(alloc: Global, text: &str) -> Result<String, OutOfMemory>
     requires { IsTrue (list_all is_ascii text.now) }
     ensures { IfOk result (λ t. chars_of t ≡ text.now) }
@@ -24,14 +24,14 @@ pub fn ascii(alloc: Global, text: &str) -> Result<String, OutOfMemory>
     Ok(String::from_str(alloc, text)?)
 }
 
-/// A copy of a text. It refuses only for want of memory.
+/// A copy of a text. It refuses only where memory is refused.
 pub fn copy(alloc: Global, text: &str) -> Result<String, OutOfMemory>
     ensures { IfOk result (λ t. chars_of t ≡ chars text.now) }
 {
     Ok(String::from_str(alloc, text)?)
 }
 
-/// `level` times `#`, and a space. It refuses only for want of memory; a size that no text has is refused before
+/// `level` times `#`, and a space. It refuses only where memory is refused. A size that no text has is refused before
 /// anything is written.
 pub fn header(alloc: Global, level: usize) -> Result<String, OutOfMemory>
     ensures { IfOk result (λ t. chars_of t ≡ plain.header_text level) }
@@ -41,14 +41,14 @@ pub fn header(alloc: Global, level: usize) -> Result<String, OutOfMemory>
     Ok(text)
 }
 
-/// A number and `. `. It refuses only for want of memory.
+/// A number and `. `. It refuses only where memory is refused.
 pub fn ordered_item(alloc: Global, i: i64) -> Result<String, OutOfMemory>
     ensures { IfOk result (λ t. chars_of t ≡ signed_decimal i ++ codes ". ") }
 {
     Ok(format!(in alloc; "{i}. ")?)
 }
 
-/// A text in square brackets. It refuses only for want of memory.
+/// A text in square brackets. It refuses only where memory is refused.
 pub fn bracketed(alloc: Global, text: &str) -> Result<String, OutOfMemory>
     ensures { IfOk result (λ t. chars_of t ≡ codes "[" ++ chars text.now ++ codes "]") }
 {

@@ -10,7 +10,7 @@ use crate::text;
 use std::alloc::Global;
 use tbr_tagged::{OutOfMemory, TaggedLine, TaggedString};
 
-/// The text before a superscript, `^{`, and the default annotation. It refuses only for want of memory.
+/// The text before a superscript, `^{`, and the default annotation. It refuses only where memory is refused.
 pub fn superscript_start<A: Default>(alloc: Global) -> Result<(String, A), OutOfMemory>
     ensures text { IfOk result (λ r. chars_of r.0 ≡ usual.superscript_start) }
     ensures annotation { IfOk result (λ r. A.is_default r.1) }
@@ -18,7 +18,7 @@ pub fn superscript_start<A: Default>(alloc: Global) -> Result<(String, A), OutOf
     Ok((text::ascii(alloc, "^{")?, A::default()))
 }
 
-/// The text behind a superscript, `}`. It refuses only for want of memory.
+/// The text after a superscript, `}`. It refuses only where memory is refused.
 pub fn superscript_end(alloc: Global) -> Result<String, OutOfMemory>
     ensures { IfOk result (λ t. chars_of t ≡ usual.superscript_end) }
 {
@@ -56,7 +56,7 @@ pub fn pop_bgcolour() -> bool
 }
 
 /// For each target a line of one piece, its number in brackets and the target, as `[1]: target`, under the default
-/// annotation. The numbers count from 1, and the targets are dropped. It refuses only for want of memory.
+/// annotation. The numbers count from 1, and the targets are dropped. It refuses only where memory is refused.
 pub fn finalise<A: Eq + Default + Drop>(
     alloc: Global,
     urls: Vec<String>,
@@ -70,7 +70,7 @@ pub fn finalise<A: Eq + Default + Drop>(
     Ok(lines)
 }
 
-/// The line of one target.
+/// The line of one target. It refuses only where memory is refused.
 fn footnote<A: Eq + Default + Drop>(
     alloc: Global,
     number: usize,
@@ -87,7 +87,7 @@ fn footnote<A: Eq + Default + Drop>(
     Ok(line)
 }
 
-/// The text `[1]: target`, of this number and target.
+/// The text `[1]: target`, of this number and target. It refuses only where memory is refused.
 fn numbered(alloc: Global, number: usize, url: &str) -> Result<String, OutOfMemory>
     ensures { IfOk result (λ t. chars_of t ≡ codes "[" ++ decimal number ++ codes "]: " ++ chars url.now) }
 {

@@ -1,4 +1,4 @@
--- What stands among the items of a list, and what holds of each of them.
+-- What is among the items of a list, and what holds of each of them.
 use Rattle.std.proofs.Common.{◌≡◌, ℕ, ◌⊎◌, inl, inr, List, [], ◌∷◌, ◌++◌, map, take, drop, ap, sym, ◌∙◌, subst, append_assoc}
 use Rattle.std.specs.List.{AllByRecursion as Each}
 use Rattle.std.proofs.lemmas.List.{take-append-drop, map-append}
@@ -24,7 +24,7 @@ none_among x h = go h.0 h.2
     go [] e = cc
     go (f ∷ front) e = cc
 
--- it is first, or stands among the others
+-- it is first, or is among the others
 pub among_cons : {X : Type 0} (x y : X) (ys : List X) → StandsAmong x (y ∷ ys) → (x ≡ y) ⊎ StandsAmong x ys
 among_cons x y ys h = go h.0 h.2
   where

@@ -1,4 +1,4 @@
--- What stands in the border below a row.
+-- What is in the border below a row.
 use Rattle.std.proofs.Common.{◌≡◌, ℕ, zero, suc, ◌+◌, ◌-◌, ◌≤◌, max, Bool, true, false, if◌then◌else◌, Option, None, Some, List, [], ◌∷◌, ◌++◌, map, fold, take, drop, length, refl, ap, sym, ◌∙◌, subst, arith, append_assoc, append-nil}
 use Rattle.std.specs.Prelude.{⊤, slice_range}
 use Rattle.std.specs.List.{AllByRecursion as Each}
@@ -82,7 +82,7 @@ module _ {A : Type 0} where
           (omega (arith, one.0, later.0), λ e. later.1 (one.1 e))
       go false o = joins o
 
-  -- a row is as wide as its cells stand
+  -- each cell of a row begins within its width
   pub first_within : (at : ℕ) (c : Cell A) (cs : List (Cell A)) → AreSideBySide at (c ∷ cs) → c.place ≤ row_width (c ∷ cs)
   first_within at c [] s = omega arith
   first_within at c (d ∷ cs) s = omega (arith, first_within (end_of c + 1) d cs s.1, s.1.0)
@@ -95,12 +95,12 @@ module _ {A : Type 0} where
 -- ---- holes in order
 
 module _ {A : Type 0} (columns : ℕ → Option ℕ) where
-  -- from a place on, one behind another, each as wide as what stands there
+  -- from a place on, one after another, each as wide as what is there
   abbrev pub InOrder : ℕ → List (Hole A) → ℕ → Type 0
   InOrder from [] end = from ≤ end
   InOrder from (h ∷ hs) end = (from ≤ h.place) × (items_width columns (element_items h.element) ≡ h.width) × InOrder (h.place + h.width) hs end
 
-  -- the first of them stands no earlier than at a place
+  -- the first of them is no earlier than at a place
   abbrev pub BeginBehind : ℕ → List (Hole A) → Type 0
   BeginBehind at [] = ⊤
   BeginBehind at (h ∷ hs) = at ≤ h.place
@@ -172,7 +172,7 @@ module _ {A : Type 0} (columns : ℕ → Option ℕ) where
     drawn_two : (xs ys : List Segment) → drawn (xs ++ ys) tag ≡ drawn xs tag ++ drawn ys tag
     drawn_two xs ys = ap (λ cs. text_items cs tag) (map-append character xs ys) ∙ map-append _ (map character xs) (map character ys)
 
-    -- cut at a column in front of what stands there
+    -- cut at a column before what is there
     cut : (at p : ℕ) (hs : List (Hole A)) → at ≤ p → BeginBehind p hs → shown_from tag cells at hs ≡ drawn (slice_range cells at p) tag ++ shown_from tag cells p hs
     cut at p [] h k =
         let sum : at + (p - at) ≡ p = omega (arith, h) in
@@ -189,7 +189,7 @@ module _ {A : Type 0} (columns : ℕ → Option ℕ) where
         ap (λ ds. drawn ds tag ++ rest) parts ∙ ap (λ is. is ++ rest) (drawn_two (slice_range cells at p) (slice_range cells p g.place))
         ∙ append_assoc (drawn (slice_range cells at p) tag) (drawn (slice_range cells p g.place) tag) rest
 
-    -- what stands in front of a column
+    -- what comes before a column
     pub shown_before : (from : ℕ) (hs : List (Hole A)) (p : ℕ) (more : List (Hole A)) → InOrder from hs p → p ≤ length cells → BeginBehind p more →
         (before : List (Item A)) × (shown_from tag cells from (hs ++ more) ≡ before ++ shown_from tag cells p more) × (from + items_width columns before ≡ p)
     shown_before from [] p more h k behind = (drawn (slice_range cells from p) tag, cut from p more h behind, part_width from p h k)
@@ -203,7 +203,7 @@ module _ {A : Type 0} (columns : ℕ → Option ℕ) where
           omega (arith, part_width from g.place h.0 within, width_append columns front (here ++ later.0), width_append columns here later.0, h.1, later.2),
         )
 
-    -- and what from there on, where elements stand one behind another
+    -- and what from there on, where elements come one after another
     pub shown_here : (at : ℕ) (es : List (Element A)) (more : List (Hole A)) → shown_from tag cells at (holes_from at es ++ more) ≡ items_of es ++ shown_from tag cells (at + items_width columns (items_of es)) more
     shown_here at [] more = let same : at ≡ at + 0 = omega arith in ap (λ n. shown_from tag cells n more) same
     shown_here at (e ∷ es) more =
@@ -231,7 +231,7 @@ module _ {A : Type 0} (columns : ℕ → Option ℕ) where
   from_behind p at (e ∷ es) h = h
 
   module _ (one : DrawsInOne columns) (draws : Bool) (tag : A) where
-    -- what stands in a gap takes its cell's columns
+    -- what is in a gap takes its cell's columns
     pub gap_width : (width : ℕ) (ls : List (RenderLine A)) (es : List (Element A)) → Each (Fills columns width) ls → IsGapOf tag width (first_line ls) es → items_width columns (items_of es) ≡ width
     gap_width width [] es h is =
         ap (λ xs. items_width columns (items_of xs)) is ∙ ap (items_width columns) (append-nil (text_items (spaces width) tag))
@@ -250,7 +250,7 @@ module _ {A : Type 0} (columns : ℕ → Option ℕ) where
           omega (arith, ap (λ (x : Border A). length x.cells) put, put_longer d.place b es),
         )
 
-    -- As far as the cells in front of one: the border has gaps in front of its place alone.
+    -- Up to one of the cells: the border has gaps before its place alone.
     pub gaps_in_front : (ds more : List (Cell A)) (at : ℕ) (b full : Border A) → HasGaps draws columns tag (ds ++ more) b full → AreSideBySide at (ds ++ more) → Each (IsFilled columns) ds → InOrder 0 b.holes at →
         (m : Border A) × (to : ℕ) × HasGaps draws columns tag more m full × AreSideBySide to more × InOrder 0 m.holes to × (length b.cells ≤ length m.cells)
     gaps_in_front [] more at b full h side fills k = (b, at, h, side, k, omega arith)
@@ -261,7 +261,7 @@ module _ {A : Type 0} (columns : ℕ → Option ℕ) where
         let (n, to, more_gaps, more_side, order, longer) = gaps_in_front ds more (end_of d + 1) m full behind side.1 fills.1 step.0 in
         (n, to, more_gaps, more_side, order, omega (arith, step.1, longer))
 
-    -- and behind it none stands in front of a place that none of its cells does
+    -- and from there on none comes before a place that none of its cells is before
     pub gaps_behind : (p : ℕ) (ds : List (Cell A)) (b full : Border A) → HasGaps draws columns tag ds b full → Each (λ (d : Cell A). p ≤ d.place) ds →
         (hs : List (Hole A)) × (full.holes ≡ b.holes ++ hs) × BeginBehind p hs × (length b.cells ≤ length full.cells)
     gaps_behind p [] b full h far = ([], ap (λ (x : Border A). x.holes) h ∙ sym (append-nil b.holes), tt, omega (arith, ap (λ (x : Border A). length x.cells) h))
@@ -287,7 +287,7 @@ module _ {A : Type 0} (columns : ℕ → Option ℕ) where
     places_behind at p [] h s = tt
     places_behind at p (d ∷ ds) h s = (omega (arith, h, s.0), places_behind (end_of d + 1) p ds (omega (arith, h, s.0)) s.1)
 
-    -- What a gap shows of its cell stands in the cell's columns.
+    -- What a gap shows of its cell is in the cell's columns.
     pub record GapStands (c : Cell A) (full : Border A) : Type 0 where
       pub before : List (Item A)
       pub es : List (Element A)

@@ -1,4 +1,4 @@
--- Which cells stand in a row: those that overhang, and its own.
+-- Which cells are in a row: those that overhang, and its own.
 use Rattle.std.proofs.Common.{◌≡◌, ℕ, ◌+◌, ◌-◌, ◌⊎◌, inl, inr, Bool, true, false, if◌then◌else◌, Option, Some, None, List, [], ◌∷◌, ◌++◌, refl, ap, sym, ◌∙◌, subst}
 use Rattle.std.specs.Prelude.{◌≢◌, is_none, nat_lt, ◌&&◌, ◌==◌}
 use Rattle.std.specs.Option.{option_map}
@@ -28,7 +28,7 @@ among_appended {A} at x (h ∷ hs) k = go (among_cons x h hs k) (λ l. among_app
     go (inl e) later = (gap, rest, ap (λ y. gap ++ y ∷ rest) (sym e))
     go (inr l) later = among_behind x gap (h ∷ rest) (among_front x h rest (later l))
 
--- each that overhangs stands in the row
+-- each that overhangs is in the row
 pub among_seated : {A : Type 0} (at : ℕ) (x : Cell A) (hs cs r : List (Cell A)) → StandsAmong x hs → with_hanging at hs cs ≡ Some r → StandsAmong x r
 among_seated at x hs [] r k e = subst (StandsAmong x) (same_Some (appended at hs) r e) (among_appended at x hs k)
 among_seated at x [] (c ∷ cs) r k e = absurd (none_among x k)
@@ -51,7 +51,7 @@ among_seated {A} at x (h ∷ hs) (c ∷ cs) r k e =
         subst (StandsAmong x) t.2 (among_front x c t.0 (kept t.0 t.1))
     go false false w taken kept f = absurd (let no : None ≡ Some r = f in cc)
 
--- and so does each of its own cells that has a line
+-- and so is each of its own cells that has a line
 pub among_own : {A : Type 0} (at : ℕ) (x : Cell A) (hs cs r : List (Cell A)) → is_none (first_line x.lines) ≡ false → StandsAmong x cs → with_hanging at hs cs ≡ Some r → StandsAmong x r
 among_own at x hs [] r some k e = absurd (none_among x k)
 among_own at x [] (c ∷ cs) r some k e = subst (StandsAmong x) (same_Some (c ∷ cs) r e) k

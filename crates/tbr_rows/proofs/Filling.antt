@@ -1,4 +1,4 @@
--- What stands in a row of a cell takes the cell's columns.
+-- What a row has of a cell takes the cell's columns.
 use Rattle.std.proofs.Common.{◌≡◌, if◌then◌else◌, ℕ, zero, suc, ◌+◌, ◌-◌, ◌<◌, Bool, true, false, Option, None, Some, unwrap_or, List, [], ◌∷◌, ◌++◌, map, take, drop, length, get_or, set, refl, ap, sym, subst, ◌∙◌, arith}
 use Rattle.std.specs.Prelude.{IsTrue, replicate}
 use Rattle.std.specs.List.{AllZip, AllByRecursion as Each}
@@ -108,7 +108,7 @@ each_drop P (suc n) (x ∷ xs) h = each_drop P n xs h.1
 pub cell_fills : {A : Type 0} (columns : ℕ → Option ℕ) (a : A) (i : ℕ) (c : Column A) → DrawsInOne columns → LinesFillCell columns a c → TakesCellColumns columns a i c
 cell_fills columns a i c one fills = lines_fill columns a c (drop i c.cell.lines) one fills.0 (each_drop (TakesColumns columns a c.cell.width) i c.cell.lines fills.1)
 
--- one line more of a list is filled where it stands
+-- one line more of a list is filled where it is
 pub one_more_filled : {A : Type 0} (R : A → A → Type 0) (all now : List A) (i : ℕ) (d y : A) → i < length all → R (get_or now i d) y → AllZip R (take i all) (take i now) → drop i now ≡ drop i all →
     AllZip R (take (i + 1) all) (take (i + 1) (set now i y)) × (drop (i + 1) (set now i y) ≡ drop (i + 1) all)
 one_more_filled {A} R all now i d y in_all fills before left =

@@ -19,13 +19,13 @@ left_is h c e =
 pub elsewhere : {A : Type 0} (h : Cell A) (s : Spot) → (h.place ≡ s.place → ⊥) → is_left_for h s ≡ false
 elsewhere h s n = rw (ne_eqb h.place s.place n) refl
 
--- a cell in front of a place isn't found behind it
+-- a cell before a place isn't found after it
 none_behind : {A : Type 0} (h : Cell A) (at : ℕ) (cs : List (Cell A)) → h.place < at → AreSideBySide at cs → list_any (is_left_for h) (map spot_of cs) ≡ false
 none_behind h at [] before s = refl
 none_behind h at (c ∷ cs) before s =
     rw (elsewhere h (spot_of c) (λ e. let no : ⊥ = omega (arith, before, e, s.0) in no)) (none_behind h (end_of c + 1) cs (omega (arith, before, s.0)) s.1)
 
--- cells behind a place need not look at one that ends before it
+-- cells after a place need not look at one that ends before it
 pub past : {A : Type 0} (s : Spot) (spots : List Spot) (at : ℕ) (hs : List (Cell A)) → s.place + s.width + 1 ≤ at → AreApart at hs → row_fits hs (s ∷ spots) ≡ row_fits hs spots
 past s spots at [] behind a = refl
 past s spots at (h ∷ hs) behind a =

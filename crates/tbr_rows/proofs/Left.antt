@@ -1,4 +1,4 @@
--- What is left of cells side by side stands apart.
+-- What is left of cells side by side is apart.
 use Rattle.std.proofs.Common.{if◌then◌else◌, ℕ, ◌+◌, ◌-◌, ◌≤◌, Bool, true, false, Option, Some, None, List, [], ◌∷◌, ◌++◌, map, drop, arith}
 use Rattle.std.specs.Prelude.{nat_lt}
 use Rattle.tbr_border.specs.Border.{Border}

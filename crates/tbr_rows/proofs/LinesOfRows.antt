@@ -47,7 +47,7 @@ module _ {A : Type 0} (separator : Item A) (tag : A) where
   pub count_lines : (cs : List (Column A)) (height : ℕ) → length (line_texts separator tag cs height) ≡ height
   count_lines cs height = length-map (numbers_below height) (line_text separator tag cs) ∙ length_numbers height
 
-  -- the first cell's text stands first
+  -- the first cell's text comes first
   pub first_text : (c : Column A) (cs : List (Column A)) (i : ℕ) → (after : List (Item A)) × (line_text separator tag (c ∷ cs) i ≡ cell_text tag i c ++ after)
   first_text c [] i = ([], sym (append-nil (cell_text tag i c)))
   first_text c (d ∷ cs) i = (separator ∷ line_text separator tag (d ∷ cs) i, refl)

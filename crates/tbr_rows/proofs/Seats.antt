@@ -12,7 +12,7 @@ some_of_map : {X Y : Type 0} (f : X → Y) (o : Option X) (y : Y) → option_map
 some_of_map f None y e = absurd (let no : None ≡ Some y = e in cc)
 some_of_map f (Some x) y e = (x, refl, same_Some (f x) y e)
 
--- ---- they stand side by side
+-- ---- they are side by side
 
 appended_side_by_side : {A : Type 0} (at : ℕ) (hs : List (Cell A)) → AreApart at hs → AreSideBySide at (appended at hs)
 appended_side_by_side at [] a = tt
@@ -127,7 +127,7 @@ seats_of_row {A} hs cs s a fits =
     let is : seated hs cs ≡ r.0 = seats_are [] 0 hs cs r.0 refl r.1 in
     (r.1 ∙ ap (λ (t : List (Cell A)). Some t) (sym is), subst (AreSideBySide 0) (sym is) (stand_side_by_side 0 hs cs r.0 s a r.1))
 
--- one more cell behind the others
+-- one more cell after the others
 pub side_by_side_push : {A : Type 0} (cs : List (Cell A)) (c : Cell A) → AreSideBySide 0 cs → c.place ≡ next_place cs → AreSideBySide 0 (cs ++ c ∷ [])
 side_by_side_push [] c s e = (e, tt)
 side_by_side_push {A} (d ∷ cs) c s e = go 0 d cs s e

@@ -1,4 +1,4 @@
--- The cells of a row, and where they stand.
+-- The cells of a row, and where they are.
 use Rattle.std.specs.Prelude.{◌≡◌, ℕ, ◌+◌, ◌-◌, ◌/◌, ◌≤◌, nat_lt, nat_le, ◌==◌, ◌&&◌, ◌||◌, Bool, true, false, ⊤, if◌then◌else◌, Option, None, Some, is_none, List, [], ◌∷◌, ◌++◌, fold, length, drop, get_or, map, take}
 use Rattle.std.specs.Option.{option_map}
 use Rattle.std.specs.List.{list_all, list_any}
@@ -10,7 +10,7 @@ abbrev pub first_line : {A : Type 0} → List (RenderLine A) → Option (RenderL
 first_line [] = None
 first_line (l ∷ ls) = Some l
 
--- a cell of one row in which nothing stands, by its place and width
+-- a cell of one row in which nothing is, by its place and width
 abbrev pub empty_cell : {A : Type 0} → ℕ → ℕ → Cell A
 empty_cell place width = record { place = place; width = width; span = 1; lines = [] }
 
@@ -21,7 +21,7 @@ place_of c = c.place
 abbrev pub lines_of : {A : Type 0} → Cell A → List (RenderLine A)
 lines_of c = c.lines
 
--- the column behind a cell, where a separator stands
+-- the column after a cell, where a separator is
 abbrev pub end_of : {A : Type 0} → Cell A → ℕ
 end_of c = c.place + c.width
 
@@ -31,12 +31,12 @@ row_width [] = 0
 row_width (c ∷ []) = end_of c
 row_width (c ∷ d ∷ cs) = row_width (d ∷ cs)
 
--- the place of a cell behind these
+-- the place of a cell after these
 abbrev pub next_place : {A : Type 0} → List (Cell A) → ℕ
 next_place [] = 0
 next_place (c ∷ cs) = row_width (c ∷ cs) + 1
 
--- the columns of the separators: behind each cell but the last
+-- the columns of the separators: after each cell but the last
 abbrev pub separators : {A : Type 0} → List (Cell A) → List ℕ
 separators cs = map end_of (take (length cs - 1) cs)
 
@@ -44,7 +44,7 @@ separators cs = map end_of (take (length cs - 1) cs)
 abbrev pub cell_height : {A : Type 0} → Cell A → ℕ
 cell_height c = if nat_le c.span 1 then length c.lines else length c.lines / c.span
 
--- From a column on, each cell stands behind the one before it and a separator.
+-- From a column on, each cell comes after the one before it and a separator.
 abbrev pub AreSideBySide : {A : Type 0} → ℕ → List (Cell A) → Type 0
 AreSideBySide at [] = ⊤
 AreSideBySide at (c ∷ cs) = (c.place ≡ at) × AreSideBySide (end_of c + 1) cs
@@ -61,12 +61,12 @@ pub record Seating (A : Type 0) : Type 0 where
   pub seated : List (Cell A)
   pub waiting : List (Cell A)
 
--- whether the first of these cells stands at a place
+-- whether the first of these cells is at a place
 abbrev pub stands_first : {A : Type 0} → List (Cell A) → ℕ → Bool
 stands_first [] place = false
 stands_first (h ∷ hs) place = h.place == place
 
--- The place of a row's cell is taken by the first overhanging one, if that stands there.
+-- The place of a row's cell is taken by the first overhanging one, if that is there.
 abbrev pub taker : {A : Type 0} → List (Cell A) → Cell A → Cell A
 taker hanging c = if stands_first hanging c.place then get_or hanging 0 c else c
 
@@ -78,7 +78,7 @@ still_waiting hanging c = if stands_first hanging c.place then drop 1 hanging el
 abbrev pub seat : {A : Type 0} → Seating A → Cell A → Seating A
 seat s c = record { seated = s.seated ++ taker s.waiting c ∷ []; waiting = still_waiting s.waiting c }
 
--- an overhanging cell behind others, with an empty one between where columns are free
+-- an overhanging cell after others, with an empty one between where columns are free
 abbrev pub append_cell : {A : Type 0} → List (Cell A) → Cell A → List (Cell A)
 append_cell cs h =
     (if nat_lt (next_place cs) h.place then cs ++ empty_cell (next_place cs) (h.place - next_place cs - 1) ∷ [] else cs)
@@ -95,17 +95,17 @@ seated hanging cells =
 
 -- ---- whether they can
 
--- Where a cell of the row stands, and whether nothing is in it.
+-- Where a cell of the row is, and whether nothing is in it.
 pub record Spot : Type 0 where
   pub place : ℕ
   pub width : ℕ
   pub is_blank : Bool
 
--- a cell stands where another one would, as wide, and nothing is in it
+-- a cell is where another one would be, as wide, and nothing is in it
 abbrev pub is_left_for : {A : Type 0} → Cell A → Spot → Bool
 is_left_for h s = (h.place == s.place) && ((h.width == s.width) && s.is_blank)
 
--- a cell ends before the separator in front of another one
+-- a cell ends before the separator that comes before another one
 abbrev pub ends_before : {A : Type 0} → Cell A → Spot → Bool
 ends_before h s = nat_le (s.place + s.width + 1) h.place
 
@@ -113,7 +113,7 @@ ends_before h s = nat_le (s.place + s.width + 1) h.place
 abbrev pub row_fits : {A : Type 0} → List (Cell A) → List Spot → Bool
 row_fits hanging spots = list_all (λ h. list_any (is_left_for h) spots || list_all (ends_before h) spots) hanging
 
--- where a cell stands, and whether nothing is in it
+-- where a cell is, and whether nothing is in it
 abbrev pub spot_of : {A : Type 0} → Cell A → Spot
 spot_of c = record { place = c.place; width = c.width; is_blank = is_none (first_line c.lines) }
 
@@ -125,19 +125,19 @@ look c = (c.width, is_none (first_line c.lines))
 abbrev pub IsAsFree : Spot → Spot → Type 0
 IsAsFree s t = (t.place ≡ s.place) × (t.width ≡ s.width) × (s.is_blank ≡ true → t.is_blank ≡ true)
 
--- where cells of these widths stand side by side, from a column on, and whether they are blank
+-- where cells of these widths are side by side, from a column on, and whether they are blank
 abbrev pub spots_from : ℕ → List (ℕ × Bool) → List Spot
 spots_from at [] = []
 spots_from at (w ∷ ws) = record { place = at; width = w.0; is_blank = w.1 } ∷ spots_from (at + w.0 + 1) ws
 
--- Overhanging cells behind all others, from a column on, with empty ones between where columns are free.
+-- Overhanging cells after all others, from a column on, with empty ones between where columns are free.
 abbrev pub appended : {A : Type 0} → ℕ → List (Cell A) → List (Cell A)
 appended at [] = []
 appended at (h ∷ hs) =
     (if nat_lt at h.place then empty_cell at (h.place - at - 1) ∷ [] else []) ++ h ∷ appended (end_of h + 1) hs
 
--- The cells of a row from a column on, in which each overhanging cell has its place: no cell with lines goes, no other
--- one moves, and none stands in front of another.
+-- The cells of a row from a column on, in which each overhanging cell has its place. No cell with lines goes, no other
+-- one moves, and none covers another.
 abbrev pub with_hanging : {A : Type 0} → ℕ → List (Cell A) → List (Cell A) → Option (List (Cell A))
 with_hanging at hs [] = Some (appended at hs)
 with_hanging at [] (c ∷ cs) = Some (c ∷ cs)

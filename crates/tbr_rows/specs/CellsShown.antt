@@ -27,13 +27,13 @@ pub record MadeRow (A : Type 0) (columns : ℕ → Option ℕ) : Type 0 where
   pub row : SeenRow A
   pub means : MeansRow columns style tag hanging own top row
 
--- It stands somewhere in a list.
+-- It is somewhere in a list.
 abbrev pub StandsAmong : {X : Type 0} → X → List X → Type 0
 StandsAmong {X} x xs = (front rest : List X) × (xs ≡ front ++ x ∷ rest)
 
 -- ---- lines that fit
 
--- a line takes so many columns: a text, or a border that nothing stands in front of
+-- a line takes so many columns: a text, or a border with nothing in front of it
 abbrev pub Fills : {A : Type 0} → (ℕ → Option ℕ) → ℕ → RenderLine A → Type 0
 Fills columns width (Text es) = items_width columns (items_of es) ≡ width
 Fills columns width (Line b) = (length b.cells ≡ width) × (b.holes ≡ [])
@@ -49,7 +49,7 @@ module _ {A : Type 0} (columns : ℕ → Option ℕ) where
   abbrev pub meeting_in : MadeRow A columns → Meeting
   meeting_in r = meeting r.style.collapses r.top (row_height r.means.shown)
 
-  -- In line i of the row there stands in the cell's columns what is shown of it: its line i, if it has one.
+  -- Line i of the row has in the cell's columns what is shown of it: its line i, if it has one.
   pub record ShowsAt (r : MadeRow A columns) (c : Cell A) (i : ℕ) : Type 0 where
     pub before : List (Item A)
     pub here : List (Item A)
@@ -59,7 +59,7 @@ module _ {A : Type 0} (columns : ℕ → Option ℕ) where
     pub width : items_width columns here ≡ c.width
     pub shows : (l : RenderLine A) → slice_get (met (meeting_in r) c).lines i ≡ Some l → here ≡ text_in_row r.tag l
 
-  -- In the border below the row there stands in the cell's columns its line behind those of the row, if it has one.
+  -- The border below the row has in the cell's columns its line after those of the row, if it has one.
   pub record ShowsBelow (r : MadeRow A columns) (c : Cell A) : Type 0 where
     pub border : Border A
     pub is_next : r.row.next ≡ Some border
@@ -72,8 +72,8 @@ module _ {A : Type 0} (columns : ℕ → Option ℕ) where
     pub shows : (l : RenderLine A) → slice_get (met (meeting_in r) c).lines (length r.row.lines) ≡ Some l →
         here ≡ line_items l
 
-  -- In each line of the row what is shown of the cell stands in its columns. So it does in the border below, if borders
-  -- are drawn and the cell spans another row.
+  -- In each line of the row what is shown of the cell is in its columns. So it is in the border below, if borders are
+  -- drawn and the cell spans another row.
   pub record StandsInItsColumns (r : MadeRow A columns) (c : Cell A) : Type 0 where
     pub in_lines : (i : ℕ) → i < length r.row.lines → ShowsAt r c i
     pub in_next : has_gap r.style.draws_borders c ≡ true → ShowsBelow r c
@@ -96,7 +96,7 @@ module _ {A : Type 0} (columns : ℕ → Option ℕ) where
   abbrev pub HasFilledCells : MadeRow A columns → Type 0
   HasFilledCells r = Each (IsFilled columns) r.own
 
-  -- A cell of the first row, in which what overhangs stands apart, and its lines fit too.
+  -- A cell of the first row, in which what overhangs is apart, and its lines fit too.
   abbrev pub IsOfFirst : Cell A → List (MadeRow A columns) → Type 0
   IsOfFirst c [] = ⊥
   IsOfFirst c (r ∷ rs) =

@@ -17,7 +17,7 @@ fits_with f cells = f.fits && row_fits f.waiting (spots_from f.at cells)
 
 -- ---- what the fields mean
 
--- the cells that wait: the first one, and those behind it
+-- the cells that wait: the first one, and those after it
 abbrev pub waiting_cells : {A : Type 0} → Option (Bor (Cell A)) → List (Cell A) → List (Cell A)
 waiting_cells None rest = []
 waiting_cells (Some c) rest = c.now ∷ rest

@@ -1,4 +1,4 @@
--- What stands of spanning cells in the border below their row, and what overhangs.
+-- The lines of spanning cells in the border below their row, and what overhangs.
 use Rattle.std.specs.Prelude.{◌≡◌, ℕ, ◌-◌, ◌&&◌, nat_lt, max, Bool, true, false, if◌then◌else◌, Option, None, Some, List, [], ◌∷◌, fold, flat_map, drop}
 use Rattle.tbr_border.specs.declared.render_line.RenderLine.{RenderLine}
 use Rattle.tbr_border.specs.declared.render_line.RenderLine.TheVariants.{Text, Line}
@@ -9,20 +9,20 @@ use Rattle.tbr_rows.specs.declared.line_set.LineSet.{LineSet as Cell}
 use Rattle.tbr_rows.specs.Cells.{first_line}
 use Rattle.tbr_rows.specs.declared.column.Column.{Column}
 
--- whether a line of a cell stands in the border below its row
+-- whether a line of a cell is in the border below its row
 abbrev pub has_gap : {A : Type 0} → Bool → Cell A → Bool
 has_gap draws c = draws && nat_lt 1 c.span
 
--- an element in front of a border, from a place on, or behind what stands there
+-- an element in front of a border, from a place on, or after what is there
 abbrev pub with_element : {A : Type 0} → (ℕ → Option ℕ) → ℕ → Border A → Element A → Border A
 with_element columns place b e = with_span columns (max place (span_end b.holes)) e b
 
--- and several, one behind another
+-- and several, one after another
 abbrev pub with_elements : {A : Type 0} → (ℕ → Option ℕ) → ℕ → Border A → List (Element A) → Border A
 with_elements columns place b es = fold (with_element columns place) b es
 
--- The elements of a cell's first line: those of a text, or of a border as text under its own tag. Where there is no line
--- they are one piece of spaces.
+-- The elements of a cell's first line: those of a text, or of a border as text under its own tag. Where there is no
+-- line they are one piece of spaces.
 abbrev pub IsGapText : {A : Type 0} → (A → A → Bool) → A → ℕ → Option (RenderLine A) → List (Element A) → Type 0
 IsGapText eq a width None es = SameElements eq es (piece (spaces width) a ∷ [])
 IsGapText eq a width (Some (Text line)) es = es ≡ line
@@ -46,7 +46,7 @@ FillsGaps {A} draws columns eq a (c ∷ cs) b b' =
 abbrev pub cell_in : {A : Type 0} → Column A → Cell A
 cell_in c = c.cell
 
--- What overhangs of a cell behind its row: what it has left, without the line in the border.
+-- What overhangs of a cell after its row: what it has left, without the line in the border.
 abbrev pub overhang_of : {A : Type 0} → Bool → Cell A → List (Cell A)
 overhang_of draws c =
     if nat_lt 1 c.span

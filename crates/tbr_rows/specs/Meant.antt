@@ -71,7 +71,7 @@ row_meant f row = record {
   overhang = map (map_cell f) row.overhang;
 }
 
--- Right behind a piece stands no other under the same tag.
+-- Right after a piece comes no other under the same tag.
 abbrev pub EndsStretch : {A : Type 0} → Element A → List (Element A) → Type 0
 EndsStretch e [] = ⊤
 EndsStretch (piece cs a) (piece ds b ∷ es) = a ≡ b → ⊥

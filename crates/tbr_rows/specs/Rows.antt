@@ -41,7 +41,7 @@ next_merged collapses cs next = if collapses then fold merged_above next cs else
 abbrev pub columns_shown : {A : Type 0} → Bool → List (Cell A) → List (Column A)
 columns_shown collapses cs = if collapses then map with_last_border_apart cs else map whole_column cs
 
--- what its cells have left behind so many lines
+-- what its cells have left after so many lines
 abbrev pub cells_left : {A : Type 0} → ℕ → List (Column A) → List (Cell A)
 cells_left height columns = map cell_in (map (dropped height) columns)
 

@@ -51,7 +51,7 @@ merged_last m c =
     let under = if m.first then without_first_border c else c in
     if m.last then as_lines (last_mergeable under.lines) else []
 
--- and as it overhangs behind the row
+-- and as it overhangs after the row
 abbrev pub behind : {A : Type 0} → Bool → Meeting → Cell A → Cell A
 behind draws m c = record c { span = c.span - 1; lines = later_of draws m.height (met m c) }
 
@@ -106,11 +106,11 @@ LineFits columns width (Line b) = (length b.cells ≤ width) × (b.holes ≡ [])
 abbrev pub TakesColumns : {A : Type 0} → (ℕ → Option ℕ) → A → ℕ → RenderLine A → Type 0
 TakesColumns columns a width l = items_width columns (text_in_row a l) ≡ width
 
--- what stands below the lines of a cell takes its columns
+-- what is below the lines of a cell takes its columns
 abbrev pub FillsBelow : {A : Type 0} → ℕ → Option (Border A) → Type 0
 FillsBelow width None = ⊤
 FillsBelow width (Some b) = length b.cells ≡ width
 
--- Each line of a cell takes its columns, and so does what stands below them.
+-- Each line of a cell takes its columns, and so does what is below them.
 abbrev pub LinesFillCell : {A : Type 0} → (ℕ → Option ℕ) → A → Column A → Type 0
 LinesFillCell columns a c = FillsBelow c.cell.width c.bottom × Each (TakesColumns columns a c.cell.width) c.cell.lines

@@ -19,7 +19,7 @@ abbrev pub text_in_row : {A : Type 0} → A → RenderLine A → List (Item A)
 text_in_row a (Text line) = items_of line
 text_in_row a (Line b) = shown a b
 
--- what stands where a cell has no line: spaces, or the vertical lines above its merged border
+-- what is there where a cell has no line: spaces, or the vertical lines above its merged border
 abbrev pub filler_above : {A : Type 0} → ℕ → Option (Border A) → List ℕ
 filler_above width None = spaces width
 filler_above width (Some b) = lines_above b
@@ -37,7 +37,7 @@ cell_text a i c = text_of_lines a c (drop i c.cell.lines)
 abbrev pub dropped : {A : Type 0} → ℕ → Column A → Column A
 dropped i c = record c { cell = record c.cell { lines = drop i c.cell.lines } }
 
--- a separator stands in front of each cell but the first
+-- a separator comes before each cell but the first
 abbrev pub separator_before : {A : Type 0} → Item A → ℕ → List (Item A)
 separator_before separator zero = []
 separator_before separator (suc n) = separator ∷ []

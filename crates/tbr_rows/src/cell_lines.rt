@@ -57,7 +57,7 @@ impl<T> CellLines<T> {
         self.lines.is_empty()
     }
 
-    /// The first one.
+    /// The first one, if there is one.
     pub(crate) fn front(&self) -> Option<&RenderLine<T>>
         ensures some { IsSome result ↔ (0 < length self.now) }
         ensures line { IfSome result (λ line. line.now ≡ slice_index_or self.now 0 line.now) }
@@ -65,7 +65,7 @@ impl<T> CellLines<T> {
         self.lines.front()
     }
 
-    /// The last one.
+    /// The last one, if there is one.
     pub(crate) fn back(&self) -> Option<&RenderLine<T>>
         ensures some { IsSome result ↔ (0 < length self.now) }
         ensures line { IfSome result (λ line. line.now ≡ slice_index_or self.now (length self.now - 1) line.now) }
@@ -73,7 +73,7 @@ impl<T> CellLines<T> {
         self.lines.back()
     }
 
-    /// Takes the first one.
+    /// Takes the first one, if there is one.
     pub(crate) fn pop_front(&mut self) -> Option<RenderLine<T>>
         ensures first { result ≡ first_line self.old }
         ensures line { self.old ≡ option_to_list result ++ self.new }
@@ -82,7 +82,7 @@ impl<T> CellLines<T> {
         self.lines.pop_front()
     }
 
-    /// Takes the last one.
+    /// Takes the last one, if there is one.
     pub(crate) fn pop_back(&mut self) -> Option<RenderLine<T>>
         ensures line { self.old ≡ self.new ++ option_to_list result }
         ensures some { IsSome result ↔ (0 < length self.old) }
@@ -93,7 +93,7 @@ impl<T> CellLines<T> {
     }
 }
 
-/// Each between `<` and `>`, behind a space.
+/// Each between `<` and `>`, after a space.
 impl<T> fmt::Display for CellLines<T> {
     fn fmt<W: fmt::Write>(&self, f: &mut fmt::Formatter<W>) -> fmt::Result {
         for line in &self.lines {

@@ -54,7 +54,7 @@ impl<'a, T> Fitting<'a, T> {
             self.fits = self.fits && first.width == width && is_blank;
             self.first = self.rest.next();
         }
-        // Only where a cell that waits stands behind this one is its place counted on, so no place passes `usize`.
+        // Only where a cell that waits comes after this one is its place counted on, so no place passes `usize`.
         if let Some(next) = self.first {
             if next.place - self.at > width {
                 self.at += width + 1;

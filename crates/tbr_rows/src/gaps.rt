@@ -1,4 +1,4 @@
-//! What stands of spanning cells in the border below their row, and what overhangs.
+//! The lines of spanning cells in the border below their row, and what overhangs.
 ghost use Rattle.std.specs.Prelude.{◌≡◌, ◌++◌, map, IfOk, OnOk};
 ghost use Rattle.tbr_tagged.specs.Copies.{CopiesAreEqual};
 ghost use Rattle.tbr_rows.specs.Gaps as model;
@@ -12,7 +12,7 @@ use tbr_border::{BorderHoriz, RenderLine};
 use tbr_model::CharWidth;
 use tbr_tagged::{OutOfMemory, TaggedLine, spaces};
 
-/// Ends a row: of each spanning cell its first line comes in front of the border below, where borders are drawn, and
+/// Ends a row. The first line of each spanning cell comes in front of the border below, where borders are drawn, and
 /// the rest overhangs.
 pub(crate) fn hang<T: Eq + Clone + Drop, W: CharWidth>(
     alloc: Global,
@@ -33,7 +33,7 @@ pub(crate) fn hang<T: Eq + Clone + Drop, W: CharWidth>(
     Ok(rest)
 }
 
-/// Ends a row for one cell, and puts what overhangs of it behind what overhangs already.
+/// Ends a row for one cell, and puts what overhangs of it after what overhangs already.
 fn hang_cell<T: Eq + Clone + Drop, W: CharWidth>(
     alloc: Global,
     column: Column<T>,
@@ -60,7 +60,7 @@ fn hang_cell<T: Eq + Clone + Drop, W: CharWidth>(
     Ok(())
 }
 
-/// What stands of a cell in the border below its row: a line, or, where it has none left, spaces.
+/// The text of a cell in the border below its row: a line, or, where it has none left, spaces.
 fn gap_text<T: Eq + Clone + Drop>(
     alloc: Global,
     line: Option<RenderLine<T>>,
@@ -76,7 +76,7 @@ fn gap_text<T: Eq + Clone + Drop>(
     }
 }
 
-/// Puts a text in front of a border, from a place on, or behind what stands there.
+/// Puts a text in front of a border, from a place on, or after what is there.
 fn add_text<T: Drop, W: CharWidth>(
     border: &mut BorderHoriz<T>,
     place: usize,

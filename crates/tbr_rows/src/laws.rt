@@ -28,14 +28,14 @@ pub fn places_are_found_where_the_row_fits<T>()
         is_some (with_hanging at hanging cells) ≡ row_fits hanging (map spot_of cells) }
 {}
 
-/// The cells of a row in which overhanging ones have their places stand side by side.
+/// The cells of a row in which overhanging ones have their places are side by side.
 #[tactic(auto, using(crate::proofs::Seats::stand_side_by_side))]
 pub fn cells_with_overhanging_ones_stand_side_by_side<T>()
     ensures { (at : ℕ) (hanging cells row : List (Cell T)) → AreSideBySide at cells → AreApart at hanging →
         with_hanging at hanging cells ≡ Some row → AreSideBySide at row }
 {}
 
-/// Cells side by side stand where their widths say.
+/// Cells side by side are where their widths say.
 #[tactic(auto, using(crate::proofs::Fitted::spots_are))]
 pub fn cells_stand_where_their_widths_say<T>()
     ensures { (cells : List (Cell T)) → AreSideBySide 0 cells → map spot_of cells ≡ spots_from 0 (map look cells) }
@@ -110,8 +110,8 @@ pub fn cells_stand_in_their_columns<T>()
         × (items_width columns before ≡ place_of (cell_in column)) }
 {}
 
-/// A line that fits its cell takes the cell's columns once it is filled, and so do the lines of a row of what such a
-/// cell shows, and what stands below them.
+/// A line that fits its cell takes the cell's columns once it is filled. So do the lines of a row of what such a cell
+/// shows, and what is below them.
 #[tactic(auto, using(crate::proofs::Filling::filled_line, crate::proofs::Filling::cell_fills))]
 pub fn lines_that_fit_take_their_columns<T>()
     ensures line { (columns : ℕ → Option ℕ) (eq : T → T → Bool) (align : CellAlign) (width : ℕ) (padding tag : T)
@@ -151,7 +151,7 @@ pub fn there_is_one_row_by_meaning<T>()
 
 /// Over the rows of its span each cell shows its texts once, in order, in its own columns, also in the borders between
 /// them. The rows follow one another, and the lines of all cells take their cells' columns. The cells of a row are its
-/// own and those that overhang; one of its own that has no line may leave its place to one that overhangs.
+/// own and those that overhang. One of its own that has no line may leave its place to one that overhangs.
 pub fn rows_show_each_cell_in_its_columns<T>()
     ensures shown { (columns : ℕ → Option ℕ) → DrawsInOne columns → (draws : Bool) (rows : List (MadeRow T columns))
         (cell : Cell T) → FollowOneAnother columns draws rows → Each (HasFilledCells columns) rows →

@@ -7,8 +7,8 @@ use std::alloc::Global;
 use std::fmt;
 use tbr_tagged::OutOfMemory;
 
-/// A cell of a row: the column at which it begins, how many columns it takes, how many rows it still spans, and the
-/// lines that it has still to show.
+/// A cell of a row. It has the column at which it begins, how many columns it takes, how many rows it still spans, and
+/// the lines that it still has to show.
 #[derive(Debug, Drop)]
 pub struct LineSet<T> {
     pub(crate) place: usize,
@@ -30,14 +30,14 @@ impl<T> LineSet<T> {
         }
     }
 
-    /// The column behind the cell. It refuses where that passes `usize`.
+    /// The column after the cell. It refuses where that passes `usize`.
     pub(crate) fn end(&self) -> Result<usize, OutOfMemory>
         ensures { IfOk result (λ end. end ≡ model.end_of self.now) }
     {
         self.place.checked_add(self.width).ok_or(OutOfMemory)
     }
 
-    /// How many lines the cell asks of its row: as many as it has, or, where it spans more rows, its share of them,
+    /// How many lines the cell asks of its row: as many as it has. Where it spans more rows it is its share of them,
     /// rounded down.
     pub(crate) fn height(&self) -> usize
         ensures { result ≡ model.cell_height self.now }
@@ -50,7 +50,7 @@ impl<T> LineSet<T> {
     }
 }
 
-/// Where the cell stands and how many rows it spans, and then each of its lines between `<` and `>`.
+/// Where the cell is and how many rows it spans, and then each of its lines between `<` and `>`.
 impl<T> fmt::Display for LineSet<T> {
     fn fmt<W: fmt::Write>(&self, f: &mut fmt::Formatter<W>) -> fmt::Result {
         write!(
@@ -71,7 +71,7 @@ pub(crate) fn row_width<T>(cells: &[LineSet<T>]) -> Result<usize, OutOfMemory>
     }
 }
 
-/// The place of a cell behind these. It refuses where that passes `usize`.
+/// The place of a cell after these. It refuses where that passes `usize`.
 pub(crate) fn next_place<T>(cells: &[LineSet<T>]) -> Result<usize, OutOfMemory>
     ensures { IfOk result (λ place. place ≡ model.next_place cells.now) }
 {

@@ -22,7 +22,7 @@ use tbr_tagged::{OutOfMemory, TaggedLine};
 /// How a row is drawn.
 #[derive(Clone, Copy, PartialEq, Eq, Debug)]
 pub struct RowStyle {
-    /// Whether cells are parted by `│` and a border stands below the row. Else spaces part them.
+    /// Whether `│` parts cells and a border is below the row. Else spaces part them.
     pub draws_borders: bool,
     /// Whether the first and the last borders of cells are merged into the borders above and below the row.
     pub collapses: bool,
@@ -63,9 +63,10 @@ pub struct Row<T> {
 
 impl<T: Eq + Clone + Drop> Columns<T> {
     /// Lays out a row of these cells and of those that overhang, under a border, if there is one. It asks for a row
-    /// that fits: [`fits`](Columns::fits) tells. What is drawn stands under copies of the tag.
+    /// that fits: [`fits`](Columns::fits) tells. What is drawn is under copies of the tag.
     ///
-    /// It refuses only for want of memory, or where a place passes `usize`.
+    /// It refuses only where memory is refused, or where a place or a line's columns pass `usize`. All that it was given
+    /// is then dropped.
     pub fn lay_out<W: CharWidth>(
         self,
         alloc: Global,

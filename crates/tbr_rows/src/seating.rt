@@ -7,8 +7,8 @@ use std::alloc::Global;
 use std::collections::LinkedList;
 use tbr_tagged::OutOfMemory;
 
-/// The cells of a row, among which overhanging ones have taken their places. Those that stand behind all others are
-/// appended, with an empty cell in front where columns are free.
+/// The cells of a row, among which overhanging ones have taken their places. Those that come after all others are
+/// appended, with an empty cell before them where columns are free.
 pub(crate) fn seated<T: Drop>(
     alloc: Global,
     cells: Vec<LineSet<T>>,
@@ -24,7 +24,7 @@ pub(crate) fn seated<T: Drop>(
     Ok(row)
 }
 
-/// The cell at a place: the first overhanging one, if that stands there, or else the row's own.
+/// The cell at a place: the first overhanging one, if that is there, or else the row's own.
 fn seat<T: Drop>(cell: LineSet<T>, hanging: &mut LinkedList<LineSet<T>>) -> LineSet<T>
     ensures cell { result ≡ model.taker hanging.old cell }
     ensures waiting { hanging.new ≡ model.still_waiting hanging.old cell }
@@ -37,7 +37,7 @@ fn seat<T: Drop>(cell: LineSet<T>, hanging: &mut LinkedList<LineSet<T>>) -> Line
     cell
 }
 
-/// Whether the first of these cells stands at a place.
+/// Whether the first of these cells is at a place.
 fn stands_first<T>(cells: &LinkedList<LineSet<T>>, place: usize) -> bool
     ensures { result ≡ model.stands_first cells.now place }
 {
@@ -61,7 +61,7 @@ fn append_all<T: Drop>(
     Ok(())
 }
 
-/// Appends an overhanging cell, behind an empty one where columns are free.
+/// Appends an overhanging cell, after an empty one where columns are free.
 fn append<T: Drop>(
     alloc: Global,
     row: &mut Vec<LineSet<T>>,

@@ -55,7 +55,7 @@ fn line_of<T: Eq + Clone + Drop>(
     Ok(line)
 }
 
-/// Appends the separator in front of a cell, but for the first one.
+/// Appends the separator before a cell, but for the first one.
 fn push_separator<T: Eq + Clone>(
     line: &mut TaggedLine<T>,
     cell: usize,
@@ -92,7 +92,7 @@ fn push_first<T: Eq + Clone + Drop>(
     }
 }
 
-/// A line as it stands in a row: a border's cells are drawn under a copy of the tag.
+/// A line as it is in a row: a border's cells are drawn under a copy of the tag.
 fn text_in_row<T: Eq + Clone + Drop>(
     line: RenderLine<T>,
     tag: &T,
@@ -106,7 +106,7 @@ fn text_in_row<T: Eq + Clone + Drop>(
     }
 }
 
-/// Appends what stands where a cell has no line.
+/// Appends what is there where a cell has no line.
 fn push_filler<T: Eq + Clone + Drop>(
     alloc: Global,
     line: &mut TaggedLine<T>,

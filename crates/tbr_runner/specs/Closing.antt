@@ -1,4 +1,4 @@
--- What stands at the end of a script.
+-- What comes at the end of a script.
 use Rattle.std.specs.Prelude.{◌≡◌, ℕ, Option, List, [], ◌∷◌, encode_utf8_all}
 use Rattle.tbr_lines.specs.Elements.{Element}
 use Rattle.tbr_decor.specs.Change as change
@@ -9,7 +9,7 @@ use Rattle.text_block_renderer.specs.Steps.{block_started}
 use Rattle.text_block_renderer.specs.Text.{lines_text}
 use Rattle.text_block_renderer.specs.Flush.{Flushes, FlushIsTooNarrow}
 
--- footnotes come behind the lines as a block of their own, if there are any
+-- footnotes come after the lines as a block of their own, if there are any
 abbrev pub with_notes :
     {D M : Type 0} → (ℕ → Option ℕ) → List (List (Element M)) → Renderer D M (List M) → Renderer D M (List M)
 with_notes columns [] r = r
@@ -25,7 +25,7 @@ module _ {D M : Type 0} (columns : ℕ → Option ℕ) (decoration : Decoration 
   finalised r =
       record r { decorator = decoration.after r.decorator (change.finalise (listed r.options targets)) }
 
-  -- The text of the lines behind a flush, and of the footnotes behind them.
+  -- The text of the lines after a flush, and of the footnotes after them.
   abbrev pub ClosesAs : Renderer D M (List M) → List ℕ → Type 0
   ClosesAs r bytes =
       (s : Renderer D M (List M)) × Flushes columns (finalised r) s
@@ -35,7 +35,7 @@ module _ {D M : Type 0} (columns : ℕ → Option ℕ) (decoration : Decoration 
   abbrev pub ClosingIsTooNarrow : Renderer D M (List M) → Type 0
   ClosingIsTooNarrow r = FlushIsTooNarrow columns (finalised r)
 
-  -- The lines behind a flush, and the footnotes behind them.
+  -- The lines after a flush, and the footnotes after them.
   abbrev pub ClosesIn : Renderer D M (List M) → List (Line (List M)) → Type 0
   ClosesIn r lines =
       (s : Renderer D M (List M)) × Flushes columns (finalised r) s

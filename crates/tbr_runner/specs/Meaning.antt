@@ -33,7 +33,7 @@ use Rattle.tbr_runner.specs.Progress.{Pending, Opened, Progress, nothing_pending
 use Rattle.tbr_runner.specs.Decorations.{plain_decoration, trivial_decoration, rich_decoration}
 use Rattle.tbr_runner.specs.Closing.{ClosesAs, ClosingIsTooNarrow}
 
--- ---- behind the first command, under any decorator
+-- ---- after the first command, under any decorator
 
 -- by which command the innermost level that is open was opened
 abbrev pub opener : {D A T : Type 0} → List (Opened D A T) → Option Opener
@@ -83,7 +83,7 @@ abbrev pub with_blank : {D A T : Type 0} → Bool → Renderer D A T → Rendere
 with_blank {D} {A} {T} blank r = record r { block = option_map (λ (b : Open T). record b { blank = blank }) r.block }
 
 module _ {D M : Type 0} (columns : ℕ → Option ℕ) where
-  -- How a cell may look: its columns, and whether nothing stands in it, as far as that is told of an open block.
+  -- How a cell may look: its columns, and whether nothing is in it, as far as that is told of an open block.
   abbrev pub MayLook : Renderer D M (List M) × ℕ → ℕ × Bool → Type 0
   MayLook col look =
       (blank : Bool) × TellsBlank columns (with_blank blank col.0) × (look ≡ looks (with_blank blank col.0, col.1))
@@ -130,7 +130,7 @@ module _ {D M : Type 0} (columns : ℕ → Option ℕ) (decoration : Decoration 
     pub pending : next.pending ≡ p.pending
     pub opened : next.opened ≡ p.opened
 
-  -- The lines of the innermost level join those below it, the first behind one prefix, each other behind another.
+  -- The lines of the innermost level join those below it, the first after one prefix, each other after another.
   pub record AppendDoes (p : Progress D M (List M)) (first other : List ℕ) (next : Progress D M (List M)) :
       Type 0 where
     pub inside : Renderer D M (List M)
@@ -161,7 +161,7 @@ module _ {D M : Type 0} (columns : ℕ → Option ℕ) (decoration : Decoration 
     pub pending : next.pending ≡ without_cells p.pending
     pub opened : next.opened ≡ p.opened
 
-  -- A command leads from where a script stands to where it stands next.
+  -- A command leads from where a script is to where it is next.
   abbrev pub CommandDoes : Progress D M (List M) → Command → Progress D M (List M) → Type 0
   CommandDoes p (ask request) next = RequestDoes p request next
   CommandDoes p (link target) next = LinkDoes p target next
@@ -273,7 +273,7 @@ started opening decorator = record {
   opened = [];
 }
 
--- What lines give behind the first command, whose decorator this is.
+-- What lines give after the first command, whose decorator this is.
 abbrev pub OpensUnder : (ℕ → Option ℕ) → Decorator → Opening → ℕ → List (List ℕ) → Result (List ℕ) RunError → Type 0
 OpensUnder columns Plain opening number lines outcome =
     LinesGive columns plain_decoration (started opening (record {})) number lines outcome

@@ -4,7 +4,7 @@ use Rattle.tbr_decor.specs.Prefix.{Prefix, header, quote, unordered_item, ordere
 use Rattle.tbr_runner.specs.declared.prefixes.DecoratorPrefix.{DecoratorPrefix}
 use Rattle.tbr_runner.specs.declared.prefixes.DecoratorPrefix.TheVariants as asked
 
--- how many come behind the first
+-- how many come after the first
 unfoldable pub others : ℕ
 others = 2 ^ 64 - 2
 

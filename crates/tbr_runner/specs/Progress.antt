@@ -1,4 +1,4 @@
--- Where a script stands behind its first command.
+-- Where a script is after its first command.
 use Rattle.std.specs.Prelude.{◌≡◌, ◌<◌, ℕ, true, None, List, [], ◌∷◌, map}
 use Rattle.std.specs.List.{AllZip}
 use Rattle.std.specs.Global.{Vec}
@@ -54,7 +54,7 @@ module _ {D A M : Type 0} (meaning : A → M) where
   abbrev pub opened_meant : Opened D A (Vec A) → Opened D M (List M)
   opened_meant o = record { by = o.by; below = pending_meant o.below }
 
-  -- where a script stands
+  -- where a script is
   abbrev pub progress_meant : Progress D A (Vec A) → Progress D M (List M)
   progress_meant p = record {
     stack = stack_meant meaning p.stack;

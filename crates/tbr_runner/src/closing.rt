@@ -1,4 +1,4 @@
-//! What stands at the end of a script.
+//! What comes at the end of a script.
 ghost use Rattle.std.specs.Prelude.{◌≡◌, None, Err, map, IfOk, string_bytes};
 ghost use Rattle.tbr_lines.specs.View.{chars_of};
 ghost use Rattle.tbr_lines.specs.declared.Error.TheVariants as E;
@@ -12,8 +12,9 @@ use tbr_decor::TextDecorator;
 use tbr_lines::{CharWidth, Error, RenderLine};
 use text_block_renderer::{Renderer, SubRenderer};
 
-/// The text of a renderer whose links have these targets: its lines, and behind them the footnotes as a block of their
-/// own, if there are any.
+/// The text of a renderer whose links have these targets: its lines, and after them the footnotes as a block of their
+/// own, if there are any. It asks for a renderer that hasn't failed, and refuses as that does. Where it refuses, the
+/// renderer and the targets are dropped.
 pub fn close<D: TextDecorator, W: CharWidth>(
     renderer: SubRenderer<D, W>,
     targets: Vec<String>,
@@ -29,7 +30,7 @@ pub fn close<D: TextDecorator, W: CharWidth>(
     with_footnotes(renderer, targets)?.into_string()
 }
 
-/// The same as lines.
+/// The same as lines. It refuses as [`close`] does.
 pub fn close_lines<D: TextDecorator, W: CharWidth>(
     renderer: SubRenderer<D, W>,
     targets: Vec<String>,
@@ -45,7 +46,7 @@ pub fn close_lines<D: TextDecorator, W: CharWidth>(
     with_footnotes(renderer, targets)?.into_lines()
 }
 
-/// The renderer, and behind its lines the footnotes.
+/// The renderer, and after its lines the footnotes.
 fn with_footnotes<D: TextDecorator, W: CharWidth>(
     mut renderer: SubRenderer<D, W>,
     targets: Vec<String>,

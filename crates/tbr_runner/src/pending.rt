@@ -100,7 +100,7 @@ impl<D: TextDecorator, W: CharWidth> Pending<D, W> {
         Ok(())
     }
 
-    /// Takes the waiting cells, and how their texts are aligned.
+    /// Takes the waiting cells, each with the rows that it spans, and how their texts are aligned. None waits then.
     pub fn take_cells(&mut self, alloc: Global) -> (Vec<(SubRenderer<D, W>, usize)>, Vec<CellAlign>)
         ensures cells { result.0.items ≡ self.old.cells }
         ensures aligns { result.1.items ≡ self.old.aligns }
@@ -113,7 +113,8 @@ impl<D: TextDecorator, W: CharWidth> Pending<D, W> {
         (cells, aligns)
     }
 
-    /// Takes the renderers of the waiting cells, whatever their spans and alignments are.
+    /// Takes the renderers of the waiting cells, whatever their spans and alignments are. Where memory is refused they
+    /// are dropped, and none waits either.
     pub fn take_renderers(&mut self, alloc: Global) -> Result<Vec<SubRenderer<D, W>>, AllocError>
         ensures cells { IfOk result (λ cells. cells.items ≡ renderers_of self.old.cells) }
         ensures rest { self.new ≡ without_cells self.old }

@@ -1,4 +1,4 @@
-//! Lines that are appended behind prefixes.
+//! Lines that are appended after prefixes.
 ghost use Rattle.std.specs.Prelude.{◌≡◌, ◌⊎◌, List, length, None, Err, OnOk, IfOk, IfErr, string_bytes};
 ghost use Rattle.tbr_lines.specs.View.{chars_of};
 ghost use Rattle.tbr_lines.specs.declared.Error.TheVariants as E;
@@ -29,10 +29,13 @@ pub enum DecoratorPrefix {
     OrderedItem(i64),
 }
 
-/// How many prefixes come behind the first.
+/// How many prefixes come after the first.
 const OTHERS: usize = usize::MAX - 1;
 
-/// Adds the lines of a renderer to another one: the first line behind the first text, each other behind the second.
+/// Adds the lines of a renderer to another one: the first line after the first text, each other after the second. It
+/// asks for another one that hasn't failed.
+///
+/// It refuses as either renderer does, and where memory is refused. The renderer inside is dropped.
 pub fn append_behind<D: TextDecorator, W: CharWidth>(
     renderer: &mut SubRenderer<D, W>,
     inside: SubRenderer<D, W>,
@@ -51,7 +54,7 @@ pub fn append_behind<D: TextDecorator, W: CharWidth>(
     renderer.append_subrender(inside, first.chain(others))
 }
 
-/// The text of a prefix of the renderer's decorator. It refuses only for want of memory, and changes nothing.
+/// The text of a prefix of the renderer's decorator. It refuses only where memory is refused, and changes nothing.
 pub fn prefix_of<D: TextDecorator, W: CharWidth>(
     renderer: &mut SubRenderer<D, W>,
     prefix: DecoratorPrefix,

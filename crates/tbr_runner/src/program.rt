@@ -34,7 +34,7 @@ use tbr_script::{RunError, TextPair};
 use tbr_stack::TextRenderer;
 use text_block_renderer::{RenderOptions, Renderer, SubRenderer};
 
-/// What a script has called so far behind its first command.
+/// What a script has called so far after its first command.
 #[derive(Drop)]
 pub struct Program<D: TextDecorator, W: CharWidth> {
     renderers: TextRenderer<D, W>,
@@ -53,8 +53,8 @@ impl<D: TextDecorator, W: CharWidth> Model for Program<D, W> {
 }
 
 impl<D: TextDecorator, W: CharWidth> Program<D, W> {
-    /// A renderer of a width of at least 1, and nothing called yet. A wrap width is at least 1 too. It refuses only for
-    /// want of memory.
+    /// A renderer of a width in columns of at least 1, and nothing called yet. A wrap width is at least 1 too. It
+    /// refuses only where memory is refused.
     pub fn new(
         alloc: Global,
         width: usize,
@@ -81,7 +81,8 @@ impl<D: TextDecorator, W: CharWidth> Program<D, W> {
 
     /// Does what the line of this number asks for. An empty line asks for nothing.
     ///
-    /// It refuses as the line does, and with `OutOfMemory` only for want of memory.
+    /// It refuses as the line does, and with `OutOfMemory` only where memory is refused. After `OutOfMemory` and
+    /// `TooNarrow` the program isn't to be used any more. Each other refusal leaves it as it was.
     pub fn run_line(&mut self, alloc: Global, number: usize, line: &[u8]) -> Result<(), RunError>
         requires { GoesOn self.old }
         ensures done { OnOk result (LineDoes W.columns (decoration_of D.TextDecorator)
@@ -289,7 +290,7 @@ impl<D: TextDecorator, W: CharWidth> Program<D, W> {
 
     /// The text of the script, whose end counts as the line of this number.
     ///
-    /// It refuses as the end of the script does, and with `OutOfMemory` only for want of memory.
+    /// It refuses as the end of the script does, and with `OutOfMemory` only where memory is refused.
     pub fn finish(self, number: usize) -> Result<String, RunError>
         requires { GoesOn self }
         ensures text { IfOk result (λ text.
@@ -328,8 +329,8 @@ impl<D: TextDecorator, W: CharWidth> Program<D, W> {
         self.renderers.top()
     }
 
-    /// The text of a prefix of the decorator of the innermost level. It refuses only for want of memory, and changes
-    /// nothing.
+    /// The text of a prefix of the decorator of the innermost level. It refuses only where memory is refused, and
+    /// changes nothing.
     pub fn prefix(&mut self, prefix: DecoratorPrefix) -> Result<String, Error>
         requires { GoesOn self.old }
         ensures text { IfOk result (λ text.
@@ -341,8 +342,8 @@ impl<D: TextDecorator, W: CharWidth> Program<D, W> {
         prefix_of(top, prefix)
     }
 
-    /// Whether lines of cells still wait for their rows in the innermost level: whether a row would not fit that is one
-    /// cell with a text, as wide as can be. It refuses only for want of memory.
+    /// Whether lines of cells still wait for their rows in the innermost level. They do where a row of one cell with a
+    /// text, as wide as can be, would not fit. It refuses only where memory is refused.
     pub fn has_overhang(&self, alloc: Global) -> Result<bool, Error>
         requires { GoesOn self.now }
         ensures hangs { IfOk result (λ hangs. OfTop (λ r. hangs ≡ overhangs r) self.now.stack) }

@@ -23,10 +23,10 @@ const CHUNK: usize = 4096;
 /// Reads the whole script and writes its text.
 ///
 /// The script is read to its end first, then its commands are done in order, up to the first line that is faulty or
-/// refuses. Nothing is written before the text is complete, so after a refusal of the script nothing was, and where the
-/// writer fails a beginning of the text was. `ReadFailed` comes exactly where the reader fails and `WriteFailed`
-/// exactly where the writer does. `OutOfMemory` comes only for want of memory; a reader that never ends meets it, at
-/// the latest where the script's length passes `usize`.
+/// refuses. Nothing is written before the text is complete. So after a refusal of the script nothing was written, and
+/// where the writer fails a beginning of the text was. `ReadFailed` comes exactly where the reader fails and
+/// `WriteFailed` exactly where the writer does. `OutOfMemory` comes only where memory is refused. A reader that never
+/// ends meets it, at the latest where the script's length passes `usize`.
 pub fn run<R: Source, S: Sink>(
     alloc: Global,
     reader: &mut R,
@@ -106,7 +106,7 @@ fn render<W: CharWidth>(alloc: Global, script: Vec<u8>) -> Result<String, RunErr
 }
 
 /// A program under the decorator that a first command names, to which the rest of the script was told, and the number
-/// of the line behind it.
+/// of the line after it.
 fn run_under<D: TextDecorator, W: CharWidth>(
     alloc: Global,
     opening: Opening,
@@ -148,7 +148,7 @@ fn finish<D: TextDecorator, W: CharWidth>(
     program.finish(number)
 }
 
-/// The first command of a script, the number of the line behind it, and what follows it.
+/// The first command of a script, the number of the line after it, and what follows it.
 fn first_command(script: &[u8]) -> Result<(Opening, usize, &[u8]), RunError>
     ensures found { IfOk result (λ r. (columns : ℕ → Option ℕ) (outcome : Result (List ℕ) Refusal) →
         Opens columns r.0 r.1 (lines_of r.2.now) outcome → Gives columns script.now outcome) }
@@ -174,7 +174,7 @@ fn first_command(script: &[u8]) -> Result<(Opening, usize, &[u8]), RunError>
     Err(RunError::NotACommand(number))
 }
 
-/// A program to which lines are told, the first of them with this number, and the number of the line behind them.
+/// A program to which lines are told, the first of them with this number, and the number of the line after them.
 fn run_lines<D: TextDecorator, W: CharWidth>(
     alloc: Global,
     program: Program<D, W>,

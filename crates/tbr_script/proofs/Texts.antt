@@ -10,7 +10,7 @@ use Rattle.std.specs.List.{AllByRecursion as Each}
 use Rattle.std.specs.Str.Parse.{AllDigits, digits_value}
 use Rattle.tbr_script.specs.Script.{IsEscape, NamesCharacter, character_by_letter, Piece, itself, escape, IsPiece, written, meant, IsText}
 
--- what is no digit stands not among digits
+-- what is no digit is not among digits
 pub not_a_digit : (radix b : ℕ) (ds : List ℕ) → radix ≤ digit_value b → AllDigits radix ds → (i : ℕ) → i < length ds → get_or ds i 0 ≢ b
 not_a_digit radix b [] h a i lt e = absurd (omega arith)
 not_a_digit radix b (d ∷ ds) h a zero lt e = absurd (omega (arith, ap digit_value e, a.0))
@@ -26,7 +26,7 @@ digits_end radix b (d ∷ ds) (f ∷ es) xs ys h a k e =
     let rest = digits_end radix b ds es xs ys h a.1 k.1 cc in
     (cc (heads, rest.0), rest.1)
 
--- `u` stands for no character
+-- `u` means no character
 no_letter_u : (c : ℕ) → character_by_letter 117 ≡ Some c → ⊥
 no_letter_u c e = cc
 
@@ -49,7 +49,7 @@ one_escape f g xs ys c d (inr a) (inr b) e =
     let same = digits_end 16 125 a.0 b.0 xs ys (lit≤ tt) a.2.0.1 b.2.0.1 whole in
     (cc (a.3, b.3, same.0), same.1)
 
--- bytes that stand for themselves
+-- bytes that mean themselves
 pub plain : (xs ys text : List ℕ) → ((i : ℕ) → i < length xs → get_or xs i 0 ≢ 92) → IsText ys text → IsText (xs ++ ys) (xs ++ text)
 plain [] ys text n t = t
 plain (x ∷ xs) ys text n t =
@@ -65,7 +65,7 @@ escaped form rest text c k t = record {
   means = ap (λ zs. encode_utf8 c ++ zs) t.means;
 }
 
--- behind a byte that stands for itself
+-- after a byte that means itself
 behind_byte : (x : ℕ) (xs text : List ℕ) → x ≢ 92 → IsText (x ∷ xs) text → (rest : List ℕ) × IsText xs rest × (text ≡ x ∷ rest)
 behind_byte x xs text n t = go t.pieces t.each t.writes t.means where
   go : (ps : List Piece) → Each IsPiece ps → flat_map written ps ≡ x ∷ xs → flat_map meant ps ≡ text → (rest : List ℕ) × IsText xs rest × (text ≡ x ∷ rest)
@@ -75,7 +75,7 @@ behind_byte x xs text n t = go t.pieces t.each t.writes t.means where
       (flat_map meant ps, record { pieces = ps; each = a.1; writes = cc; means = refl }, sym m ∙ ap (λ e. e ∷ flat_map meant ps) head)
   go (escape form c ∷ ps) a w m = let head : x ≡ 92 = cc in absurd (n head)
 
--- behind bytes that stand for themselves
+-- after bytes that mean themselves
 pub behind_plain : (xs ys text : List ℕ) → ((i : ℕ) → i < length xs → get_or xs i 0 ≢ 92) → IsText (xs ++ ys) text → (rest : List ℕ) × IsText ys rest × (text ≡ xs ++ rest)
 behind_plain [] ys text n t = (text, t, refl)
 behind_plain (x ∷ xs) ys text n t =
@@ -83,7 +83,7 @@ behind_plain (x ∷ xs) ys text n t =
     let found = behind_plain xs ys first.0 (λ i lt. n (suc i) (omega arith)) first.1 in
     (found.0, found.1, first.2 ∙ ap (λ zs. x ∷ zs) found.2)
 
--- behind an escape
+-- after an escape
 pub behind_escape : (form rest text : List ℕ) (c : ℕ) → IsEscape form c → IsText (92 ∷ (form ++ rest)) text → (more : List ℕ) × IsText rest more × (text ≡ encode_utf8 c ++ more)
 behind_escape form rest text c k t = go t.pieces t.each t.writes t.means where
   go : (ps : List Piece) → Each IsPiece ps → flat_map written ps ≡ 92 ∷ (form ++ rest) → flat_map meant ps ≡ text → (more : List ℕ) × IsText rest more × (text ≡ encode_utf8 c ++ more)
@@ -134,7 +134,7 @@ no_escape bs rest form more b c first n t s u (inr a) e =
 pub escape_by_digits : (bs rest digits more : List ℕ) (c : ℕ) → bs ≡ 117 ∷ rest → NamesCharacter digits → c ≡ digits_value 16 digits → rest ≡ 123 ∷ ((digits ++ 125 ∷ []) ++ more) → (form : List ℕ) × IsEscape form c × (bs ≡ form ++ more)
 escape_by_digits bs rest digits more c e n v f = (codes "u{" ++ digits ++ codes "}", inr (digits, refl, n, v), e ∙ ap (λ zs. 117 ∷ zs) f)
 
--- nothing but bytes that stand for themselves
+-- nothing but bytes that mean themselves
 pub plain_all : (xs : List ℕ) → ((i : ℕ) → i < length xs → get_or xs i 0 ≢ 92) → IsText xs xs
 plain_all [] n = record { pieces = []; each = tt; writes = refl; means = refl }
 plain_all (x ∷ xs) n =

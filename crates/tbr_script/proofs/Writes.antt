@@ -32,6 +32,6 @@ stopped Q (Err x) old new xs e h = h
 behind : (n k : ℕ) (rest : List ℕ) → k ≡ length rest → take n rest ++ take (k - n) (drop n rest) ≡ rest
 behind n k rest e = grind (arith, common_steps)
 
--- the bytes behind the first n are the rest
+-- the bytes after the first n are the rest
 pub cut : (n k : ℕ) (done rest bytes : List ℕ) → k ≡ length rest → done ++ rest ≡ bytes → (done ++ take n rest) ++ take (k - n) (drop n rest) ≡ bytes
 cut n k done rest bytes e f = append_assoc done (take n rest) (take (k - n) (drop n rest)) ∙ ap (λ ys. done ++ ys) (behind n k rest e) ∙ f

@@ -7,7 +7,7 @@ use Rattle.std.specs.Borrow.{Bor}
 use Rattle.tbr_model.specs.Codes.{newline_character, space_character, tab_character}
 pub use Rattle.tbr_model.specs.Hard.{onto_first}
 
--- The lines of a script. A newline ends a line, and bytes behind the last newline are a line.
+-- The lines of a script. A newline ends a line, and bytes after the last newline are a line.
 abbrev pub lines_of : List ℕ → List (List ℕ)
 lines_of [] = []
 lines_of (b ∷ bs) = if b == newline_character then [] ∷ lines_of bs else onto_first b (lines_of bs)
@@ -38,26 +38,25 @@ letter_n = 110
 abbrev pub letter_t : ℕ
 letter_t = 116
 
--- the character that a letter behind a backslash stands for: `n` for a newline, `t` for a tab, a backslash for itself
+-- the character that a letter after a backslash means: `n` a newline, `t` a tab, a backslash itself
 abbrev pub character_by_letter : ℕ → Option ℕ
 character_by_letter b =
     if b == letter_n then Some newline_character
     else (if b == letter_t then Some tab_character else (if b == backslash then Some backslash else None))
 
--- what stands behind the backslash of an escape, and the character that it stands for: a letter, or `u{..}` with its
--- digits
+-- what comes after the backslash of an escape, and the character that it means: a letter, or `u{..}` with its digits
 abbrev pub IsEscape : List ℕ → ℕ → Type 0
 IsEscape form c =
     ((letter : ℕ) × (form ≡ letter ∷ []) × (character_by_letter letter ≡ Some c))
     ⊎ ((digits : List ℕ) × (form ≡ codes "u{" ++ digits ++ codes "}") × NamesCharacter digits
     × (c ≡ digits_value 16 digits))
 
--- A piece of a text: a byte that stands for itself, or an escape with its character.
+-- A piece of a text: a byte that means itself, or an escape with its character.
 pub data Piece : Type 0 where
   itself : ℕ → Piece
   escape : List ℕ → ℕ → Piece
 
--- A backslash stands for nothing but the beginning of an escape.
+-- A backslash means nothing but the beginning of an escape.
 abbrev pub IsPiece : Piece → Type 0
 IsPiece (itself b) = b ≢ backslash
 IsPiece (escape form c) = IsEscape form c
@@ -67,7 +66,7 @@ abbrev pub written : Piece → List ℕ
 written (itself b) = b ∷ []
 written (escape form c) = backslash ∷ form
 
--- what a piece stands for
+-- what a piece means
 abbrev pub meant : Piece → List ℕ
 meant (itself b) = b ∷ []
 meant (escape form c) = encode_utf8 c
@@ -79,11 +78,11 @@ pub record IsText (writing text : List ℕ) : Type 0 where
   pub writes : flat_map written pieces ≡ writing
   pub means : flat_map meant pieces ≡ text
 
--- what stands between two texts
+-- what is between two texts
 abbrev pub bar : List ℕ
 bar = codes " | "
 
--- Two texts, split where a bar stands first.
+-- Two texts, split where a bar comes first.
 pub record AreSplitTexts (writing one other : List ℕ) : Type 0 where
   pub before : List ℕ
   pub behind : List ℕ
@@ -94,7 +93,7 @@ pub record AreSplitTexts (writing one other : List ℕ) : Type 0 where
 
 -- ---- words
 
--- The words of a line. Exactly one space stands between two, so a space too many makes an empty word.
+-- The words of a line. Exactly one space is between two, so a space too many makes an empty word.
 abbrev pub words_of : List ℕ → List (List ℕ)
 words_of [] = [] ∷ []
 words_of (b ∷ bs) = if b == space_character then [] ∷ words_of bs else onto_first b (words_of bs)

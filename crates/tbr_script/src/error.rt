@@ -14,11 +14,11 @@ use tbr_tagged::{Error, OutOfMemory};
 /// Why a script isn't rendered. A number is that of the line at fault, counted from 1.
 #[derive(Clone, Copy, PartialEq, Eq, Debug)]
 pub enum RunError {
-    /// A character is wider than the block that it stands in.
+    /// A character is wider than the block that it is in.
     TooNarrow,
     /// A growth was refused, or a size passes `usize`.
     OutOfMemory,
-    /// The line isn't a command, or it stands where none like it may.
+    /// The line isn't a command, or it is where none like it may be.
     NotACommand(usize),
     /// The line ends what wasn't begun.
     NothingToEnd(usize),
@@ -97,7 +97,7 @@ impl<T: Drop> From<AllocFailed<T>> for RunError {
     }
 }
 
-/// Writes what is said of a line behind its number. It refuses where the sink does.
+/// Writes what is said of a line after its number. It refuses where the sink does.
 fn report_line<S: Sink>(sink: &mut S, number: usize, what: &[u8]) -> Result<(), Failed>
     ensures line { WritesAll (S.contents sink.old) (S.contents sink.new) result (at_line number what.now) }
     ensures failure { S.failed sink.new ≡ (is_err result || S.failed sink.old) }

@@ -6,7 +6,8 @@ ghost use Rattle.tbr_script.specs.Script.{IsEscape, IsText, NamesCharacter};
 use crate::number::character;
 use std::alloc::{AllocError, Global};
 
-/// The text that is written so: its escapes are replaced. `None` where a backslash begins no escape.
+/// The text that is written so: its escapes are replaced. `Ok(None)` where a backslash begins no escape. It refuses
+/// only where memory is refused.
 pub fn unescape(alloc: Global, writing: &str) -> Result<Option<String>, AllocError>
     ensures text { IfOk result (λ found.
         IfSome found (λ text. IsText writing.now (string_bytes text))) }
@@ -27,7 +28,7 @@ pub fn unescape(alloc: Global, writing: &str) -> Result<Option<String>, AllocErr
     Ok(Some(text))
 }
 
-/// The character of the escape that begins behind a backslash, and what follows the escape.
+/// The character of the escape that begins after a backslash, and what follows the escape.
 fn escape(after: &str) -> Option<(char, &str)>
     ensures found { IfSome result (λ r.
         (form : List ℕ) × IsEscape form r.0 × (after.now ≡ form ++ r.1.now)) }

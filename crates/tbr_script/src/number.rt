@@ -15,7 +15,7 @@ pub fn parse_number(digits: &str) -> Option<usize>
     digits.parse::<usize>().ok()
 }
 
-/// The size that decimal digits are: the same of at least 1.
+/// The size that decimal digits are: the same of at least 1. `None` for 0 too.
 pub fn parse_size(digits: &str) -> Option<usize>
     ensures found { IfSome result (λ size. IsSize digits.now size) }
     ensures none { IfNone result ((size : ℕ) → IsSize digits.now size → ⊥) }
@@ -23,7 +23,7 @@ pub fn parse_size(digits: &str) -> Option<usize>
     parse_number(digits).filter(|size| *size > 0)
 }
 
-/// The same up to 255.
+/// The same up to 255. `None` past that.
 pub fn parse_byte(digits: &str) -> Option<u8>
     ensures { SomeIff result (IsByte digits.now) (digits_value 10 digits.now) }
 {
@@ -33,7 +33,7 @@ pub fn parse_byte(digits: &str) -> Option<u8>
     digits.parse::<u8>().ok()
 }
 
-/// The character that one to six hexadecimal digits name.
+/// The character that one to six hexadecimal digits name, if they name one.
 pub fn character(digits: &str) -> Option<char>
     ensures { SomeIff result (NamesCharacter digits.now) (digits_value 16 digits.now) }
 {

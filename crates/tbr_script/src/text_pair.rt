@@ -10,13 +10,13 @@ use std::alloc::{AllocError, Global};
 pub struct TextPair {
     /// The one before the bar.
     pub first: String,
-    /// The one behind it.
+    /// The one after it.
     pub second: String,
 }
 
 impl TextPair {
-    /// The two texts that are written so, split at the first ` | `. `None` where that is missing, or one of the two has
-    /// a bad escape.
+    /// The two texts that are written so, split at the first ` | `. `Ok(None)` where that is missing, or one of the two
+    /// has a bad escape. It refuses only where memory is refused.
     pub fn parse(alloc: Global, writing: &str) -> Result<Option<TextPair>, AllocError>
         ensures found { IfOk result (λ found. IfSome found (λ texts.
             AreSplitTexts writing.now (string_bytes texts.first) (string_bytes texts.second))) }

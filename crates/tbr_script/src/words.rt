@@ -4,7 +4,7 @@ ghost use Rattle.tbr_script.specs.Script.{words_of};
 
 use std::marker::Model;
 
-/// Words that are still to come. Exactly one space stands between two.
+/// Words that are still to come. Exactly one space is between two.
 #[derive(Drop)]
 pub struct Words<'a> {
     rest: Option<&'a str>,

@@ -57,7 +57,7 @@ module _ {D A M : Type 0} (f : A → M) where
     pub changes : (s : Stack (Renderer D A (Vec A))) (r q : Renderer D A (Vec A)) → top_of s ≡ Some r → Step (meant f r) (meant f q) → ChangesTop Step (stack_meant f s) (stack_meant f (with_top s q))
     changes s r q top step = (meant f r, meant f q, top_meant s r top, step, with_top_meant s q)
 
-    -- behind the opening of a link
+    -- after the opening of a link
     pub changes_linked : (target : List ℕ) (s l : Stack (Renderer D A (Vec A))) (r q : Renderer D A (Vec A)) → l ≡ with_link target s → top_of l ≡ Some r → Step (meant f r) (meant f q) →
         ChangesTop Step (with_link target (stack_meant f s)) (stack_meant f (with_top l q))
     changes_linked target s l r q is top step =

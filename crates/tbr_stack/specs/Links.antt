@@ -27,7 +27,7 @@ first_open (place ∷ places) = Some place
 
 -- ---- and in the top of a stack
 
--- A link more, which is open in the top. Its target comes behind the others.
+-- A link more, which is open in the top. Its target comes after the others.
 abbrev pub with_link : {R : Type 0} → List ℕ → Stack R → Stack R
 with_link target s =
     record s { levels = in_first (opened (length s.links + 1)) s.levels; links = s.links ++ target ∷ [] }
@@ -63,13 +63,13 @@ module _ {D A : Type 0} (columns : ℕ → Option ℕ) (decoration : Decoration 
   abbrev pub StartsLink : List ℕ → Stack Top → Stack Top → Type 0
   StartsLink target s t = ChangesTop (Does columns decoration (begin (start.link target))) (with_link target s) t
 
-  -- A start that refuses opens no link for want of memory, or opens it, and the top stops.
+  -- A start that refuses opens no link where memory is refused, or opens it, and the top stops.
   abbrev pub StopsToStart : List ℕ → Stack Top → Stack Top → Type 0
   StopsToStart target s t =
       ChangesTop (λ r q. q ≡ record r { failure = Some OutOfMemory }) s t
       ⊎ ChangesTop (StopsAtStage columns decoration (begin (start.link target))) (with_link target s) t
 
-  -- A link ends in a renderer, and its number comes behind it, where one is shown.
+  -- A link ends in a renderer, and its number comes after it, where one is shown.
   abbrev pub EndsWith : Option ℕ → Top → Top → Type 0
   EndsWith None r q = Does columns decoration (finish end.link) r q
   EndsWith (Some k) r q =
@@ -84,7 +84,7 @@ module _ {D A : Type 0} (columns : ℕ → Option ℕ) (decoration : Decoration 
       ⊎ ((m : Top) × Does columns decoration (finish end.link) r m
       × IsTooNarrow columns decoration (add_inline_text (link_number k)) m)
 
-  -- An end that refuses stops at the text that ends the link, or behind it at the number, where one is shown.
+  -- An end that refuses stops at the text that ends the link, or after it at the number, where one is shown.
   abbrev pub StopsToEndWith : Option ℕ → Top → Top → Type 0
   StopsToEndWith None r q = StopsAtStage columns decoration (finish end.link) r q
   StopsToEndWith (Some k) r q =

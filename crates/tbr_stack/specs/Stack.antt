@@ -1,8 +1,8 @@
 -- What a contract sees of a stack of renderers.
 use Rattle.std.specs.Prelude.{ℕ, Option, Some, None, List, [], ◌∷◌, drop}
 
--- A renderer of the stack. A link that is open in it stands as the place of its target, from 1, and the one that was
--- opened last comes first.
+-- A renderer of the stack. A link that is open in it is the place of its target, from 1, and the one that was opened
+-- last comes first.
 pub record Level (R : Type 0) : Type 0 where
   pub renderer : R
   pub open_links : List ℕ

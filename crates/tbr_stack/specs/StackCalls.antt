@@ -1,4 +1,4 @@
--- Calls on a stack, one after another, and which link is the next to end behind them.
+-- Calls on a stack, one after another, and which link is the next to end after them.
 use Rattle.std.specs.Prelude.{◌≡◌, ℕ, ◌+◌, zero, suc, Option, None, Some, List, [], ◌∷◌, ◌++◌, if◌then◌else◌, length}
 use Rattle.tbr_decor.specs.Decoration.{Decoration}
 use Rattle.tbr_renderer.specs.Renderer.{Renderer}
@@ -25,7 +25,7 @@ targets_of (other ∷ calls) = targets_of calls
 
 -- A link started, and these calls come. The numbers say how many links are open that started since: the first in the
 -- top, and so on down to the renderer of the link. They begin as 0 alone. The link is the next to end where it is still
--- open behind the calls, and they are 0 alone again. An end in a renderer in which no link is open closes none.
+-- open after the calls, and they are 0 alone again. An end in a renderer in which no link is open closes none.
 abbrev pub IsNextToEnd : List ℕ → List StackCall → Type 0
 IsNextToEnd numbers [] = numbers ≡ 0 ∷ []
 IsNextToEnd numbers (change_top ∷ calls) = IsNextToEnd numbers calls
@@ -41,7 +41,7 @@ IsNextToEnd (zero ∷ []) (end_link ∷ calls) = ⊥
 IsNextToEnd (zero ∷ m ∷ numbers) (end_link ∷ calls) = IsNextToEnd (zero ∷ m ∷ numbers) calls
 IsNextToEnd (suc n ∷ numbers) (end_link ∷ calls) = IsNextToEnd (n ∷ numbers) calls
 
--- Of the links that these calls start the one with this number is the next to end behind them.
+-- Of the links that these calls start the one with this number is the next to end after them.
 pub record IsNextNumber (calls : List StackCall) (k : ℕ) : Type 0 where
   pub before : List StackCall
   pub target : List ℕ

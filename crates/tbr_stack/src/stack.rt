@@ -52,7 +52,7 @@ impl<R: fmt::Debug> fmt::Debug for Stack<R> {
 }
 
 impl<R: Drop> Stack<R> {
-    /// A stack of one renderer, without links. It refuses only for want of memory.
+    /// A stack of one renderer, without links. It refuses only where memory is refused.
     pub fn new(alloc: Global, renderer: R) -> Result<Stack<R>, Error>
         ensures stack { IfOk result (λ s. s ≡ new_stack renderer) }
         ensures memory { IfErr result (λ e. e ≡ E.OutOfMemory) }
@@ -69,7 +69,7 @@ impl<R: Drop> Stack<R> {
 
     /// Puts a renderer on top.
     ///
-    /// It refuses only for want of memory. The stack is then as it was, and the renderer is dropped.
+    /// It refuses only where memory is refused. The stack is then as it was, and the renderer is dropped.
     pub fn push(&mut self, renderer: R) -> Result<(), Error>
         ensures ok { OnOk result (self.new ≡ pushed renderer self.old) }
         ensures memory { IfErr result (λ e. e ≡ E.OutOfMemory) }

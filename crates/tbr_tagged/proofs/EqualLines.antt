@@ -58,7 +58,7 @@ module _ {A : Type 0} (eq : A → A → Bool) (E : TaggedLineElement A → Tagge
   same_stored (Str s) (FragmentStart n) = left s n
   same_stored (FragmentStart m) (Str t) = right m t
 
-  -- so are elements that stand alone
+  -- so are elements that are alone
   pub same_alone : (x y : TaggedLineElement A) → E x y ≡ equal_lines eq (element_of x ∷ []) (element_of y ∷ [])
   same_alone x y = same_stored x y ∙ and_true (equal_elements eq (element_of x) (element_of y))
 

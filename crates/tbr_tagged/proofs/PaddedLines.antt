@@ -1,4 +1,4 @@
--- Lines with spaces in front and behind.
+-- Lines with spaces in front and after.
 use Rattle.std.proofs.Common.{◌≡◌, ℕ, zero, suc, ◌+◌, ◌<◌, ◌≤◌, Bool, true, false, Option, Some, unwrap_or, List, [], ◌∷◌, ◌++◌, refl, ap, ◌∙◌, arith, cond}
 use Rattle.std.specs.Cmp.{IsEquivalence}
 use Rattle.tbr_model.specs.Run.{Item, items_width}
@@ -38,7 +38,7 @@ module _ {A : Type 0} (eq : A → A → Bool) (laws : IsEquivalence eq) where
   same_elements_trans (d ∷ ds) (e ∷ es) [] h k = absurd k
   same_elements_trans (d ∷ ds) (e ∷ es) (f ∷ fs) h k = (same_element_trans d e f h.0 k.0, same_elements_trans ds es fs h.1 k.1)
 
-  -- equal tags stand under the same pieces
+  -- the same pieces are under an equal tag
   same_under : (e f : Element A) (a : A) → SameElement eq e f → is_piece_under eq (Some e) a ≡ is_piece_under eq (Some f) a
   same_under (piece cs a) (piece ds b) x h = laws.congr a b x h.1
   same_under (marker_element m) (marker_element n) x h = refl
@@ -69,7 +69,7 @@ module _ {A : Type 0} (eq : A → A → Bool) (laws : IsEquivalence eq) where
   same_extended (e ∷ d ∷ es) (f ∷ []) cs h = absurd h.1
   same_extended (e ∷ d ∷ es) (f ∷ g ∷ fs) cs h = (h.0, same_extended (d ∷ es) (g ∷ fs) cs h.1)
 
-  -- text behind lines that are the same
+  -- text after lines that are the same
   pub same_push : (es fs : List (Element A)) (cs : List ℕ) (a : A) → SameElements eq es fs → SameElements eq (push_text eq es cs a) (push_text eq fs cs a)
   same_push es fs [] a h = h
   same_push es fs (c ∷ cs) a h =

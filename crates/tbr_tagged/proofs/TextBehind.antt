@@ -1,4 +1,4 @@
--- Text behind a line of pieces.
+-- Text after a line of pieces.
 use Rattle.std.proofs.Common.{◌≡◌, ℕ, suc, ◌-◌, ◌<◌, Bool, true, false, Some, option_map, List, [], ◌∷◌, ◌++◌, map, length, get_or, set, encode_utf8, refl, ap, sym, ◌∙◌, arith, append-nil}
 use Rattle.std.specs.List.{slice_get}
 use Rattle.std.proofs.lemmas.Bool.{cond_both}
@@ -63,7 +63,7 @@ pub extended_at : {X : Type 0} {A : Type 0} (f : X → Element A) (xs : List X) 
     map f (set xs (n - 1) y) ≡ extend_last (map f xs) ds
 extended_at f xs n ds d y count some h = rw count (extend-set f xs ds d y (omega arith) (rw count at h))
 
--- what pushing leaves where the last piece stands under an equal tag
+-- what pushing leaves where the last piece is under an equal tag
 pub push_extends : {A : Type 0} (eq : A → A → Bool) (es : List (Element A)) (cs : List ℕ) (a : A) → 0 < length cs → is_piece_under eq (last_of es) a ≡ true → push_text eq es cs a ≡ extend_last es cs
 push_extends eq es [] a text under = absurd (omega arith)
 push_extends eq es (c ∷ cs) a text under = rw under refl

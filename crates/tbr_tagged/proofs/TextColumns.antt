@@ -29,7 +29,7 @@ pub width_of_text-append : (columns : ℕ → Option ℕ) (cs ds : List ℕ) →
 width_of_text-append columns [] ds = omega arith
 width_of_text-append columns (c ∷ cs) ds = omega (arith, width_of_text-append columns cs ds)
 
--- a text takes what its beginning takes, and the character behind that, or more
+-- a text takes what its beginning takes, and the character after that, or more
 pub width_of_text-beginning : (columns : ℕ → Option ℕ) (all cs : List ℕ) (c : ℕ) (ds : List ℕ) → all ≡ cs ++ c ∷ ds → width_of_text columns cs + unwrap_or (columns c) 0 ≤ width_of_text columns all
 width_of_text-beginning columns all cs c ds e = omega (arith, ap (width_of_text columns) e, width_of_text-append columns cs (c ∷ ds))
 

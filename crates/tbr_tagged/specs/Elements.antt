@@ -64,7 +64,7 @@ SameElement eq (marker_element m) (piece ds b) = ⊥
 abbrev pub SameElements : {A : Type 0} → (A → A → Bool) → List (Element A) → List (Element A) → Type 0
 SameElements eq = AllZip (SameElement eq)
 
--- ---- text behind a line
+-- ---- text after a line
 
 -- whether an element is a piece under an equal tag
 abbrev pub is_piece_under : {A : Type 0} → (A → A → Bool) → Option (Element A) → A → Bool
@@ -88,15 +88,15 @@ last_of [] = None
 last_of (x ∷ []) = Some x
 last_of (x ∷ y ∷ xs) = last_of (y ∷ xs)
 
--- Text behind a line: it extends the last piece if that stands under an equal tag, and else is a piece of its own.
--- The empty text does nothing.
+-- Text after a line: it extends the last piece if that is under an equal tag, and else is a piece of its own. The empty
+-- text does nothing.
 abbrev pub push_text : {A : Type 0} → (A → A → Bool) → List (Element A) → List ℕ → A → List (Element A)
 push_text eq es [] a = es
 push_text eq es (c ∷ cs) a =
     if is_piece_under eq (last_of es) a then extend_last es (c ∷ cs)
     else es ++ piece (c ∷ cs) a ∷ []
 
--- an element behind a line
+-- an element after a line
 abbrev pub push_element : {A : Type 0} → (A → A → Bool) → List (Element A) → Element A → List (Element A)
 push_element eq es (piece cs a) = push_text eq es cs a
 push_element eq es (marker_element name) = es ++ marker_element name ∷ []
@@ -113,8 +113,8 @@ abbrev pub extend_first : {A : Type 0} → List ℕ → List (Element A) → Lis
 extend_first cs [] = []
 extend_first cs (e ∷ es) = text_before cs e ∷ es
 
--- Text in front of a line: it extends the first piece if that stands under an equal tag, and else is a piece of its
--- own, also the empty text.
+-- Text in front of a line: it extends the first piece if that is under an equal tag, and else is a piece of its own,
+-- also the empty text.
 abbrev pub insert_text : {A : Type 0} → (A → A → Bool) → List (Element A) → List ℕ → A → List (Element A)
 insert_text eq [] cs a = piece cs a ∷ []
 insert_text eq (e ∷ es) cs a =
@@ -138,7 +138,7 @@ IsPartedFrom eq e [] = ⊤
 IsPartedFrom eq e (f ∷ es) = AreParted eq e f
 
 -- Pieces are the longest stretches of characters under equal tags: each has a character, and no two neighbouring ones
--- stand under equal tags.
+-- are under equal tags.
 abbrev pub IsMerged : {A : Type 0} → (A → A → Bool) → List (Element A) → Type 0
 IsMerged eq [] = ⊤
 IsMerged eq (e ∷ es) = HasText e × IsPartedFrom eq e es × IsMerged eq es

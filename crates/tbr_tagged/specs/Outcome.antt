@@ -13,9 +13,10 @@ abbrev pub if_live : {S : Type 0} → Option Error → Outcome S → Outcome S
 if_live None outcome = outcome
 if_live (Some e) outcome = refused e
 
--- What a call answers, and leaves, where its outcome on a state is this. It is `Ok` only where it leaves what the outcome
--- is, and `TooNarrow` only where the outcome is that; else it is `OutOfMemory`. One that refuses leaves a state that has
--- failed with what it answers. One that had failed answers its refusal, and stays as it is. The settings stay.
+-- What a call answers and leaves, where its outcome on a state is this. It is `Ok` only where it leaves what the
+-- outcome is, and `TooNarrow` only where the outcome is that. Else it is `OutOfMemory`. A call that refuses leaves a
+-- state that has failed with what it answers. A state that had failed answers its refusal, and stays as it is. The
+-- settings stay.
 pub record Answers {S K R : Type 0} (failure : S → Option Error) (settings : S → K) (outcome : Outcome S)
     (old : S) (result : Result R Error) (new : S) : Type 0 where
   pub ok : OnOk result (outcome ≡ done new)

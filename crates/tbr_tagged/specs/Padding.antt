@@ -1,4 +1,4 @@
--- Lines with spaces behind and in front.
+-- Lines with spaces in front and after.
 use Rattle.std.specs.Prelude.{ℕ, suc, zero, ◌-◌, ◌/◌, ◌++◌, Bool, Option, List, replicate}
 use Rattle.tbr_model.specs.Run.{Item}
 use Rattle.tbr_model.specs.Codes.{space_character}
@@ -13,7 +13,7 @@ spaces n = replicate n space_character
 abbrev pub columns_missing : {A : Type 0} → (ℕ → Option ℕ) → ℕ → List (Element A) → ℕ
 columns_missing columns width es = width - line_width columns es
 
--- how many of the missing columns stand in front
+-- how many of the missing columns are in front
 abbrev pub columns_in_front : CellAlign → ℕ → ℕ
 columns_in_front Left missing = 0
 columns_in_front Right missing = missing
@@ -24,7 +24,7 @@ abbrev pub spaces_before : {A : Type 0} → (A → A → Bool) → List (Element
 spaces_before eq es zero a = es
 spaces_before eq es (suc n) a = insert_text eq es (spaces (suc n)) a
 
--- with spaces in front and behind
+-- with spaces in front and after
 abbrev pub padded : {A : Type 0} → (A → A → Bool) → List (Element A) → ℕ → ℕ → A → List (Element A)
 padded eq es front behind a = push_text eq (spaces_before eq es front a) (spaces behind) a
 

@@ -5,7 +5,7 @@ use Rattle.std.proofs.Common.{arith}
 use Rattle.unicode_width.specs.Width.{char_width}
 use Rattle.tbr_model.specs.Width.{takes_one_column, stroke}
 
--- those of `unicode_width`, but for the characters whose columns are fixed, and never more than two
+-- those of `unicode_width`, but never more than two, and with the columns that are fixed
 abbrev pub unicode_columns : ℕ → Option ℕ
 unicode_columns c =
     if takes_one_column c then Some 1

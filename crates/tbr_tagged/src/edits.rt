@@ -1,4 +1,4 @@
-//! Text behind and in front of the elements of a line.
+//! Text in front of a line's elements and after them.
 ghost use Rattle.std.specs.Prelude.{◌≡◌, ◌<◌, ◌∷◌, [], string_len, IfOk, OnOk, OnErr};
 ghost use Rattle.std.specs.Option.{option_map};
 ghost use Rattle.tbr_tagged.specs.Copies.{CopiesAreEqual};
@@ -11,7 +11,7 @@ use crate::element::{TaggedLineElement, TaggedString, new_piece};
 use crate::element_list::ElementList;
 use crate::error::OutOfMemory;
 
-/// Appends text that isn't empty.
+/// Appends text that isn't empty. Where memory is refused nothing changes, and the text is dropped.
 pub fn push_piece<T: Eq + Drop>(
     elements: &mut ElementList<T>,
     ts: TaggedString<T>,
@@ -45,7 +45,8 @@ pub fn push_glyph<T: Eq + Clone>(
     elements.push(piece)
 }
 
-/// Puts text in front. It answers the text of the first piece where that piece was extended.
+/// Puts text in front. It answers the text of the first piece where that piece was extended. Where memory is refused
+/// nothing changes, and the text is dropped.
 pub fn put_in_front<T: Eq + Drop>(
     elements: &mut ElementList<T>,
     ts: TaggedString<T>,

@@ -23,7 +23,7 @@ use tbr_model::CharWidth;
 pub struct TaggedString<T> {
     /// The text.
     pub s: String,
-    /// The tag that it stands under.
+    /// Its tag.
     pub tag: T,
 }
 
@@ -59,7 +59,7 @@ impl<T> TaggedString<T> {
         }
     }
 
-    /// The same text under a copy of the tag. It refuses only for want of memory.
+    /// The same text under a copy of the tag. It refuses only where memory is refused.
     pub fn clone(&self) -> Result<TaggedString<T>, OutOfMemory>
     where
         T: Eq + Clone,
@@ -125,7 +125,7 @@ impl<T> TaggedLineElement<T> {
         }
     }
 
-    /// The same element, a piece under a copy of its tag. It refuses only for want of memory.
+    /// The same element, a piece under a copy of its tag. It refuses only where memory is refused.
     pub fn clone(&self) -> Result<TaggedLineElement<T>, OutOfMemory>
     where
         T: Eq + Clone,
@@ -188,7 +188,7 @@ pub fn extend_by_spaces<T>(
     Ok(())
 }
 
-/// A piece of one character under a copy of the tag. It refuses only for want of memory.
+/// A piece of one character under a copy of the tag. It refuses only where memory is refused.
 pub fn new_piece<T: Eq + Clone>(
     alloc: Global,
     c: char,
@@ -203,7 +203,8 @@ pub fn new_piece<T: Eq + Clone>(
     Ok(TaggedLineElement::Str(TaggedString { s, tag }))
 }
 
-/// Puts text in front of a piece's. It answers the text that the piece had.
+/// Puts text in front of a piece's. It answers the text that the piece had. A marker stays, and the answer is the text
+/// itself. Where memory is refused nothing changes, and the text is dropped.
 pub fn extend_front<T>(
     element: &mut TaggedLineElement<T>,
     mut text: String,

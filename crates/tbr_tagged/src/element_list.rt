@@ -22,7 +22,7 @@ use std::alloc::Global;
 use std::mem;
 use tbr_model::CharWidth;
 
-/// The elements of a line, in order. A single one stands in place, so that a line of one piece takes no list.
+/// The elements of a line, in order. A single one is in place, so that a line of one piece takes no list.
 #[derive(Debug, Drop)]
 pub enum ElementList<T> {
     /// One element, in place.
@@ -67,7 +67,7 @@ impl<T> ElementList<T> {
         }
     }
 
-    /// The columns that the elements take.
+    /// The columns that the elements take. It takes no memory, and refuses exactly where the sum passes `usize`.
     pub fn width<W: CharWidth>(&self) -> Result<usize, OutOfMemory>
         ensures { GivesSum result (line_width W.columns (elements_of (stored self.now))) }
     {
@@ -195,7 +195,8 @@ impl<T> ElementList<T> {
         }
     }
 
-    /// Puts text in front of the first element's, if that is a piece. It answers the text that the piece had.
+    /// Puts text in front of the first element's, if that is a piece. It answers the text that the piece had. Where
+    /// memory is refused nothing changes, and the text is dropped.
     pub fn extend_first(&mut self, text: String) -> Result<String, OutOfMemory>
         ensures ok { OnOk result (elements_of (stored self.new)
             ≡ model.extend_first (chars_of text) (elements_of (stored self.old))) }
@@ -296,7 +297,7 @@ impl<T: Drop> ElementList<T> {
         }
     }
 
-    /// The elements with each tag replaced by what `f` makes of it.
+    /// The elements with each tag replaced by what `f` makes of it. It refuses only where memory is refused.
     pub fn map_tag<U: Drop, F: Fn(T) -> U>(self, f: &F) -> Result<ElementList<U>, OutOfMemory>
         requires { F.IsAlwaysCallable f.now }
         ensures { IfOk result (λ mapped.
@@ -308,7 +309,7 @@ impl<T: Drop> ElementList<T> {
         }
     }
 
-    /// The same elements, each piece under a copy of its tag.
+    /// The same elements, each piece under a copy of its tag. It refuses only where memory is refused.
     pub fn clone(&self) -> Result<ElementList<T>, OutOfMemory>
     where
         T: Eq + Clone,

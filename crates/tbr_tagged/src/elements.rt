@@ -108,7 +108,8 @@ pub fn extend_last_by_spaces<T>(
     extend_by_spaces(&mut elements[end], count)
 }
 
-/// Puts text in front of the first element's, if that is a piece. It answers the text that the piece had.
+/// Puts text in front of the first element's, if that is a piece. It answers the text that the piece had. Where memory
+/// is refused nothing changes, and the text is dropped.
 pub fn extend_first<T>(
     elements: &mut Vec<TaggedLineElement<T>>,
     text: String,
@@ -134,7 +135,7 @@ pub fn set_first_text<T>(elements: &mut Vec<TaggedLineElement<T>>, text: String)
     }
 }
 
-/// The elements with each tag replaced by what `f` makes of it.
+/// The elements with each tag replaced by what `f` makes of it. It refuses only where memory is refused.
 pub fn map_tag<T: Drop, U: Drop, F: Fn(T) -> U>(
     elements: Vec<TaggedLineElement<T>>,
     f: &F,
@@ -150,7 +151,7 @@ pub fn map_tag<T: Drop, U: Drop, F: Fn(T) -> U>(
     Ok(mapped)
 }
 
-/// The same elements, each piece under a copy of its tag.
+/// The same elements, each piece under a copy of its tag. It refuses only where memory is refused.
 pub fn clone<T: Eq + Clone + Drop>(
     elements: &Vec<TaggedLineElement<T>>,
 ) -> Result<Vec<TaggedLineElement<T>>, OutOfMemory>

@@ -6,7 +6,7 @@ use std::{str, vec};
 /// The elements of a line, in order.
 #[derive(Drop)]
 pub struct Iter<'a, T> {
-    /// An element that stands before those of the slice.
+    /// An element before those of the slice.
     pub(crate) first: Option<&'a TaggedLineElement<T>>,
     pub(crate) rest: &'a [TaggedLineElement<T>],
 }

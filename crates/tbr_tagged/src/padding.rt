@@ -1,4 +1,4 @@
-//! Spaces behind and in front of a line.
+//! Spaces in front of a line and after it.
 ghost use Rattle.std.specs.Prelude.{◌≡◌, ◌+◌, ◌<◌, ◌≤◌, true, IfOk, OnOk, OnErr};
 ghost use Rattle.tbr_tagged.specs.Copies.{CopiesAreEqual};
 ghost use Rattle.tbr_tagged.specs.Elements.{push_text, SameElements};
@@ -14,10 +14,10 @@ use crate::error::OutOfMemory;
 use crate::space::spaces;
 use std::alloc::Global;
 
-/// Where a line stands in more columns than it takes. In the middle, the odd column is on the right.
+/// Where a line is placed in more columns than it takes. In the middle, the odd column is on the right.
 #[derive(Clone, Copy, PartialEq, Eq, Debug)]
 pub enum CellAlign {
-    /// At the left, with the spaces behind it.
+    /// At the left, with the spaces after it.
     Left,
     /// At the right, with the spaces in front of it.
     Right,
@@ -34,7 +34,7 @@ impl Default for CellAlign {
     }
 }
 
-/// How many of the columns that a line leaves stand in front of it.
+/// How many of the columns that a line leaves are in front of it.
 pub fn columns_in_front(align: CellAlign, missing: usize) -> usize
     ensures value { result ≡ model.columns_in_front align missing }
     ensures bound { result ≤ missing }
@@ -46,8 +46,8 @@ pub fn columns_in_front(align: CellAlign, missing: usize) -> usize
     }
 }
 
-/// Puts `front` spaces in front and `behind` spaces behind, under copies of the tag. Where memory is refused nothing
-/// changes.
+/// Puts `front` spaces in front of the elements and `behind` spaces after them, under copies of the tag. Where memory
+/// is refused nothing changes.
 pub fn pad<T: Eq + Clone + Drop>(
     elements: &mut ElementList<T>,
     front: usize,
@@ -74,7 +74,7 @@ pub fn pad<T: Eq + Clone + Drop>(
     Ok(())
 }
 
-/// Appends spaces.
+/// Appends `count` spaces under a copy of the tag. Where memory is refused nothing changes.
 fn push_spaces<T: Eq + Clone + Drop>(
     elements: &mut ElementList<T>,
     count: usize,
@@ -98,7 +98,7 @@ fn push_spaces<T: Eq + Clone + Drop>(
     elements.push(TaggedLineElement::Str(piece))
 }
 
-/// A text of `count` spaces under a copy of the tag. It refuses only for want of memory.
+/// A text of `count` spaces under a copy of the tag. It refuses only where memory is refused.
 fn spaces_under<T: Eq + Clone>(
     alloc: Global,
     count: usize,

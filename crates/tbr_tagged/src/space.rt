@@ -7,7 +7,7 @@ ghost use Rattle.tbr_tagged.specs.View.{chars_of};
 use crate::error::OutOfMemory;
 use std::alloc::Global;
 
-/// Whether a character takes space wherever it stands: it is no white space, or U+00A0.
+/// Whether a character takes space wherever it is: it is no white space, or U+00A0.
 pub fn always_takes_space(c: char) -> bool
     ensures { result ≡ model.always_takes_space c }
 {
@@ -21,7 +21,7 @@ pub fn is_wordbreak_point(c: char) -> bool
     c == '\u{200b}' || (c.is_whitespace() && c != '\u{a0}')
 }
 
-/// A text of `count` spaces. It refuses only for want of memory.
+/// A text of `count` spaces. It refuses only where memory is refused.
 pub fn spaces(alloc: Global, count: usize) -> Result<String, OutOfMemory>
     ensures { IfOk result (λ s. chars_of s ≡ padding.spaces count) }
 {

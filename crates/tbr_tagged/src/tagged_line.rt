@@ -65,7 +65,7 @@ impl<T> TaggedLine<T> {
         self.elements.width::<W>()
     }
 
-    /// The line's characters, without tags and markers. It refuses only for want of memory.
+    /// The line's characters, without tags and markers. It refuses only where memory is refused.
     pub fn to_text(&self) -> Result<String, OutOfMemory>
         ensures { IfOk result (λ text. chars_of text ≡ characters self.now) }
     {
@@ -83,7 +83,7 @@ impl<T> TaggedLine<T> {
 }
 
 impl<T> TaggedLine<T> {
-    /// A line of one piece under a copy of the tag, even for the empty text. It refuses only for want of memory.
+    /// A line of one piece under a copy of the tag, even for the empty text. It refuses only where memory is refused.
     pub fn from_string(alloc: Global, s: String, tag: &T) -> Result<TaggedLine<T>, OutOfMemory>
     where
         T: Eq + Clone + Drop,
@@ -97,7 +97,7 @@ impl<T> TaggedLine<T> {
     }
 
     /// The line with each tag replaced by what `f` makes of it. Texts, markers and their order stay. It asks that `f`
-    /// may be called on every tag. It refuses only for want of memory.
+    /// may be called on every tag. It refuses only where memory is refused, and the line is dropped.
     pub fn map_tag<U: Drop, F: Fn(T) -> U>(self, f: &F) -> Result<TaggedLine<U>, OutOfMemory>
     where
         T: Drop,
@@ -111,7 +111,7 @@ impl<T> TaggedLine<T> {
         Ok(TaggedLine { elements })
     }
 
-    /// The same elements, each piece under a copy of its tag. It refuses only for want of memory.
+    /// The same elements, each piece under a copy of its tag. It refuses only where memory is refused.
     pub fn clone(&self) -> Result<TaggedLine<T>, OutOfMemory>
     where
         T: Eq + Clone + Drop,
@@ -125,8 +125,8 @@ impl<T> TaggedLine<T> {
 }
 
 impl<T: Eq> TaggedLine<T> {
-    /// Appends text. It extends the last piece if that stands under an equal tag, and else is a piece of its own. The
-    /// empty text does nothing.
+    /// Appends text. It extends the last piece if that is under an equal tag, and else is a piece of its own. The empty
+    /// text does nothing.
     ///
     /// Where memory is refused the line stays as it was, and the text is dropped. The empty text takes none.
     pub fn push_str(&mut self, ts: TaggedString<T>) -> Result<(), OutOfMemory>
@@ -145,8 +145,8 @@ impl<T: Eq> TaggedLine<T> {
         push_piece(&mut self.elements, ts)
     }
 
-    /// Appends a character. It extends the last piece if that stands under an equal tag, and else begins a piece under
-    /// a copy of the tag.
+    /// Appends a character. It extends the last piece if that is under an equal tag, and else begins a piece under a
+    /// copy of the tag.
     ///
     /// Where memory is refused the line stays as it was.
     pub fn push_char(&mut self, c: char, tag: &T) -> Result<(), OutOfMemory>
@@ -163,8 +163,7 @@ impl<T: Eq> TaggedLine<T> {
 }
 
 impl<T: Eq + Drop> TaggedLine<T> {
-    /// Appends an element. Text is appended as by [`TaggedLine::push_str`], and a marker stands behind what the line
-    /// has.
+    /// Appends an element. Text is appended as by [`TaggedLine::push_str`], and a marker comes after what the line has.
     ///
     /// Where memory is refused the line stays as it was, and the element is dropped.
     pub fn push(&mut self, element: TaggedLineElement<T>) -> Result<(), OutOfMemory>
@@ -182,10 +181,10 @@ impl<T: Eq + Drop> TaggedLine<T> {
         }
     }
 
-    /// Puts text in front. It extends the first piece if that stands under an equal tag, and else is a piece of its
-    /// own, also where the text is empty.
+    /// Puts text in front. It extends the first piece if that is under an equal tag, and else is a piece of its own,
+    /// also where the text is empty.
     ///
-    /// A call goes over what the line has, so that a line which is built by such calls alone takes quadratic time.
+    /// A call goes over what the line has. A line that is built by such calls alone takes quadratic time.
     ///
     /// Where memory is refused the line stays as it was, and the text is dropped.
     pub fn insert_front(&mut self, ts: TaggedString<T>) -> Result<(), OutOfMemory>
@@ -201,7 +200,7 @@ impl<T: Eq + Drop> TaggedLine<T> {
 }
 
 impl<T: Eq + Clone + Drop> TaggedLine<T> {
-    /// Fills the line up to `width` columns with spaces behind it, under a copy of the tag. A line that is as wide
+    /// Fills the line up to `width` columns with spaces after it, under a copy of the tag. A line that is as wide
     /// already stays as it is.
     ///
     /// It refuses where memory is refused, or where the line's columns pass `usize`. The line then stays as it was. A
@@ -222,9 +221,9 @@ impl<T: Eq + Clone + Drop> TaggedLine<T> {
         self.pad_aligned::<W>(width, CellAlign::Left, tag)
     }
 
-    /// Fills the line up to `width` columns with spaces under copies of the tag: behind it, in front of it, or on both
-    /// sides, as the alignment says. Spaces in front stand before the first element, markers included. A line that is
-    /// as wide already stays as it is.
+    /// Fills the line up to `width` columns with spaces under copies of the tag: after it, in front of it, or on both
+    /// sides, as the alignment says. Spaces in front come before the first element, markers included. A line that is as
+    /// wide already stays as it is.
     ///
     /// It refuses where memory is refused, or where the line's columns pass `usize`. The line then stays as it was. A
     /// line that is as wide already takes no memory.

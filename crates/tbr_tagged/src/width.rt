@@ -40,7 +40,7 @@ impl CharWidth for UnicodeColumns {
 }
 
 /// The columns of any character, by what is fixed and by `unicode_width`.
-// By itself, so that what most characters take stands where it is asked.
+// By itself, so that what most characters take is answered where it is asked.
 #[inline(never)]
 fn looked_up(c: char) -> Option<usize>
     ensures { result ≡ unicode_columns c }

@@ -67,7 +67,7 @@ pub enum Call<'a> {
     /// A border of the renderer's width.
     Border,
     BorderWidth(usize),
-    /// The lines of a renderer inside, behind these prefixes, each of which has a bar behind it.
+    /// The lines of a renderer inside, after these prefixes, each of which has a bar after it.
     Append(Block<'a>, &'a str),
     /// Renderers inside, one below another.
     VertRow(&'a [Block<'a>]),
@@ -230,7 +230,7 @@ fn shown_of<D: TextDecorator, W: CharWidth>(
     }
 }
 
-/// What the lines behind calls show, each with a newline.
+/// What the lines after calls show, each with a newline.
 pub fn handed_out<D: TextDecorator, W: CharWidth>(
     alloc: Global,
     shown: Shown,

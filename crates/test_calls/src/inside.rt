@@ -72,7 +72,7 @@ fn append_two<D: TextDecorator, W: CharWidth>(
     r.append_columns_with_borders(cols, false)
 }
 
-/// A renderer inside behind its calls, one of which may have refused; a refusal that it doesn't keep is passed on.
+/// A renderer inside after its calls, one of which may have refused. A refusal that it doesn't keep is passed on.
 fn inside<D: TextDecorator, W: CharWidth>(
     alloc: Global,
     r: &SubRenderer<D, W>,
@@ -90,7 +90,7 @@ fn inside<D: TextDecorator, W: CharWidth>(
     Ok(inside)
 }
 
-/// Appends the lines of a renderer inside, behind prefixes, each of which has a bar behind it.
+/// Appends the lines of a renderer inside, after prefixes, each of which has a bar after it.
 pub fn append_block<D: TextDecorator, W: CharWidth>(
     alloc: Global,
     r: &mut SubRenderer<D, W>,

@@ -1,4 +1,4 @@
-//! What tests of renderers share: calls as values, what renderers show and tell behind them, and what they are told.
+//! What tests of renderers share: calls as values, what renderers show and tell after them, and what they are told.
 #![tactic(auto)]
 
 pub mod calls;

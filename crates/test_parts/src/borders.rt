@@ -85,7 +85,7 @@ fn chops_one_after_the_other(rt: HostRuntime) {
     }
 }
 
-/// Behind each call a border of that width shows what stands on that line of the expected text.
+/// After each call a border of that width shows what is on that line of the expected text.
 fn expect(rt: &impl Abort, alloc: Global, width: usize, joins: &[Join<'_>], expected: &str) {
     shows(rt, shown::<UnicodeColumns>(alloc, width, joins), expected)
 }

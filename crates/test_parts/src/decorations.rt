@@ -9,8 +9,8 @@ use tbr_lines::OutOfMemory;
 
 const RED: Colour = Colour { r: 255, g: 0, b: 0 };
 
-/// What a decorator has answered: its texts with a bar behind each, its annotations, and whether a colour's end took
-/// one away.
+/// What a decorator has answered: its texts with a bar after each, its annotations, and whether a colour's end took one
+/// away.
 #[derive(Drop)]
 struct Answers<A> {
     texts: String,

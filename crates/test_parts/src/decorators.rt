@@ -92,7 +92,7 @@ fn header_whose_text_passes_every_size_is_refused(rt: HostRuntime) {
     shows(&rt, greatest_header(alloc, TrivialDecorator::new()), "");
 }
 
-/// The text that stands for an image.
+/// The text that shows an image.
 fn image<D: TextDecorator>(alloc: Global, mut decorator: D) -> Result<String, OutOfMemory> {
     Ok(decorator.decorate_image(alloc, "s", "t")?.0)
 }
@@ -113,7 +113,7 @@ fn image_shows_its_title(rt: HostRuntime) -> Result<(), Fail> {
     Ok(())
 }
 
-/// The lines behind a document with two targets.
+/// The lines after a document with two targets.
 fn footnotes<D: TextDecorator>(alloc: Global, mut decorator: D) -> Result<String, OutOfMemory> {
     let targets = two_targets(alloc)?;
     texts(alloc, decorator.finalise(alloc, targets))

@@ -32,7 +32,7 @@ pub fn apply<W: CharWidth>(
     }
 }
 
-/// What the line has behind each edit, each with a newline.
+/// What the line has after each edit, each with a newline.
 pub fn edited<W: CharWidth>(alloc: Global, edits: &[Edit<'_>]) -> Result<String, OutOfMemory> {
     let mut line = TaggedLine::new(alloc);
     let mut all = String::new(alloc);
@@ -44,7 +44,7 @@ pub fn edited<W: CharWidth>(alloc: Global, edits: &[Edit<'_>]) -> Result<String,
     Ok(all)
 }
 
-/// A line behind these edits.
+/// A line after these edits.
 pub fn line_after<W: CharWidth>(
     alloc: Global,
     edits: &[Edit<'_>],

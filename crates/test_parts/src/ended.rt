@@ -22,7 +22,7 @@ fn fill<W: CharWidth + Drop>(
     add(block, WhiteSpace::Normal, text)
 }
 
-/// The lines of a text behind a marker.
+/// The lines of a text after a marker.
 fn ended<W: CharWidth + Drop>(
     alloc: Global,
     width: usize,

@@ -14,11 +14,12 @@ pub enum Join<'a> {
     Marker(usize, &'a str),
 }
 
+/// A border of that width under the first tag.
 pub fn border(alloc: Global, width: usize) -> Result<BorderHoriz<Voice>, OutOfMemory> {
     BorderHoriz::new(alloc, width, Voice::First)
 }
 
-/// Puts an element in front of the cells from `pos` on, where no other stands.
+/// Puts an element in front of the cells from `pos` on, where no other is.
 fn put<W: CharWidth>(
     line: &mut BorderHoriz<Voice>,
     pos: usize,
@@ -65,7 +66,7 @@ pub fn apply<W: CharWidth>(
     }
 }
 
-/// A border of that width behind the calls.
+/// A border of that width after the calls.
 pub fn joined<W: CharWidth>(
     alloc: Global,
     width: usize,
@@ -78,7 +79,7 @@ pub fn joined<W: CharWidth>(
     Ok(line)
 }
 
-/// What a border of that width shows behind each call, each with a newline.
+/// What a border of that width shows after each call, each with a newline.
 pub fn shown<W: CharWidth>(
     alloc: Global,
     width: usize,

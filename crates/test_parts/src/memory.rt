@@ -66,7 +66,7 @@ fn take_steps(
     Ok(())
 }
 
-/// The block's lines behind the steps.
+/// The block's lines after the steps.
 fn lines_behind(
     rt: &impl Abort,
     alloc: Global,

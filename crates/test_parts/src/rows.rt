@@ -7,7 +7,7 @@ use tbr_lines::{BorderHoriz, CellAlign, OutOfMemory, RenderLine, TaggedLine, Uni
 use tbr_rows::{Columns, Overhang, Row, RowStyle};
 use test_support::texts::{Voice, append_elements, piece};
 
-/// A cell: its width, the rows that it spans, where its lines stand in it, and these. A line of `─` is a border.
+/// A cell: its width, the rows that it spans, where its lines are in it, and these. A line of `─` is a border.
 #[derive(Clone, Copy)]
 struct Cell<'a>(usize, usize, CellAlign, &'a [&'a str]);
 
@@ -45,7 +45,7 @@ const UNDRAWN: RowStyle = RowStyle {
     collapses: false,
 };
 
-/// Lines, and the cells that overhang behind them.
+/// Lines, and the cells that overhang after them.
 #[derive(Drop)]
 struct Table {
     alloc: Global,
@@ -254,7 +254,7 @@ fn spanning_cells_stand_in_the_borders_between_their_rows(rt: HostRuntime) {
         ],
         "─┬─\nA│x\nB├─\nC│y\nD├─\nE│z\n─┴─\n",
     );
-    // Two fillers in one border: the second stands behind the first line, which is wider than its cell.
+    // Two fillers in one border: the second comes after the first line, which is wider than its cell.
     expect(
         &rt,
         alloc,
@@ -334,7 +334,7 @@ fn overhanging_cells_are_displayed(rt: HostRuntime) {
     shows(&rt, overhanging(rt.alloc()), "0+1 over 1: <C>\n");
 }
 
-/// The elements of each line behind a row of one cell.
+/// The elements of each line after a row of one cell.
 fn tagged(alloc: Global, cell: Cell<'_>, style: RowStyle) -> Result<String, OutOfMemory> {
     let mut table = Table::under(alloc, 0)?;
     let _ = table.append(columns(alloc, &[cell])?, style)?;

@@ -1,4 +1,4 @@
-//! Every short text over a few telling characters and markers: the block's lines are those of the plain program for the
+//! Every short text over a few telling characters and markers. The block's lines are those of the plain program for the
 //! best layout, and the markers that are on none of them trail.
 ghost use Rattle.std.specs.Prelude.{◌<◌};
 
@@ -9,20 +9,20 @@ use tbr_lines::{Error, OutOfMemory, TaggedLineElement, UnicodeColumns, WhiteSpac
 use tbr_model::{Entry, Slot, best_layout, slots};
 use test_support::texts::{Voice, append_marker};
 
-/// It stands for a marker.
+/// It means a marker.
 const MARK: char = '|';
 
 /// A letter, a space, two characters that look like none, a stroke, a wide character, and a marker.
 const ALPHABET: [char; 7] = ['a', ' ', '\u{200b}', '\u{a0}', '\u{336}', '漢', MARK];
 
-/// What stands for a refusal. No text of the alphabet gives it.
+/// What a refusal shows. No text of the alphabet gives it.
 const REFUSED: &str = "refused";
 
 const LONGEST: u32 = 5;
 
 const WIDEST: usize = 4;
 
-/// The text that a number stands for, its digits to the base seven being characters.
+/// The text of a number, its digits to the base seven being characters.
 fn numbered(alloc: Global, length: u32, number: u32) -> Result<String, AllocError> {
     let mut text = String::new(alloc);
     let mut left = number;

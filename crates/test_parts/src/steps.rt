@@ -175,7 +175,7 @@ pub fn told<W: CharWidth + Drop>(
     Ok(all)
 }
 
-/// The pieces of the block's lines behind the steps, each with its tag.
+/// The pieces of the block's lines after the steps, each with its tag.
 pub fn pieces<W: CharWidth + Drop>(
     alloc: Global,
     mut block: WrappedBlock<Voice, W>,

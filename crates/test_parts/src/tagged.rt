@@ -13,7 +13,7 @@ use tbr_lines::{
 use test_support::columns::EveryOne;
 use test_support::texts::{Voice, elements, marker, piece};
 
-/// Behind each edit the line has what stands on that line of the expected text.
+/// After each edit the line has what is on that line of the expected text.
 fn expect<W: CharWidth>(rt: &impl Abort, alloc: Global, edits: &[Edit<'_>], expected: &str) {
     shows(rt, edited::<W>(alloc, edits), expected)
 }
@@ -91,7 +91,7 @@ fn a_line_of_the_empty_text_has_a_piece(rt: HostRuntime) -> Result<(), Fail> {
     Ok(())
 }
 
-/// The elements of a marker and `漢` behind it, aligned to a width.
+/// The elements of a marker and `漢` after it, aligned to a width.
 fn aligned<W: CharWidth>(
     alloc: Global,
     width: usize,
@@ -119,7 +119,7 @@ fn expect_aligned<W: CharWidth>(
 #[test]
 fn the_odd_column_of_the_middle_is_on_the_right(rt: HostRuntime) {
     let alloc = rt.alloc();
-    // Spaces in front stand before markers.
+    // Spaces in front come before markers.
     expect_aligned::<UnicodeColumns>(&rt, alloc, 5, CellAlign::Centre, "1 |#m|1漢  ");
     expect_aligned::<UnicodeColumns>(&rt, alloc, 5, CellAlign::default(), "#m|1漢   ");
     expect_aligned::<UnicodeColumns>(&rt, alloc, 5, CellAlign::Right, "1   |#m|1漢");

@@ -116,7 +116,7 @@ const EXAMPLES: &[Example] = &[
         calls: &[Closes(Closing::Superscript)],
         expected: &[Lines("}\n")],
     },
-    // Around a link stand a newline and U+200B, at which words end.
+    // Around a link come a newline and U+200B, at which words end.
     Example {
         name: "a newline before a link is a space under its annotation",
         told: Told::Nothing,

@@ -154,7 +154,7 @@ const STATES: &[State] = &[
     },
 ];
 
-/// What a renderer tells behind calls.
+/// What a renderer tells after calls.
 fn tells_behind<D: TextDecorator, W: CharWidth>(
     alloc: Global,
     mut r: SubRenderer<D, W>,

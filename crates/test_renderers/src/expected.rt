@@ -14,7 +14,7 @@ use test_support::odd::OddDecorator;
 
 const EACH: [Under; 4] = [Under::Plain, Under::Trivial, Under::Rich, Under::Marked];
 
-/// What is expected behind calls.
+/// What is expected after calls.
 #[derive(Clone, Copy)]
 pub enum Expected {
     /// The lines, under each shipped decorator and one that has only the usual answers.
@@ -38,7 +38,7 @@ pub struct Example {
     pub expected: &'static [Expected],
 }
 
-/// What the lines behind an example's calls show.
+/// What the lines after an example's calls show.
 fn shown_by<D: TextDecorator, W: CharWidth>(
     alloc: Global,
     example: Example,

@@ -1,4 +1,4 @@
-//! Worked examples of the targets of links behind a document.
+//! Worked examples of the targets of links after a document.
 ghost use Rattle.std.specs.Prelude.{◌<◌};
 
 use crate::compared::shows;
@@ -57,7 +57,7 @@ enum Part<'a> {
 
 use Part::{Name, Plain, Strong};
 
-/// Footnotes behind calls on a new renderer, and what its lines show then.
+/// Footnotes after calls on a new renderer, and what its lines show then.
 #[derive(Clone, Copy)]
 struct Example<'a> {
     name: &'a str,
@@ -198,7 +198,7 @@ fn footnotes_of(
     Ok(lines)
 }
 
-/// What the lines behind an example's calls and footnotes show.
+/// What the lines after an example's calls and footnotes show.
 fn shown_by(alloc: Global, example: &Example<'_>) -> Result<String, Error>
     requires { 0 < example.now.width }
 {

@@ -112,7 +112,7 @@ const EXAMPLES: &[(&str, ImageRenderMode, &[Call<'static>], &str)] = &[
     ),
 ];
 
-/// The lines behind calls, where images are shown by a mode.
+/// The lines after calls, where images are shown by a mode.
 fn lines(alloc: Global, mode: ImageRenderMode, calls: &[Call<'_>]) -> Result<String, Error> {
     let r = plain(alloc, 80, Told::Images(mode));
     handed_out(alloc, Shown::Text, r, calls)

@@ -1,5 +1,6 @@
-//! Tests of renderers, alone and on a stack: tables of calls on a new one, each with the lines that they leave; what
-//! renderers answer beside their lines; what they refuse, also where memory is; and what is printed of them.
+//! Tests of renderers, alone and on a stack. There are tables of calls on a new one, each with the lines that they
+//! leave. There are tests of what renderers answer beside their lines, of what they refuse, also where memory is, and
+//! of what is printed of them.
 #![tactic(auto)]
 
 #[cfg(test)]

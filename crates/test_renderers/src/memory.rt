@@ -105,7 +105,7 @@ fn renderer<D: TextDecorator>(alloc: Global, told: Told, decorator: D) -> SubRen
     SubRenderer::new(alloc, 9, options, decorator)
 }
 
-/// What lines show behind calls, one of which may refuse; the refusal is kept.
+/// What lines show after calls, one of which may refuse; the refusal is kept.
 fn shown_or_refused<D: TextDecorator>(
     rt: &impl Abort,
     alloc: Global,
@@ -124,7 +124,7 @@ fn shown_or_refused<D: TextDecorator>(
     handed_out(alloc, Shown::Markers, r, &[])
 }
 
-/// The text is the one that is expected, or it is refused for want of memory.
+/// The text is the one that is expected, or memory is refused.
 fn shows_or_refuses(rt: &impl Abort, text: Result<String, Error>, expected: &str) {
     match text {
         Err(Error::OutOfMemory) => {}
@@ -142,7 +142,7 @@ fn every_call_leaves_its_lines_or_refuses_for_good(rt: HostRuntime) {
     }
 }
 
-/// The lines of a sub-renderer behind calls, one of which may refuse, as the sub-renderer may itself.
+/// The lines of a sub-renderer after calls, one of which may refuse, as the sub-renderer may itself.
 fn shown_inside<D: TextDecorator>(
     alloc: Global,
     decorator: D,
@@ -277,7 +277,7 @@ const SECOND_ROW: Call<'static> = Row(
 /// A cell with a border and a row.
 const NESTED: Cell<'static> = Cell(1, Block(3, &[Inner::Border, Inner::Row("1", "2")]));
 
-/// The lines behind an example's calls, or a refusal that is kept.
+/// The lines after an example's calls, or a refusal that is kept.
 fn worked_or_refused<D: TextDecorator>(
     rt: &impl Abort,
     alloc: Global,

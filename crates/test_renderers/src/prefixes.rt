@@ -1,4 +1,4 @@
-//! Worked examples of prefixes, and of the columns that are left behind them.
+//! Worked examples of prefixes, and of the columns that are left after them.
 use crate::compared::shows;
 use std::alloc::Global;
 use std::process::Abort;
@@ -46,7 +46,7 @@ fn refuses_greatest_header<D: TextDecorator, W: CharWidth>(
     assert!(rt; r.failure().is_none());
 }
 
-/// The prefixes under a decorator, behind a refusal or not.
+/// The prefixes under a decorator, after a refusal or not.
 pub fn prefixes_under<D: TextDecorator>(
     rt: &impl Abort,
     alloc: Global,
@@ -76,7 +76,7 @@ fn prefixes_are_those_of_the_decorator(rt: HostRuntime) {
     }
 }
 
-/// What is left of five columns behind a prefix, where a least width is asked for; none is a refusal.
+/// What is left of five columns after a prefix, where a least width is asked for; none is a refusal.
 fn left(alloc: Global, told: Told, prefix: usize, least: usize) -> Option<usize> {
     plain(alloc, 5, told).width_minus(prefix, least).ok()
 }

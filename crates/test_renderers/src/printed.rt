@@ -9,7 +9,7 @@ use test_calls::calls::Call::{Border, Line, Marker, Mode, Text};
 use test_calls::calls::{Call, make_all};
 use test_calls::told::{Told, plain};
 
-/// A plain renderer of four columns behind calls.
+/// A plain renderer of four columns after calls.
 fn behind(alloc: Global, calls: &[Call<'_>]) -> Result<SubRenderer<PlainDecorator>, Error> {
     let mut r = plain(alloc, 4, Told::Nothing);
     make_all(alloc, &mut r, calls)?;

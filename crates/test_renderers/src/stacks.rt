@@ -170,7 +170,7 @@ fn make(
     }
 }
 
-/// The stack behind an example's calls.
+/// The stack after an example's calls.
 fn behind(
     rt: &impl Abort,
     alloc: Global,
@@ -190,7 +190,7 @@ fn open_links(rt: &impl Abort, stack: &TextRenderer<PlainDecorator>) -> usize {
     stack.open_links()
 }
 
-/// The targets, each with a space behind.
+/// The targets, each with a space after it.
 fn targets_of(alloc: Global, links: &Vec<String>) -> Result<String, Error> {
     let mut targets = String::new(alloc);
     for link in links {
@@ -290,7 +290,7 @@ fn a_link_that_the_top_refuses_to_begin_is_open(rt: HostRuntime) -> Result<(), F
     Ok(())
 }
 
-/// Pushes a renderer, or refuses for want of memory and changes nothing.
+/// Pushes a renderer, or memory is refused and nothing changes.
 fn pushes_or_refuses(rt: &impl Abort, stack: &mut TextRenderer<PlainDecorator>) {
     let depth = stack.depth();
     match push(rt, stack, 5) {
@@ -305,7 +305,7 @@ fn top_of(rt: &impl Abort, stack: &TextRenderer<PlainDecorator>) -> (usize, Opti
     (stack.open_links(), stack.top().failure())
 }
 
-/// Makes a call, or refuses for want of memory for good.
+/// Makes a call, or memory is refused for good.
 fn answers_or_fails(
     rt: &impl Abort,
     stack: &mut TextRenderer<PlainDecorator>,

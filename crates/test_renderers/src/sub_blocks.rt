@@ -1,4 +1,4 @@
-//! Worked examples of blocks inside, whose lines stand behind prefixes.
+//! Worked examples of blocks inside, whose lines come after prefixes.
 use crate::expected::Expected::{Lines, LinesUnder, Markers, Pieces, Refused};
 use crate::expected::{Example, meet_all};
 use std::alloc::Global;
@@ -220,7 +220,7 @@ fn quoted_item(alloc: Global) -> Result<String, Error> {
     document.into_string()
 }
 
-/// A renderer of one column that takes the lines of another behind a prefix.
+/// A renderer of one column that takes the lines of another after a prefix.
 fn around(
     alloc: Global,
     inside: SubRenderer<PlainDecorator>,
@@ -230,7 +230,7 @@ fn around(
     Ok(around)
 }
 
-/// A line behind as many prefixes, each of another renderer.
+/// A line after as many prefixes, each of another renderer.
 fn nested(alloc: Global, depth: usize) -> Result<String, Error> {
     let mut r = plain(alloc, 1, Told::Nothing);
     r.add_inline_text("a")?;

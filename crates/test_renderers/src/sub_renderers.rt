@@ -9,7 +9,7 @@ use test_calls::calls::Call::{Ends, Line, Mode, Opens, Preformat, Text};
 use test_calls::calls::{Call, End, Opening, Shown, handed_out, make_all, tells};
 use test_calls::told::{Told, Under, options};
 
-/// A renderer behind calls, of which the first may refuse, and the pieces of a text in one of five columns inside.
+/// A renderer after calls, of which the first may refuse, and the pieces of a text in one of five columns inside.
 #[derive(Clone, Copy)]
 struct Inside {
     name: &'static str,

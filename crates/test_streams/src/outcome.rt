@@ -16,6 +16,7 @@ pub struct Slow {
 }
 
 impl Slow {
+    /// A writer that takes so many bytes a call, and fails after so many calls.
     pub fn new(alloc: Global, bytes_a_call: usize, calls: usize) -> Slow {
         Slow {
             held: Vec::new(alloc),
@@ -58,7 +59,7 @@ fn told_of(alloc: Global, e: RunError) -> Result<String, Fail> {
     Ok(format!(in alloc; "{status}: {line}")?)
 }
 
-/// What is written and, behind it, the status and line of a refusal.
+/// What is written and, after it, the status and line of a refusal.
 pub fn outcome(alloc: Global, reader: impl Read + Drop, writer: Slow) -> Result<String, Fail> {
     let (ended, held) = ended(alloc, reader, writer);
     let mut told = String::from_utf8(held)?;

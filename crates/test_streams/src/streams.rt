@@ -6,7 +6,7 @@ use std::io::{ErrorKind, Read};
 use std::process::Abort;
 use std::test::Fail;
 
-/// A reader that has these bytes, gives so many of them a call, and fails behind them.
+/// A reader that has these bytes, gives so many of them a call, and fails after them.
 #[derive(Drop)]
 struct Cut<'a> {
     bytes: &'a [u8],
@@ -84,7 +84,7 @@ fn failing_streams_are_told(rt: HostRuntime) -> Result<(), Fail> {
 
 const TEXT: &[u8] = b"Hello,\nworld.\nSuperlon\ngwordrea\nlly\n";
 
-/// What is told of a writer that takes three bytes a call and fails behind so many calls.
+/// What is told of a writer that takes three bytes a call and fails after so many calls.
 fn told_behind(alloc: Global, calls: usize) -> Result<Vec<u8>, Fail> {
     let mut told = Vec::new(alloc);
     for byte in TEXT.iter().take(calls.saturating_mul(3)) {
@@ -131,7 +131,7 @@ fn streams_that_fail_anywhere_are_told(rt: HostRuntime) -> Result<(), Fail> {
     readers_fail(&rt, rt.alloc())
 }
 
-/// A collapsing row, in whose first cell stands a row.
+/// A collapsing row, whose first cell has a row in it.
 const NESTED: &str =
     "new 5 plain\nborder\ncell 3 1\nborder\ncell 1 1\ntext 1\nendcell\ncell 1 1\ntext 2\nendcell\nrow\nendcell\ncell 1 1\ntext xy\nendcell\nrow collapse";
 

@@ -12,7 +12,7 @@ use std::alloc::Global;
 use tbr_decor::{Colour, RichAnnotation, TextDecorator, text, usual};
 use tbr_lines::{OutOfMemory, TaggedLine};
 
-/// A newline stands before a link and U+200B behind it; every other text is empty.
+/// A newline comes before a link and U+200B after it. Every other text is empty.
 #[derive(Clone, Drop)]
 pub struct OddDecorator {}
 

@@ -56,8 +56,8 @@ pub fn append_pieces<T: Debug>(
     Ok(())
 }
 
-/// Appends a line's elements, with `|` between them: each piece's text behind the initial of its tag, each marker's
-/// name behind `#`.
+/// Appends a line's elements, with `|` between them: each piece's text after the initial of its tag, each marker's name
+/// after `#`.
 pub fn append_elements(all: &mut String, line: &TaggedLine<Voice>) -> Result<(), OutOfMemory> {
     let mut first = true;
     for element in line.iter() {

@@ -24,7 +24,7 @@ rows_of (call c ∷ acts) = rows_of acts
 rows_of (row collapses cells ∷ acts) = cells ∷ rows_of acts
 
 module _ {D A : Type 0} (columns : ℕ → Option ℕ) (decoration : Decoration D A) where
-  -- What one that succeeds leaves, and the entries that it brings. A row comes behind a flush, and brings its texts as
+  -- What one that succeeds leaves, and the entries that it brings. A row comes after a flush, and brings its texts as
   -- laid ones.
   abbrev pub ActBrings : Act (List A) → Renderer D A (List A) → List (Entry (List A)) → Renderer D A (List A) → Type 0
   ActBrings (call c) r es s = Does columns decoration c r s × (es ≡ entries_brought columns decoration c r)
@@ -47,7 +47,7 @@ module _ {D A : Type 0} (columns : ℕ → Option ℕ) (decoration : Decoration 
 
 -- ---- what adds lines
 
--- A row that was put: to which renderer, behind the flush, and what came of it.
+-- A row that was put: to which renderer, after the flush, and what came of it.
 pub record PutRow (D A : Type 0) (columns : ℕ → Option ℕ) : Type 0 where
   pub before : Renderer D A (List A)
   pub behind : Renderer D A (List A)
@@ -97,7 +97,7 @@ StaysLine (border b) (border c) = ⊤
 StaysLine (text is) (border c) = ⊥
 StaysLine (border b) (text js) = ⊥
 
--- The lines are those that there were and those of the pieces, one behind another. The entries of the pieces, and then
+-- The lines are those that there were and those of the pieces, one after another. The entries of the pieces, and then
 -- the open run, are what there was of the open run and what came. The rows among the pieces are those of these cells.
 pub record ComesInPieces {D A : Type 0} (columns : ℕ → Option ℕ) (rows : List (List (GivenCell (List A))))
     (r : Renderer D A (List A)) (es : List (Entry (List A))) (s : Renderer D A (List A)) : Type 0 where

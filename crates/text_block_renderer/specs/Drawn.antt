@@ -9,7 +9,7 @@ use Rattle.tbr_renderer.specs.declared.options.RenderOptions.{RenderOptions}
 use Rattle.tbr_renderer.specs.Renderer.{Line, text, Renderer}
 use Rattle.tbr_renderer.specs.Calls.{Call, add_border, append_vert_row}
 
--- A line as it is, or a border that was drawn as text: cells under a tag, with so many spaces behind them.
+-- A line as it is, or a border that was drawn as text: cells under a tag, with so many spaces after them.
 pub data Put (T : Type 0) : Type 0 where
   as_it_is : Line T → Put T
   drawn : List Cell → ℕ → T → Put T
@@ -47,7 +47,7 @@ CameWithoutDrawnBorders {D} {A} borders R r s =
 
 -- ---- the borders of calls
 
--- a slashed one between each two of so many cells, and a plain one behind
+-- a slashed one between each two of so many cells, and a plain one after them
 abbrev pub row_borders : ℕ → ℕ → List (List Cell)
 row_borders width cells = replicate (cells - 1) (replicate width slash) ++ replicate width horizontal ∷ []
 

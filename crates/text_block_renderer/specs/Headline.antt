@@ -22,7 +22,7 @@ module _ {D A : Type 0} (columns : ℕ → Option ℕ) where
       may_overflow r ≡ false → IsNormal b.run → NoneIsAhead columns (block_width r) b.run texts
   NoLayoutIsAhead other = ⊤
 
-  -- Of any run that ended: its visible characters stand in its lines once, in order, each under an annotation of its
+  -- Of any run that ended: its visible characters are in its lines once, in order, each under an annotation of its
   -- call; in a `Normal` run under the main one.
   abbrev pub StandsOnce : Piece D A columns → Type 0
   StandsOnce (part (ended r b texts)) =
@@ -32,7 +32,7 @@ module _ {D A : Type 0} (columns : ℕ → Option ℕ) where
 
 -- ---- cells side by side
 
--- a line is no wider than its cell: a text, or a border that nothing stands in front of
+-- a line is no wider than its cell: a text, or a border with nothing in front of it
 abbrev pub FitsCell : {T : Type 0} → (ℕ → Option ℕ) → ℕ → Line T → Type 0
 FitsCell columns width (text is) = items_width columns is ≤ width
 FitsCell columns width (border b) = (length b.cells ≤ width) × (b.holes ≡ [])

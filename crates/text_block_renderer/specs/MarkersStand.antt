@@ -1,4 +1,4 @@
--- Where markers stand among the characters that calls brought, and which of them wait.
+-- Where markers are among the characters that calls brought, and which of them wait.
 use Rattle.std.specs.Prelude.{◌≡◌, ℕ, true, false, Option, None, Some, List, [], ◌∷◌, ◌++◌, filter}
 use Rattle.std.specs.List.{AllZip}
 use Rattle.tbr_model.specs.Run.{Entry, Item, is_kept, kept_items, has_character, trailing}
@@ -9,27 +9,27 @@ use Rattle.tbr_lines.specs.State.{IsNormal, AreLastOf}
 use Rattle.tbr_renderer.specs.Renderer.{Line, text, border, Renderer, may_overflow, open_run}
 use Rattle.tbr_renderer.specs.Calls.{text_of_lines}
 
--- the items of the lines of text, and behind them the markers that wait
+-- the items of the lines of text, and after them the markers that wait
 abbrev pub items_so_far : {D A : Type 0} → Renderer D A (List A) → List (Item (List A))
 items_so_far r = text_of_lines r.lines ++ marker_items r.waiting
 
--- Of the entries that came, those of the open run stand nowhere yet. The others stand in the lines of text, or are
+-- Of the entries that came, those of the open run are in no line yet. The others are in the lines of text, or are
 -- markers that wait.
 pub record Stands {D A : Type 0} (columns : ℕ → Option ℕ) (r : Renderer D A (List A))
     (es : List (Entry (List A))) : Type 0 where
   pub ended : List (Entry (List A))
   pub whole : ended ++ open_run r.block ≡ es
-  -- once and in order: so each marker stands between the same visible characters
+  -- once and in order: so each marker is between the same visible characters
   pub order : AllZip (ShowsEntry (λ a b. a ≡ b))
       (filter (is_visible_or_marker columns) (items_so_far r)) (filter (is_entry_to_show columns) ended)
   pub markers : names_in_items (text_of_lines r.lines) ++ r.waiting ≡ names_in_run ended
-  -- no marker waits that has a visible character behind it
+  -- no marker waits that has a visible character after it
   pub waits : AreLastOf r.waiting (names_behind (is_visible columns) ended)
   -- the same of kept characters in `Normal`; gaps and padding are U+0020
   pub kept : IsNormal ended → without_spaces (items_so_far r) ≡ kept_items columns ended
   pub waits_kept : IsNormal ended → AreLastOf r.waiting (names_behind (is_kept columns) ended)
 
--- What a flush makes stand and wait. Markers that waited count as the first of the run.
+-- What a flush puts into lines, and what it makes wait. Markers that waited count as the first of the run.
 pub record FlushStands {D A : Type 0} (columns : ℕ → Option ℕ) (run : List (Entry (List A)))
     (r s : Renderer D A (List A)) : Type 0 where
   pub waits : AreLastOf s.waiting (names_behind (is_visible columns) (marker_run r.waiting ++ run))

@@ -1,4 +1,4 @@
--- Blocks inside blocks, each behind prefixes of its own.
+-- Blocks inside blocks, each after prefixes of its own.
 use Rattle.std.specs.Prelude.{◌≡◌, ℕ, min, false, Option, None, Some, List, [], ◌∷◌, ◌++◌, map, length}
 use Rattle.std.specs.List.{slice_get}
 use Rattle.tbr_model.specs.Run.{Item}
@@ -9,17 +9,17 @@ use Rattle.tbr_renderer.specs.Renderer.{Line, text, Renderer}
 use Rattle.tbr_renderer.specs.Appended.{as_text, prefixed, HandsOut}
 use Rattle.tbr_renderer.specs.Calls.{append_subrender, Does}
 
--- A block inside others: a prefix for each line, and what they stand under.
+-- A block inside others: a prefix for each line, and the tag that they are under.
 pub record Level (T : Type 0) : Type 0 where
   pub tag : T
   pub prefixes : List (List ℕ)
 
--- lines behind the prefixes of all levels, of which the first is the outermost
+-- lines after the prefixes of all levels, of which the first is the outermost
 abbrev pub nested : {T : Type 0} → List (Level T) → List (Line T) → List (Line T)
 nested [] lines = lines
 nested (level ∷ levels) lines = map text (prefixed level.tag level.prefixes (nested levels lines))
 
--- the i-th prefixes of all levels, one behind another from the outermost
+-- the i-th prefixes of all levels, one after another from the outermost
 abbrev pub IsFront : {T : Type 0} → ℕ → List (Level T) → List (Item T) → Type 0
 IsFront i [] front = front ≡ []
 IsFront {T} i (level ∷ levels) front =
@@ -31,11 +31,11 @@ abbrev pub shortest : {T : Type 0} → List (Level T) → ℕ → ℕ
 shortest [] n = n
 shortest (level ∷ levels) n = min (length level.prefixes) (shortest levels n)
 
--- the visible characters of a prefix and of the line behind it
+-- the visible characters of a prefix and of the line after it
 abbrev pub visible_behind : {T : Type 0} → (ℕ → Option ℕ) → T → List ℕ × Line T → List (ℕ × T)
 visible_behind columns tag p = visible_glyphs columns (text_items p.0 tag) ++ visible_glyphs columns (as_text tag p.1)
 
--- A renderer to which nothing was added takes the lines inside behind the prefixes, and hands out its lines.
+-- A renderer to which nothing was added takes the lines inside after the prefixes, and hands out its lines.
 pub record HandsOn {D A : Type 0} (columns : ℕ → Option ℕ) (decoration : Decoration D A) (level : Level (List A))
     (inside lines : List (Line (List A))) : Type 0 where
   pub first : Renderer D A (List A)

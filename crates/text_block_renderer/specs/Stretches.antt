@@ -1,4 +1,4 @@
--- The lines of a run, which stand together for good.
+-- The lines of a run, which stay together for good.
 use Rattle.std.specs.Prelude.{◌≡◌, ℕ, ◌≤◌, false, ⊤, Option, Some, None, List, [], ◌∷◌, ◌++◌, map, flat_map, length, take}
 use Rattle.std.specs.List.{AllByRecursion as Each}
 use Rattle.tbr_model.specs.Run.{Entry, Item}
@@ -14,14 +14,14 @@ use Rattle.tbr_renderer.specs.Calls.{Call, add_border, append_subrender, append_
 use Rattle.tbr_lines.specs.Border.{without_holes}
 use Rattle.tbr_lines.specs.Cell.{Cell}
 
--- a text of a block as a line: behind markers, and padded to the block's width and to the renderer's
+-- a text of a block as a line: after markers, and padded to the block's width and to the renderer's
 abbrev pub line_of_text : {D A : Type 0} → (ℕ → Option ℕ) → Renderer D A (List A) → Open (List A) → List (List ℕ)
     → List (Item (List A)) → Line (List A)
 line_of_text columns r b names is =
     let line = marker_items names ++ (is ++ padding_of columns b.padding (block_width r) is) in
     text (line ++ line_padding columns r line)
 
--- texts of a block as lines, the first of them behind the markers that wait
+-- texts of a block as lines, the first of them after the markers that wait
 abbrev pub stretch : {D A : Type 0} →
     (ℕ → Option ℕ) → Renderer D A (List A) → Open (List A) → List (List (Item (List A))) → List (Line (List A))
 stretch columns r b [] = []
@@ -38,7 +38,7 @@ NoneIsAhead {T} columns width run texts =
     (others : List (List (Slot T))) → IsLegal width (slots_of columns width run) others →
     (n : ℕ) → placed n others ≤ items_on n texts
 
--- Where the open block's run ends, its lines are one stretch behind those that there are.
+-- Where the open block's run ends, its lines are one stretch after those that there are.
 pub record StandsAsStretch {D A : Type 0} (columns : ℕ → Option ℕ) (r : Renderer D A (List A)) (b : Open (List A))
     (lines : List (Line (List A))) : Type 0 where
   pub texts : List (List (Item (List A)))
@@ -70,7 +70,7 @@ abbrev pub padded_line : {D A : Type 0} →
     (ℕ → Option ℕ) → Renderer D A (List A) → List (Item (List A)) → Line (List A)
 padded_line columns r is = text (is ++ line_padding columns r is)
 
--- laid texts as lines, the first of them behind the markers that wait
+-- laid texts as lines, the first of them after the markers that wait
 abbrev pub lines_laid : {D A : Type 0} →
     (ℕ → Option ℕ) → Renderer D A (List A) → List (List (Item (List A))) → List (Line (List A))
 lines_laid columns r [] = []
@@ -84,13 +84,13 @@ pub data Part (D A : Type 0) : Type 0 where
   laid : Renderer D A (List A) → List (Item (List A)) → Part D A
   ruled : Renderer D A (List A) → List Cell → Part D A
 
--- the entries that stand there
+-- the entries that are there
 abbrev pub entries_of_part : {D A : Type 0} → Part D A → List (Entry (List A))
 entries_of_part (ended r b texts) = b.run
 entries_of_part (laid r is) = laid_entries is
 entries_of_part (ruled r cells) = []
 
--- the border that stands there
+-- the border that is there
 abbrev pub borders_of_part : {D A : Type 0} → Part D A → List (List Cell)
 borders_of_part (ended r b texts) = []
 borders_of_part (laid r is) = []
@@ -123,7 +123,7 @@ IsPart columns first (laid r is) = IsBetweenBlocks first r
 IsPart columns first (ruled r cells) = IsBetweenBlocks first r
 
 -- The lines that came are the stretches of the runs that ended, laid texts, and borders. These runs and the entries of
--- these texts, one behind another, and then the open run are what there was of the open run and what came.
+-- these texts, one after another, and then the open run are what there was of the open run and what came.
 pub record ComesInParts {D A : Type 0} (columns : ℕ → Option ℕ) (r : Renderer D A (List A))
     (es : List (Entry (List A))) (s : Renderer D A (List A)) : Type 0 where
   pub parts : List (Part D A)

@@ -5,19 +5,19 @@ use Rattle.tbr_renderer.specs.Renderer.{Line, Renderer}
 use Rattle.tbr_renderer.specs.Appended.{HandsOut}
 use Rattle.tbr_renderer.specs.Calls.{Call, append_subrender, append_vert_row, Steps}
 
--- They stand there in order, with others between.
+-- They are there in order, with others between.
 abbrev pub StandWithin : {X : Type 0} → List X → List X → Type 0
 StandWithin [] ys = ⊤
 StandWithin (x ∷ xs) [] = ⊥
 StandWithin (x ∷ xs) (y ∷ ys) = ((x ≡ y) × StandWithin xs ys) ⊎ StandWithin (x ∷ xs) ys
 
--- a call that takes the lines, behind as many prefixes or as a cell
+-- a call that takes the lines, after as many prefixes or as a cell
 abbrev pub Takes : {T : Type 0} → List (Line T) → Call T → Type 0
 Takes lines (append_subrender prefixes taken) = (taken ≡ lines) × (length lines ≤ length prefixes)
 Takes {T} lines (append_vert_row cells) = (front back : List (List (Line T))) × (cells ≡ front ++ lines ∷ back)
 Takes lines other = ⊥
 
--- A renderer takes the lines at one of its calls, and hands out its own behind the last.
+-- A renderer takes the lines at one of its calls, and hands out its own after the last.
 pub record TakesIn {D A : Type 0} (columns : ℕ → Option ℕ) (decoration : Decoration D A)
     (inside outside : List (Line (List A))) : Type 0 where
   pub first : Renderer D A (List A)

@@ -9,7 +9,7 @@ use Rattle.tbr_renderer.specs.Appended.{border_of_cells, as_text}
 abbrev pub cell_lines : {D A : Type 0} → Renderer D A (List A) → List (Line (List A)) → List (Line (List A))
 cell_lines r lines = map (λ line. text (as_text r.annotations line)) lines
 
--- the cells with a slashed border between each two, and a plain one behind
+-- the cells with a slashed border between each two, and a plain one after them
 abbrev pub row_lines : {D A : Type 0} → Renderer D A (List A) → List (List (Line (List A))) → List (Line (List A))
 row_lines r cells =
     let slashed = border (border_of_cells slash r.width r) in

@@ -63,9 +63,9 @@ pub fn normal_calls_keep_text_normal<D, A>()
         WrapsNormally r → PushesNormal call → Does columns decoration call r s → WrapsNormally s }
 {}
 
-/// After any calls the visible characters of what they brought stand in the lines of text, but for those of the open
-/// run, once and in order, each under an annotation of its call. Borders that padding made text aren't looked at. To a
-/// new renderer nothing was brought.
+/// After any calls the visible characters of what they brought are in the lines of text, but for those of the open run.
+/// They are there once and in order, each under an annotation of its call. Borders that padding made text aren't looked
+/// at. To a new renderer nothing was brought.
 pub fn visible_characters_stand_once<D, A>()
     ensures calls { (columns : ℕ → Option ℕ) (decoration : Decoration D A) (calls : List (Call (List A)))
         (r s : Renderer D A (List A)) (borders : List (List Cell)) (before es : List (Entry (List A))) →
@@ -80,10 +80,10 @@ pub fn visible_characters_stand_once<D, A>()
         Brings columns decoration calls r es s → Shows columns r before → Shows columns s (before ++ es) }
 {}
 
-/// After any calls what they brought stands in the lines of text, or is a marker that waits, but for the open run: the
-/// visible characters and the markers once and in order, and in `Normal` all kept characters and markers. No marker
-/// waits that has a visible character behind it. To a new renderer nothing was brought. Borders that padding made text
-/// aren't looked at.
+/// After any calls what they brought is in the lines of text, or is a marker that waits, but for the open run. The
+/// visible characters and the markers are there once and in order, and in `Normal` all kept characters and markers. No
+/// marker waits that has a visible character after it. To a new renderer nothing was brought. Borders that padding made
+/// text aren't looked at.
 pub fn what_was_brought_stands<D, A>()
     ensures calls { (columns : ℕ → Option ℕ) (decoration : Decoration D A) (calls : List (Call (List A)))
         (r s : Renderer D A (List A)) (borders : List (List Cell)) (before es : List (Entry (List A))) →
@@ -100,9 +100,10 @@ pub fn what_was_brought_stands<D, A>()
         Stands columns (new_renderer {D = D} {A = A} width options decorator) [] }
 {}
 
-/// What a flush makes stand and wait: the markers that wait then come, in the run or before it, behind the last visible
-/// character of the run, in a `Normal` run behind the last kept one. The kept characters and the markers of a `Normal`
-/// run come in order behind all that stood and waited. Where it may not overflow, just its trailing markers wait.
+/// What a flush puts into lines, and what it makes wait. The markers that wait then come, in the run or before it,
+/// after the last visible character of the run, in a `Normal` run after the last kept one. The kept characters and the
+/// markers of a `Normal` run come in order after all that was in lines or waited. Where it may not overflow, just its
+/// trailing markers wait.
 pub fn what_a_flush_makes_stand<D, A>()
     ensures { (columns : ℕ → Option ℕ) (r s : Renderer D A (List A)) →
         Flushes columns r s → FlushStands columns (open_run r.block) r s }
@@ -118,17 +119,17 @@ pub fn waiting_markers_begin_the_next_text<D, A>()
         (r s : Renderer D A (List A)) → DrawNone r calls → Steps columns decoration calls r s → WaitForText r s }
 {}
 
-/// The lines of a run stand together for good, where a flush put them: the first behind the markers that waited, and
-/// each with its padding. After any number of lines no legal layout of a `Normal` run that may not overflow has placed
-/// more of it.
+/// The lines of a run stay together for good, where a flush put them: the first after the markers that waited, and each
+/// with its padding. After any number of lines no legal layout of a `Normal` run that may not overflow has placed more
+/// of it.
 pub fn a_run_is_one_stretch<D, A>()
     ensures { (columns : ℕ → Option ℕ) (decoration : Decoration D A) (calls : List (Call (List A)))
         (r q s : Renderer D A (List A)) (b : Open (List A)) → r.block ≡ Some b → Flushes columns r q →
         Steps columns decoration calls q s → StandsAsStretch columns r b s.lines }
 {}
 
-/// Whatever calls come, the run of an open block goes on, or it ends as one stretch of the lines: with the first of the
-/// entries that came, and behind all lines that there were.
+/// Whatever calls come, the run of an open block goes on, or it ends as one stretch of the lines. The stretch has the
+/// first of the entries that came too, and comes after all lines that there were.
 pub fn each_open_run_ends_as_one_stretch<D, A>()
     ensures { (columns : ℕ → Option ℕ) (decoration : Decoration D A) (calls : List (Call (List A)))
         (r s : Renderer D A (List A)) (b : Open (List A)) (es : List (Entry (List A))) → r.block ≡ Some b →
@@ -136,7 +137,7 @@ pub fn each_open_run_ends_as_one_stretch<D, A>()
 {}
 
 /// The lines that calls add are the stretches of the runs that ended, laid texts, as empty lines are, and the borders
-/// of the calls. What the calls brought are these runs and the entries of these texts, one behind another, and then the
+/// of the calls. What the calls brought are these runs and the entries of these texts, one after another, and then the
 /// run that is open. Calls that append nothing add stretches and empty lines alone.
 pub fn lines_are_stretches_laid_texts_and_borders<D, A>()
     ensures calls { (columns : ℕ → Option ℕ) (decoration : Decoration D A) (calls : List (Call (List A)))

@@ -4,7 +4,7 @@ use crate::column::{widths, Column};
 use text_block_renderer::{Cell, Error, Options, Renderer};
 
 /// A title, a table of records, of which the first has the headings, and how many there are. Where the columns don't
-/// fit the width, the fields of each record stand one below another.
+/// fit the width, the fields of each record come one below another.
 pub fn report(title: &str, records: &[Vec<String>], width: usize) -> Result<String, Error> {
     let mut page = Renderer::new(&Options::plain(width).draw_borders(false).allow_width_overflow(true))?;
     let prefix = page.header_prefix(1)?;
@@ -63,7 +63,7 @@ fn rule(page: &mut Renderer, widths: &[usize]) -> Result<(), Error> {
     page.append_columns_with_borders(false)
 }
 
-/// A block for each record, in which each field stands behind its heading.
+/// A block for each record, in which each field comes after its heading.
 fn below(page: &mut Renderer, headings: &[String], records: &[Vec<String>]) -> Result<(), Error> {
     for record in records {
         page.start_block()?;

@@ -6,7 +6,7 @@ use text_block_renderer::{Cell, CellAlign, Colour, Error, ImageRenderMode, Optio
 /// A call without arguments.
 type Call = fn(&mut Renderer) -> Result<(), Error>;
 
-/// A line behind the first command.
+/// A line after the first command.
 pub enum Command {
     Plain(Call),
     Text(String),

@@ -16,7 +16,7 @@ pub fn text(writing: &str) -> Option<String> {
     Some(text)
 }
 
-/// The character of the escape that begins behind a backslash, and what follows the escape.
+/// The character of the escape that begins after a backslash, and what follows the escape.
 fn escape(after: &str) -> Option<(char, &str)> {
     let mut rest = after.chars();
     match rest.next()? {

@@ -15,7 +15,7 @@ pub enum BorderSegHoriz {
     JoinCross,
     /// `│`: up and down.
     Vert,
-    /// `/`, which parts cells that stand below each other.
+    /// `/`, which parts cells that are below each other.
     HorizVert,
     /// `┤`: up, down and to the left.
     JoinLeft,
@@ -139,7 +139,7 @@ impl BorderSegHoriz {
         }
     }
 
-    /// What stands above the cell: `│` above `┴`, `┼`, `└` and `┘`, else a space.
+    /// What is above the cell: `│` above `┴`, `┼`, `└` and `┘`, else a space.
     pub(crate) fn line_above(self) -> char
         ensures { result ≡ model.line_above (model.cell_of self) }
     {

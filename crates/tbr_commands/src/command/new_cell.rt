@@ -13,12 +13,13 @@ pub struct NewCell {
     pub width: usize,
     /// The rows that it takes, at least 1.
     pub span: usize,
-    /// Where its lines stand in its columns.
+    /// Where its lines are in its columns.
     pub align: CellAlign,
 }
 
 impl NewCell {
-    /// The cell that a width, a span and perhaps an alignment are, with exactly one space between two of them.
+    /// The cell that a width, a span and perhaps an alignment are, with exactly one space between two of them. `None`
+    /// where they are no cell.
     pub fn parse(writing: &str) -> Option<NewCell>
         ensures found { IfSome result (λ cell. IsNewCell writing.now cell.width cell.span cell.align) }
         ensures none { IfNone result ((width span : ℕ) (align : Meant) →
@@ -32,7 +33,7 @@ impl NewCell {
     }
 }
 
-/// The alignment that the words behind a span tell: the left one, if there are none.
+/// The alignment that the words after a span tell: the left one, if there are none.
 fn alignment(mut words: Words<'_>) -> Option<CellAlign>
     ensures found { IfSome result (λ align. IsAlignment words.entry align) }
     ensures none { IfNone result ((align : Meant) → IsAlignment words.entry align → ⊥) }

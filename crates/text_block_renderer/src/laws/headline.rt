@@ -6,15 +6,17 @@ ghost use Rattle.tbr_renderer.specs.Renderer.{Renderer};
 ghost use Rattle.text_block_renderer.specs.Acts.{Act, ActsBring};
 ghost use Rattle.text_block_renderer.specs.Headline.{Headline};
 
-/// Whatever calls and rows of cells come to a renderer and succeed: after any number of lines no legal layout of a
-/// `Normal` run has placed more of it than the renderer has; each run's visible characters stand in the renderer's
-/// lines once, in order, under equal annotations; each cell of a row shows its texts once, in order, in its own
-/// columns, also in the borders that it spans; and wrapping at two columns or more never answers `TooNarrow`.
+/// Whatever calls and rows of cells come to a renderer and succeed:
+///
+/// - After any number of lines no legal layout of a `Normal` run has placed more of it than the renderer has.
+/// - Each run's visible characters are in the renderer's lines once, in order, under equal annotations.
+/// - Each cell of a row shows its texts once, in order, in its own columns, also in the borders that it spans.
+/// - Wrapping at two columns or more never answers `TooNarrow`.
 ///
 /// Legal layouts are compared where no line may be wider than the block: overflow isn't allowed, or the block has two
-/// columns or more. Of cells it is said where no cell overhung at first, the lines of all of them fit, none is a border
-/// with text in front of it, as a row leaves below a spanning cell, and all rows of a cell's span come. The last
-/// promise is of characters that take two columns at most.
+/// columns or more. Of cells it is said where no cell overhung at first, the lines of all of them fit, and all rows of
+/// a cell's span come. None of these lines is then a border with text in front of it, as a row leaves below a spanning
+/// cell. The last promise is of characters that take two columns at most.
 pub fn the_headline<D, A>()
     ensures { (columns : ℕ → Option ℕ) (decoration : Decoration D A) (acts : List (Act (List A)))
         (r s : Renderer D A (List A)) (es : List (Entry (List A))) →

@@ -8,7 +8,7 @@ ghost use Rattle.tbr_stack.specs.Stack.{Stack, new_stack};
 ghost use Rattle.tbr_stack.specs.Links.{first_open, open_links, StartsLink, EndsLink};
 ghost use Rattle.tbr_stack.specs.StackCalls.{StackCall, targets_of, IsNextToEnd, IsNextNumber, StackSteps, EndsAsNumber};
 
-/// A link that ends brings its own number, whatever calls come in between, and however deep links and renderers lie in
+/// A link that ends brings its own number, whatever calls come in between, and however deep links and renderers are in
 /// one another: the place of its target, from 1. Of a new stack, a link that is open in the top is one that started.
 pub fn a_link_ends_with_its_own_number<D, A>()
     ensures number { (columns : ℕ → Option ℕ) (decoration : Decoration D A) (target : List ℕ)
@@ -22,7 +22,7 @@ pub fn a_link_ends_with_its_own_number<D, A>()
         IsNextNumber calls k }
 {}
 
-/// No call takes a target away or moves one: those of the links that start come behind the others. So the default
+/// No call takes a target away or moves one: those of the links that start come after the others. So the default
 /// footnotes have a link's target on the line of its number.
 pub fn a_target_stands_at_the_number_of_its_link<D, A>()
     ensures targets { (columns : ℕ → Option ℕ) (decoration : Decoration D A) (calls : List StackCall)

@@ -8,7 +8,7 @@ ghost use Rattle.tbr_renderer.specs.Rows.{GivenCell, AppendsRow};
 ghost use Rattle.text_block_renderer.specs.Normal.{WrapsNormally};
 ghost use Rattle.text_block_renderer.specs.Acts.{Act, ActsBring};
 
-/// A row takes no line of text back: its texts come behind those that there are.
+/// A row takes no line of text back: its texts come after those that there are.
 pub fn a_row_takes_no_text_back<D, A>()
     ensures { (columns : ℕ → Option ℕ) (collapses : Bool) (cells : List (GivenCell (List A)))
         (r s : Renderer D A (List A)) → AppendsRow columns collapses cells r s →
@@ -36,9 +36,9 @@ pub fn normal_rows_keep_text_normal<D, A>()
         WrapsNormally r → AppendsRow columns collapses cells r s → WrapsNormally s }
 {}
 
-/// After any calls and rows the visible characters of what they brought stand in the lines of text, but for those of
-/// the open run, once and in order, each under an annotation of its call, where lines aren't padded. A row brings the
-/// texts of its lines.
+/// After any calls and rows the visible characters of what they brought are in the lines of text, but for those of the
+/// open run. They are there once and in order, each under an annotation of its call, where lines aren't padded. A row
+/// brings the texts of its lines.
 pub fn visible_characters_stand_once_with_rows_too<D, A>()
     ensures { (columns : ℕ → Option ℕ) (decoration : Decoration D A) (acts : List (Act (List A)))
         (r s : Renderer D A (List A)) (before es : List (Entry (List A))) → r.options.pad_block_width ≡ false →

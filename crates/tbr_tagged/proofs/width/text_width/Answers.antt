@@ -5,7 +5,7 @@ use Rattle.tbr_model.specs.Width.{width_of_text}
 use Rattle.tbr_tagged.proofs.TextColumns.{turn_and_rest, width_of_text-append, width_of_text-beginning}
 use Rattle.tbr_tagged.proofs.width.text_width.Goals as goal
 
--- what comes behind can only make the sum larger
+-- what comes after can only make the sum larger
 pub returns-in_default : goal.returns-in_default
 returns-in_default g c =
     let columns = g.W.CharWidth.columns in

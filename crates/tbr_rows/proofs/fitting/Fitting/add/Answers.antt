@@ -41,7 +41,7 @@ module _ {A : Type 0} (width : ℕ) (blank : Bool) (i : Inside A) (apart : AreAp
       subst (λ k. IsAsked (seen i) (seen k) width blank) (sym is)
       (subst (λ hs. IsAsked (seen i) (record { waiting = hs; at = i.at; fits = fits }) width blank) (left next rest steps) before)
 
--- and once it has gone behind the cell
+-- and once it has gone past the cell
 module _ {A : Type 0} (width : ℕ) (blank : Bool) (i j : Inside A) (f : Fitting A) (asked : IsAsked (seen i) (seen j) width blank) (same : seen i ≡ f) where
   with_first : (o : Option (Bor (Cell A))) → j.first ≡ o → IsAsked f (record { waiting = waiting_cells o j.rest; at = j.at; fits = j.fits }) width blank
   with_first o is =
