@@ -1,5 +1,12 @@
-pub mod NormalTexts
-pub mod TerminalColumns
-pub mod PreservedTexts
-pub mod Markers
+pub mod Words
+pub mod Gaps
+pub mod Strokes
 pub mod WideCharacters
+pub mod Overflow
+pub mod PreTexts
+pub mod PreWrapTexts
+pub mod ContinuedLines
+pub mod Tabs
+pub mod Markers
+pub mod WaitingMarkers
+pub mod TerminalColumns

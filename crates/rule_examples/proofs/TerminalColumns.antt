@@ -9,6 +9,7 @@ use Rattle.rule_examples.specs.Scripts.{text, flush, made, lines_of, line}
 
 pub words_are_wrapped : {A : Type 0} (a b : A) →
     lines_of (made unicode_columns 8 false (text Normal a b (codes "Hello, world.  Superlongwordreally") ∷ flush ∷ []))
-    ≡ done (line a (codes "Hello,") ∷ line a (codes "world.") ∷ line a (codes "Superlon") ∷ line a (codes "gwordrea") ∷ line a (codes "lly") ∷ [])
+    ≡ done (line a (codes "Hello,") ∷ line a (codes "world.")
+    ∷ line a (codes "Superlon") ∷ line a (codes "gwordrea") ∷ line a (codes "lly") ∷ [])
 unfolding char_width
 words_are_wrapped a b = refl
