@@ -43,8 +43,8 @@ def build():
 
 
 def instructions(program, script, folder):
-    """The instructions that a program takes, or none where it refuses the script."""
-    words = ["valgrind", "--tool=callgrind", f"--callgrind-out-file={folder}/callgrind", program]
+    """The instructions that a program takes, whose words are parted by spaces, or none where it refuses the script."""
+    words = ["valgrind", "--tool=callgrind", f"--callgrind-out-file={folder}/callgrind", *program.split()]
     with open(script, "rb") as source:
         ran = subprocess.run(words, stdin=source, stdout=subprocess.DEVNULL, stderr=subprocess.PIPE, text=True)
     if ran.returncode:

@@ -1,10 +1,13 @@
 -- What loops append, one part after another.
 use Rattle.std.proofs.Common.{◌≡◌, ℕ, ◌+◌, ◌<◌, Bool, true, false, not, Option, Some, Result, Ok, Err, List, [], ◌∷◌, ◌++◌, length, get_or, take, refl, ap, sym, ◌∙◌, map, append_assoc, append-nil}
-use Rattle.std.specs.Prelude.{flat_map, OnOk}
+use Rattle.std.specs.Prelude.{flat_map, OnOk, ◌&&◌, if◌then◌else◌}
+use Rattle.std.specs.List.{list_all}
 use Rattle.std.specs.Char.{is_control}
 use Rattle.std.proofs.lemmas.List.{take_more, map_push}
 use Rattle.std.proofs.lemmas.List.Concat.{flat_map-append}
 use Rattle.std.proofs.lemmas.List.Elements.{filter-append}
+use Rattle.std.proofs.lemmas.Bool.{false≢true}
+use Rattle.tbr_lines.specs.Elements.{Element, element_characters, characters}
 use Rattle.tbr_show.specs.Written.{printable}
 use Rattle.tbr_show.specs.Html.{escaped, between, is_wide_after, shown_from, shown}
 
@@ -25,6 +28,25 @@ printable_control cs c h = filter-append (λ (d : ℕ). not (is_control d)) cs (
 
 pub printable_shown : (cs : List ℕ) (c : ℕ) → is_control c ≡ false → printable (cs ++ c ∷ []) ≡ printable cs ++ c ∷ []
 printable_shown cs c h = filter-append (λ (d : ℕ). not (is_control d)) cs (c ∷ []) ∙ rw h refl
+
+shown_first : (c : ℕ) (cs ds : List ℕ) (shows all : Bool) → (all ≡ true → ds ≡ cs) → (shows && all) ≡ true → (if shows then c ∷ ds else ds) ≡ c ∷ cs
+shown_first c cs ds true all f h = ap (λ (xs : List ℕ). c ∷ xs) (f h)
+shown_first c cs ds false all f h = absurd (false≢true h)
+
+-- nothing is left out where nothing is a control character
+pub printable_all : (cs : List ℕ) → list_all (λ c. not (is_control c)) cs ≡ true → printable cs ≡ cs
+printable_all [] h = refl
+printable_all (c ∷ cs) h = shown_first c cs (printable cs) (not (is_control c)) (list_all (λ d. not (is_control d)) cs) (printable_all cs) h
+
+-- what is shown of an element
+abbrev pub shown_of : {A : Type 0} → Element A → List ℕ
+shown_of e = printable (element_characters e)
+
+pub shown_of_each : {A : Type 0} (es : List (Element A)) → flat_map shown_of es ≡ printable (characters es)
+shown_of_each [] = refl
+shown_of_each (e ∷ es) =
+    ap (λ (cs : List ℕ). printable (element_characters e) ++ cs) (shown_of_each es)
+    ∙ sym (filter-append (λ (d : ℕ). not (is_control d)) (element_characters e) (characters es))
 
 module _ {X Y Z : Type 0} (f : Y → List Z) (g : X → Y) where
   pub flat_map-map_push : (xs : List X) (x : X) → flat_map f (map g (xs ++ x ∷ [])) ≡ flat_map f (map g xs) ++ f (g x)

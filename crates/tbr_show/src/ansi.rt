@@ -4,7 +4,7 @@ ghost use Rattle.tbr_lines.specs.View.{chars_of, element_of};
 ghost use Rattle.tbr_show.specs.Ansi as model;
 
 use crate::target::push_target;
-use crate::text::{push_ascii, push_char, push_parts, push_printable};
+use crate::text::{push_ascii, push_parts, push_printable};
 use tbr_decor::RichAnnotation;
 use tbr_lines::{OutOfMemory, TaggedLine, TaggedLineElement};
 
@@ -27,10 +27,8 @@ pub fn push_line(
 pub fn push_bare_line<T>(text: &mut String, line: &TaggedLine<T>) -> Result<(), OutOfMemory>
     ensures { OnOk result (chars_of text.new ≡ chars_of text.old ++ model.bare_line line.now) }
 {
-    for c in line.chars() {
-        if !c.is_control() {
-            push_char(text, c)?;
-        }
+    for element in line.iter() {
+        push_printable(text, element.as_str())?;
     }
     push_ascii(text, "\n")
 }

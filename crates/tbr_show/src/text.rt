@@ -1,7 +1,7 @@
 //! What is appended to a text. Each call refuses only for want of memory.
-ghost use Rattle.std.specs.Prelude.{◌≡◌, ◌++◌, ◌∷◌, [], chars, IsTrue, OnOk};
+ghost use Rattle.std.specs.Prelude.{◌≡◌, ◌++◌, ◌∷◌, [], chars, not, IsTrue, OnOk};
 ghost use Rattle.std.specs.List.{list_all};
-ghost use Rattle.std.specs.Char.{is_ascii};
+ghost use Rattle.std.specs.Char.{is_ascii, is_control};
 ghost use Rattle.std.specs.Fmt.{decimal};
 ghost use Rattle.tbr_lines.specs.View.{chars_of};
 ghost use Rattle.tbr_show.specs.Written.{printable, colour_parts};
@@ -37,6 +37,32 @@ pub fn push_decimal(text: &mut String, number: u8) -> Result<(), OutOfMemory>
 
 /// Appends the characters of a text, but for control characters. Where memory is refused some may be missing.
 pub fn push_printable(text: &mut String, more: &str) -> Result<(), OutOfMemory>
+    ensures { OnOk result (chars_of text.new ≡ chars_of text.old ++ printable (chars more.now)) }
+{
+    if is_printable(more) {
+        push_text(text, more)
+    } else {
+        push_each_printable(text, more)
+    }
+}
+
+/// Whether a text has no control characters.
+fn is_printable(text: &str) -> bool
+    ensures { result ≡ list_all (λ c. not (is_control c)) (chars text.now) }
+{
+    text.chars().all(|c| !c.is_control())
+}
+
+/// Appends a text as a whole.
+fn push_text(text: &mut String, more: &str) -> Result<(), OutOfMemory>
+    ensures { OnOk result (chars_of text.new ≡ chars_of text.old ++ chars more.now) }
+{
+    text.push_str(more)?;
+    Ok(())
+}
+
+/// Appends the characters of a text that are no control characters, one by one.
+fn push_each_printable(text: &mut String, more: &str) -> Result<(), OutOfMemory>
     ensures { OnOk result (chars_of text.new ≡ chars_of text.old ++ printable (chars more.now)) }
 {
     for c in more.chars() {

@@ -1,7 +1,8 @@
-use Rattle.std.proofs.Common.{◌≡◌, ◌++◌}
-use Rattle.tbr_lines.specs.View.{chars_of}
-use Rattle.tbr_show.specs.Written.{printable}
+use Rattle.std.proofs.Common.{◌≡◌, ◌++◌, map}
+use Rattle.std.specs.Prelude.{flat_map}
+use Rattle.tbr_lines.specs.View.{chars_of, element_of}
+use Rattle.tbr_show.proofs.Appended.{shown_of}
 use Rattle.tbr_show.proofs.ansi.push_bare_line.Given as goal
 
-abbrev pub invariant-loop-c : goal.invariant-loop-c
-invariant-loop-c g l = chars_of l.text ≡ chars_of l.initial.text ++ printable l.yielded
+abbrev pub invariant-loop-element : goal.invariant-loop-element
+invariant-loop-element g l = chars_of l.text ≡ chars_of l.initial.text ++ flat_map shown_of (map (λ e. element_of e.now) l.yielded)

@@ -1,11 +1,10 @@
-use Rattle.std.proofs.Common.{map-id, ap, sym, ◌∙◌, ◌++◌}
-use Rattle.std.proofs.lemmas.Iterator.{YieldsList-from_chars}
-use Rattle.std.proofs.lemmas.Iterator.Consumers.{YieldsList-end}
+use Rattle.std.proofs.Common.{ap, sym, ◌∙◌, ◌++◌, chars}
 use Rattle.tbr_lines.specs.View.{chars_of}
-use Rattle.tbr_show.specs.Written.{printable}
+use Rattle.tbr_show.proofs.Appended.{printable_all, on_ok_then}
 use Rattle.tbr_show.proofs.text.push_printable.Goals as goal
 
-pub returns : goal.returns
-returns c =
-    let end = YieldsList-end (YieldsList-from_chars c.args.more.now c.utf8.more cc) c.loop-c.yielded _ c.loop-c.yielded_by _ _ c.in-None.is c.next.ensures.steps in
-    c.loop-c.invariant ∙ ap (λ cs. chars_of c.args.text.now ++ printable cs) (sym (map-id c.loop-c.yielded) ∙ end.0)
+pub returns-then-is_printable : goal.returns-then-is_printable
+returns-then-is_printable c =
+    on_ok_then c.push_text.result
+    (λ h. h ∙ ap (λ cs. chars_of c.args.text.now ++ cs) (sym (printable_all (chars c.args.more.now) (sym c.is_printable.ensures ∙ c.if-is_printable.true))))
+    c.push_text.ensures

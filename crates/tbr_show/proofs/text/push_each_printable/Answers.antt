@@ -1,0 +1,11 @@
+use Rattle.std.proofs.Common.{map-id, ap, sym, ◌∙◌, ◌++◌}
+use Rattle.std.proofs.lemmas.Iterator.{YieldsList-from_chars}
+use Rattle.std.proofs.lemmas.Iterator.Consumers.{YieldsList-end}
+use Rattle.tbr_lines.specs.View.{chars_of}
+use Rattle.tbr_show.specs.Written.{printable}
+use Rattle.tbr_show.proofs.text.push_each_printable.Goals as goal
+
+pub returns : goal.returns
+returns c =
+    let end = YieldsList-end (YieldsList-from_chars c.args.more.now c.utf8.more cc) c.loop-c.yielded _ c.loop-c.yielded_by _ _ c.in-None.is c.next.ensures.steps in
+    c.loop-c.invariant ∙ ap (λ cs. chars_of c.args.text.now ++ printable cs) (sym (map-id c.loop-c.yielded) ∙ end.0)
