@@ -1,5 +1,8 @@
 /*
- * Prints a letter of the village: a heading, a paragraph with a link, a quote, a list and a table of prices.
+ * Prints a letter of the village: a paragraph with a link, a quote, a list and a table of prices.
+ *
+ * letter.out is what html2text's own renderer, version 0.17.4, gives after the same calls. That aligns no cell at the
+ * right, so spaces in front of the prices did.
  */
 #include <stdio.h>
 #include <stdlib.h>
