@@ -1,13 +1,15 @@
 -- What holds of each item that the rule lays holds of each item on the lines of a run.
-use Rattle.std.proofs.Common.{◌≡◌, ℕ, inl, inr, Bool, true, false, if◌then◌else◌, Option, List, [], ◌∷◌, refl, sym, subst}
+use Rattle.std.proofs.Common.{◌≡◌, ℕ, inl, inr, Bool, true, false, if◌then◌else◌, Option, List, [], ◌∷◌, fold, refl, sym, subst}
 use Rattle.std.specs.List.{AllByRecursion as Each}
 use Rattle.tbr_model.specs.Run.{Entry, character, marker_entry, Item, glyph, marker, item_width}
 use Rattle.tbr_model.specs.Layout.{joined}
 use Rattle.tbr_model.specs.Laid.{Laid, extended, end_line}
-use Rattle.tbr_model.specs.Rule.{Event, run_of, is_space_item, without_trailing, trimmed, progress, finished, lines_of}
+use Rattle.tbr_model.specs.Rule.{Event, run_of, Progress, flush_word, newline, step, is_space_item, without_trailing, trimmed, progress, finished, lines_of}
 use Rattle.tbr_model.proofs.lists.Each.{each_append, each_front, each_back}
+use Rattle.tbr_model.proofs.words.Items.{each_marker}
+use Rattle.tbr_model.proofs.rule.HardLineStart.{BeginsHardLine}
 use Rattle.tbr_model.proofs.rule.LaidText.{text, text-extended, text-end_line}
-use Rattle.tbr_model.proofs.rule.Walk.{MayJoin, KeptByRule, run_walked, run_ended}
+use Rattle.tbr_model.proofs.rule.Walk.{MayJoin, KeptByRule, word_flushed, line_ended, run_ended, walked, run_walked}
 
 -- an entry's annotations, and what it leaves in a word, have the properties
 abbrev pub Brings : {A : Type 0} → (ℕ → Option ℕ) → (Item A → Type 0) → (A → Type 0) → Entry A → Type 0
@@ -63,3 +65,16 @@ module _ {A : Type 0} (columns : ℕ → Option ℕ) (P : Item A → Type 0) (Of
   each_on_lines width es h =
       let s = run_walked (each_laid width) es (tt, tt) h in
       each_front P (joined (lines_of columns width es)) (finished columns width (progress columns width es)).line (run_ended (each_laid width) (run_of es) (progress columns width es) s).0
+
+  -- the same of the lines from where a hard line begins, before a newline and at the end of the run
+  pub each_from : ((name : List ℕ) → P (marker name)) → (width : ℕ) (p : Progress A) (es : List (Event A)) → BeginsHardLine p → Each (Brings columns P Of) (run_of es) →
+      let q = fold (step columns width) p es in
+      Each P (joined (newline (flush_word columns width q)).laid.done) × Each P (joined (finished columns width q).done)
+  each_from mark width p es f h =
+      let q : Progress A = fold (step columns width) p es in
+      let r : Progress A = flush_word columns width q in
+      let k = each_laid width in
+      let s = walked k es [] p h (record { laid = (rw (f.done, f.line) tt, each_marker P mark p.word f.word); space = rw (f.space) tt; flags = ((λ _. tt), (λ _. tt), (λ _. tt)) }) in (
+        each_front P (joined (newline r).laid.done) [] (line_ended k (run_of es) r (word_flushed k (run_of es) q s)).laid.0,
+        each_front P (joined (finished columns width q).done) (finished columns width q).line (run_ended k (run_of es) q s).0,
+      )

@@ -71,17 +71,24 @@ module _ {A : Type 0} (columns : ℕ → Option ℕ) (Same : A → A → Type 0)
       (items_width columns q.word + 1 < width → (in_continuation ≡ false) × (continuation_flag ≡ false)) →
       (HasBegunWord columns width s (entry_letters (run_of es)) → AddsTagged columns Same width s (fold (step columns width) s es) (run_of es)) →
       AddsTagged columns Same width q (fold (step columns width) s es) (character c a b Pre ∷ run_of es)
-  joined_tags q c a b x m continuation_flag in_continuation es h one has first rest =
-      let s : Progress A = record { laid = q.laid; space = q.space; word = q.word ++ glyph c x ∷ []; mode = m; continuation_flag = continuation_flag; in_continuation = in_continuation } in
-      let wider : items_width columns (q.word ++ glyph c x ∷ []) ≡ items_width columns q.word + 1 = joined_width columns q.word c x one in
-      let begun : HasBegunWord columns width s (entry_letters (run_of es)) = record {
+  joined_tags q c a b x m continuation_flag in_continuation es h one has first rest = behind (rest begun)
+    where
+      s : Progress A
+      s = record { laid = q.laid; space = q.space; word = q.word ++ glyph c x ∷ []; mode = m; continuation_flag = continuation_flag; in_continuation = in_continuation }
+
+      wider : items_width columns (q.word ++ glyph c x ∷ []) ≡ items_width columns q.word + 1
+      wider = joined_width columns q.word c x one
+
+      begun : HasBegunWord columns width s (entry_letters (run_of es))
+      begun = record {
         space = h.space;
         empty = h.empty;
         begins = λ none. (let some : has_character (q.word ++ glyph c x ∷ []) ≡ true = back_has q.word (glyph c x ∷ []) refl in cc);
         first = λ less. first (omega (arith, less, wider));
-      } in
-      let t = rest begun in
-      record {
+      }
+
+      behind : AddsTagged columns Same width s (fold (step columns width) s es) (run_of es) → AddsTagged columns Same width q (fold (step columns width) s es) (character c a b Pre ∷ run_of es)
+      behind t = record {
         more = (c, x) ∷ t.more;
         glyphs = t.glyphs ∙ ap (λ gs. gs ++ t.more) (glyphs_of-append q.word (glyph c x ∷ [])) ∙ append_assoc (glyphs_of q.word) ((c, x) ∷ []) t.more;
         tagged = (has, subst (λ (n : ℕ). IsTagged Same width n t.more (run_of es)) (wider ∙ add-one (items_width columns q.word)) t.tagged);

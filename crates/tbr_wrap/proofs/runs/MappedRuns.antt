@@ -7,7 +7,7 @@ use Rattle.tbr_model.specs.Run.{Entry, character, marker_entry, Item, glyph, mar
 use Rattle.tbr_model.specs.Layout.{slots_of, line_text, joined}
 use Rattle.tbr_model.specs.Rule.{is_space_item}
 use Rattle.tbr_model.specs.Markers.{names_in_items, names_in_run, marker_items, marked_behind}
-use Rattle.tbr_model.specs.Hard.{HasMode, Preserves, hard_lines, HasMain, HasContinuation, is_visible, glyphs_of, visible_glyphs, visible_entries}
+use Rattle.tbr_model.specs.Hard.{HasMode, Preserves, hard_lines, HasMain, HasContinuation, entry_letters, is_visible, glyphs_of, visible_glyphs, visible_entries}
 use Rattle.tbr_model.specs.Shown.{without_spaces, ComesFrom, ComesWithRun, is_visible_or_marker, is_entry_to_show, ShowsEntry, ShowsInOrder, IsNotPre, StandsUnderOwn, ShowsOwn}
 use Rattle.tbr_model.specs.Mapped.{map_item, map_items, map_entry, map_run, map_layout, map_lines}
 use Rattle.tbr_model.proofs.lists.Each.{each_map, filter-map, zip-map}
@@ -34,6 +34,9 @@ module _ {A B : Type 0} (f : A → B) where
   not_pre_unmap [] h = tt
   not_pre_unmap (character c a b m ∷ es) h = (h.0, not_pre_unmap es h.1)
   not_pre_unmap (marker_entry name ∷ es) h = (tt, not_pre_unmap es h.1)
+
+  letters-map : (run : List (Entry A)) → entry_letters (map_run f run) ≡ entry_letters run
+  letters-map = entry_letters-map f
 
   names_in_run-map : (run : List (Entry A)) → names_in_run (map_run f run) ≡ names_in_run run
   names_in_run-map [] = refl
@@ -103,7 +106,7 @@ module _ {A B : Type 0} (f : A → B) where
     all_come-map = each_map (map_item f) (ComesFrom columns (λ a b. a ≡ b) run) (ComesFrom columns (λ a b. a ≡ b) (map_run f run)) comes-map
 
     comes_with-map : (i : Item A) → ComesWithRun (λ a b. a ≡ b) run i → ComesWithRun (λ a b. a ≡ b) (map_run f run) (map_item f i)
-    comes_with-map (glyph c x) h = ((map_entry f h.0.0, contains-map run h.0.0 h.0.1, has_map h.0.0 x h.0.2), rw (entry_letters-map f run) h.1)
+    comes_with-map (glyph c x) h = ((map_entry f h.0.0, contains-map run h.0.0 h.0.1, has_map h.0.0 x h.0.2), rw (letters-map run) h.1)
     comes_with-map (marker name) h = contains-map run (marker_entry name) h
 
     all_come_with-map : (is : List (Item A)) → Each (ComesWithRun (λ a b. a ≡ b) run) is → Each (ComesWithRun (λ a b. a ≡ b) (map_run f run)) (map_items f is)
@@ -231,5 +234,5 @@ module _ {A B : Type 0} (f : A → B) where
         behind = rw (behind-map (is_visible columns) s.run []) h.behind;
         behind_kept = λ normal. rw (behind-map (is_kept columns) s.run []) (h.behind_kept (mode_unmap _ s.run normal));
         waits = λ narrow normal. rw (trailing-map f columns s.run) (sym (marker_items-map names) ∙ ap (map_items f) (h.waits narrow (mode_unmap _ s.run normal)));
-        alone = λ none. lines ∙ ap (map_lines f) (h.alone (sym (entry_letters-map f s.run) ∙ none));
+        alone = λ none. lines ∙ ap (map_lines f) (h.alone (sym (letters-map s.run) ∙ none));
       }
