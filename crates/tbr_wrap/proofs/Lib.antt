@@ -1,4 +1,3 @@
 pub mod lines
 pub mod runs
-pub mod storage
 pub mod words

@@ -1,3 +1,4 @@
+pub mod CountedMarkers
 pub mod CutLines
 pub mod HeldLines
 pub mod LaidByRule

@@ -1,5 +1,3 @@
-pub mod Stretches
-pub mod Flat
 pub mod Wrapped
 pub mod LaidLines
 pub mod Plain

@@ -8,10 +8,10 @@ ghost use Rattle.tbr_tagged.specs.Elements.{SameItems, IsMerged, items_of};
 ghost use Rattle.tbr_tagged.specs.View.{chars_of};
 ghost use Rattle.tbr_wrap.specs.EndedLines.{AreLines, line_characters, lines_characters};
 
-use crate::flat::{FlatText, PlacedItems};
 use std::collections::VecDeque;
 use std::fmt;
 use std::marker::Model;
+use tbr_flat::{FlatText, PlacedItems};
 use tbr_tagged::{OutOfMemory, TaggedLine};
 
 /// Lines that a block has ended, kept in its one text: a line costs a number, and no allocation. A contract sees the

@@ -5,9 +5,9 @@ ghost use Rattle.tbr_tagged.specs.Copies.{CopiesAreEqual};
 ghost use Rattle.tbr_model.specs.Run.{Item};
 ghost use Rattle.tbr_tagged.specs.Elements.{SameItems};
 
-use crate::flat::FlatText;
 use std::alloc::Global;
 use std::collections::VecDeque;
+use tbr_flat::FlatText;
 use tbr_model::CharWidth;
 use tbr_tagged::{Error, OutOfMemory, TaggedLine};
 

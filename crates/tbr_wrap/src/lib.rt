@@ -6,7 +6,6 @@ pub use ended_lines::EndedLines;
 
 mod block;
 mod ended_lines;
-mod flat;
 mod laid_lines;
 pub mod laws;
 mod plain;

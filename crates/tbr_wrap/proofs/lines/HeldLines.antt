@@ -9,7 +9,7 @@ use Rattle.tbr_model.specs.Markers.{names_in_items}
 use Rattle.tbr_model.proofs.lists.Joined.{joined-append}
 use Rattle.tbr_wrap.specs.declared.laid_lines.LaidLines.{LaidLines}
 use Rattle.tbr_wrap.specs.LaidLines.{HoldsLaid, KeepsLimits, LeavesAfterLine}
-use Rattle.tbr_wrap.proofs.storage.CountedMarkers.{markers-append}
+use Rattle.tbr_flat.proofs.MarkedItems.{markers-append}
 
 -- the open line is ended, as it was or with more items
 pub holds_end : {A : Type 0} (b c : LaidLines A) (before : List (List (Item A))) (l : Laid A) (n : ℕ) → HoldsLaid b before l → n ≡ length l.line → c.flat.placed ≡ b.flat.placed → c.ended.items ≡ b.ended.items ++ n ∷ [] → c.line_len ≡ 0 → c.line_markers ≡ 0 → c.line_width ≡ 0 →

@@ -9,11 +9,11 @@ use Rattle.tbr_model.specs.Rule.{spaces}
 use Rattle.tbr_model.specs.Laid.{Laid, extended, end_line, end_if_character, end_if_columns, put_item, put_items}
 use Rattle.tbr_model.proofs.words.Items.{no_character_no_width}
 use Rattle.tbr_tagged.specs.Elements.{SameItem, SameItems}
-use Rattle.tbr_wrap.specs.Flat.{Flat}
+use Rattle.tbr_flat.specs.Flat.{Flat}
 use Rattle.tbr_wrap.specs.LaidLines.{HoldsLaid, LaidLikeRule, HoldsRule, PutsFront, KeepsLimits}
 use Rattle.tbr_wrap.specs.declared.laid_lines.LaidLines.{LaidLines}
 use Rattle.tbr_tagged.proofs.SameItems.{same_items_append, all_zip_append, same_has, same_width}
-use Rattle.tbr_wrap.proofs.storage.MarkedItems.{same_take}
+use Rattle.tbr_flat.proofs.MarkedItems.{same_take}
 use Rattle.tbr_wrap.proofs.lines.LineWidths.{measured_ended, measured_extended, measured_wide}
 
 module _ {A : Type 0} (eq : A → A → Bool) (laws : IsEquivalence eq) (given : List (List (Item A))) where

@@ -10,7 +10,8 @@ use Rattle.tbr_model.proofs.lists.Joined.{joined-append}
 use Rattle.tbr_wrap.specs.declared.laid_lines.LaidLines.{LaidLines}
 use Rattle.tbr_wrap.specs.LaidLines.{HoldsRule, HoldsRuleBefore, KeepsLimits}
 use Rattle.tbr_wrap.proofs.lines.LaidByRule.{shows_extended, shows_ended, same_spaces, spaces_width, spaces_length}
-use Rattle.tbr_wrap.proofs.storage.CountedMarkers.{markers-append, spaces_markers}
+use Rattle.tbr_flat.proofs.MarkedItems.{markers-append}
+use Rattle.tbr_wrap.proofs.lines.CountedMarkers.{spaces_markers}
 use Rattle.tbr_wrap.proofs.lines.LineWidths.{measured_extended, measured_ended}
 
 pub spaces_more : {A : Type 0} (m n : ℕ) (a : A) → spaces (m + n) a ≡ spaces m a ++ spaces n a

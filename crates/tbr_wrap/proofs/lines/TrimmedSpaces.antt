@@ -10,7 +10,7 @@ use Rattle.tbr_tagged.specs.Elements.{SameItem, SameItems}
 use Rattle.tbr_wrap.specs.LaidLines.{HoldsRule, KeepsLimits}
 use Rattle.tbr_wrap.specs.declared.laid_lines.LaidLines.{LaidLines}
 use Rattle.std.proofs.lemmas.List.Elements.{length_all_zip}
-use Rattle.tbr_wrap.proofs.storage.CountedMarkers.{markers_within, trailing_markers}
+use Rattle.tbr_wrap.proofs.lines.CountedMarkers.{markers_within, trailing_markers}
 
 same_space : {A : Type 0} (eq : A → A → Bool) (i j : Item A) → SameItem eq i j → is_space_item i ≡ is_space_item j
 same_space eq (glyph c a) (glyph d b) h = ap (λ x. x == 32) h.0

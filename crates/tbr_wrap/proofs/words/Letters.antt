@@ -11,7 +11,7 @@ use Rattle.tbr_model.proofs.lists.Each.{each_append}
 use Rattle.tbr_tagged.proofs.TextColumns.{width_of_text-append}
 use Rattle.tbr_wrap.specs.Plain.{kept_width, joins, JoinWord, IsFront, IsStretch}
 use Rattle.tbr_wrap.specs.declared.plain.Stretch.{Stretch}
-use Rattle.tbr_wrap.proofs.storage.TextBytes.{splits_at}
+use Rattle.tbr_flat.proofs.TextBytes.{splits_at}
 
 -- what is known of the characters that a loop has seen
 pub record Seen (columns : ℕ → Option ℕ) (room : ℕ) (cs : List ℕ) (s : Stretch) : Type 0 where

@@ -4,7 +4,7 @@ use Rattle.tbr_model.specs.declared.white_space.WhiteSpace.{WhiteSpace}
 use Rattle.tbr_wrap.specs.Story.{text_changes}
 use Rattle.tbr_wrap.specs.declared.run_change.RunChange.{RunChange}
 use Rattle.tbr_wrap.specs.declared.run_change.RunChange.TheVariants.{Character}
-use Rattle.tbr_wrap.proofs.storage.TextBytes.{read_more, all_read}
+use Rattle.tbr_flat.proofs.TextBytes.{read_more, all_read}
 use Rattle.tbr_wrap.proofs.run_change.note_text.Goals as goal
 use Rattle.tbr_wrap.proofs.run_change.note_text.Goals.{in-Some+in-Marker-1, in-Some+in-Called-1, in_default}
 

@@ -3,7 +3,7 @@ use Rattle.std.proofs.lemmas.Bool.{eqb-false, eqb-true}
 use Rattle.tbr_tagged.specs.View.{chars_of}
 use Rattle.tbr_wrap.specs.EndedLines.{line_characters, lines_characters}
 use Rattle.tbr_wrap.proofs.runs.LinesLeft.{first_of}
-use Rattle.tbr_wrap.proofs.storage.TaggedCharacters.{no_len}
+use Rattle.tbr_flat.proofs.TaggedCharacters.{no_len}
 use Rattle.tbr_wrap.proofs.ended_lines.EndedLines.append_lines.Goals as goal
 
 pub loop-self-smaller : goal.loop-self-smaller

@@ -2,8 +2,8 @@ use Rattle.std.proofs.Common.{◌≡◌, ◌≤◌, ◌+◌, take, refl, ap, ◌
 use Rattle.tbr_model.specs.Run.{items_width}
 use Rattle.tbr_tagged.specs.Elements.{SameItems}
 use Rattle.tbr_tagged.proofs.SameItems.{same_width}
-use Rattle.tbr_wrap.proofs.storage.CountedMarkers.{markers_within}
-use Rattle.tbr_wrap.proofs.storage.MarkedItems.{same_take}
+use Rattle.tbr_wrap.proofs.lines.CountedMarkers.{markers_within}
+use Rattle.tbr_flat.proofs.MarkedItems.{same_take}
 use Rattle.tbr_wrap.proofs.lines.HeldLines.{holds_more}
 use Rattle.tbr_wrap.proofs.lines.LaidByRule.{lays_extended}
 use Rattle.tbr_wrap.proofs.words.WordsLaid.{put_fitting}

@@ -1,7 +1,7 @@
 use Rattle.std.proofs.Common.{refl, ◌∙◌, sym, arith}
 use Rattle.tbr_model.specs.Rule.{spaces}
 use Rattle.tbr_wrap.proofs.lines.HeldLines.{holds_more}
-use Rattle.tbr_wrap.proofs.storage.CountedMarkers.{spaces_markers}
+use Rattle.tbr_wrap.proofs.lines.CountedMarkers.{spaces_markers}
 use Rattle.tbr_wrap.proofs.lines.LaidByRule.{lays_extended, same_spaces, spaces_width, spaces_length}
 use Rattle.tbr_wrap.proofs.laid_lines.LaidLines.place_spaces.Goals as goal
 

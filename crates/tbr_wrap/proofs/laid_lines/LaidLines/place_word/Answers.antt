@@ -1,6 +1,6 @@
 use Rattle.std.proofs.Common.{◌+◌, refl, ap, arith}
 use Rattle.tbr_model.specs.Run.{items_width}
-use Rattle.tbr_wrap.proofs.storage.CountedMarkers.{markers_within}
+use Rattle.tbr_wrap.proofs.lines.CountedMarkers.{markers_within}
 use Rattle.tbr_wrap.proofs.lines.HeldLines.{holds_more}
 use Rattle.tbr_wrap.proofs.lines.LaidByRule.{lays_extended}
 use Rattle.tbr_wrap.proofs.laid_lines.LaidLines.place_word.Goals as goal

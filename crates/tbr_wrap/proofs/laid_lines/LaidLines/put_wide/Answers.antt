@@ -4,7 +4,7 @@ use Rattle.tbr_model.specs.Laid.{end_if_columns, put_items}
 use Rattle.tbr_tagged.specs.Elements.{SameItems}
 use Rattle.tbr_tagged.proofs.SameItems.{same_width}
 use Rattle.tbr_wrap.specs.LaidLines.{HoldsRule}
-use Rattle.tbr_wrap.proofs.storage.MarkedItems.{same_take}
+use Rattle.tbr_flat.proofs.MarkedItems.{same_take}
 use Rattle.tbr_wrap.proofs.lines.LaidByRule.{item_wide, some_same}
 use Rattle.tbr_wrap.proofs.laid_lines.LaidLines.put_wide.Goals as goal
 

@@ -3,7 +3,7 @@ use Rattle.tbr_model.specs.Greedy.{IsNarrow}
 use Rattle.tbr_model.specs.Laid.{put_items}
 use Rattle.tbr_tagged.specs.Elements.{SameItems}
 use Rattle.tbr_wrap.specs.LaidLines.{HoldsRule}
-use Rattle.tbr_wrap.proofs.storage.MarkedItems.{same_drop}
+use Rattle.tbr_flat.proofs.MarkedItems.{same_drop}
 use Rattle.tbr_wrap.proofs.lines.HeldLines.{keeps_trans}
 use Rattle.tbr_wrap.proofs.lines.LaidByRule.{none_same, put_parts, narrow_rest, none_first}
 use Rattle.tbr_wrap.proofs.laid_lines.LaidLines.put_word.Goals as goal

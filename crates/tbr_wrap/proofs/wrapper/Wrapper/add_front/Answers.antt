@@ -2,7 +2,7 @@ use Rattle.std.proofs.Common.{◌≡◌, ℕ, false, List, fold, subst, [], ◌�
 use Rattle.std.proofs.lemmas.Result.{err_from_is_err_and}
 use Rattle.std.proofs.lemmas.Str.{IsUtf8-from_ascii, IsCharBoundary-from_take, chars_past_char}
 use Rattle.tbr_tagged.specs.declared.error.Error.TheVariants as E
-use Rattle.tbr_wrap.proofs.storage.TextBytes.{chars_within}
+use Rattle.tbr_flat.proofs.TextBytes.{chars_within}
 use Rattle.tbr_wrap.proofs.words.Letters.{ascii_front, front_of, encoded_one}
 use Rattle.tbr_wrap.proofs.words.PlainWords.{all_ascii}
 use Rattle.tbr_model.specs.Run.{Entry, character}

@@ -1,0 +1,9 @@
+pub mod MarkedItems
+pub mod MarkedText
+pub mod MarkerPlaces
+pub mod RepeatedTags
+pub mod TaggedCharacters
+pub mod TextBytes
+pub mod TextEnds
+pub mod TrimmedCharacters
+pub mod TrimmedItems

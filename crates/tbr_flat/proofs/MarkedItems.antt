@@ -1,0 +1,211 @@
+-- Items with markers among them.
+use Rattle.std.proofs.Common.{◌≡◌, ℕ, suc, zero, ◌+◌, ◌-◌, ◌<◌, ◌≤◌, ◌↔◌, inl, inr, Bool, true, false, not, IsTrue, Option, List, [], ◌∷◌, ◌++◌, length, take, drop, refl, ap, sym, ◌∙◌, subst, arith, append_assoc, append-nil}
+use Rattle.std.specs.List.{AllByRecursion as Each}
+use Rattle.std.specs.Cmp.{IsEquivalence}
+use Rattle.std.proofs.lemmas.List.{take-append-drop, take-append-le, drop-append-le, take-take, drop-take, drop-drop, take_all, drop_all, drop_at, length-append, length-take, length-drop}
+use Rattle.std.proofs.lemmas.Bool.{true≢false, false≢true, or_parts}
+use Rattle.tbr_model.specs.Run.{Item, glyph, marker, items_width, has_character}
+use Rattle.tbr_model.specs.Entry.{is_glyph}
+use Rattle.tbr_model.specs.Markers.{names_in_items}
+use Rattle.tbr_model.proofs.lists.Each.{each_front, each_back}
+use Rattle.tbr_model.proofs.words.Items.{items_width-append, has_character-append}
+use Rattle.tbr_model.proofs.lists.Joined.{cut_twice}
+use Rattle.tbr_tagged.specs.Elements.{SameItems}
+use Rattle.tbr_flat.specs.Flat.{MarkerPlaces, marked, before_last, covered, before_first, shortened, followed}
+use Rattle.tbr_model.proofs.rule.Markers.{names_in_items-append}
+use Rattle.tbr_flat.proofs.RepeatedTags.{take_after}
+use Rattle.tbr_tagged.proofs.SameItems.{same_items_append}
+
+pub markers-append : {A : Type 0} (is js : List (Item A)) → length (names_in_items (is ++ js)) ≡ length (names_in_items is) + length (names_in_items js)
+markers-append is js = ap length (names_in_items-append is js) ∙ length-append (names_in_items is) (names_in_items js)
+
+-- markers alone
+markers_alone : (A : Type 0) (ms : List (ℕ × List ℕ)) → has_character (marked {A = A} [] ms) ≡ false
+markers_alone A [] = refl
+markers_alone A ((zero, name) ∷ ms) = markers_alone A ms
+markers_alone A ((suc n, name) ∷ ms) = markers_alone A ms
+
+module _ {A : Type 0} where
+  -- ---- items and markers that are put together
+
+  pub length-marked : (is : List (Item A)) (ms : List (ℕ × List ℕ)) → length (marked is ms) ≡ length is + length ms
+  length-marked is [] = omega arith
+  length-marked is ((n, name) ∷ ms) =
+      omega (arith, length-append (take n is) (marker name ∷ marked (drop n is) ms), length-marked (drop n is) ms, ap length (take-append-drop n is), length-append (take n is) (drop n is))
+
+  -- the last markers stand among the characters after the others
+  marked_split : (is : List (Item A)) (ms ns : List (ℕ × List ℕ)) → marked is (ms ++ ns) ≡ marked (take (before_last ms) is) ms ++ marked (drop (before_last ms) is) ns
+  marked_split is [] ns = refl
+  marked_split is ((n, name) ∷ ms) ns =
+      let s = before_last ms in
+      let front : take n (take (n + s) is) ≡ take n is = take-take n (n + s) is (omega arith) in
+      let middle : drop n (take (n + s) is) ≡ take s (drop n is) = drop-take n s is in
+      rw (front, middle)
+      (ap (λ js. take n is ++ marker name ∷ js) (marked_split (drop n is) ms ns ∙ ap (λ js. marked (take s (drop n is)) ms ++ marked js ns) (drop-drop s n is))
+      ∙ sym (append_assoc (take n is) (marker name ∷ marked (take s (drop n is)) ms) (marked (drop (n + s) is) ns)))
+
+  -- after the last marker
+  marked_last : (is : List (Item A)) (ms : List (ℕ × List ℕ)) → marked is ms ≡ marked (take (before_last ms) is) ms ++ drop (before_last ms) is
+  marked_last is ms = ap (marked is) (sym (append-nil ms)) ∙ marked_split is ms []
+
+  -- more characters
+  pub marked_more : (is js : List (Item A)) (ms : List (ℕ × List ℕ)) → before_last ms ≤ length is → marked (is ++ js) ms ≡ marked is ms ++ js
+  marked_more is js [] h = refl
+  marked_more is js ((n, name) ∷ ms) h =
+      let front : take n (is ++ js) ≡ take n is = take-append-le n is js (omega arith) in
+      let after : drop n (is ++ js) ≡ drop n is ++ js = drop-append-le n is js (omega arith) in
+      rw (front, after)
+      (ap (λ ks. take n is ++ marker name ∷ ks) (marked_more (drop n is) js ms (omega (arith, length-drop n is))) ∙ sym (append_assoc (take n is) (marker name ∷ marked (drop n is) ms) js))
+
+  -- a marker more
+  pub marked_push : (is : List (Item A)) (m : MarkerPlaces) (name : List ℕ) → covered m ≡ length is → marked is (m.markers ++ (m.after, name) ∷ []) ≡ marked is m.markers ++ marker name ∷ []
+  marked_push is m name h =
+      let s = before_last m.markers in let rest = drop s is in
+      let len : length rest ≡ m.after = omega (arith, h, length-drop s is) in
+      let all : take m.after rest ≡ rest = take_all m.after rest (omega (arith, len)) in
+      let none : drop m.after rest ≡ [] = drop_all m.after rest (omega (arith, len)) in
+      marked_split is m.markers ((m.after, name) ∷ []) ∙ ap (λ js. marked (take s is) m.markers ++ (js ++ marker name ∷ drop m.after rest)) all
+      ∙ ap (λ js. marked (take s is) m.markers ++ (rest ++ marker name ∷ js)) none ∙ sym (append_assoc (marked (take s is) m.markers) rest (marker name ∷ []))
+      ∙ ap (λ js. js ++ marker name ∷ []) (sym (marked_last is m.markers))
+
+  -- characters and markers after others
+  pub marked_followed : (is js : List (Item A)) (m n : MarkerPlaces) → covered m ≡ length is → marked (is ++ js) (followed m n).markers ≡ marked is m.markers ++ marked js n.markers
+  marked_followed is js m n h = go n.markers n.after
+    where
+      go : (ns : List (ℕ × List ℕ)) (k : ℕ) → marked (is ++ js) (followed m (record { markers = ns; after = k })).markers ≡ marked is m.markers ++ marked js ns
+      go [] k = marked_more is js m.markers (omega (arith, h))
+      go ((i, name) ∷ ns) k =
+          let s = before_last m.markers in let rest = drop s is in
+          let len : length rest ≡ m.after = omega (arith, h, length-drop s is) in
+          let front : take s (is ++ js) ≡ take s is = take-append-le s is js (omega (arith, h)) in
+          let after : drop s (is ++ js) ≡ rest ++ js = drop-append-le s is js (omega (arith, h)) in
+          let first : take (m.after + i) (rest ++ js) ≡ rest ++ take i js = take_after rest js i (m.after + i) (omega (arith, len)) in
+          let second : drop (m.after + i) (rest ++ js) ≡ drop i js = sym (drop-drop i m.after (rest ++ js)) ∙ ap (drop i) (drop_at rest js m.after len) in
+          marked_split (is ++ js) m.markers ((m.after + i, name) ∷ ns)
+          ∙ ap (λ ks. marked ks m.markers ++ marked (drop s (is ++ js)) ((m.after + i, name) ∷ ns)) front ∙ ap (λ ks. marked (take s is) m.markers ++ marked ks ((m.after + i, name) ∷ ns)) after
+          ∙ ap (λ ks. marked (take s is) m.markers ++ (ks ++ marker name ∷ marked (drop (m.after + i) (rest ++ js)) ns)) first
+          ∙ ap (λ ks. marked (take s is) m.markers ++ ((rest ++ take i js) ++ marker name ∷ marked ks ns)) second
+          ∙ ap (λ ks. marked (take s is) m.markers ++ ks) (append_assoc rest (take i js) (marker name ∷ marked (drop i js) ns))
+          ∙ sym (append_assoc (marked (take s is) m.markers) rest (marked js ((i, name) ∷ ns)))
+          ∙ ap (λ ks. ks ++ marked js ((i, name) ∷ ns)) (sym (marked_last is m.markers))
+
+  -- ---- characters that are taken away in front
+
+  pub marked_shortened : (is : List (Item A)) (m : MarkerPlaces) (k : ℕ) → k ≤ before_first m → covered m ≡ length is → marked (drop k is) (shortened k m).markers ≡ drop k (marked is m.markers)
+  marked_shortened is m k = go m.markers m.after
+    where
+      go : (ms : List (ℕ × List ℕ)) (b : ℕ) → k ≤ before_first (record { markers = ms; after = b }) → covered (record { markers = ms; after = b }) ≡ length is →
+          marked (drop k is) (shortened k (record { markers = ms; after = b })).markers ≡ drop k (marked is ms)
+      go [] b h e = refl
+      go ((n, name) ∷ ms) b h e =
+          let len : length (take n is) ≡ n = omega (arith, length-take n is) in
+          let whole : k + (n - k) ≡ n = omega arith in
+          let front : drop k (take n is) ≡ take (n - k) (drop k is) = ap (λ i. drop k (take i is)) (sym whole) ∙ drop-take k (n - k) is in
+          let after : drop (n - k) (drop k is) ≡ drop n is = drop-drop (n - k) k is ∙ ap (λ i. drop i is) whole in
+          sym (drop-append-le k (take n is) (marker name ∷ marked (drop n is) ms) (omega (arith, len)) ∙ ap (λ js. js ++ marker name ∷ marked (drop n is) ms) front
+          ∙ ap (λ js. take (n - k) (drop k is) ++ marker name ∷ marked js ms) (sym after))
+
+  pub taken_front : (is : List (Item A)) (m : MarkerPlaces) (k : ℕ) → k ≤ before_first m → covered m ≡ length is → take k (marked is m.markers) ≡ take k is
+  taken_front is m k = go m.markers m.after
+    where
+      go : (ms : List (ℕ × List ℕ)) (b : ℕ) → k ≤ before_first (record { markers = ms; after = b }) → covered (record { markers = ms; after = b }) ≡ length is → take k (marked is ms) ≡ take k is
+      go [] b h e = refl
+      go ((n, name) ∷ ms) b h e =
+          take-append-le k (take n is) (marker name ∷ marked (drop n is) ms) (omega (arith, length-take n is)) ∙ take-take k n is h
+
+  -- the columns are those of the characters
+  pub items_width-marked : (columns : ℕ → Option ℕ) (is : List (Item A)) (ms : List (ℕ × List ℕ)) → items_width columns (marked is ms) ≡ items_width columns is
+  items_width-marked columns is [] = refl
+  items_width-marked columns is ((n, name) ∷ ms) =
+      omega (
+        arith,
+        items_width-append columns (take n is) (marker name ∷ marked (drop n is) ms),
+        items_width-marked columns (drop n is) ms,
+        ap (items_width columns) (take-append-drop n is),
+        items_width-append columns (take n is) (drop n is),
+      )
+
+  -- the first item is a character where no marker comes first
+  pub first_marked : (i : Item A) (is : List (Item A)) (m : MarkerPlaces) → 0 < before_first m → marked (i ∷ is) m.markers ≡ i ∷ marked is (shortened 1 m).markers
+  first_marked i is m = go m.markers m.after
+    where
+      go : (ms : List (ℕ × List ℕ)) (b : ℕ) → 0 < before_first (record { markers = ms; after = b }) → marked (i ∷ is) ms ≡ i ∷ marked is (shortened 1 (record { markers = ms; after = b })).markers
+      go [] b h = refl
+      go ((zero, name) ∷ ms) b h = absurd (omega arith)
+      go ((suc n, name) ∷ ms) b h = let less : suc n - 1 ≡ n = omega arith in rw less refl
+
+  -- ---- whether there is a character
+
+  has_first : (c : ℕ) (a : A) (is : List (Item A)) (ms : List (ℕ × List ℕ)) → has_character (marked (glyph c a ∷ is) ms) ≡ true
+  has_first c a is [] = refl
+  has_first c a is ((zero, name) ∷ ms) = has_first c a is ms
+  has_first c a is ((suc n, name) ∷ ms) = refl
+
+  pub no_character : (is : List (Item A)) (ms : List (ℕ × List ℕ)) → Each (λ i. is_glyph i ≡ true) is → has_character (marked is ms) ≡ false → is ≡ []
+  no_character [] ms h e = refl
+  no_character (glyph c a ∷ is) ms h e = absurd (true≢false (sym (has_first c a is ms) ∙ e))
+  no_character (marker name ∷ is) ms h e = absurd (false≢true h.0)
+
+  pub some_character : (b : Bool) (is : List (Item A)) (ms : List (ℕ × List ℕ)) → Each (λ i. is_glyph i ≡ true) is → IsTrue b ↔ (is ≡ []) → not b ≡ has_character (marked is ms)
+  some_character b [] ms h e = ap not (e.1 refl) ∙ sym (markers_alone A ms)
+  some_character true (glyph c a ∷ is) ms h e = let none : glyph c a ∷ is ≡ [] = e.0 refl in absurd (cc)
+  some_character false (glyph c a ∷ is) ms h e = sym (has_first c a is ms)
+  some_character b (marker name ∷ is) ms h e = absurd (false≢true h.0)
+
+  pub same_back : (xs ys front line : List (Item A)) → xs ++ ys ≡ front ++ line → length ys ≡ length line → ys ≡ line
+  same_back xs ys front line e h =
+      let len : length xs ≡ length front = omega (arith, ap length e, length-append xs ys, length-append front line) in
+      sym (drop_at xs ys (length front) len) ∙ ap (drop (length front)) e ∙ drop_at front line (length front) refl
+
+  -- after the last marker stand characters alone, so a line without a character is empty where there are some
+  pub none_at_end : (is : List (Item A)) (m : MarkerPlaces) (before line : List (Item A)) → Each (λ i. is_glyph i ≡ true) is → covered m ≡ length is → marked is m.markers ≡ before ++ line → has_character line ≡ false → 0 < m.after → line ≡ []
+  none_at_end is m before line h e parts none some =
+      let s = before_last m.markers in let rest = drop s is in
+      let glyphs : Each (λ i. is_glyph i ≡ true) rest = each_back (λ i. is_glyph i ≡ true) (take s is) rest (subst (Each (λ i. is_glyph i ≡ true)) (sym (take-append-drop s is)) h) in
+      elim (cut_twice (marked (take s is) m.markers) rest before line (sym (marked_last is m.markers) ∙ parts)) [
+        | inl (cut, front, back) ↦ no_character line [] (each_back (λ i. is_glyph i ≡ true) cut line (subst (Each (λ i. is_glyph i ≡ true)) back glyphs)) none
+        | inr (i, cut, front, back) ↦
+            let alone = (or_parts (has_character (i ∷ cut)) (has_character rest) (sym (has_character-append (i ∷ cut) rest) ∙ sym (ap has_character back) ∙ none)).1 in
+            absurd (omega (arith, e, some, length-drop s is, ap length (no_character rest [] glyphs alone)))
+      ]
+
+  -- ---- how many markers there are
+
+  pub characters_alone : (is : List (Item A)) → Each (λ i. is_glyph i ≡ true) is → length (names_in_items is) ≡ 0
+  characters_alone [] h = refl
+  characters_alone (glyph c a ∷ is) h = characters_alone is h.1
+  characters_alone (marker name ∷ is) h = absurd (false≢true h.0)
+
+  pub marked_count : (is : List (Item A)) (ms : List (ℕ × List ℕ)) → Each (λ i. is_glyph i ≡ true) is → length (names_in_items (marked is ms)) ≡ length ms
+  marked_count is [] h = characters_alone is h
+  marked_count is ((n, name) ∷ ms) h =
+      let parts : Each (λ i. is_glyph i ≡ true) (take n is ++ drop n is) = subst (Each (λ i. is_glyph i ≡ true)) (sym (take-append-drop n is)) h in
+      omega (
+        arith,
+        markers-append (take n is) (marker name ∷ marked (drop n is) ms),
+        characters_alone (take n is) (each_front (λ i. is_glyph i ≡ true) (take n is) (drop n is) parts),
+        marked_count (drop n is) ms (each_back (λ i. is_glyph i ≡ true) (take n is) (drop n is) parts),
+      )
+
+-- ---- items that are the same up to equal tags
+
+module _ {A : Type 0} (eq : A → A → Bool) (laws : IsEquivalence eq) where
+  pub same_take : (n : ℕ) (is js : List (Item A)) → SameItems eq is js → SameItems eq (take n is) (take n js)
+  same_take zero is js h = tt
+  same_take (suc n) [] [] h = tt
+  same_take (suc n) [] (j ∷ js) h = absurd h
+  same_take (suc n) (i ∷ is) [] h = absurd h
+  same_take (suc n) (i ∷ is) (j ∷ js) h = (h.0, same_take n is js h.1)
+
+  pub same_drop : (n : ℕ) (is js : List (Item A)) → SameItems eq is js → SameItems eq (drop n is) (drop n js)
+  same_drop zero is js h = h
+  same_drop (suc n) [] [] h = tt
+  same_drop (suc n) [] (j ∷ js) h = absurd h
+  same_drop (suc n) (i ∷ is) [] h = absurd h
+  same_drop (suc n) (i ∷ is) (j ∷ js) h = same_drop n is js h.1
+
+  pub same_marked : (is js : List (Item A)) (ms : List (ℕ × List ℕ)) → SameItems eq is js → SameItems eq (marked is ms) (marked js ms)
+  same_marked is js [] h = h
+  same_marked is js ((n, name) ∷ ms) h =
+      same_items_append eq laws (take n is) (take n js) (marker name ∷ marked (drop n is) ms) (marker name ∷ marked (drop n js) ms) (same_take n is js h)
+      (refl, same_marked (drop n is) (drop n js) ms (same_drop n is js h))

@@ -1,0 +1,80 @@
+-- What is counted and taken away at the end of a text and at its beginning.
+use Rattle.std.proofs.Common.{◌≡◌, true, ℕ, suc, zero, ◌+◌, ◌-◌, ◌<◌, ◌≤◌, List, [], ◌∷◌, ◌++◌, length, take, drop, get_or, replicate, refl, ap, sym, ◌∙◌, subst, arith, append_assoc}
+use Rattle.std.specs.Str.{IsUtf8, IsAscii, chars, IsCharBoundary}
+use Rattle.std.proofs.Math.Seq.{take-append_seam}
+use Rattle.std.proofs.lemmas.List.{take-append-drop, take_at, drop_at, length-append, length-take, length-replicate}
+use Rattle.std.proofs.lemmas.Str.{IsUtf8-take, IsUtf8-from_ascii, IsCharBoundary-from_drop, chars-append, chars-IsAscii, encodes-chars, encodes-append, encodes-IsAscii, scalars-chars, chars-encodes}
+use lib.Utf8.{encodes, scalars}
+use Rattle.tbr_flat.specs.Flat.{IsLeft}
+use Rattle.tbr_flat.proofs.TextBytes.{IsAfter, left_after, left_utf8, left_count, scalars_take}
+
+-- ---- spaces at the end
+
+spaces_ascii : (n : ℕ) → IsAscii (replicate n 32)
+spaces_ascii zero i = omega arith
+spaces_ascii (suc n) zero = omega arith
+spaces_ascii (suc n) (suc i) = spaces_ascii n i
+
+-- the last bytes are spaces
+pub end_spaces : (text : List ℕ) (n : ℕ) → IsUtf8 text → n ≤ length text → drop (length text - n) text ≡ replicate n 32 → (front : List ℕ) × (chars text ≡ front ++ replicate n 32)
+end_spaces text n u h e =
+    let i = length text - n in
+    let utf8 : IsUtf8 (drop i text) = subst (λ (bs : List ℕ). IsUtf8 bs) (sym e) (IsUtf8-from_ascii (replicate n 32) (spaces_ascii n)) in
+    let front = IsUtf8-take text i u (IsCharBoundary-from_drop text i (omega arith) utf8) in (
+      chars (take i text),
+      ap chars (sym (take-append-drop i text)) ∙ chars-append (take i text) (drop i text) front
+          ∙ ap (λ cs. chars (take i text) ++ cs) (ap chars e ∙ chars-IsAscii (replicate n 32) (spaces_ascii n)),
+    )
+
+last_item : (xs ys : List ℕ) (c i : ℕ) → i ≡ length xs → get_or (xs ++ c ∷ ys) i 0 ≡ c
+last_item [] ys c zero e = refl
+last_item [] ys c (suc i) e = absurd (omega arith)
+last_item (x ∷ xs) ys c zero e = absurd (omega arith)
+last_item (x ∷ xs) ys c (suc i) e = last_item xs ys c i (omega arith)
+
+spaces_bytes : (text front : List ℕ) (n : ℕ) → IsUtf8 text → chars text ≡ front ++ replicate n 32 → text ≡ encodes front ++ replicate n 32
+spaces_bytes text front n u e =
+    sym (encodes-chars text u) ∙ ap encodes e ∙ encodes-append front (replicate n 32) ∙ ap (λ bs. encodes front ++ bs) (encodes-IsAscii (replicate n 32) (spaces_ascii n))
+
+spaces_short : (text front : List ℕ) (n : ℕ) → text ≡ front ++ replicate n 32 → length text ≡ length front + n
+spaces_short text front n e = omega (arith, ap length e, length-append front (replicate n 32), length-replicate {A = ℕ} n 32)
+
+-- a text that ends with more spaces has one more byte, and that is a space
+pub more_spaces : (text front : List ℕ) (n : ℕ) → IsUtf8 text → chars text ≡ front ++ replicate (suc n) 32 → (n < length text) × (get_or text (length text - 1 - n) 0 ≡ 32)
+more_spaces text front n u e =
+    let bytes : text ≡ encodes front ++ replicate (suc n) 32 = spaces_bytes text front (suc n) u e in
+    let len : length text ≡ length (encodes front) + suc n = spaces_short text (encodes front) (suc n) bytes in
+    let place : length text - 1 - n ≡ length (encodes front) = omega (arith, len) in
+    (omega (arith, len), ap (λ bs. get_or bs (length text - 1 - n) 0) bytes ∙ last_item (encodes front) (replicate n 32) 32 (length text - 1 - n) place)
+
+-- ---- spaces are taken away at the end
+
+module _ (bytes front : List ℕ) (i n m k : ℕ) (cs : List ℕ) (h : IsLeft bytes i n) (seen : chars (drop i bytes) ≡ cs) (e : cs ≡ front ++ replicate m 32) (end : k ≡ length bytes - m) where
+  abbrev kept : List ℕ
+  kept = take i bytes ++ encodes front
+
+  parted : bytes ≡ kept ++ replicate m 32
+  parted =
+      sym (take-append-drop i bytes) ∙ ap (λ bs. take i bytes ++ bs) (spaces_bytes (drop i bytes) front m (left_utf8 bytes i n cs h seen) (seen ∙ e))
+      ∙ sym (append_assoc (take i bytes) (encodes front) (replicate m 32))
+
+  pub spaces_within : m ≤ length bytes
+  spaces_within = omega (arith, spaces_short bytes kept m parted)
+
+  seam : length kept ≡ k
+  seam = omega (arith, spaces_short bytes kept m parted, end)
+
+  pub spaces_boundary : IsCharBoundary bytes k
+  spaces_boundary =
+      IsCharBoundary-from_drop bytes k (omega (arith, end))
+      (subst IsUtf8 (sym (ap (drop k) parted ∙ drop_at kept (replicate m 32) k seam)) (IsUtf8-from_ascii (replicate m 32) (spaces_ascii m)))
+
+  pub spaces_gone : (xs : List ℕ) → xs ≡ take k bytes → IsAfter xs i (n - m) front
+  spaces_gone xs is =
+      let single : scalars front ≡ true =
+      subst (λ ds. scalars ds ≡ true) (ap (take (length front)) (seen ∙ e) ∙ take-append_seam front (replicate m 32))
+      (scalars_take (length front) (chars (drop i bytes)) (scalars-chars (drop i bytes) (left_utf8 bytes i n cs h seen))) in
+      let whole : xs ≡ kept = is ∙ ap (take k) parted ∙ take_at kept (replicate m 32) k seam in
+      let first : length (take i bytes) ≡ i = omega (arith, length-take i bytes, h.within) in
+      left_after xs i (n - m) (encodes front) front (omega (arith, ap length whole, length-append (take i bytes) (encodes front), first)) (ap (drop i) whole ∙ drop_at (take i bytes) (encodes front) i first)
+      (front, (single, refl)) (omega (arith, left_count bytes i n cs h seen, spaces_short cs front m e)) (chars-encodes front single)

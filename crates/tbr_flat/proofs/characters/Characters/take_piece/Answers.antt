@@ -1,0 +1,28 @@
+use Rattle.std.proofs.Common.{◌≤◌, length, arith}
+use Rattle.std.specs.Str.{chars}
+use Rattle.std.specs.String.{string_bytes}
+use Rattle.tbr_flat.proofs.TaggedCharacters.{placed_len, taken_fits, flat_take, piece_items}
+use Rattle.tbr_flat.proofs.characters.Characters.take_piece.Goals as goal
+
+pub take-requires-clause-within : goal.take-requires-clause-within
+take-requires-clause-within g c = omega (arith, placed_len _ _ _ _ c.self.invariant c.self.view_is, c.requires.placed, c.self.invariant)
+
+pub take-requires-2 : goal.take-requires-2
+take-requires-2 g c = omega (arith, placed_len _ _ _ _ c.self.invariant c.self.view_is, c.requires.placed, c.in_ok-count.ensures.count.1)
+
+pub invariant_of-self-in-Ok : goal.invariant_of-self-in-Ok
+invariant_of-self-in-Ok g c =
+    let within : c.in_ok-count.count ≤ length c.self.inside.placed = omega (arith, placed_len _ _ _ _ c.self.invariant c.self.view_is, c.requires.placed, c.in_ok-count.ensures.count.1) in
+    rw (c.in-Ok.ensures.rest, c.in_ok-count.ensures.rest) (taken_fits c.self.inside.placed c.self.inside.word c.self.inside.tags c.in_ok-count.count c.self.invariant within)
+
+pub returns-in-Ok-clause-items : goal.returns-in-Ok-clause-items
+returns-in-Ok-clause-items g c =
+    let within : c.in_ok-count.count ≤ length c.self.inside.placed = omega (arith, placed_len _ _ _ _ c.self.invariant c.self.view_is, c.requires.placed, c.in_ok-count.ensures.count.1) in
+    let t = c.in_ok-count.ensures.tags in
+    rw (← c.self.view_is)
+    (piece_items g.T.PartialEq.eq (chars (string_bytes c.in-Ok.s)) c.self.inside.placed c.self.inside.tags c.in_ok-count.count t.0 c.in_ok-count.tag c.in-Ok.ensures.taken t.2 t.1 within)
+
+pub returns-in-Ok-clause-rest : goal.returns-in-Ok-clause-rest
+returns-in-Ok-clause-rest g c =
+    let within : c.in_ok-count.count ≤ length c.self.inside.placed = omega (arith, placed_len _ _ _ _ c.self.invariant c.self.view_is, c.requires.placed, c.in_ok-count.ensures.count.1) in
+    rw (← c.self.view_is, c.in-Ok.ensures.rest, c.in_ok-count.ensures.rest) (flat_take c.self.inside.placed c.self.inside.word c.self.inside.tags c.in_ok-count.count within)

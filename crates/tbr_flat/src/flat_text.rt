@@ -1,0 +1,404 @@
+//! Characters under tags and markers.
+ghost use Rattle.std.specs.Prelude.{◌≡◌, ◌<◌, ◌≤◌, ◌+◌, ◌++◌, ◌∷◌, [], true, false, List, length, map, take, drop, chars, string_bytes, MatchOption, OnOk, IfOk};
+ghost use Rattle.tbr_tagged.specs.Copies.{CopiesAreEqual};
+ghost use Rattle.tbr_model.specs.Run.{Item, glyph, marker, item_width, items_width, has_character};
+ghost use Rattle.tbr_model.specs.Rule.{spaces, without_leading, without_trailing};
+ghost use Rattle.tbr_model.specs.Markers.{names_in_items};
+ghost use Rattle.tbr_tagged.specs.Elements.{SameItems, IsMerged, items_of, marker_element, text_items};
+ghost use Rattle.tbr_tagged.specs.View.{chars_of, element_of};
+ghost use Rattle.tbr_tagged.specs.Walks.{item_characters};
+
+use crate::characters::Characters;
+use crate::markers::Markers;
+use crate::placed_items::PlacedItems;
+use std::alloc::Global;
+use std::marker::Model;
+use tbr_model::CharWidth;
+use tbr_tagged::{OutOfMemory, TaggedLine, TaggedLineElement};
+
+/// Characters under tags and markers: those that are placed on lines, and after them those of the current word.
+///
+/// Placing a word and handing out a line cost their own length. A contract sees the items that are placed and not
+/// handed out yet, and those of the word.
+#[derive(Drop)]
+pub struct FlatText<T> {
+    alloc: Global,
+    text: Characters<T>,
+    /// The markers among the placed characters.
+    placed: Markers,
+    /// The markers among the word's characters.
+    word: Markers,
+}
+
+impl<T> Model for FlatText<T> {
+    ghost use Rattle.std.specs.Prelude.{◌≡◌, length};
+    ghost use Rattle.tbr_flat.specs.Flat.{Flat, marked, covered};
+
+    ghost Value = { Flat T };
+
+    ghost view = { λ a. record {
+      placed = marked a.text.placed a.placed.markers;
+      word = marked a.text.word a.word.markers;
+    } };
+
+    ghost invariant = { λ a. (covered a.placed ≡ length a.text.placed) × (covered a.word ≡ length a.text.word) };
+}
+
+/// Items that a word begins with.
+#[derive(Clone, Copy)]
+pub struct Front {
+    /// How many they are.
+    pub count: usize,
+    /// How many of them are markers.
+    pub markers: usize,
+    /// The columns that they take.
+    pub columns: usize,
+}
+
+impl<T> FlatText<T> {
+    /// A text without items. It takes no memory.
+    pub fn new(alloc: Global) -> FlatText<T>
+        ensures { result ≡ record { placed = []; word = [] } }
+    {
+        FlatText {
+            alloc,
+            text: Characters::new(alloc),
+            placed: Markers::new(alloc),
+            word: Markers::new(alloc),
+        }
+    }
+
+    /// Whether the word has a character.
+    pub fn has_word(&self) -> bool
+        ensures { result ≡ has_character self.now.word }
+    {
+        let _ = &self.word;
+        self.text.holds_characters();
+        !self.text.is_word_empty()
+    }
+
+    /// Whether a placed item is a character.
+    pub fn has_placed(&self) -> bool
+        ensures { result ≡ has_character self.now.placed }
+    {
+        let _ = &self.placed;
+        self.text.holds_characters();
+        !self.text.is_placed_empty()
+    }
+
+    /// Begins a walk over the placed items.
+    pub fn items(&self) -> PlacedItems<'_> {
+        PlacedItems::new(self.text.chars(), self.placed.iter())
+    }
+
+    /// How many items the word has.
+    pub fn word_len(&self) -> Result<usize, OutOfMemory>
+        ensures { IfOk result (λ n. n ≡ length self.now.word) }
+    {
+        match self.text.word_len().checked_add(self.word.len()) {
+            Some(len) => Ok(len),
+            None => Err(OutOfMemory),
+        }
+    }
+
+    /// The columns of the word.
+    pub fn word_width<W: CharWidth>(&self) -> Result<usize, OutOfMemory>
+        ensures { IfOk result (λ n. n ≡ items_width W.columns self.now.word) }
+    {
+        let _ = &self.word;
+        self.text.word_width::<W>()
+    }
+
+    /// The columns of the word's first item.
+    pub fn first_width<W: CharWidth>(&self) -> Option<usize>
+        ensures { MatchOption result (self.now.word ≡ []) (λ n. (i : Item T) × (rest : List (Item T))
+            × (self.now.word ≡ i ∷ rest) × (n ≡ item_width W.columns i)) }
+    {
+        if self.word.begins_with_marker() {
+            return Some(0);
+        }
+        let c = self.text.first()?;
+        Some(W::width(c).unwrap_or(0))
+    }
+
+    /// Adds a marker to the word. Where memory is refused the items stay as they were.
+    pub fn push_marker(&mut self, name: String) -> Result<(), OutOfMemory>
+        ensures { OnOk result (self.new ≡ record self.old { word = self.old.word ++ marker (string_bytes name) ∷ [] }) }
+    {
+        self.word.push(name)
+    }
+}
+
+impl<T: Drop> FlatText<T> {
+    /// Places the word, and answers how many markers it has. It takes the time of moving its text and these.
+    ///
+    /// Where memory is refused the items may be lost.
+    pub fn place_word(&mut self) -> Result<usize, OutOfMemory>
+        ensures markers { IfOk result (λ n. n ≡ length (names_in_items self.old.word)) }
+        ensures placed { OnOk result (self.new ≡ record { placed = self.old.placed ++ self.old.word; word = [] }) }
+    {
+        self.text.holds_characters();
+        let markers = self.word.len();
+        self.text.place_word()?;
+        if let Err(e) = self.placed.append(&mut self.word) {
+            clear(&mut self.text, &mut self.placed, &mut self.word);
+            return Err(e);
+        }
+        Ok(markers)
+    }
+
+    /// Places items that the word begins with, at most `most`: a marker, or characters up to a marker, while they fit
+    /// into `room` columns. It takes the time of going over them.
+    ///
+    /// Where memory is refused the items may be lost.
+    pub fn place_front<W: CharWidth>(
+        &mut self,
+        most: usize,
+        room: usize,
+    ) -> Result<Front, OutOfMemory>
+        requires { 0 < most }
+        ensures some { 0 < length self.old.word → items_width W.columns (take 1 self.old.word) ≤ room →
+            IfOk result (λ front. 0 < front.count) }
+        ensures most { IfOk result (λ front. front.count ≤ most) }
+        ensures within { IfOk result (λ front. front.count ≤ length self.old.word) }
+        ensures room { IfOk result (λ front. front.columns ≤ room) }
+        ensures columns { IfOk result (λ front.
+            front.columns ≡ items_width W.columns (take front.count self.old.word)) }
+        ensures markers { IfOk result (λ front.
+            front.markers ≡ length (names_in_items (take front.count self.old.word))) }
+        ensures placed { IfOk result (λ front. self.new ≡ record {
+          placed = self.old.placed ++ take front.count self.old.word;
+          word = drop front.count self.old.word;
+        }) }
+    {
+        if let Some(name) = self.word.pop_first() {
+            self.placed.push(name)?;
+            return Ok(Front {
+                count: 1,
+                markers: 1,
+                columns: 0,
+            });
+        }
+        self.text.holds_characters();
+        let longest = self.word.before().min(most);
+        let (count, columns) = self.text.place_fitting::<W>(longest, room)?;
+        if let Err(e) = self.placed.add_characters(count) {
+            clear(&mut self.text, &mut self.placed, &mut self.word);
+            return Err(e);
+        }
+        self.word.remove_first(count);
+        Ok(Front {
+            count,
+            markers: 0,
+            columns,
+        })
+    }
+
+    /// Puts the last `last` placed items in front of the word, if they are markers.
+    ///
+    /// Where memory is refused a marker may be lost.
+    pub fn unplace(&mut self, last: usize) -> Result<(), OutOfMemory>
+        ensures { (before line : List (Item T)) → self.old.placed ≡ before ++ line →
+            length line ≡ last → has_character line ≡ false →
+            OnOk result (self.new ≡ record { placed = before; word = line ++ self.old.word }) }
+    {
+        self.text.holds_characters();
+        for _ in 0..last {
+            let Some(name) = self.placed.pop_last() else {
+                return Ok(());
+            };
+            self.word.push_first(name)?;
+        }
+        Ok(())
+    }
+
+    /// Takes the markers out that the word begins with.
+    pub fn take_markers(&mut self) -> Result<Vec<TaggedLineElement<T>>, OutOfMemory>
+        requires { has_character self.old.word ≡ false }
+        ensures markers { IfOk result (λ es.
+            map element_of es.items ≡ map marker_element (names_in_items self.old.word)) }
+        ensures rest { OnOk result (self.new ≡ record self.old { word = [] }) }
+    {
+        let mut markers = Vec::new(self.alloc);
+        while let Some(name) = self.word.pop_first() {
+            markers.push(TaggedLineElement::FragmentStart(name))?;
+        }
+        self.text.holds_characters();
+        Ok(markers)
+    }
+
+    /// Takes away the spaces at the end of the last `most` placed items, back to a marker, and the white space at the
+    /// word's beginning, up to a marker. It answers how many spaces that were. It takes the time of going over the
+    /// word's stored tags.
+    pub fn trim(&mut self, most: usize) -> usize
+        requires { most ≤ length self.old.placed }
+        ensures placed { (before line : List (Item T)) → self.old.placed ≡ before ++ line → length line ≡ most →
+            (self.new.placed ≡ before ++ without_trailing line)
+            × (result + length (without_trailing line) ≡ length line) }
+        ensures word { self.new.word ≡ without_leading self.old.word }
+    {
+        let spaces = self.text.trim_placed(most.min(self.placed.after()));
+        let blanks = self.text.trim_word(self.word.before());
+        self.placed.remove_last(spaces);
+        self.word.remove_first(blanks);
+        spaces
+    }
+
+    /// Forgets all items.
+    pub fn clear(&mut self)
+        ensures { self.new ≡ record { placed = []; word = [] } }
+    {
+        clear(&mut self.text, &mut self.placed, &mut self.word);
+    }
+
+    /// Moves the text of the first `items` placed items to the end of another, and drops their tags and markers. It
+    /// takes the time of the line's length.
+    pub fn move_text(&mut self, items: usize, text: &mut String) -> Result<(), OutOfMemory>
+        requires { items ≤ length self.old.placed }
+        ensures text { OnOk result
+            (chars_of text.new ≡ chars_of text.old ++ item_characters (take items self.old.placed)) }
+        ensures rest { OnOk result (self.new ≡ record self.old { placed = drop items self.old.placed }) }
+    {
+        let mut left = items;
+        while left > 0 {
+            left -= self.move_piece(text, left)?;
+        }
+        Ok(())
+    }
+
+    /// Moves the text of the first placed items to another, of a marker, which has none, or of at most `most`
+    /// characters, all under one tag. It answers how many they are.
+    fn move_piece(&mut self, text: &mut String, most: usize) -> Result<usize, OutOfMemory>
+        requires some { 0 < most }
+        requires placed { most ≤ length self.old.placed }
+        ensures some { IfOk result (λ n. (0 < n) × (n ≤ most)) }
+        ensures text { IfOk result (λ n.
+            chars_of text.new ≡ chars_of text.old ++ item_characters (take n self.old.placed)) }
+        ensures rest { IfOk result (λ n. self.new ≡ record self.old { placed = drop n self.old.placed }) }
+    {
+        if let Some(_name) = self.placed.pop_first() {
+            return Ok(1);
+        }
+        match self.text.move_text(most.min(self.placed.before()), text) {
+            Ok(count) => {
+                self.placed.remove_first(count);
+                Ok(count)
+            }
+            Err(e) => {
+                clear(&mut self.text, &mut self.placed, &mut self.word);
+                Err(e)
+            }
+        }
+    }
+}
+
+impl<T: Eq + Clone + Drop> FlatText<T> {
+    /// Adds a character to the word. The tag is copied only where the one before isn't equal to it.
+    ///
+    /// Where memory is refused the items may be lost.
+    pub fn push(&mut self, c: char, tag: &T) -> Result<(), OutOfMemory>
+        requires { CopiesAreEqual T.is_clone T.eq }
+        ensures { OnOk result ((a : T) × (T.eq a tag.now ≡ true)
+            × (self.new ≡ record self.old { word = self.old.word ++ glyph c a ∷ [] })) }
+    {
+        self.word.add_characters(1)?;
+        if let Err(e) = self.text.push(c, tag) {
+            clear(&mut self.text, &mut self.placed, &mut self.word);
+            return Err(e);
+        }
+        Ok(())
+    }
+
+    /// Adds a text of `count` characters to the word. The tag is copied only where the one before isn't equal to it.
+    ///
+    /// Where memory is refused the items may be lost.
+    pub fn push_text(&mut self, text: &str, count: usize, tag: &T) -> Result<(), OutOfMemory>
+        requires faithful { CopiesAreEqual T.is_clone T.eq }
+        requires some { 0 < count }
+        requires count { count ≡ length (chars text.now) }
+        ensures { OnOk result ((a : T) × (T.eq a tag.now ≡ true)
+            × (self.new ≡ record self.old { word = self.old.word ++ text_items (chars text.now) a })) }
+    {
+        self.word.add_characters(count)?;
+        if let Err(e) = self.text.push_text(text, count, tag) {
+            clear(&mut self.text, &mut self.placed, &mut self.word);
+            return Err(e);
+        }
+        Ok(())
+    }
+
+    /// Places `count` spaces before the word. It takes the time of going over the word's stored tags.
+    ///
+    /// Where the spaces part characters under one stored tag, that is copied, and the word's first characters are under
+    /// the copy. Where memory is refused the items may be lost.
+    pub fn push_spaces(&mut self, count: usize, tag: T) -> Result<(), OutOfMemory>
+        requires faithful { CopiesAreEqual T.is_clone T.eq }
+        requires some { 0 < count }
+        ensures placed { OnOk result ((a : T) × (T.eq a tag ≡ true)
+            × (self.new.placed ≡ self.old.placed ++ spaces count a)) }
+        ensures word { OnOk result (SameItems T.eq self.new.word self.old.word) }
+    {
+        self.placed.add_characters(count)?;
+        if let Err(e) = self.text.push_spaces(count, tag) {
+            clear(&mut self.text, &mut self.placed, &mut self.word);
+            return Err(e);
+        }
+        Ok(())
+    }
+
+    /// Hands out the first `items` placed items as a line. It takes the time of the line's length.
+    pub fn take_line(&mut self, items: usize) -> Result<TaggedLine<T>, OutOfMemory>
+        requires faithful { CopiesAreEqual T.is_clone T.eq }
+        requires placed { items ≤ length self.old.placed }
+        ensures items { IfOk result (λ line. SameItems T.eq (items_of line) (take items self.old.placed)) }
+        ensures merged { IfOk result (λ line. IsMerged T.eq line) }
+        ensures rest { OnOk result (self.new ≡ record self.old { placed = drop items self.old.placed }) }
+    {
+        let mut line = TaggedLine::new(self.alloc);
+        let mut left = items;
+        while left > 0 {
+            left -= self.move_element(&mut line, left)?;
+        }
+        Ok(line)
+    }
+
+    /// Hands the first placed items to a line, a marker, or at most `most` characters, all under one tag. It answers
+    /// how many they are.
+    fn move_element(&mut self, line: &mut TaggedLine<T>, most: usize) -> Result<usize, OutOfMemory>
+        requires faithful { CopiesAreEqual T.is_clone T.eq }
+        requires some { 0 < most }
+        requires placed { most ≤ length self.old.placed }
+        ensures some { IfOk result (λ n. (0 < n) × (n ≤ most)) }
+        ensures items { IfOk result (λ n.
+            SameItems T.eq (items_of line.new) (items_of line.old ++ take n self.old.placed)) }
+        ensures merged { IsMerged T.eq line.old → OnOk result (IsMerged T.eq line.new) }
+        ensures rest { IfOk result (λ n. self.new ≡ record self.old { placed = drop n self.old.placed }) }
+    {
+        if let Some(name) = self.placed.pop_first() {
+            line.push(TaggedLineElement::FragmentStart(name))?;
+            return Ok(1);
+        }
+        match self.text.take_piece(most.min(self.placed.before())) {
+            Ok((count, piece)) => {
+                self.placed.remove_first(count);
+                line.push_str(piece)?;
+                Ok(count)
+            }
+            Err(e) => {
+                clear(&mut self.text, &mut self.placed, &mut self.word);
+                Err(e)
+            }
+        }
+    }
+}
+
+/// Forgets all items.
+fn clear<T: Drop>(text: &mut Characters<T>, placed: &mut Markers, word: &mut Markers)
+    ensures text { text.new ≡ record { placed = []; word = [] } }
+    ensures placed { placed.new ≡ record { markers = []; after = 0 } }
+    ensures word { word.new ≡ record { markers = []; after = 0 } }
+{
+    text.clear();
+    placed.clear();
+    word.clear();
+}

@@ -1,6 +1,0 @@
-use Rattle.std.proofs.Common.{◌∙◌, sym}
-use Rattle.tbr_wrap.proofs.storage.TaggedCharacters.{flat_word_len}
-use Rattle.tbr_wrap.proofs.flat.characters.Characters.word_len.Goals as goal
-
-pub returns : goal.returns
-returns g c = rw (← c.self.view_is) (c.len.ensures.len ∙ sym (flat_word_len c.self.inside.placed c.self.inside.word c.self.inside.tags c.self.invariant))

@@ -1,6 +1,0 @@
-use Rattle.tbr_wrap.proofs.storage.TrimmedCharacters.{word_columns}
-use Rattle.tbr_wrap.proofs.flat.characters.Characters.word_width.Goals as goal
-
-pub returns : goal.returns
-returns g c =
-    rw (← c.self.view_is, ← word_columns g.W.CharWidth.columns c.self.inside.placed c.self.inside.word c.self.inside.tags c.self.invariant) c.width.ensures

@@ -1,0 +1,47 @@
+-- The markers among items, counted.
+use Rattle.std.proofs.Common.{◌≡◌, ℕ, zero, suc, nat_lt, ◌+◌, ◌≤◌, true, List, [], ◌∷◌, length, inl, inr, refl, sym, ◌∙◌, arith}
+use Rattle.std.proofs.lemmas.Bool.{cond_both, cases_lt, lt-ltb, le-ltb}
+use Rattle.tbr_model.specs.Run.{Item, glyph, marker, has_character}
+use Rattle.tbr_model.specs.Rule.{spaces, is_space_item, without_trailing}
+use Rattle.tbr_model.specs.Markers.{names_in_items}
+use Rattle.tbr_flat.proofs.MarkedItems.{markers-append}
+
+pub markers_within : {A : Type 0} (is : List (Item A)) → length (names_in_items is) ≤ length is
+markers_within [] = omega arith
+markers_within (glyph c a ∷ is) = omega (arith, markers_within is)
+markers_within (marker name ∷ is) = omega (arith, markers_within is)
+
+one_more : (m n : ℕ) → nat_lt (suc m) (suc n) ≡ nat_lt m n
+one_more m n = elim (cases_lt m n) [
+  | inl less ↦ lt-ltb _ _ (omega (arith, less)) ∙ sym (lt-ltb m n less)
+  | inr most ↦ le-ltb _ _ (omega (arith, most)) ∙ sym (le-ltb m n most)
+]
+
+-- there is a character where there are more items than markers
+pub has_from_counts : {A : Type 0} (is : List (Item A)) → nat_lt (length (names_in_items is)) (length is) ≡ has_character is
+has_from_counts [] = refl
+has_from_counts (glyph c a ∷ is) = lt-ltb _ _ (omega (arith, markers_within is))
+has_from_counts (marker name ∷ is) = one_more (length (names_in_items is)) (length is) ∙ has_from_counts is
+
+pub spaces_markers : {A : Type 0} (n : ℕ) (a : A) → length (names_in_items (spaces n a)) ≡ 0
+spaces_markers zero a = refl
+spaces_markers (suc n) a = spaces_markers n a
+
+space_markers : {A : Type 0} (i : Item A) → is_space_item i ≡ true → length (names_in_items (i ∷ [])) ≡ 0
+space_markers (glyph c a) e = refl
+space_markers (marker name) e = cc
+
+-- spaces that are taken away at the end are no markers
+pub trailing_markers : {A : Type 0} (is : List (Item A)) → length (names_in_items (without_trailing is)) ≡ length (names_in_items is)
+trailing_markers [] = refl
+trailing_markers {A} (i ∷ is) = go (without_trailing is) refl (trailing_markers is)
+  where
+    go : (ks : List (Item A)) → without_trailing is ≡ ks → length (names_in_items (without_trailing is)) ≡ length (names_in_items is) →
+        length (names_in_items (without_trailing (i ∷ is))) ≡ length (names_in_items (i ∷ is))
+    go [] e k =
+        let none = rw e at k in
+        rw e (cond_both (is_space_item i) [] (i ∷ []) (λ (ks : List (Item A)). length (names_in_items ks) ≡ length (names_in_items (i ∷ is)))
+        (λ t. omega (arith, none, space_markers i t, markers-append (i ∷ []) is)) (λ _. omega (arith, none, markers-append (i ∷ []) is)))
+    go (x ∷ ks) e k =
+        let same = rw e at k in
+        rw e (omega (arith, same, markers-append (i ∷ []) is, markers-append (i ∷ []) (x ∷ ks)))
