@@ -14,7 +14,7 @@ use Rattle.tbr_tagged.proofs.TextBehind.{chars_push, chars_none}
 
 -- ---- what is left of a text
 
--- Behind a place in bytes these characters are left.
+-- After a place in bytes these characters are left.
 pub record IsAfter (bytes : List ℕ) (i n : ℕ) (cs : List ℕ) : Type 0 where
   pub parts : IsLeft bytes i n
   pub seen : chars (drop i bytes) ≡ cs

@@ -18,7 +18,7 @@ glyphs (c ∷ cs) (t ∷ ts) = glyph c t ∷ glyphs cs ts
 abbrev pub flat : {A : Type 0} → List ℕ → List ℕ → List A → Flat A
 flat placed word ts = record { placed = glyphs placed ts; word = glyphs word (drop (length placed) ts) }
 
--- Behind a place in bytes a text of so many characters is left.
+-- After a place in bytes a text of so many characters is left.
 pub record IsLeft (bytes : List ℕ) (start len : ℕ) : Type 0 where
   pub within : start ≤ length bytes
   pub utf8 : is_utf8 (drop start bytes) ≡ true

@@ -57,7 +57,6 @@ impl<T> Characters<T> {
     pub fn word_len(&self) -> usize
         ensures { result ≡ length self.now.word }
     {
-        let _ = &self.tags;
         self.word.len()
     }
 
@@ -77,7 +76,6 @@ impl<T> Characters<T> {
     pub fn is_placed_empty(&self) -> bool
         ensures { IsTrue result ↔ (self.now.placed ≡ []) }
     {
-        let _ = &self.tags;
         self.placed.is_empty()
     }
 
@@ -86,7 +84,6 @@ impl<T> Characters<T> {
         ensures { MatchOption result (self.now.word ≡ [])
             (λ c. (a : T) × (rest : List (Item T)) × (self.now.word ≡ glyph c a ∷ rest)) }
     {
-        let _ = &self.tags;
         self.word.first()
     }
 
@@ -103,7 +100,6 @@ impl<T> Characters<T> {
         ensures ok { OnOk result (self.new ≡ record { placed = self.old.placed ++ self.old.word; word = [] }) }
         ensures err { OnErr result (self.new ≡ self.old) }
     {
-        let _ = &self.tags;
         self.placed.append(&mut self.word)?;
         Ok(())
     }
@@ -112,7 +108,6 @@ impl<T> Characters<T> {
     pub fn word_width<W: CharWidth>(&self) -> Result<usize, OutOfMemory>
         ensures { IfOk result (λ n. n ≡ items_width W.columns self.now.word) }
     {
-        let _ = &self.tags;
         self.word.width::<W>()
     }
 

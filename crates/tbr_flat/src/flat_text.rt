@@ -72,7 +72,6 @@ impl<T> FlatText<T> {
     pub fn has_word(&self) -> bool
         ensures { result ≡ has_character self.now.word }
     {
-        let _ = &self.word;
         self.text.holds_characters();
         !self.text.is_word_empty()
     }
@@ -81,7 +80,6 @@ impl<T> FlatText<T> {
     pub fn has_placed(&self) -> bool
         ensures { result ≡ has_character self.now.placed }
     {
-        let _ = &self.placed;
         self.text.holds_characters();
         !self.text.is_placed_empty()
     }
@@ -105,7 +103,6 @@ impl<T> FlatText<T> {
     pub fn word_width<W: CharWidth>(&self) -> Result<usize, OutOfMemory>
         ensures { IfOk result (λ n. n ≡ items_width W.columns self.now.word) }
     {
-        let _ = &self.word;
         self.text.word_width::<W>()
     }
 

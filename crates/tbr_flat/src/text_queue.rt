@@ -57,7 +57,6 @@ impl TextQueue {
         ensures len { result ≡ length self.now }
         ensures small { result < 2 ^ 63 }
     {
-        let _ = &self.text;
         self.len
     }
 
