@@ -1,16 +1,19 @@
 -- Markers that are walked over, and lines that are taken one by one.
-use Rattle.std.proofs.Common.{◌≡◌, ℕ, zero, suc, ◌<◌, Bool, Option, take, drop, subst, List, [], ◌∷◌, ◌++◌, map, length, get_or, refl, ap, sym, ◌∙◌, arith, append_assoc, append-nil}
+use Rattle.std.proofs.Common.{◌≡◌, ℕ, zero, suc, ◌<◌, ◌||◌, Bool, true, Option, drop, subst, List, [], ◌∷◌, ◌++◌, map, length, get_or, refl, ap, sym, ◌∙◌, arith, append_assoc, append-nil}
 use Rattle.std.specs.List.{AllZip}
 use Rattle.std.proofs.lemmas.List.{map-append}
+use Rattle.tbr_model.specs.Fits.{lines_fit}
 use Rattle.tbr_model.specs.Run.{Item, marker_entry}
-use Rattle.tbr_model.specs.Rule.{Event, entry}
+use Rattle.tbr_model.specs.Rule.{Event, entry, progress, finished}
+use Rattle.tbr_model.proofs.rule.DoneLines.{finished_adds}
 use Rattle.tbr_lines.specs.Elements.{Element, marker_element}
-use Rattle.tbr_lines.specs.Block.{Block, grown, after_marker}
+use Rattle.tbr_lines.specs.Block.{Block, Settings, settings_of, progress_of, lines, all_lines, left, allows, grown, after_marker, flushed, after_flush, line_handed_out, lines_handed_out}
 use Rattle.tbr_lines.specs.Outcome.{done}
-use Rattle.tbr_lines.proofs.Outcomes.{live_done}
-use Rattle.tbr_lines.specs.State.{State, EndsRun, lines_left, line_taken, lines_taken}
+use Rattle.tbr_lines.proofs.Outcomes.{live_done, live_goes}
 use Rattle.tbr_lines.specs.Wrapped.{ShowsText}
-use Rattle.tbr_lines.proofs.LinesLeft.{lines_left-lines_taken, taken_one_more, many_padding, many_width, handed_and_left, ends_lines_taken}
+use Rattle.tbr_lines.proofs.Blocks.{if_allowed}
+use Rattle.tbr_lines.proofs.BlockLaws.{HandsOne, flush_leaves, flush_allowed}
+use Rattle.tbr_lines.proofs.LinesLeft.{many_failure, many_settings, many_events, handed_one_more}
 use Rattle.tbr_lines.proofs.SameItems.{all_zip_append}
 use Rattle.tbr_lines.specs.View.{element_of}
 use Rattle.tbr_lines.specs.declared.TaggedLineElement.{TaggedLineElement}
@@ -45,41 +48,72 @@ one_marker_more {T} first old new names name is after =
 
 -- ---- lines that are taken one by one
 
-take_one_more : {X : Type 0} (n : ℕ) (xs : List X) (x : X) (rest : List X) → drop n xs ≡ x ∷ rest → take (suc n) xs ≡ take n xs ++ x ∷ []
-take_one_more zero [] x rest e = cc
-take_one_more zero (y ∷ xs) x rest e = let first : y ≡ x = cc in cc
-take_one_more (suc n) [] x rest e = cc
-take_one_more (suc n) (y ∷ xs) x rest e = ap (λ ys. y ∷ ys) (take_one_more n xs x rest e)
+more_dropped : {X : Type 0} (n : ℕ) (xs ys : List X) (x : X) (rest : List X) → drop n xs ≡ x ∷ rest → drop n (xs ++ ys) ≡ x ∷ drop (suc n) (xs ++ ys)
+more_dropped zero [] ys x rest e = cc
+more_dropped zero (z ∷ xs) ys x rest e = let first : z ≡ x = cc in ap (λ w. w ∷ xs ++ ys) first
+more_dropped (suc n) [] ys x rest e = cc
+more_dropped (suc n) (z ∷ xs) ys x rest e = more_dropped n xs ys x rest e
 
-module _ {T : Type 0} (columns : ℕ → Option ℕ) (eq : T → T → Bool) (first old new : State T) (n : ℕ) (lines : List (List (Element T))) where
-  -- one more
-  pub one_line_more : (more : List (List (Element T))) (line : List (Element T)) (text : List (Item T)) (rest : List (List (Item T))) → old ≡ lines_taken n first → lines_left old ≡ text ∷ rest → new ≡ line_taken old → more ≡ lines ++ line ∷ [] →
-      ShowsText columns eq old.padding old.width line text → AllZip (ShowsText columns eq first.padding first.width) lines (take n (lines_left first)) →
-      (m : ℕ) × (new ≡ lines_taken m first) × AllZip (ShowsText columns eq first.padding first.width) more (take m (lines_left first))
-  one_line_more more line text rest is left taken pushed shown all =
-      let padding : old.padding ≡ first.padding = ap (λ (s : State T). s.padding) is ∙ many_padding n first in
-      let width : old.width ≡ first.width = ap (λ (s : State T). s.width) is ∙ many_width n first in
-      let here : drop n (lines_left first) ≡ text ∷ rest = sym (lines_left-lines_taken n first) ∙ ap lines_left (sym is) ∙ left in
-      let both : take (suc n) (lines_left first) ≡ take n (lines_left first) ++ text ∷ [] = take_one_more n (lines_left first) text rest here in
-      let line_shown : ShowsText columns eq first.padding first.width line text = rw (← padding) (rw (← width) shown) in (
-        suc n,
-        taken ∙ ap line_taken is ∙ taken_one_more n first,
-        rw (pushed, both) (all_zip_append (ShowsText columns eq first.padding first.width) lines (line ∷ []) (take n (lines_left first)) (text ∷ []) all (line_shown, tt)),
-      )
+-- Lines were taken from a block, which show the first of those that a flush leaves.
+pub record HasTaken {T : Type 0} (columns : ℕ → Option ℕ) (eq : T → T → Bool) (first block : Block T) (lines : List (List (Element T))) : Type 0 where
+  pub count : ℕ
+  pub block_is : block ≡ lines_handed_out count first
+  pub given : List (List (Item T))
+  pub parts : (flushed columns first).ended ≡ given ++ (flushed columns block).ended
+  pub shown : AllZip (ShowsText columns eq first.padding first.width) lines given
+
+module _ {T : Type 0} (columns : ℕ → Option ℕ) (eq : T → T → Bool) where
+  -- a line that is handed out is the first of those that a flush leaves
+  one_less : (s : Block T) (text : List (Item T)) (rest : List (List (Item T))) → left columns s ≡ text ∷ rest → (flushed columns s).ended ≡ text ∷ (flushed columns (line_handed_out s)).ended
+  one_less s text rest e = go s.ended refl
+    where
+      adds : (more : List (List (Item T))) × (all_lines columns s ≡ lines columns s ++ more)
+      adds = finished_adds columns s.width (progress_of columns s)
+
+      go : (es : List (List (Item T))) → s.ended ≡ es → (flushed columns s).ended ≡ text ∷ (flushed columns (line_handed_out s)).ended
+      go [] is =
+          let here : drop s.handed (lines columns s) ≡ text ∷ rest = ap (λ ls. ls ++ drop s.handed (lines columns s)) (sym is) ∙ e in
+          let more = more_dropped s.handed (lines columns s) adds.0 text rest here in
+          rw is (ap (drop s.handed) adds.1 ∙ more ∙ ap (λ ls. text ∷ drop (suc s.handed) ls) (sym adds.1))
+      go (l ∷ es) is =
+          let same : l ≡ text = (let whole = ap (λ ls. ls ++ drop s.handed (lines columns s)) (sym is) ∙ e in cc) in
+          rw is (ap (λ x. x ∷ es ++ drop s.handed (all_lines columns s)) same)
+
+  pub none_taken : (block : Block T) → HasTaken columns eq block block []
+  none_taken block = record { count = 0; block_is = refl; given = []; parts = refl; shown = tt }
+
+  -- one line more
+  pub one_taken : (first old new : Block T) (lines more : List (List (Element T))) (line : List (Element T)) → HasTaken columns eq first old lines → HandsOne columns eq old line new → more ≡ lines ++ line ∷ [] → HasTaken columns eq first new more
+  one_taken first old new lines more line h one pushed =
+      let settings : settings_of old ≡ settings_of first = ap settings_of h.block_is ∙ many_settings h.count first in
+      let padding : old.padding ≡ first.padding = ap (λ (k : Settings T). k.padding) settings in
+      let width : old.width ≡ first.width = ap (λ (k : Settings T). k.width) settings in
+      let shows : ShowsText columns eq first.padding first.width line one.text = rw (← padding) (rw (← width) one.shows) in
+      record {
+        count = suc h.count;
+        block_is = one.leaves ∙ ap line_handed_out h.block_is ∙ handed_one_more h.count first;
+        given = h.given ++ one.text ∷ [];
+        parts = h.parts ∙ ap (λ ls. h.given ++ ls) (one_less old one.text one.rest one.left_is ∙ ap (λ (s : Block T). one.text ∷ (flushed columns s).ended) (sym one.leaves))
+            ∙ sym (append_assoc h.given (one.text ∷ []) (flushed columns new).ended);
+        shown = rw pushed (all_zip_append (ShowsText columns eq first.padding first.width) lines (line ∷ []) h.given (one.text ∷ []) h.shown (shows, tt));
+      }
 
   -- those that were taken, and the rest
-  pub all_lines : (rest all : List (List (Element T))) → new ≡ lines_taken n first → all ≡ lines ++ rest → AllZip (ShowsText columns eq first.padding first.width) lines (take n (lines_left first)) →
-      ((texts : List (List (Item T))) × (names : List (List ℕ)) × EndsRun columns new texts names × AllZip (ShowsText columns eq new.padding new.width) rest (lines_left new ++ texts)) →
-      (texts : List (List (Item T))) × (names : List (List ℕ)) × EndsRun columns first texts names × AllZip (ShowsText columns eq first.padding first.width) all (lines_left first ++ texts)
-  all_lines rest all is whole front back =
-      let (texts, names, ends, shown) = back in
-      let padding : new.padding ≡ first.padding = ap (λ (s : State T). s.padding) is ∙ many_padding n first in
-      let width : new.width ≡ first.width = ap (λ (s : State T). s.width) is ∙ many_width n first in
-      let behind : AllZip (ShowsText columns eq first.padding first.width) rest (lines_left new ++ texts) = rw (← padding) (rw (← width) shown) in
-      let parts : take n (lines_left first) ++ (lines_left new ++ texts) ≡ lines_left first ++ texts =
-      sym (append_assoc (take n (lines_left first)) (lines_left new) texts) ∙ ap (λ s. (take n (lines_left first) ++ lines_left s) ++ texts) is ∙ ap (λ ls. ls ++ texts) (handed_and_left n first) in (
-        texts,
-        names,
-        (ends_lines_taken columns texts names n first).1 (subst (λ s. EndsRun columns s texts names) is ends),
-        rw (whole, ← parts) (all_zip_append (ShowsText columns eq first.padding first.width) lines rest (take n (lines_left first)) (lines_left new ++ texts) front behind),
+  pub all_taken : (first block : Block T) (lines rest all : List (List (Element T))) → HasTaken columns eq first block lines → all ≡ lines ++ rest →
+      ((end : Block T) × (after_flush columns block ≡ done end) × AllZip (ShowsText columns eq block.padding block.width) rest end.ended) →
+      (end : Block T) × (after_flush columns first ≡ done end) × AllZip (ShowsText columns eq first.padding first.width) all end.ended
+  all_taken first block lines rest all h whole (end, ends, shown) =
+      let settings : settings_of block ≡ settings_of first = ap settings_of h.block_is ∙ many_settings h.count first in
+      let padding : block.padding ≡ first.padding = ap (λ (k : Settings T). k.padding) settings in
+      let width : block.width ≡ first.width = ap (λ (k : Settings T). k.width) settings in
+      let may : block.may_overflow ≡ first.may_overflow = ap (λ (k : Settings T). k.may_overflow) settings in
+      let failure : block.failure ≡ first.failure = ap (λ (s : Block T). s.failure) h.block_is ∙ many_failure h.count first in
+      let events : block.events ≡ first.events = ap (λ (s : Block T). s.events) h.block_is ∙ many_events h.count first in
+      let allowed : allows columns first (all_lines columns first) ≡ true =
+      sym (λ i. may i || lines_fit columns (width i) (finished columns (width i) (progress columns (width i) (events i))).done) ∙ flush_allowed columns block end ends in
+      let last : AllZip (ShowsText columns eq first.padding first.width) rest (flushed columns block).ended =
+      rw (← padding) (rw (← width) (subst (λ (s : Block T). AllZip (ShowsText columns eq block.padding block.width) rest s.ended) (flush_leaves columns block end ends) shown)) in (
+        flushed columns first,
+        live_goes first.failure _ (sym failure ∙ (live_done block.failure _ end ends).0) ∙ if_allowed columns (allows columns first (all_lines columns first)) (flushed columns first) allowed,
+        rw (whole, h.parts) (all_zip_append (ShowsText columns eq first.padding first.width) lines rest h.given (flushed columns block).ended h.shown last),
       )

@@ -11,7 +11,6 @@ use std::alloc::Global;
 use tbr_lines::{Error, TaggedLine, WhiteSpace, WrappedBlock};
 
 /// The lines of a text at two columns or more: the best layout's. It refuses only where memory is refused.
-#[tactic(auto, using(tbr_lines::proofs::NormalTexts::text_normal, tbr_lines::proofs::NormalTexts::best_lines))]
 pub fn wrapped(alloc: Global, text: &str, width: usize) -> Result<Vec<TaggedLine<()>>, Error>
     requires { 2 ≤ width }
     ensures best { IfOk result (λ lines. (texts : List (List (Item (Unit {0}))))

@@ -1,10 +1,9 @@
 //! Lines that are taken one by one, and then the rest.
-ghost use Rattle.std.specs.Prelude.{◌++◌, IfOk, List, ℕ};
+ghost use Rattle.std.specs.Prelude.{◌≡◌, IfOk};
 ghost use Rattle.std.specs.List.{AllZip};
-ghost use Rattle.tbr_model.specs.Run.{Item};
 ghost use Rattle.tbr_lines.specs.Copies.{CopiesAreEqual};
-ghost use Rattle.tbr_lines.specs.Block.{left, state_seen};
-ghost use Rattle.tbr_lines.specs.State.{EndsRun};
+ghost use Rattle.tbr_lines.specs.Block.{Block, after_flush};
+ghost use Rattle.tbr_lines.specs.Outcome.{done};
 ghost use Rattle.tbr_lines.specs.Wrapped.{ShowsText};
 
 use std::alloc::Global;
@@ -17,9 +16,8 @@ pub fn line_by_line<T: Eq + Clone + Drop, W: CharWidth>(
     mut block: WrappedBlock<T, W>,
 ) -> Result<Vec<TaggedLine<T>>, Error>
     requires { CopiesAreEqual T.is_clone T.eq }
-    ensures lines { IfOk result (λ lines. (texts : List (List (Item T))) × (names : List (List ℕ))
-        × EndsRun W.columns (state_seen W.columns block) texts names
-        × AllZip (ShowsText W.columns T.eq block.padding block.width) lines.items (left W.columns block ++ texts)) }
+    ensures { IfOk result (λ lines. (end : Block T) × (after_flush W.columns block ≡ done end)
+        × AllZip (ShowsText W.columns T.eq block.padding block.width) lines.items end.ended) }
 {
     let mut lines = Vec::new(alloc);
     while let Some(line) = block.next_line()? {

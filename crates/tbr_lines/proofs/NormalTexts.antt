@@ -1,13 +1,16 @@
 -- Runs of texts in `Normal`, for callers.
-use Rattle.std.proofs.Common.{ℕ, Bool, false, Option, List, [], ◌∷◌, ◌++◌, refl, subst}
+use Rattle.std.proofs.Common.{◌≡◌, ℕ, ◌<◌, Bool, false, Option, Some, List, [], ◌∷◌, ◌++◌, refl, ap, sym, ◌∙◌, subst}
 use Rattle.std.specs.List.{AllZip}
 use Rattle.tbr_model.specs.Run.{Entry, Item}
 use Rattle.tbr_model.specs.declared.white_space.WhiteSpace.TheVariants.{Normal}
 use Rattle.tbr_model.specs.Hard.{HasMode}
 use Rattle.tbr_model.proofs.lists.Each.{each_append}
 use Rattle.tbr_tagged.specs.Elements.{Element}
+use Rattle.tbr_tagged.specs.Outcome.{done}
 use Rattle.tbr_wrap.specs.Wrapped.{HasBestLines, ShowsText}
-use Rattle.tbr_wrap.specs.State.{State, text_entries, IsNormal, JoinsRun, EndsRun, empty_block, lines_left}
+use Rattle.tbr_wrap.specs.State.{text_entries, IsNormal}
+use Rattle.tbr_wrap.specs.Block.{Block, new_block, all_lines, grown, text_events, after_text, after_flush}
+use Rattle.tbr_wrap.proofs.runs.BlockLaws.{text_leaves, flush_leaves, flush_best, entries_run}
 
 -- a text in `Normal` makes a `Normal` run
 pub text_normal : {A : Type 0} (cs : List ℕ) (a b : A) → IsNormal (text_entries cs a b Normal)
@@ -19,9 +22,17 @@ pub normal_with : {A : Type 0} (run : List (Entry A)) (cs : List ℕ) (a b : A) 
 normal_with run cs a b h = each_append (HasMode Normal) run (text_entries cs a b Normal) h (text_normal cs a b)
 
 -- what a new block hands out whose only run is `Normal`
-pub best_lines : {A : Type 0} (columns : ℕ → Option ℕ) (eq : A → A → Bool) (width : ℕ) (padding : Option A) (run : List (Entry A)) (s : State A) (lines : List (List (Element A))) → IsNormal run → JoinsRun (empty_block width false padding) run s →
-    ((texts : List (List (Item A))) × (names : List (List ℕ)) × EndsRun columns s texts names × AllZip (ShowsText columns eq s.padding s.width) lines (lines_left s ++ texts)) →
-    (texts : List (List (Item A))) × HasBestLines columns width run texts × AllZip (ShowsText columns eq padding width) lines texts
-best_lines {A} columns eq width padding run s lines normal joins all =
-    let moved = subst (λ (q : State A). (texts : List (List (Item A))) × (names : List (List ℕ)) × EndsRun columns q texts names × AllZip (ShowsText columns eq q.padding q.width) lines (lines_left q ++ texts)) joins.is all in
-    (joins.lines ++ moved.0, moved.2.shown.best refl normal, moved.3)
+pub best_lines : {A : Type 0} (columns : ℕ → Option ℕ) (one : columns 32 ≡ Some 1) (eq : A → A → Bool) (width : ℕ) (wide : 0 < width) (padding : Option A) (cs : List ℕ) (a b : A) (s : Block A) (lines : List (List (Element A))) →
+    after_text columns cs a b Normal (new_block width false padding) ≡ done s → ((t : Block A) × (after_flush columns s ≡ done t) × AllZip (ShowsText columns eq s.padding s.width) lines t.ended) →
+    (texts : List (List (Item A))) × HasBestLines columns width (text_entries cs a b Normal) texts × AllZip (ShowsText columns eq padding width) lines texts
+best_lines {A} columns one eq width wide padding cs a b s lines joins given =
+    let first : Block A = new_block width false padding in
+    let q : Block A = grown first (text_events cs a b Normal) in
+    let is : s ≡ q = text_leaves columns first s cs a b Normal joins in
+    let (t, ends, shown) = subst (λ (r : Block A). (t : Block A) × (after_flush columns r ≡ done t) × AllZip (ShowsText columns eq r.padding r.width) lines t.ended) is given in
+    let run = entries_run (text_entries cs a b Normal) in
+    let best = flush_best columns one q wide t ends refl (subst (λ (es : List (Entry A)). IsNormal es) (sym run) (text_normal cs a b)) in (
+      all_lines columns q,
+      subst (λ (es : List (Entry A)). HasBestLines columns width es (all_lines columns q)) run best,
+      subst (λ (r : Block A). AllZip (ShowsText columns eq padding width) lines r.ended) (flush_leaves columns q t ends) shown,
+    )

@@ -8,6 +8,8 @@ pub use tbr_tagged::laws::{
     copies_of_lists_are_equal, equal_tags_mean_the_same, merged_pieces_have_characters,
 };
 pub use tbr_wrap::laws::{
-    annotations_change_no_promise, handed_out_lines_have_ended, lines_are_handed_out_in_order,
-    lines_join_behind_those_left, texts_are_shown_by_meaning,
+    annotations_change_no_promise, blocks_stay_sound, flushes_are_too_narrow_for_characters,
+    lines_are_handed_out_in_order, lines_join_behind_those_left, loose_markers_are_last,
+    markers_join_the_word, runs_decide_what_is_open, runs_end_as_promised,
+    texts_are_shown_by_meaning, texts_are_too_narrow_for_characters,
 };

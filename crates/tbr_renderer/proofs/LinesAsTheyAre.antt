@@ -6,7 +6,7 @@ use Rattle.std.proofs.lemmas.List.{map-append}
 use Rattle.tbr_model.specs.Run.{Item}
 use Rattle.tbr_lines.specs.Copies.{equal_lists}
 use Rattle.tbr_lines.specs.Elements.{SameItems}
-use Rattle.tbr_lines.specs.State.{State, lines_left}
+use Rattle.tbr_lines.specs.Block.{Block, left}
 use Rattle.tbr_lines.specs.Wrapped.{padding_of}
 use Rattle.tbr_lines.proofs.MappedTags.{means_same_items}
 use Rattle.tbr_renderer.specs.Renderer.{Line, text, Renderer, with_line}
@@ -35,20 +35,20 @@ module _ {D M : Type 0} (columns : ℕ → Option ℕ) where
 
 module _ {A M : Type 0} (eq : A → A → Bool) (f : A → M) (agree : (v w : Vec A) → equal_lists eq v w ≡ true → tag_meant f v ≡ tag_meant f w) (columns : ℕ → Option ℕ) where
   -- lines in a block's text mean what the block's do
-  texts_mean : (b : State (Vec A)) → b.padding ≡ None → (texts left : List (List (Item (Vec A)))) → AllZip (SameItems (equal_lists eq)) texts left → map (map_line (tag_meant f)) (text_lines texts) ≡ text_lines (map (line_meant columns f b) left)
+  texts_mean : (b : Block (Vec A)) → b.padding ≡ None → (texts others : List (List (Item (Vec A)))) → AllZip (SameItems (equal_lists eq)) texts others → map (map_line (tag_meant f)) (text_lines texts) ≡ text_lines (map (line_meant columns f b) others)
   texts_mean b bare [] [] h = refl
-  texts_mean b bare [] (js ∷ left) h = absurd h
+  texts_mean b bare [] (js ∷ others) h = absurd h
   texts_mean b bare (is ∷ texts) [] h = absurd h
-  texts_mean b bare (is ∷ texts) (js ∷ left) h =
+  texts_mean b bare (is ∷ texts) (js ∷ others) h =
       let one : items_meant f is ≡ line_meant columns f b js =
       means_same_items (tag_meant f) (equal_lists eq) agree is js h.0 ∙ ap (items_meant f) (sym (append-nil js)) ∙ ap (λ (o : Option (Vec A)). items_meant f (js ++ padding_of columns o b.width js)) (sym bare) in
-      ap (λ ks. text ks ∷ map (map_line (tag_meant f)) (text_lines texts)) one ∙ ap (λ ls. text (line_meant columns f b js) ∷ ls) (texts_mean b bare texts left h.1)
+      ap (λ ks. text ks ∷ map (map_line (tag_meant f)) (text_lines texts)) one ∙ ap (λ ls. text (line_meant columns f b js) ∷ ls) (texts_mean b bare texts others h.1)
 
   -- they are added as they are
-  pub added_as_is : {D : Type 0} (b : State (Vec A)) (r s : Renderer D A (Vec A)) (texts : List (List (Item (Vec A)))) → AddsAsIs r b → AllZip (SameItems (equal_lists eq)) texts (lines_left b) → s ≡ record r { lines = r.lines ++ text_lines texts } →
-      meant f s ≡ fold (with_line columns) (meant f r) (map (line_meant columns f b) (lines_left b))
+  pub added_as_is : {D : Type 0} (b : Block (Vec A)) (r s : Renderer D A (Vec A)) (texts : List (List (Item (Vec A)))) → AddsAsIs r b → AllZip (SameItems (equal_lists eq)) texts (left columns b) → s ≡ record r { lines = r.lines ++ text_lines texts } →
+      meant f s ≡ fold (with_line columns) (meant f r) (map (line_meant columns f b) (left columns b))
   added_as_is {D} b r s texts h same is =
       ap (meant f) is
       ∙ ap (λ (ls : List (Line (List M))). record (meant f r) { lines = ls })
-      (map-append (map_line (tag_meant f)) r.lines (text_lines texts) ∙ ap (λ ls. map (map_line (tag_meant f)) r.lines ++ ls) (texts_mean b h.padding texts (lines_left b) same))
-      ∙ sym (all_as_is columns (meant f r) h.unpadded h.waits (map (line_meant columns f b) (lines_left b)))
+      (map-append (map_line (tag_meant f)) r.lines (text_lines texts) ∙ ap (λ ls. map (map_line (tag_meant f)) r.lines ++ ls) (texts_mean b h.padding texts (left columns b) same))
+      ∙ sym (all_as_is columns (meant f r) h.unpadded h.waits (map (line_meant columns f b) (left columns b)))

@@ -15,12 +15,13 @@ use Rattle.tbr_model.specs.Markers.{marker_items}
 use Rattle.tbr_lines.specs.Elements.{Element, marker_element, items_of, text_items}
 use Rattle.tbr_lines.specs.Padding.{spaces}
 use Rattle.tbr_model.specs.declared.white_space.WhiteSpace.{WhiteSpace}
-use Rattle.tbr_lines.specs.State.{State, empty_block}
+use Rattle.tbr_lines.specs.Block.{Block}
+use Rattle.tbr_lines.specs.Block as block
 use Rattle.tbr_renderer.specs.Renderer.{Line, text, border, line_has_content, Renderer, has_content, line_padding, with_filled, with_line, new_block, last_mode}
 use Rattle.tbr_renderer.specs.Steps.{with_empty_line, block_started}
 use Rattle.tbr_rows.specs.Meant.{map_hole}
-use Rattle.tbr_renderer.specs.Meant.{tag_meant, items_meant, map_line, map_open, meant}
-use Rattle.tbr_renderer.specs.View.{names_of, AreMarkers, open_seen}
+use Rattle.tbr_renderer.specs.Meant.{tag_meant, items_meant, map_line, meant}
+use Rattle.tbr_renderer.specs.View.{names_of, AreMarkers, block_meant}
 
 -- equal lists of annotations mean the same
 module _ {A M : Type 0} (eq : A → A → Bool) (meaning : A → M) (by_meaning : (a b : A) → IsTrue (eq a b) ↔ (meaning a ≡ meaning b)) where
@@ -130,10 +131,10 @@ module _ {D A M : Type 0} (f : A → M) (columns : ℕ → Option ℕ) (r : Rend
 -- ---- blocks that are opened
 
 module _ {D A M : Type 0} (f : A → M) (r : Renderer D A (Vec A)) where
-  pub opened_new : (v : Vec A) (pads : Bool) (b : State (Vec A)) (width : ℕ) (overflows : Bool) → pads ≡ r.options.pad_block_width → tag_meant f v ≡ map f r.annotations → b ≡ empty_block width overflows (if pads then Some v else None) →
-      map_open (tag_meant f) (open_seen b) ≡ new_block (meant f r)
-  opened_new v true b width overflows pads under is = ap (λ s. map_open (tag_meant f) (open_seen s)) is ∙ rw (← pads) (ap (λ (xs : List M). record { padding = Some xs; run = []; blank = false }) under)
-  opened_new v false b width overflows pads under is = ap (λ s. map_open (tag_meant f) (open_seen s)) is ∙ rw (← pads) refl
+  pub opened_new : (columns : ℕ → Option ℕ) (v : Vec A) (pads : Bool) (b : Block (Vec A)) (width : ℕ) (overflows : Bool) → pads ≡ r.options.pad_block_width → tag_meant f v ≡ map f r.annotations → b ≡ block.new_block width overflows (if pads then Some v else None) →
+      block_meant columns f b ≡ new_block (meant f r)
+  opened_new columns v true b width overflows pads under is = ap (block_meant columns f) is ∙ rw (← pads) (ap (λ (xs : List M). record { padding = Some xs; run = []; blank = false }) under)
+  opened_new columns v false b width overflows pads under is = ap (block_meant columns f) is ∙ rw (← pads) refl
 
 -- ---- modes
 

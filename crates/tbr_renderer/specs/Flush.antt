@@ -3,13 +3,10 @@ use Rattle.std.specs.Prelude.{◌≡◌, ℕ, Bool, false, Option, None, Some, L
 use Rattle.std.specs.Global.{Vec}
 use Rattle.tbr_renderer.specs.Meant.{items_meant}
 use Rattle.tbr_model.specs.Run.{Entry, Item}
-use Rattle.tbr_lines.specs.State.{State, empty_block, EndsRun, IsNormal, CharactersFit, VisibleFit}
+use Rattle.tbr_lines.specs.Block.{Block}
+use Rattle.tbr_lines.specs.State.{EndsRun, IsNormal, CharactersFit, VisibleFit}
 use Rattle.tbr_lines.specs.Wrapped.{WordsFit, EndedWordsFit, padding_of}
 use Rattle.tbr_renderer.specs.Renderer.{Open, Renderer, with_line, block_width, may_overflow}
-
--- a block with this run alone, of which no line has ended
-abbrev pub block_of_run : {T : Type 0} → ℕ → Bool → List (Entry T) → State T
-block_of_run width overflows run = record (empty_block width overflows None) { run = run }
 
 -- No word that the end of the run places has a character wider than the block. Of a run that isn't `Normal` it is only
 -- said that no visible character is wider.
@@ -50,11 +47,11 @@ block_lines columns r b texts = map (λ is. is ++ padding_of columns b.padding (
 
 -- a line of a block with its padding, by what it means
 abbrev pub line_meant : {A M : Type 0} →
-    (ℕ → Option ℕ) → (A → M) → State (Vec A) → List (Item (Vec A)) → List (Item (List M))
+    (ℕ → Option ℕ) → (A → M) → Block (Vec A) → List (Item (Vec A)) → List (Item (List M))
 line_meant columns meaning b is = items_meant meaning (is ++ padding_of columns b.padding b.width is)
 
 -- A block's lines come as they are: neither padded, nor behind markers that wait.
-pub record AddsAsIs {D A : Type 0} (r : Renderer D A (Vec A)) (b : State (Vec A)) : Type 0 where
+pub record AddsAsIs {D A : Type 0} (r : Renderer D A (Vec A)) (b : Block (Vec A)) : Type 0 where
   pub padding : b.padding ≡ None
   pub unpadded : r.options.pad_block_width ≡ false
   pub waits : r.waiting ≡ []
@@ -72,7 +69,7 @@ pub record EndsBlock {D A : Type 0} (columns : ℕ → Option ℕ) (r : Renderer
   pub texts : List (List (Item (List A)))
   pub names : List (List ℕ)
   pub fits : RunFits columns (block_width r) (may_overflow r) b.run
-  pub ends : EndsRun columns (block_of_run (block_width r) (may_overflow r) b.run) texts names
+  pub ends : EndsRun columns (block_width r) (may_overflow r) b.run texts names
   pub is : s ≡ flushed columns r (block_lines columns r b texts) names
 
 -- What a flush leaves: where no block is open, what there was.

@@ -2,12 +2,12 @@
 use Rattle.std.specs.Prelude.{◌≡◌, ◌<◌, ℕ, Bool, false, not, ◌&&◌, ⊤, Option, Some, None, List, [], ◌∷◌, map, chars}
 use Rattle.std.specs.Option.{option_map}
 use Rattle.std.specs.Global.{Box, Vec}
+use Rattle.tbr_model.specs.Rule.{run_of}
 use Rattle.tbr_lines.specs.View.{element_of}
 use Rattle.tbr_renderer.specs.Meant.{tag_meant, map_open}
 use Rattle.tbr_renderer.specs.declared.sub.SubRenderer.TheInside.{Inside}
 use Rattle.tbr_lines.specs.Elements.{Element, piece, marker_element, items_of}
-use Rattle.tbr_lines.specs.Block.{Block, state_seen}
-use Rattle.tbr_lines.specs.State.{State, has_begun}
+use Rattle.tbr_lines.specs.Block.{Block, any_line, has_no_character, IsSound}
 use Rattle.tbr_decor.specs.Start as start
 use Rattle.tbr_decor.specs.End as end
 use Rattle.tbr_decor.specs.Ground as ground
@@ -27,23 +27,24 @@ line_seen (Text es) = text (items_of es)
 line_seen (Rule b) = border b
 
 -- an open block as a contract sees it: blank where no line of it has ended and it holds no character
-abbrev pub open_seen : {T : Type 0} → State T → Open T
-open_seen b = record { padding = b.padding; run = b.run; blank = not (has_begun b) && b.no_character }
+abbrev pub open_seen : {T : Type 0} → (ℕ → Option ℕ) → Block T → Open T
+open_seen columns b = record {
+  padding = b.padding;
+  run = run_of b.events;
+  blank = not (any_line columns b) && has_no_character columns b;
+}
 
 -- the block that stands in a box, if there is one
-abbrev pub unboxed : {T : Type 0} → (ℕ → Option ℕ) → Option (Box (Block T)) → Option (State T)
-unboxed columns boxed = option_map (λ b. state_seen columns b.value) boxed
+abbrev pub unboxed : {T : Type 0} → Option (Box (Block T)) → Option (Block T)
+unboxed boxed = option_map (λ b. b.value) boxed
 
 -- and so the open block, if there is one
-abbrev pub block_seen : {T : Type 0} → Option (State T) → Option (Open T)
-block_seen block = option_map open_seen block
+abbrev pub block_seen : {T : Type 0} → (ℕ → Option ℕ) → Option (Block T) → Option (Open T)
+block_seen columns block = option_map (open_seen columns) block
 
 -- a block by what its tags mean
-abbrev pub state_meant : {A M : Type 0} → (A → M) → State (Vec A) → Open (List M)
-state_meant meaning b = map_open (tag_meant meaning) (open_seen b)
-
 abbrev pub block_meant : {A M : Type 0} → (ℕ → Option ℕ) → (A → M) → Block (Vec A) → Open (List M)
-block_meant columns meaning b = state_meant meaning (state_seen columns b)
+block_meant columns meaning b = map_open (tag_meant meaning) (open_seen columns b)
 
 -- the names of markers
 abbrev pub names_of : {T : Type 0} → List (Element T) → List (List ℕ)
@@ -55,19 +56,20 @@ names_of (marker_element name ∷ es) = name ∷ names_of es
 abbrev pub AreMarkers : {T : Type 0} → List (Element T) → Type 0
 AreMarkers es = map marker_element (names_of es) ≡ es
 
--- a block of which no line was handed out, and that has had no run before
-pub record IsFresh {T : Type 0} (width : ℕ) (overflows : Bool) (b : State T) : Type 0 where
+-- a sound block of which no line was handed out, and that has had no run before
+pub record IsFresh {T : Type 0} (columns : ℕ → Option ℕ) (width : ℕ) (overflows : Bool) (b : Block T) : Type 0 where
   pub width_is : b.width ≡ width
   pub may_overflow : b.may_overflow ≡ overflows
   pub begun : b.begun ≡ false
   pub ended : b.ended ≡ []
   pub handed : b.handed ≡ 0
   pub unfailed : b.failure ≡ None
+  pub sound : IsSound columns b
 
 -- The open block is fresh, if there is one.
-abbrev pub IsOpened : {T : Type 0} → ℕ → Bool → Option (State T) → Type 0
-IsOpened width overflows None = ⊤
-IsOpened width overflows (Some b) = IsFresh width overflows b
+abbrev pub IsOpened : {T : Type 0} → (ℕ → Option ℕ) → ℕ → Bool → Option (Block T) → Type 0
+IsOpened columns width overflows None = ⊤
+IsOpened columns width overflows (Some b) = IsFresh columns width overflows b
 
 -- what a contract sees of the fields
 abbrev pub renderer_of : {D W A : Type 0} → (ℕ → Option ℕ) → Inside D W A → Renderer D A (Vec A)
@@ -76,7 +78,7 @@ renderer_of columns r = record {
   options = r.options;
   decorator = r.decorator;
   lines = r.lines;
-  block = block_seen (unboxed columns r.wrapping);
+  block = block_seen columns (unboxed r.wrapping);
   waiting = names_of (map element_of r.waiting.items);
   block_ended = r.block_ended;
   annotations = r.annotations.items;
@@ -89,8 +91,8 @@ renderer_of columns r = record {
 
 -- What the fields of a renderer that hasn't failed hold: a fresh block, if any, and markers that wait.
 pub record HoldsFresh {D W A : Type 0} (columns : ℕ → Option ℕ) (r : Inside D W A) : Type 0 where
-  pub opened : IsOpened (least r.width r.options.wrap_width)
-      (overflows r.options (least r.width r.options.wrap_width)) (unboxed columns r.wrapping)
+  pub opened : IsOpened columns (least r.width r.options.wrap_width)
+      (overflows r.options (least r.width r.options.wrap_width)) (unboxed r.wrapping)
   pub markers : AreMarkers (map element_of r.waiting.items)
 
 -- and what those of any renderer do

@@ -4,7 +4,6 @@ ghost use Rattle.tbr_lines.specs.declared.Error.{Error as Refusal};
 ghost use Rattle.tbr_renderer.specs.Renderer.{KeepsSettings, new_renderer, has_content, line_padding, with_filled, with_line, block_width, may_overflow};
 ghost use Rattle.tbr_renderer.specs.View.{line_seen, unboxed, block_seen, IsFresh, IsOpened, AreMarkers, names_of};
 ghost use Rattle.tbr_lines.specs.View.{element_of};
-ghost use Rattle.tbr_lines.specs.Block.{state_seen};
 ghost use Rattle.tbr_lines.specs.Copies.{equal_lists};
 ghost use Rattle.tbr_lines.specs.Elements.{items_of, SameItems, IsMerged};
 ghost use Rattle.tbr_lines.specs.RenderLine.{IsMergedText};
@@ -187,8 +186,8 @@ impl<D: TextDecorator, W: CharWidth> SubRenderer<D, W> {
     /// Takes the open block.
     fn take_block(&mut self) -> Option<Box<WrappedBlock<Vec<D::Annotation>, W>>>
         requires { self.old.failure ≡ None }
-        ensures block { block_seen (unboxed W.columns result) ≡ self.old.block }
-        ensures opened { IsOpened (block_width self.old) (may_overflow self.old) (unboxed W.columns result) }
+        ensures block { block_seen W.columns (unboxed result) ≡ self.old.block }
+        ensures opened { IsOpened W.columns (block_width self.old) (may_overflow self.old) (unboxed result) }
         ensures rest { self.new ≡ record self.old { block = None } }
     {
         self.wrapping.take()
@@ -196,8 +195,8 @@ impl<D: TextDecorator, W: CharWidth> SubRenderer<D, W> {
 
     /// Opens a block again.
     fn put_block(&mut self, block: Box<WrappedBlock<Vec<D::Annotation>, W>>)
-        requires { IsFresh (block_width self.old) (may_overflow self.old) (state_seen W.columns block.value) }
-        ensures { self.new ≡ record self.old { block = block_seen (Some (state_seen W.columns block.value)) } }
+        requires { IsFresh W.columns (block_width self.old) (may_overflow self.old) block.value }
+        ensures { self.new ≡ record self.old { block = block_seen W.columns (Some block.value) } }
     {
         self.wrapping = Some(block);
     }

@@ -1,10 +1,9 @@
 pub mod Blocks
 pub mod BlockLaws
-pub mod Courses
+pub mod HeldRuns
 pub mod RuleWidths
 pub mod EndedRuns
 pub mod FittingLines
 pub mod LinesLeft
 pub mod MappedRuns
-pub mod NormalRuns
 pub mod ShownMeanings

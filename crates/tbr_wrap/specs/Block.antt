@@ -1,7 +1,7 @@
 -- What a block is, and what each call makes of it.
-use Rattle.std.specs.Prelude.{◌≡◌, ℕ, suc, Bool, false, not, ◌||◌, ◌&&◌, ◌==◌, if◌then◌else◌, Option, None, IsSomeAnd, length, List, [], ◌∷◌, ◌++◌, map, drop, chars}
+use Rattle.std.specs.Prelude.{◌≡◌, ℕ, zero, suc, ◌≤◌, ◌<◌, Bool, true, false, not, ◌||◌, ◌&&◌, ◌==◌, if◌then◌else◌, Option, None, IsSomeAnd, IsTrue, ◌↔◌, length, List, [], ◌∷◌, ◌++◌, map, drop, chars}
 use Rattle.tbr_model.specs.declared.white_space.WhiteSpace.{WhiteSpace}
-use Rattle.tbr_model.specs.Run.{marker_entry, Item, items_width, has_character}
+use Rattle.tbr_model.specs.Run.{marker_entry, Item, items_width, has_character, kept_items}
 use Rattle.tbr_model.specs.Markers.{names_in_items}
 use Rattle.tbr_model.specs.Rule.{Event, call, entry, run_of, Progress, progress, finished, waiting}
 use Rattle.tbr_model.specs.Fits.{lines_fit}
@@ -10,9 +10,8 @@ use Rattle.tbr_tagged.specs.declared.error.Error.{Error}
 use Rattle.tbr_tagged.specs.declared.error.Error.TheVariants as E
 use Rattle.tbr_tagged.specs.Elements.{Element}
 use Rattle.tbr_tagged.specs.Outcome.{Outcome, done, refused, if_live}
-use Rattle.tbr_wrap.specs.State.{State, is_some_list, text_entries}
+use Rattle.tbr_wrap.specs.State.{is_some_list, text_entries, IsNormal}
 use Rattle.tbr_wrap.specs.Wrapped.{ShowsText}
-use Rattle.tbr_wrap.specs.Course.{Course, state_of, loose_names}
 
 pub record Block (A : Type 0) : Type 0 where
   -- the columns of a line, whether a line may be wider, and the tag of the padding where lines are padded
@@ -83,9 +82,16 @@ abbrev pub has_no_character : {A : Type 0} → (ℕ → Option ℕ) → Block A 
 has_no_character columns s =
     let p = progress_of columns s in not (has_character p.laid.line) && not (has_character p.word)
 
--- the markers of the word, if it has no character
+-- the names of a word's markers, if it has no character
+abbrev pub loose_names : {A : Type 0} → List (Item A) → List (List ℕ)
+loose_names word = if has_character word then [] else names_in_items word
+
 abbrev pub loose : {A : Type 0} → (ℕ → Option ℕ) → Block A → List (List ℕ)
 loose columns s = loose_names (progress_of columns s).word
+
+-- the markers that wait if the run ends here
+abbrev pub waiting_names : {A : Type 0} → (ℕ → Option ℕ) → Block A → List (List ℕ)
+waiting_names columns s = names_in_items (waiting columns s.width (progress_of columns s))
 
 -- no line is wider than the block, or lines may be
 abbrev pub allows : {A : Type 0} → (ℕ → Option ℕ) → Block A → List (List (Item A)) → Bool
@@ -131,7 +137,7 @@ abbrev pub flushed : {A : Type 0} → (ℕ → Option ℕ) → Block A → Block
 flushed columns s = record s {
   begun = s.begun || is_some_list (all_lines columns s);
   ended = s.ended ++ drop s.handed (all_lines columns s);
-  events = map (λ n. entry (marker_entry n)) (names_in_items (waiting columns s.width (progress_of columns s)));
+  events = map (λ n. entry (marker_entry n)) (waiting_names columns s);
   handed = 0;
 }
 
@@ -144,6 +150,11 @@ abbrev pub line_handed_out : {A : Type 0} → Block A → Block A
 line_handed_out s =
     if is_some_list s.ended then record s { ended = drop 1 s.ended } else record s { handed = suc s.handed }
 
+-- so many of them are, one by one
+abbrev pub lines_handed_out : {A : Type 0} → ℕ → Block A → Block A
+lines_handed_out zero s = s
+lines_handed_out (suc n) s = lines_handed_out n (line_handed_out s)
+
 abbrev pub after_line : {A : Type 0} → (ℕ → Option ℕ) → Block A → Outcome (Block A)
 after_line columns s =
     if_live s.failure (done (if is_some_list (left columns s) then line_handed_out s else s))
@@ -154,18 +165,21 @@ abbrev pub HandsOutFirst : {A : Type 0} → (ℕ → Option ℕ) → (A → A �
 HandsOutFirst columns eq s [] o = o ≡ None
 HandsOutFirst columns eq s (text ∷ texts) o = IsSomeAnd o (λ line. ShowsText columns eq s.padding s.width line text)
 
--- ---- the view of the relations
+-- ---- what holds of it
 
--- where the rule stands in the run
-abbrev pub course_of : {A : Type 0} → (ℕ → Option ℕ) → Block A → Course A
-course_of columns s = record {
-  begun = s.begun;
-  ended = s.ended;
-  handed = s.handed;
-  run = run_of s.events;
-  progress = progress_of columns s;
-}
+-- A block has a column at least, its lines that have ended are those that it allows, and only such were handed out.
+pub record IsSound {A : Type 0} (columns : ℕ → Option ℕ) (s : Block A) : Type 0 where
+  pub wide : 0 < s.width
+  pub allowed : allows columns s (lines columns s) ≡ true
+  pub within : s.handed ≤ length (lines columns s)
 
--- what `State` shows of a block
-abbrev pub state_seen : {A : Type 0} → (ℕ → Option ℕ) → Block A → State A
-state_seen columns s = state_of columns s.width s.may_overflow s.padding s.failure (course_of columns s)
+-- it hasn't failed, its run is `Normal`, and no line may be wider than it
+abbrev pub WrapsNormally : {A : Type 0} → Block A → Type 0
+WrapsNormally s = (s.failure ≡ None) × (s.may_overflow ≡ false) × IsNormal (run_of s.events)
+
+-- The kept characters of the run decide whether open line and word take columns or have a character, and whether a line
+-- has ended.
+pub record RunDecides {A : Type 0} (columns : ℕ → Option ℕ) (s : Block A) : Type 0 where
+  pub no_columns : IsTrue (takes_no_columns columns s) ↔ (items_width columns (kept_items columns (run_of s.events)) ≡ 0)
+  pub no_character : IsTrue (has_no_character columns s) ↔ (has_character (kept_items columns (run_of s.events)) ≡ false)
+  pub no_line : items_width columns (kept_items columns (run_of s.events)) ≡ 0 → lines columns s ≡ []

@@ -2,11 +2,10 @@
 use Rattle.std.specs.Prelude.{◌≡◌, ℕ, ◌≤◌, ◌||◌, if◌then◌else◌, Bool, Option, None, Some, List, length, take}
 use Rattle.std.specs.List.{AllZip}
 use Rattle.tbr_model.specs.Run.{Item}
-use Rattle.tbr_model.specs.Rule.{Event, run_of, progress}
+use Rattle.tbr_model.specs.Rule.{Progress}
 use Rattle.tbr_tagged.specs.Elements.{SameItems}
 use Rattle.tbr_wrap.specs.State.{is_some_list}
-use Rattle.tbr_wrap.specs.Course.{Course}
-use Rattle.tbr_wrap.specs.Block.{Block, course_of}
+use Rattle.tbr_wrap.specs.Block.{Block, progress_of}
 use Rattle.tbr_wrap.specs.Story.{story}
 use Rattle.tbr_wrap.specs.declared.block.WrappedBlock.TheInside.{Inside}
 use Rattle.tbr_wrap.specs.Wrapper.{IsAtProgress}
@@ -14,16 +13,17 @@ use Rattle.tbr_wrap.specs.declared.wrapper.Wrapper.{Wrapper}
 
 -- The lines of earlier runs, and behind them what the rule has laid of the current run, but for its lines that were
 -- handed out. A line has ended where one was handed out or one is left.
-pub record HoldsCourse {A : Type 0} (columns : ℕ → Option ℕ) (eq : A → A → Bool) (b : Wrapper A)
-    (begun : Bool) (c : Course A) : Type 0 where
+pub record HoldsAt {A : Type 0} (columns : ℕ → Option ℕ) (eq : A → A → Bool) (b : Wrapper A) (begun : Bool)
+    (s : Block A) (p : Progress A) : Type 0 where
   pub before : List (List (Item A))
-  pub earlier : AllZip (SameItems eq) before c.ended
-  pub within : c.handed ≤ length c.progress.laid.done
-  pub stands : IsAtProgress columns eq b before (take c.handed c.progress.laid.done) c.progress
-  pub events : List (Event A)
-  pub run_is : run_of events ≡ c.run
-  pub progress_is : progress columns b.lines.width events ≡ c.progress
-  pub has_begun : begun || is_some_list b.lines.ended.items ≡ c.begun || is_some_list c.progress.laid.done
+  pub earlier : AllZip (SameItems eq) before s.ended
+  pub within : s.handed ≤ length p.laid.done
+  pub stands : IsAtProgress columns eq b before (take s.handed p.laid.done) p
+  pub has_begun : begun || is_some_list b.lines.ended.items ≡ s.begun || is_some_list p.laid.done
+
+-- where the rule is
+abbrev pub HoldsRun : {A : Type 0} → (ℕ → Option ℕ) → (A → A → Bool) → Wrapper A → Bool → Block A → Type 0
+HoldsRun columns eq b begun s = HoldsAt columns eq b begun s (progress_of columns s)
 
 -- the tag of the padding, where lines are padded
 abbrev pub padding_tag : {A W : Type 0} → Inside A W → Option A
@@ -46,4 +46,4 @@ block_of columns b =
 
 -- and what those of a block that hasn't failed hold
 abbrev pub HoldsBlock : {A W : Type 0} → (ℕ → Option ℕ) → (A → A → Bool) → Inside A W → Type 0
-HoldsBlock columns eq b = b.failure ≡ None → HoldsCourse columns eq b.wrapper b.begun (course_of columns (block_of columns b))
+HoldsBlock columns eq b = b.failure ≡ None → HoldsRun columns eq b.wrapper b.begun (block_of columns b)

@@ -3,7 +3,6 @@ pub mod LaidLines
 pub mod Plain
 pub mod Wrapper
 pub mod State
-pub mod Course
 pub mod Block
 pub mod Story
 pub mod Held

@@ -1,15 +1,13 @@
 //! A block of wrapped text.
-ghost use Rattle.std.specs.Prelude.{◌≡◌, ◌≢◌, ℕ, ◌≤◌, ◌<◌, ◌++◌, ◌∷◌, [], not, ◌&&◌, ◌⊎◌, nat_lt, is_none, is_some, if◌then◌else◌, None, Some, List, OnOk, IfOk, IfErr, IsErr, IsSomeAnd, MatchResult, Err, Ok, true, false, chars, string_bytes, length, map, IsTrue};
+ghost use Rattle.std.specs.Prelude.{◌≡◌, ℕ, ◌<◌, ◌++◌, ◌∷◌, [], not, ◌&&◌, nat_lt, is_none, is_some, if◌then◌else◌, None, Some, List, OnOk, IfOk, IfErr, IsErr, IsSomeAnd, MatchResult, Err, Ok, true, chars, string_bytes, length, map, IsTrue};
 ghost use Rattle.std.specs.List.{AllZip};
 ghost use Rattle.std.specs.Str.{IsUtf8};
 ghost use Rattle.tbr_model.specs.Run.{Item};
-ghost use Rattle.tbr_model.specs.Hard.{is_visible};
 ghost use Rattle.tbr_model.specs.Rule.{call, entry, run_of};
-ghost use Rattle.tbr_model.specs.Shown.{run_shows_columns};
 ghost use Rattle.tbr_tagged.specs.Copies.{CopiesAreEqual};
 ghost use Rattle.tbr_tagged.specs.Elements.{items_of, SameItems, IsMerged};
-ghost use Rattle.tbr_wrap.specs.Wrapped.{HasBestLines, WordsFit, EndedWordsFit, ShowsText, padding_of};
-ghost use Rattle.tbr_wrap.specs.State.{IsNormal, CharactersFit, VisibleFit, is_some_list};
+ghost use Rattle.tbr_wrap.specs.Wrapped.{HasBestLines, ShowsText, padding_of};
+ghost use Rattle.tbr_wrap.specs.State.{text_entries};
 ghost use Rattle.tbr_tagged.specs.declared.error.Error.TheVariants as E;
 
 use crate::ended_lines::EndedLines;
@@ -59,13 +57,11 @@ impl<T: Eq + Clone, W: CharWidth> Model for WrappedBlock<T, W> {
 }
 
 impl<T: Eq + Clone, W: CharWidth> WrappedBlock<T, W> {
-    ghost use Rattle.tbr_model.specs.Run.{marker_entry, trailing};
-    ghost use Rattle.tbr_model.specs.Markers.{names_in_items, names_in_run, names_behind, last};
+    ghost use Rattle.tbr_model.specs.Run.{marker_entry};
     ghost use Rattle.tbr_tagged.specs.Elements.{marker_element};
     ghost use Rattle.tbr_tagged.specs.View.{element_of};
     ghost use Rattle.tbr_tagged.specs.Outcome.{Answers, done, refused};
-    ghost use Rattle.tbr_wrap.specs.Block.{Block, new_block, settings_of, failure_of, lines, all_lines, left, any_line, takes_no_columns, has_no_character, loose, allows, grown, settled, HasGrown, after_text, after_marker, after_taking, after_flush, after_line, line_handed_out, HandsOutFirst, state_seen};
-    ghost use Rattle.tbr_wrap.specs.State.{text_entries, JoinsRun, JoinsAsMarker, EndsRun, run_with, KeepsRefusal, WrapsNormally, RunDecides, AreLastOf, loose_taken, line_taken, run_flushed};
+    ghost use Rattle.tbr_wrap.specs.Block.{Block, new_block, settings_of, failure_of, lines, all_lines, left, any_line, takes_no_columns, has_no_character, loose, allows, grown, settled, HasGrown, after_text, after_marker, after_taking, after_flush, after_line, line_handed_out, HandsOutFirst, WrapsNormally};
 
     /// A block without text, whose lines take `width` columns at most; it asks for at least 1. It takes no memory.
     ///
@@ -111,25 +107,19 @@ impl<T: Eq + Clone, W: CharWidth> WrappedBlock<T, W> {
         self.pads
     }
 
-    /// Whether open line and word take no columns. In a `Normal` run, where no line may be wider than the block, that is
-    /// so exactly where no kept character of the run takes any. It is false on a block that has failed.
+    /// Whether open line and word take no columns. In a `Normal` run, where no line may be wider than the block, that
+    /// is so exactly where no kept character of the run takes any. It is false on a block that has failed.
     pub fn at_line_start(&self) -> bool
-        ensures asks { result ≡ is_none self.now.failure && takes_no_columns W.columns self.now }
-        ensures normal { let now = state_seen W.columns self.now in WrapsNormally now → RunDecides W.columns now }
+        ensures { result ≡ is_none self.now.failure && takes_no_columns W.columns self.now }
     {
-        self.known();
         self.failure.is_none() && self.has_no_columns()
     }
 
     /// Whether no line has ended yet, and open line and word take no columns. It is false on a block that has failed.
     pub fn is_empty(&self) -> bool
-        ensures asks { result ≡ is_none self.now.failure
+        ensures { result ≡ is_none self.now.failure
             && (not (any_line W.columns self.now) && takes_no_columns W.columns self.now) }
-        ensures normal { let now = state_seen W.columns self.now in WrapsNormally now → RunDecides W.columns now }
-        ensures shows { self.now.failure ≡ None → run_shows_columns W.columns (run_of self.now.events) ≡ true →
-            (is_some_list (lines W.columns self.now) ≡ true) ⊎ (takes_no_columns W.columns self.now ≡ false) }
     {
-        self.known();
         self.failure.is_none() && !self.has_begun() && self.has_no_columns()
     }
 
@@ -137,13 +127,9 @@ impl<T: Eq + Clone, W: CharWidth> WrappedBlock<T, W> {
     /// wider than the block, these hold none exactly where the run has no kept character. It is false on a block that
     /// has failed.
     pub fn is_blank(&self) -> bool
-        ensures asks { result ≡ is_none self.now.failure
+        ensures { result ≡ is_none self.now.failure
             && (not (any_line W.columns self.now) && has_no_character W.columns self.now) }
-        ensures normal { let now = state_seen W.columns self.now in WrapsNormally now → RunDecides W.columns now }
-        ensures shows { self.now.failure ≡ None → run_shows_columns W.columns (run_of self.now.events) ≡ true →
-            (is_some_list (lines W.columns self.now) ≡ true) ⊎ (has_no_character W.columns self.now ≡ false) }
     {
-        self.known();
         self.failure.is_none() && !self.has_begun() && self.has_no_character()
     }
 
@@ -186,7 +172,8 @@ impl<T: Eq + Clone, W: CharWidth> WrappedBlock<T, W> {
     where
         T: Drop,
         requires { self.old.failure ≡ None }
-        ensures { self.new ≡ grown self.old (call ∷ []) }
+        ensures begun { self.new ≡ grown self.old (call ∷ []) }
+        ensures allowed { allows W.columns self.new (lines W.columns self.new) ≡ true }
     {
         self.wrapper.begin_call();
         self.changes = self
@@ -215,26 +202,13 @@ impl<T: Eq + Clone, W: CharWidth> WrappedBlock<T, W> {
         ensures too_narrow { result ≡ Err E.TooNarrow → settled W.columns
             (grown self.old (map entry (text_entries (chars text.now) main_tag.now wrap_tag.now mode)))
             ≡ refused E.TooNarrow }
-        ensures wide { 0 < self.old.width }
+        ensures allowed { OnOk result (allows W.columns self.new (lines W.columns self.new) ≡ true) }
     {
         let added = self.wrapper.add_front::<W>(text, main_tag, wrap_tag, mode);
         let (bytes, count) = keep(&mut self.failure, added)?;
         let (front, rest) = text.split_at(bytes);
         note_text(&mut self.changes, front, count, main_tag, wrap_tag, mode);
         Ok(rest)
-    }
-
-    /// Does nothing. It tells what the fields say of a block.
-    fn known(&self)
-        ensures wide { 0 < self.now.width }
-        ensures allows { self.now.failure ≡ None → allows W.columns self.now (lines W.columns self.now) ≡ true }
-        ensures decides { let now = state_seen W.columns self.now in WrapsNormally now → RunDecides W.columns now }
-        ensures shows { self.now.failure ≡ None → run_shows_columns W.columns (run_of self.now.events) ≡ true →
-            (is_some_list (lines W.columns self.now) ≡ true) ⊎ (takes_no_columns W.columns self.now ≡ false) }
-        ensures held { self.now.failure ≡ None → takes_no_columns W.columns self.now ≡ false →
-            has_no_character W.columns self.now ≡ false }
-    {
-        let _ = &self.failure;
     }
 
     /// The text joins the run, in the given mode: each character under a copy of the main tag, or of the wrap tag where
@@ -255,21 +229,6 @@ impl<T: Eq + Clone, W: CharWidth> WrappedBlock<T, W> {
         requires { CopiesAreEqual T.is_clone T.eq }
         ensures answers { let after = after_text W.columns (chars text.now) main_tag.now wrap_tag.now ws_mode in
             Answers failure_of settings_of (after self.old) self.old result self.new }
-        ensures ok { let more = text_entries (chars text.now) main_tag.now wrap_tag.now ws_mode in
-            OnOk result (JoinsRun (state_seen W.columns self.old) more (state_seen W.columns self.new)) }
-        ensures fit { let old = state_seen W.columns self.old in
-            let run = run_with old (chars text.now) main_tag.now wrap_tag.now ws_mode in
-            OnOk result (self.old.may_overflow ≡ false → IsNormal run → EndedWordsFit W.columns self.old.width run) }
-        ensures too_narrow { let old = state_seen W.columns self.old in
-            let run = run_with old (chars text.now) main_tag.now wrap_tag.now ws_mode in
-            self.old.failure ≡ None → result ≡ Err E.TooNarrow →
-            (self.old.may_overflow ≡ false) × ¬ (CharactersFit W.columns self.old.width run) }
-        ensures normal_too_narrow { let old = state_seen W.columns self.old in
-            let run = run_with old (chars text.now) main_tag.now wrap_tag.now ws_mode in
-            self.old.failure ≡ None → IsNormal run → result ≡ Err E.TooNarrow →
-            ¬ (EndedWordsFit W.columns self.old.width run) }
-        ensures two_columns { self.old.failure ≡ None → 2 ≤ self.old.width → result ≢ Err E.TooNarrow }
-        ensures kept { KeepsRefusal (state_seen W.columns self.old) result (state_seen W.columns self.new) }
     {
         self.refusal()?;
         self.begin_call();
@@ -277,7 +236,6 @@ impl<T: Eq + Clone, W: CharWidth> WrappedBlock<T, W> {
         while !rest.is_empty() {
             rest = self.add_front(rest, ws_mode, main_tag, wrap_tag)?;
         }
-        self.known();
         Ok(())
     }
 
@@ -290,10 +248,7 @@ impl<T: Eq + Clone, W: CharWidth> WrappedBlock<T, W> {
         requires { (name : List ℕ) × (element_of element ≡ marker_element name) }
         ensures answers { (name : List ℕ) → element_of element ≡ marker_element name →
             Answers failure_of settings_of (after_marker name self.old) self.old result self.new }
-        ensures ok { (name : List ℕ) → element_of element ≡ marker_element name →
-            OnOk result (JoinsAsMarker (state_seen W.columns self.old) name (state_seen W.columns self.new)) }
         ensures memory { self.old.failure ≡ None → IfErr result (λ e. e ≡ E.OutOfMemory) }
-        ensures kept { KeepsRefusal (state_seen W.columns self.old) result (state_seen W.columns self.new) }
     {
         self.refusal()?;
         match element {
@@ -327,15 +282,7 @@ impl<T: Eq + Clone, W: CharWidth> WrappedBlock<T, W> {
         T: Drop,
         ensures answers { Answers failure_of settings_of (after_taking W.columns self.old) self.old result self.new }
         ensures markers { IfOk result (λ es. map element_of es.items ≡ map marker_element (loose W.columns self.old)) }
-        ensures taken { OnOk result (state_seen W.columns self.new ≡ loose_taken (state_seen W.columns self.old)) }
-        ensures behind { OnOk result (AreLastOf (loose W.columns self.old)
-            (names_behind (is_visible W.columns) (run_of self.old.events))) }
-        ensures last { let names = loose W.columns self.old in
-            OnOk result (names ≡ last (length names) (names_in_run (run_of self.old.events))) }
-        ensures trailing { WrapsNormally (state_seen W.columns self.old) → OnOk result
-            (loose W.columns self.old ≡ names_in_items (trailing W.columns (run_of self.old.events))) }
         ensures memory { self.old.failure ≡ None → IfErr result (λ e. e ≡ E.OutOfMemory) }
-        ensures kept { KeepsRefusal (state_seen W.columns self.old) result (state_seen W.columns self.new) }
     {
         self.refusal()?;
         if self.wrapper.lines.flat.has_word() {
@@ -360,24 +307,8 @@ impl<T: Eq + Clone, W: CharWidth> WrappedBlock<T, W> {
         T: Drop,
         requires { CopiesAreEqual T.is_clone T.eq }
         ensures answers { Answers failure_of settings_of (after_flush W.columns self.old) self.old result self.new }
-        ensures best { let old = state_seen W.columns self.old in WrapsNormally old →
-            OnOk result (HasBestLines W.columns self.old.width old.run (all_lines W.columns self.old)) }
-        ensures ok { let old = state_seen W.columns self.old in
-            OnOk result ((texts : List (List (Item T))) × (names : List (List ℕ))
-            × EndsRun W.columns old texts names × (state_seen W.columns self.new ≡ run_flushed old texts names)) }
-        ensures fit { let old = state_seen W.columns self.old in
-            OnOk result (WrapsNormally old → WordsFit W.columns self.old.width old.run) }
-        ensures visible_fit { OnOk result (self.old.may_overflow ≡ false →
-            VisibleFit W.columns self.old.width (run_of self.old.events)) }
-        ensures too_narrow { self.old.failure ≡ None → result ≡ Err E.TooNarrow →
-            (self.old.may_overflow ≡ false) × ¬ (CharactersFit W.columns self.old.width (run_of self.old.events)) }
-        ensures normal_too_narrow { let run = run_of self.old.events in
-            self.old.failure ≡ None → IsNormal run → result ≡ Err E.TooNarrow →
-            ¬ (WordsFit W.columns self.old.width run) }
-        ensures two_columns { self.old.failure ≡ None → 2 ≤ self.old.width → result ≢ Err E.TooNarrow }
-        ensures blank { has_no_character W.columns self.old ≡ true →
-            OnOk result (left W.columns self.new ≡ left W.columns self.old) }
-        ensures kept { KeepsRefusal (state_seen W.columns self.old) result (state_seen W.columns self.new) }
+        ensures best { let run = run_of self.old.events in WrapsNormally self.old →
+            OnOk result (HasBestLines W.columns self.old.width run (all_lines W.columns self.old)) }
     {
         self.refusal()?;
         keep(&mut self.failure, self.wrapper.finish::<W>())?;
@@ -396,14 +327,7 @@ impl<T: Eq + Clone, W: CharWidth> WrappedBlock<T, W> {
         requires { CopiesAreEqual T.is_clone T.eq }
         ensures answers { Answers failure_of settings_of (after_line W.columns self.old) self.old result self.new }
         ensures line { IfOk result (HandsOutFirst W.columns T.eq self.old (left W.columns self.old)) }
-        ensures some { (text : List (Item T)) (rest : List (List (Item T))) → left W.columns self.old ≡ text ∷ rest →
-            IfOk result (λ o. IsSomeAnd o (λ line.
-            ShowsText W.columns T.eq self.old.padding self.old.width line text)) }
-        ensures taken { IfOk result (λ o. IsTrue (is_some o) → self.new ≡ line_handed_out self.old) }
-        ensures none { left W.columns self.old ≡ [] → self.old.failure ≡ None →
-            (result ≡ Ok None) × (self.new ≡ self.old) }
         ensures memory { self.old.failure ≡ None → IfErr result (λ e. e ≡ E.OutOfMemory) }
-        ensures kept { KeepsRefusal (state_seen W.columns self.old) result (state_seen W.columns self.new) }
     {
         self.refusal()?;
         let Some(mut line) = self.take_line()? else {
@@ -466,18 +390,6 @@ impl<T: Eq + Clone, W: CharWidth> WrappedBlock<T, W> {
         ensures gives { IfOk result (λ lines. (s : Block T) × (after_flush W.columns self ≡ done s)
             × AllZip (ShowsText W.columns T.eq self.padding self.width) lines.items s.ended) }
         ensures refuses { result ≡ Err E.TooNarrow → after_flush W.columns self ≡ refused E.TooNarrow }
-        ensures lines { IfOk result (λ lines. (texts : List (List (Item T))) × (names : List (List ℕ))
-            × EndsRun W.columns (state_seen W.columns self) texts names
-            × AllZip (ShowsText W.columns T.eq self.padding self.width) lines.items (left W.columns self ++ texts)) }
-        ensures fit { let old = state_seen W.columns self in
-            OnOk result (WrapsNormally old → WordsFit W.columns self.width old.run) }
-        ensures visible_fit { OnOk result (self.may_overflow ≡ false →
-            VisibleFit W.columns self.width (run_of self.events)) }
-        ensures too_narrow { self.failure ≡ None → result ≡ Err E.TooNarrow →
-            (self.may_overflow ≡ false) × ¬ (CharactersFit W.columns self.width (run_of self.events)) }
-        ensures normal_too_narrow { let run = run_of self.events in
-            self.failure ≡ None → IsNormal run → result ≡ Err E.TooNarrow → ¬ (WordsFit W.columns self.width run) }
-        ensures two_columns { self.failure ≡ None → 2 ≤ self.width → result ≢ Err E.TooNarrow }
         ensures kept { (e : _) → self.failure ≡ Some e → result ≡ Err e }
     {
         self.flush()?;

@@ -1,59 +1,149 @@
 //! The laws of blocks, each as the contract of a function that does nothing.
-ghost use Rattle.std.specs.Prelude.{◌≡◌, ◌≢◌, ◌↔◌, ℕ, ◌<◌, ◌++◌, [], false, Bool, Option, None, Some, List, map, take};
+ghost use Rattle.std.specs.Prelude.{◌≡◌, ◌↔◌, ℕ, ◌<◌, ◌≤◌, ◌++◌, ◌∷◌, [], true, false, Bool, Option, None, Some, IfSome, List, length, map, take, ◌⊎◌};
 ghost use Rattle.std.specs.Option.{option_map};
 ghost use Rattle.std.specs.List.{AllZip};
-ghost use Rattle.tbr_model.specs.Run.{Item, Entry};
-ghost use Rattle.tbr_model.specs.Mapped.{map_items, map_lines};
+ghost use Rattle.tbr_model.specs.declared.white_space.WhiteSpace.{WhiteSpace};
+ghost use Rattle.tbr_model.specs.Run.{Item, Entry, trailing};
+ghost use Rattle.tbr_model.specs.Mapped.{map_items, map_lines, map_run};
+ghost use Rattle.tbr_model.specs.Hard.{is_visible};
 ghost use Rattle.tbr_model.specs.Layout.{slots_of, joined, HasLegalLines};
-ghost use Rattle.tbr_model.specs.Markers.{marker_items};
+ghost use Rattle.tbr_model.specs.Markers.{names_in_items, names_in_run, names_behind, last};
 ghost use Rattle.tbr_model.specs.Rule.{run_of, waiting};
 ghost use Rattle.tbr_model.specs.Run.{kept_items};
-ghost use Rattle.tbr_model.specs.Shown.{without_spaces};
+ghost use Rattle.tbr_model.specs.Shown.{without_spaces, run_shows_columns};
 ghost use Rattle.tbr_tagged.specs.Elements.{Element, items_of};
 ghost use Rattle.tbr_tagged.specs.Mapped.{MeansEqual};
-ghost use Rattle.tbr_tagged.specs.Outcome.{refused};
+ghost use Rattle.tbr_tagged.specs.Outcome.{done, refused};
 ghost use Rattle.tbr_tagged.specs.declared.error.Error.TheVariants as E;
-ghost use Rattle.tbr_wrap.specs.Block.{Block, all_lines, after_flush, progress_of};
-ghost use Rattle.tbr_wrap.specs.Wrapped.{ShowsText, padding_of};
-ghost use Rattle.tbr_wrap.specs.State.{State, IsNormal, map_state, empty_block, JoinsRun, JoinsAsMarker, EndsRun, loose_taken, lines_left, line_taken, lines_taken, HandsOutEnded, run_flushed};
+ghost use Rattle.tbr_wrap.specs.Block.{Block, new_block, settings_of, lines, all_lines, left, takes_no_columns, has_no_character, loose, waiting_names, after_text, after_marker, after_taking, after_flush, after_line, lines_handed_out, progress_of, IsSound, WrapsNormally, RunDecides};
+ghost use Rattle.tbr_wrap.specs.Wrapped.{ShowsText, WordsFit, EndedWordsFit, padding_of};
+ghost use Rattle.tbr_wrap.specs.State.{IsNormal, CharactersFit, VisibleFit, AreLastOf, EndsRun, is_some_list, text_entries};
 
 /// The lines that are handed out one by one, and then those that are left, are in order those that were left before;
-/// and what the end of the run promises stays the same. So the lines of `next_line`, and then those of `into_lines`,
-/// are what `into_lines` alone gives.
+/// and the run stays. So the lines of `next_line`, and then those of `into_lines`, are what `into_lines` alone gives.
 pub fn lines_are_handed_out_in_order<T>()
-    ensures lines { (n : ℕ) (s : State T) →
-        take n (lines_left s) ++ lines_left (lines_taken n s) ≡ lines_left s }
-    ensures promised { (columns : ℕ → Option ℕ) (n : ℕ) (s : State T) (texts : List (List (Item T)))
-        (names : List (List ℕ)) → EndsRun columns s texts names ↔ EndsRun columns (lines_taken n s) texts names }
+    ensures lines { (columns : ℕ → Option ℕ) (n : ℕ) (s : Block T) →
+        take n (left columns s) ++ left columns (lines_handed_out n s) ≡ left columns s }
+    ensures run { (n : ℕ) (s : Block T) → (lines_handed_out n s).events ≡ s.events }
+    ensures settings { (n : ℕ) (s : Block T) → settings_of (lines_handed_out n s) ≡ settings_of s }
 {}
 
-/// Lines that a run ends, under way or where it is flushed, come behind those that are left.
+/// Lines that a run ends, under way or where it is flushed, come behind those that are left. Where open line and word
+/// hold no character a flush ends none, and a marker never does.
 pub fn lines_join_behind_those_left<T>()
-    ensures under_way { (old new : State T) (more : List (Entry T)) → HandsOutEnded old →
-        (joins : JoinsRun old more new) → lines_left new ≡ lines_left old ++ joins.lines }
-    ensures flushed { (s : State T) (texts : List (List (Item T))) (names : List (List ℕ)) →
-        lines_left (run_flushed s texts names) ≡ lines_left s ++ texts }
+    ensures text { (columns : ℕ → Option ℕ) (s t : Block T) (cs : List ℕ) (a b : T) (mode : WhiteSpace) →
+        IsSound columns s → after_text columns cs a b mode s ≡ done t → (more : List (List (Item T)))
+        × (lines columns t ≡ lines columns s ++ more) × (left columns t ≡ left columns s ++ more) }
+    ensures flushed { (columns : ℕ → Option ℕ) (s t : Block T) → IsSound columns s → after_flush columns s ≡ done t →
+        (more : List (List (Item T)))
+        × (all_lines columns s ≡ lines columns s ++ more) × (left columns t ≡ left columns s ++ more) }
+    ensures blank { (columns : ℕ → Option ℕ) (s t : Block T) → after_flush columns s ≡ done t →
+        has_no_character columns s ≡ true → left columns t ≡ left columns s }
+    ensures marker { (columns : ℕ → Option ℕ) (s t : Block T) (name : List ℕ) → after_marker name s ≡ done t →
+        lines columns t ≡ lines columns s }
 {}
 
-/// Only lines that have ended are handed out, whatever calls come.
-pub fn handed_out_lines_have_ended<T>()
-    ensures new { (width : ℕ) (may_overflow : Bool) (padding : Option T) →
-        HandsOutEnded (empty_block width may_overflow padding) }
-    ensures text { (old new : State T) (more : List (Entry T)) → HandsOutEnded old → JoinsRun old more new →
-        HandsOutEnded new }
-    ensures marker { (old new : State T) (name : List ℕ) → HandsOutEnded old → JoinsAsMarker old name new →
-        HandsOutEnded new }
-    ensures markers_taken { (s : State T) → HandsOutEnded s → HandsOutEnded (loose_taken s) }
-    ensures line_taken { (s : State T) → HandsOutEnded s → lines_left s ≢ [] → HandsOutEnded (line_taken s) }
-    ensures flushed { (s : State T) (texts : List (List (Item T))) (names : List (List ℕ)) →
-        HandsOutEnded (run_flushed s texts names) }
+/// A block has a column at least, its lines that have ended are as wide as it allows, and only such are handed out,
+/// whatever calls come.
+pub fn blocks_stay_sound<T>()
+    ensures new { (columns : ℕ → Option ℕ) (width : ℕ) (may_overflow : Bool) (padding : Option T) → 0 < width →
+        IsSound columns (new_block width may_overflow padding) }
+    ensures text { (columns : ℕ → Option ℕ) (s t : Block T) (cs : List ℕ) (a b : T) (mode : WhiteSpace) →
+        IsSound columns s → after_text columns cs a b mode s ≡ done t → IsSound columns t }
+    ensures marker { (columns : ℕ → Option ℕ) (s t : Block T) (name : List ℕ) → IsSound columns s →
+        after_marker name s ≡ done t → IsSound columns t }
+    ensures markers_taken { (columns : ℕ → Option ℕ) (s t : Block T) → IsSound columns s →
+        after_taking columns s ≡ done t → IsSound columns t }
+    ensures flushed { (columns : ℕ → Option ℕ) (s t : Block T) → IsSound columns s →
+        after_flush columns s ≡ done t → IsSound columns t }
+    ensures line { (columns : ℕ → Option ℕ) (s t : Block T) → IsSound columns s →
+        after_line columns s ≡ done t → IsSound columns t }
+{}
+
+/// A flush leaves of a run the lines and the markers that `EndsRun` promises, field by field.
+pub fn runs_end_as_promised<T>()
+    ensures { (columns : ℕ → Option ℕ) → columns 32 ≡ Some 1 → (s t : Block T) → 0 < s.width →
+        after_flush columns s ≡ done t → EndsRun columns s.width s.may_overflow (run_of s.events) (all_lines columns s)
+        (waiting_names columns s) }
+{}
+
+/// In a `Normal` run where no line may be wider than the block, the kept characters decide what is open. In any run
+/// a visible character that takes columns has ended a line, or is open.
+pub fn runs_decide_what_is_open<T>()
+    ensures normal { (columns : ℕ → Option ℕ) → columns 32 ≡ Some 1 → (s : Block T) → IsSound columns s →
+        WrapsNormally s → RunDecides columns s }
+    ensures shows { (columns : ℕ → Option ℕ) (s : Block T) → run_shows_columns columns (run_of s.events) ≡ true →
+        (is_some_list (lines columns s) ≡ true) ⊎ (takes_no_columns columns s ≡ false) }
+    ensures character { (columns : ℕ → Option ℕ) → columns 32 ≡ Some 1 → (s : Block T) → IsSound columns s →
+        takes_no_columns columns s ≡ false → has_no_character columns s ≡ false }
+{}
+
+/// The loose markers are the last ones of the run, behind its last visible character; in a `Normal` run where no line
+/// may be wider than the block they are those behind its last kept one.
+pub fn loose_markers_are_last<T>()
+    ensures last { (columns : ℕ → Option ℕ) (s : Block T) →
+        loose columns s ≡ last (length (loose columns s)) (names_in_run (run_of s.events)) }
+    ensures visible { (columns : ℕ → Option ℕ) (s : Block T) →
+        AreLastOf (loose columns s) (names_behind (is_visible columns) (run_of s.events)) }
+    ensures trailing { (columns : ℕ → Option ℕ) → columns 32 ≡ Some 1 → (s : Block T) → IsSound columns s →
+        WrapsNormally s → loose columns s ≡ names_in_items (trailing columns (run_of s.events)) }
+{}
+
+/// A marker changes no line and no column. It is loose where no other character is in its word, and so where none is
+/// open.
+pub fn markers_join_the_word<T>()
+    ensures columns { (columns : ℕ → Option ℕ) (s t : Block T) (name : List ℕ) → after_marker name s ≡ done t →
+        takes_no_columns columns t ≡ takes_no_columns columns s }
+    ensures character { (columns : ℕ → Option ℕ) (s t : Block T) (name : List ℕ) → after_marker name s ≡ done t →
+        has_no_character columns t ≡ has_no_character columns s }
+    ensures either { (columns : ℕ → Option ℕ) (s t : Block T) (name : List ℕ) → after_marker name s ≡ done t →
+        (loose columns t ≡ loose columns s ++ name ∷ []) ⊎ ((loose columns s ≡ []) × (loose columns t ≡ [])) }
+    ensures first { (columns : ℕ → Option ℕ) (s t : Block T) (name : List ℕ) → after_marker name s ≡ done t →
+        has_no_character columns s ≡ true → loose columns t ≡ loose columns s ++ name ∷ [] }
+{}
+
+/// A text is too narrow only where no line may be wider than the block, and a character of the run is: in a `Normal`
+/// run exactly where one of a word is that a break point has ended. In two columns it never is.
+pub fn texts_are_too_narrow_for_characters<T>()
+    ensures fits { (columns : ℕ → Option ℕ) → columns 32 ≡ Some 1 → (s t : Block T) (cs : List ℕ) (a b : T)
+        (mode : WhiteSpace) → 0 < s.width → after_text columns cs a b mode s ≡ done t → s.may_overflow ≡ false →
+        let run = run_of s.events ++ text_entries cs a b mode in IsNormal run → EndedWordsFit columns s.width run }
+    ensures wide { (columns : ℕ → Option ℕ) → columns 32 ≡ Some 1 → (s : Block T) (cs : List ℕ) (a b : T)
+        (mode : WhiteSpace) → 0 < s.width → s.failure ≡ None →
+        after_text columns cs a b mode s ≡ refused E.TooNarrow → (s.may_overflow ≡ false)
+        × ¬ (CharactersFit columns s.width (run_of s.events ++ text_entries cs a b mode)) }
+    ensures normal { (columns : ℕ → Option ℕ) → columns 32 ≡ Some 1 → (s : Block T) (cs : List ℕ) (a b : T)
+        (mode : WhiteSpace) → 0 < s.width → s.failure ≡ None →
+        after_text columns cs a b mode s ≡ refused E.TooNarrow →
+        let run = run_of s.events ++ text_entries cs a b mode in IsNormal run → ¬ (EndedWordsFit columns s.width run) }
+    ensures two_columns { (columns : ℕ → Option ℕ) → columns 32 ≡ Some 1 → ((c : ℕ) → IfSome (columns c) (λ n. n ≤ 2)) →
+        (s : Block T) (cs : List ℕ) (a b : T) (mode : WhiteSpace) → 2 ≤ s.width → s.failure ≡ None →
+        ¬ (after_text columns cs a b mode s ≡ refused E.TooNarrow) }
+{}
+
+/// A flush is too narrow only where no line may be wider than the block, and a character of the run is; always where
+/// a visible one is, and in a `Normal` run exactly where one of a word is. In two columns it never is.
+pub fn flushes_are_too_narrow_for_characters<T>()
+    ensures fits { (columns : ℕ → Option ℕ) → columns 32 ≡ Some 1 → (s t : Block T) → 0 < s.width →
+        after_flush columns s ≡ done t → s.may_overflow ≡ false → IsNormal (run_of s.events) →
+        WordsFit columns s.width (run_of s.events) }
+    ensures visible { (columns : ℕ → Option ℕ) → columns 32 ≡ Some 1 → (s t : Block T) → 0 < s.width →
+        after_flush columns s ≡ done t → s.may_overflow ≡ false → VisibleFit columns s.width (run_of s.events) }
+    ensures wide { (columns : ℕ → Option ℕ) → columns 32 ≡ Some 1 → (s : Block T) → 0 < s.width → s.failure ≡ None →
+        after_flush columns s ≡ refused E.TooNarrow →
+        (s.may_overflow ≡ false) × ¬ (CharactersFit columns s.width (run_of s.events)) }
+    ensures normal { (columns : ℕ → Option ℕ) → columns 32 ≡ Some 1 → (s : Block T) → 0 < s.width → s.failure ≡ None →
+        after_flush columns s ≡ refused E.TooNarrow → IsNormal (run_of s.events) →
+        ¬ (WordsFit columns s.width (run_of s.events)) }
+    ensures two_columns { (columns : ℕ → Option ℕ) → columns 32 ≡ Some 1 → ((c : ℕ) → IfSome (columns c) (λ n. n ≤ 2)) →
+        (s : Block T) → 2 ≤ s.width → s.failure ≡ None → ¬ (after_flush columns s ≡ refused E.TooNarrow) }
 {}
 
 /// What the end of a run promises, it promises under other annotations too, as under what annotations mean.
 pub fn annotations_change_no_promise<A, B>()
-    ensures { (f : A → B) (columns : ℕ → Option ℕ) (s : State A) (texts : List (List (Item A)))
-        (names : List (List ℕ)) → EndsRun columns s texts names →
-        EndsRun columns (map_state f s) (map_lines f texts) names }
+    ensures { (f : A → B) (columns : ℕ → Option ℕ) (width : ℕ) (may_overflow : Bool) (run : List (Entry A))
+        (texts : List (List (Item A))) (names : List (List ℕ)) → EndsRun columns width may_overflow run texts names →
+        EndsRun columns width may_overflow (map_run f run) (map_lines f texts) names }
 {}
 
 /// A line that is handed out has its text and its padding exactly, under what the tags mean, where equal tags mean the

@@ -269,7 +269,8 @@ impl<T: Eq + Clone + Drop> Wrapper<T> {
         requires faithful { CopiesAreEqual T.is_clone T.eq }
         requires stands { IsUnderWay W.columns T.eq self.old }
         ensures laid { WrapperFollows W.columns T.eq self.old self.new result (lay W.columns self.old.lines.width) }
-        ensures wider { RefusesWider W.columns T.eq self.old result (λ p. (lay W.columns self.old.lines.width p).laid.done) }
+        ensures wider { RefusesWider W.columns T.eq self.old result (λ p.
+            (lay W.columns self.old.lines.width p).laid.done) }
         ensures too_narrow { result ≡ Err E.TooNarrow → Wherever W.columns T.eq self.old (λ p.
             (self.old.lines.may_overflow ≡ false) × ¬ (IsNarrow W.columns self.old.lines.width p.word)) }
         ensures limits { KeepsLimits self.old.lines self.new.lines }

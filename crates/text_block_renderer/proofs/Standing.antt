@@ -16,12 +16,12 @@ use Rattle.tbr_lines.specs.Border.{Border, without_holes}
 use Rattle.tbr_lines.specs.Cell.{Cell}
 use Rattle.tbr_lines.specs.Elements.{text_items}
 use Rattle.tbr_lines.specs.Padding.{spaces}
-use Rattle.tbr_lines.specs.State.{State, IsNormal, AreLastOf, EndsRun}
+use Rattle.tbr_lines.specs.State.{IsNormal, AreLastOf, EndsRun}
 use Rattle.tbr_lines.proofs.SameItems.{all_zip_append}
 use Rattle.tbr_decor.specs.Decoration.{Decoration}
 use Rattle.tbr_renderer.specs.Renderer.{Line, Open, Renderer, new_renderer, open_block, open_run, with_line, with_entries, block_width, may_overflow}
 use Rattle.tbr_renderer.specs.declared.options.RenderOptions.{RenderOptions}
-use Rattle.tbr_renderer.specs.Flush.{block_of_run, block_lines, flushed, FlushesBlock}
+use Rattle.tbr_renderer.specs.Flush.{block_lines, flushed, FlushesBlock}
 use Rattle.tbr_renderer.specs.Appended.{with_border}
 use Rattle.tbr_renderer.specs.Calls.{Call, laid_entries, Brings, text_of_lines}
 use Rattle.text_block_renderer.specs.Drawn.{WithoutDrawnBorders, borders_drawn, DrawNone}
@@ -154,14 +154,12 @@ module _ {T : Type 0} (columns : ℕ → Option ℕ) where
       go false rest = rest
 
   -- the lines of a run, and the markers that stand on none of them
-  pub run_stands : (s : State T) (texts : List (List (Item T))) (names : List (List ℕ)) → s.lines ≡ [] → EndsRun columns s texts names → StandFor columns (joined texts ++ marker_items names) s.run
-  run_stands s texts names none ends =
-      let all : s.lines ++ texts ≡ texts = ap (λ ls. ls ++ texts) none in record {
-        order = subst (λ (is : List (Item T)). AllZip (ShowsEntry (λ a b. a ≡ b)) is (filter (is_entry_to_show columns) s.run)) (sym (shown_before (joined texts) names))
-            (subst (λ (ls : List (List (Item T))). AllZip (ShowsEntry (λ a b. a ≡ b)) (filter (is_visible_or_marker columns) (joined ls) ++ marker_items names) (filter (is_entry_to_show columns) s.run)) all ends.order);
-        names = names_before (joined texts) names ∙ ap (λ ls. names_in_items (joined ls) ++ names) (sym all) ∙ ends.markers;
-        kept = λ normal. unspaced_before (joined texts) names ∙ ap (λ (ls : List (List (Item T))). without_spaces (joined ls) ++ marker_items names) (sym all) ∙ ends.kept normal;
-      }
+  pub run_stands : (width : ℕ) (may_overflow : Bool) (run : List (Entry T)) (texts : List (List (Item T))) (names : List (List ℕ)) → EndsRun columns width may_overflow run texts names → StandFor columns (joined texts ++ marker_items names) run
+  run_stands width may_overflow run texts names ends = record {
+    order = subst (λ (is : List (Item T)). AllZip (ShowsEntry (λ a b. a ≡ b)) is (filter (is_entry_to_show columns) run)) (sym (shown_before (joined texts) names)) ends.order;
+    names = names_before (joined texts) names ∙ ends.markers;
+    kept = λ normal. unspaced_before (joined texts) names ∙ ends.kept normal;
+  }
 
 -- ---- which markers wait
 
@@ -259,7 +257,7 @@ module _ {D A : Type 0} (columns : ℕ → Option ℕ) where
       let more : List (Item (List A)) = joined h.texts ++ marker_items h.names in
       let all : StandFor columns (items_so_far after) (k.ended ++ b.run) =
       stand_behind columns (items_so_far r) more (items_so_far after) k.ended b.run (λ Y look looks. seen_flushed look looks columns r b h.texts h.names) (stand r es k)
-      (run_stands columns (block_of_run (block_width r) (may_overflow r) b.run) h.texts h.names refl h.ends) in
+      (run_stands columns (block_width r) (may_overflow r) b.run h.texts h.names h.ends) in
       let nothing : open_run after.block ≡ [] = ap open_run (no_block columns (block_lines columns r b h.texts) (record r { block = None }) refl) in
       let whole : (k.ended ++ b.run) ++ open_run after.block ≡ es =
       ap (λ (run : List (Entry (List A))). (k.ended ++ b.run) ++ run) nothing ∙ append-nil (k.ended ++ b.run) ∙ ap (λ (p : Option (Open (List A))). k.ended ++ open_run p) e ∙ k.whole in

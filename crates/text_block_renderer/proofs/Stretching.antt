@@ -17,7 +17,7 @@ use Rattle.tbr_lines.specs.Wrapped.{padding_of, HasBestLines}
 use Rattle.tbr_decor.specs.Decoration.{Decoration}
 use Rattle.tbr_renderer.specs.declared.options.RenderOptions.{RenderOptions}
 use Rattle.tbr_renderer.specs.Renderer.{Line, Open, Renderer, new_block, least, overflows, with_line, with_entries, block_width, may_overflow}
-use Rattle.tbr_renderer.specs.Flush.{block_of_run, block_lines, with_run, EndsBlock, FlushesBlock, Flushes}
+use Rattle.tbr_renderer.specs.Flush.{block_lines, with_run, EndsBlock, FlushesBlock, Flushes}
 use Rattle.tbr_renderer.specs.Calls.{Call, Steps, Brings}
 use Rattle.text_block_renderer.specs.Stretches.{line_of_text, stretch, items_on, NoneIsAhead, StandsAsStretch, StaysOpen, EndsAsStretch}
 use Rattle.text_block_renderer.proofs.Moves.{Move, flush, line, rule, join, turn, SameText, brought, MakesAll, any}
@@ -170,10 +170,10 @@ module _ {D A : Type 0} (columns : ℕ → Option ℕ) where
     is = h.is ∙ ap (λ ls. ls ++ stretch columns q b h.texts ++ h.behind) same ∙ ap (λ ls. r.lines ++ ls ++ h.behind) (same_stretch r q b b h.texts width options annotations waiting refl);
   }
     where
-      ends : EndsRun columns (block_of_run (block_width r) (may_overflow r) b.run) h.texts h.names
+      ends : EndsRun columns (block_width r) (may_overflow r) b.run h.texts h.names
       ends =
-          subst (λ (w : ℕ). EndsRun columns (block_of_run (least w r.options.wrap_width) (overflows r.options (least w r.options.wrap_width)) b.run) h.texts h.names) width
-          (subst (λ (o : RenderOptions). EndsRun columns (block_of_run (least q.width o.wrap_width) (overflows o (least q.width o.wrap_width)) b.run) h.texts h.names) options h.ends)
+          subst (λ (w : ℕ). EndsRun columns (least w r.options.wrap_width) (overflows r.options (least w r.options.wrap_width)) b.run h.texts h.names) width
+          (subst (λ (o : RenderOptions). EndsRun columns (least q.width o.wrap_width) (overflows o (least q.width o.wrap_width)) b.run h.texts h.names) options h.ends)
 
   flush_stands : (r q s : Renderer D A (List A)) (b : Open (List A)) → r.block ≡ Some b → Flushes columns r q → (more : List (Line (List A))) × (s.lines ≡ q.lines ++ more) → StandsAsStretch columns r b s.lines
   flush_stands r q s b open_block_is h grows = as_stretch r q s b (subst (λ (o : Option (Open (List A))). FlushesBlock columns r o q) open_block_is h) grows

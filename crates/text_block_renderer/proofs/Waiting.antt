@@ -11,7 +11,7 @@ use Rattle.tbr_lines.specs.State.{IsNormal}
 use Rattle.tbr_lines.specs.Wrapped.{HasBestLines}
 use Rattle.tbr_decor.specs.Decoration.{Decoration}
 use Rattle.tbr_renderer.specs.Renderer.{Line, text, border, Open, Renderer, with_line, block_width, may_overflow, open_run, line_padding}
-use Rattle.tbr_renderer.specs.Flush.{block_of_run, block_lines, flushed, FlushesBlock, Flushes, EndsBlock}
+use Rattle.tbr_renderer.specs.Flush.{block_lines, flushed, FlushesBlock, Flushes, EndsBlock}
 use Rattle.tbr_renderer.specs.Appended.{with_border}
 use Rattle.tbr_renderer.specs.Calls.{Call, Steps}
 use Rattle.text_block_renderer.specs.Drawn.{CameWithoutDrawnBorders, borders_drawn, DrawNone}
@@ -93,7 +93,7 @@ module _ {D A : Type 0} (columns : ℕ → Option ℕ) where
       all =
           stand_behind columns (marker_items r.waiting) (joined h.texts ++ marker_items h.names) (marker_items r.waiting ++ (joined h.texts ++ marker_items h.names)) (marker_run r.waiting) b.run
           (λ Y look looks. looks.append (marker_items r.waiting) (joined h.texts ++ marker_items h.names)) (markers_stand columns r.waiting)
-          (run_stands columns (block_of_run (block_width r) (may_overflow r) b.run) h.texts h.names refl h.ends)
+          (run_stands columns (block_width r) (may_overflow r) b.run h.texts h.names h.ends)
 
       go : (ts : List (List (Item (List A)))) → h.texts ≡ ts → (is : List (Item (List A))) × StandFor columns (is ++ marker_items s.waiting) (marker_run r.waiting ++ b.run)
       go [] e =
@@ -142,7 +142,7 @@ module _ {D A : Type 0} (columns : ℕ → Option ℕ) where
         waits_kept = λ normal. waits_behind_kept columns is s.waiting (marker_run r.waiting ++ b.run) all (normal_behind r.waiting b.run normal);
         kept = λ normal.
             ap (λ (q : Renderer D A (List A)). without_spaces (items_so_far q)) h.is ∙ seen_flushed without_spaces at_unspaced columns r b h.texts h.names
-            ∙ ap (λ js. without_spaces (items_so_far r) ++ js) ((run_stands columns (block_of_run (block_width r) (may_overflow r) b.run) h.texts h.names refl h.ends).kept normal);
+            ∙ ap (λ js. without_spaces (items_so_far r) ++ js) ((run_stands columns (block_width r) (may_overflow r) b.run h.texts h.names h.ends).kept normal);
         trails = trails r s b h;
         bare = bare r s b h;
       }

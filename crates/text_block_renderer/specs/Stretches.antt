@@ -8,7 +8,7 @@ use Rattle.tbr_model.specs.Shown.{without_spaces}
 use Rattle.tbr_lines.specs.State.{IsNormal, EndsRun}
 use Rattle.tbr_lines.specs.Wrapped.{padding_of}
 use Rattle.tbr_renderer.specs.Renderer.{Line, text, Open, Renderer, line_padding, block_width, may_overflow, open_run}
-use Rattle.tbr_renderer.specs.Flush.{block_of_run, with_run}
+use Rattle.tbr_renderer.specs.Flush.{with_run}
 use Rattle.tbr_renderer.specs.Appended.{border_line}
 use Rattle.tbr_renderer.specs.Calls.{Call, add_border, append_subrender, append_vert_row, laid_entries}
 use Rattle.tbr_lines.specs.Border.{without_holes}
@@ -44,7 +44,7 @@ pub record StandsAsStretch {D A : Type 0} (columns : ℕ → Option ℕ) (r : Re
   pub texts : List (List (Item (List A)))
   pub names : List (List ℕ)
   -- what a block promises of a run's texts: in `Normal`, where it may not overflow, those of a legal layout
-  pub ends : EndsRun columns (block_of_run (block_width r) (may_overflow r) b.run) texts names
+  pub ends : EndsRun columns (block_width r) (may_overflow r) b.run texts names
   pub ahead : may_overflow r ≡ false → IsNormal b.run → NoneIsAhead columns (block_width r) b.run texts
   pub behind : List (Line (List A))
   pub is : lines ≡ r.lines ++ stretch columns r b texts ++ behind
@@ -108,7 +108,7 @@ pub record HasEnded {D A : Type 0} (columns : ℕ → Option ℕ) (first r : Ren
   pub options : r.options ≡ first.options
   pub block : r.block ≡ Some b
   pub names : List (List ℕ)
-  pub ends : EndsRun columns (block_of_run (block_width r) (may_overflow r) b.run) texts names
+  pub ends : EndsRun columns (block_width r) (may_overflow r) b.run texts names
 
 -- No block is open. The renderer's width and options are still those of another one.
 pub record IsBetweenBlocks {D A : Type 0} (first r : Renderer D A (List A)) : Type 0 where

@@ -1,7 +1,7 @@
 //! The end of runs, and the beginning of blocks.
 ghost use Rattle.std.specs.Prelude.{◌≡◌, ◌≢◌, ◌≤◌, ◌++◌, None, Err, true, map, fold, IfErr, OnOk};
 ghost use Rattle.tbr_lines.specs.State.{is_some_list};
-ghost use Rattle.tbr_lines.specs.Block.{has_no_character, left, state_seen};
+ghost use Rattle.tbr_lines.specs.Block.{has_no_character, left};
 ghost use Rattle.tbr_renderer.specs.KeptLines.{text_lines};
 ghost use Rattle.tbr_lines.specs.declared.Error.TheVariants as E;
 ghost use Rattle.tbr_renderer.specs.Renderer.{KeepsSettings, with_line, block_width};
@@ -24,7 +24,7 @@ impl<D: TextDecorator, W: CharWidth> SubRenderer<D, W> {
         requires block { block.failure ≡ None }
         requires ended { has_no_character W.columns block ≡ true }
         ensures lines { OnOk result (meant D.meaning self.new ≡ fold (with_line W.columns) (meant D.meaning self.old)
-            (map (line_meant W.columns D.meaning (state_seen W.columns block)) (left W.columns block))) }
+            (map (line_meant W.columns D.meaning block) (left W.columns block))) }
         ensures unfailed { OnOk result (self.new.failure ≡ None) }
         ensures memory { IfErr result (λ e. e ≡ E.OutOfMemory) }
         ensures settings { KeepsSettings (meant D.meaning self.old) (meant D.meaning self.new) }
@@ -47,7 +47,7 @@ impl<D: TextDecorator, W: CharWidth> SubRenderer<D, W> {
 
     /// Whether a block's lines come as they are: neither padded, nor behind markers that wait.
     fn adds_as_is(&self, block: &WrappedBlock<Vec<D::Annotation>, W>) -> bool
-        ensures { result ≡ true → AddsAsIs self.now (state_seen W.columns block.now) }
+        ensures { result ≡ true → AddsAsIs self.now block.now }
     {
         !block.pads() && !self.options.pad_block_width && self.waiting.is_empty()
     }
@@ -60,7 +60,7 @@ impl<D: TextDecorator, W: CharWidth> SubRenderer<D, W> {
         requires unfailed { self.old.failure ≡ None }
         requires block { block.failure ≡ None }
         ensures lines { OnOk result (meant D.meaning self.new ≡ fold (with_line W.columns) (meant D.meaning self.old)
-            (map (line_meant W.columns D.meaning (state_seen W.columns block)) (left W.columns block))) }
+            (map (line_meant W.columns D.meaning block) (left W.columns block))) }
         ensures unfailed { OnOk result (self.new.failure ≡ None) }
         ensures memory { IfErr result (λ e. e ≡ E.OutOfMemory) }
         ensures settings { KeepsSettings (meant D.meaning self.old) (meant D.meaning self.new) }

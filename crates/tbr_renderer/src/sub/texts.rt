@@ -4,7 +4,6 @@ ghost use Rattle.tbr_lines.specs.View.{chars_of};
 ghost use Rattle.tbr_lines.specs.declared.Error.TheVariants as E;
 ghost use Rattle.tbr_renderer.specs.Renderer.{KeepsSettings, block_width, may_overflow, last_mode, struck, struck_character, open_block, new_block, stroke, text_annotations, entries_under, entries_of, with_entries, is_white, ignores};
 ghost use Rattle.tbr_renderer.specs.View.{IsFresh, block_meant};
-ghost use Rattle.tbr_lines.specs.Block.{state_seen};
 ghost use Rattle.tbr_renderer.specs.Meant.{tag_meant, meant};
 ghost use Rattle.tbr_renderer.specs.Flush.{with_run, RunGoesOn, RunStops};
 ghost use Rattle.tbr_renderer.specs.Steps.{JoinsText, JoinIsTooNarrow, AddsTextBy, AddsText, TextIsTooNarrowBy, TextIsTooNarrow};
@@ -48,7 +47,7 @@ impl<D: TextDecorator, W: CharWidth> SubRenderer<D, W> {
 
     /// A block without text.
     fn new_block(&self) -> Result<Box<WrappedBlock<Vec<D::Annotation>, W>>, OutOfMemory>
-        ensures fresh { IfOk result (λ b. IsFresh (block_width self.now) (may_overflow self.now) (state_seen W.columns b.value)) }
+        ensures fresh { IfOk result (λ b. IsFresh W.columns (block_width self.now) (may_overflow self.now) b.value) }
         ensures block { IfOk result (λ b.
             block_meant W.columns D.meaning b.value ≡ new_block (meant D.meaning self.now)) }
     {
@@ -65,7 +64,7 @@ impl<D: TextDecorator, W: CharWidth> SubRenderer<D, W> {
     /// Takes the open block, or a new one.
     fn take_or_new_block(&mut self) -> Result<Box<WrappedBlock<Vec<D::Annotation>, W>>, OutOfMemory>
         requires { self.old.failure ≡ None }
-        ensures fresh { IfOk result (λ b. IsFresh (block_width self.old) (may_overflow self.old) (state_seen W.columns b.value)) }
+        ensures fresh { IfOk result (λ b. IsFresh W.columns (block_width self.old) (may_overflow self.old) b.value) }
         ensures block { IfOk result (λ b.
             block_meant W.columns D.meaning b.value ≡ open_block (meant D.meaning self.old)) }
         ensures rest { OnOk result (self.new ≡ record self.old { block = None }) }
@@ -95,12 +94,12 @@ impl<D: TextDecorator, W: CharWidth> SubRenderer<D, W> {
         main: &Vec<D::Annotation>,
         continued: &Vec<D::Annotation>,
     ) -> Result<(), Error>
-        requires fresh { IsFresh (block_width self.now) (may_overflow self.now) (state_seen W.columns block.old) }
+        requires fresh { IsFresh W.columns (block_width self.now) (may_overflow self.now) block.old }
         requires main { tag_meant D.meaning main.now
             ≡ text_annotations D.preformatted false (meant D.meaning self.now) }
         requires continued { tag_meant D.meaning continued.now
             ≡ text_annotations D.preformatted true (meant D.meaning self.now) }
-        ensures fresh { OnOk result (IsFresh (block_width self.now) (may_overflow self.now) (state_seen W.columns block.new)) }
+        ensures fresh { OnOk result (IsFresh W.columns (block_width self.now) (may_overflow self.now) block.new) }
         ensures written { let es = entries_under D.preformatted (meant D.meaning self.now) (chars text.now) in
             OnOk result (block_meant W.columns D.meaning block.new
             ≡ with_run (block_meant W.columns D.meaning block.old) es) }
@@ -121,8 +120,8 @@ impl<D: TextDecorator, W: CharWidth> SubRenderer<D, W> {
         block: &mut WrappedBlock<Vec<D::Annotation>, W>,
         text: &str,
     ) -> Result<(), Error>
-        requires fresh { IsFresh (block_width self.now) (may_overflow self.now) (state_seen W.columns block.old) }
-        ensures fresh { OnOk result (IsFresh (block_width self.now) (may_overflow self.now) (state_seen W.columns block.new)) }
+        requires fresh { IsFresh W.columns (block_width self.now) (may_overflow self.now) block.old }
+        ensures fresh { OnOk result (IsFresh W.columns (block_width self.now) (may_overflow self.now) block.new) }
         ensures written { let es = entries_under D.preformatted (meant D.meaning self.now) (chars text.now) in
             OnOk result (block_meant W.columns D.meaning block.new
             ≡ with_run (block_meant W.columns D.meaning block.old) es) }
@@ -148,8 +147,8 @@ impl<D: TextDecorator, W: CharWidth> SubRenderer<D, W> {
         block: &mut WrappedBlock<Vec<D::Annotation>, W>,
         text: &str,
     ) -> Result<(), Error>
-        requires fresh { IsFresh (block_width self.now) (may_overflow self.now) (state_seen W.columns block.old) }
-        ensures fresh { OnOk result (IsFresh (block_width self.now) (may_overflow self.now) (state_seen W.columns block.new)) }
+        requires fresh { IsFresh W.columns (block_width self.now) (may_overflow self.now) block.old }
+        ensures fresh { OnOk result (IsFresh W.columns (block_width self.now) (may_overflow self.now) block.new) }
         ensures written { let es = entries_of W.columns D.preformatted (meant D.meaning self.now) (chars text.now) in
             OnOk result (block_meant W.columns D.meaning block.new
             ≡ with_run (block_meant W.columns D.meaning block.old) es) }

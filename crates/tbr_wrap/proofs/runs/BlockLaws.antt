@@ -1,20 +1,25 @@
--- What the relations of `State` promise follows from what each call makes of a block.
-use Rattle.std.proofs.Common.{◌≡◌, ℕ, ◌<◌, ◌≤◌, ◌==◌, not, ◌&&◌, ◌||◌, Bool, true, false, Option, None, Some, List, [], ◌∷◌, ◌++◌, drop, length, refl, ap, sym, ◌∙◌, subst, append_assoc, append-nil, leb-true, inl, inr, if◌then◌else◌, Result}
-use Rattle.std.proofs.lemmas.List.{drop-append-le}
-use Rattle.std.proofs.lemmas.Bool.{and_parts}
+-- What follows from the outcomes of a block's calls.
+use Rattle.std.proofs.Common.{◌≡◌, ◌↔◌, ℕ, ◌-◌, ◌<◌, ◌≤◌, ◌==◌, not, ◌&&◌, ◌||◌, ◌⊎◌, Bool, true, false, IsTrue, Option, None, Some, IfSome, List, [], ◌∷◌, ◌++◌, drop, length, map, refl, ap, sym, ◌∙◌, subst, arith, append_assoc, append-nil, length-append, lt-ltb, inl, inr, if◌then◌else◌}
+use Rattle.std.proofs.Math.ListN.{drop_of_length-le}
+use Rattle.std.proofs.lemmas.List.{drop-append-le, drop_at}
+use Rattle.std.proofs.lemmas.Bool.{and_parts, and_left, and_right, cases_lt, cond_both, eqb-true, ne_eqb, not-true}
 use Rattle.std.specs.List.{AllByRecursion as Each}
-use Rattle.tbr_model.specs.Run.{Item, Entry, marker_entry, items_width, kept_items, has_character}
-use Rattle.tbr_model.specs.Markers.{names_in_items, names_in_run, marker_run, marker_items}
+use Rattle.tbr_model.specs.declared.white_space.WhiteSpace.{WhiteSpace}
+use Rattle.tbr_model.specs.Run.{Item, glyph, marker, Entry, marker_entry, items_width, kept_items, has_character, reading, trailing}
+use Rattle.tbr_model.specs.Markers.{names_in_items, names_in_run, marker_items, names_behind, last}
+use Rattle.tbr_model.specs.Hard.{is_visible}
+use Rattle.tbr_model.specs.Laid.{Laid, end_if_character}
 use Rattle.tbr_model.specs.Layout.{joined, slots_of, HasLegalLines}
-use Rattle.tbr_model.proofs.words.KeptItems.{narrow_if_legal, each_words_narrow}
-use Rattle.tbr_model.specs.Hard.{hard_lines, Parted}
-use Rattle.tbr_model.specs.Shown.{without_spaces, InventsNothing, ComesWithRun, ShowsInOrder, ShowsOwn}
-use Rattle.tbr_model.specs.Rule.{entry, run_of, Progress, at_start, progress, waiting}
+use Rattle.tbr_model.specs.Shown.{without_spaces, run_shows_columns}
+use Rattle.tbr_model.specs.Rule.{Event, entry, run_of, Progress, step, finished, waiting}
 use Rattle.tbr_model.specs.Fits.{lines_fit}
+use Rattle.tbr_model.proofs.words.KeptItems.{narrow_if_legal, each_words_narrow}
+use Rattle.tbr_model.proofs.words.Items.{items_width-append, no_character_no_width}
+use Rattle.tbr_model.proofs.normal.BestLines.{NormalBlank}
 use Rattle.tbr_model.proofs.rule.DoneLines.{if_same, finished_adds}
-use Rattle.tbr_model.proofs.rule.HardLines.{run_of-append}
-use Rattle.tbr_model.proofs.rule.Markers.{markers_at_end, waiting_none, marker_items_alone, markers_lead, run_of_markers}
-use Rattle.tbr_model.proofs.words.Items.{no_character_no_width}
+use Rattle.tbr_model.proofs.rule.HardLines.{run_of-append, not_flushed}
+use Rattle.tbr_model.proofs.rule.Markers.{markers_run, markers_at_end, waiting_none, marker_items_alone, names_in_items-append}
+use Rattle.tbr_model.proofs.lines.Columns.{columns_show}
 use Rattle.tbr_model.proofs.lines.KeptOrder.{shown_in_order}
 use Rattle.tbr_model.proofs.lines.MarkersAlone.{no_line_ends}
 use Rattle.tbr_model.proofs.lines.NormalItems.{normal_keeps}
@@ -22,105 +27,41 @@ use Rattle.tbr_model.proofs.lines.NothingInvented.{nothing_invented}
 use Rattle.tbr_model.proofs.lines.OwnAnnotations.{own_shown}
 use Rattle.tbr_model.proofs.lines.RunCharacters.{come_with_run}
 use Rattle.tbr_model.proofs.lines.WaitingMarkers.{waits_behind_visible, waits_behind_kept}
-use Rattle.tbr_tagged.specs.declared.error.Error.{Error}
+use Rattle.tbr_tagged.specs.Elements.{Element}
 use Rattle.tbr_tagged.specs.declared.error.Error.TheVariants as E
-use Rattle.tbr_tagged.specs.Outcome.{Outcome, done, refused, Answers}
+use Rattle.tbr_tagged.specs.Outcome.{done, refused}
 use Rattle.tbr_tagged.proofs.Outcomes.{live_done, live_goes, live_refused}
-use Rattle.tbr_wrap.specs.Wrapped.{FitsBlock, HasBestLines, WordsFit, EndedWordsFit}
-use Rattle.tbr_wrap.specs.State.{State, IsNormal, CharactersFit, VisibleFit, JoinsRun, JoinsAsMarker, EndsRun, ShowsFitting, IsShownBy, KeepsRefusal, is_some_list, text_entries}
-use Rattle.tbr_wrap.specs.State as state
-use Rattle.tbr_model.specs.declared.white_space.WhiteSpace.{WhiteSpace}
-use Rattle.tbr_wrap.specs.Course.{Course, loose_names, state_of}
-use Rattle.tbr_wrap.specs.Block.{Block, progress_of, lines, all_lines, left, has_no_character, allows, grown, text_events, flushed, after_text, after_flush, without_loose, line_handed_out, settings_of, failure_of, course_of, state_seen}
-use Rattle.tbr_wrap.proofs.runs.EndedRuns.{shown_run, waits_normal, ended_words_fit_normal, words_fit_normal, visible_fit}
+use Rattle.tbr_wrap.specs.Wrapped.{FitsBlock, HasBestLines, WordsFit, EndedWordsFit, ShowsText}
+use Rattle.tbr_wrap.specs.State.{IsNormal, CharactersFit, VisibleFit, EndsRun, AreLastOf, is_some_list, text_entries}
+use Rattle.tbr_wrap.specs.Block.{Block, new_block, progress_of, lines, all_lines, left, takes_no_columns, has_no_character, loose_names, loose, waiting_names, allows, grown, text_events, flushed, after_text, after_marker, after_taking, after_flush, after_line, without_loose, line_handed_out, HandsOutFirst, IsSound, RunDecides}
+use Rattle.tbr_wrap.specs.LaidLines.{RuleFitsWidth}
+use Rattle.tbr_wrap.proofs.runs.EndedRuns.{shown_run, waits_normal, word_normal, blank_normal, ended_words_fit_normal, words_fit_normal, visible_fit, two_columns_characters}
 use Rattle.tbr_wrap.proofs.runs.FittingLines.{fitting_lines}
-use Rattle.tbr_wrap.proofs.runs.LinesLeft.{lines_left-taken}
-use Rattle.tbr_wrap.proofs.runs.Courses.{went, entries_run, joins_events, joins_marker, kept_seen, none_ended, taken_seen as word_taken_seen}
-use Rattle.tbr_wrap.proofs.runs.Blocks.{course_grown, course_ended, course_taken, none_taken, fit_allows, if_allowed, if_not_allowed}
+use Rattle.tbr_wrap.proofs.runs.LinesLeft.{some_count}
+use Rattle.tbr_wrap.proofs.runs.Blocks.{steps_add, progress_grown, progress_flushed, progress_taken, none_taken, allowed_each, fit_allows, if_allowed, if_not_allowed}
 use Rattle.tbr_wrap.proofs.runs.RuleWidths.{run_fits, end_fits, normal_run_fits, normal_end_fits}
 
 or_right : (x y : Bool) → y ≡ true → x || y ≡ true
 or_right true y e = refl
 or_right false y e = e
 
+last_of_two : {X : Type 0} (xs ys : List X) → last (length ys) (xs ++ ys) ≡ ys
+last_of_two xs ys = drop_at xs ys (length (xs ++ ys) - length ys) (omega (arith, length-append xs ys))
+
+pub entries_run : {A : Type 0} (es : List (Entry A)) → run_of (map entry es) ≡ es
+entries_run [] = refl
+entries_run {A} (e ∷ es) = ap (λ (fs : List (Entry A)). e ∷ fs) (entries_run es)
+
+-- A line that was handed out is the first that was left.
+pub record HandsOne {A : Type 0} (columns : ℕ → Option ℕ) (eq : A → A → Bool) (s : Block A) (line : List (Element A)) (t : Block A) : Type 0 where
+  pub text : List (Item A)
+  pub rest : List (List (Item A))
+  pub left_is : left columns s ≡ text ∷ rest
+  pub shows : ShowsText columns eq s.padding s.width line text
+  pub leaves : t ≡ line_handed_out s
+
 module _ {A : Type 0} (columns : ℕ → Option ℕ) where
-  module _ (s : Block A) where
-    abbrev p : Progress A
-    p = progress_of columns s
-
-    abbrev run : List (Entry A)
-    run = run_of s.events
-
-    -- the lines that the end of the run adds
-    abbrev pub added : List (List (Item A))
-    added = (finished_adds columns s.width p).0
-
-    all_is : all_lines columns s ≡ lines columns s ++ added
-    all_is = (finished_adds columns s.width p).1
-
-    abbrev waits : List (Item A)
-    waits = waiting columns s.width p
-
-    -- the markers that wait
-    abbrev pub left_names : List (List ℕ)
-    left_names = names_in_items waits
-
-    left_none : has_character waits ≡ false
-    left_none = waiting_none columns s.width p
-
-    left_is : waits ≡ marker_items left_names
-    left_is = marker_items_alone waits left_none
-
-    abbrev Same : A → A → Type 0
-    Same a b = a ≡ b
-
-    pub ends_run : columns 32 ≡ Some 1 → 0 < s.width → Each (FitsBlock columns s.width s.may_overflow) (all_lines columns s) → EndsRun columns (state_seen columns s) added left_names
-    ends_run one_space wide fits =
-        let over : (P : List (List (Item A)) → Type 0) → P (all_lines columns s) → P (lines columns s ++ added) = λ P h. subst P all_is h in
-        record {
-          shown = over (IsShownBy columns s.width s.may_overflow run) (shown_run columns s.width one_space wide s.may_overflow s.events fits);
-          fits = over (Each (FitsBlock columns s.width s.may_overflow)) fits;
-          markers = over (λ ls. names_in_items (joined ls) ++ left_names ≡ names_in_run run) (markers_at_end columns s.width s.events);
-          invents = over (InventsNothing columns Same run) (nothing_invented columns s.width Same (λ a. refl) s.events);
-          come = over (λ ls. Each (ComesWithRun Same run) (joined ls)) (come_with_run columns s.width Same (λ a. refl) s.events);
-          order = over (λ ls. ShowsInOrder columns Same run ls left_names) (shown_in_order columns s.width Same (λ a. refl) s.events);
-          own = λ plain. over (ShowsOwn columns Same run) (own_shown columns s.width Same (λ a. refl) s.events plain);
-          fitting = λ pre. over (Parted (ShowsFitting columns Same s.width) (hard_lines run)) (fitting_lines columns Same (λ a. refl) s.width s.events pre);
-          kept = λ normal. over (λ ls. without_spaces (joined ls) ++ marker_items left_names ≡ kept_items columns run)
-              (ap (λ is. without_spaces (joined (all_lines columns s)) ++ is) (sym left_is) ∙ normal_keeps columns s.width s.events normal);
-          behind = waits_behind_visible columns s.width s.events;
-          behind_kept = λ normal. waits_behind_kept columns s.width s.events normal;
-          alone = λ none. sym all_is ∙ no_line_ends columns s.width s.events none;
-          waits = λ never normal. sym left_is ∙ waits_normal columns s.width s.events (subst (λ o. Each (FitsBlock columns s.width o) (all_lines columns s)) never fits) run refl normal;
-        }
-
-    -- what is left of the run
-    pub flushed_seen : s.handed ≤ length (lines columns s) → state_seen columns (flushed columns s) ≡ state.run_flushed (state_seen columns s) added left_names
-    flushed_seen within =
-        let is : progress columns s.width (flushed columns s).events ≡ record at_start { word = waits } = markers_lead columns s.width left_names ∙ ap (λ (js : List (Item A)). record at_start { word = js }) (sym left_is) in
-        let columns_none : items_width columns waits ≡ 0 = no_character_no_width columns waits left_none in
-        let no_columns : ((0 == 0) && (items_width columns waits == 0)) ≡ true = rw columns_none refl in
-        let no_character : not false && not (has_character waits) ≡ true = rw left_none refl in
-        let names : loose_names waits ≡ left_names = rw left_none refl in
-        let ended : s.ended ++ drop s.handed (all_lines columns s) ≡ (s.ended ++ drop s.handed (lines columns s)) ++ added =
-        ap (λ ls. s.ended ++ ls) (ap (drop s.handed) all_is ∙ drop-append-le s.handed (lines columns s) added within) ∙ sym (append_assoc s.ended (drop s.handed (lines columns s)) added) in
-        (λ i. record (state_seen columns (flushed columns s)) {
-          run = run_of_markers left_names i;
-          lines = (is i).laid.done;
-          no_columns = ((is i).laid.width == 0) && (items_width columns (is i).word == 0);
-          no_character = not (has_character (is i).laid.line) && not (has_character (is i).word);
-          loose = loose_names (is i).word;
-        })
-        ∙ (λ i. record (state_seen columns s) {
-          begun = s.begun || is_some_list (all_is i);
-          ended = ended i;
-          lines = [];
-          handed = 0;
-          run = marker_run left_names;
-          no_columns = no_columns i;
-          no_character = no_character i;
-          loose = names i;
-        })
+  -- ---- what a call leaves
 
   made : (b : Bool) (t u : Block A) → (if b then done t else refused E.TooNarrow) ≡ done u → (b ≡ true) × (t ≡ u)
   made true t u e = (refl, cc)
@@ -130,15 +71,137 @@ module _ {A : Type 0} (columns : ℕ → Option ℕ) where
   unmade true t e = cc
   unmade false t e = refl
 
+  module _ (s t : Block A) where
+    text_made : (cs : List ℕ) (a b : A) (mode : WhiteSpace) → after_text columns cs a b mode s ≡ done t →
+        let g = grown s (text_events cs a b mode) in (allows columns g (lines columns g) ≡ true) × (g ≡ t)
+    text_made cs a b mode e = made _ _ t (live_done s.failure _ t e).1
+
+    pub text_leaves : (cs : List ℕ) (a b : A) (mode : WhiteSpace) → after_text columns cs a b mode s ≡ done t → t ≡ grown s (text_events cs a b mode)
+    text_leaves cs a b mode e = sym (text_made cs a b mode e).1
+
+    pub marker_leaves : (name : List ℕ) → after_marker name s ≡ done t → t ≡ grown s (entry (marker_entry name) ∷ [])
+    marker_leaves name e = let is = (live_done s.failure _ t e).1 in cc
+
+    pub taking_leaves : after_taking columns s ≡ done t → t ≡ without_loose columns s
+    taking_leaves e = let is = (live_done s.failure _ t e).1 in cc
+
+    flush_made : after_flush columns s ≡ done t → (allows columns s (all_lines columns s) ≡ true) × (flushed columns s ≡ t)
+    flush_made e = made _ _ t (live_done s.failure _ t e).1
+
+    pub flush_allowed : after_flush columns s ≡ done t → allows columns s (all_lines columns s) ≡ true
+    flush_allowed e = (flush_made e).0
+
+    pub flush_leaves : after_flush columns s ≡ done t → t ≡ flushed columns s
+    flush_leaves e = sym (flush_made e).1
+
+    pub line_leaves : after_line columns s ≡ done t → t ≡ (if is_some_list (left columns s) then line_handed_out s else s)
+    line_leaves e = let is = (live_done s.failure _ t e).1 in cc
+
+  -- what `next_line` hands out, and leaves
+  module _ (eq : A → A → Bool) (s t : Block A) (e : after_line columns s ≡ done t) where
+    first_handed : (ls : List (List (Item A))) (line : List (Element A)) → left columns s ≡ ls → HandsOutFirst columns eq s ls (Some line) → HandsOne columns eq s line t
+    first_handed [] line is h = cc
+    first_handed (text ∷ rest) line is h = record { text = text; rest = rest; left_is = is; shows = h; leaves = line_leaves s t e ∙ ap (λ ls. if is_some_list ls then line_handed_out s else s) is }
+
+    pub one_handed : (line : List (Element A)) → HandsOutFirst columns eq s (left columns s) (Some line) → HandsOne columns eq s line t
+    one_handed line h = first_handed (left columns s) line refl h
+
+    none_there : (ls : List (List (Item A))) → left columns s ≡ ls → HandsOutFirst columns eq s ls None → (left columns s ≡ []) × (t ≡ s)
+    none_there [] is h = (is, line_leaves s t e ∙ ap (λ ls. if is_some_list ls then line_handed_out s else s) is)
+    none_there (text ∷ rest) is h = absurd h
+
+    pub none_handed : HandsOutFirst columns eq s (left columns s) None → (left columns s ≡ []) × (t ≡ s)
+    none_handed h = none_there (left columns s) refl h
+
+  -- ---- lines only come
+
+  module _ (s : Block A) (es : List (Event A)) where
+    pub lines_grown : (more : List (List (Item A))) × (lines columns (grown s es) ≡ lines columns s ++ more)
+    lines_grown = let add = steps_add columns s.width es (progress_of columns s) in (add.0, ap (λ (p : Progress A). p.laid.done) (progress_grown columns s es) ∙ add.1)
+
+    pub left_grown : s.handed ≤ length (lines columns s) → left columns (grown s es) ≡ left columns s ++ lines_grown.0
+    left_grown within = ap (λ ls. s.ended ++ drop s.handed ls) lines_grown.1 ∙ ap (λ ls. s.ended ++ ls) (drop-append-le s.handed (lines columns s) lines_grown.0 within) ∙ sym (append_assoc s.ended (drop s.handed (lines columns s)) lines_grown.0)
+
+  lines_taken : (s : Block A) → lines columns (without_loose columns s) ≡ lines columns s
+  lines_taken s = go (has_character (progress_of columns s).word) refl
+    where
+      go : (b : Bool) → has_character (progress_of columns s).word ≡ b → lines columns (without_loose columns s) ≡ lines columns s
+      go true some = ap (lines columns) (none_taken columns s some)
+      go false none = ap (λ (p : Progress A). p.laid.done) (progress_taken columns s none)
+
+  pub left_taken : (s : Block A) → left columns (without_loose columns s) ≡ left columns s
+  left_taken s = ap (λ ls. s.ended ++ drop s.handed ls) (lines_taken s)
+
+  none_flushed : (s : Block A) → lines columns (flushed columns s) ≡ []
+  none_flushed s = ap (λ (p : Progress A). p.laid.done) (progress_flushed columns s)
+
+  pub left_flushed : (s : Block A) → left columns (flushed columns s) ≡ s.ended ++ drop s.handed (all_lines columns s)
+  left_flushed s = ap (λ ls. (flushed columns s).ended ++ drop 0 ls) (none_flushed s) ∙ append-nil (flushed columns s).ended
+
+  -- the markers that wait are loose then
+  pub loose_flushed : (s : Block A) → loose columns (flushed columns s) ≡ waiting_names columns s
+  loose_flushed s =
+      let left : List (Item A) = waiting columns s.width (progress_of columns s) in
+      let none : has_character left ≡ false = waiting_none columns s.width (progress_of columns s) in
+      ap (λ (p : Progress A). loose_names p.word) (progress_flushed columns s) ∙ rw none refl
+
+  -- the lines that the end of the run adds come behind those that are left
+  pub left_ended : (s : Block A) → s.handed ≤ length (lines columns s) → (more : List (List (Item A))) × (all_lines columns s ≡ lines columns s ++ more) × (left columns (flushed columns s) ≡ left columns s ++ more)
+  left_ended s within =
+      let add = finished_adds columns s.width (progress_of columns s) in (
+        add.0,
+        add.1,
+        left_flushed s ∙ ap (λ ls. s.ended ++ ls) (ap (drop s.handed) add.1 ∙ drop-append-le s.handed (lines columns s) add.0 within) ∙ sym (append_assoc s.ended (drop s.handed (lines columns s)) add.0),
+      )
+
+  -- ---- what stays so
+
+  pub sound_new : (width : ℕ) (may : Bool) (padding : Option A) → 0 < width → IsSound columns (new_block width may padding)
+  sound_new width may padding wide = record { wide = wide; allowed = or_right may true refl; within = omega arith }
+
+  module _ (s : Block A) (h : IsSound columns s) where
+    sound_grown : (es : List (Event A)) → allows columns s (lines columns (grown s es)) ≡ true → IsSound columns (grown s es)
+    sound_grown es allowed =
+        let more = lines_grown s es in
+        record { wide = h.wide; allowed = allowed; within = omega (arith, h.within, ap length more.1, length-append (lines columns s) more.0) }
+
+    pub sound_text : (t : Block A) (cs : List ℕ) (a b : A) (mode : WhiteSpace) → after_text columns cs a b mode s ≡ done t → IsSound columns t
+    sound_text t cs a b mode e = let is = text_made s t cs a b mode e in subst (IsSound columns) is.1 (sound_grown (text_events cs a b mode) is.0)
+
+    pub sound_marked : (t : Block A) (name : List ℕ) → after_marker name s ≡ done t → IsSound columns t
+    sound_marked t name e =
+        let es : List (Event A) = entry (marker_entry name) ∷ [] in
+        let same : lines columns (grown s es) ≡ lines columns s = ap (λ (p : Progress A). p.laid.done) (progress_grown columns s es) in
+        subst (IsSound columns) (sym (marker_leaves s t name e)) (sound_grown es (ap (allows columns s) same ∙ h.allowed))
+
+    pub sound_taken : (t : Block A) → after_taking columns s ≡ done t → IsSound columns t
+    sound_taken t e =
+        subst (IsSound columns) (sym (taking_leaves s t e))
+        (record { wide = h.wide; allowed = ap (allows columns s) (lines_taken s) ∙ h.allowed; within = omega (arith, h.within, ap length (lines_taken s)) })
+
+    pub sound_flushed : (t : Block A) → after_flush columns s ≡ done t → IsSound columns t
+    sound_flushed t e =
+        subst (IsSound columns) (sym (flush_leaves s t e))
+        (record { wide = h.wide; allowed = ap (allows columns s) (none_flushed s) ∙ or_right s.may_overflow true refl; within = omega arith })
+
+    pub sound_line : (t : Block A) → after_line columns s ≡ done t → IsSound columns t
+    sound_line t e = subst (IsSound columns) (sym (line_leaves s t e)) (cond_both (is_some_list (left columns s)) _ _ (IsSound columns) some (λ _. h))
+      where
+        within_one : is_some_list (left columns s) ≡ true → (es : List (List (Item A))) → s.ended ≡ es → (line_handed_out s).handed ≤ length (lines columns s)
+        within_one some (l ∷ es) is = rw is h.within
+        within_one some [] is = rw is (elim (cases_lt s.handed (length (lines columns s))) [
+          | inl less ↦ less
+          | inr most ↦ absurd (let none : true ≡ false = sym some ∙ ap is_some_list (ap (λ ls. ls ++ drop s.handed (lines columns s)) is ∙ drop_of_length-le (lines columns s) most) in cc)
+        ])
+
+        some : is_some_list (left columns s) ≡ true → IsSound columns (line_handed_out s)
+        some left_one =
+            let here : s.handed ≤ length (lines columns s) = h.within in
+            cond_both (is_some_list s.ended) _ _ (λ (q : Block A). q.handed ≤ length (lines columns s) → IsSound columns q)
+            (λ _ in_one. record { wide = h.wide; allowed = h.allowed; within = in_one })
+            (λ _ in_one. record { wide = h.wide; allowed = h.allowed; within = in_one }) (within_one left_one s.ended refl)
+
   -- ---- what is allowed
-
-  fit_each : (width : ℕ) (ls : List (List (Item A))) → lines_fit columns width ls ≡ true → Each (FitsBlock columns width false) ls
-  fit_each width [] e = tt
-  fit_each width (l ∷ ls) e = let both = and_parts _ _ e in (inl (leb-true _ _ both.0), fit_each width ls both.1)
-
-  -- where no line may be wider, all lines fit
-  allowed_each : (s : Block A) (ls : List (List (Item A))) → s.may_overflow ≡ false → allows columns s ls ≡ true → Each (FitsBlock columns s.width false) ls
-  allowed_each s ls never e = fit_each s.width ls (subst (λ o. o || lines_fit columns s.width ls ≡ true) never e)
 
   never_if : (s : Block A) (ls : List (List (Item A))) → allows columns s ls ≡ false → s.may_overflow ≡ false
   never_if s ls e = go s.may_overflow e
@@ -153,42 +216,57 @@ module _ {A : Type 0} (columns : ℕ → Option ℕ) where
     where
       go : (o : Bool) → s.may_overflow ≡ o → Each (FitsBlock columns s.width s.may_overflow) (all_lines columns s)
       go true may = subst (λ o. Each (FitsBlock columns s.width o) (all_lines columns s)) (sym may) (end_fits columns s.width true one wide s.events (inl refl))
-      go false never = subst (λ o. Each (FitsBlock columns s.width o) (all_lines columns s)) (sym never) (allowed_each s (all_lines columns s) never e)
-
-  all_allowed : (s : Block A) (ls : List (List (Item A))) → Each (FitsBlock columns s.width false) ls → allows columns s ls ≡ true
-  all_allowed s ls fit = or_right s.may_overflow _ (fit_allows columns s.width false ls fit)
+      go false never = subst (λ o. Each (FitsBlock columns s.width o) (all_lines columns s)) (sym never) (allowed_each columns s (all_lines columns s) never e)
 
   refused_where : (s : Block A) (ls : List (List (Item A))) → allows columns s ls ≡ false → Each (FitsBlock columns s.width false) ls → ⊥
-  refused_where s ls not_all fit = let k : true ≡ false = sym (all_allowed s ls fit) ∙ not_all in cc
+  refused_where s ls not_all fit = let k : true ≡ false = sym (or_right s.may_overflow _ (fit_allows columns s.width false ls fit)) ∙ not_all in cc
 
   -- ---- the end of a run
 
+  module _ (s : Block A) where
+    abbrev p : Progress A
+    p = progress_of columns s
+
+    abbrev run : List (Entry A)
+    run = run_of s.events
+
+    left_is : waiting columns s.width p ≡ marker_items (waiting_names columns s)
+    left_is = marker_items_alone (waiting columns s.width p) (waiting_none columns s.width p)
+
+    abbrev Same : A → A → Type 0
+    Same a b = a ≡ b
+
+    ends_run : columns 32 ≡ Some 1 → 0 < s.width → Each (FitsBlock columns s.width s.may_overflow) (all_lines columns s) → EndsRun columns s.width s.may_overflow run (all_lines columns s) (waiting_names columns s)
+    ends_run one wide fits = record {
+      shown = shown_run columns s.width one wide s.may_overflow s.events fits;
+      fits = fits;
+      invents = nothing_invented columns s.width Same (λ a. refl) s.events;
+      come = come_with_run columns s.width Same (λ a. refl) s.events;
+      order = shown_in_order columns s.width Same (λ a. refl) s.events;
+      own = λ plain. own_shown columns s.width Same (λ a. refl) s.events plain;
+      fitting = λ pre. fitting_lines columns Same (λ a. refl) s.width s.events pre;
+      kept = λ normal. ap (λ is. without_spaces (joined (all_lines columns s)) ++ is) (sym left_is) ∙ normal_keeps columns s.width s.events normal;
+      markers = markers_at_end columns s.width s.events;
+      behind = waits_behind_visible columns s.width s.events;
+      behind_kept = λ normal. waits_behind_kept columns s.width s.events normal;
+      waits = λ never normal. sym left_is ∙ waits_normal columns s.width s.events (subst (λ o. Each (FitsBlock columns s.width o) (all_lines columns s)) never fits) run refl normal;
+      alone = λ none. no_line_ends columns s.width s.events none;
+    }
+
   module _ (one : columns 32 ≡ Some 1) (s : Block A) (wide : 0 < s.width) where
     module _ (t : Block A) (e : after_flush columns s ≡ done t) where
-      is_done : (allows columns s (all_lines columns s) ≡ true) × (flushed columns s ≡ t)
-      is_done = made (allows columns s (all_lines columns s)) (flushed columns s) t (live_done s.failure _ t e).1
-
-      pub flush_ends : s.handed ≤ length (lines columns s) →
-          (texts : List (List (Item A))) × (names : List (List ℕ)) × EndsRun columns (state_seen columns s) texts names × (state_seen columns t ≡ state.run_flushed (state_seen columns s) texts names)
-      flush_ends within = (added s, left_names s, ends_run s one wide (fit_lines one s wide is_done.0), ap (state_seen columns) (sym is_done.1) ∙ flushed_seen s within)
+      pub flush_ends : EndsRun columns s.width s.may_overflow (run_of s.events) (all_lines columns s) (waiting_names columns s)
+      flush_ends = ends_run s one wide (fit_lines one s wide (flush_allowed s t e))
 
       -- a `Normal` run where no line may be wider has the lines of its best layout
       pub flush_best : s.may_overflow ≡ false → IsNormal (run_of s.events) → HasBestLines columns s.width (run_of s.events) (all_lines columns s)
-      flush_best never normal = (shown_run columns s.width one wide s.may_overflow s.events (fit_lines one s wide is_done.0)).best never normal
+      flush_best never normal = flush_ends.shown.best never normal
 
       pub flush_words_fit : s.may_overflow ≡ false → IsNormal (run_of s.events) → WordsFit columns s.width (run_of s.events)
-      flush_words_fit never normal = words_fit_normal columns s.width s.events (run_of s.events) refl normal (allowed_each s (all_lines columns s) never is_done.0)
+      flush_words_fit never normal = words_fit_normal columns s.width s.events (run_of s.events) refl normal (allowed_each columns s (all_lines columns s) never (flush_allowed s t e))
 
       pub flush_visible_fit : s.may_overflow ≡ false → VisibleFit columns s.width (run_of s.events)
-      flush_visible_fit never = visible_fit columns s.width s.events (run_of s.events) refl (allowed_each s (all_lines columns s) never is_done.0)
-
-      -- where open line and word hold no character no line ends
-      pub flush_none : has_no_character columns s ≡ true → left columns t ≡ left columns s
-      flush_none none =
-          ap (left columns) (sym is_done.1)
-          ∙ ap (λ (c : Course A). c.ended ++ drop c.handed c.progress.laid.done) (course_ended columns s)
-          ∙ append-nil (s.ended ++ drop s.handed (all_lines columns s))
-          ∙ ap (λ ls. s.ended ++ drop s.handed ls) (none_ended columns s.width (progress_of columns s) none)
+      flush_visible_fit never = visible_fit columns s.width s.events (run_of s.events) refl (allowed_each columns s (all_lines columns s) never (flush_allowed s t e))
 
     module _ (live : s.failure ≡ None) (e : after_flush columns s ≡ refused E.TooNarrow) where
       not_all : allows columns s (all_lines columns s) ≡ false
@@ -219,12 +297,20 @@ module _ {A : Type 0} (columns : ℕ → Option ℕ) where
               let best = flush_best (flushed columns s) (live_goes s.failure _ live ∙ if_allowed columns (allows columns s (all_lines columns s)) (flushed columns s) all) never normal in
               absurd (none (best.lines, best.best.legal))
 
+  -- where open line and word hold no character no line ends
+  pub none_ended : (s : Block A) → has_no_character columns s ≡ true → all_lines columns s ≡ lines columns s
+  none_ended s none =
+      let (line, word) = and_parts (not (has_character (p s).laid.line)) (not (has_character (p s).word)) none in
+      let laid : finished columns s.width (p s) ≡ end_if_character (p s).laid = ap (λ (q : Progress A). end_if_character q.laid) (not_flushed columns s.width (p s) (not-true _ word)) in
+      let same : end_if_character (p s).laid ≡ (p s).laid = let bare = not-true _ line in rw bare refl in
+      ap (λ (l : Laid A). l.done) (laid ∙ same)
+
+  pub flush_none : (s t : Block A) → after_flush columns s ≡ done t → has_no_character columns s ≡ true → left columns t ≡ left columns s
+  flush_none s t e none = ap (left columns) (flush_leaves s t e) ∙ left_flushed s ∙ ap (λ ls. s.ended ++ drop s.handed ls) (none_ended s none)
+
   -- behind it nothing of the run under way has ended
   pub left_of_flushed : (s t : Block A) → after_flush columns s ≡ done t → left columns t ≡ t.ended
-  left_of_flushed s t e =
-      let is = (made (allows columns s (all_lines columns s)) (flushed columns s) t (live_done s.failure _ t e).1).1 in
-      subst (λ (q : Block A). left columns q ≡ q.ended) is
-      (ap (λ (c : Course A). c.ended ++ drop c.handed c.progress.laid.done) (course_ended columns s) ∙ append-nil (flushed columns s).ended)
+  left_of_flushed s t e = subst (λ (q : Block A). left columns q ≡ q.ended) (flush_made s t e).1 (left_flushed s)
 
   -- ---- a text
 
@@ -232,67 +318,175 @@ module _ {A : Type 0} (columns : ℕ → Option ℕ) where
     abbrev g : Block A
     g = grown s (text_events cs a b mode)
 
-    grown_run : run_of g.events ≡ run_of s.events ++ text_entries cs a b mode
-    grown_run = run_of-append s.events (text_events cs a b mode) ∙ ap (λ (es : List (Entry A)). run_of s.events ++ es) (entries_run (text_entries cs a b mode))
+    pub text_run : run_of g.events ≡ run_of s.events ++ text_entries cs a b mode
+    text_run = run_of-append s.events (text_events cs a b mode) ∙ ap (λ (es : List (Entry A)). run_of s.events ++ es) (entries_run (text_entries cs a b mode))
 
-    module _ (t : Block A) (e : after_text columns cs a b mode s ≡ done t) where
-      text_is : (allows columns g (lines columns g) ≡ true) × (g ≡ t)
-      text_is = made (allows columns g (lines columns g)) g t (live_done s.failure _ t e).1
+    -- where a `Normal` text joins, each word that a break point has ended fits
+    pub text_words_fit : (t : Block A) → after_text columns cs a b mode s ≡ done t → columns 32 ≡ Some 1 → 0 < s.width → s.may_overflow ≡ false → IsNormal (run_of s.events ++ text_entries cs a b mode) → EndedWordsFit columns s.width (run_of s.events ++ text_entries cs a b mode)
+    text_words_fit t e one wide never normal =
+        let fits = run_fits columns s.width true one wide g.events (inl refl) in
+        subst (EndedWordsFit columns s.width) text_run
+        (ended_words_fit_normal columns s.width g.events (run_of g.events) refl (subst (λ (es : List (Entry A)). IsNormal es) (sym text_run) normal) (allowed_each columns g (lines columns g) never (text_made s t cs a b mode e).0) fits.small fits.line)
 
-      pub text_joins : JoinsRun (state_seen columns s) (text_entries cs a b mode) (state_seen columns t)
-      text_joins =
-          let seen : state_of columns s.width s.may_overflow s.padding s.failure (went columns s.width (course_of columns s) (text_events cs a b mode)) ≡ state_seen columns t =
-          ap (state_of columns s.width s.may_overflow s.padding s.failure) (sym (course_grown columns s (text_events cs a b mode))) ∙ ap (state_seen columns) text_is.1 in
-          subst (JoinsRun (state_seen columns s) (text_entries cs a b mode)) seen
-          (subst (λ (fs : List (Entry A)). JoinsRun (state_seen columns s) fs (state_of columns s.width s.may_overflow s.padding s.failure (went columns s.width (course_of columns s) (text_events cs a b mode)))) (entries_run (text_entries cs a b mode))
-          (joins_events columns s.width s.may_overflow s.padding s.failure (course_of columns s) (text_events cs a b mode)))
-
-      -- where a `Normal` text joins, each word that a break point has ended fits
-      pub text_words_fit : columns 32 ≡ Some 1 → 0 < s.width → s.may_overflow ≡ false → IsNormal (run_of s.events ++ text_entries cs a b mode) → EndedWordsFit columns s.width (run_of s.events ++ text_entries cs a b mode)
-      text_words_fit one wide never normal =
-          let fits = run_fits columns s.width true one wide g.events (inl refl) in
-          subst (EndedWordsFit columns s.width) grown_run
-          (ended_words_fit_normal columns s.width g.events (run_of g.events) refl (subst (λ (es : List (Entry A)). IsNormal es) (sym grown_run) normal) (allowed_each g (lines columns g) never text_is.0) fits.small fits.line)
-
-    module _ (one : columns 32 ≡ Some 1) (wide : 0 < s.width) (live : s.failure ≡ None) (e : after_text columns cs a b mode s ≡ refused E.TooNarrow) where
+    module _ (live : s.failure ≡ None) (e : after_text columns cs a b mode s ≡ refused E.TooNarrow) where
       not_ended : allows columns g (lines columns g) ≡ false
       not_ended = unmade (allows columns g (lines columns g)) g (live_refused s.failure _ E.TooNarrow live e)
 
       pub text_never : s.may_overflow ≡ false
       text_never = never_if g (lines columns g) not_ended
 
+    module _ (one : columns 32 ≡ Some 1) (wide : 0 < s.width) (live : s.failure ≡ None) (e : after_text columns cs a b mode s ≡ refused E.TooNarrow) where
       pub text_wide : ¬ (CharactersFit columns s.width (run_of s.events ++ text_entries cs a b mode))
-      text_wide fit = refused_where g (lines columns g) not_ended (run_fits columns s.width false one wide g.events (inr (subst (λ (es : List (Entry A)). CharactersFit columns s.width es) (sym grown_run) fit))).done
+      text_wide fit = refused_where g (lines columns g) (not_ended live e) (run_fits columns s.width false one wide g.events (inr (subst (λ (es : List (Entry A)). CharactersFit columns s.width es) (sym text_run) fit))).done
 
       pub text_wide_word : IsNormal (run_of s.events ++ text_entries cs a b mode) → ¬ (EndedWordsFit columns s.width (run_of s.events ++ text_entries cs a b mode))
       text_wide_word normal fit =
-          refused_where g (lines columns g) not_ended
-          (normal_run_fits columns s.width one wide g.events (subst (λ (es : List (Entry A)). IsNormal es) (sym grown_run) normal) (subst (EndedWordsFit columns s.width) (sym grown_run) fit)).done
+          refused_where g (lines columns g) (not_ended live e)
+          (normal_run_fits columns s.width one wide g.events (subst (λ (es : List (Entry A)). IsNormal es) (sym text_run) normal) (subst (EndedWordsFit columns s.width) (sym text_run) fit)).done
 
-  -- ---- markers
+  -- ---- in two columns nothing is too narrow
 
-  pub marker_joined : (s t : Block A) (name : List ℕ) → t ≡ grown s (entry (marker_entry name) ∷ []) → JoinsAsMarker (state_seen columns s) name (state_seen columns t)
-  marker_joined s t name is =
-      subst (JoinsAsMarker (state_seen columns s) name)
-      (ap (state_of columns s.width s.may_overflow s.padding s.failure) (sym (course_grown columns s (entry (marker_entry name) ∷ []))) ∙ ap (state_seen columns) (sym is))
-      (joins_marker columns s.width s.may_overflow s.padding s.failure (course_of columns s) name)
+  module _ (one : columns 32 ≡ Some 1) (law : (c : ℕ) → IfSome (columns c) (λ n. n ≤ 2)) (s : Block A) where
+    pub text_in_two : (cs : List ℕ) (a b : A) (mode : WhiteSpace) → 2 ≤ s.width → s.failure ≡ None → ¬ (after_text columns cs a b mode s ≡ refused E.TooNarrow)
+    text_in_two cs a b mode two live e = text_wide s cs a b mode one (omega (arith, two)) live e (two_columns_characters columns s.width law two (run_of s.events ++ text_entries cs a b mode))
 
-  pub taken_seen : (s : Block A) → state_seen columns (without_loose columns s) ≡ state.loose_taken (state_seen columns s)
-  taken_seen s = go (has_character (progress_of columns s).word) refl
-    where
-      go : (b : Bool) → has_character (progress_of columns s).word ≡ b → state_seen columns (without_loose columns s) ≡ state.loose_taken (state_seen columns s)
-      go true some = ap (state_seen columns) (none_taken columns s some) ∙ (kept_seen columns s.width s.may_overflow s.padding s.failure (course_of columns s) some).1
-      go false none = ap (state_of columns s.width s.may_overflow s.padding s.failure) (course_taken columns s none) ∙ word_taken_seen columns s.width s.may_overflow s.padding s.failure (course_of columns s) none
+    pub flush_in_two : 2 ≤ s.width → s.failure ≡ None → ¬ (after_flush columns s ≡ refused E.TooNarrow)
+    flush_in_two two live e = flush_wide one s (omega (arith, two)) live e (two_columns_characters columns s.width law two (run_of s.events))
 
-  -- ---- lines
+  -- ---- what a `Normal` run decides
 
-  pub handed_seen : (s : Block A) → state_seen columns (line_handed_out s) ≡ state.line_taken (state_seen columns s)
-  handed_seen s = sym (if_same (state_seen columns) (is_some_list s.ended) _ _ _ _ refl refl)
+  module _ (one : columns 32 ≡ Some 1) (s : Block A) (sound : IsSound columns s) where
+    measured : RuleFitsWidth columns s.width true (p s).laid
+    measured = run_fits columns s.width true one sound.wide s.events (inl refl)
 
-  pub left_after : (s : Block A) → left columns (line_handed_out s) ≡ drop 1 (left columns s)
-  left_after s = ap state.lines_left (handed_seen s) ∙ lines_left-taken (state_seen columns s)
+    module _ (never : s.may_overflow ≡ false) (normal : IsNormal (run_of s.events)) where
+      ended : Each (FitsBlock columns s.width false) (lines columns s)
+      ended = allowed_each columns s (lines columns s) never sound.allowed
 
-  -- ---- refusals
+      -- the markers that trail are those of a word without a character
+      pub loose_trailing : loose columns s ≡ names_in_items (trailing columns (run_of s.events))
+      loose_trailing =
+          ap loose_names (word_normal columns s.width s.events (run_of s.events) refl normal ended measured.small measured.line)
+          ∙ if_same names_in_items (has_character (reading columns (run_of s.events)).items) [] (reading columns (run_of s.events)).items _ _ refl refl
 
-  pub kept_refusal : {R : Type 0} (s t : Block A) (outcome : Outcome (Block A)) (result : Result R Error) → Answers failure_of settings_of outcome s result t → KeepsRefusal (state_seen columns s) result (state_seen columns t)
-  kept_refusal s t outcome result h = (h.left, λ e was. let k = h.kept e was in (k.0, ap (state_seen columns) k.1))
+      pub run_decides : RunDecides columns s
+      run_decides =
+          let blank : NormalBlank columns (p s) (run_of s.events) = blank_normal columns s.width s.events (run_of s.events) refl normal ended measured.small measured.line in
+          record {
+            no_columns = (
+              λ both. let parts = and_parts _ _ both in blank.blank_if (eqb-true _ _ parts.0) (eqb-true _ _ parts.1),
+              λ none. let k = blank.blank none in rw (k.0, k.1) refl,
+            );
+            no_character = (
+              λ both. let parts = and_parts _ _ both in blank.bare_if (not-true _ parts.0) (not-true _ parts.1),
+              λ none. let k = blank.bare none in rw (k.1, k.2) refl,
+            );
+            no_line = λ none. (blank.blank none).2;
+          }
+
+    -- where something takes columns there is a character
+    pub character_there : takes_no_columns columns s ≡ false → has_no_character columns s ≡ false
+    character_there some = go (has_character (p s).laid.line) (has_character (p s).word) refl refl
+      where
+        go : (l w : Bool) → has_character (p s).laid.line ≡ l → has_character (p s).word ≡ w → not l && not w ≡ false
+        go true w line word = refl
+        go false true line word = refl
+        go false false line word =
+            let bare : (p s).laid.width ≡ 0 = measured.line ∙ no_character_no_width columns (p s).laid.line line in
+            let test : takes_no_columns columns s ≡ true = rw (bare, no_character_no_width columns (p s).word word) refl in
+            sym test ∙ some
+
+  -- ---- markers and columns
+
+  module _ (s : Block A) where
+    -- where a visible character that takes columns came, a line has ended or something that is open takes columns
+    pub shows_columns : run_shows_columns columns (run_of s.events) ≡ true → (is_some_list (lines columns s) ≡ true) ⊎ (takes_no_columns columns s ≡ false)
+    shows_columns shows = elim (columns_show columns s.width s.events shows) [
+      | inl ends ↦ inl (some_count (lines columns s) ∙ lt-ltb 0 (length (lines columns s)) ends)
+      | inr open_or_word ↦ inr (elim open_or_word [
+        | inl line ↦ and_left _ _ (no_eq _ line)
+        | inr word ↦ and_right _ _ (no_eq _ word)
+      ])
+    ]
+      where
+        no_eq : (n : ℕ) → 0 < n → (n == 0) ≡ false
+        no_eq n some = ne_eqb n 0 (λ e. omega (arith, some, e))
+
+    -- the loose markers are the last ones of the run
+    pub loose_last : loose columns s ≡ last (length (loose columns s)) (names_in_run (run_of s.events))
+    loose_last = both (has_character (p s).word) refl
+      where
+        front : List (List ℕ)
+        front = names_in_items (joined (p s).laid.done) ++ names_in_items (p s).laid.line
+
+        all : names_in_run (run_of s.events) ≡ front ++ names_in_items (p s).word
+        all = sym (markers_run columns s.width s.events) ∙ sym (append_assoc (names_in_items (joined (p s).laid.done)) (names_in_items (p s).laid.line) (names_in_items (p s).word))
+
+        both : (t : Bool) → has_character (p s).word ≡ t → loose columns s ≡ last (length (loose columns s)) (names_in_run (run_of s.events))
+        both true some =
+            let none : loose columns s ≡ [] = rw some refl in
+            let names : List (List ℕ) = names_in_run (run_of s.events) in
+            none ∙ sym (ap (λ ns. last (length ns) names) none ∙ ap (last 0) (sym (append-nil names)) ∙ last_of_two names [])
+        both false none =
+            let names : loose columns s ≡ names_in_items (p s).word = rw none refl in
+            let parts : names_in_run (run_of s.events) ≡ front ++ loose columns s = all ∙ ap (λ ns. front ++ ns) (sym names) in
+            sym (ap (last (length (loose columns s))) parts ∙ last_of_two front (loose columns s))
+
+    -- they come behind the last visible character
+    pub loose_behind : AreLastOf (loose columns s) (names_behind (is_visible columns) (run_of s.events))
+    loose_behind = both (has_character (p s).word) refl
+      where
+        all : List (List ℕ)
+        all = names_behind (is_visible columns) (run_of s.events)
+
+        waits : AreLastOf (waiting_names columns s) all
+        waits = waits_behind_visible columns s.width s.events
+
+        both : (t : Bool) → has_character (p s).word ≡ t → AreLastOf (loose columns s) all
+        both true some = (all, (let none : loose columns s ≡ [] = rw some refl in ap (λ ns. all ++ ns) none ∙ append-nil all))
+        both false none =
+            let names : loose columns s ≡ names_in_items (p s).word = rw none refl in
+            let line : List (Item A) = (end_if_character (p s).laid).line in
+            let parts : waiting columns s.width (p s) ≡ line ++ (p s).word = rw none refl in
+            let split : waiting_names columns s ≡ names_in_items line ++ loose columns s =
+            ap names_in_items parts ∙ names_in_items-append line (p s).word ∙ ap (λ ns. names_in_items line ++ ns) (sym names) in
+            (waits.0 ++ names_in_items line, append_assoc waits.0 (names_in_items line) (loose columns s) ∙ ap (λ ns. waits.0 ++ ns) (sym split) ∙ waits.1)
+
+  -- a marker joins the word, and ends no line
+  with_marker : (word : List (Item A)) (name : List ℕ) → has_character (word ++ marker name ∷ []) ≡ has_character word
+  with_marker [] name = refl
+  with_marker (glyph c a ∷ is) name = refl
+  with_marker (marker n ∷ is) name = with_marker is name
+
+  module _ (s t : Block A) (name : List ℕ) (e : after_marker name s ≡ done t) where
+    marked : progress_of columns t ≡ record (p s) { word = (p s).word ++ marker name ∷ [] }
+    marked = ap (progress_of columns) (marker_leaves s t name e) ∙ progress_grown columns s (entry (marker_entry name) ∷ [])
+
+    pub marker_lines : lines columns t ≡ lines columns s
+    marker_lines = ap (λ (q : Progress A). q.laid.done) marked
+
+    pub marker_columns : takes_no_columns columns t ≡ takes_no_columns columns s
+    marker_columns =
+        let wide : items_width columns ((p s).word ++ marker name ∷ []) ≡ items_width columns (p s).word = omega (arith, items_width-append columns (p s).word (marker name ∷ [])) in
+        ap (λ (q : Progress A). (q.laid.width == 0) && (items_width columns q.word == 0)) marked ∙ ap (λ n. ((p s).laid.width == 0) && (n == 0)) wide
+
+    pub marker_character : has_no_character columns t ≡ has_no_character columns s
+    marker_character =
+        ap (λ (q : Progress A). not (has_character q.laid.line) && not (has_character q.word)) marked
+        ∙ ap (λ b. not (has_character (p s).laid.line) && not b) (with_marker (p s).word name)
+
+    -- one more is loose where the word has no character, and else none
+    pub marker_loose : has_character (p s).word ≡ false → loose columns t ≡ loose columns s ++ name ∷ []
+    marker_loose none =
+        let both = with_marker (p s).word name ∙ none in
+        ap (λ (q : Progress A). loose_names q.word) marked ∙ rw (none, both) (names_in_items-append (p s).word (marker name ∷ []))
+
+    pub marker_either : (loose columns t ≡ loose columns s ++ name ∷ []) ⊎ ((loose columns s ≡ []) × (loose columns t ≡ []))
+    marker_either = go (has_character (p s).word) refl
+      where
+        go : (b : Bool) → has_character (p s).word ≡ b → (loose columns t ≡ loose columns s ++ name ∷ []) ⊎ ((loose columns s ≡ []) × (loose columns t ≡ []))
+        go true some = let both = with_marker (p s).word name ∙ some in inr (rw some refl, ap (λ (q : Progress A). loose_names q.word) marked ∙ rw both refl)
+        go false none = inl (marker_loose none)
+
+    pub marker_first : has_no_character columns s ≡ true → loose columns t ≡ loose columns s ++ name ∷ []
+    marker_first none = marker_loose (not-true _ (and_parts (not (has_character (p s).laid.line)) (not (has_character (p s).word)) none).1)

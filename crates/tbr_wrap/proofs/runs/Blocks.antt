@@ -1,6 +1,6 @@
 -- What each change leaves of a block, and where it allows its lines.
-use Rattle.std.proofs.Common.{◌≡◌, ℕ, if◌then◌else◌, ◌==◌, ◌||◌, length, Bool, true, false, Option, None, Some, List, [], ◌∷◌, ◌++◌, map, fold, chars, refl, ap, sym, ◌∙◌, arith, append_assoc, append-nil, le-leb, ne_eqb, inl, inr}
-use Rattle.std.proofs.lemmas.Bool.{cond_both}
+use Rattle.std.proofs.Common.{◌≡◌, ℕ, if◌then◌else◌, ◌==◌, ◌||◌, length, Bool, true, false, Option, None, Some, List, [], ◌∷◌, ◌++◌, map, fold, chars, refl, ap, sym, ◌∙◌, subst, arith, append_assoc, append-nil, le-leb, leb-true, ne_eqb, inl, inr}
+use Rattle.std.proofs.lemmas.Bool.{cond_both, and_parts}
 use Rattle.std.proofs.lemmas.List.{length-map}
 use Rattle.std.proofs.lemmas.List.Sums.{fold-append}
 use Rattle.std.proofs.lemmas.Str.{chars-nil}
@@ -11,24 +11,21 @@ use Rattle.tbr_model.specs.Markers.{names_in_items, marker_items}
 use Rattle.tbr_model.specs.Rule.{Event, call, entry, Progress, at_start, step, enter, waiting}
 use Rattle.tbr_model.specs.Fits.{lines_fit}
 use Rattle.tbr_model.specs.TakenOut.{without_markers}
-use Rattle.tbr_model.proofs.rule.DoneLines.{if_same}
-use Rattle.tbr_model.proofs.rule.HardLines.{run_of-append}
-use Rattle.tbr_model.proofs.rule.Markers.{waiting_none, marker_items_alone, markers_lead, run_of_markers}
-use Rattle.tbr_model.proofs.rule.TakenOutMarkers.{taken_events, run_without, without_no_event}
+use Rattle.tbr_model.proofs.rule.DoneLines.{step_adds}
+use Rattle.tbr_model.proofs.rule.Markers.{waiting_none, marker_items_alone, markers_lead}
+use Rattle.tbr_model.proofs.rule.TakenOutMarkers.{taken_events, without_no_event}
 use Rattle.tbr_tagged.specs.declared.error.Error.TheVariants as E
 use Rattle.tbr_tagged.specs.Elements.{Element}
 use Rattle.tbr_tagged.specs.Outcome.{done, refused}
 use Rattle.tbr_wrap.specs.Wrapped.{FitsBlock, ShowsText}
 use Rattle.tbr_wrap.specs.State.{is_some_list, text_entries}
-use Rattle.tbr_wrap.specs.Course.{run_ended, line_handed, word_taken, loose_names}
-use Rattle.tbr_wrap.specs.Block.{Block, new_block, progress_of, lines, left, loose, allows, grown, settled, settings_of, text_events, flushed, line_handed_out, HandsOutFirst, without_loose, course_of, HasGrown}
+use Rattle.tbr_wrap.specs.Block.{Block, new_block, progress_of, lines, left, loose, allows, grown, settled, settings_of, text_events, flushed, loose_names, line_handed_out, HandsOutFirst, without_loose, HasGrown}
 use Rattle.tbr_wrap.specs.Story.{changed, story, text_changes}
 use Rattle.tbr_wrap.specs.Held.{padding_tag, block_of}
 use Rattle.tbr_wrap.specs.LaidLines.{KeepsLimits}
 use Rattle.tbr_wrap.specs.declared.block.WrappedBlock.TheInside.{Inside}
 use Rattle.tbr_wrap.specs.declared.run_change.RunChange.{RunChange}
 use Rattle.tbr_wrap.specs.declared.run_change.RunChange.TheVariants.{Called, Character, Marker, Taken, Ended, HandedOut}
-use Rattle.tbr_wrap.proofs.runs.Courses.{went, entries_entered}
 
 no_chars : (rest : List ℕ) → (length rest == 0) ≡ true → chars rest ≡ []
 no_chars [] e = chars-nil
@@ -96,26 +93,28 @@ module _ {A : Type 0} (columns : ℕ → Option ℕ) where
       let e : Event A = entry (character x a b mode) in
       text_grown (grown s (e ∷ [])) cs a b mode ∙ grown_more s (e ∷ []) (map entry (text_entries cs a b mode))
 
-  -- ---- courses
+  -- ---- where the rule is
 
-  pub course_grown : (s : Block A) (es : List (Event A)) → course_of columns (grown s es) ≡ went columns s.width (course_of columns s) es
-  course_grown s es = λ i. record (course_of columns s) {
-    run = run_of-append s.events es i;
-    progress = fold-append (step columns s.width) at_start s.events es i;
-  }
+  -- events only add lines
+  pub steps_add : (width : ℕ) (es : List (Event A)) (p : Progress A) → (more : List (List (Item A))) × ((fold (step columns width) p es).laid.done ≡ p.laid.done ++ more)
+  steps_add width [] p = ([], sym (append-nil p.laid.done))
+  steps_add width (e ∷ es) p =
+      let one = step_adds columns width p e in
+      let rest = steps_add width es (step columns width p e) in
+      (one.0 ++ rest.0, rest.1 ∙ ap (λ ls. ls ++ rest.0) one.1 ∙ append_assoc p.laid.done one.0 rest.0)
 
-  pub course_ended : (s : Block A) → course_of columns (flushed columns s) ≡ run_ended columns s.width (course_of columns s)
-  course_ended s =
+  pub progress_grown : (s : Block A) (es : List (Event A)) → progress_of columns (grown s es) ≡ fold (step columns s.width) (progress_of columns s) es
+  progress_grown s es = fold-append (step columns s.width) at_start s.events es
+
+  pub entries_entered : (width : ℕ) (es : List (Entry A)) (p : Progress A) → fold (step columns width) p (map entry es) ≡ fold (enter columns width) p es
+  entries_entered width [] p = refl
+  entries_entered width (e ∷ es) p = entries_entered width es (enter columns width p e)
+
+  pub progress_flushed : (s : Block A) → progress_of columns (flushed columns s) ≡ record at_start { word = waiting columns s.width (progress_of columns s) }
+  progress_flushed s =
       let left : List (Item A) = waiting columns s.width (progress_of columns s) in
       let is : left ≡ marker_items (names_in_items left) = marker_items_alone left (waiting_none columns s.width (progress_of columns s)) in
-      (λ i. record (run_ended columns s.width (course_of columns s)) {
-        run = run_of_markers (names_in_items left) i;
-        progress = (markers_lead columns s.width (names_in_items left) ∙ ap (λ (js : List (Item A)). record at_start { word = js }) (sym is)) i;
-      })
-
-  -- a line is handed out
-  pub course_handed : (s : Block A) → course_of columns (line_handed_out s) ≡ line_handed (course_of columns s)
-  course_handed s = sym (if_same (course_of columns) (is_some_list s.ended) _ _ _ _ refl refl)
+      markers_lead columns s.width (names_in_items left) ∙ ap (λ (js : List (Item A)). record at_start { word = js }) (sym is)
 
   -- the word's markers are taken out
   loose_count : (word : List (Item A)) → has_character word ≡ false → length (loose_names word) ≡ length word
@@ -123,18 +122,17 @@ module _ {A : Type 0} (columns : ℕ → Option ℕ) where
       let names : loose_names word ≡ names_in_items word = rw none refl in
       ap length names ∙ sym (ap length (marker_items_alone word none) ∙ length-map (names_in_items word) marker)
 
-  pub course_taken : (s : Block A) → has_character (progress_of columns s).word ≡ false → course_of columns (without_loose columns s) ≡ word_taken (course_of columns s)
-  course_taken s none =
+  pub progress_taken : (s : Block A) → has_character (progress_of columns s).word ≡ false → progress_of columns (without_loose columns s) ≡ record (progress_of columns s) { word = [] }
+  progress_taken s none =
       let word : List (Item A) = (progress_of columns s).word in
-      (λ i. course_of columns (record s { events = without_markers (loose_count word none i) s.events }))
-      ∙ (λ i. record (course_of columns s) {
-        run = run_without (length word) s.events i;
-        progress = taken_events columns s.width s.events [] word refl none i;
-      })
+      (λ i. progress_of columns (record s { events = without_markers (loose_count word none i) s.events })) ∙ taken_events columns s.width s.events [] word refl none
+
+  pub no_loose : (word : List (Item A)) → has_character word ≡ true → loose_names word ≡ []
+  no_loose word some = rw some refl
 
   pub none_taken : (s : Block A) → has_character (progress_of columns s).word ≡ true → without_loose columns s ≡ s
   none_taken s some =
-      let none : loose columns s ≡ [] = rw some refl in
+      let none : loose columns s ≡ [] = no_loose (progress_of columns s).word some in
       ap (λ (names : List (List ℕ)). record s { events = without_markers (length names) s.events }) none
       ∙ ap (λ (es : List (Event A)). record s { events = es }) (without_no_event s.events)
 
@@ -151,8 +149,26 @@ module _ {A : Type 0} (columns : ℕ → Option ℕ) where
   fit_allows width true ls h = refl
   fit_allows width false ls h = fit_all width ls h
 
+  -- where no line may be wider, all lines fit
+  fit_each : (width : ℕ) (ls : List (List (Item A))) → lines_fit columns width ls ≡ true → Each (FitsBlock columns width false) ls
+  fit_each width [] e = tt
+  fit_each width (l ∷ ls) e = let both = and_parts _ _ e in (inl (leb-true _ _ both.0), fit_each width ls both.1)
+
+  pub allowed_each : (s : Block A) (ls : List (List (Item A))) → s.may_overflow ≡ false → allows columns s ls ≡ true → Each (FitsBlock columns s.width false) ls
+  allowed_each s ls never e = fit_each s.width ls (subst (λ o. o || lines_fit columns s.width ls ≡ true) never e)
+
   pub not_allowed : (s : Block A) (ls : List (List (Item A))) → s.may_overflow ≡ false → lines_fit columns s.width ls ≡ false → allows columns s ls ≡ false
   not_allowed s ls never h = ap (λ may. may || lines_fit columns s.width ls) never ∙ h
+
+  -- a call begins, and a text goes on
+  pub called_allows : (s : Block A) → allows columns s (lines columns s) ≡ true → allows columns (grown s (call ∷ [])) (lines columns (grown s (call ∷ []))) ≡ true
+  called_allows s h = ap (λ (p : Progress A). allows columns s p.laid.done) (progress_grown s (call ∷ [])) ∙ h
+
+  pub entered_allows : (s : Block A) (es : List (Entry A)) → Each (FitsBlock columns s.width s.may_overflow) (fold (enter columns s.width) (progress_of columns s) es).laid.done →
+      allows columns (grown s (map entry es)) (lines columns (grown s (map entry es))) ≡ true
+  entered_allows s es h =
+      ap (λ (p : Progress A). allows columns s p.laid.done) (progress_grown s (map entry es) ∙ entries_entered s.width es (progress_of columns s))
+      ∙ fit_allows s.width s.may_overflow _ h
 
   pub if_allowed : (b : Bool) (t : Block A) → b ≡ true → (if b then done t else refused E.TooNarrow) ≡ done t
   if_allowed b t e = rw e refl
@@ -207,7 +223,7 @@ module _ {A : Type 0} (columns : ℕ → Option ℕ) where
   refused_text s es never h =
       let t : Block A = grown s (map entry es) in
       if_not_allowed (allows columns t (lines columns t)) t (not_allowed t (lines columns t) never
-      (ap (λ (p : Progress A). lines_fit columns s.width p.laid.done) (fold-append (step columns s.width) at_start s.events (map entry es) ∙ entries_entered columns s.width es (progress_of columns s)) ∙ h))
+      (ap (λ (p : Progress A). lines_fit columns s.width p.laid.done) (fold-append (step columns s.width) at_start s.events (map entry es) ∙ entries_entered s.width es (progress_of columns s)) ∙ h))
 
   -- ---- a line
 
@@ -221,14 +237,3 @@ module _ {A : Type 0} (columns : ℕ → Option ℕ) where
 
   pub one_line : (s t : Block A) (text : List (Item A)) (rest : List (List (Item A))) → left columns s ≡ text ∷ rest → t ≡ line_handed_out s → done (if is_some_list (left columns s) then line_handed_out s else s) ≡ done t
   one_line s t text rest some is = ap (λ (ls : List (List (Item A))). done (if is_some_list ls then line_handed_out s else s)) some ∙ ap done (sym is)
-
-pub none_first : {X : Type 0} (xs : List X) → ((x : X) (rest : List X) → xs ≡ x ∷ rest → ⊥) → xs ≡ []
-none_first [] h = refl
-none_first (x ∷ xs) h = absurd (h x xs refl)
-
-module _ {A : Type 0} (s : Block A) where
-  pub handed_failure : (line_handed_out s).failure ≡ s.failure
-  handed_failure = cond_both (is_some_list s.ended) _ _ (λ (t : Block A). t.failure ≡ s.failure) (λ _. refl) (λ _. refl)
-
-  pub handed_settings : settings_of (line_handed_out s) ≡ settings_of s
-  handed_settings = cond_both (is_some_list s.ended) _ _ (λ (t : Block A). settings_of t ≡ settings_of s) (λ _. refl) (λ _. refl)

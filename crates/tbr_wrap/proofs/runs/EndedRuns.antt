@@ -19,7 +19,6 @@ use Rattle.tbr_model.proofs.rule.VisibleCharacters.{visible_shown, hard_lines_sh
 use Rattle.tbr_model.proofs.pre.HardLine.{pre_line}
 use Rattle.tbr_model.proofs.prewrap.HardLine.{prewrap_line}
 use Rattle.tbr_model.proofs.tabs.HardLine.{tab_line}
-use Rattle.tbr_model.proofs.rule.NarrowWords.{word_from_run}
 use Rattle.tbr_model.proofs.normal.LaidWords.{text_has}
 use Rattle.tbr_model.proofs.normal.StaysLaid.{AllLaid, IsNarrowItem}
 use Rattle.tbr_model.proofs.normal.LayoutSoFar.{NormalStands, normal_stands}
@@ -214,11 +213,6 @@ module _ {A : Type 0} (columns : ℕ → Option ℕ) (width : ℕ) where
     pub blank_normal : NormalBlank columns (progress columns width es) run
     blank_normal = subst (λ (rs : List (Entry A)). IsNormal rs → NormalBlank columns (progress columns width es) rs) is (λ modes. normal_blank columns width es modes all_narrow) normal
 
-    -- a word with a wider character can't be ended by a break point
-    pub too_narrow_normal : (e : Entry A) → is_break_entry e ≡ true → 0 < items_width columns (progress columns width es).word → ¬ (IsNarrow columns width (progress columns width es).word) → ¬ (EndedWordsFit columns width (run ++ e ∷ []))
-    too_narrow_normal e breaks some wider fit =
-        wider (subst (IsNarrow columns width) (sym stands.1.word) (broken_fits run e breaks (subst (λ (js : List (Item A)). 0 < items_width columns js) stands.1.word some) fit))
-
     -- a word that a break point ends has none
     pub narrow_if_ended : (e : Entry A) → is_break_entry e ≡ true → 0 < items_width columns (progress columns width es).word → EndedWordsFit columns width (run ++ e ∷ []) → IsNarrow columns width (progress columns width es).word
     narrow_if_ended e breaks some fit = subst (IsNarrow columns width) (sym stands.1.word) (broken_fits run e breaks (subst (λ (js : List (Item A)). 0 < items_width columns js) stands.1.word some) fit)
@@ -226,28 +220,15 @@ module _ {A : Type 0} (columns : ℕ → Option ℕ) (width : ℕ) where
     pub narrow_if_all : WordsFit columns width run → IsNarrow columns width (progress columns width es).word
     narrow_if_all fit = subst (IsNarrow columns width) (sym stands.1.word) (last_fits run fit)
 
-    -- nor by the end of the run
-    pub too_narrow_end : ¬ (IsNarrow columns width (progress columns width es).word) → ¬ (WordsFit columns width run)
-    too_narrow_end wider fit = wider (subst (IsNarrow columns width) (sym stands.1.word) (last_fits run fit))
-
 -- ---- characters that all fit
 
 two_narrow : (width : ℕ) → 2 ≤ width → (o : Option ℕ) → IfSome o (λ n. n ≤ 2) → unwrap_or o 0 ≤ width
 two_narrow width two None h = omega arith
 two_narrow width two (Some n) h = omega (arith, h, two)
 
-module _ {A : Type 0} (columns : ℕ → Option ℕ) (width : ℕ) where
-  pub characters_word_fits : (es : List (Event A)) (run : List (Entry A)) → run_of es ≡ run → CharactersFit columns width run → IsNarrow columns width (progress columns width es).word
-  characters_word_fits es run is fit = word_from_run columns width es (subst (CharactersFit columns width) (sym is) fit)
-
-  -- at two columns
-  module _ (law : (c : ℕ) → IfSome (columns c) (λ n. n ≤ 2)) (two : 2 ≤ width) where
-    pub two_columns : (is : List (Item A)) → IsNarrow columns width is
-    two_columns [] = tt
-    two_columns (marker m ∷ is) = (omega arith, two_columns is)
-    two_columns (glyph c a ∷ is) = (two_narrow width two (columns c) (law c), two_columns is)
-
-    pub two_columns_characters : (run : List (Entry A)) → CharactersFit columns width run
-    two_columns_characters [] = tt
-    two_columns_characters (marker_entry name ∷ run) = (tt, two_columns_characters run)
-    two_columns_characters (character c a b m ∷ run) = (two_narrow width two (columns c) (law c), two_columns_characters run)
+-- at two columns
+module _ {A : Type 0} (columns : ℕ → Option ℕ) (width : ℕ) (law : (c : ℕ) → IfSome (columns c) (λ n. n ≤ 2)) (two : 2 ≤ width) where
+  pub two_columns_characters : (run : List (Entry A)) → CharactersFit columns width run
+  two_columns_characters [] = tt
+  two_columns_characters (marker_entry name ∷ run) = (tt, two_columns_characters run)
+  two_columns_characters (character c a b m ∷ run) = (two_narrow width two (columns c) (law c), two_columns_characters run)

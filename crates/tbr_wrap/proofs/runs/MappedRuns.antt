@@ -15,7 +15,7 @@ use Rattle.tbr_model.proofs.maps.Words.{item_width-map, items_width-map, has_cha
 use Rattle.tbr_model.proofs.maps.Layouts.{slots_of-map, line_text-map, joined-map, best-map}
 use Rattle.tbr_model.proofs.maps.HardLines.{entry_letters-map, main-map, continuation-map, hard_lines-map, parted-map, map_glyph, joined_glyphs-map, visible_glyphs-map, visible_entries-map, visible-map, all_hard_lines-map, all_pre-map, all_prewrap-map, all_tabs-map}
 use Rattle.tbr_wrap.specs.Wrapped.{taking_columns, FitsBlock, HasBestLines}
-use Rattle.tbr_wrap.specs.State.{State, IsShownBy, column_behind, IsUnderOwn, ShowsFitting, EndsRun, map_state}
+use Rattle.tbr_wrap.specs.State.{IsShownBy, column_behind, IsUnderOwn, ShowsFitting, EndsRun}
 
 module _ {A B : Type 0} (f : A → B) where
   -- ---- runs
@@ -213,26 +213,26 @@ module _ {A B : Type 0} (f : A → B) where
         tabs = λ either. all_tabs-map f columns width run texts (h.tabs (elim either [ inl all ↦ inl (mode_unmap _ run all) | inr all ↦ inr (mode_unmap _ run all) ]));
       }
 
-  pub ends_run-map : (columns : ℕ → Option ℕ) (s : State A) (texts : List (List (Item A))) (names : List (List ℕ)) → EndsRun columns s texts names → EndsRun columns (map_state f s) (map_lines f texts) names
-  ends_run-map columns s texts names h =
-      let lines : map_lines f s.lines ++ map_lines f texts ≡ map_lines f (s.lines ++ texts) = sym (map-append (map_items f) s.lines texts) in
-      let items : joined (map_lines f (s.lines ++ texts)) ≡ map_items f (joined (s.lines ++ texts)) = joined-map (map_item f) (s.lines ++ texts) in
+  pub ends_run-map : (columns : ℕ → Option ℕ) (width : ℕ) (may_overflow : Bool) (run : List (Entry A)) (texts : List (List (Item A))) (names : List (List ℕ)) →
+      EndsRun columns width may_overflow run texts names → EndsRun columns width may_overflow (map_run f run) (map_lines f texts) names
+  ends_run-map columns width may_overflow run texts names h =
+      let items : joined (map_lines f texts) ≡ map_items f (joined texts) = joined-map (map_item f) texts in
       record {
-        shown = rw lines (shown_by-map columns s.width s.may_overflow s.run (s.lines ++ texts) h.shown);
-        fits = rw lines (fit-map columns s.width s.may_overflow (s.lines ++ texts) h.fits);
-        invents = rw (lines, items) (all_come-map columns s.run (joined (s.lines ++ texts)) h.invents);
-        come = rw (lines, items) (all_come_with-map columns s.run (joined (s.lines ++ texts)) h.come);
-        order = rw lines (in_order-map columns s.run (s.lines ++ texts) names h.order);
-        own = λ plain. rw lines (own-map columns s.run (s.lines ++ texts) (h.own (not_pre_unmap s.run plain)));
+        shown = shown_by-map columns width may_overflow run texts h.shown;
+        fits = fit-map columns width may_overflow texts h.fits;
+        invents = rw items (all_come-map columns run (joined texts) h.invents);
+        come = rw items (all_come_with-map columns run (joined texts) h.come);
+        order = in_order-map columns run texts names h.order;
+        own = λ plain. own-map columns run texts (h.own (not_pre_unmap run plain));
         fitting = λ pre.
-            rw (lines, hard_lines-map f s.run)
-            (parted-map (ShowsFitting columns (λ a b. a ≡ b) s.width) (ShowsFitting columns (λ a b. a ≡ b) s.width) (map_run f) (map_items f)
-            (fitting-map columns s.width) (hard_lines s.run) (s.lines ++ texts) (h.fitting (mode_unmap _ s.run pre)));
-        kept = λ normal. rw (lines, items, without_spaces-map (joined (s.lines ++ texts)), kept_items-map columns s.run, ← marker_items-map names)
-            (sym (map-append (map_item f) (without_spaces (joined (s.lines ++ texts))) (marker_items names)) ∙ ap (map_items f) (h.kept (mode_unmap _ s.run normal)));
-        markers = rw (lines, items, names_in_items-map (joined (s.lines ++ texts)), names_in_run-map s.run) h.markers;
-        behind = rw (behind-map (is_visible columns) s.run []) h.behind;
-        behind_kept = λ normal. rw (behind-map (is_kept columns) s.run []) (h.behind_kept (mode_unmap _ s.run normal));
-        waits = λ narrow normal. rw (trailing-map f columns s.run) (sym (marker_items-map names) ∙ ap (map_items f) (h.waits narrow (mode_unmap _ s.run normal)));
-        alone = λ none. lines ∙ ap (map_lines f) (h.alone (sym (letters-map s.run) ∙ none));
+            rw (hard_lines-map f run)
+            (parted-map (ShowsFitting columns (λ a b. a ≡ b) width) (ShowsFitting columns (λ a b. a ≡ b) width) (map_run f) (map_items f)
+            (fitting-map columns width) (hard_lines run) texts (h.fitting (mode_unmap _ run pre)));
+        kept = λ normal. rw (items, without_spaces-map (joined texts), kept_items-map columns run, ← marker_items-map names)
+            (sym (map-append (map_item f) (without_spaces (joined texts)) (marker_items names)) ∙ ap (map_items f) (h.kept (mode_unmap _ run normal)));
+        markers = rw (items, names_in_items-map (joined texts), names_in_run-map run) h.markers;
+        behind = rw (behind-map (is_visible columns) run []) h.behind;
+        behind_kept = λ normal. rw (behind-map (is_kept columns) run []) (h.behind_kept (mode_unmap _ run normal));
+        waits = λ narrow normal. rw (trailing-map f columns run) (sym (marker_items-map names) ∙ ap (map_items f) (h.waits narrow (mode_unmap _ run normal)));
+        alone = λ none. ap (map_lines f) (h.alone (sym (letters-map run) ∙ none));
       }

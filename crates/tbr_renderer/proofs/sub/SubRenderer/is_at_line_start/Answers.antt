@@ -1,6 +1,5 @@
-use Rattle.std.proofs.Common.{ap, sym, ◌∙◌, subst}
+use Rattle.std.proofs.Common.{refl, ap, sym, ◌∙◌, subst}
 use Rattle.std.specs.Global.{Vec}
-use Rattle.tbr_lines.specs.Block.{state_seen}
 use Rattle.tbr_renderer.specs.Renderer.{Renderer, block_width, may_overflow}
 use Rattle.tbr_renderer.specs.View.{unboxed, block_seen, IsOpened}
 use Rattle.tbr_renderer.proofs.Writing.{line_start}
@@ -9,8 +8,9 @@ use Rattle.tbr_renderer.proofs.sub.SubRenderer.is_at_line_start.Goals as goal
 pub returns-in-Some : goal.returns-in-Some
 returns-in-Some g c =
     let R = Renderer g.row.D.Denot g.row.D-Annotation.Denot (Vec g.row.D-Annotation.Denot) in
+    let columns = g.W.CharWidth.columns in
     let live = ap (λ (r : R). r.failure) c.self.view_is ∙ c.requires in
-    let seen = ap (λ o. block_seen (unboxed g.W.CharWidth.columns o)) (sym c.in-Some.is) ∙ ap (λ (r : R). r.block) c.self.view_is in
-    let opened = subst (λ (r : R). IsOpened (block_width r) (may_overflow r) (unboxed g.W.CharWidth.columns c.self.inside.wrapping)) c.self.view_is (c.self.invariant.fresh live).opened in
-    let fresh = subst (λ o. IsOpened (block_width c.args.self.now) (may_overflow c.args.self.now) (unboxed g.W.CharWidth.columns o)) c.in-Some.is opened in
-    line_start g.D.TextDecorator.meaning g.W.CharWidth.columns c.args.self.now (state_seen g.W.CharWidth.columns c.in-Some.block.value) c.at_line_start.result seen fresh (rw c.deref.ensures at c.at_line_start.ensures.asks) (rw c.deref.ensures at c.at_line_start.ensures.normal)
+    let seen = ap (λ o. block_seen columns (unboxed o)) (sym c.in-Some.is) ∙ ap (λ (r : R). r.block) c.self.view_is in
+    let opened = subst (λ (r : R). IsOpened columns (block_width r) (may_overflow r) (unboxed c.self.inside.wrapping)) c.self.view_is (c.self.invariant.fresh live).opened in
+    let fresh = subst (λ o. IsOpened columns (block_width c.args.self.now) (may_overflow c.args.self.now) (unboxed o)) c.in-Some.is opened in
+    line_start g.D.TextDecorator.meaning columns (g.met.W.CharWidth.drawn_in_one 32 refl) c.args.self.now c.in-Some.block.value seen fresh c.at_line_start.result (rw c.deref.ensures at c.at_line_start.ensures)

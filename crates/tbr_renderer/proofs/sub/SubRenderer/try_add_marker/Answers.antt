@@ -1,9 +1,9 @@
-use Rattle.std.proofs.Common.{[], ◌∷◌, List, refl, ap, sym, ◌∙◌, subst}
+use Rattle.std.proofs.Common.{◌≡◌, [], ◌∷◌, List, refl, ap, sym, ◌∙◌, subst}
 use Rattle.std.specs.Global.{Vec}
 use Rattle.std.specs.String.{string_bytes}
 use Rattle.tbr_model.specs.Run.{marker_entry}
-use Rattle.tbr_lines.specs.Block.{Block, state_seen}
-use Rattle.tbr_lines.specs.State.{JoinsAsMarker}
+use Rattle.tbr_lines.specs.Block.{Block, after_marker}
+use Rattle.tbr_lines.specs.Outcome.{done}
 use Rattle.tbr_renderer.specs.Meant.{meant}
 use Rattle.tbr_renderer.specs.Renderer.{Renderer, with_entries, block_width, may_overflow}
 use Rattle.tbr_renderer.specs.View.{IsFresh}
@@ -15,16 +15,16 @@ put_block-requires g c =
     let R = Renderer g.row.D.Denot g.row.D-Annotation.Denot (Vec g.row.D-Annotation.Denot) in
     let columns = g.W.CharWidth.columns in let old = c.args.self.now in
     let name = string_bytes c.in_ok-name.name in
-    let joins = subst (λ (b : Block (Vec g.row.D-Annotation.Denot)). JoinsAsMarker (state_seen columns b) name (state_seen columns c.add_element.new.self)) c.deref_mut.ensures.value (c.in_ok-add_element.ensures.ok name refl) in
-    let fresh = fresh_marked g.D.TextDecorator.meaning (block_width old) (may_overflow old) (state_seen columns c.in_ok-block.block.value) (state_seen columns c.add_element.new.self) name joins c.in_ok-block.ensures.fresh in
-    subst (λ (r : R). IsFresh (block_width r) (may_overflow r) (state_seen columns c.add_element.new.self)) (sym c.in_ok-block.ensures.rest) fresh
+    let e = subst (λ (b : Block (Vec g.row.D-Annotation.Denot)). after_marker name b ≡ done c.add_element.new.self) c.deref_mut.ensures.value (c.in_ok-add_element.ensures.answers name refl).ok in
+    let fresh = fresh_marked g.D.TextDecorator.meaning columns (block_width old) (may_overflow old) c.in_ok-block.block.value c.add_element.new.self name e c.in_ok-block.ensures.fresh in
+    subst (λ (r : R). IsFresh columns (block_width r) (may_overflow r) c.add_element.new.self) (sym c.in_ok-block.ensures.rest) fresh
 
 pub returns-clause-ok : goal.returns-clause-ok
 returns-clause-ok g c =
     let f = g.D.TextDecorator.meaning in
     let columns = g.W.CharWidth.columns in let old = c.args.self.now in
     let name = string_bytes c.in_ok-name.name in
-    let joins = subst (λ (b : Block (Vec g.row.D-Annotation.Denot)). JoinsAsMarker (state_seen columns b) name (state_seen columns c.add_element.new.self)) c.deref_mut.ensures.value (c.in_ok-add_element.ensures.ok name refl) in
-    let written = marked f (block_width old) (may_overflow old) (state_seen columns c.in_ok-block.block.value) (state_seen columns c.add_element.new.self) name joins in
-    marker_added f old c.take_or_new_block.new.self c.put_block.new.self (state_seen columns c.in_ok-block.block.value) (state_seen columns c.add_element.new.self) name c.in_ok-block.ensures.rest c.in_ok-block.ensures.block written c.put_block.ensures
+    let e = subst (λ (b : Block (Vec g.row.D-Annotation.Denot)). after_marker name b ≡ done c.add_element.new.self) c.deref_mut.ensures.value (c.in_ok-add_element.ensures.answers name refl).ok in
+    let written = marked f columns (block_width old) (may_overflow old) c.in_ok-block.block.value c.add_element.new.self name e in
+    marker_added f columns old c.take_or_new_block.new.self c.put_block.new.self c.in_ok-block.block.value c.add_element.new.self name c.in_ok-block.ensures.rest c.in_ok-block.ensures.block written c.put_block.ensures
     ∙ ap (λ (bytes : List _). with_entries (meant f old) (marker_entry bytes ∷ [])) c.in_ok-name.ensures.ok

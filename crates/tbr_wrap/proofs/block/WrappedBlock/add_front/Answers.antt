@@ -1,15 +1,15 @@
-use Rattle.std.proofs.Common.{◌≡◌, ◌<◌, List, ◌++◌, map, chars, take, drop, refl, ap, ◌∙◌, sym, subst, take-append-drop, Err}
+use Rattle.std.proofs.Common.{◌≡◌, true, List, ◌++◌, map, chars, take, drop, refl, ap, ◌∙◌, sym, subst, take-append-drop, Err}
 use Rattle.std.proofs.lemmas.Result.{err_from_is_err_and}
 use Rattle.std.proofs.lemmas.Str.{chars-append, IsCharBoundary-from_take}
 use Rattle.tbr_model.specs.Run.{Entry}
 use Rattle.tbr_model.specs.Rule.{entry}
 use Rattle.tbr_tagged.specs.declared.error.Error.TheVariants as E
 use Rattle.tbr_wrap.specs.State.{text_entries}
-use Rattle.tbr_wrap.specs.Block.{Block, grown, settled, settings_of, course_of}
-use Rattle.tbr_wrap.specs.Held.{HoldsCourse, block_of}
+use Rattle.tbr_wrap.specs.Block.{Block, lines, allows, grown, settled, settings_of}
+use Rattle.tbr_wrap.specs.Held.{HoldsRun, block_of}
 use Rattle.tbr_wrap.specs.Wrapper.{IsAtProgress}
-use Rattle.tbr_wrap.proofs.runs.Courses.{entries_entered, holds_went, given}
-use Rattle.tbr_wrap.proofs.runs.Blocks.{led_on, settings_kept, course_grown, text_grown, refused_text}
+use Rattle.tbr_wrap.proofs.runs.HeldRuns.{holds_grown, given}
+use Rattle.tbr_wrap.proofs.runs.Blocks.{led_on, settings_kept, entries_entered, text_grown, refused_text, entered_allows}
 use Rattle.tbr_wrap.proofs.block.WrappedBlock.add_front.Goals as goal
 
 pub split_at-requires : goal.split_at-requires
@@ -30,9 +30,9 @@ invariant_of-self-2 g c = λ live.
     let far = given _ _ _ _ _ k in
     let limits = c.add_front-added.ensures.limits in
     let stands = rw (done.0, sym c.split_at.ensures.front) at c.add_front-added.ensures.entered in
-    subst (HoldsCourse columns eq t.wrapper r.begun)
-    (sym (ap (course_of columns) (led_on columns r t _ limits refl c.note_text.ensures was live ∙ text_grown columns (block_of columns r) cs c.args.main_tag.now c.args.wrap_tag.now mode) ∙ course_grown columns (block_of columns r) (map entry entries)))
-    (holds_went _ _ _ _ _ k t.wrapper (map entry entries) limits
+    subst (HoldsRun columns eq t.wrapper r.begun)
+    (sym (led_on columns r t _ limits refl c.note_text.ensures was live ∙ text_grown columns (block_of columns r) cs c.args.main_tag.now c.args.wrap_tag.now mode))
+    (holds_grown _ _ _ _ _ k t.wrapper (map entry entries)
     (subst (IsAtProgress columns eq t.wrapper k.before far) (sym (entries_entered columns r.wrapper.lines.width entries _)) (stands k.before far _ k.stands)))
 
 pub returns-clause-ok : goal.returns-clause-ok
@@ -72,8 +72,17 @@ returns-in_err-bytes-clause-too_narrow g c = λ e.
     ap (λ (s : Block g.row.T.Denot). settled g.W.CharWidth.columns (grown s (map entry entries))) (sym c.self.view_is)
     ∙ refused_text g.W.CharWidth.columns (block_of g.W.CharWidth.columns c.self.inside) entries wider.0 wider.1
 
-pub returns-clause-wide : goal.returns-clause-wide
-returns-clause-wide g c = subst (λ (s : Block g.row.T.Denot). 0 < s.width) c.self.view_is c.self.inside.wrapper.lines.positive
-
-pub returns-in_err-bytes-clause-wide : goal.returns-in_err-bytes-clause-wide
-returns-in_err-bytes-clause-wide g c = subst (λ (s : Block g.row.T.Denot). 0 < s.width) c.self.view_is c.self.inside.wrapper.lines.positive
+pub returns-clause-allowed : goal.returns-clause-allowed
+returns-clause-allowed g c =
+    let columns = g.W.CharWidth.columns in let r = c.self.inside in
+    let t = record r { wrapper = c.add_front-added.new.self; failure = c.keep.new.failure; changes = c.note_text.new.changes } in
+    let cs = chars c.split_at.result.0.now in
+    let entries : List (Entry g.row.T.Denot) = text_entries cs c.args.main_tag.now c.args.wrap_tag.now c.args.mode in
+    let was = ap (λ (s : Block g.row.T.Denot). s.failure) c.self.view_is ∙ c.requires.unfailed in
+    let k = c.self.invariant was in
+    let limits = c.add_front-added.ensures.limits in
+    let stands = rw (c.in_ok-bytes.ensures.ok.0, sym c.split_at.ensures.front) at c.add_front-added.ensures.entered in
+    let here = stands k.before (given _ _ _ _ _ k) _ k.stands in
+    subst (λ (s : Block g.row.T.Denot). allows columns s (lines columns s) ≡ true)
+    (sym (led_on columns r t _ limits refl c.note_text.ensures was (c.in_ok-bytes.ensures.ok.1 ∙ was) ∙ text_grown columns (block_of columns r) cs c.args.main_tag.now c.args.wrap_tag.now c.args.mode))
+    (entered_allows columns (block_of columns r) entries (rw limits.width at (rw limits.may_overflow at here.lays.measured.done)))

@@ -1,11 +1,11 @@
 use Rattle.std.proofs.Common.{[], ◌∷◌, refl, ap, ◌∙◌, sym, subst, string_bytes}
 use Rattle.tbr_model.specs.Run.{marker_entry}
 use Rattle.tbr_model.specs.Rule.{entry, enter}
-use Rattle.tbr_wrap.specs.Block.{Block, grown, settings_of, course_of, progress_of}
-use Rattle.tbr_wrap.specs.Held.{HoldsCourse, block_of}
+use Rattle.tbr_wrap.specs.Block.{Block, grown, settings_of, progress_of}
+use Rattle.tbr_wrap.specs.Held.{HoldsRun, block_of}
 use Rattle.tbr_wrap.specs.Wrapper.{IsAtProgress}
-use Rattle.tbr_wrap.proofs.runs.Courses.{holds_went, given}
-use Rattle.tbr_wrap.proofs.runs.Blocks.{led_on, settings_kept, course_grown}
+use Rattle.tbr_wrap.proofs.runs.HeldRuns.{holds_grown, given}
+use Rattle.tbr_wrap.proofs.runs.Blocks.{led_on, settings_kept}
 use Rattle.tbr_wrap.proofs.block.WrappedBlock.add_marker.Goals as goal
 
 pub invariant_of-self-2 : goal.invariant_of-self-2
@@ -20,9 +20,9 @@ invariant_of-self-2 g c = λ live.
     let limits = c.add_marker-added.ensures.limits in
     let named = subst (λ n. IsAtProgress columns eq t.wrapper k.before behind (enter columns r.wrapper.lines.width (progress_of columns (block_of columns r)) (marker_entry n))) (ap string_bytes c.with_marker-changes.ensures.name)
     (rw done.0 at (c.add_marker-added.ensures.added columns k.before behind _ k.stands)) in
-    subst (HoldsCourse columns eq t.wrapper r.begun)
-    (sym (ap (course_of columns) (led_on columns r t _ limits refl c.with_marker-changes.ensures.changes was live) ∙ course_grown columns (block_of columns r) (entry (marker_entry name) ∷ [])))
-    (holds_went _ _ _ _ _ k t.wrapper (entry (marker_entry name) ∷ []) limits named)
+    subst (HoldsRun columns eq t.wrapper r.begun)
+    (sym (led_on columns r t _ limits refl c.with_marker-changes.ensures.changes was live))
+    (holds_grown _ _ _ _ _ k t.wrapper (entry (marker_entry name) ∷ []) named)
 
 pub returns-clause-ok : goal.returns-clause-ok
 returns-clause-ok g c =

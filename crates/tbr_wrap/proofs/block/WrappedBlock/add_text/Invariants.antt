@@ -1,14 +1,15 @@
-use Rattle.std.proofs.Common.{length, [], ◌∷◌}
+use Rattle.std.proofs.Common.{◌≡◌, true, length, [], ◌∷◌}
 use denote.Shadow.{shadow}
 use denote.Text.{Utf8}
 use Rattle.tbr_model.specs.Rule.{call}
-use Rattle.tbr_wrap.specs.Block.{HasGrown}
+use Rattle.tbr_wrap.specs.Block.{HasGrown, lines, allows}
 use Rattle.tbr_wrap.proofs.block.WrappedBlock.add_text.Given as goal
 
 abbrev pub invariant-loop-rest : goal.invariant-loop-rest
 invariant-loop-rest g l = record {
   utf8 : shadow (Utf8 l.rest);
   grown : HasGrown l.fn.self (call ∷ []) l.text l.rest l.main_tag l.wrap_tag l.ws_mode l.self;
+  allowed : allows g.W.CharWidth.columns l.self (lines g.W.CharWidth.columns l.self) ≡ true;
 }
 
 abbrev pub decreases-loop-rest : goal.decreases-loop-rest

@@ -1,17 +1,24 @@
-use Rattle.std.proofs.Common.{[], ◌∷◌, refl, ap, ◌∙◌, sym, subst}
+use Rattle.std.proofs.Common.{◌≡◌, true, [], ◌∷◌, refl, ap, ◌∙◌, sym, subst}
 use Rattle.tbr_model.specs.Rule.{call}
-use Rattle.tbr_wrap.specs.Block.{course_of}
-use Rattle.tbr_wrap.specs.Held.{HoldsCourse, block_of}
-use Rattle.tbr_wrap.proofs.runs.Courses.{holds_went}
-use Rattle.tbr_wrap.proofs.runs.Blocks.{led_on, course_grown}
+use Rattle.tbr_wrap.specs.Block.{Block, lines, allows}
+use Rattle.tbr_wrap.specs.Held.{HoldsRun, block_of}
+use Rattle.tbr_wrap.proofs.runs.HeldRuns.{holds_grown}
+use Rattle.tbr_wrap.proofs.runs.Blocks.{led_on, fit_allows, called_allows}
 use Rattle.tbr_wrap.proofs.block.WrappedBlock.begin_call.Goals as goal
 
 pub invariant_of-self : goal.invariant_of-self
 invariant_of-self g c = λ live.
     let columns = g.W.CharWidth.columns in
     let r = c.self.inside in let t = record r { wrapper = c.begin_call.new.self; changes = c.appended-self-inside.result } in
-    let limits = c.begin_call.ensures.limits in
     let k = c.self.invariant live in
-    subst (HoldsCourse columns g.T.PartialEq.eq t.wrapper r.begun)
-    (sym (ap (course_of columns) (led_on columns r t _ limits refl c.appended-self-inside.ensures live live) ∙ course_grown columns (block_of columns r) (call ∷ [])))
-    (holds_went _ _ _ _ _ k t.wrapper (call ∷ []) limits (c.begin_call.ensures.begun columns _ _ _ k.stands))
+    subst (HoldsRun columns g.T.PartialEq.eq t.wrapper r.begun)
+    (sym (led_on columns r t _ c.begin_call.ensures.limits refl c.appended-self-inside.ensures live live))
+    (holds_grown _ _ _ _ _ k t.wrapper (call ∷ []) (c.begin_call.ensures.begun columns _ _ _ k.stands))
+
+pub returns-clause-allowed : goal.returns-clause-allowed
+returns-clause-allowed g c =
+    let columns = g.W.CharWidth.columns in let r = c.self.inside in
+    let t = record r { wrapper = c.begin_call.new.self; changes = c.appended-self-inside.result } in
+    let live = ap (λ (s : Block g.row.T.Denot). s.failure) c.self.view_is ∙ c.requires in
+    subst (λ (s : Block g.row.T.Denot). allows columns s (lines columns s) ≡ true) (sym (led_on columns r t _ c.begin_call.ensures.limits refl c.appended-self-inside.ensures live live))
+    (called_allows columns (block_of columns r) (fit_allows columns r.wrapper.lines.width r.wrapper.lines.may_overflow _ (c.self.invariant live).stands.lays.measured.done))

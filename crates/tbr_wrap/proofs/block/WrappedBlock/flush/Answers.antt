@@ -1,14 +1,13 @@
-use Rattle.std.proofs.Common.{◌≡◌, ◌<◌, ◌≤◌, length, Err, refl, ap, ◌∙◌, sym, subst}
+use Rattle.std.proofs.Common.{◌≡◌, ◌<◌, Err, refl, ap, ◌∙◌, sym, subst}
 use Rattle.std.proofs.lemmas.Result.{err_from_is_err_and}
 use Rattle.tbr_tagged.specs.declared.error.Error.TheVariants as E
 use Rattle.tbr_tagged.specs.Outcome.{done, refused}
 use Rattle.tbr_tagged.proofs.Outcomes.{answers_ok, answers_err, live_goes}
-use Rattle.tbr_wrap.specs.Block.{Block, lines, all_lines, allows, flushed, after_flush, settings_of, course_of}
-use Rattle.tbr_wrap.specs.Held.{HoldsCourse, block_of}
-use Rattle.tbr_wrap.proofs.runs.Courses.{holds_ended}
-use Rattle.tbr_wrap.proofs.runs.Blocks.{led_on, settings_kept, course_ended, fit_allows, if_allowed, if_not_allowed, not_allowed}
-use Rattle.tbr_wrap.proofs.runs.BlockLaws.{flush_ends, flush_best, flush_words_fit, flush_visible_fit, flush_none, flush_never, flush_wide, flush_wide_word}
-use Rattle.tbr_wrap.proofs.runs.EndedRuns.{two_columns_characters}
+use Rattle.tbr_wrap.specs.Block.{Block, all_lines, allows, flushed, after_flush, settings_of}
+use Rattle.tbr_wrap.specs.Held.{HoldsRun, block_of}
+use Rattle.tbr_wrap.proofs.runs.HeldRuns.{holds_flushed}
+use Rattle.tbr_wrap.proofs.runs.Blocks.{led_on, settings_kept, fit_allows, if_allowed, if_not_allowed, not_allowed}
+use Rattle.tbr_wrap.proofs.runs.BlockLaws.{flush_best}
 use Rattle.tbr_wrap.proofs.block.WrappedBlock.flush.Given.{Over}
 use Rattle.tbr_wrap.proofs.block.WrappedBlock.flush.Goals.{After-keep}
 use Rattle.tbr_wrap.proofs.block.WrappedBlock.flush.Goals as goal
@@ -16,12 +15,6 @@ use Rattle.tbr_wrap.proofs.block.WrappedBlock.flush.Goals as goal
 -- a line has at least a column
 wide : (g : Over) (c : After-keep g) → 0 < c.args.self.now.width
 wide g c = subst (λ (s : Block g.row.T.Denot). 0 < s.width) c.self.view_is c.self.inside.wrapper.lines.positive
-
-within : (g : Over) (c : After-keep g) → c.args.self.now.handed ≤ length (lines g.W.CharWidth.columns c.args.self.now)
-within g c =
-    let columns = g.W.CharWidth.columns in
-    subst (λ (s : Block g.row.T.Denot). s.handed ≤ length (lines columns s)) c.self.view_is
-    (c.self.invariant (ap (λ (s : Block g.row.T.Denot). s.failure) c.self.view_is ∙ c.in_ok-refusal.ensures)).within
 
 -- where the wrapper refuses, the block does
 refused_end : (g : Over) (c : After-keep g) → c.finish.result ≡ Err E.TooNarrow → after_flush g.W.CharWidth.columns c.args.self.now ≡ refused E.TooNarrow
@@ -41,9 +34,9 @@ invariant_of-self-2 g c = λ live.
     let before = sym was.1 ∙ live in
     let k = c.self.invariant before in
     let limits = c.finish.ensures.limits in
-    subst (HoldsCourse columns g.T.PartialEq.eq t.wrapper r.begun)
-    (sym (ap (course_of columns) (led_on columns r t _ limits refl c.appended-self-inside.ensures before live) ∙ course_ended columns (block_of columns r)))
-    (holds_ended _ _ _ _ _ k t.wrapper limits (rw was.0 at (c.finish.ensures.finished _ _ _ k.stands)))
+    subst (HoldsRun columns g.T.PartialEq.eq t.wrapper r.begun)
+    (sym (led_on columns r t _ limits refl c.appended-self-inside.ensures before live))
+    (holds_flushed _ _ _ _ _ k refl t.wrapper (rw was.0 at (c.finish.ensures.finished _ _ _ k.stands)))
 
 -- where it doesn't, the block ends the run
 done_end : (g : Over) (c : goal.After-self-1 g) → after_flush g.W.CharWidth.columns c.args.self.now ≡ done (block_of g.W.CharWidth.columns (record c.self.inside { wrapper = c.finish.new.self; failure = c.keep.new.failure; changes = c.appended-self-inside.result }))
@@ -70,23 +63,6 @@ pub returns-clause-best : goal.returns-clause-best
 returns-clause-best g c = λ h.
     flush_best g.W.CharWidth.columns (g.met.W.CharWidth.drawn_in_one 32 refl) c.args.self.now (wide g (goal.at.returns-clause-best g c).After-keep) _ (done_end g c) h.1 h.2
 
-pub returns-clause-ok : goal.returns-clause-ok
-returns-clause-ok g c =
-    flush_ends g.W.CharWidth.columns (g.met.W.CharWidth.drawn_in_one 32 refl) c.args.self.now (wide g (goal.at.returns-clause-ok g c).After-keep) _ (done_end g c)
-    (within g (goal.at.returns-clause-ok g c).After-keep)
-
-pub returns-clause-fit : goal.returns-clause-fit
-returns-clause-fit g c = λ h.
-    flush_words_fit g.W.CharWidth.columns (g.met.W.CharWidth.drawn_in_one 32 refl) c.args.self.now (wide g (goal.at.returns-clause-fit g c).After-keep) _ (done_end g c) h.1 h.2
-
-pub returns-clause-visible_fit : goal.returns-clause-visible_fit
-returns-clause-visible_fit g c = λ never.
-    flush_visible_fit g.W.CharWidth.columns (g.met.W.CharWidth.drawn_in_one 32 refl) c.args.self.now (wide g (goal.at.returns-clause-visible_fit g c).After-keep) _ (done_end g c) never
-
-pub returns-clause-blank : goal.returns-clause-blank
-returns-clause-blank g c = λ none.
-    flush_none g.W.CharWidth.columns (g.met.W.CharWidth.drawn_in_one 32 refl) c.args.self.now (wide g (goal.at.returns-clause-blank g c).After-keep) _ (done_end g c) none
-
 pub returns-in_err-keep-clause-answers : goal.returns-in_err-keep-clause-answers
 returns-in_err-keep-clause-answers g c =
     let r = c.self.inside in
@@ -96,26 +72,3 @@ returns-in_err-keep-clause-answers g c =
     (λ narrow. sym (live_goes c.args.self.now.failure _ c.in_ok-refusal.ensures) ∙ refused_end g (goal.at.returns-in_err-keep-clause-answers g c).After-keep (cc (p.2, narrow, c.in_err-keep.ensures.failed.0)))
     (cc (p.2, c.in_err-keep.ensures.failed.1))
     (settings_kept g.W.CharWidth.columns r t c.finish.ensures.limits refl ∙ ap settings_of c.self.view_is)
-
-pub returns-in_err-keep-clause-too_narrow : goal.returns-in_err-keep-clause-too_narrow
-returns-in_err-keep-clause-too_narrow g c = λ live e.
-    let p = err_from_is_err_and c.from_residual-in_err-keep.result c.from_residual-in_err-keep.ensures.1 in
-    let a = (goal.at.returns-in_err-keep-clause-too_narrow g c).After-keep in
-    let refused = refused_end g a (cc (p.1, p.2, e, c.in_err-keep.ensures.failed.0)) in
-    let one = g.met.W.CharWidth.drawn_in_one 32 refl in (
-      flush_never g.W.CharWidth.columns one c.args.self.now (wide g a) live refused,
-      flush_wide g.W.CharWidth.columns one c.args.self.now (wide g a) live refused,
-    )
-
-pub returns-in_err-keep-clause-normal_too_narrow : goal.returns-in_err-keep-clause-normal_too_narrow
-returns-in_err-keep-clause-normal_too_narrow g c = λ live normal e.
-    let p = err_from_is_err_and c.from_residual-in_err-keep.result c.from_residual-in_err-keep.ensures.1 in
-    let a = (goal.at.returns-in_err-keep-clause-normal_too_narrow g c).After-keep in
-    flush_wide_word g.W.CharWidth.columns (g.met.W.CharWidth.drawn_in_one 32 refl) c.args.self.now (wide g a) live (refused_end g a (cc (p.1, p.2, e, c.in_err-keep.ensures.failed.0))) normal
-
-pub returns-in_err-keep-clause-two_columns : goal.returns-in_err-keep-clause-two_columns
-returns-in_err-keep-clause-two_columns g c = λ live two e.
-    let p = err_from_is_err_and c.from_residual-in_err-keep.result c.from_residual-in_err-keep.ensures.1 in
-    let a = (goal.at.returns-in_err-keep-clause-two_columns g c).After-keep in
-    flush_wide g.W.CharWidth.columns (g.met.W.CharWidth.drawn_in_one 32 refl) c.args.self.now (wide g a) live (refused_end g a (cc (p.1, p.2, e, c.in_err-keep.ensures.failed.0)))
-    (two_columns_characters g.W.CharWidth.columns c.args.self.now.width g.met.W.CharWidth.at_most_two two _)

@@ -2,7 +2,7 @@ use Rattle.std.proofs.Common.{not, ◌&&◌, ap, sym, ◌∙◌}
 use Rattle.tbr_model.specs.Run.{has_character}
 use Rattle.tbr_wrap.specs.Block.{Block, has_no_character, progress_of}
 use Rattle.tbr_wrap.specs.Held.{block_of}
-use Rattle.tbr_wrap.proofs.runs.Courses.{line_held, word_held}
+use Rattle.tbr_wrap.proofs.runs.HeldRuns.{line_held, word_held}
 use Rattle.tbr_wrap.proofs.block.WrappedBlock.has_no_character.Goals as goal
 
 pub returns-then-not-has_line : goal.returns-then-not-has_line

@@ -3,7 +3,7 @@ use Rattle.std.specs.List.{AllZip}
 use Rattle.tbr_tagged.specs.Elements.{SameItems}
 use Rattle.tbr_wrap.specs.Block.{Block, left, has_no_character}
 use Rattle.tbr_wrap.proofs.lines.CutLines.{same_lines}
-use Rattle.tbr_wrap.proofs.runs.Courses.{laid, left_shown, ended_held}
+use Rattle.tbr_wrap.proofs.runs.HeldRuns.{laid, left_shown, ended_held}
 use Rattle.tbr_wrap.proofs.block.WrappedBlock.into_ended.Goals as goal
 
 pub new-requires-clause-held : goal.new-requires-clause-held

@@ -3,36 +3,22 @@ use Rattle.tbr_model.specs.Run.{Item}
 use Rattle.tbr_tagged.specs.Elements.{items_of, SameItems}
 use Rattle.tbr_tagged.proofs.Outcomes.{answers_ok}
 use Rattle.tbr_wrap.specs.Block.{Settings, left, HandsOutFirst}
-use Rattle.tbr_wrap.proofs.runs.LinesLeft.{shows_padded}
-use Rattle.tbr_wrap.proofs.runs.Blocks.{none_first, no_line, hands_first}
+use Rattle.tbr_wrap.proofs.runs.LinesLeft.{none_of, shows_padded}
+use Rattle.tbr_wrap.proofs.runs.Blocks.{no_line, hands_first}
 use Rattle.tbr_wrap.proofs.block.WrappedBlock.next_line.Goals.{In-Some}
 use Rattle.tbr_wrap.proofs.block.WrappedBlock.next_line.Goals as goal
 
 pub returns-in_default-clause-answers : goal.returns-in_default-clause-answers
 returns-in_default-clause-answers g c =
     let columns = g.W.CharWidth.columns in
-    let none : left columns c.args.self.now ≡ [] = none_first _ (λ text rest e. subst (λ o. IsSomeAnd o (λ l. SameItems g.T.PartialEq.eq (items_of l) text)) c.in_default.is (c.in_ok-line.ensures.some text rest e)) in
+    let none : left columns c.args.self.now ≡ [] = none_of _ (λ text rest e. subst (λ o. IsSomeAnd o (λ l. SameItems g.T.PartialEq.eq (items_of l) text)) c.in_default.is (c.in_ok-line.ensures.some text rest e)) in
     answers_ok _ _ _ _ None _ c.in_ok-refusal.ensures (no_line columns c.args.self.now c.take_line.new.self none (c.in_ok-line.ensures.none none).1) c.in_ok-line.ensures.settings
 
 pub returns-in_default-clause-line : goal.returns-in_default-clause-line
 returns-in_default-clause-line g c =
     let columns = g.W.CharWidth.columns in
-    let none : left columns c.args.self.now ≡ [] = none_first _ (λ text rest e. subst (λ o. IsSomeAnd o (λ l. SameItems g.T.PartialEq.eq (items_of l) text)) c.in_default.is (c.in_ok-line.ensures.some text rest e)) in
+    let none : left columns c.args.self.now ≡ [] = none_of _ (λ text rest e. subst (λ o. IsSomeAnd o (λ l. SameItems g.T.PartialEq.eq (items_of l) text)) c.in_default.is (c.in_ok-line.ensures.some text rest e)) in
     subst (λ (ls : List (List (Item g.row.T.Denot))). HandsOutFirst columns g.T.PartialEq.eq c.args.self.now ls None) (sym none) refl
-
-pub returns-in_default-clause-some : goal.returns-in_default-clause-some
-returns-in_default-clause-some g c = λ text rest e. subst (λ o. IsSomeAnd o (λ l. SameItems g.T.PartialEq.eq (items_of l) text)) c.in_default.is (c.in_ok-line.ensures.some text rest e)
-
-pub returns-clause-some : goal.returns-clause-some
-returns-clause-some g c = λ text rest e.
-    let columns = g.W.CharWidth.columns in let eq = g.T.PartialEq.eq in
-    let pads = ap (λ (k : Settings g.row.T.Denot). k.padding) c.in_ok-line.ensures.settings in
-    let wide = ap (λ (k : Settings g.row.T.Denot). k.width) c.in_ok-line.ensures.settings in
-    let shown = subst (λ o. IsSomeAnd o (λ l. SameItems eq (items_of l) text)) c.in-Some.is (c.in_ok-line.ensures.some text rest e) in
-    let padded = c.in_ok-keep_want.ensures.ok.0 in
-    let filled = rw pads at (rw wide at (rw padded at c.pad-padded.ensures.items)) in
-    let merged = rw padded at (c.pad-padded.ensures.merged (c.in_ok-line.ensures.merged c.in-Some.line c.in-Some.is)) in
-    shows_padded columns eq g.met.T.Eq.laws c.args.self.now.padding c.args.self.now.width c.in-Some.line c.pad-padded.new.line text filled merged shown
 
 pub returns-clause-line : goal.returns-clause-line
 returns-clause-line g c =

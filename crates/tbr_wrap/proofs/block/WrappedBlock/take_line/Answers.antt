@@ -1,11 +1,11 @@
 use Rattle.std.proofs.Common.{◌≡◌, ◌<◌, Ok, Some, true, false, [], length, refl, ap, ◌∙◌, sym, subst, IfSome}
 use Rattle.tbr_tagged.specs.Elements.{items_of, IsMerged}
 use Rattle.tbr_tagged.proofs.SameItems.{same_items_trans}
-use Rattle.tbr_wrap.specs.Block.{Block, left, line_handed_out, settings_of, course_of}
-use Rattle.tbr_wrap.specs.Held.{HoldsCourse, block_of}
+use Rattle.tbr_wrap.specs.Block.{Block, left, line_handed_out, settings_of}
+use Rattle.tbr_wrap.specs.Held.{HoldsRun, block_of}
 use Rattle.tbr_wrap.proofs.runs.LinesLeft.{ok_of}
-use Rattle.tbr_wrap.proofs.runs.Courses.{no_lines, holds_handed, first_left, some_left, none_left, none_held, some_held, laid}
-use Rattle.tbr_wrap.proofs.runs.Blocks.{led_on, settings_kept, course_handed}
+use Rattle.tbr_wrap.proofs.runs.HeldRuns.{no_lines, holds_handed, first_left, some_left, none_left, none_held, some_held, laid}
+use Rattle.tbr_wrap.proofs.runs.Blocks.{led_on, settings_kept}
 use Rattle.tbr_wrap.proofs.block.WrappedBlock.take_line.Goals as goal
 
 pub returns-in_err-line-clause-none : goal.returns-in_err-line-clause-none
@@ -25,7 +25,9 @@ invariant_of-self-in_default g c = λ live.
     let none : c.self.inside.wrapper.lines.ended.items ≡ [] = no_lines c.self.inside.wrapper.lines.ended.items (λ some.
     let f = some_left _ _ _ _ _ k some in
     ok_of c.take_line-taken.result _ _ (c.in_ok-line.ensures.ok.0 ∙ ap Ok c.in_default.is) (c.take_line-taken.ensures.taken k.before (laid _ _ _ _ _ k) f.0 f.1 k.stands.lays.holds f.2)) in
-    rw (c.take_line-taken.ensures.none none).1 k
+    let columns = g.W.CharWidth.columns in let r = c.self.inside in
+    rw (c.take_line-taken.ensures.none none).1
+    (subst (λ f. HoldsRun columns g.T.PartialEq.eq r.wrapper r.begun (record (block_of columns r) { failure = f })) (sym c.in_ok-line.ensures.ok.1) k)
 
 pub returns-in_default-clause-some : goal.returns-in_default-clause-some
 returns-in_default-clause-some g c = λ text rest e.
@@ -45,8 +47,8 @@ invariant_of-self-2 g c = λ live.
     let some = ok_of c.take_line-taken.result (Some c.in-Some.line) (λ o. IfSome o (λ _. 0 < length r.wrapper.lines.ended.items)) was c.take_line-taken.ensures.some in
     let limits = c.take_line-taken.ensures.limits in let f = some_left _ _ _ _ _ k some in
     let taken = ok_of c.take_line-taken.result _ _ was (c.take_line-taken.ensures.taken k.before (laid _ _ _ _ _ k) f.0 f.1 k.stands.lays.holds f.2) in
-    subst (HoldsCourse columns g.T.PartialEq.eq _ true)
-    (sym (ap (course_of columns) (led_on columns r t _ limits refl c.appended-self-inside.ensures before live) ∙ course_handed columns (block_of columns r)))
+    subst (HoldsRun columns g.T.PartialEq.eq _ true)
+    (sym (led_on columns r t _ limits refl c.appended-self-inside.ensures before live))
     (holds_handed _ _ _ _ _ k c.take_line-taken.new.self limits f.0 f.1 f.2 taken.2 some)
 
 pub returns-clause-some : goal.returns-clause-some
