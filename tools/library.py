@@ -1,4 +1,4 @@
-"""Makes of the proved crate tbr_c the library for C, Rust and Python, and lays out what is installed.
+"""Makes of the proved crates for C the library for C, Rust and Python, and lays out what is installed.
 
 The folder that it fills has the form of a prefix: bin, include, lib and lib/pkgconfig. The same sources give the same
 bytes in any folder.
@@ -11,7 +11,8 @@ from pathlib import Path
 
 import kit
 
-CRATE = "tbr_c"
+# Each is compiled by itself, so that what both call is inlined as if it were called from one alone.
+CRATES = ["tbr_c", "tbr_c_script"]
 PROGRAMS = ["blockrender", "blockview"]
 NAME = "text_block_renderer"
 HEADER = Path(kit.TOP, "include", f"{NAME}.h")
@@ -46,15 +47,19 @@ def lay_out(prefix, as_built):
     shutil.copy(HEADER, prefix / "include")
     written = PKG_CONFIG.replace("@VERSION@", version())
     (prefix / "lib" / "pkgconfig" / f"{NAME}.pc").write_text(written, encoding="utf-8")
-    proved = compiled_by_ci() if as_built else Path(kit.crates()[CRATE].folder, "out", f"lib{CRATE}.a")
+    proved = [compiled_by_ci(name) if as_built else archive_of(name) for name in CRATES]
     archive(proved, prefix / "lib")
     share(proved, prefix / "lib")
 
 
-def compiled_by_ci():
-    """The archive of the crate, whose libraries `rt ci` has just proved and built here, but no archive."""
-    rtlib, crate = kit.library(), kit.crates()[CRATE]
-    made = Path(crate.folder, "out", f"lib{CRATE}.a")
+def archive_of(name):
+    """Where the archive of a crate is, once it is built."""
+    return Path(kit.crates()[name].folder, "out", f"lib{name}.a")
+
+
+def compiled_by_ci(name):
+    """The archive of a crate, whose libraries `rt ci` has just proved and built here, but no archive."""
+    rtlib, crate, made = kit.library(), kit.crates()[name], archive_of(name)
     made.parent.mkdir(exist_ok=True)
     words = [*crate.words(["--jobs", "1"], keeps=False), "--toolchain", f"{rtlib.KIT}/toolchain", "-o", str(made)]
     run([rtlib.RATTLE, "build", *words], cwd=crate.folder)
@@ -63,7 +68,8 @@ def compiled_by_ci():
 
 def archive(proved, lib):
     """The static library, which needs no other than the C library."""
-    script = f"create {lib}/lib{NAME}.a\naddlib {proved}\naddlib {kit.library().KIT}/c/liblibc_c.a\nsave\nend\n"
+    added = "".join(f"addlib {it}\n" for it in [*proved, f"{kit.library().KIT}/c/liblibc_c.a"])
+    script = f"create {lib}/lib{NAME}.a\n{added}save\nend\n"
     run([toolchain("bin/llvm-ar"), "-M"], input=script, text=True)
 
 
@@ -75,7 +81,7 @@ def share(proved, lib):
     exports.write_text(EXPORTS, encoding="ascii")
     words = ["-m", "elf_x86_64", "-shared", "-soname", of_calls, "--version-script", str(exports), "--build-id=sha1"]
     words += ["--eh-frame-hdr", "--gc-sections", "-z", "defs", "-z", "relro", "-z", "now", "-z", "noexecstack"]
-    words += ["--whole-archive", str(proved), "--no-whole-archive", f"{kit.library().KIT}/c/liblibc_c.a"]
+    words += ["--whole-archive", *map(str, proved), "--no-whole-archive", f"{kit.library().KIT}/c/liblibc_c.a"]
     words += [toolchain("lib/libc.so.6"), toolchain("lib/libc_nonshared.a"), toolchain("lib/libgcc_s.so.1")]
     words += [toolchain("lib/libm.so.6"), "-o", str(lib / whole)]
     run([toolchain("bin/ld.lld"), *words])

@@ -1,5 +1,5 @@
-//! A renderer that C fills call by call and whose lines it takes, and whole scripts. `text_block_renderer.h`, whose
-//! inline functions call what is exported here, says what each does.
+//! A renderer that C fills call by call and whose lines it takes. `text_block_renderer.h`, whose inline functions call
+//! what is exported here, says what each does.
 #![tactic(auto)]
 
 mod calls;
@@ -8,6 +8,5 @@ mod held;
 mod options;
 mod parts;
 mod questions;
-mod script;
 mod state;
 mod taking;

@@ -4,7 +4,7 @@
 pub use laws::a_script_gives_one_thing;
 pub use prefixes::DecoratorPrefix;
 pub use program::Program;
-pub use runner::run;
+pub use runner::{render, run};
 
 mod closing;
 mod laws;

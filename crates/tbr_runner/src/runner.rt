@@ -12,6 +12,7 @@ ghost use Rattle.tbr_script.specs.Refusal.{IsOfScript};
 
 use crate::program::Program;
 use std::alloc::Global;
+use std::convert::AsSlice;
 use tbr_commands::{Decorator, Opening};
 use tbr_decor::{PlainDecorator, RichDecorator, TextDecorator, TrivialDecorator};
 use tbr_lines::{CharWidth, UnicodeColumns};
@@ -55,7 +56,7 @@ pub fn run<R: Source, S: Sink>(
         × AppendsBeginning (S.contents writer.old) (S.contents writer.new) text) }
 {
     let script = read_script(alloc, reader)?;
-    let text = render::<UnicodeColumns>(alloc, script)?;
+    let text = render::<UnicodeColumns, _>(alloc, script)?;
     write_all(writer, text.as_bytes()).map_err(|_| RunError::WriteFailed)
 }
 
@@ -79,13 +80,18 @@ fn read_script<R: Source>(alloc: Global, reader: &mut R) -> Result<Vec<u8>, RunE
     }
 }
 
-/// The text of a script, whose memory is given back before its lines are made text.
-fn render<W: CharWidth>(alloc: Global, script: Vec<u8>) -> Result<String, RunError>
-    ensures text { IfOk result (λ text. Gives W.columns script.items (Ok (string_bytes text))) }
-    ensures refusal { IfErr result (λ e. e ≢ RunError.OutOfMemory → Gives W.columns script.items (Err e)) }
+/// The text of a script in memory, which is dropped before its lines are made text.
+///
+/// It refuses as `run` does, but for streams.
+pub fn render<W: CharWidth, B: AsSlice<u8> + Drop>(
+    alloc: Global,
+    script: B,
+) -> Result<String, RunError>
+    ensures text { IfOk result (λ text. Gives W.columns (B.items script) (Ok (string_bytes text))) }
+    ensures refusal { IfErr result (λ e. e ≢ RunError.OutOfMemory → Gives W.columns (B.items script) (Err e)) }
     ensures of_script { IfErr result (λ e. e ≢ RunError.OutOfMemory → IsOfScript e) }
 {
-    let (opening, number, rest) = first_command(&script)?;
+    let (opening, number, rest) = first_command(script.as_slice())?;
     match opening.decorator {
         Decorator::Plain => {
             let decorator = PlainDecorator::new();
@@ -131,10 +137,10 @@ fn run_under<D: TextDecorator, W: CharWidth>(
 }
 
 /// The text of a program to which a whole script was told. The script isn't needed any more.
-fn finish<D: TextDecorator, W: CharWidth>(
+fn finish<D: TextDecorator, W: CharWidth, B: Drop>(
     program: Program<D, W>,
     number: usize,
-    script: Vec<u8>,
+    script: B,
 ) -> Result<String, RunError>
     requires { GoesOn program }
     ensures text { IfOk result (λ text.

@@ -5,8 +5,9 @@ ghost use Rattle.tbr_runner.specs.Meaning.{Gives};
 
 use std::alloc::Global;
 use tbr_c_lines::Fault;
-use tbr_runner::run;
-use tbr_script::{RunError, StdSink, StdSource};
+use tbr_lines::UnicodeColumns;
+use tbr_runner::render;
+use tbr_script::RunError;
 
 /// `tbr_answer`.
 #[repr(C)]
@@ -24,11 +25,9 @@ pub extern "C" fn tbr1_render(alloc: Global, script: &[u8], out: &mut [u8]) -> A
     ensures text { result.status ≡ 0 → (text : List ℕ) × Gives unicode_columns script.now (Ok text)
         × (result.length ≡ length text) × (take (length text) out.new ≡ take (length out.old) text) }
 {
-    let mut source = StdSource::new(script);
-    let mut sink = StdSink::new(Vec::new(alloc));
-    match run(alloc, &mut source, &mut sink) {
-        Ok(()) => {
-            let text = sink.into_inner();
+    match render::<UnicodeColumns, _>(alloc, script) {
+        Ok(text) => {
+            let text = text.as_bytes();
             let count = text.len().min(out.len());
             out[..count].copy_from_slice(&text[..count]);
             Answer {
@@ -41,7 +40,7 @@ pub extern "C" fn tbr1_render(alloc: Global, script: &[u8], out: &mut [u8]) -> A
     }
 }
 
-/// What is answered of a script that is refused. Streams in memory fail only for want of it.
+/// What is answered of a script that is refused. No stream fails, since none is there.
 fn refused(e: RunError) -> Answer
     ensures { result.status ≢ 0 }
 {
