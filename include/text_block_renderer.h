@@ -72,9 +72,9 @@ typedef enum tbr_status {
     TBR_BAD_ARGUMENT = 8,
     /* What would end has a level inside that is open, or cells that wait for a row. */
     TBR_STILL_OPEN = 9,
-    /* A call that fills, questions or finishes a renderer, after tbr_finish. */
+    /* A call that fills, questions or finishes a renderer, after it was finished. */
     TBR_FINISHED = 10,
-    /* A question for lines, before tbr_finish. */
+    /* A question for lines or the text, before the renderer is finished. */
     TBR_NOT_FINISHED = 11,
     /* No line comes after those that were taken, or none has been taken yet. */
     TBR_NO_LINE = 12,
@@ -241,6 +241,7 @@ typedef struct tbr_handle {
 } tbr_handle;
 
 tbr_answer tbr1_render(const uint8_t *script, size_t length, uint8_t *out, size_t room);
+uint32_t tbr1_text_width(const uint8_t *text, size_t length, size_t *columns);
 uint32_t tbr1_new(const tbr_options *options, tbr_renderer **back);
 void tbr1_free(tbr_handle renderer);
 
@@ -284,6 +285,7 @@ uint32_t tbr1_end_cell(tbr_handle renderer, tbr_renderer **back);
 uint32_t tbr1_add_row(tbr_handle renderer, bool collapse, tbr_renderer **back);
 uint32_t tbr1_add_vertical_row(tbr_handle renderer, tbr_renderer **back);
 uint32_t tbr1_finish(tbr_handle renderer, tbr_renderer **back);
+uint32_t tbr1_finish_text(tbr_handle renderer, size_t *length, tbr_renderer **back);
 
 uint32_t tbr1_refusal(tbr_handle renderer, tbr_renderer **back);
 uint32_t tbr1_is_empty(tbr_handle renderer, bool *is_empty, tbr_renderer **back);
@@ -356,6 +358,20 @@ static inline tbr_answer tbr_render(const char *script, size_t length, char *out
     return tbr1_render(tbr_bytes_of(script), length, tbr_room_of(out, &spare), room);
 }
 
+/* ---- how wide a text is ---- */
+
+/* The columns of a text: those of its characters together, as a renderer counts them. Control characters, as a tab or
+   a newline, take none. TBR_NOT_UTF8 where it isn't UTF-8, and TBR_OUT_OF_MEMORY where its columns pass SIZE_MAX. It
+   takes no memory. */
+static inline tbr_status tbr_text_width_n(const char *text, size_t length, size_t *columns) {
+    return tbr_is_missing(text, length) ? TBR_BAD_ARGUMENT
+                                        : (tbr_status)tbr1_text_width(tbr_bytes_of(text), length, columns);
+}
+
+static inline tbr_status tbr_text_width(const char *text, size_t *columns) {
+    return tbr_text_width_n(text, tbr_length_of(text), columns);
+}
+
 /* ---- making a renderer ---- */
 
 /* Options of a plain renderer of so many columns: lines as wide as it, neither padded nor wider; no footnotes, whose
@@ -397,8 +413,8 @@ static inline void tbr_free(tbr_renderer *renderer) {
 /* ---- filling it: text, blocks and lines ---- */
 
 /*
- * All calls from here to tbr_finish fill the innermost level that is open. Besides what is said at each, they answer
- * TBR_OUT_OF_MEMORY, TBR_TOO_NARROW where they place a word, and TBR_FINISHED after tbr_finish.
+ * All calls from here to tbr_finish_text fill the innermost level that is open. Besides what is said at each, they answer
+ * TBR_OUT_OF_MEMORY, TBR_TOO_NARROW where they place a word, and TBR_FINISHED where the renderer is finished.
  */
 
 /* Adds text. White space counts as the mode says that was pushed last. A text ends no word: two texts without white
@@ -655,12 +671,18 @@ static inline tbr_status tbr_finish(tbr_renderer *renderer) {
     return renderer ? (tbr_status)tbr1_finish(tbr_handle_of(renderer), &renderer) : TBR_NO_RENDERER;
 }
 
+/* The same for a caller who wants the text as a whole. `*length` is the number of its bytes, and tbr_text has it. No
+   line can be taken then: tbr_next_line answers TBR_NO_LINE. It takes less time and memory than tbr_finish. */
+static inline tbr_status tbr_finish_text(tbr_renderer *renderer, size_t *length) {
+    return renderer ? (tbr_status)tbr1_finish_text(tbr_handle_of(renderer), length, &renderer) : TBR_NO_RENDERER;
+}
+
 /* ---- questions to a renderer that is being filled ---- */
 
-/* Those but tbr_refusal answer TBR_FINISHED after tbr_finish. They change nothing, and a refusal of theirs isn't
+/* Those but tbr_refusal answer TBR_FINISHED where it is finished. They change nothing, and a refusal of theirs isn't
    kept. */
 
-/* The refusal that is kept, or TBR_OK, also after tbr_finish. */
+/* The refusal that is kept, or TBR_OK, also where it is finished. */
 static inline tbr_status tbr_refusal(tbr_renderer *renderer) {
     return renderer ? (tbr_status)tbr1_refusal(tbr_handle_of(renderer), &renderer) : TBR_NO_RENDERER;
 }
@@ -754,10 +776,11 @@ static inline tbr_status tbr_header_prefix(tbr_renderer *renderer, size_t level,
 
 /* ---- lines of a renderer that is finished ---- */
 
-/* All calls from here answer TBR_NOT_FINISHED before tbr_finish. */
+/* All calls from here answer TBR_NOT_FINISHED before tbr_finish or tbr_finish_text. */
 
-/* The text of all lines that tbr_next_line hasn't taken, each with a newline. It takes none. TBR_OUT_OF_MEMORY,
-   which is kept. */
+/* The text of all lines that tbr_next_line hasn't taken, each with a newline. It takes none. TBR_OUT_OF_MEMORY, which
+   is kept. At TBR_BUFFER_TOO_SMALL the renderer keeps the text until it is copied or a line is taken, so that a second
+   call doesn't put it together anew. After tbr_finish_text it takes no memory. */
 static inline tbr_status tbr_text(tbr_renderer *renderer, char *out, size_t room, size_t *length) {
     uint8_t spare = 0;
     if (tbr_is_missing(out, room)) {

@@ -172,6 +172,52 @@ static void pieces_that_are_not_there(tbr_renderer *r) {
     WANT(tbr_line_text(r, text, sizeof text, &length), TBR_OK);
 }
 
+/* A renderer that is finished for its text alone is finished, and has no line. */
+static void text_alone(void) {
+    tbr_renderer *r = new_renderer(9);
+    size_t length = 0;
+    char text[16];
+    tbr_line line;
+    WANT(tbr_finish_text(NULL, &length), TBR_NO_RENDERER);
+    WANT(tbr_start_sub(r, 9), TBR_OK);
+    WANT(tbr_add_text(r, "two words"), TBR_OK);
+    WANT(tbr_finish_text(r, &length), TBR_STILL_OPEN);
+    WANT(tbr_append_sub(r, "", ""), TBR_OK);
+    WANT(tbr_finish_text(r, &length), TBR_OK);
+    WANT(tbr_finish_text(r, &length), TBR_FINISHED);
+    WANT(tbr_finish(r), TBR_FINISHED);
+    WANT(tbr_add_text(r, "late"), TBR_FINISHED);
+    WANT(tbr_next_line(r, &line), TBR_NO_LINE);
+    WANT(tbr_line_text(r, text, sizeof text, &length), TBR_NO_LINE);
+    WANT(tbr_text(r, text, 1, &length), TBR_BUFFER_TOO_SMALL);
+    want_text(r, "two words\n");
+    want_text(r, "two words\n");
+    tbr_free(r);
+}
+
+/* ---- widths ---- */
+
+static void want_width(const char *text, size_t wanted) {
+    size_t columns = SIZE_MAX;
+    WANT(tbr_text_width(text, &columns), TBR_OK);
+    if (columns != wanted) {
+        printf("\"%s\" takes %zu columns, not %zu\n", text ? text : "NULL", columns, wanted);
+        failures++;
+    }
+}
+
+/* A CJK character takes two columns, a combining mark and a control character none. */
+static void widths(void) {
+    size_t columns;
+    want_width("", 0);
+    want_width(NULL, 0);
+    want_width(" a b ", 5);
+    want_width("cafe\u0301 漢字", 9);
+    want_width("a\tb\n", 2);
+    WANT(tbr_text_width("\xff", &columns), TBR_NOT_UTF8);
+    WANT(tbr_text_width_n(NULL, 1, &columns), TBR_BAD_ARGUMENT);
+}
+
 static void each_in_one_renderer(void) {
     tbr_options options = tbr_options_default(12);
     tbr_renderer *r;
@@ -260,6 +306,8 @@ int main(void) {
     bad_options();
     no_renderer();
     each_in_one_renderer();
+    text_alone();
+    widths();
     too_narrow();
     row_that_does_not_fit();
     scripts();

@@ -63,16 +63,19 @@ static tbr_status (*const CALLS[])(tbr_renderer *) = {
     tbr_end_background, tbr_end_colour, add_image, add_marker, tbr_add_empty_line, start_quote, add_words,
     append_quote, tbr_add_border, start_tall, add_words, tbr_end_cell, start_flat, add_words, tbr_end_cell, add_row,
     start_tall, tbr_end_cell, start_flat, add_words, tbr_end_cell, add_row, start_flat, add_words, tbr_end_cell,
-    tbr_add_vertical_row, tbr_finish,
+    tbr_add_vertical_row,
 };
 
-/* Takes all lines with their pieces. */
+/* Takes the text, which is put together once for two calls, and then all lines with theirs. */
 static tbr_status take_lines(tbr_renderer *r) {
     tbr_line line;
     tbr_status status;
     size_t length;
     char text[4096];
-    status = tbr_text(r, text, sizeof text, &length);
+    status = tbr_text(r, text, 1, &length);
+    if (status == TBR_BUFFER_TOO_SMALL) {
+        status = tbr_text(r, text, sizeof text, &length);
+    }
     while (status == TBR_OK) {
         status = tbr_next_line(r, &line);
         if (status == TBR_OK) {
@@ -82,8 +85,20 @@ static tbr_status take_lines(tbr_renderer *r) {
     return status == TBR_NO_LINE ? TBR_OK : status;
 }
 
+/* Takes the text alone, for which it takes no memory. */
+static tbr_status take_text(tbr_renderer *r) {
+    size_t length;
+    char text[4096];
+    return tbr_text(r, text, sizeof text, &length);
+}
+
+static tbr_status finish_text(tbr_renderer *r) {
+    size_t length;
+    return tbr_finish_text(r, &length);
+}
+
 /* Makes the document, and answers the first status that isn't TBR_OK. */
-static tbr_status document(void) {
+static tbr_status make(tbr_status (*finish)(tbr_renderer *), tbr_status (*take)(tbr_renderer *)) {
     tbr_options options = tbr_options_default(20);
     tbr_renderer *r;
     options.decorator = TBR_RICH;
@@ -96,7 +111,10 @@ static tbr_status document(void) {
         status = CALLS[i](r);
     }
     if (status == TBR_OK) {
-        status = take_lines(r);
+        status = finish(r);
+    }
+    if (status == TBR_OK) {
+        status = take(r);
     }
     if (status != tbr_refusal(r) || (status != TBR_OK && add_words(r) != status)) {
         status = WRONG;
@@ -104,6 +122,9 @@ static tbr_status document(void) {
     tbr_free(r);
     return status;
 }
+
+static tbr_status document(void) { return make(tbr_finish, take_lines); }
+static tbr_status text_of_document(void) { return make(finish_text, take_text); }
 
 /* ---- questions, which keep no refusal ---- */
 
@@ -159,6 +180,7 @@ static bool refuse_each(const char *what, tbr_status (*run)(void)) {
 
 int main(void) {
     bool is_well = refuse_each("a document", document);
+    is_well = refuse_each("a document's text", text_of_document) && is_well;
     is_well = refuse_each("questions", questions) && is_well;
     is_well = refuse_each("a script", script) && is_well;
     return is_well ? 0 : 1;

@@ -2,8 +2,8 @@
  * Reads a script from standard input, and makes its calls on a renderer one by one. It ends as blockrender does: the
  * same text, the same line on standard error, the same status.
  *
- * Beside that it asks for the lines piece by piece, and for the script as a whole, and ends with status 99 where these
- * aren't the same text.
+ * Beside that it asks for the lines piece by piece, for the text alone, and for the script as a whole, and ends with
+ * status 99 where these aren't the same text.
  */
 #include <stdio.h>
 #include <stdlib.h>
@@ -451,16 +451,15 @@ static tbr_status run_line(tbr_renderer **r, slice line) {
     return opening(line, &options) ? tbr_new(&options, r) : TBR_NOT_A_COMMAND;
 }
 
-/* Makes all calls of a script on a renderer that its first command makes. */
-static outcome run(slice script, tbr_renderer **r) {
-    size_t count = 1;
-    for (; script.length; count++) {
+/* Makes all calls of a script on a renderer that its first command makes. `*end` is the number of the line behind it. */
+static outcome fill(slice script, tbr_renderer **r, size_t *end) {
+    for (*end = 1; script.length; ++*end) {
         tbr_status status = run_line(r, next_line(&script));
         if (status != TBR_OK) {
-            return at_line(status, count);
+            return at_line(status, *end);
         }
     }
-    return at_line(*r ? tbr_finish(*r) : TBR_NOT_A_COMMAND, count);
+    return at_line(*r ? TBR_OK : TBR_NOT_A_COMMAND, *end);
 }
 
 /* ---- what is checked beside ---- */
@@ -539,11 +538,38 @@ static void check_lines(tbr_renderer *r, buffer text) {
         check(tbr_line_text(r, bytes, line.bytes, &length) == TBR_OK && length == line.bytes, "a line");
         check(line.bytes < text.length - at && !memcmp(text.at + at, bytes, line.bytes), "a line's text");
         check(text.at[at + line.bytes] == '\n', "a newline");
+        check(tbr_text_width_n(bytes, line.bytes, &length) == TBR_OK && length == line.columns, "a line's columns");
         at += line.bytes + 1;
         free(bytes);
         check_pieces(r, &line);
     }
     check(status == TBR_NO_LINE && at == text.length, "the last line");
+}
+
+/* That a renderer that is finished for its text alone has the same, and no line. */
+static void check_text_alone(tbr_renderer *r, size_t length, buffer text) {
+    tbr_line line;
+    char *out = memory(length);
+    check(length == text.length, "the length of the text alone");
+    check(tbr_text(r, out, length, &length) == TBR_OK && !memcmp(out, text.at, length), "the text alone");
+    check(tbr_next_line(r, &line) == TBR_NO_LINE, "a line of the text alone");
+    check(tbr_text(r, out, length, &length) == TBR_OK && length == text.length, "the text alone once more");
+    free(out);
+}
+
+/* That the script ends in the same way where the text alone is asked for. */
+static void check_alone(slice script, outcome ended, buffer text) {
+    tbr_renderer *r = NULL;
+    size_t end, length = 0;
+    outcome other = fill(script, &r, &end);
+    if (other.status == TBR_OK) {
+        other = at_line(tbr_finish_text(r, &length), end);
+    }
+    check(other.status == ended.status && other.line == ended.line, "the status of the text alone");
+    if (ended.status == TBR_OK) {
+        check_text_alone(r, length, text);
+    }
+    tbr_free(r);
 }
 
 /* That the script as a whole ends in the same way. */
@@ -588,13 +614,18 @@ int main(void) {
     buffer script = read_all(stdin);
     slice all = {script.at, script.length};
     tbr_renderer *r = NULL;
-    outcome ended = run(all, &r);
+    size_t end;
+    outcome ended = fill(all, &r, &end);
     buffer text = {memory(0), 0};
+    if (ended.status == TBR_OK) {
+        ended = at_line(tbr_finish(r), end);
+    }
     if (ended.status == TBR_OK) {
         free(text.at);
         text = whole_text(r);
         check_lines(r, text);
     }
+    check_alone(all, ended, text);
     check_whole(all, ended, text);
     fwrite(text.at, 1, text.length, stdout);
     free(text.at);

@@ -60,6 +60,13 @@ class Declarations(unittest.TestCase):
         taken = {name: tuple(c_types(parameters)) for name, parameters in calls}
         self.assertEqual(taken, library.CALLS)
 
+    def test_calls_without_a_renderer_are_declared(self) -> None:
+        for name in ("render", "text_width"):
+            parameters = re.search(rf"^\w+ tbr1_{name}\((.*?)\);", self.header, re.M | re.S)
+            assert parameters
+            function = getattr(library.LIBRARY, f"tbr1_{name}")
+            self.assertEqual(list(function.argtypes), c_types(parameters[1]), name)
+
     def test_each_struct_has_its_fields(self) -> None:
         for name, struct in STRUCTS.items():
             fields = re.search(rf"typedef struct {name} {{(.*?)}}", self.header, re.S)

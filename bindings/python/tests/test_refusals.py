@@ -18,6 +18,7 @@ from text_block_renderer import (
     StillOpenError,
     TooNarrowError,
     render_script,
+    text_width,
 )
 
 
@@ -38,6 +39,7 @@ class Refusals(unittest.TestCase):
     def test_a_surrogate_is_no_text(self) -> None:
         with Renderer(20) as renderer:
             self.assertRaises(NotUtf8Error, renderer.add_inline_text, "\ud800")
+            self.assertRaises(NotUtf8Error, text_width, "\ud800")
             renderer.add_inline_text("a")
             self.assertEqual(renderer.into_string(), "a\n")
 

@@ -105,6 +105,7 @@ CALLS: dict[str, tuple[type[Any], ...]] = {
     "add_row": (c_bool,),
     "add_vertical_row": (),
     "finish": (),
+    "finish_text": _SIZE,
     "refusal": (),
     "is_empty": _FLAG,
     "has_overhang": _FLAG,
@@ -158,6 +159,8 @@ def _declare(library: ctypes.CDLL) -> None:
     library.tbr1_free.restype = None
     library.tbr1_render.argtypes = (c_char_p, c_size_t, c_char_p, c_size_t)
     library.tbr1_render.restype = Answer
+    library.tbr1_text_width.argtypes = (*_TEXT, *_SIZE)
+    library.tbr1_text_width.restype = c_uint32
 
 
 LIBRARY = load()

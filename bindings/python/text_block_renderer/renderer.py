@@ -101,8 +101,8 @@ class Renderer:
 
     def into_string(self) -> str:
         """The text of its lines, each with a newline. It can't be filled any more, and refuses as `into_lines` does."""
-        self._owned.call("finish")
-        return self._owned.text(0, "text")
+        length = self._owned.number("finish_text")
+        return self._owned.text(length, "text")
 
     def _lines(self) -> Iterator[TaggedLine]:
         while True:

@@ -1,21 +1,17 @@
 """How wide texts are."""
 
-from .options import Decorator, WhiteSpace
-from .renderer import Renderer
+from ctypes import byref, c_size_t
 
-# Wider than any text that fits the memory.
-_WIDEST = 2**63
-# What a renderer takes for more than a character without columns.
-_LAID_OUT = str.maketrans("", "", "\n\t")
-# Comes after white space, which a line doesn't end in.
-_LAST = "."
+from ._library import LIBRARY
+from .errors import check
 
 
 def text_width(text: str) -> int:
-    """The columns that the characters of a text take; control characters, as a tab or a newline, take none."""
-    if text.isascii() and text.isprintable():
-        return len(text)
-    with Renderer(_WIDEST, Decorator.TRIVIAL) as renderer:
-        renderer.push_ws(WhiteSpace.PRE)
-        renderer.add_inline_text(text.translate(_LAID_OUT) + _LAST)
-        return sum(line.width for line in renderer.into_lines()) - len(_LAST)
+    """The columns of a text: those of its characters together, as a renderer counts them.
+
+    Control characters, as a tab or a newline, take none. `NotUtf8Error` where it has a surrogate.
+    """
+    encoded = text.encode("utf-8", "surrogatepass")
+    columns = c_size_t()
+    check(LIBRARY.tbr1_text_width(encoded, len(encoded), byref(columns)))
+    return columns.value

@@ -38,9 +38,15 @@ impl Lines {
 
     /// The text of the lines that weren't taken yet, each with a newline. It takes none.
     pub fn text(&self) -> Result<String, Error> {
+        self.text_of(0)
+    }
+
+    /// The same, where so many bytes are expected.
+    pub(crate) fn text_of(&self, bytes: usize) -> Result<String, Error> {
         // SAFETY: the renderer is live, and so is the room.
-        self.handle
-            .text(0, |it, out, length, back| unsafe { sys::tbr1_text(it, out.as_mut_ptr(), out.len(), length, back) })
+        self.handle.text(bytes, |it, out, length, back| unsafe {
+            sys::tbr1_text(it, out.as_mut_ptr(), out.len(), length, back)
+        })
     }
 
     fn take(&mut self) -> Result<TaggedLine, Error> {

@@ -43,7 +43,9 @@ impl Renderer {
 
     /// The text of its lines, each with a newline. It refuses as [`into_lines`](Renderer::into_lines) does.
     pub fn into_string(self) -> Result<String, Error> {
-        self.into_lines()?.text()
+        // SAFETY: the renderer is live, and so is the answer.
+        let bytes = self.handle.ask(|it, bytes, back| unsafe { sys::tbr1_finish_text(it, bytes, back) })?;
+        Lines::new(self.handle).text_of(bytes)
     }
 }
 

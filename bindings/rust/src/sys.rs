@@ -81,6 +81,7 @@ pub struct Annotation {
 
 extern "C" {
     pub fn tbr1_render(script: *const u8, length: usize, out: *mut u8, room: usize) -> Answer;
+    pub fn tbr1_text_width(text: *const u8, length: usize, columns: &mut usize) -> u32;
     pub fn tbr1_new(options: &Options, back: Back) -> u32;
     pub fn tbr1_free(renderer: Handle);
 
@@ -136,6 +137,7 @@ extern "C" {
     pub fn tbr1_add_row(renderer: Handle, collapse: bool, back: Back) -> u32;
     pub fn tbr1_add_vertical_row(renderer: Handle, back: Back) -> u32;
     pub fn tbr1_finish(renderer: Handle, back: Back) -> u32;
+    pub fn tbr1_finish_text(renderer: Handle, length: &mut usize, back: Back) -> u32;
 
     pub fn tbr1_refusal(renderer: Handle, back: Back) -> u32;
     pub fn tbr1_is_empty(renderer: Handle, is_empty: &mut bool, back: Back) -> u32;

@@ -1,24 +1,32 @@
 -- What is answered to C.
-use Rattle.std.specs.Prelude.{◌≡◌, ℕ, ◌≤◌, ◌<◌, ◌++◌, Result, List, length, drop}
+use Rattle.std.specs.Prelude.{◌≡◌, ◌≢◌, ℕ, Result, OnOk, IfErr, List}
+use Rattle.tbr_commands.specs.Command.{Command}
 use Rattle.tbr_c_lines.specs.Status.{status_of}
 use Rattle.tbr_c_lines.specs.Line.{Line, size_of}
 use Rattle.tbr_c_lines.specs.Lines.{NoneLeft, TakesFirst}
 use Rattle.tbr_c_lines.specs.declared.fault.Fault.{Fault}
+use Rattle.tbr_c_lines.specs.declared.fault.Fault.TheVariants as fault
 use Rattle.tbr_c_lines.specs.declared.line.LineSize.{LineSize}
 use Rattle.tbr_c_lines.specs.declared.lines.Rest.{Rest}
 use Rattle.tbr_c.specs.declared.state.State.{State}
 use Rattle.tbr_c.specs.declared.state.State.TheVariants.{Finished}
-use Rattle.tbr_c.specs.State.{HasEnded}
+use Rattle.tbr_c.specs.State.{HasEnded, Does, Refuses, CopiesRest}
 
--- The status is that of a call that did nothing, where the renderer is finished or keeps a refusal.
-abbrev pub HasStatus : State → ℕ → Type 0
-HasStatus state status = (done : Result (Unit {0}) Fault) × HasEnded state done × (status ≡ status_of done)
+-- What is answered to a command, but for want of memory: it was done, or is refused as in a script.
+pub record IsAnswer (state : State) (command : Command) (done : Result (Unit {0}) Fault) : Type 0 where
+  pub ended : HasEnded state done
+  pub does : OnOk done ((next : State) × Does state command next)
+  pub refused : IfErr done (λ f. f ≢ fault.OutOfMemory → Refuses state command f)
 
--- A text was copied where the buffer has room for all of it, and nothing was where it hasn't; its length is told.
-pub record IsCopied (text before after : List ℕ) (needed status : ℕ) : Type 0 where
-  pub needed_is : needed ≡ length text
-  pub whole : length text ≤ length before → (status ≡ 0) × (after ≡ text ++ drop (length text) before)
-  pub small : length before < length text → (status ≡ 14) × (after ≡ before)
+-- The status is that of an answer to this command.
+abbrev pub HasStatus : State → Command → ℕ → Type 0
+HasStatus state command status =
+    (done : Result (Unit {0}) Fault) × IsAnswer state command done × (status ≡ status_of done)
+
+-- The status is that of an answer to a question for the text.
+abbrev pub IsRestCopied : State → List ℕ → List ℕ → ℕ → ℕ → Type 0
+IsRestCopied state before after needed status =
+    (done : Result (Unit {0}) Fault) × CopiesRest state before after needed done × (status ≡ status_of done)
 
 -- A line of this size is the first of those that weren't taken.
 abbrev pub IsSizeOfNext : State → LineSize → Type 0

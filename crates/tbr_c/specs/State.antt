@@ -1,7 +1,14 @@
 -- How far a renderer is that C holds.
-use Rattle.std.specs.Prelude.{◌≡◌, ℕ, Option, None, Some, Result, Err, List, [], chars}
-use Rattle.tbr_runner.specs.Progress.{GoesOn}
-use Rattle.tbr_c_lines.specs.Status.{fault_of}
+use Rattle.std.specs.Prelude.{◌≡◌, ◌≢◌, ℕ, Option, None, Some, Result, Err, MatchResult, List, [], chars}
+use Rattle.tbr_lines.specs.UnicodeColumns.{unicode_columns}
+use Rattle.tbr_decor.specs.Style.{style_of}
+use Rattle.tbr_script.specs.declared.error.RunError.{RunError}
+use Rattle.tbr_commands.specs.Command.{Command}
+use Rattle.tbr_runner.specs.Progress.{GoesOn, progress_meant}
+use Rattle.tbr_runner.specs.Decorations.{plain_decoration, trivial_decoration, rich_decoration}
+use Rattle.tbr_runner.specs.Meaning.{CommandDoes, CommandRefuses, Ends}
+use Rattle.tbr_c_lines.specs.Copied.{IsCopied}
+use Rattle.tbr_c_lines.specs.Status.{fault_of, fault_of_command, status_of}
 use Rattle.tbr_c_lines.specs.Line.{Line, size_of}
 use Rattle.tbr_c_lines.specs.Lines.{NoneLeft, TakesFirst, text_of}
 use Rattle.tbr_c_lines.specs.declared.line.LineSize.{LineSize}
@@ -19,13 +26,13 @@ CanGoOn (Rich program) = GoesOn program
 CanGoOn (Finished lines) = Unit {0}
 CanGoOn (Refused e) = Unit {0}
 
--- no level is open in it, and no cell waits
+-- calls go in, no level is open, and no cell waits
 abbrev pub MayFinish : State → Type 0
 MayFinish (Plain program) = (program.opened ≡ []) × (program.pending.cells ≡ [])
 MayFinish (Trivial program) = (program.opened ≡ []) × (program.pending.cells ≡ [])
 MayFinish (Rich program) = (program.opened ≡ []) × (program.pending.cells ≡ [])
-MayFinish (Finished lines) = Unit {0}
-MayFinish (Refused e) = Unit {0}
+MayFinish (Finished lines) = ⊥
+MayFinish (Refused e) = ⊥
 
 -- a refusal that is kept
 abbrev pub IsKept : Fault → Type 0
@@ -40,6 +47,46 @@ HasEnded (Refused e) result = result ≡ Err (fault_of e)
 HasEnded (Plain program) result = Unit {0}
 HasEnded (Trivial program) result = Unit {0}
 HasEnded (Rich program) result = Unit {0}
+
+-- ---- a command
+
+-- It leads from one state to another under the same decorator, as it does in a script.
+abbrev pub Does : State → Command → State → Type 0
+Does (Plain p) command (Plain q) =
+    CommandDoes unicode_columns plain_decoration (progress_meant (λ a. a) p) command (progress_meant (λ a. a) q)
+Does (Trivial p) command (Trivial q) =
+    CommandDoes unicode_columns trivial_decoration (progress_meant (λ a. a) p) command (progress_meant (λ a. a) q)
+Does (Rich p) command (Rich q) =
+    CommandDoes unicode_columns rich_decoration (progress_meant style_of p) command (progress_meant style_of q)
+Does (Plain p) command other = ⊥
+Does (Trivial p) command other = ⊥
+Does (Rich p) command other = ⊥
+Does (Finished lines) command other = ⊥
+Does (Refused e) command other = ⊥
+
+-- With what it is refused, but for want of memory: as in a script, whose lines don't count here.
+abbrev pub Refuses : State → Command → Fault → Type 0
+Refuses (Plain p) command f =
+    (e : RunError) × CommandRefuses unicode_columns plain_decoration (progress_meant (λ a. a) p) 0 command e
+    × (f ≡ fault_of_command e)
+Refuses (Trivial p) command f =
+    (e : RunError) × CommandRefuses unicode_columns trivial_decoration (progress_meant (λ a. a) p) 0 command e
+    × (f ≡ fault_of_command e)
+Refuses (Rich p) command f =
+    (e : RunError) × CommandRefuses unicode_columns rich_decoration (progress_meant style_of p) 0 command e
+    × (f ≡ fault_of_command e)
+Refuses (Finished lines) command f = f ≡ fault.Finished
+Refuses (Refused e) command f = f ≡ fault_of e
+
+-- ---- the end
+
+-- What the end gives, as that of a script: its text, with the footnotes of its links, or a refusal.
+abbrev pub EndsAs : State → Result (List ℕ) RunError → Type 0
+EndsAs (Plain p) outcome = Ends unicode_columns plain_decoration (progress_meant (λ a. a) p) 0 outcome
+EndsAs (Trivial p) outcome = Ends unicode_columns trivial_decoration (progress_meant (λ a. a) p) 0 outcome
+EndsAs (Rich p) outcome = Ends unicode_columns rich_decoration (progress_meant style_of p) 0 outcome
+EndsAs (Finished lines) outcome = ⊥
+EndsAs (Refused e) outcome = ⊥
 
 -- ---- its lines
 
@@ -74,7 +121,18 @@ abbrev pub current_of : State → Option Line
 current_of (Finished lines) = lines.current
 current_of other = None
 
--- These are the bytes of all lines that weren't taken, each with a newline.
-abbrev pub IsRest : State → List ℕ → Type 0
-IsRest (Finished lines) bytes = chars bytes ≡ text_of lines.rest
-IsRest other bytes = ⊥
+-- Its lines have these bytes, each with a newline, and none was taken yet.
+abbrev pub HasText : State → List ℕ → Type 0
+HasText (Finished lines) bytes = (chars bytes ≡ text_of lines.rest) × (lines.current ≡ None)
+HasText other bytes = ⊥
+
+-- What is answered to a question for the text of all lines that weren't taken, each with a newline: it is copied, or
+-- memory for it is missing.
+abbrev pub CopiesRest : State → List ℕ → List ℕ → ℕ → Result (Unit {0}) Fault → Type 0
+CopiesRest (Finished lines) before after needed done =
+    done ≢ Err fault.OutOfMemory → (text : List ℕ) × (chars text ≡ text_of lines.rest)
+    × IsCopied text before after needed (status_of done)
+CopiesRest (Refused e) before after needed done = done ≡ Err (fault_of e)
+CopiesRest (Plain program) before after needed done = done ≡ Err fault.NotFinished
+CopiesRest (Trivial program) before after needed done = done ≡ Err fault.NotFinished
+CopiesRest (Rich program) before after needed done = done ≡ Err fault.NotFinished

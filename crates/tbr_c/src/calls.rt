@@ -1,12 +1,20 @@
 //! Calls that fill a renderer.
+ghost use Rattle.std.specs.Prelude.{◌≡◌, ◌≢◌, ℕ, List, None, Some, Ok, length as length_of};
+ghost use Rattle.tbr_decor.specs.Ground as ground;
 ghost use Rattle.tbr_commands.specs.Command.{command_of, IsSized};
+ghost use Rattle.tbr_commands.specs.Command as command;
+ghost use Rattle.tbr_commands.specs.Request as request;
+ghost use Rattle.tbr_commands.specs.declared.request.layout.Layout.TheVariants as layout;
+ghost use Rattle.tbr_commands.specs.declared.request.beginning.Beginning.TheVariants as begun;
+ghost use Rattle.tbr_commands.specs.declared.request.kind.Kind.TheVariants as kind;
+ghost use Rattle.tbr_c.specs.State.{EndsAs};
 ghost use Rattle.tbr_c.specs.Answers.{HasStatus};
 
 use crate::handle::{Handle, hand_back};
 use crate::held::Held;
 use crate::options::Options;
 use std::alloc::Global;
-use tbr_c_lines::{Fault, status};
+use tbr_c_lines::{Fault, answer, status};
 use tbr_commands::{Beginning, Command, Kind, Layout, NewCell, Request};
 use tbr_decor::Colour;
 use tbr_lines::{CellAlign, WhiteSpace};
@@ -15,7 +23,7 @@ use tbr_script::TextPair;
 /// A renderer, or why there is none.
 fn made(alloc: Global, options: &Options) -> Result<Box<Held>, Fault> {
     let held = Held::new(alloc, options.opening()?)?;
-    Ok(Box::new(alloc, held)?)
+    Box::new(alloc, held).map_err(|_| Fault::OutOfMemory)
 }
 
 /// Makes a renderer.
@@ -39,7 +47,7 @@ pub extern "C" fn tbr1_free(renderer: Handle) {
 /// Does what a command asks for.
 fn run(renderer: Handle, command: &Command, back: &mut *mut u8) -> u32
     requires { IsSized (command_of command.now) }
-    ensures { HasStatus renderer.value result }
+    ensures { HasStatus renderer.value (command_of command.now) result }
 {
     let mut held = renderer.open();
     let done = held.run(command);
@@ -61,7 +69,9 @@ fn add_text(held: &mut Held, text: &[u8]) -> Result<(), Fault> {
 }
 
 #[unsafe(no_mangle)]
-pub extern "C" fn tbr1_start_block(renderer: Handle, back: &mut *mut u8) -> u32 {
+pub extern "C" fn tbr1_start_block(renderer: Handle, back: &mut *mut u8) -> u32
+    ensures { HasStatus renderer.value (command.ask (request.layout layout.StartBlock)) result }
+{
     run(
         renderer,
         &Command::Ask(Request::Layout(Layout::StartBlock)),
@@ -70,7 +80,9 @@ pub extern "C" fn tbr1_start_block(renderer: Handle, back: &mut *mut u8) -> u32 
 }
 
 #[unsafe(no_mangle)]
-pub extern "C" fn tbr1_end_block(renderer: Handle, back: &mut *mut u8) -> u32 {
+pub extern "C" fn tbr1_end_block(renderer: Handle, back: &mut *mut u8) -> u32
+    ensures { HasStatus renderer.value (command.ask (request.layout layout.EndBlock)) result }
+{
     run(
         renderer,
         &Command::Ask(Request::Layout(Layout::EndBlock)),
@@ -79,7 +91,9 @@ pub extern "C" fn tbr1_end_block(renderer: Handle, back: &mut *mut u8) -> u32 {
 }
 
 #[unsafe(no_mangle)]
-pub extern "C" fn tbr1_start_table(renderer: Handle, back: &mut *mut u8) -> u32 {
+pub extern "C" fn tbr1_start_table(renderer: Handle, back: &mut *mut u8) -> u32
+    ensures { HasStatus renderer.value (command.ask (request.layout layout.StartTable)) result }
+{
     run(
         renderer,
         &Command::Ask(Request::Layout(Layout::StartTable)),
@@ -88,7 +102,9 @@ pub extern "C" fn tbr1_start_table(renderer: Handle, back: &mut *mut u8) -> u32 
 }
 
 #[unsafe(no_mangle)]
-pub extern "C" fn tbr1_new_line(renderer: Handle, back: &mut *mut u8) -> u32 {
+pub extern "C" fn tbr1_new_line(renderer: Handle, back: &mut *mut u8) -> u32
+    ensures { HasStatus renderer.value (command.ask (request.layout layout.NewLine)) result }
+{
     run(
         renderer,
         &Command::Ask(Request::Layout(Layout::NewLine)),
@@ -97,7 +113,9 @@ pub extern "C" fn tbr1_new_line(renderer: Handle, back: &mut *mut u8) -> u32 {
 }
 
 #[unsafe(no_mangle)]
-pub extern "C" fn tbr1_new_line_hard(renderer: Handle, back: &mut *mut u8) -> u32 {
+pub extern "C" fn tbr1_new_line_hard(renderer: Handle, back: &mut *mut u8) -> u32
+    ensures { HasStatus renderer.value (command.ask (request.layout layout.HardNewLine)) result }
+{
     run(
         renderer,
         &Command::Ask(Request::Layout(Layout::HardNewLine)),
@@ -106,7 +124,9 @@ pub extern "C" fn tbr1_new_line_hard(renderer: Handle, back: &mut *mut u8) -> u3
 }
 
 #[unsafe(no_mangle)]
-pub extern "C" fn tbr1_add_empty_line(renderer: Handle, back: &mut *mut u8) -> u32 {
+pub extern "C" fn tbr1_add_empty_line(renderer: Handle, back: &mut *mut u8) -> u32
+    ensures { HasStatus renderer.value (command.ask (request.layout layout.EmptyLine)) result }
+{
     run(
         renderer,
         &Command::Ask(Request::Layout(Layout::EmptyLine)),
@@ -116,17 +136,15 @@ pub extern "C" fn tbr1_add_empty_line(renderer: Handle, back: &mut *mut u8) -> u
 
 #[unsafe(no_mangle)]
 pub extern "C" fn tbr1_add_border(renderer: Handle, back: &mut *mut u8) -> u32
-    ensures { HasStatus renderer.value result }
+    ensures { HasStatus renderer.value (command.ask (request.border None)) result }
 {
     run(renderer, &Command::Ask(Request::Border(None)), back)
 }
 
 #[unsafe(no_mangle)]
-pub extern "C" fn tbr1_add_border_width(
-    renderer: Handle,
-    columns: usize,
-    back: &mut *mut u8,
-) -> u32 {
+pub extern "C" fn tbr1_add_border_width(renderer: Handle, columns: usize, back: &mut *mut u8) -> u32
+    ensures { HasStatus renderer.value (command.ask (request.border (Some columns))) result }
+{
     run(
         renderer,
         &Command::Ask(Request::Border(Some(columns))),
@@ -154,13 +172,15 @@ fn push_white_space(held: &mut Held, mode: u32) -> Result<(), Fault> {
 
 #[unsafe(no_mangle)]
 pub extern "C" fn tbr1_pop_white_space(renderer: Handle, back: &mut *mut u8) -> u32
-    ensures { HasStatus renderer.value result }
+    ensures { HasStatus renderer.value (command.ask (request.end kind.Mode)) result }
 {
     run(renderer, &Command::Ask(Request::End(Kind::Mode)), back)
 }
 
 #[unsafe(no_mangle)]
-pub extern "C" fn tbr1_start_preformatted(renderer: Handle, back: &mut *mut u8) -> u32 {
+pub extern "C" fn tbr1_start_preformatted(renderer: Handle, back: &mut *mut u8) -> u32
+    ensures { HasStatus renderer.value (command.ask (request.begin begun.Preformat)) result }
+{
     run(
         renderer,
         &Command::Ask(Request::Begin(Beginning::Preformat)),
@@ -170,7 +190,7 @@ pub extern "C" fn tbr1_start_preformatted(renderer: Handle, back: &mut *mut u8) 
 
 #[unsafe(no_mangle)]
 pub extern "C" fn tbr1_end_preformatted(renderer: Handle, back: &mut *mut u8) -> u32
-    ensures { HasStatus renderer.value result }
+    ensures { HasStatus renderer.value (command.ask (request.end kind.Preformat)) result }
 {
     run(renderer, &Command::Ask(Request::End(Kind::Preformat)), back)
 }
@@ -190,13 +210,15 @@ fn start_link(held: &mut Held, target: &[u8]) -> Result<(), Fault> {
 
 #[unsafe(no_mangle)]
 pub extern "C" fn tbr1_end_link(renderer: Handle, back: &mut *mut u8) -> u32
-    ensures { HasStatus renderer.value result }
+    ensures { HasStatus renderer.value command.end_link result }
 {
     run(renderer, &Command::EndLink, back)
 }
 
 #[unsafe(no_mangle)]
-pub extern "C" fn tbr1_start_emphasis(renderer: Handle, back: &mut *mut u8) -> u32 {
+pub extern "C" fn tbr1_start_emphasis(renderer: Handle, back: &mut *mut u8) -> u32
+    ensures { HasStatus renderer.value (command.ask (request.begin begun.Emphasis)) result }
+{
     run(
         renderer,
         &Command::Ask(Request::Begin(Beginning::Emphasis)),
@@ -206,13 +228,15 @@ pub extern "C" fn tbr1_start_emphasis(renderer: Handle, back: &mut *mut u8) -> u
 
 #[unsafe(no_mangle)]
 pub extern "C" fn tbr1_end_emphasis(renderer: Handle, back: &mut *mut u8) -> u32
-    ensures { HasStatus renderer.value result }
+    ensures { HasStatus renderer.value (command.ask (request.end kind.Emphasis)) result }
 {
     run(renderer, &Command::Ask(Request::End(Kind::Emphasis)), back)
 }
 
 #[unsafe(no_mangle)]
-pub extern "C" fn tbr1_start_strong(renderer: Handle, back: &mut *mut u8) -> u32 {
+pub extern "C" fn tbr1_start_strong(renderer: Handle, back: &mut *mut u8) -> u32
+    ensures { HasStatus renderer.value (command.ask (request.begin begun.Strong)) result }
+{
     run(
         renderer,
         &Command::Ask(Request::Begin(Beginning::Strong)),
@@ -222,13 +246,15 @@ pub extern "C" fn tbr1_start_strong(renderer: Handle, back: &mut *mut u8) -> u32
 
 #[unsafe(no_mangle)]
 pub extern "C" fn tbr1_end_strong(renderer: Handle, back: &mut *mut u8) -> u32
-    ensures { HasStatus renderer.value result }
+    ensures { HasStatus renderer.value (command.ask (request.end kind.Strong)) result }
 {
     run(renderer, &Command::Ask(Request::End(Kind::Strong)), back)
 }
 
 #[unsafe(no_mangle)]
-pub extern "C" fn tbr1_start_strikeout(renderer: Handle, back: &mut *mut u8) -> u32 {
+pub extern "C" fn tbr1_start_strikeout(renderer: Handle, back: &mut *mut u8) -> u32
+    ensures { HasStatus renderer.value (command.ask (request.begin begun.Strikeout)) result }
+{
     run(
         renderer,
         &Command::Ask(Request::Begin(Beginning::Strikeout)),
@@ -238,13 +264,15 @@ pub extern "C" fn tbr1_start_strikeout(renderer: Handle, back: &mut *mut u8) -> 
 
 #[unsafe(no_mangle)]
 pub extern "C" fn tbr1_end_strikeout(renderer: Handle, back: &mut *mut u8) -> u32
-    ensures { HasStatus renderer.value result }
+    ensures { HasStatus renderer.value (command.ask (request.end kind.Strikeout)) result }
 {
     run(renderer, &Command::Ask(Request::End(Kind::Strikeout)), back)
 }
 
 #[unsafe(no_mangle)]
-pub extern "C" fn tbr1_start_code(renderer: Handle, back: &mut *mut u8) -> u32 {
+pub extern "C" fn tbr1_start_code(renderer: Handle, back: &mut *mut u8) -> u32
+    ensures { HasStatus renderer.value (command.ask (request.begin begun.Code)) result }
+{
     run(
         renderer,
         &Command::Ask(Request::Begin(Beginning::Code)),
@@ -254,13 +282,15 @@ pub extern "C" fn tbr1_start_code(renderer: Handle, back: &mut *mut u8) -> u32 {
 
 #[unsafe(no_mangle)]
 pub extern "C" fn tbr1_end_code(renderer: Handle, back: &mut *mut u8) -> u32
-    ensures { HasStatus renderer.value result }
+    ensures { HasStatus renderer.value (command.ask (request.end kind.Code)) result }
 {
     run(renderer, &Command::Ask(Request::End(Kind::Code)), back)
 }
 
 #[unsafe(no_mangle)]
-pub extern "C" fn tbr1_start_superscript(renderer: Handle, back: &mut *mut u8) -> u32 {
+pub extern "C" fn tbr1_start_superscript(renderer: Handle, back: &mut *mut u8) -> u32
+    ensures { HasStatus renderer.value (command.ask (request.begin begun.Superscript)) result }
+{
     run(
         renderer,
         &Command::Ask(Request::Begin(Beginning::Superscript)),
@@ -269,7 +299,9 @@ pub extern "C" fn tbr1_start_superscript(renderer: Handle, back: &mut *mut u8) -
 }
 
 #[unsafe(no_mangle)]
-pub extern "C" fn tbr1_end_superscript(renderer: Handle, back: &mut *mut u8) -> u32 {
+pub extern "C" fn tbr1_end_superscript(renderer: Handle, back: &mut *mut u8) -> u32
+    ensures { HasStatus renderer.value (command.ask (request.end kind.Superscript)) result }
+{
     run(
         renderer,
         &Command::Ask(Request::End(Kind::Superscript)),
@@ -285,7 +317,8 @@ pub extern "C" fn tbr1_start_colour(
     blue: u8,
     back: &mut *mut u8,
 ) -> u32
-    ensures { HasStatus renderer.value result }
+    ensures { HasStatus renderer.value
+        (command.ask (request.colour ground.text (record { r = red; g = green; b = blue }))) result }
 {
     let colour = Colour {
         r: red,
@@ -297,7 +330,7 @@ pub extern "C" fn tbr1_start_colour(
 
 #[unsafe(no_mangle)]
 pub extern "C" fn tbr1_end_colour(renderer: Handle, back: &mut *mut u8) -> u32
-    ensures { HasStatus renderer.value result }
+    ensures { HasStatus renderer.value (command.ask (request.end kind.Colour)) result }
 {
     run(renderer, &Command::Ask(Request::End(Kind::Colour)), back)
 }
@@ -310,7 +343,8 @@ pub extern "C" fn tbr1_start_background(
     blue: u8,
     back: &mut *mut u8,
 ) -> u32
-    ensures { HasStatus renderer.value result }
+    ensures { HasStatus renderer.value
+        (command.ask (request.colour ground.background (record { r = red; g = green; b = blue }))) result }
 {
     let colour = Colour {
         r: red,
@@ -321,7 +355,9 @@ pub extern "C" fn tbr1_start_background(
 }
 
 #[unsafe(no_mangle)]
-pub extern "C" fn tbr1_end_background(renderer: Handle, back: &mut *mut u8) -> u32 {
+pub extern "C" fn tbr1_end_background(renderer: Handle, back: &mut *mut u8) -> u32
+    ensures { HasStatus renderer.value (command.ask (request.end kind.Background)) result }
+{
     run(
         renderer,
         &Command::Ask(Request::End(Kind::Background)),
@@ -433,21 +469,21 @@ fn start_cell(held: &mut Held, width: usize, span: usize, alignment: u32) -> Res
 
 #[unsafe(no_mangle)]
 pub extern "C" fn tbr1_end_cell(renderer: Handle, back: &mut *mut u8) -> u32
-    ensures { HasStatus renderer.value result }
+    ensures { HasStatus renderer.value command.end_cell result }
 {
     run(renderer, &Command::EndCell, back)
 }
 
 #[unsafe(no_mangle)]
 pub extern "C" fn tbr1_add_row(renderer: Handle, collapse: bool, back: &mut *mut u8) -> u32
-    ensures { HasStatus renderer.value result }
+    ensures { HasStatus renderer.value (command.row collapse) result }
 {
     run(renderer, &Command::Row { collapse }, back)
 }
 
 #[unsafe(no_mangle)]
 pub extern "C" fn tbr1_add_vertical_row(renderer: Handle, back: &mut *mut u8) -> u32
-    ensures { HasStatus renderer.value result }
+    ensures { HasStatus renderer.value command.vertical_row result }
 {
     run(renderer, &Command::VerticalRow, back)
 }
@@ -459,4 +495,17 @@ pub extern "C" fn tbr1_finish(renderer: Handle, back: &mut *mut u8) -> u32 {
     let done = held.finish();
     hand_back(held, back);
     status(done)
+}
+
+/// Ends the last line, and lets the text of all lines be taken.
+#[unsafe(no_mangle)]
+pub extern "C" fn tbr1_finish_text(renderer: Handle, length: &mut usize, back: &mut *mut u8) -> u32
+    ensures text { result ≡ 0 → (text : List ℕ) × EndsAs renderer.value (Ok text)
+        × (length.new ≡ length_of text) }
+    ensures left { result ≢ 0 → length.new ≡ length.old }
+{
+    let mut held = renderer.open();
+    let count = held.finish_text();
+    hand_back(held, back);
+    status(answer(count, length))
 }

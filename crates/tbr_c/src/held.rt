@@ -1,6 +1,7 @@
 //! What C holds.
-ghost use Rattle.std.specs.Prelude.{◌≡◌, ◌≢◌, ◌<◌, None, Some, IfOk, IfErr, MatchResult, string_bytes};
-ghost use Rattle.tbr_c.specs.State.{HasEnded, IsKept, HasNoNext, TakesLine, current_of, IsRest};
+ghost use Rattle.std.specs.Prelude.{◌≡◌, ◌≢◌, ◌<◌, ℕ, List, None, Some, Ok, IfOk, IfErr, OnOk, MatchResult, length};
+ghost use Rattle.tbr_c.specs.State.{CanGoOn, MayFinish, HasEnded, Does, Refuses, IsKept, EndsAs, HasText, HasNoNext, TakesLine, current_of, CopiesRest};
+ghost use Rattle.tbr_c_lines.specs.Status.{fault_of};
 ghost use Rattle.tbr_c_lines.specs.declared.fault.Fault.TheVariants as F;
 ghost use Rattle.tbr_commands.specs.Command.{command_of, IsSized};
 
@@ -8,7 +9,7 @@ use crate::state::{Facts, State};
 use std::alloc::Global;
 use std::marker::Model;
 use std::{mem, str};
-use tbr_c_lines::{Fault, Line, LineSize};
+use tbr_c_lines::{Fault, Line, LineSize, Lines, Rest};
 use tbr_commands::{Command, Opening};
 use tbr_lines::Error;
 use tbr_runner::DecoratorPrefix;
@@ -48,6 +49,9 @@ impl Held {
     /// refusal answers that, and one that is finished `Finished`.
     pub fn run(&mut self, command: &Command) -> Result<(), Fault>
         requires { IsSized (command_of command.now) }
+        ensures done { OnOk result (Does self.old (command_of command.now) self.new) }
+        ensures refused { IfErr result (λ fault. fault ≢ F.OutOfMemory →
+            Refuses self.old (command_of command.now) fault) }
         ensures ended { HasEnded self.old result }
         ensures left { IfErr result (λ fault. (IsKept fault → ⊥) → self.new ≡ self.old) }
     {
@@ -61,29 +65,62 @@ impl Held {
         let Ok(text) = str::from_utf8(bytes) else {
             return Err(Fault::NotUtf8);
         };
-        let copy = String::from_str(self.alloc, text).map_err(Fault::from);
+        let copy = String::from_str(self.alloc, text).map_err(|_| Fault::OutOfMemory);
         self.state.keep(copy)
     }
 
     /// Ends the last line, and lets the lines be taken.
     ///
     /// `StillOpen` where a level is open or cells wait. It refuses as `run` does.
-    pub fn finish(&mut self) -> Result<(), Fault> {
-        let facts = self.state.facts()?;
-        if facts.open_levels > 0 || facts.waiting_cells > 0 {
-            return Err(Fault::StillOpen);
-        }
-        let filled = mem::replace(&mut self.state, State::Refused(Error::OutOfMemory));
-        match filled.into_lines() {
+    pub fn finish(&mut self) -> Result<(), Fault>
+        ensures { HasEnded self.old result }
+    {
+        match self.take_closed()?.into_lines() {
             Ok(lines) => {
                 self.state = State::Finished(lines);
                 Ok(())
             }
-            Err(e) => {
-                self.state = State::Refused(e);
-                Err(Fault::from(e))
-            }
+            Err(e) => Err(self.refuse(e)),
         }
+    }
+
+    /// Ends the last line, and lets the text of all lines be taken, but none of them. It answers the bytes of the text.
+    ///
+    /// It refuses as `finish` does.
+    pub fn finish_text(&mut self) -> Result<usize, Fault>
+        ensures text { IfOk result (λ count. (text : List ℕ) × EndsAs self.old (Ok text) × HasText self.new text
+            × (count ≡ length text)) }
+        ensures ended { HasEnded self.old result }
+    {
+        match self.take_closed()?.into_text() {
+            Ok(text) => {
+                let count = text.len();
+                self.state = State::Finished(Lines::new(Rest::Text(text)));
+                Ok(count)
+            }
+            Err(e) => Err(self.refuse(e)),
+        }
+    }
+
+    /// Takes what is filled, where no level is open and no cell waits. `StillOpen` where it isn't so.
+    fn take_closed(&mut self) -> Result<State, Fault>
+        ensures taken { IfOk result (λ state. (state ≡ self.old) × CanGoOn state × MayFinish state) }
+        ensures left { IfErr result (λ _. self.new ≡ self.old) }
+        ensures ended { HasEnded self.old result }
+    {
+        let facts = self.state.facts()?;
+        if facts.open_levels > 0 || facts.waiting_cells > 0 {
+            return Err(Fault::StillOpen);
+        }
+        Ok(mem::replace(&mut self.state, State::Refused(Error::OutOfMemory)))
+    }
+
+    /// Keeps a refusal.
+    fn refuse(&mut self, e: Error) -> Fault
+        ensures { result ≡ fault_of e }
+    {
+        self.state = State::Refused(e);
+        Fault::from(e)
     }
 
     /// The refusal that is kept, if there is one.
@@ -132,12 +169,13 @@ impl Held {
         self.state.lines()?.current()
     }
 
-    /// The text of all lines that weren't taken, each with a newline. `NotFinished` where the renderer is still filled.
-    /// `OutOfMemory` is kept.
-    pub fn rest_text(&mut self) -> Result<String, Fault>
-        ensures { IfOk result (λ text. IsRest self.old (string_bytes text)) }
+    /// Copies the text of all lines that weren't taken, each with a newline, as `copy_out` does. `NotFinished` where the
+    /// renderer is still filled. `OutOfMemory` is kept.
+    pub fn copy_text(&mut self, out: &mut [u8], needed: &mut usize) -> Result<(), Fault>
+        ensures text { CopiesRest self.old out.old out.new needed.new result }
+        ensures unwritten { IfErr result (λ _. out.new ≡ out.old) }
     {
-        let text = self.state.rest_text(self.alloc);
-        self.state.keep(text)
+        let done = self.state.copy_text(self.alloc, out, needed);
+        self.state.keep(done)
     }
 }

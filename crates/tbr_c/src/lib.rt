@@ -10,3 +10,4 @@ mod parts;
 mod questions;
 mod state;
 mod taking;
+mod widths;

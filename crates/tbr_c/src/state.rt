@@ -1,8 +1,15 @@
 //! How far a renderer is that C holds.
-ghost use Rattle.std.specs.Prelude.{◌≡◌, ◌≢◌, ◌<◌, [], Some, Err, IfOk, IfErr, OnOk, MatchResult, string_bytes};
+ghost use Rattle.std.specs.Prelude.{◌≡◌, ◌≢◌, ◌<◌, [], Some, Ok, Err, IfOk, IfErr, OnOk, MatchResult, string_bytes};
+ghost use Rattle.tbr_lines.specs.declared.Error.TheVariants as Refusal;
+ghost use Rattle.tbr_lines.specs.UnicodeColumns.{unicode_columns};
+ghost use Rattle.tbr_decor.specs.Decoration.{decoration_of};
+ghost use Rattle.tbr_script.specs.declared.error.RunError.{RunError as Unrun};
+ghost use Rattle.tbr_script.specs.declared.error.RunError.TheVariants as script;
 ghost use Rattle.tbr_commands.specs.Command.{command_of, IsSized};
-ghost use Rattle.tbr_runner.specs.Progress.{GoesOn};
-ghost use Rattle.tbr_c.specs.State.{CanGoOn, MayFinish, IsKept, HasEnded, HasNoLines, TakesLine, HasNoNext, IsRest};
+ghost use Rattle.tbr_runner.specs.Progress.{GoesOn, progress_meant};
+ghost use Rattle.tbr_runner.specs.Meaning.{CommandDoes, CommandRefuses, Ends};
+ghost use Rattle.tbr_c_lines.specs.Status.{fault_of_command};
+ghost use Rattle.tbr_c.specs.State.{CanGoOn, MayFinish, IsKept, HasEnded, Does, Refuses, EndsAs, HasNoLines, TakesLine, HasNoNext, CopiesRest};
 ghost use Rattle.tbr_c.specs.declared.state.State.TheVariants as S;
 ghost use Rattle.tbr_c_lines.specs.declared.fault.Fault.TheVariants as F;
 
@@ -13,6 +20,7 @@ use tbr_decor::{PlainDecorator, RichDecorator, TextDecorator, TrivialDecorator};
 use tbr_lines::{Error, UnicodeColumns};
 use tbr_renderer::{RenderOptions, Renderer};
 use tbr_runner::{DecoratorPrefix, Program};
+use tbr_script::RunError;
 
 /// How far a renderer is.
 #[derive(Drop)]
@@ -73,6 +81,9 @@ impl State {
         requires goes_on { CanGoOn self.old }
         requires sized { IsSized (command_of command.now) }
         ensures goes_on { OnOk result (CanGoOn self.new) }
+        ensures done { OnOk result (Does self.old (command_of command.now) self.new) }
+        ensures refused { IfErr result (λ fault. fault ≢ F.OutOfMemory →
+            Refuses self.old (command_of command.now) fault) }
         ensures left { IfErr result (λ fault. (IsKept fault → ⊥) → self.new ≡ self.old) }
         ensures ended { HasEnded self.old result }
     {
@@ -143,7 +154,7 @@ impl State {
         })
     }
 
-    /// The lines of a renderer in which no level is open and no cell waits.
+    /// Its lines, with the footnotes of its links after them, where no level is open and no cell waits.
     pub fn into_lines(self) -> Result<Lines, Error>
         requires goes_on { CanGoOn self }
         requires closed { MayFinish self }
@@ -152,8 +163,22 @@ impl State {
             State::Plain(program) => Ok(Lines::new(Rest::Bare(program.finish_lines()?))),
             State::Trivial(program) => Ok(Lines::new(Rest::Bare(program.finish_lines()?))),
             State::Rich(program) => Ok(Lines::new(Rest::Rich(program.finish_lines()?))),
-            State::Finished(lines) => Ok(lines),
-            State::Refused(e) => Err(e),
+            State::Finished(_) | State::Refused(_) => unreachable!(),
+        }
+    }
+
+    /// The same as a text.
+    pub fn into_text(self) -> Result<String, Error>
+        requires goes_on { CanGoOn self }
+        requires closed { MayFinish self }
+        ensures text { IfOk result (λ text. EndsAs self (Ok (string_bytes text))) }
+        ensures too_narrow { result ≡ Err Refusal.TooNarrow → EndsAs self (Err script.TooNarrow) }
+    {
+        match self {
+            State::Plain(program) => text_of(program),
+            State::Trivial(program) => text_of(program),
+            State::Rich(program) => text_of(program),
+            State::Finished(_) | State::Refused(_) => unreachable!(),
         }
     }
 
@@ -168,14 +193,23 @@ impl State {
         }
     }
 
-    /// The text of all lines that weren't taken, each with a newline. `NotFinished` where it is still filled. It refuses
-    /// for want of memory too.
-    pub fn rest_text(&self, alloc: Global) -> Result<String, Fault>
-        ensures { IfOk result (λ text. IsRest self.now (string_bytes text)) }
+    /// Copies the text of all lines that weren't taken, each with a newline, as `copy_out` does. `NotFinished` where it
+    /// is still filled. It refuses for want of memory too.
+    pub fn copy_text(
+        &mut self,
+        alloc: Global,
+        out: &mut [u8],
+        needed: &mut usize,
+    ) -> Result<(), Fault>
+        requires { CanGoOn self.old }
+        ensures text { CopiesRest self.old out.old out.new needed.new result }
+        ensures unwritten { IfErr result (λ _. out.new ≡ out.old) }
+        ensures left { self.new ≡ self.old }
     {
-        match self.lines()?.text(alloc) {
-            Ok(text) => Ok(text),
-            Err(e) => Err(Fault::from(e)),
+        match self {
+            State::Finished(lines) => lines.copy_text(alloc, out, needed),
+            State::Refused(e) => Err(Fault::from(*e)),
+            _ => Err(Fault::NotFinished),
         }
     }
 
@@ -238,11 +272,31 @@ fn run_on<D: TextDecorator>(
     requires goes_on { GoesOn program.old }
     requires sized { IsSized (command_of command.now) }
     ensures goes_on { OnOk result (GoesOn program.new) }
+    ensures done { OnOk result (CommandDoes unicode_columns (decoration_of D.TextDecorator)
+        (progress_meant D.meaning program.old) (command_of command.now) (progress_meant D.meaning program.new)) }
+    ensures refused { IfErr result (λ fault. fault ≢ F.OutOfMemory → (e : Unrun)
+        × CommandRefuses unicode_columns (decoration_of D.TextDecorator) (progress_meant D.meaning program.old) 0
+        (command_of command.now) e × (fault ≡ fault_of_command e)) }
     ensures left { IfErr result (λ fault. (IsKept fault → ⊥) → program.new ≡ program.old) }
 {
     match program.run(alloc, 0, command) {
         Ok(()) => Ok(()),
         Err(e) => Err(of_command(e)),
+    }
+}
+
+/// The text of a program. It refuses with `NotACommand` only where a level is open or cells wait.
+fn text_of<D: TextDecorator>(program: Program<D, UnicodeColumns>) -> Result<String, Error>
+    requires { GoesOn program }
+    ensures text { IfOk result (λ text. Ends unicode_columns (decoration_of D.TextDecorator)
+        (progress_meant D.meaning program) 0 (Ok (string_bytes text))) }
+    ensures too_narrow { result ≡ Err Refusal.TooNarrow → Ends unicode_columns (decoration_of D.TextDecorator)
+        (progress_meant D.meaning program) 0 (Err script.TooNarrow) }
+{
+    match program.finish(0) {
+        Ok(text) => Ok(text),
+        Err(RunError::TooNarrow) => Err(Error::TooNarrow),
+        Err(_) => Err(Error::OutOfMemory),
     }
 }
 

@@ -1,10 +1,11 @@
 //! Lines of a renderer that is finished.
-ghost use Rattle.std.specs.Prelude.{◌≡◌, ◌≢◌, ℕ, List, None, Some, Ok, Err, IfSome, IfOk, IfErr, slice_get, string_bytes};
-ghost use Rattle.tbr_c_lines.specs.Line.{Line as Shown, placed, marked, annotated, kind_of, target_of};
-ghost use Rattle.tbr_c_lines.specs.Status.{code_of, status_of};
+ghost use Rattle.std.specs.Prelude.{◌≡◌, ◌≢◌, ℕ, List, None, Some, Ok, IfSome, slice_get};
+ghost use Rattle.tbr_c_lines.specs.Copied.{IsCopied};
+ghost use Rattle.tbr_c_lines.specs.Line.{Line as Shown, placed, marked};
+ghost use Rattle.tbr_c_lines.specs.Status.{status_of};
 ghost use Rattle.tbr_c_lines.specs.declared.line.PiecePlace.{PiecePlace as Place};
-ghost use Rattle.tbr_c.specs.State.{current_of, IsRest};
-ghost use Rattle.tbr_c.specs.Answers.{IsCopied, IsSizeOfNext, HasNone};
+ghost use Rattle.tbr_c.specs.State.{current_of};
+ghost use Rattle.tbr_c.specs.Answers.{IsRestCopied, IsSizeOfNext, HasNone};
 
 use crate::handle::{Handle, hand_back};
 use crate::held::Held;
@@ -19,24 +20,13 @@ pub extern "C" fn tbr1_text(
     needed: &mut usize,
     back: &mut *mut u8,
 ) -> u32
-    ensures { result ≡ 0 → (text : List ℕ) × IsRest renderer.value text
-        × IsCopied text out.old out.new needed.new result }
+    ensures text { IsRestCopied renderer.value out.old out.new needed.new result }
+    ensures unwritten { result ≢ 0 → out.new ≡ out.old }
 {
     let mut held = renderer.open();
-    let text = held.rest_text();
+    let done = held.copy_text(out, needed);
     hand_back(held, back);
-    copied(text, out, needed)
-}
-
-/// Copies a text out, if there is one.
-fn copied(text: Result<String, Fault>, out: &mut [u8], needed: &mut usize) -> u32
-    ensures text { IfOk text (λ t. IsCopied (string_bytes t) out.old out.new needed.new result) }
-    ensures none { IfErr text (λ fault. result ≡ code_of fault) }
-{
-    match text {
-        Ok(text) => status(copy_out(text.as_bytes(), out, needed)),
-        Err(fault) => fault.code(),
-    }
+    status(done)
 }
 
 #[unsafe(no_mangle)]

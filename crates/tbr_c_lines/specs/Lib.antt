@@ -1,3 +1,5 @@
+pub mod Columns
+pub mod Copied
 pub mod Line
 pub mod Lines
 pub mod Status

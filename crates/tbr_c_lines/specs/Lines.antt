@@ -5,12 +5,13 @@ use Rattle.tbr_model.specs.Codes.{newline_character}
 use Rattle.tbr_lines.specs.declared.RenderLine.{RenderLine}
 use Rattle.tbr_lines.specs.RenderLine.{line_items}
 use Rattle.tbr_lines.specs.Walks.{item_characters}
+use Rattle.tbr_lines.specs.View.{chars_of}
 use Rattle.tbr_decor.specs.declared.annotation.RichAnnotation.{RichAnnotation}
 use Rattle.tbr_decor.specs.declared.annotation.RichAnnotation.TheVariants.{Default}
 use Rattle.tbr_decor.specs.contracts.annotation.RichAnnotationPartialEq.TheImpl as rich
 use Rattle.tbr_c_lines.specs.Line.{Line, IsSeenAs}
 use Rattle.tbr_c_lines.specs.declared.lines.Rest.{Rest}
-use Rattle.tbr_c_lines.specs.declared.lines.Rest.TheVariants.{Bare, Rich}
+use Rattle.tbr_c_lines.specs.declared.lines.Rest.TheVariants.{Bare, Rich, Text}
 
 -- Those that weren't taken, and the one that was taken last.
 pub record Lines : Type 0 where
@@ -25,11 +26,13 @@ line_text line = item_characters (line_items line) ++ newline_character ∷ []
 abbrev pub text_of : Rest → List ℕ
 text_of (Bare lines) = flat_map line_text lines
 text_of (Rich lines) = flat_map line_text lines
+text_of (Text text) = chars_of text
 
--- whether none is left
+-- whether none is left that can be taken
 abbrev pub NoneLeft : Rest → Type 0
 NoneLeft (Bare lines) = lines ≡ []
 NoneLeft (Rich lines) = lines ≡ []
+NoneLeft (Text text) = Unit {0}
 
 -- ---- taking one
 
@@ -52,5 +55,6 @@ Takes {A} eq shown lines seen rest =
 abbrev pub TakesFirst : Rest → Line → Rest → Type 0
 TakesFirst (Bare lines) seen (Bare rest) = Takes equal_bare bare lines seen rest
 TakesFirst (Rich lines) seen (Rich rest) = Takes rich.ghosts.eq itself lines seen rest
-TakesFirst (Bare lines) seen (Rich rest) = ⊥
-TakesFirst (Rich lines) seen (Bare rest) = ⊥
+TakesFirst (Bare lines) seen other = ⊥
+TakesFirst (Rich lines) seen other = ⊥
+TakesFirst (Text text) seen other = ⊥

@@ -3,7 +3,6 @@ ghost use Rattle.std.specs.Prelude.{◌≡◌};
 ghost use Rattle.tbr_c_lines.specs.Status.{code_of, status_of, fault_of, fault_of_command};
 ghost use Rattle.tbr_c_lines.specs.declared.fault.Fault.TheVariants as F;
 
-use std::alloc::{AllocError, AllocFailed};
 use tbr_lines::{Error, OutOfMemory, TooNarrow};
 use tbr_script::RunError;
 
@@ -97,22 +96,6 @@ impl From<OutOfMemory> for Fault {
     ghost from_gives = { λ _ fault. fault ≡ F.OutOfMemory };
 
     fn from(_e: OutOfMemory) -> Fault {
-        Fault::OutOfMemory
-    }
-}
-
-impl From<AllocError> for Fault {
-    ghost from_gives = { λ _ fault. fault ≡ F.OutOfMemory };
-
-    fn from(_e: AllocError) -> Fault {
-        Fault::OutOfMemory
-    }
-}
-
-impl<T: Drop> From<AllocFailed<T>> for Fault {
-    ghost from_gives = { λ _ fault. fault ≡ F.OutOfMemory };
-
-    fn from(_e: AllocFailed<T>) -> Fault {
         Fault::OutOfMemory
     }
 }

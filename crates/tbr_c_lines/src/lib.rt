@@ -2,12 +2,14 @@
 #![tactic(auto)]
 
 pub use annotation::Annotation;
+pub use columns::columns_of;
 pub use fault::{Fault, of_command, status};
 pub use line::{AnnotationKind, Line, LineSize, PiecePlace, kind, target};
 pub use lines::{Lines, Rest};
 pub use out::{answer, copy_out};
 
 mod annotation;
+mod columns;
 mod fault;
 mod line;
 mod lines;

@@ -1,6 +1,8 @@
 //! The lines of a renderer that is finished.
-ghost use Rattle.std.specs.Prelude.{◌≡◌, ◌≢◌, ◌↔◌, ◌++◌, [], None, Some, Ok, Err, flat_map, IfOk, IfErr, IfSome, OnOk, MatchResult};
+ghost use Rattle.std.specs.Prelude.{◌≡◌, ◌≢◌, ◌++◌, ℕ, List, [], None, Some, Ok, Err, chars, flat_map, IfOk, IfErr, IfSome, OnOk, MatchResult};
 ghost use Rattle.tbr_lines.specs.View.{chars_of};
+ghost use Rattle.tbr_c_lines.specs.Copied.{IsCopied};
+ghost use Rattle.tbr_c_lines.specs.Status.{status_of};
 ghost use Rattle.tbr_c_lines.specs.Line as seen;
 ghost use Rattle.tbr_c_lines.specs.Lines as left;
 ghost use Rattle.tbr_c_lines.specs.declared.fault.Fault.TheVariants as F;
@@ -8,6 +10,7 @@ ghost use Rattle.tbr_c_lines.specs.declared.fault.Fault.TheVariants as F;
 use crate::annotation::Annotation;
 use crate::fault::Fault;
 use crate::line::{Line, LineSize};
+use crate::out::copy_out;
 use std::alloc::Global;
 use std::collections::LinkedList;
 use std::marker::Model;
@@ -19,6 +22,8 @@ use tbr_lines::{OutOfMemory, RenderLine};
 pub struct Lines {
     rest: Rest,
     current: Option<Line>,
+    /// The text of the rest, where it was asked for and did not fit.
+    text: Option<String>,
 }
 
 impl Model for Lines {
@@ -27,15 +32,23 @@ impl Model for Lines {
     ghost Value = { Lines };
 
     ghost view = { λ l. record { rest = l.rest; current = l.current } };
+
+    ghost use Rattle.std.specs.Prelude.{◌≡◌, IfSome};
+    ghost use Rattle.tbr_lines.specs.View.{chars_of};
+    ghost use Rattle.tbr_c_lines.specs.Lines.{text_of};
+
+    ghost invariant = { λ l. IfSome l.text (λ text. chars_of text ≡ text_of l.rest) };
 }
 
-/// Lines, by what decorators annotate them with.
+/// Lines, by what decorators annotate them with, or their text alone.
 #[derive(Drop)]
 pub enum Rest {
     /// Those of plain and trivial decorators.
     Bare(LinkedList<RenderLine<Vec<()>>>),
     /// Those of rich ones.
     Rich(LinkedList<RenderLine<Vec<RichAnnotation>>>),
+    /// The text of all lines, each with a newline. None can be taken.
+    Text(String),
 }
 
 impl Lines {
@@ -46,6 +59,7 @@ impl Lines {
         Lines {
             rest,
             current: None,
+            text: None,
         }
     }
 
@@ -58,6 +72,7 @@ impl Lines {
         ensures none { IfErr result (λ fault. fault ≢ F.OutOfMemory →
             (fault ≡ F.NoLine) × left.NoneLeft self.old.rest × (self.new ≡ self.old)) }
     {
+        self.text = None;
         let Some(line) = self.rest.next(alloc)? else {
             return Err(Fault::NoLine);
         };
@@ -74,13 +89,25 @@ impl Lines {
         self.current.as_ref().ok_or(Fault::NoLine)
     }
 
-    /// The text of all lines that weren't taken, each with a newline. It refuses only for want of memory.
-    pub fn text(&self, alloc: Global) -> Result<String, OutOfMemory>
-        ensures { IfOk result (λ text. chars_of text ≡ left.text_of self.now.rest) }
+    /// Copies the text of all lines that weren't taken, each with a newline, as `copy_out` does.
+    ///
+    /// It refuses for want of memory too, since it puts the text together first. Where that doesn't fit the buffer, it
+    /// is kept for the next call.
+    pub fn copy_text(
+        &mut self,
+        alloc: Global,
+        out: &mut [u8],
+        needed: &mut usize,
+    ) -> Result<(), Fault>
+        ensures text { result ≢ Err F.OutOfMemory → (text : List ℕ) × (chars text ≡ left.text_of self.old.rest)
+            × IsCopied text out.old out.new needed.new (status_of result) }
+        ensures unwritten { IfErr result (λ _. out.new ≡ out.old) }
+        ensures left { self.new ≡ self.old }
     {
         match &self.rest {
-            Rest::Bare(lines) => text_of(alloc, lines),
-            Rest::Rich(lines) => text_of(alloc, lines),
+            Rest::Bare(lines) => copy_kept(alloc, lines, &mut self.text, out, needed),
+            Rest::Rich(lines) => copy_kept(alloc, lines, &mut self.text, out, needed),
+            Rest::Text(text) => copy_out(text.as_bytes(), out, needed),
         }
     }
 }
@@ -94,6 +121,7 @@ impl Rest {
         match self {
             Rest::Bare(lines) => first_of(alloc, lines),
             Rest::Rich(lines) => first_of(alloc, lines),
+            Rest::Text(_) => Ok(None),
         }
     }
 }
@@ -111,6 +139,31 @@ fn first_of<A: Annotation>(
         Some(line) => Ok(Some(Line::new(alloc, line)?)),
         None => Ok(None),
     }
+}
+
+/// Copies the text of these lines, each with a newline, as `copy_out` does. It is `kept` where it doesn't fit.
+fn copy_kept<A>(
+    alloc: Global,
+    lines: &LinkedList<RenderLine<Vec<A>>>,
+    kept: &mut Option<String>,
+    out: &mut [u8],
+    needed: &mut usize,
+) -> Result<(), Fault>
+    requires { IfSome kept.old (λ text. chars_of text ≡ flat_map left.line_text lines.now) }
+    ensures kept { IfSome kept.new (λ text. chars_of text ≡ flat_map left.line_text lines.now) }
+    ensures text { result ≢ Err F.OutOfMemory → (text : List ℕ) × (chars text ≡ flat_map left.line_text lines.now)
+        × IsCopied text out.old out.new needed.new (status_of result) }
+    ensures unwritten { IfErr result (λ _. out.new ≡ out.old) }
+{
+    let text = match kept.take() {
+        Some(text) => text,
+        None => text_of(alloc, lines)?,
+    };
+    let done = copy_out(text.as_bytes(), out, needed);
+    if done.is_err() {
+        *kept = Some(text);
+    }
+    done
 }
 
 /// The text of these lines, each with a newline.
