@@ -1,4 +1,11 @@
 //! What the command line asks for.
+ghost use Rattle.std.specs.Prelude.{◌≡◌, ◌≢◌, ◌&&◌, ◌↔◌, Bool, Some, None, IsTrue, IfSome, IfNone, codes};
+ghost use Rattle.std.specs.Option.{option_map};
+ghost use Rattle.clap.specs.Matches.{found_of, one_text};
+ghost use Rattle.tbr_commands.specs.Opening.{name_of};
+ghost use Rattle.tbr_commands.specs.declared.opening.Decorator.{Decorator as Name};
+ghost use Rattle.blockview.specs.Arguments as model;
+ghost use Rattle.blockview.specs.Arguments.{AreColours, IsFormat, value_of};
 
 use clap::builder::ArgAction;
 use clap::error::ErrorKind;
@@ -6,7 +13,7 @@ use clap::parser::ValueSource;
 use clap::{Arg, ArgMatches, Command, Error, value_parser};
 use std::alloc::Global;
 use tbr_commands::Decorator;
-use tbr_view::Format;
+use tbr_view::{Format, Settings};
 
 /// How a script is written, and what the exit status says.
 const AFTER_HELP: &str =
@@ -97,15 +104,49 @@ pub fn has_idle_colour(matches: &ArgMatches) -> bool {
         && matches.get_str("format") != Some("ansi")
 }
 
-/// The format that is asked for. `shows_colours` is what `auto` stands for.
-pub fn format_of(matches: &ArgMatches, shows_colours: bool) -> Format {
-    let is_coloured = match matches.get_str("colour") {
+/// Whether colours are shown where nothing is said of them: standard output is a terminal, and the variable `NO_COLOR` is
+/// empty or isn't set.
+pub fn shows_colours(is_terminal: bool, no_color: Option<&str>) -> bool
+    ensures { result ≡ is_terminal && model.says_nothing (option_map (λ s. s.now) no_color.entry) }
+{
+    is_terminal && no_color.is_none_or(|value| value.is_empty())
+}
+
+/// How scripts are shown. `shows_colours` is what `--colour auto` stands for.
+pub fn settings_of(matches: &ArgMatches, shows_colours: bool) -> Settings
+    ensures format { (colours : Bool) × AreColours (value_of matches.now (codes "colour")) shows_colours colours
+        × IsFormat (value_of matches.now (codes "format")) colours result.format }
+    ensures width { one_text (found_of matches.now) (codes "width") ≡ None → result.width ≡ None }
+    ensures decorator { IfSome result.decorator (λ decorator.
+        value_of matches.now (codes "decorator") ≡ Some (name_of decorator)) }
+    ensures no_decorator { IfNone result.decorator ((decorator : Name) →
+        value_of matches.now (codes "decorator") ≢ Some (name_of decorator)) }
+{
+    let colours = has_colours(matches.get_str("colour"), shows_colours);
+    Settings {
+        format: format_named(matches.get_str("format"), colours),
+        width: matches.get_one::<usize>("width"),
+        decorator: decorator_named(matches.get_str("decorator")),
+    }
+}
+
+/// Whether there are colours by the word of `--colour`.
+fn has_colours(word: Option<&str>, shows_colours: bool) -> bool
+    ensures { AreColours (option_map (λ s. s.now) word.entry) shows_colours result }
+{
+    match word {
         Some("always") => true,
         Some("never") => false,
         _ => shows_colours,
-    };
-    match matches.get_str("format") {
-        Some("ansi") if is_coloured => Format::Ansi,
+    }
+}
+
+/// The format of a name, with colours or without.
+fn format_named(name: Option<&str>, colours: bool) -> Format
+    ensures { IsFormat (option_map (λ s. s.now) name.entry) colours result }
+{
+    match name {
+        Some("ansi") if colours => Format::Ansi,
         Some("ansi") => Format::Bare,
         Some("json") => Format::Ndjson,
         Some("html") => Format::Html,
@@ -113,11 +154,17 @@ pub fn format_of(matches: &ArgMatches, shows_colours: bool) -> Format {
     }
 }
 
-/// The decorator that is asked for, if one is.
-pub fn decorator_of(matches: &ArgMatches) -> Option<Decorator> {
-    match matches.get_str("decorator")? {
+/// The decorator of a name, if there is one.
+fn decorator_named(name: Option<&str>) -> Option<Decorator>
+    ensures found { IfSome result (λ decorator.
+        option_map (λ s. s.now) name.entry ≡ Some (name_of decorator)) }
+    ensures none { IfNone result ((decorator : Name) →
+        option_map (λ s. s.now) name.entry ≢ Some (name_of decorator)) }
+{
+    match name? {
         "plain" => Some(Decorator::Plain),
         "trivial" => Some(Decorator::Trivial),
-        _ => Some(Decorator::Rich),
+        "rich" => Some(Decorator::Rich),
+        _ => None,
     }
 }

@@ -1,7 +1,10 @@
 //! Shows scripts for people: as text, for a terminal, as JSON or as HTML.
 #![tactic(auto)]
 
-use crate::arguments::{command, decorator_of, format_of, has_idle_colour};
+ghost use Rattle.std.specs.Prelude.{◌≡◌};
+ghost use Rattle.blockview.specs.Status.{status_of_refusal};
+
+use crate::arguments::{command, has_idle_colour, settings_of, shows_colours};
 use crate::report::report;
 use clap::error::ErrorKind;
 use clap::{ArgMatches, Command, Error};
@@ -10,7 +13,7 @@ use std::process::ExitCode;
 use std::{env, fs, io};
 use tbr_lines::UnicodeColumns;
 use tbr_show::{AmbiguousWide, html};
-use tbr_view::{Format, Refusal, Settings, Shown, view};
+use tbr_view::{Format, Problem, Refusal, Settings, Shown, view};
 
 mod arguments;
 mod report;
@@ -51,23 +54,11 @@ fn matches_of<'a>(rt: &HostRuntime, words: &'a [String]) -> Result<ArgMatches<'a
     Ok(matches)
 }
 
-/// Whether colours are shown where nothing is said of them: standard output is a terminal, and `NO_COLOR` is empty or
-/// isn't set.
-fn shows_colours(rt: &HostRuntime) -> bool {
-    let asks_for_none = match env::var(rt, "NO_COLOR") {
-        Ok(value) => !value.is_empty(),
-        Err(_) => false,
-    };
-    rt.stdout().is_terminal() && !asks_for_none
-}
-
 /// Shows all files, and answers the status.
 fn show_all(rt: &HostRuntime, matches: &ArgMatches) -> u8 {
-    let shown = Settings {
-        format: format_of(matches, shows_colours(rt)),
-        width: matches.get_one::<usize>("width"),
-        decorator: decorator_of(matches),
-    };
+    let no_color = env::var(rt, "NO_COLOR").ok();
+    let no_color = no_color.as_ref().map(|value| value.as_str());
+    let shown = settings_of(matches, shows_colours(rt.stdout().is_terminal(), no_color));
     let is_wide = matches.get_str("ambiguous") == Some("wide");
     let files = matches.get_strs("FILE").unwrap_or(&[]);
     let begun = begin(rt, shown.format);
@@ -115,14 +106,30 @@ fn show_file(rt: &HostRuntime, file: &str, shown: Settings, is_wide: bool) -> u8
     };
     match result {
         Ok(shown) => write_shown(rt, file, &script, &shown),
-        Err(Refusal::Script(problem)) => {
-            tell(rt, file, &script, &problem);
-            problem.status
+        Err(refusal) => {
+            tell_refusal(rt, file, &script, &refusal);
+            status_of(&refusal)
         }
-        Err(Refusal::OutOfMemory) => {
+    }
+}
+
+/// Tells why a file isn't shown.
+fn tell_refusal(rt: &HostRuntime, file: &str, script: &[u8], refusal: &Refusal) {
+    match refusal {
+        Refusal::Script(problem) => tell(rt, file, script, problem),
+        Refusal::OutOfMemory => {
             let _ = eprintln!(rt; "blockview: out of memory");
-            OUT_OF_MEMORY
         }
+    }
+}
+
+/// The status where a file isn't shown.
+fn status_of(refusal: &Refusal) -> u8
+    ensures { result ≡ status_of_refusal refusal.now }
+{
+    match refusal {
+        Refusal::Script(problem) => problem.kind.status(),
+        Refusal::OutOfMemory => OUT_OF_MEMORY,
     }
 }
 
@@ -151,7 +158,7 @@ fn write_shown(rt: &HostRuntime, file: &str, script: &[u8], shown: &Shown) -> u8
 }
 
 /// Tells a problem on standard error.
-fn tell(rt: &HostRuntime, file: &str, script: &[u8], problem: &tbr_view::Problem) {
+fn tell(rt: &HostRuntime, file: &str, script: &[u8], problem: &Problem) {
     if let Ok(text) = report(rt.alloc(), file, script, problem) {
         let _ = rt.eprint(text.as_str());
     }

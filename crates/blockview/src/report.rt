@@ -1,7 +1,7 @@
 //! How problems are told.
 
 use std::alloc::{AllocError, Global};
-use tbr_view::Problem;
+use tbr_view::{Kind, Problem};
 
 /// The characters of a line that are shown at most.
 const SHOWN: usize = 120;
@@ -14,7 +14,7 @@ pub fn report(
     problem: &Problem,
 ) -> Result<String, AllocError> {
     let mut text = String::new(alloc);
-    let kind = if problem.status == 0 {
+    let kind = if problem.kind == Kind::LinesLost {
         "warning"
     } else {
         "error"

@@ -1,0 +1,2 @@
+mod NearWords
+mod Statements

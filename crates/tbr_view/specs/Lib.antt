@@ -1,1 +1,6 @@
 pub mod Statement
+pub mod Block
+pub mod Words
+pub mod Problem
+pub mod Level
+pub mod Script

@@ -1,73 +1,88 @@
 //! What errors say: what is wrong with a line, and one way to put it right.
+ghost use Rattle.std.specs.Prelude.{◌≡◌, None, Some, IfOk};
+ghost use Rattle.std.specs.Option.{option_map};
+ghost use Rattle.tbr_commands.specs.Syntax.{ending_name};
+ghost use Rattle.tbr_view.specs.Problem.{IsOf, Tells};
+ghost use Rattle.tbr_view.specs.Statement.{word_of};
+ghost use Rattle.tbr_view.specs.declared.problem.Kind.TheVariants as kind_is;
 
 use crate::block::Block;
 use crate::fault::{Fault, fault_of};
 use crate::level::{Level, Notes, TooWide};
-use crate::problem::{Problem, Refusal, Related};
+use crate::problem::{Kind, Problem, Refusal, Related};
 use std::alloc::{AllocError, Global};
-use tbr_commands::{Command, Kind, Request};
-
-/// The status where a text is too narrow.
-const TOO_NARROW: u8 = 1;
-
-/// The status where a line is wrong.
-const WRONG: u8 = 2;
+use tbr_commands::{Command, Kind as Ended, Request};
 
 /// A problem with a line, or the want of memory for its text.
 fn refusal(
+    kind: Kind,
     line: usize,
     related: Option<Related>,
-    status: u8,
     texts: Result<(String, String), AllocError>,
-) -> Refusal {
+) -> Refusal
+    ensures { Tells result kind line (option_map (λ r. r.line) related) }
+{
     match texts {
         Ok((message, help)) => Refusal::Script(Problem {
+            kind,
             line,
             message,
             related,
             help,
-            status,
         }),
         Err(_) => Refusal::OutOfMemory,
     }
 }
 
 /// The line is no command.
-pub fn not_a_command(alloc: Global, line: usize, writing: &[u8]) -> Refusal {
+pub fn not_a_command(alloc: Global, line: usize, writing: &[u8]) -> Refusal
+    ensures { Tells result kind_is.NotACommand line None }
+{
     match fault_of(alloc, writing, false) {
-        Ok(Fault { message, help }) => refusal(line, None, WRONG, Ok((message, help))),
+        Ok(Fault { message, help }) => refusal(Kind::NotACommand, line, None, Ok((message, help))),
         Err(_) => Refusal::OutOfMemory,
     }
 }
 
 /// The line isn't the first command that it should be.
-pub fn not_an_opening(alloc: Global, line: usize, writing: &[u8]) -> Refusal {
+pub fn not_an_opening(alloc: Global, line: usize, writing: &[u8]) -> Refusal
+    ensures { Tells result kind_is.NotACommand line None }
+{
     match fault_of(alloc, writing, true) {
-        Ok(Fault { message, help }) => refusal(line, None, WRONG, Ok((message, help))),
+        Ok(Fault { message, help }) => refusal(Kind::NotACommand, line, None, Ok((message, help))),
         Err(_) => Refusal::OutOfMemory,
     }
 }
 
 /// There is no first command.
-pub fn nothing_there(alloc: Global, line: usize) -> Refusal {
+pub fn nothing_there(alloc: Global, line: usize) -> Refusal
+    ensures { Tells result kind_is.NotACommand line None }
+{
     let texts = both(
         alloc,
         "the script has no command",
         "begin it with `new 60 plain`",
     );
-    refusal(line, None, WRONG, texts)
+    refusal(Kind::NotACommand, line, None, texts)
 }
 
 /// A command ends what isn't open, or another level than the innermost.
-pub fn not_open(alloc: Global, line: usize, word: &str, level: Option<&Level>) -> Refusal {
+pub fn not_open(alloc: Global, line: usize, word: &str, level: Option<&Level>) -> Refusal
+    ensures { Tells result kind_is.NothingToEnd line (option_map (λ l. l.now.line) level.entry) }
+{
     let Some(level) = level else {
-        return refusal(line, None, WRONG, nothing_to_end(alloc, word));
+        return refusal(Kind::NothingToEnd, line, None, nothing_to_end(alloc, word));
     };
     let related = Some(Related {
         line: level.line,
         note: level.by.note(),
     });
-    refusal(line, related, WRONG, inside(alloc, word, level))
+    refusal(
+        Kind::NothingToEnd,
+        line,
+        related,
+        inside(alloc, word, level),
+    )
 }
 
 /// What is said where nothing is open that a command ends.
@@ -89,14 +104,16 @@ fn inside(alloc: Global, word: &str, level: &Level) -> Result<(String, String), 
 }
 
 /// A level is still open at the end of the script.
-pub fn still_open(alloc: Global, line: usize, level: &Level) -> Refusal {
+pub fn still_open(alloc: Global, line: usize, level: &Level) -> Refusal
+    ensures { Tells result kind_is.StillOpen line (Some level.now.line) }
+{
     let related = Some(Related {
         line: level.line,
         note: level.by.note(),
     });
     let name = level.by.name();
     let end = level.by.end();
-    refusal(line, related, WRONG, unended(alloc, name, end))
+    refusal(Kind::StillOpen, line, related, unended(alloc, name, end))
 }
 
 /// What is said where a level isn't ended.
@@ -108,25 +125,29 @@ fn unended(alloc: Global, name: &str, end: &str) -> Result<(String, String), All
 }
 
 /// A level closes, or the script ends, before the row of cells that wait.
-pub fn cells_wait(alloc: Global, line: usize, first_cell: Option<usize>) -> Refusal {
+pub fn cells_wait(alloc: Global, line: usize, first_cell: Option<usize>) -> Refusal
+    ensures { Tells result kind_is.CellsWait line first_cell }
+{
     let related = first_cell.map(|line| Related {
         line,
         note: "the first cell that waits was opened here",
     });
     let texts = both(alloc, "cells wait for their row", "write `row` before it");
-    refusal(line, related, WRONG, texts)
+    refusal(Kind::CellsWait, line, related, texts)
 }
 
 /// A row is in the way of what hangs down from the rows above it.
-pub fn row_does_not_fit(alloc: Global, line: usize, columns: usize, notes: &Notes) -> Refusal {
+pub fn row_does_not_fit(alloc: Global, line: usize, columns: usize, notes: &Notes) -> Refusal
+    ensures { Tells result kind_is.RowDoesNotFit line notes.now.spanning }
+{
     let related = notes.spanning.map(|line| Related {
         line,
         note: "this cell takes more rows than one",
     });
     refusal(
+        Kind::RowDoesNotFit,
         line,
         related,
-        WRONG,
         in_the_way(alloc, columns, notes.row_columns),
     )
 }
@@ -146,12 +167,14 @@ fn in_the_way(
 }
 
 /// A text has a character that is wider than its block.
-pub fn too_narrow(alloc: Global, line: usize, too_wide: Option<TooWide>) -> Refusal {
+pub fn too_narrow(alloc: Global, line: usize, too_wide: Option<TooWide>) -> Refusal
+    ensures { Tells result kind_is.TooNarrow line (option_map (λ t. t.line) too_wide) }
+{
     let related = too_wide.map(|found| Related {
         line: found.line,
         note: "the text is here",
     });
-    refusal(line, related, TOO_NARROW, wider(alloc, too_wide))
+    refusal(Kind::TooNarrow, line, related, wider(alloc, too_wide))
 }
 
 /// What is said of a character that is wider than its block.
@@ -171,9 +194,16 @@ fn wider(alloc: Global, too_wide: Option<TooWide>) -> Result<(String, String), A
 }
 
 /// The prefix of a block leaves it no column.
-pub fn no_room(alloc: Global, line: usize, block: Block, columns: usize, width: usize) -> Refusal {
+pub fn no_room(alloc: Global, line: usize, block: Block, columns: usize, width: usize) -> Refusal
+    ensures { Tells result kind_is.NoRoom line None }
+{
     let name = block.name();
-    refusal(line, None, WRONG, no_column(alloc, name, columns, width))
+    refusal(
+        Kind::NoRoom,
+        line,
+        None,
+        no_column(alloc, name, columns, width),
+    )
 }
 
 /// What is said of a prefix that leaves no column.
@@ -190,13 +220,16 @@ fn no_column(
 }
 
 /// A cell takes more rows than come.
-pub fn lost_lines(alloc: Global, line: usize, cell: usize) -> Result<Problem, AllocError> {
+pub fn lost_lines(alloc: Global, line: usize, cell: usize) -> Result<Problem, AllocError>
+    ensures { IfOk result (λ problem. IsOf problem kind_is.LinesLost line (Some cell)) }
+{
     let (message, help) = both(
         alloc,
         "a cell takes more rows than come, and what is left of it isn't shown",
         "write a `row` for each row that the cell takes, or give it fewer",
     )?;
     Ok(Problem {
+        kind: Kind::LinesLost,
         line,
         message,
         related: Some(Related {
@@ -204,7 +237,6 @@ pub fn lost_lines(alloc: Global, line: usize, cell: usize) -> Result<Problem, Al
             note: "the cell was opened here",
         }),
         help,
-        status: 0,
     })
 }
 
@@ -217,7 +249,9 @@ fn both(alloc: Global, message: &str, help: &str) -> Result<(String, String), Al
 }
 
 /// The word of a command that ends something.
-pub fn word(command: &Command) -> &'static str {
+pub fn word(command: &Command) -> &'static str
+    ensures { result.now ≡ word_of command.now }
+{
     match command {
         Command::Ask(Request::End(kind)) => ending(*kind),
         Command::EndLink => "endlink",
@@ -228,16 +262,18 @@ pub fn word(command: &Command) -> &'static str {
 }
 
 /// The word that ends what is of a kind.
-fn ending(kind: Kind) -> &'static str {
+fn ending(kind: Ended) -> &'static str
+    ensures { result.now ≡ ending_name kind }
+{
     match kind {
-        Kind::Mode => "endws",
-        Kind::Preformat => "endpre",
-        Kind::Emphasis => "endem",
-        Kind::Strong => "endstrong",
-        Kind::Strikeout => "endstrike",
-        Kind::Code => "endcode",
-        Kind::Superscript => "endsuper",
-        Kind::Colour => "endcolour",
-        Kind::Background => "endbg",
+        Ended::Mode => "endws",
+        Ended::Preformat => "endpre",
+        Ended::Emphasis => "endem",
+        Ended::Strong => "endstrong",
+        Ended::Strikeout => "endstrike",
+        Ended::Code => "endcode",
+        Ended::Superscript => "endsuper",
+        Ended::Colour => "endcolour",
+        Ended::Background => "endbg",
     }
 }

@@ -1,4 +1,9 @@
 //! Blocks with the decorator's own prefixes.
+ghost use Rattle.std.specs.Prelude.{◌≡◌, IfOk, chars, string_bytes};
+ghost use Rattle.tbr_lines.specs.View.{chars_of};
+ghost use Rattle.tbr_runner.specs.Prefixes.{asked_prefix};
+ghost use Rattle.tbr_view.specs.Statement.{end_of};
+ghost use Rattle.tbr_view.specs.Block as model;
 
 use std::alloc::Global;
 use tbr_lines::{CharWidth, OutOfMemory, spaces, text_width};
@@ -20,7 +25,9 @@ pub enum Block {
 
 impl Block {
     /// The prefix that the decorator is asked for.
-    pub fn prefix(self) -> DecoratorPrefix {
+    pub fn prefix(self) -> DecoratorPrefix
+        ensures { asked_prefix result ≡ model.prefix_of self }
+    {
         match self {
             Block::Quote => DecoratorPrefix::Quote,
             Block::Item => DecoratorPrefix::Item,
@@ -30,12 +37,16 @@ impl Block {
     }
 
     /// Whether it is a block of its own, with an empty line before it and after it.
-    pub fn stands_apart(self) -> bool {
+    pub fn stands_apart(self) -> bool
+        ensures { result ≡ model.stands_apart self }
+    {
         matches!(self, Block::Quote | Block::Heading(_))
     }
 
     /// The command that ends it.
-    pub fn end(self) -> &'static str {
+    pub fn end(self) -> &'static str
+        ensures { result.now ≡ end_of self }
+    {
         match self {
             Block::Quote => "endquote",
             Block::Item => "enditem",
@@ -60,15 +71,27 @@ impl Block {
         self,
         alloc: Global,
         prefix: String,
-    ) -> Result<TextPair, OutOfMemory> {
-        let others = if self.stands_apart() {
-            String::from_str(alloc, prefix.as_str())?
-        } else {
-            spaces(alloc, text_width::<W>(prefix.as_str())?)?
-        };
+    ) -> Result<TextPair, OutOfMemory>
+        ensures first { IfOk result (λ texts. string_bytes texts.first ≡ string_bytes prefix) }
+        ensures others { IfOk result (λ texts.
+            chars_of texts.second ≡ model.other_prefix W.columns self (chars_of prefix)) }
+    {
+        let second = self.other_prefix::<W>(alloc, prefix.as_str())?;
         Ok(TextPair {
             first: prefix,
-            second: others,
+            second,
         })
+    }
+
+    /// What stands before its lines but the first.
+    fn other_prefix<W: CharWidth>(self, alloc: Global, prefix: &str) -> Result<String, OutOfMemory>
+        ensures { IfOk result (λ other.
+            chars_of other ≡ model.other_prefix W.columns self (chars prefix.now)) }
+    {
+        if self.stands_apart() {
+            Ok(String::from_str(alloc, prefix)?)
+        } else {
+            spaces(alloc, text_width::<W>(prefix)?)
+        }
     }
 }

@@ -1,6 +1,11 @@
 //! What is open in a script, and the lines where it was opened.
+ghost use Rattle.std.specs.Prelude.{◌≡◌, ◌++◌, ◌∷◌, [], None, OnOk, IfSome, IfNone};
+ghost use Rattle.std.specs.Option.{option_copied};
+ghost use Rattle.tbr_view.specs.Level as model;
 
 use crate::block::Block;
+use std::alloc::{AllocError, Global};
+use std::mem;
 use tbr_script::TextPair;
 
 /// What opened a level.
@@ -60,9 +65,11 @@ impl Opener {
     }
 
     /// The command that closes it.
-    pub fn end(&self) -> &'static str {
+    pub fn end(&self) -> &'static str
+        ensures { result.now ≡ model.end_of self.now }
+    {
         match self {
-            Opener::Sub => "append > | > ",
+            Opener::Sub => "append >  | > ",
             Opener::Cell => "endcell",
             Opener::Block(block, _) => block.end(),
         }
@@ -81,8 +88,22 @@ impl Opener {
 }
 
 impl Notes {
+    /// What is known of a level that was opened just now: nothing.
+    fn nothing() -> Notes
+        ensures { result ≡ model.nothing }
+    {
+        Notes {
+            first_cell: None,
+            row_columns: 0,
+            spanning: None,
+            too_wide: None,
+        }
+    }
+
     /// One more cell waits, which was opened on a line, with so many columns and rows.
-    pub fn add_cell(&mut self, line: usize, columns: usize, rows: usize) {
+    pub fn add_cell(&mut self, line: usize, columns: usize, rows: usize)
+        ensures { self.new ≡ model.with_cell self.old line columns rows }
+    {
         let between = usize::from(self.first_cell.is_some());
         self.row_columns = self
             .row_columns
@@ -95,8 +116,73 @@ impl Notes {
     }
 
     /// No cell waits any more.
-    pub fn take_cells(&mut self) {
+    pub fn take_cells(&mut self)
+        ensures { self.new ≡ record self.old { first_cell = None; row_columns = 0 } }
+    {
         self.first_cell = None;
         self.row_columns = 0;
+    }
+}
+
+/// The levels that are open inside the outermost one, and what is known of the innermost.
+#[derive(Drop)]
+pub struct Levels {
+    /// The innermost last.
+    pub inside: Vec<Level>,
+    /// What is known of the innermost.
+    pub notes: Notes,
+}
+
+impl Levels {
+    /// None is open.
+    pub fn none(alloc: Global) -> Levels
+        ensures inside { result.inside.items ≡ [] }
+        ensures notes { result.notes ≡ model.nothing }
+    {
+        Levels {
+            inside: Vec::new(alloc),
+            notes: Notes::nothing(),
+        }
+    }
+
+    /// The innermost level, if one is open.
+    pub fn innermost(&self) -> Option<&Level>
+        ensures { option_copied result ≡ model.innermost self.now.inside.items }
+    {
+        self.inside.as_slice().last()
+    }
+
+    /// The first text that is too wide of those that are known of, those of the innermost level first.
+    pub fn too_wide(&self) -> Option<TooWide> {
+        let outside = self.inside.iter().rev();
+        self.notes.too_wide.or_else(|| outside.filter_map(|level| level.outside.too_wide).next())
+    }
+
+    /// A level opens on a line. Nothing is known of it yet.
+    pub fn enter(&mut self, by: Opener, line: usize) -> Result<(), AllocError>
+        ensures inside { OnOk result (self.new.inside.items
+            ≡ self.old.inside.items ++ record { by = by; line = line; outside = self.old.notes } ∷ []) }
+        ensures notes { OnOk result (self.new.notes ≡ model.nothing) }
+    {
+        let outside = mem::replace(&mut self.notes, Notes::nothing());
+        self.inside.push(Level { by, line, outside })?;
+        Ok(())
+    }
+
+    /// The innermost level closes, if one is open. What is known of the level outside is so again, and a text that is too
+    /// wide, if none was known there.
+    pub fn leave(&mut self) -> Option<Opener>
+        ensures closed { IfSome result (λ by. model.Leaves self.old.inside.items self.old.notes by
+            self.new.inside.items self.new.notes) }
+        ensures none { IfNone result ((self.old.inside.items ≡ []) × (self.new.inside.items ≡ [])
+            × (self.new.notes ≡ self.old.notes)) }
+    {
+        let Level { by, outside, .. } = self.inside.pop()?;
+        let too_wide = outside.too_wide.or(self.notes.too_wide);
+        self.notes = Notes {
+            too_wide,
+            ..outside
+        };
+        Some(by)
     }
 }

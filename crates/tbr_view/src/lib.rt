@@ -1,7 +1,7 @@
 //! Scripts for people: comments, blocks with the decorator's own prefixes, and errors that say what is wrong.
 #![tactic(auto)]
 
-pub use problem::{Problem, Refusal, Related};
+pub use problem::{Kind, Problem, Refusal, Related};
 pub use script::{Format, Settings, Shown, view};
 
 mod advice;

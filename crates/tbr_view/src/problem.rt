@@ -1,11 +1,50 @@
 //! What is wrong with a script.
+ghost use Rattle.std.specs.Prelude.{◌≡◌};
+ghost use Rattle.tbr_view.specs.Problem as model;
 
 use std::alloc::{AllocError, AllocFailed};
 use tbr_lines::{Error, OutOfMemory};
 
+/// Of which kind a problem is.
+#[derive(Clone, Copy, Debug, PartialEq, Eq)]
+pub enum Kind {
+    /// The line is no command, or not the first one that it should be, or the script has none.
+    NotACommand,
+    /// The line ends what isn't open there.
+    NothingToEnd,
+    /// The script ends inside a block or a cell.
+    StillOpen,
+    /// A level closes, or the script ends, before the row of cells that wait.
+    CellsWait,
+    /// Cells of a row are in the way of those that hang down from the rows above.
+    RowDoesNotFit,
+    /// A character is wider than its block.
+    TooNarrow,
+    /// The prefix of a block leaves it no column.
+    NoRoom,
+    /// A cell takes more rows than come, and lines of it were lost.
+    LinesLost,
+}
+
+impl Kind {
+    /// The status with which a program ends that finds such a problem: that of `blockrender`, or 0 where something was
+    /// lost.
+    pub fn status(self) -> u8
+        ensures { result ≡ model.status_of self }
+    {
+        match self {
+            Kind::LinesLost => 0,
+            Kind::TooNarrow => 1,
+            _ => 2,
+        }
+    }
+}
+
 /// What is wrong with a script, or what was lost of it.
 #[derive(Debug, Drop)]
 pub struct Problem {
+    /// Of which kind it is.
+    pub kind: Kind,
     /// The line at fault, counted from 1. Where the script ends too early it is the one after the last.
     pub line: usize,
     /// What is wrong with it.
@@ -14,9 +53,6 @@ pub struct Problem {
     pub related: Option<Related>,
     /// One way to put it right.
     pub help: String,
-    /// The status with which the program ends, as of `blockrender`: 1 where a text is too narrow, 2 where a line is
-    /// wrong, and 0 where something was lost.
-    pub status: u8,
 }
 
 /// A line that a problem has to do with.

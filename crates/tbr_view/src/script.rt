@@ -1,10 +1,12 @@
 //! From a script for people to what is shown of it.
-ghost use Rattle.std.specs.Prelude.{◌≢◌, ◌<◌, Some, IfOk};
+ghost use Rattle.std.specs.Prelude.{◌≢◌, ◌<◌, Some, IfOk, IfErr};
+ghost use Rattle.tbr_view.specs.Script.{Begins, BeginsNot};
 
 use crate::advice;
 use crate::problem::{Problem, Refusal};
 use crate::session::Session;
 use crate::show::{show_plain, show_rich};
+use crate::statement::is_skipped;
 use std::alloc::Global;
 use std::collections::LinkedList;
 use tbr_commands::{Decorator, Opening};
@@ -98,6 +100,8 @@ fn with_width(opening: Opening, width: Option<usize>) -> Opening
 
 /// The first command of a script, the number of the line after it, and what follows it.
 fn first_command(alloc: Global, script: &[u8]) -> Result<(Opening, usize, &[u8]), Refusal>
+    ensures begins { IfOk result (λ r. Begins script.now r.0 r.1 r.2.now) }
+    ensures refused { IfErr result (λ e. BeginsNot script.now e) }
     ensures width { IfOk result (λ r. 0 < r.0.width) }
     ensures wrap_width { IfOk result (λ r. r.0.options.wrap_width ≢ Some 0) }
 {
@@ -105,7 +109,7 @@ fn first_command(alloc: Global, script: &[u8]) -> Result<(Opening, usize, &[u8])
     let mut number = 1usize;
     while !rest.is_empty() {
         let (line, after) = split_line(rest);
-        if !line.is_empty() && !line.starts_with(b"#") {
+        if !is_skipped(line) {
             let Some(opening) = Opening::parse(line) else {
                 return Err(advice::not_an_opening(alloc, number, line));
             };

@@ -6,9 +6,9 @@ ghost use Rattle.tbr_runner.specs.Progress.{GoesOn};
 
 use crate::advice;
 use crate::block::Block;
-use crate::level::{Level, Notes, Opener, TooWide};
+use crate::level::{Levels, Opener, TooWide};
 use crate::problem::{Problem, Refusal};
-use crate::statement::Statement;
+use crate::statement::{Statement, is_skipped};
 use std::alloc::Global;
 use std::collections::LinkedList;
 use std::mem;
@@ -24,10 +24,7 @@ use text_block_renderer::{RenderOptions, Renderer};
 pub struct Session<D: TextDecorator, W: CharWidth> {
     alloc: Global,
     program: Program<D, W>,
-    /// The levels that are open, the innermost last.
-    levels: Vec<Level>,
-    /// Of the innermost level.
-    notes: Notes,
+    levels: Levels,
     /// What was lost so far.
     lost: Vec<Problem>,
 }
@@ -50,8 +47,7 @@ impl<D: TextDecorator, W: CharWidth> Session<D, W> {
         Ok(Session {
             alloc,
             program,
-            levels: Vec::new(alloc),
-            notes: Notes::default(),
+            levels: Levels::none(alloc),
             lost: Vec::new(alloc),
         })
     }
@@ -61,7 +57,7 @@ impl<D: TextDecorator, W: CharWidth> Session<D, W> {
         requires { GoesOn self.old.program }
         ensures { OnOk result (GoesOn self.new.program) }
     {
-        if line.is_empty() || line.starts_with(b"#") {
+        if is_skipped(line) {
             return Ok(());
         }
         match Statement::parse(self.alloc, line)? {
@@ -91,7 +87,7 @@ impl<D: TextDecorator, W: CharWidth> Session<D, W> {
 
     /// Whether the innermost level is a block with a prefix.
     fn is_in_a_block(&self) -> bool {
-        match self.levels.last() {
+        match self.levels.innermost() {
             Some(level) => matches!(level.by, Opener::Block(_, _)),
             None => false,
         }
@@ -132,7 +128,8 @@ impl<D: TextDecorator, W: CharWidth> Session<D, W> {
             self.lay_out(number, Layout::StartBlock)?;
         }
         self.command(number, &Command::Sub(width - columns))?;
-        self.push_level(number, Opener::Block(block, prefixes))
+        self.levels.enter(Opener::Block(block, prefixes), number)?;
+        Ok(())
     }
 
     /// Closes the block that this command ends.
@@ -140,21 +137,16 @@ impl<D: TextDecorator, W: CharWidth> Session<D, W> {
         requires { GoesOn self.old.program }
         ensures { OnOk result (GoesOn self.new.program) }
     {
-        if !self.levels.last().is_some_and(|level| level.by.end() == by) {
+        if !self
+            .levels
+            .innermost()
+            .is_some_and(|level| level.by.end() == by)
+        {
             return Err(self.not_open(by, number));
         }
         self.note_losses(number)?;
-        let Some(level) = self.levels.pop() else {
-            return Err(self.not_open(by, number));
-        };
-        let Level {
-            by: opener,
-            line: _,
-            outside,
-        } = level;
-        self.leave(outside);
-        match opener {
-            Opener::Block(block, prefixes) => self.close_block(number, block, prefixes),
+        match self.levels.leave() {
+            Some(Opener::Block(block, prefixes)) => self.close_block(number, block, prefixes),
             _ => Err(self.not_open(by, number)),
         }
     }
@@ -184,28 +176,6 @@ impl<D: TextDecorator, W: CharWidth> Session<D, W> {
         self.command(number, &Command::Ask(Request::Layout(layout)))
     }
 
-    /// Notes that a level was opened.
-    fn push_level(&mut self, line: usize, by: Opener) -> Result<(), Refusal>
-        requires { GoesOn self.old.program }
-        ensures { OnOk result (GoesOn self.new.program) }
-    {
-        let outside = mem::replace(&mut self.notes, Notes::default());
-        self.levels.push(Level { by, line, outside })?;
-        Ok(())
-    }
-
-    /// Notes that the innermost level was closed, outside which this was known.
-    fn leave(&mut self, outside: Notes)
-        requires { GoesOn self.old.program }
-        ensures { GoesOn self.new.program }
-    {
-        let too_wide = outside.too_wide.or(self.notes.too_wide);
-        self.notes = Notes {
-            too_wide,
-            ..outside
-        };
-    }
-
     /// Notes a text with a character that is wider than its block, if it is the first.
     fn note_texts(&mut self, number: usize, command: &Command)
         requires { GoesOn self.old.program }
@@ -222,10 +192,10 @@ impl<D: TextDecorator, W: CharWidth> Session<D, W> {
             .wrap_width
             .unwrap_or(usize::MAX)
             .min(top.width());
-        if columns >= 2 || self.notes.too_wide.is_some() {
+        if columns >= 2 || self.levels.notes.too_wide.is_some() {
             return;
         }
-        self.notes.too_wide = first_wide::<W>(text).map(|character| TooWide {
+        self.levels.notes.too_wide = first_wide::<W>(text).map(|character| TooWide {
             line: number,
             character,
             columns,
@@ -238,23 +208,18 @@ impl<D: TextDecorator, W: CharWidth> Session<D, W> {
         ensures { OnOk result (GoesOn self.new.program) }
     {
         match command {
-            Command::Sub(_) => self.push_level(number, Opener::Sub),
+            Command::Sub(_) => self.levels.enter(Opener::Sub, number)?,
             Command::Cell(cell) => {
-                self.notes.add_cell(number, cell.width, cell.span);
-                self.push_level(number, Opener::Cell)
+                self.levels.notes.add_cell(number, cell.width, cell.span);
+                self.levels.enter(Opener::Cell, number)?;
             }
             Command::Append(_) | Command::EndCell => {
-                if let Some(Level { outside, .. }) = self.levels.pop() {
-                    self.leave(outside);
-                }
-                Ok(())
+                let _ = self.levels.leave();
             }
-            Command::Row { .. } | Command::VerticalRow => {
-                self.notes.take_cells();
-                Ok(())
-            }
-            _ => Ok(()),
+            Command::Row { .. } | Command::VerticalRow => self.levels.notes.take_cells(),
+            _ => {}
         }
+        Ok(())
     }
 
     /// Notes that lines of a cell which takes several rows are lost in the innermost level, if some are.
@@ -262,7 +227,7 @@ impl<D: TextDecorator, W: CharWidth> Session<D, W> {
         requires { GoesOn self.old.program }
         ensures { OnOk result (GoesOn self.new.program) }
     {
-        let Some(line) = self.notes.spanning else {
+        let Some(line) = self.levels.notes.spanning else {
             return Ok(());
         };
         let Ok(hangs) = self.program.has_overhang(self.alloc) else {
@@ -281,7 +246,7 @@ impl<D: TextDecorator, W: CharWidth> Session<D, W> {
         requires { GoesOn self.old.program }
         ensures live { OnOk result (GoesOn self.new.program) }
     {
-        if let Some(level) = self.levels.last() {
+        if let Some(level) = self.levels.innermost() {
             return Err(advice::still_open(self.alloc, number, level));
         }
         if self.program.waiting_cells() > 0 {
@@ -301,7 +266,7 @@ impl<D: TextDecorator, W: CharWidth> Session<D, W> {
         let lost = self.end(number)?;
         let Session {
             program,
-            notes,
+            levels,
             alloc,
             ..
         } = self;
@@ -311,7 +276,7 @@ impl<D: TextDecorator, W: CharWidth> Session<D, W> {
         match program.finish_lines() {
             Ok(lines) => Ok((lines, lost)),
             Err(tbr_lines::Error::TooNarrow) => {
-                Err(advice::too_narrow(alloc, number, notes.too_wide))
+                Err(advice::too_narrow(alloc, number, levels.notes.too_wide))
             }
             Err(tbr_lines::Error::OutOfMemory) => Err(Refusal::OutOfMemory),
         }
@@ -319,26 +284,22 @@ impl<D: TextDecorator, W: CharWidth> Session<D, W> {
 
     /// A command ends what isn't open here.
     fn not_open(&self, word: &str, number: usize) -> Refusal {
-        advice::not_open(self.alloc, number, word, self.levels.last())
+        advice::not_open(self.alloc, number, word, self.levels.innermost())
     }
 
     /// A command comes before the row of cells that wait.
     fn cells_wait(&self, number: usize) -> Refusal {
-        advice::cells_wait(self.alloc, number, self.notes.first_cell)
+        advice::cells_wait(self.alloc, number, self.levels.notes.first_cell)
     }
 
     /// A row is in the way of cells above it.
     fn row_does_not_fit(&self, number: usize, columns: usize) -> Refusal {
-        advice::row_does_not_fit(self.alloc, number, columns, &self.notes)
+        advice::row_does_not_fit(self.alloc, number, columns, &self.levels.notes)
     }
 
     /// A text has a character that is wider than its block.
     fn too_narrow(&self, number: usize) -> Refusal {
-        let outside = self.levels.iter().rev();
-        let too_wide = self.notes.too_wide.or_else(|| outside
-            .filter_map(|level| level.outside.too_wide)
-            .next());
-        advice::too_narrow(self.alloc, number, too_wide)
+        advice::too_narrow(self.alloc, number, self.levels.too_wide())
     }
 }
 

@@ -37,11 +37,30 @@ pub fn show_plain<W: CharWidth>(
     let mut text = String::new(alloc);
     for line in lines {
         let is_border = matches!(line, RenderLine::Line(_));
-        let line = line.into_tagged_line()?;
-        let line = line.map_tag(&|_tag: Vec<()>| Vec::<RichAnnotation>::new(alloc))?;
-        push_line::<W>(&mut text, &line, is_border, format)?;
+        push_plain_line::<W>(
+            alloc,
+            &mut text,
+            line.into_tagged_line()?,
+            is_border,
+            format,
+        )?;
     }
     Ok(text)
+}
+
+/// Appends a line under no annotations, for which a terminal needs no control sequences.
+fn push_plain_line<W: CharWidth>(
+    alloc: Global,
+    text: &mut String,
+    line: TaggedLine<Vec<()>>,
+    is_border: bool,
+    format: Format,
+) -> Result<(), OutOfMemory> {
+    if matches!(format, Format::Ansi | Format::Bare) {
+        return ansi::push_bare_line(text, &line);
+    }
+    let line = line.map_tag(&|_tag: Vec<()>| Vec::<RichAnnotation>::new(alloc))?;
+    push_line::<W>(text, &line, is_border, format)
 }
 
 /// The characters of the lines, each line with a newline.

@@ -1,7 +1,8 @@
 //! What a line of a script for people asks for.
-ghost use Rattle.std.specs.Prelude.{IfOk, IfSome};
-ghost use Rattle.tbr_commands.specs.Command.{command_of};
-ghost use Rattle.tbr_view.specs.Statement.{IsSized};
+ghost use Rattle.std.specs.Prelude.{◌≡◌, ℤ, IfOk, IfSome, IfNone};
+ghost use Rattle.tbr_view.specs.Statement as model;
+ghost use Rattle.tbr_view.specs.Statement.{IsStatement, IsOfBlocks, IsNumbered, IsItemNumber, IsSized};
+ghost use Rattle.tbr_view.specs.declared.statement.Statement.{Statement as Meant};
 
 use crate::block::Block;
 use std::alloc::{AllocError, Global};
@@ -22,7 +23,11 @@ pub enum Statement {
 impl Statement {
     /// What a line asks for, without its newline. `None` where it asks for nothing that there is.
     pub fn parse(alloc: Global, line: &[u8]) -> Result<Option<Statement>, AllocError>
-        ensures { IfOk result (λ found. IfSome found IsSized) }
+        ensures statement { IfOk result (λ found.
+            IfSome found (λ statement. IsStatement line.now statement)) }
+        ensures sized { IfOk result (λ found. IfSome found IsSized) }
+        ensures none { IfOk result (λ found.
+            IfNone found ((statement : Meant) → IsStatement line.now statement → ⊥)) }
     {
         if let Some(command) = Command::parse(alloc, line)? {
             return Ok(Some(Statement::Command(command)));
@@ -34,9 +39,17 @@ impl Statement {
     }
 }
 
+/// Whether a line asks for nothing: it is empty, or a comment.
+pub fn is_skipped(line: &[u8]) -> bool
+    ensures { result ≡ model.is_skipped line.now }
+{
+    line.is_empty() || line.starts_with(b"#")
+}
+
 /// What a line asks for that opens or closes a block with a prefix.
 fn of_blocks(line: &str) -> Option<Statement>
-    ensures { IfSome result IsSized }
+    ensures found { IfSome result (λ statement. IsOfBlocks line.now statement) }
+    ensures none { IfNone result ((statement : Meant) → IsOfBlocks line.now statement → ⊥) }
 {
     match line {
         "quote" => Some(Statement::Open(Block::Quote)),
@@ -51,12 +64,13 @@ fn of_blocks(line: &str) -> Option<Statement>
 
 /// The same of one with a number.
 fn numbered(line: &str) -> Option<Statement>
-    ensures { IfSome result IsSized }
+    ensures found { IfSome result (λ statement. IsNumbered line.now statement) }
+    ensures none { IfNone result ((statement : Meant) → IsNumbered line.now statement → ⊥) }
 {
     let (word, digits) = line.split_once(' ')?;
     match word {
         "ordered" => {
-            let number = i64::try_from(parse_number(digits)?).ok()?;
+            let number = item_number(digits)?;
             Some(Statement::Open(Block::Ordered(number)))
         }
         "heading" => {
@@ -65,4 +79,12 @@ fn numbered(line: &str) -> Option<Statement>
         }
         _ => None,
     }
+}
+
+/// The number of an item by its digits.
+fn item_number(digits: &str) -> Option<i64>
+    ensures found { IfSome result (λ number. IsItemNumber digits.now number) }
+    ensures none { IfNone result ((number : ℤ) → IsItemNumber digits.now number → ⊥) }
+{
+    i64::try_from(parse_number(digits)?).ok()
 }

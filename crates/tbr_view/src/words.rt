@@ -1,4 +1,7 @@
 //! The commands of a script, and which is near a word.
+ghost use Rattle.std.specs.Prelude.{◌≡◌, IfOk, IfSome, IfNone};
+ghost use Rattle.tbr_view.specs.Words as model;
+ghost use Rattle.tbr_view.specs.Words.{IsNearest, AreFar};
 
 use std::alloc::{AllocError, Global};
 use strsim::levenshtein;
@@ -70,8 +73,10 @@ pub const OPTIONS: [&str; 10] = [
 /// The decorators.
 pub const DECORATORS: [&str; 3] = ["plain", "trivial", "rich"];
 
-/// The first word of a line.
-pub fn first_word(line: &str) -> &str {
+/// The first word of a line: what stands before its first space.
+pub fn first_word(line: &str) -> &str
+    ensures { result.now ≡ model.first_word line.now }
+{
     match line.split_once(' ') {
         Some((word, _)) => word,
         None => line,
@@ -83,15 +88,25 @@ pub fn form_of(word: &str) -> Option<&'static str> {
     FORMS.iter().copied().find(|form| first_word(form) == word)
 }
 
-/// The one of the texts whose first word is nearest to a word, if it is at most two edits away, and fewer than the word
-/// has characters.
+/// How many edits lead too far from a word: three, or as many as it has bytes.
+fn too_far(word: &str) -> usize
+    ensures { result ≡ model.too_far word.now }
+{
+    word.len().min(3)
+}
+
+/// The first of the texts whose first word is nearest to a word, if it is at most two edits away, and fewer than the
+/// word has bytes. It refuses only for want of memory.
 pub fn nearest(
     alloc: Global,
     word: &str,
     among: &[&'static str],
-) -> Result<Option<&'static str>, AllocError> {
+) -> Result<Option<&'static str>, AllocError>
+    ensures found { IfOk result (λ found. IfSome found (λ text. IsNearest word.now among.now text)) }
+    ensures none { IfOk result (λ found. IfNone found (AreFar word.now among.now)) }
+{
     let mut best = None;
-    let mut least = 3.min(word.len());
+    let mut least = too_far(word);
     for text in among {
         let edits = levenshtein(alloc, word, first_word(text))?;
         if edits < least {

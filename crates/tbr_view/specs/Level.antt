@@ -1,0 +1,46 @@
+-- What is open in a script.
+use Rattle.std.specs.Prelude.{◌≡◌, ℕ, ◌+◌, ◌-◌, ◌^◌, min, nat_lt, if◌then◌else◌, Option, None, Some, is_some, List, [], ◌∷◌, ◌++◌, length, slice_get, codes}
+use Rattle.tbr_view.specs.Statement as block
+use Rattle.tbr_view.specs.declared.level.Level.{Level}
+use Rattle.tbr_view.specs.declared.level.Notes.{Notes}
+use Rattle.tbr_view.specs.declared.level.Opener.{Opener}
+use Rattle.tbr_view.specs.declared.level.Opener.TheVariants.{Sub, Cell, Block}
+
+-- the command that closes what was opened so
+abbrev pub end_of : Opener → List ℕ
+end_of Sub = codes "append >  | > "
+end_of Cell = codes "endcell"
+end_of (Block b prefixes) = block.end_of b
+
+-- the innermost level, if there is one
+abbrev pub innermost : List Level → Option Level
+innermost levels = slice_get levels (length levels - 1)
+
+-- nothing is known of a level
+abbrev pub nothing : Notes
+nothing = record { first_cell = None; row_columns = 0; spanning = None; too_wide = None }
+
+-- a sum, or the greatest `usize` if it passes that
+abbrev pub held : ℕ → ℕ
+held n = min n (2 ^ 64 - 1)
+
+-- the first, or else the other one
+abbrev pub first_of : {X : Type 0} → Option X → Option X → Option X
+first_of None other = other
+first_of (Some x) other = Some x
+
+-- One more cell waits, with a line between it and one that waits already. It is the last that takes more rows than one,
+-- if it does.
+abbrev pub with_cell : Notes → ℕ → ℕ → ℕ → Notes
+with_cell notes line columns rows = record notes {
+  first_cell = first_of notes.first_cell (Some line);
+  row_columns = held (held (notes.row_columns + columns) + (if is_some notes.first_cell then 1 else 0));
+  spanning = if nat_lt 1 rows then Some line else notes.spanning;
+}
+
+-- The innermost level closes, which was opened by this.
+pub record Leaves (levels : List Level) (notes : Notes) (by : Opener) (rest : List Level) (known : Notes) : Type 0 where
+  pub line : ℕ
+  pub outside : Notes
+  pub last : levels ≡ rest ++ record { by = by; line = line; outside = outside } ∷ []
+  pub keeps : known ≡ record outside { too_wide = first_of outside.too_wide notes.too_wide }
