@@ -73,7 +73,7 @@ pub const OPTIONS: [&str; 10] = [
 /// The decorators.
 pub const DECORATORS: [&str; 3] = ["plain", "trivial", "rich"];
 
-/// The first word of a line: what stands before its first space.
+/// The first word of a line: what is before its first space.
 pub fn first_word(line: &str) -> &str
     ensures { result.now ≡ model.first_word line.now }
 {
@@ -95,8 +95,8 @@ fn too_far(word: &str) -> usize
     word.len().min(3)
 }
 
-/// The first of the texts whose first word is nearest to a word, if it is at most two edits away, and fewer than the
-/// word has bytes. It refuses only for want of memory.
+/// A text whose first word is as near to a word as any, if it is at most two edits away, and fewer than the word has
+/// bytes. It refuses only where memory is refused.
 pub fn nearest(
     alloc: Global,
     word: &str,
