@@ -72,7 +72,7 @@ fn show_all(rt: &HostRuntime, matches: &ArgMatches) -> u8 {
     status
 }
 
-/// Writes what stands before all files.
+/// Writes what is before all files.
 fn begin(rt: &HostRuntime, format: Format) -> io::Result<()> {
     match format {
         Format::Html => write(rt, html::BEGINNING),
@@ -80,7 +80,7 @@ fn begin(rt: &HostRuntime, format: Format) -> io::Result<()> {
     }
 }
 
-/// Writes what stands after all files.
+/// Writes what is after all files.
 fn end(rt: &HostRuntime, format: Format) -> io::Result<()> {
     match format {
         Format::Html => write(rt, html::END),

@@ -51,7 +51,7 @@ pub a_marker_of_a_word_with_a_character_is_not_taken : {A : Type 0} (a b : A) �
     loose_of (made example_columns 9 false (mark (codes "x") ∷ text Normal a b (codes "cd") ∷ [])) ≡ done []
 a_marker_of_a_word_with_a_character_is_not_taken a b = refl
 
--- while a run is under way, one that stands on the open line isn't taken
+-- while a run is under way, one that is on the open line isn't taken
 pub a_marker_on_the_open_line_is_not_taken : {A : Type 0} (a b : A) →
     loose_of (made example_columns 1 true
     (text Normal a b (codes "漢") ∷ mark (codes "x") ∷ text Normal a b (codes " ") ∷ mark (codes "y") ∷ []))

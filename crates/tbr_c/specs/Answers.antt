@@ -12,7 +12,7 @@ use Rattle.tbr_c.specs.declared.state.State.{State}
 use Rattle.tbr_c.specs.declared.state.State.TheVariants.{Finished}
 use Rattle.tbr_c.specs.State.{HasEnded, Does, Refuses, CopiesRest}
 
--- What is answered to a command, but for want of memory: it was done, or is refused as in a script.
+-- What is answered to a command, but where memory is refused: it was done, or is refused as in a script.
 pub record IsAnswer (state : State) (command : Command) (done : Result (Unit {0}) Fault) : Type 0 where
   pub ended : HasEnded state done
   pub does : OnOk done ((next : State) × Does state command next)

@@ -64,7 +64,7 @@ Does (Rich p) command other = ⊥
 Does (Finished lines) command other = ⊥
 Does (Refused e) command other = ⊥
 
--- With what it is refused, but for want of memory: as in a script, whose lines don't count here.
+-- With what it is refused, but where memory is refused: as in a script, whose lines don't count here.
 abbrev pub Refuses : State → Command → Fault → Type 0
 Refuses (Plain p) command f =
     (e : RunError) × CommandRefuses unicode_columns plain_decoration (progress_meant (λ a. a) p) 0 command e

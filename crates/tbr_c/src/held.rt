@@ -34,7 +34,7 @@ impl Model for Held {
 }
 
 impl Held {
-    /// A renderer without text. It refuses only for want of memory.
+    /// A renderer without text. It refuses only where memory is refused.
     pub fn new(alloc: Global, opening: Opening) -> Result<Held, Fault>
         requires width { 0 < opening.width }
         requires wrap_width { opening.options.wrap_width ≢ Some 0 }

@@ -53,7 +53,7 @@ pub struct Facts {
 }
 
 impl State {
-    /// A renderer without text. It refuses only for want of memory.
+    /// A renderer without text. It refuses only where memory is refused.
     pub fn new(alloc: Global, opening: Opening) -> Result<State, Fault>
         requires width { 0 < opening.width }
         requires wrap_width { opening.options.wrap_width ≢ Some 0 }
@@ -111,7 +111,7 @@ impl State {
         }
     }
 
-    /// Whether lines of cells still wait for their rows in the innermost level. It refuses for want of memory too.
+    /// Whether lines of cells still wait for their rows in the innermost level. It refuses where memory is refused too.
     pub fn has_overhang(&self, alloc: Global) -> Result<bool, Fault>
         requires { CanGoOn self.now }
         ensures ended { HasEnded self.now result }
@@ -139,7 +139,7 @@ impl State {
         })
     }
 
-    /// The text of a prefix of the decorator. It refuses for want of memory too.
+    /// The text of a prefix of the decorator. It refuses where memory is refused too.
     pub fn prefix(&mut self, prefix: DecoratorPrefix) -> Result<String, Fault>
         requires { CanGoOn self.old }
         ensures left { self.new ≡ self.old }
@@ -194,7 +194,7 @@ impl State {
     }
 
     /// Copies the text of all lines that weren't taken, each with a newline, as `copy_out` does. `NotFinished` where it
-    /// is still filled. It refuses for want of memory too.
+    /// is still filled. It refuses where memory is refused too.
     pub fn copy_text(
         &mut self,
         alloc: Global,
@@ -245,7 +245,7 @@ impl State {
     }
 }
 
-/// A program in which nothing was called yet. It refuses only for want of memory.
+/// A program in which nothing was called yet. It refuses only where memory is refused.
 fn started<D: TextDecorator>(
     alloc: Global,
     width: usize,

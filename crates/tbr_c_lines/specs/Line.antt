@@ -88,7 +88,7 @@ size_of line = record {
   is_border = line.is_border;
 }
 
--- how many annotations a piece stands under, the bytes of its name, and its kind
+-- how many annotations a piece is under, the bytes of its name, and its kind
 abbrev pub annotations_of : What → List RichAnnotation
 annotations_of (under annotations) = annotations
 annotations_of (named name) = []

@@ -96,7 +96,7 @@ pub struct AnnotationKind {
 }
 
 impl Line {
-    /// A line that a renderer handed out. It refuses only for want of memory, and where its columns pass `usize`.
+    /// A line that a renderer handed out. It refuses only where memory is refused, and where its columns pass `usize`.
     pub fn new<A: Annotation>(alloc: Global, line: RenderLine<Vec<A>>) -> Result<Line, OutOfMemory>
         ensures { IfOk result (λ l. seen.IsSeenAs A.eq A.shown line l) }
     {

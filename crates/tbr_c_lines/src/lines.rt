@@ -64,7 +64,7 @@ impl Lines {
     }
 
     /// Takes the next line, and answers its size. `NoLine` where there is none, and the one that was taken last stays.
-    /// It refuses for want of memory too, and where the columns of the line pass `usize`; the line is lost then.
+    /// It refuses where memory is refused too, and where the columns of the line pass `usize`; the line is lost then.
     pub fn next(&mut self, alloc: Global) -> Result<LineSize, Fault>
         ensures taken { IfOk result (λ size. IfSome self.new.current (λ line.
             left.TakesFirst self.old.rest line self.new.rest × (size ≡ seen.size_of line))) }

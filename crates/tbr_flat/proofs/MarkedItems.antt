@@ -33,7 +33,7 @@ module _ {A : Type 0} where
   length-marked is ((n, name) ∷ ms) =
       omega (arith, length-append (take n is) (marker name ∷ marked (drop n is) ms), length-marked (drop n is) ms, ap length (take-append-drop n is), length-append (take n is) (drop n is))
 
-  -- the last markers stand among the characters after the others
+  -- the last markers are among the characters after the others
   marked_split : (is : List (Item A)) (ms ns : List (ℕ × List ℕ)) → marked is (ms ++ ns) ≡ marked (take (before_last ms) is) ms ++ marked (drop (before_last ms) is) ns
   marked_split is [] ns = refl
   marked_split is ((n, name) ∷ ms) ns =
@@ -157,7 +157,7 @@ module _ {A : Type 0} where
       let len : length xs ≡ length front = omega (arith, ap length e, length-append xs ys, length-append front line) in
       sym (drop_at xs ys (length front) len) ∙ ap (drop (length front)) e ∙ drop_at front line (length front) refl
 
-  -- after the last marker stand characters alone, so a line without a character is empty where there are some
+  -- after the last marker are characters alone, so a line without a character is empty where there are some
   pub none_at_end : (is : List (Item A)) (m : MarkerPlaces) (before line : List (Item A)) → Each (λ i. is_glyph i ≡ true) is → covered m ≡ length is → marked is m.markers ≡ before ++ line → has_character line ≡ false → 0 < m.after → line ≡ []
   none_at_end is m before line h e parts none some =
       let s = before_last m.markers in let rest = drop s is in

@@ -17,7 +17,7 @@ pub map_first : {X Y : Type 0} (f : X → Y) (xs : List X) (x : X) → 0 < lengt
 map_first f [] x h e = absurd (omega arith)
 map_first f (y ∷ ys) x h e = ap (λ z. f z ∷ map f ys) (sym e)
 
--- it comes first where no character stands before it
+-- it comes first where no character is before it
 pub begins_with_marker : (ms rest : List (ℕ × List ℕ)) (n : ℕ) (name : List ℕ) → ms ≡ (n, name) ∷ rest →
     IsTrue (nat_eq n 0) ↔ ((first : List ℕ) × (after : List (ℕ × List ℕ)) × (ms ≡ (0, first) ∷ after))
 begins_with_marker ms rest n name e = (

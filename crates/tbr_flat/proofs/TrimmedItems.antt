@@ -20,13 +20,13 @@ module _ {A : Type 0} where
       go [] e = trailing_none (marker name) is false e refl ∙ ap (λ ks. marker name ∷ ks) (sym e)
       go (j ∷ js) e = trailing_some (marker name) j is js e ∙ ap (λ ks. marker name ∷ ks) (sym e)
 
-  -- what stands before a marker stays
+  -- what is before a marker stays
   trailing_after : (front : List (Item A)) (name : List ℕ) (is : List (Item A)) → without_trailing (front ++ marker name ∷ is) ≡ front ++ marker name ∷ without_trailing is
   trailing_after [] name is = trailing_marker name is
   trailing_after (i ∷ []) name is = trailing_some i (marker name) (marker name ∷ is) (without_trailing is) (trailing_marker name is)
   trailing_after (i ∷ j ∷ front) name is = trailing_some i j (j ∷ front ++ marker name ∷ is) (front ++ marker name ∷ without_trailing is) (trailing_after (j ∷ front) name is)
 
-  -- a marker comes last where no character stands after it
+  -- a marker comes last where no character is after it
   ends_in_marker : (is : List (Item A)) (ms : List (ℕ × List ℕ)) → length is ≡ before_last ms → (marked is ms ≡ []) ⊎ ((front : List (Item A)) × (name : List ℕ) × (marked is ms ≡ front ++ marker name ∷ []))
   ends_in_marker is [] h = inl (nil_from_length is h)
   ends_in_marker is ((n, name) ∷ ms) h = elim (ends_in_marker (drop n is) ms (omega (arith, length-drop n is))) [

@@ -81,12 +81,12 @@ is_visible_entry columns (marker_entry name) = false
 abbrev pub visible_entries : {A : Type 0} → (ℕ → Option ℕ) → List (Entry A) → List (Entry A)
 visible_entries columns es = filter (is_visible_entry columns) es
 
--- a character stands under its annotation, or under the one that it has where its hard line goes on
+-- a character is under its annotation, or under the one that it has where its hard line goes on
 abbrev pub IsShown : {A : Type 0} → (A → A → Type 0) → ℕ × A → Entry A → Type 0
 IsShown Same g (character c a b m) = (g.0 ≡ c) × (Same g.1 a ⊎ Same g.1 b)
 IsShown Same g (marker_entry name) = ⊥
 
--- The visible characters of a run stand in lines once, in order, each under an annotation of its call.
+-- The visible characters of a run are in lines once, in order, each under an annotation of its call.
 abbrev pub ShowsVisible : {A : Type 0} →
     (ℕ → Option ℕ) → (A → A → Type 0) → List (Entry A) → List (List (Item A)) → Type 0
 ShowsVisible columns Same run ls =
@@ -200,7 +200,7 @@ tabs_filled n (c ∷ cs) =
 abbrev pub blank_lines : {A : Type 0} → Bool → List (List (Item A))
 blank_lines more = if more then [] ∷ [] else []
 
--- In any preserving run a newline ends a line, even an empty one, and a hard line's visible characters stand on lines
+-- In any preserving run a newline ends a line, even an empty one, and a hard line's visible characters are on lines
 -- of its own.
 pub record ShowsHardLine {A : Type 0} (columns : ℕ → Option ℕ) (Same : A → A → Type 0) (more : Bool)
     (h : List (Entry A)) (ls : List (List (Item A))) : Type 0 where
@@ -208,7 +208,7 @@ pub record ShowsHardLine {A : Type 0} (columns : ℕ → Option ℕ) (Same : A �
   pub visible : ShowsVisible columns Same h ls
   pub blank : IsSpaces (entry_letters h) → ls ≡ blank_lines more
 
--- characters that are no spaces stand under annotations that their entries have
+-- characters that are no spaces are under annotations that their entries have
 abbrev pub StandUnder : {A : Type 0} → (Entry A → A → Type 0) → List (ℕ × A) → List (Entry A) → Type 0
 StandUnder Has gs es = AllZip (λ g e. g.0 ≢ space_character → Has e g.1) gs es
 
@@ -223,7 +223,7 @@ HasContinuation Same (marker_entry name) x = ⊥
 -- In a run of `Pre` alone.
 pub record ShowsPre {A : Type 0} (columns : ℕ → Option ℕ) (Same : A → A → Type 0) (width : ℕ) (more : Bool)
     (h : List (Entry A)) (ls : List (List (Item A))) : Type 0 where
-  -- its kept characters stand there once, in order
+  -- its kept characters are there once, in order
   pub kept : filter (is_kept columns) (letters_of (joined ls)) ≡ filter (is_kept columns) (entry_letters h)
   -- it is one line, where it fits
   pub fits : IsPrintableLine columns h → ¬ (IsSpaces (entry_letters h)) → length h ≤ width →
@@ -233,7 +233,7 @@ pub record ShowsPre {A : Type 0} (columns : ℕ → Option ℕ) (Same : A → A 
       IsCutEvery width (entry_letters h) (map letters_of ls)
   -- spaces alone leave an empty line before a newline, and no line at the end of the run
   pub blank : IsSpaces (entry_letters h) → ls ≡ blank_lines more
-  -- its first line's characters stand under their annotations, and those behind under the continuation annotations
+  -- its first line's characters are under their annotations, and those behind under the continuation annotations
   pub main : IsPrintableLine columns h → BeginsWithNonBlank (entry_letters h) →
       StandUnder (HasMain Same) (take width (glyphs_of (joined ls))) (take width h)
   pub continuation : IsPrintableLine columns h → BeginsWithNonBlank (entry_letters h) →
@@ -246,7 +246,7 @@ pub record ShowsPreWrap {A : Type 0} (columns : ℕ → Option ℕ) (width : ℕ
   pub fits : IsPrintableLine columns h → ¬ (IsSpaces (entry_letters h)) →
       length (without_last_spaces (entry_letters h)) ≤ width →
       map letters_of ls ≡ without_last_spaces (entry_letters h) ∷ []
-  -- its stretches stand on its lines, and only those that are wider than a line are cut
+  -- its stretches are on its lines, and only those that are wider than a line are cut
   pub whole : IsPrintableLine columns h →
       IsCutOf width (stretches (entry_letters h)) (flat_map stretches (map letters_of ls))
   -- spaces are dropped, and a line ends, only where the next stretch doesn't fit

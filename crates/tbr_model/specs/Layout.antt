@@ -39,7 +39,7 @@ abbrev pub gap_width : {A : Type 0} → Option A → ℕ
 gap_width None = 0
 gap_width (Some a) = 1
 
--- the columns of slots that stand behind others
+-- the columns of slots that are behind others
 abbrev pub rest_width : {A : Type 0} → List (Slot A) → ℕ
 rest_width [] = 0
 rest_width (s ∷ ss) = (gap_width s.gap + s.width) + rest_width ss
@@ -49,7 +49,7 @@ abbrev pub line_width : {A : Type 0} → List (Slot A) → ℕ
 line_width [] = 0
 line_width (s ∷ ss) = s.width + rest_width ss
 
--- the text of slots that stand behind others, with a space at each spaced gap
+-- the text of slots that are behind others, with a space at each spaced gap
 abbrev pub gap_text : {A : Type 0} → Option A → List (Item A)
 gap_text None = []
 gap_text (Some a) = glyph space_character a ∷ []
@@ -123,7 +123,7 @@ pub record IsBest {A : Type 0} (width : ℕ) (slots : List (Slot A)) (lines : Li
   pub full : HasNoEmptyLine lines
   pub ahead : (others : List (List (Slot A))) → IsLegal width slots others → IsAhead lines others
 
--- No longer line could stand here, whatever of the rest it took.
+-- No longer line could be here, whatever of the rest it took.
 abbrev pub IsLongest : {A : Type 0} → ℕ → List (Slot A) → List (Slot A) → Type 0
 IsLongest {A} width line rest =
     (more others : List (Slot A)) → more ++ others ≡ rest → 0 < length more → FirstMayBegin others →

@@ -8,7 +8,7 @@ abbrev pub takes_columns : {A : Type 0} → (ℕ → Option ℕ) → Entry A →
 takes_columns columns (character c a b mode) = is_kept columns c && nat_lt 0 (unwrap_or (columns c) 0)
 takes_columns columns (marker_entry name) = false
 
--- A kept character of positive width stands among the entries.
+-- A kept character of positive width is among the entries.
 abbrev pub HasColumns : {A : Type 0} → (ℕ → Option ℕ) → List (Entry A) → Type 0
 HasColumns columns es = IsTrue (list_any (takes_columns columns) es)
 
@@ -18,7 +18,7 @@ NoBreakWorks {A} columns es =
     (before : List (Entry A)) (e : Entry A) (after : List (Entry A)) → es ≡ before ++ e ∷ after →
     IsTrue (is_break_entry e) → ¬ HasColumns columns before
 
--- What stands between two neighbouring working break points, or the run's start and the first, and the break point
+-- What is between two neighbouring working break points, or the run's start and the first, and the break point
 -- behind it.
 pub record Region (A : Type 0) : Type 0 where
   pub content : List (Entry A)
@@ -34,7 +34,7 @@ pub record EndsAtWorkingBreak {A : Type 0} (columns : ℕ → Option ℕ) (r : R
   pub works : HasColumns columns r.content
   pub none_before : NoBreakWorks columns r.content
 
--- The break point that ends the first region stands at this place.
+-- The break point that ends the first region is at this place.
 abbrev pub IsFirstWorkingBreak : {A : Type 0} → (ℕ → Option ℕ) → List (Entry A) → ℕ → Type 0
 IsFirstWorkingBreak {A} columns es place =
     (e : Entry A) × (slice_get es place ≡ Some e)
@@ -54,7 +54,7 @@ first_blank [] = None
 first_blank (e ∷ es) = first_of (blank_of e) (first_blank es)
 
 -- The word of a region's content: its kept characters and markers. Its gap is spaced if white space other than U+00A0
--- stands from the break point that ended the word before, which is all of `before`, up to the one that ends this word,
+-- is from the break point that ended the word before, which is all of `before`, up to the one that ends this word,
 -- or the run's end, and has the annotation of the first.
 abbrev pub word_behind : {A : Type 0} → (ℕ → Option ℕ) → List (Entry A) → List (Entry A) → Word A
 word_behind columns before content = record {

@@ -30,7 +30,7 @@ pub record Space (A : Type 0) : Type 0 where
   pub tag : A
   pub mode : WhiteSpace
 
--- Where a block stands in a run.
+-- Where a block is in a run.
 pub record Progress (A : Type 0) : Type 0 where
   pub laid : Laid A
   -- the space that waits
@@ -264,7 +264,7 @@ abbrev pub step : {A : Type 0} → (ℕ → Option ℕ) → ℕ → Progress A �
 step columns width p call = record p { in_continuation = p.continuation_flag }
 step columns width p (entry e) = enter columns width p e
 
--- where a run stands
+-- where a run is
 abbrev pub progress : {A : Type 0} → (ℕ → Option ℕ) → ℕ → List (Event A) → Progress A
 progress columns width es = fold (step columns width) at_start es
 

@@ -82,7 +82,7 @@ pub record Reading (A : Type 0) : Type 0 where
 abbrev pub start : {A : Type 0} → Reading A
 start = record { words = []; gap = None; items = [] }
 
--- A break point works if a character of positive width stands between the last one that works and it.
+-- A break point works if a character of positive width is between the last one that works and it.
 abbrev pub works : {A : Type 0} → (ℕ → Option ℕ) → Reading A → Entry A → Bool
 works columns r e = is_break_entry e && nat_lt 0 (items_width columns r.items)
 

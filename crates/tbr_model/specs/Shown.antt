@@ -20,7 +20,7 @@ without_spaces is = filter (λ i. not (is_space_item i)) is
 abbrev pub names_waiting : {A : Type 0} → (ℕ → Option ℕ) → ℕ → List (Event A) → List (List ℕ)
 names_waiting columns width es = names_in_items (waiting columns width (progress columns width es))
 
--- ---- what may stand on lines
+-- ---- what may be on lines
 
 -- an entry of the run has the annotation, as its own or for where its hard line goes on
 abbrev pub HasAnnotation : {A : Type 0} → (A → A → Type 0) → List (Entry A) → A → Type 0
@@ -32,7 +32,7 @@ ComesFrom columns Same run (glyph c x) =
     (is_visible columns c ≡ true) ⊎ ((is_whitespace c ≡ true) × HasAnnotation Same run x)
 ComesFrom columns Same run (marker name) = Contains run (marker_entry name)
 
--- Nothing else stands on the lines. The run's visible characters stand there once (`ShowsVisible`).
+-- Nothing else is on the lines. The run's visible characters are there once (`ShowsVisible`).
 abbrev pub InventsNothing : {A : Type 0} →
     (ℕ → Option ℕ) → (A → A → Type 0) → List (Entry A) → List (List (Item A)) → Type 0
 InventsNothing columns Same run ls = Each (ComesFrom columns Same run) (joined ls)
@@ -55,14 +55,14 @@ abbrev pub is_entry_to_show : {A : Type 0} → (ℕ → Option ℕ) → Entry A 
 is_entry_to_show columns (character c a b m) = is_visible columns c
 is_entry_to_show columns (marker_entry name) = true
 
--- a character stands under an annotation of its call, and a marker has its name
+-- a character is under an annotation of its call, and a marker has its name
 abbrev pub ShowsEntry : {A : Type 0} → (A → A → Type 0) → Item A → Entry A → Type 0
 ShowsEntry Same (glyph c x) e = IsShown Same (c, x) e
 ShowsEntry Same (marker name) (character c a b m) = ⊥
 ShowsEntry Same (marker name) (marker_entry other) = name ≡ other
 
--- The visible characters and the markers of a run stand in lines, and then wait, once and in their order: so a marker
--- stands between the same visible characters.
+-- The visible characters and the markers of a run are in lines, and then wait, once and in their order: so a marker
+-- is between the same visible characters.
 abbrev pub ShowsInOrder : {A : Type 0} → (ℕ → Option ℕ) → (A → A → Type 0) → List (Entry A)
     → List (List (Item A)) → List (List ℕ) → Type 0
 ShowsInOrder columns Same run ls names =
@@ -77,12 +77,12 @@ abbrev pub IsNotPre : {A : Type 0} → Entry A → Type 0
 IsNotPre (character c a b m) = m ≢ Pre
 IsNotPre (marker_entry name) = Unit {0}
 
--- a character stands under its own annotation
+-- a character is under its own annotation
 abbrev pub StandsUnderOwn : {A : Type 0} → (A → A → Type 0) → ℕ × A → Entry A → Type 0
 StandsUnderOwn Same g (character c a b m) = (g.0 ≡ c) × Same g.1 a
 StandsUnderOwn Same g (marker_entry name) = ⊥
 
--- The visible characters of a run stand in lines once, in order, each under its own annotation.
+-- The visible characters of a run are in lines once, in order, each under its own annotation.
 abbrev pub ShowsOwn : {A : Type 0} →
     (ℕ → Option ℕ) → (A → A → Type 0) → List (Entry A) → List (List (Item A)) → Type 0
 ShowsOwn columns Same run ls =
@@ -133,6 +133,6 @@ EndWhereFull columns width (l ∷ []) = Unit {0}
 EndWhereFull columns width (l ∷ m ∷ ls) =
     (width < items_width columns l + first_columns columns m) × EndWhereFull columns width (m ∷ ls)
 
--- the lines on which a word stands that begins a line, the open one too
+-- the lines on which a word is that begins a line, the open one too
 abbrev pub word_lines : {A : Type 0} → (ℕ → Option ℕ) → ℕ → List (Item A) → List (List (Item A))
 word_lines columns width word = (end_line (put_items columns width nothing_laid word)).done

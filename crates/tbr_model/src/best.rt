@@ -73,7 +73,7 @@ fn best_cuts<T>(
 /// The cuts of the best layout of a run in lines of a width, in columns, or `None` where it has no legal layout.
 ///
 /// It looks at every line between two positions of the run, so its time grows with the third power of the number of
-/// items. It fails only for want of memory.
+/// items. It fails only where memory is refused.
 pub fn best_layout<T, W: CharWidth>(
     alloc: Global,
     run: &[Entry<T>],

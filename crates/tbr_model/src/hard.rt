@@ -8,7 +8,7 @@ ghost use Rattle.tbr_model.specs.Layout.{Slot, slots_of, line_text, AllItemsFit,
 ghost use Rattle.tbr_model.specs.Rule.{Event, run_of, lines_of};
 ghost use Rattle.tbr_model.specs.Hard.{AllHaveMode, Preserves, hard_lines, Parted, IsCutEvery, IsWrapped, ShowsHardLine, ShowsPre, ShowsPreWrap, ShowsTabs};
 
-/// In a run of preserving modes each hard line has lines of its own. Its visible characters stand there once, in order,
+/// In a run of preserving modes each hard line has lines of its own. Its visible characters are there once, in order,
 /// each under an annotation of its call. A newline ends a line, even an empty one. Spaces alone leave an empty line
 /// before a newline, and no line at the end of the run.
 pub fn hard_lines_are_shown<T>()
@@ -29,7 +29,7 @@ pub fn pre_lines_are_shown<T>()
 {}
 
 /// In a run of `PreWrap` alone a hard line of printable characters, not of spaces alone, is one line where it fits
-/// without the spaces at its end, which are dropped. In any case its stretches of non-blanks stand in order, and a
+/// without the spaces at its end, which are dropped. In any case its stretches of non-blanks are in order, and a
 /// stretch is cut only if it is wider than a line. Spaces are dropped, and a line ends, only where the next stretch
 /// doesn't fit. Spaces alone leave an empty line before a newline, and no line at the end of the run.
 pub fn prewrap_lines_are_shown<T>()

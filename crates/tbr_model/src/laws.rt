@@ -68,7 +68,7 @@ pub fn words_stand_between_working_breaks<T>()
         trailing columns run ≡ markers_left columns rest }
 {}
 
-/// Between neighbouring words of a line stands one space where the gap between them is spaced, and else nothing. It is
+/// Between neighbouring words of a line is one space where the gap between them is spaced, and else nothing. It is
 /// spaced exactly where a blank stood there.
 pub fn gaps_are_one_space<T>()
     ensures line { (columns : ℕ → Option ℕ) (width : ℕ) (w : Word T) (ws : List (Word T)) →

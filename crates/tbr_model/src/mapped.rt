@@ -5,7 +5,7 @@ ghost use Rattle.tbr_model.specs.Layout.{Slot, slots_of, line_text, IsBest};
 ghost use Rattle.tbr_model.specs.Hard.{hard_lines, Parted, ShowsVisible, ShowsHardLine, ShowsPre, ShowsPreWrap, ShowsTabs};
 ghost use Rattle.tbr_model.specs.Mapped.{map_items, map_run, map_word, map_slots, map_layout, map_lines, KeepsEqual};
 
-/// What stands under which annotation doesn't change how a run is laid out.
+/// What is under which annotation doesn't change how a run is laid out.
 pub fn annotations_change_no_layout<A, B>()
     ensures words { (f : A → B) (columns : ℕ → Option ℕ) (run : List (Entry A)) →
         words_of columns (map_run f run) ≡ map (map_word f) (words_of columns run) }

@@ -12,8 +12,8 @@ ghost use Rattle.tbr_model.specs.declared.white_space.WhiteSpace.TheVariants.{No
 ghost use Rattle.tbr_model.specs.Hard.{AllHaveMode, entry_letters, is_visible, ShowsVisible};
 ghost use Rattle.tbr_model.specs.Shown.{without_spaces, names_waiting, InventsNothing, ComesWithRun, ShowsInOrder, IsNotPre, ShowsOwn, run_shows_columns, HasColumns, columns_so_far, next_stop, is_newline_or_tab, HasOneMore, EndWhereFull, word_lines};
 
-/// The visible characters of a run stand on its lines once, in order, each under an annotation of its call. Its
-/// markers stand there once, in order, or wait.
+/// The visible characters of a run are on its lines once, in order, each under an annotation of its call. Its
+/// markers are there once, in order, or wait.
 pub fn visible_characters_are_shown<T>()
     ensures characters { (columns : ℕ → Option ℕ) (width : ℕ) (eq : T → T → Bool) → ((x : T) → eq x x ≡ true) →
         (es : List (Event T)) → ShowsVisible columns (λ a b. eq a b ≡ true) (run_of es) (lines_of columns width es) }
@@ -22,15 +22,15 @@ pub fn visible_characters_are_shown<T>()
         ≡ names_in_run (run_of es) }
 {}
 
-/// The visible characters and the markers of a run stand on its lines, and then wait, once and in their order. So each
-/// marker stands between the same visible characters.
+/// The visible characters and the markers of a run are on its lines, and then wait, once and in their order. So each
+/// marker is between the same visible characters.
 pub fn order_is_kept<T>()
     ensures { (columns : ℕ → Option ℕ) (width : ℕ) (eq : T → T → Bool) → ((x : T) → eq x x ≡ true) →
         (es : List (Event T)) → ShowsInOrder columns (λ a b. eq a b ≡ true) (run_of es)
         (lines_of columns width es) (names_waiting columns width es) }
 {}
 
-/// Where no character of a run has the mode `Pre`, its visible characters stand on its lines once, in order, each under
+/// Where no character of a run has the mode `Pre`, its visible characters are on its lines once, in order, each under
 /// its own annotation.
 pub fn only_pre_is_continued<T>()
     ensures { (columns : ℕ → Option ℕ) (width : ℕ) (eq : T → T → Bool) → ((x : T) → eq x x ≡ true) →
@@ -58,7 +58,7 @@ pub fn normal_items_are_kept<T>()
         ≡ kept_items columns (run_of es) }
 {}
 
-/// Nothing stands on the lines of a run but its visible characters, white space under its annotations, and its markers.
+/// Nothing is on the lines of a run but its visible characters, white space under its annotations, and its markers.
 pub fn nothing_is_invented<T>()
     ensures { (columns : ℕ → Option ℕ) (width : ℕ) (eq : T → T → Bool) → ((x : T) → eq x x ≡ true) →
         (es : List (Event T)) → InventsNothing columns (λ a b. eq a b ≡ true) (run_of es) (lines_of columns width es) }

@@ -13,7 +13,7 @@ use crate::slot::Slot;
 use crate::width::CharWidth;
 use std::alloc::{AllocError, Global};
 
-/// Before how many entries the first break point that works stands.
+/// Before how many entries the first break point that works is.
 fn working_break<T, W: CharWidth>(entries: &[Entry<T>]) -> Option<usize>
     ensures { MatchOption result (NoBreakWorks W.columns (entry_values entries.now))
         (IsFirstWorkingBreak W.columns (entry_values entries.now)) }
@@ -100,7 +100,7 @@ fn push_word<'a, T, W: CharWidth>(
 
 /// The items of a run's words in order, with what a line of the width, in columns, has to know of them.
 ///
-/// It fails only for want of memory.
+/// It fails only where memory is refused.
 pub fn slots<'a, T, W: CharWidth>(
     alloc: Global,
     run: &'a [Entry<T>],

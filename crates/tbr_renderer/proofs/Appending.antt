@@ -84,7 +84,7 @@ module _ {D A M : Type 0} (f : A → M) (columns : ℕ → Option ℕ) (first : 
     lines = is ∙ ap (λ (r : Renderer D M (List M)). with_line columns r text) h.lines ∙ sym (fold-append (with_line columns) (meant f first) texts (text ∷ []));
   }
 
-  -- what text stands under
+  -- what text is under
   pub under : (now : Renderer D A (Vec A)) → KeepsSettings (meant f first) (meant f now) → map f now.annotations ≡ map f first.annotations
   under now kept = ap (λ (s : Settings D M). s.annotations) kept
 

@@ -1,4 +1,4 @@
--- Renderers in which nothing stands.
+-- Renderers with nothing in them.
 use Rattle.std.proofs.Common.{◌≡◌, ℕ, ◌&&◌, ◌||◌, ◌↔◌, not, IsTrue, Bool, true, false, is_none, Option, None, Some, List, [], ◌∷◌, ◌++◌, map, drop, refl, ap, sym, ◌∙◌, subst}
 use Rattle.std.specs.Global.{Vec}
 use Rattle.std.proofs.lemmas.Bool.{and_parts}

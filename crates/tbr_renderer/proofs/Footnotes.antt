@@ -125,7 +125,7 @@ module _ {A M : Type 0} (f : A → M) (columns : ℕ → Option ℕ) where
       last ∙ ap (λ (x : Cutting (List M)). (line_ended x).ended) (all ∙ ap (λ (x : Cutting (Vec A)). with_items columns (cut_meant f x) (footnote_items es)) begun)
       ∙ cut_by_items columns (nothing_cut width) (footnote_items es)
 
--- ---- what stands in the fields
+-- ---- what is in the fields
 
 module _ {A M : Type 0} (f : A → M) where
   pub texts_are : (lines : List (List (Element (Vec A)))) → texts_meant f lines ≡ map (items_meant f) (map items_of lines)

@@ -49,7 +49,7 @@ name_alone src utf8 h = sym (whole_name (chars src) (none_passes src utf8 h))
 slash_utf8 : (name : List ℕ) → IsUtf8 name → IsUtf8 (47 ∷ name)
 slash_utf8 name (cs, (scalars, e)) = (47 ∷ cs, (scalars, ap (λ bs. bs ++ encode_utf8_all cs) (encode_ascii 47 (lit< tt)) ∙ ap (λ bs. 47 ∷ bs) e))
 
--- and one whose last slash stands before `name`
+-- and one whose last slash is before `name`
 pub name_behind : (src name : List ℕ) (i j : ℕ) → IsUtf8 src → RFindsChar 47 src (Some (i, j)) → name ≡ drop j src → chars name ≡ file_name (chars src)
 name_behind src name i j utf8 h n =
     let front : List ℕ = take i src in

@@ -189,7 +189,7 @@ side_by_side-map : {A B : Type 0} (f : A → B) (at : ℕ) (cells : List (Cell A
 side_by_side-map f at [] h = tt
 side_by_side-map f at (c ∷ cs) h = (h.0, side_by_side-map f (c.place + c.width + 1) cs h.1)
 
--- the cells stand side by side, whatever their annotations mean
+-- the cells are side by side, whatever their annotations mean
 pub stand_meant : {A M : Type 0} (f : A → M) (cells : List (Cell (Vec A))) → AreSideBySide 0 cells → AreSideBySide 0 (map (map_cell (tag_meant f)) cells)
 stand_meant f cells h = side_by_side-map (tag_meant f) 0 cells h
 

@@ -46,7 +46,7 @@ FirstToRefuse {S} {X} gives refuses (s ∷ ss) = refuses s ⊎ ((x : X) × gives
 
 -- ---- lines of other renderers
 
--- a line as text: a border's cells stand under the tag, and its holes keep theirs
+-- a line as text: a border's cells are under the tag, and its holes keep theirs
 abbrev pub as_text : {T : Type 0} → T → Line T → List (Item T)
 as_text tag (text is) = is
 as_text tag (border b) = shown tag b
@@ -100,7 +100,7 @@ module _ {D A : Type 0} (columns : ℕ → Option ℕ) where
   with_cells r [] = r
   with_cells r (lines ∷ cells) = fold with_cell_below (with_cell r lines) cells
 
-  -- Behind a flush cells come one below another. Where borders are drawn, one stands between each two and one behind
+  -- Behind a flush cells come one below another. Where borders are drawn, one is between each two and one behind
   -- all.
   abbrev pub AppendsCells :
       List (List (Line (List A))) → Renderer D A (List A) → Renderer D A (List A) → Type 0

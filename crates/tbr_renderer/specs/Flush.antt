@@ -56,7 +56,7 @@ pub record AddsAsIs {D A : Type 0} (r : Renderer D A (Vec A)) (b : Block (Vec A)
   pub unpadded : r.options.pad_block_width ≡ false
   pub waits : r.waiting ≡ []
 
--- the run is ended: its lines join the others one by one, and the markers that stand on none of them wait
+-- the run is ended: its lines join the others one by one, and the markers that are on none of them wait
 abbrev pub flushed : {D A : Type 0} →
     (ℕ → Option ℕ) → Renderer D A (List A) → List (List (Item (List A))) → List (List ℕ) → Renderer D A (List A)
 flushed columns r lines names =

@@ -1,4 +1,4 @@
--- The targets of links, which stand behind a document.
+-- The targets of links, which are behind a document.
 use Rattle.std.specs.Prelude.{ℕ, Bool, true, Option, Some, None, ◌+◌, nat_le, ◌==◌, if◌then◌else◌, List, [], ◌∷◌, ◌++◌, map, flat_map, fold}
 use Rattle.tbr_model.specs.Codes.{newline_character, space_character}
 use Rattle.tbr_model.specs.Run.{Item, item_width, items_width}

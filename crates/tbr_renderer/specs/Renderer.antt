@@ -20,14 +20,14 @@ pub data Line (T : Type 0) : Type 0 where
   text : List (Item T) → Line T
   border : Border T → Line T
 
--- The open block: what the padding of its lines stands under, where they are padded, and its run.
+-- The open block: what the padding of its lines is under, where they are padded, and its run.
 pub record Open (T : Type 0) : Type 0 where
   pub padding : Option T
   pub run : List (Entry T)
   -- Whether no line of it has ended, and what is open holds no character. Its meaning doesn't tell: it says no there.
   pub blank : Bool
 
--- A renderer, whose decorator is a `D`. Text stands under a `T`, which holds several annotations `A`.
+-- A renderer, whose decorator is a `D`. Text is under a `T`, which holds several annotations `A`.
 pub record Renderer (D A T : Type 0) : Type 0 where
   pub width : ℕ
   pub options : RenderOptions

@@ -19,7 +19,7 @@ use Rattle.tbr_renderer.specs.Renderer.{Line, text, border, Open, Renderer, may_
 use Rattle.tbr_renderer.specs.Flush.{Flushes}
 use Rattle.tbr_renderer.specs.Appended.{with_border}
 
--- ---- renderers in which nothing stands
+-- ---- renderers with nothing in them
 
 -- whether the open block is blank, or none is open
 abbrev pub block_is_blank : {T : Type 0} → Option (Open T) → Bool
@@ -37,15 +37,15 @@ TellsBlank {D} {A} {T} columns r =
     r.failure ≡ None → (b : Open T) → r.block ≡ Some b → may_overflow r ≡ false → IsNormal b.run →
     IsTrue b.blank ↔ (has_character (kept_items columns b.run) ≡ false)
 
--- a renderer that comes with a span, as a cell of a row: its width, and whether nothing stands in it
+-- a renderer that comes with a span, as a cell of a row: its width, and whether nothing is in it
 abbrev pub looks : {D A T : Type 0} → Renderer D A T × ℕ → ℕ × Bool
 looks col = (col.0.width, is_blank col.0)
 
--- where renderers that come as cells will stand, and whether nothing stands in them
+-- where renderers that come as cells will be, and whether nothing is in them
 abbrev pub spots_of : {D A T : Type 0} → List (Renderer D A T × ℕ) → List Spot
 spots_of cols = spots_from 0 (map looks cols)
 
--- A cell of such a renderer takes as many columns, and has no line where nothing stands in the renderer.
+-- A cell of such a renderer takes as many columns, and has no line where nothing is in the renderer.
 abbrev pub LeavesFree : {D A T : Type 0} → Renderer D A T × ℕ → Cell T → Type 0
 LeavesFree col cell = (cell.width ≡ col.0.width) × (is_blank col.0 ≡ true → cell.lines ≡ [])
 

@@ -34,7 +34,7 @@ open_seen columns b = record {
   blank = not (any_line columns b) && has_no_character columns b;
 }
 
--- the block that stands in a box, if there is one
+-- the block that is in a box, if there is one
 abbrev pub unboxed : {T : Type 0} → Option (Box (Block T)) → Option (Block T)
 unboxed boxed = option_map (λ b. b.value) boxed
 

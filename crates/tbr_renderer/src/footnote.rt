@@ -19,7 +19,7 @@ use std::mem;
 use tbr_decor::TextDecorator;
 use tbr_lines::{CharWidth, OutOfMemory, TaggedLine, TaggedLineElement, TaggedString};
 
-/// The lines of a footnote, whose characters come in order. Each stands under the list of its one annotation.
+/// The lines of a footnote, whose characters come in order. Each is under the list of its one annotation.
 #[derive(Drop)]
 pub struct FootnoteLines<D: TextDecorator, W: CharWidth> {
     alloc: Global,
@@ -94,7 +94,7 @@ impl<D: TextDecorator, W: CharWidth> FootnoteLines<D, W> {
         }
     }
 
-    /// Adds the characters of a piece: as it stands where all of it fits, and else one by one.
+    /// Adds the characters of a piece: as it is where all of it fits, and else one by one.
     fn push_piece(&mut self, piece: TaggedString<D::Annotation>) -> Result<(), OutOfMemory>
         ensures { OnOk result (cut_meant D.meaning self.new ≡ with_items W.columns (cut_meant D.meaning self.old)
             (footnote_items (meant D.meaning (piece_of piece) ∷ []))) }

@@ -29,7 +29,7 @@ use tbr_lines::{CellAlign, Error, WhiteSpace};
 /// answers, doing nothing else; a call that can't refuse does nothing then. The four calls for prefixes and
 /// `new_sub_renderer` neither leave the renderer failed nor look at a failure.
 pub trait Renderer {
-    // What its text stands under.
+    // What its text is under.
     ghost Tag: { Type 0 };
 
     // What a call that succeeds leaves, and where it answers `TooNarrow`.
@@ -148,7 +148,7 @@ pub trait Renderer {
             OnErr result (stops_at_stage (call.add_inline_text (chars text.now)) self.old self.new) }
         ensures kept { KeepsFailure kept_refusal self.old result self.new };
 
-    /// Pushes a mode of white space. It refuses only for want of memory.
+    /// Pushes a mode of white space. It refuses only where memory is refused.
     fn push_ws(&mut self, ws: WhiteSpace) -> Result<(), Error>
         ensures ok { OnOk result (does (call.push_ws ws) self.old self.new) }
         ensures memory { kept_refusal self.old ≡ None → result ≢ Err E.TooNarrow }
@@ -177,7 +177,7 @@ pub trait Renderer {
         ensures live { kept_refusal self.old ≡ None → does call.pop_preformat self.old self.new }
         ensures failed { (e : Refusal) → kept_refusal self.old ≡ Some e → self.new ≡ self.old };
 
-    /// Puts a marker where the text stands. It opens a block if there is none, and refuses only for want of memory.
+    /// Puts a marker where the text is. It opens a block if there is none, and refuses only where memory is refused.
     fn record_frag_start(&mut self, name: &str) -> Result<(), Error>
         ensures ok { OnOk result (does (call.record_frag_start name.now) self.old self.new) }
         ensures memory { kept_refusal self.old ≡ None → result ≢ Err E.TooNarrow }
@@ -379,7 +379,7 @@ pub trait Renderer {
         ensures kept { KeepsFailure kept_refusal self.old result self.new };
 
     /// Ends the open line, and adds the lines of other renderers, one below another, as `append_subrender` does without
-    /// prefixes. Where borders are drawn, one of slashes stands between each two, and a plain one behind all, also
+    /// prefixes. Where borders are drawn, one of slashes is between each two, and a plain one behind all, also
     /// where there are none. A refusal of one of them is passed on, the first in order.
     fn append_vert_row(&mut self, cols: Vec<Self>) -> Result<(), Error>
         ensures ok { OnOk result ((cells : List (List (Line Tag)))

@@ -36,7 +36,7 @@ mod rows;
 mod strikeouts;
 mod texts;
 
-/// A renderer of a width in columns, whose text stands under lists of what its decorator annotates with.
+/// A renderer of a width in columns, whose text is under lists of what its decorator annotates with.
 #[derive(Drop)]
 pub struct SubRenderer<D: TextDecorator, W: CharWidth = UnicodeColumns> {
     alloc: Global,
@@ -44,7 +44,7 @@ pub struct SubRenderer<D: TextDecorator, W: CharWidth = UnicodeColumns> {
     options: RenderOptions,
     decorator: D,
     lines: KeptLines<Vec<D::Annotation>>,
-    /// The open block. It stands in a box, so that it is taken and put back for each text without a copy of its fields.
+    /// The open block. It is in a box, so that it is taken and put back for each text without a copy of its fields.
     wrapping: Option<Box<WrappedBlock<Vec<D::Annotation>, W>>>,
     /// Markers that wait for a line of text.
     waiting: Vec<TaggedLineElement<Vec<D::Annotation>>>,

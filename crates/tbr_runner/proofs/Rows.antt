@@ -38,7 +38,7 @@ same_if_some f [] = refl
 same_if_some f (x ∷ xs) = refl
 
 module _ {D A M : Type 0} (meaning : A → M) (columns : ℕ → Option ℕ) where
-  -- ---- what nothing stands in
+  -- ---- renderers with nothing in them
 
   module _ (cell : Renderer D A (Vec A) × ℕ) (tells : TellsBlank columns cell.0) where
     abbrev seen : Bool → Renderer D M (List M)

@@ -45,7 +45,7 @@ ends (rich.Preformat continued) = []
 ends (rich.Colour colour) = selects (codes "39")
 ends (rich.BgColour colour) = selects (codes "49")
 
--- A piece stands between what begins its annotations and what ends them, without its control characters. A marker isn't
+-- A piece is between what begins its annotations and what ends them, without its control characters. A marker isn't
 -- shown.
 abbrev pub element : Element (Vec RichAnnotation Global) → List ℕ
 element (piece cs tag) = flat_map begins tag.items ++ printable cs ++ flat_map ends tag.items

@@ -61,7 +61,7 @@ ends (rich.BgColour colour) = codes "</span>"
 
 -- ---- characters in their columns
 
--- What stands before a character of so many columns, by whether the element of one of two is open: it is closed before
+-- What is before a character of so many columns, by whether the element of one of two is open: it is closed before
 -- one of one or two, and another one begins before one of two.
 abbrev pub between : Bool → Option ℕ → List ℕ
 between false None = []
@@ -85,7 +85,7 @@ module _ (columns : ℕ → Option ℕ) where
   abbrev pub shown : List ℕ → List ℕ
   shown = shown_from false
 
-  -- a piece stands in the elements of its annotations, and a marker is a place of its name
+  -- a piece is in the elements of its annotations, and a marker is a place of its name
   abbrev pub element : Element (Vec RichAnnotation Global) → List ℕ
   element (piece cs tag) =
       flat_map begins tag.items ++ shown (printable cs) ++ flat_map ends (reverse tag.items)

@@ -1,4 +1,4 @@
-//! Lines as HTML: what stands in a `<pre>`, with links, emphasis and colours as elements.
+//! Lines as HTML: what is in a `<pre>`, with links, emphasis and colours as elements.
 ghost use Rattle.std.specs.Prelude.{◌≡◌, ◌++◌, IsTrue, flat_map, chars, reverse, OnOk};
 ghost use Rattle.tbr_lines.specs.View.{chars_of, element_of};
 ghost use Rattle.std.specs.List.{list_all};
@@ -11,21 +11,21 @@ use crate::text::{push_ascii, push_char, push_parts};
 use tbr_decor::{Colour, RichAnnotation};
 use tbr_lines::{CharWidth, OutOfMemory, TaggedLine, TaggedLineElement};
 
-/// What stands before the lines, so that they are a document of their own.
+/// What is before the lines, so that they are a document of their own.
 pub const BEGINNING: &str =
     "<!DOCTYPE html>\n<meta charset=\"utf-8\">\n<style>\npre { font-family: monospace }\npre code { font: inherit }\npre .wide { display: inline-block; width: 2ch }\n</style>\n<pre>\n";
 
-/// What stands after them.
+/// What is after them.
 pub const END: &str = "</pre>\n";
 
 /// Appends a line with its newline: each piece without its control characters, in the elements of its annotations. A
 /// marker is the place that a link to its name leads to.
 ///
-/// A character of two columns stands in an element of the class `wide`, which is as wide as two of one column, with the
+/// A character of two columns is in an element of the class `wide`, which is as wide as two of one column, with the
 /// characters of no columns after it. A link to a target with another scheme than `http`, `https`, `mailto` and `ftp`
 /// leads nowhere.
 ///
-/// It refuses only for want of memory, and some may then be missing.
+/// It refuses only where memory is refused, and some may then be missing.
 pub fn push_line<W: CharWidth>(
     text: &mut String,
     line: &TaggedLine<Vec<RichAnnotation>>,
@@ -195,7 +195,7 @@ fn push_shown<W: CharWidth>(text: &mut String, more: &str) -> Result<(), OutOfMe
     push_ascii(text, between(is_wide, Some(1)))
 }
 
-/// What stands before a character of so many columns: it ends the element that is open, if one is, and begins another
+/// What is before a character of so many columns: it ends the element that is open, if one is, and begins another
 /// one, as the character needs.
 fn between(is_wide: bool, width: Option<usize>) -> &'static str
     ensures { result.now ≡ model.between is_wide width }

@@ -13,7 +13,7 @@ use tbr_lines::{CharWidth, OutOfMemory, TaggedLine, TaggedLineElement, TaggedStr
 /// Appends a line, which may be a border, as an object, with a newline. It has the columns of the line, and its pieces
 /// and markers in order: of each piece its text, its columns and its annotations, the outermost first.
 ///
-/// It refuses for want of memory, and where the line's columns pass `usize`. Some may be missing then.
+/// It refuses where memory is refused, and where the line's columns pass `usize`. Some may be missing then.
 pub fn push_line<W: CharWidth>(
     text: &mut String,
     line: &TaggedLine<Vec<RichAnnotation>>,

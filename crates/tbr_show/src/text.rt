@@ -1,4 +1,4 @@
-//! What is appended to a text. Each call refuses only for want of memory.
+//! What is appended to a text. Each call refuses only where memory is refused.
 ghost use Rattle.std.specs.Prelude.{◌≡◌, ◌++◌, ◌∷◌, [], chars, not, IsTrue, OnOk};
 ghost use Rattle.std.specs.List.{list_all};
 ghost use Rattle.std.specs.Char.{is_ascii, is_control};

@@ -5,7 +5,7 @@ use Rattle.std.specs.Borrow.{Bor}
 use Rattle.std.proofs.lemmas.List.{get_or_default}
 use Rattle.tbr_view.specs.Words.{edits, too_far, IsNearest, AreFar}
 
--- what stands where there is no text
+-- what is there where there is no text
 abbrev pub no_text : Bor (List ℕ)
 no_text = record { ref_ptr = (0, 0); now = [] }
 

@@ -13,7 +13,7 @@ prefix_of Item = unordered_item
 prefix_of (Ordered number) = ordered_item number
 prefix_of (Heading level) = header level
 
--- whether empty lines part it from what stands above it and below it
+-- whether empty lines part it from what is above it and below it
 abbrev pub stands_apart : Block → Bool
 stands_apart Quote = true
 stands_apart Item = false

@@ -13,7 +13,7 @@ use crate::problem::{Kind, Problem, Refusal, Related};
 use std::alloc::{AllocError, Global};
 use tbr_commands::{Command, Kind as Ended, Request};
 
-/// A problem with a line, or the want of memory for its text.
+/// A problem with a line, or that memory for its text was refused.
 fn refusal(
     kind: Kind,
     line: usize,

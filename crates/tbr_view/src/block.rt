@@ -10,7 +10,7 @@ use tbr_lines::{CharWidth, OutOfMemory, spaces, text_width};
 use tbr_runner::DecoratorPrefix;
 use tbr_script::TextPair;
 
-/// A block that stands after a prefix of the decorator.
+/// A block that comes after a prefix of the decorator.
 #[derive(Clone, Copy, Debug, PartialEq, Eq)]
 pub enum Block {
     /// A quotation: each line after the prefix, and empty lines round it.
@@ -65,8 +65,8 @@ impl Block {
         }
     }
 
-    /// What stands before its first line, and before the others, where the decorator's prefix is this one. It refuses
-    /// for want of memory, and where the prefix's columns pass `usize`.
+    /// What is before its first line, and before the others, where the decorator's prefix is this one. It refuses
+    /// where memory is refused, and where the prefix's columns pass `usize`.
     pub fn prefixes<W: CharWidth>(
         self,
         alloc: Global,
@@ -83,7 +83,7 @@ impl Block {
         })
     }
 
-    /// What stands before its lines but the first.
+    /// What is before its lines but the first.
     fn other_prefix<W: CharWidth>(self, alloc: Global, prefix: &str) -> Result<String, OutOfMemory>
         ensures { IfOk result (λ other.
             chars_of other ≡ model.other_prefix W.columns self (chars prefix.now)) }

@@ -122,7 +122,7 @@ fn unknown_word(alloc: Global, word: &str) -> Result<Fault, AllocError> {
     Ok(Fault { message, help })
 }
 
-/// Whether what stands after a word is a text with escapes.
+/// Whether what is after a word is a text with escapes.
 fn takes_text(word: &str) -> bool {
     matches!(word, "text" | "frag" | "link" | "image" | "append")
 }
@@ -171,7 +171,7 @@ fn fault_of_options(alloc: Global, words: Words<'_>) -> Result<Fault, AllocError
     )
 }
 
-/// A word that isn't one of those that may stand there.
+/// A word that isn't one of those that may be there.
 fn unknown(
     alloc: Global,
     what: &str,
@@ -186,7 +186,7 @@ fn unknown(
     Ok(Fault { message, help })
 }
 
-/// What may stand there.
+/// What may be there.
 fn listed(alloc: Global, among: &[&'static str]) -> Result<String, AllocError> {
     let mut help = String::from_str(alloc, "there are")?;
     for (place, word) in among.iter().enumerate() {

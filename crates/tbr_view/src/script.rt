@@ -25,7 +25,7 @@ pub enum Format {
     Ansi,
     /// An object of JSON a line.
     Ndjson,
-    /// The lines in HTML, as they stand in a `<pre>`.
+    /// The lines in HTML, as they are in a `<pre>`.
     Html,
 }
 
@@ -49,7 +49,7 @@ pub struct Shown {
     pub lost: Vec<Problem>,
 }
 
-/// What is shown of a script. It refuses where the script is at fault, and for want of memory.
+/// What is shown of a script. It refuses where the script is at fault, and where memory is refused.
 pub fn view<W: CharWidth>(alloc: Global, script: &[u8], view: Settings) -> Result<Shown, Refusal> {
     let (opening, number, rest) = first_command(alloc, script)?;
     let opening = with_width(opening, view.width);

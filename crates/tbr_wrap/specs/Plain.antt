@@ -43,7 +43,7 @@ pub record IsStretch (columns : ℕ → Option ℕ) (spaced : Bool) (text : List
 abbrev pub is_narrow : (ℕ → Option ℕ) → ℕ → Bool
 is_narrow columns c = unwrap_or (plain_width columns c) 0 == 1
 
--- Whether a word is under way behind one more character, where narrow words stand with one space between two. None
+-- Whether a word is under way behind one more character, where narrow words come with one space between two. None
 -- where the character isn't one of these.
 abbrev pub reads : (ℕ → Option ℕ) → Option Bool → ℕ → Option Bool
 reads columns None c = None

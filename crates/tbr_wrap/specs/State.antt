@@ -73,12 +73,12 @@ LineFits columns width h = fold (column_behind columns) 0 h ≤ width
 abbrev pub HasOwnAnnotation : {A : Type 0} → (A → A → Type 0) → List (Entry A) → A → Type 0
 HasOwnAnnotation {A} Same es x = (e : Entry A) × Contains es e × HasMain Same e x
 
--- a character stands under the own annotation of an entry
+-- a character is under the own annotation of an entry
 abbrev pub IsUnderOwn : {A : Type 0} → (A → A → Type 0) → List (Entry A) → Item A → Type 0
 IsUnderOwn Same es (glyph c x) = HasOwnAnnotation Same es x
 IsUnderOwn Same es (marker name) = Unit {0}
 
--- In a run of `Pre` alone a hard line that fits isn't cut. Each visible character there stands under its own annotation,
+-- In a run of `Pre` alone a hard line that fits isn't cut. Each visible character there is under its own annotation,
 -- and any other under the own annotation of an entry of the hard line.
 pub record ShowsFitting {A : Type 0} (columns : ℕ → Option ℕ) (Same : A → A → Type 0) (width : ℕ) (more : Bool)
     (h : List (Entry A)) (ls : List (List (Item A))) : Type 0 where
@@ -86,8 +86,8 @@ pub record ShowsFitting {A : Type 0} (columns : ℕ → Option ℕ) (Same : A �
   pub own : LineFits columns width h → ShowsOwn columns Same h ls
   pub under : LineFits columns width h → Each (IsUnderOwn Same h) (joined ls)
 
--- What the end of a run leaves: its lines, those that had ended before among them, and the markers that stand on none.
--- Each line is as wide as it may be. Nothing stands on the lines but what came, and white space under its tags.
+-- What the end of a run leaves: its lines, those that had ended before among them, and the markers that are on none.
+-- Each line is as wide as it may be. Nothing is on the lines but what came, and white space under its tags.
 pub record EndsRun {A : Type 0} (columns : ℕ → Option ℕ) (width : ℕ) (may_overflow : Bool) (run : List (Entry A))
     (texts : List (List (Item A))) (names : List (List ℕ)) : Type 0 where
   pub shown : IsShownBy columns width may_overflow run texts
@@ -97,13 +97,13 @@ pub record EndsRun {A : Type 0} (columns : ℕ → Option ℕ) (width : ℕ) (ma
   pub come : Each (ComesWithRun (λ a b. a ≡ b) run) (joined texts)
   -- visible characters and markers keep their order, whatever their modes
   pub order : ShowsInOrder columns (λ a b. a ≡ b) run texts names
-  -- without `Pre` each visible character stands under its own annotation
+  -- without `Pre` each visible character is under its own annotation
   pub own : Each IsNotPre run → ShowsOwn columns (λ a b. a ≡ b) run texts
-  -- in `Pre` alone a hard line that fits stands under its own annotations
+  -- in `Pre` alone a hard line that fits is under its own annotations
   pub fitting : Each (HasMode Pre) run → Parted (ShowsFitting columns (λ a b. a ≡ b) width) (hard_lines run) texts
-  -- a `Normal` run's items stand on its lines or wait, whatever the width
+  -- a `Normal` run's items are on its lines or wait, whatever the width
   pub kept : IsNormal run → without_spaces (joined texts) ++ marker_items names ≡ kept_items columns run
-  -- markers stand on the lines or wait, once and in order
+  -- markers are on the lines or wait, once and in order
   pub markers : names_in_items (joined texts) ++ names ≡ names_in_run run
   -- those that wait come behind the last visible character, in a `Normal` run behind the last kept one
   pub behind : AreLastOf names (names_behind (is_visible columns) run)

@@ -48,7 +48,7 @@ pub record AreMoved {A : Type 0} (columns : ℕ → Option ℕ) (b : Wrapper A) 
   pub wide : b.lines.width < b.lines.line_width + (held_width b.space + (b.word_width + first))
   pub fits : b.word_width + length text ≤ b.lines.width + 1
 
--- The wrapper stands where the rule stands.
+-- The wrapper is where the rule is.
 pub record IsAtProgress {A : Type 0} (columns : ℕ → Option ℕ) (eq : A → A → Bool) (b : Wrapper A)
     (before given : List (List (Item A))) (p : Progress A) : Type 0 where
   pub lays : HoldsRule columns eq b.lines before given p.laid
@@ -68,18 +68,18 @@ abbrev pub IsUnderWay : {A : Type 0} → (ℕ → Option ℕ) → (A → A → B
 IsUnderWay {A} columns eq b = (before : List (List (Item A))) × (given : List (List (Item A))) × (p : Progress A)
     × IsAtProgress columns eq b before given p
 
--- wherever the rule stands
+-- wherever the rule is
 abbrev pub Wherever : {A : Type 0} → (ℕ → Option ℕ) → (A → A → Bool) → Wrapper A → (Progress A → Type 0) → Type 0
 Wherever {A} columns eq b Q = (before given : List (List (Item A))) (p : Progress A) →
     IsAtProgress columns eq b before given p → Q p
 
--- Wherever the rule stands, a call that succeeds leads to where `f` leads.
+-- Wherever the rule is, a call that succeeds leads to where `f` leads.
 abbrev pub WrapperFollows : {A X E : Type 0} → (ℕ → Option ℕ) → (A → A → Bool) → Wrapper A → Wrapper A → Result X E →
     (Progress A → Progress A) → Type 0
 WrapperFollows {A} columns eq b c result f = (before given : List (List (Item A))) (p : Progress A) →
     IsAtProgress columns eq b before given p → OnOk result (IsAtProgress columns eq c before given (f p))
 
--- Wherever the rule stands, a call that answers `TooNarrow` does so where a line of the rule, as `f` leads there, is wider
+-- Wherever the rule is, a call that answers `TooNarrow` does so where a line of the rule, as `f` leads there, is wider
 -- than a line may be, and none may be wider.
 abbrev pub RefusesWider : {A X : Type 0} → (ℕ → Option ℕ) → (A → A → Bool) → Wrapper A → Result X Error →
     (Progress A → List (List (Item A))) → Type 0
@@ -87,7 +87,7 @@ RefusesWider {A} columns eq b result f = result ≡ Err E.TooNarrow → (before 
     (p : Progress A) → IsAtProgress columns eq b before given p →
     (b.lines.may_overflow ≡ false) × (lines_fit columns b.lines.width (f p) ≡ false)
 
--- Wherever the rule stands, these entries lead on.
+-- Wherever the rule is, these entries lead on.
 abbrev pub Enters : {A : Type 0} → (ℕ → Option ℕ) → (A → A → Bool) → Wrapper A → Wrapper A → List (Entry A) → Type 0
 Enters {A} columns eq b c es = (before given : List (List (Item A))) (p : Progress A) →
     IsAtProgress columns eq b before given p →
@@ -103,7 +103,7 @@ pub record EndsWideWord {A : Type 0} (columns : ℕ → Option ℕ) (width : ℕ
   pub text_is : chars text ≡ first ∷ rest
   pub normal : mode ≡ Normal → (is_break first ≡ true) × (0 < items_width columns p.word)
 
--- The run has ended: the lines of it that weren't handed out stand behind those of earlier runs, and a run can begin
+-- The run has ended: the lines of it that weren't handed out are behind those of earlier runs, and a run can begin
 -- with the markers that wait.
 pub record RunIsFinished {A : Type 0} (columns : ℕ → Option ℕ) (eq : A → A → Bool) (b c : Wrapper A)
     (before given : List (List (Item A))) (p : Progress A) : Type 0 where

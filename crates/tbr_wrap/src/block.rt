@@ -216,7 +216,7 @@ impl<T: Eq + Clone, W: CharWidth> WrappedBlock<T, W> {
     ///
     /// A word that ends is placed. In a `Normal` run `TooNarrow` comes exactly where a word that a break point of the
     /// text ends, of the run with this text, has a character wider than the block; in any other run only where the run
-    /// has such a character; and never where lines may be wider. `OutOfMemory` comes only for want of memory.
+    /// has such a character; and never where lines may be wider. `OutOfMemory` comes only where memory is refused.
     pub fn add_text(
         &mut self,
         text: &str,
@@ -241,7 +241,7 @@ impl<T: Eq + Clone, W: CharWidth> WrappedBlock<T, W> {
 
     /// The marker joins the current word. It asks for a marker, not for text.
     ///
-    /// It refuses only for want of memory.
+    /// It refuses only where memory is refused.
     pub fn add_element(&mut self, element: TaggedLineElement<T>) -> Result<(), Error>
     where
         T: Drop,
@@ -274,9 +274,9 @@ impl<T: Eq + Clone, W: CharWidth> WrappedBlock<T, W> {
     }
 
     /// Takes the markers of the current word out of the run, in order, if that word has no character, and else none.
-    /// After a [`flush`](WrappedBlock::flush) these are the markers that stand on no ended line.
+    /// After a [`flush`](WrappedBlock::flush) these are the markers that are on no ended line.
     ///
-    /// It refuses only for want of memory.
+    /// It refuses only where memory is refused.
     pub fn take_trailing_fragments(&mut self) -> Result<Vec<TaggedLineElement<T>>, Error>
     where
         T: Drop,
@@ -296,7 +296,7 @@ impl<T: Eq + Clone, W: CharWidth> WrappedBlock<T, W> {
         Ok(markers)
     }
 
-    /// Ends the run. Its last word is placed, and its lines join the ended ones. Markers that stand on none of them
+    /// Ends the run. Its last word is placed, and its lines join the ended ones. Markers that are on none of them
     /// begin the next run; [`take_trailing_fragments`](WrappedBlock::take_trailing_fragments) takes them.
     ///
     /// In a `Normal` run `TooNarrow` comes exactly where a word of the run has a character wider than the block; in any
@@ -320,7 +320,7 @@ impl<T: Eq + Clone, W: CharWidth> WrappedBlock<T, W> {
 
     /// Hands out the first ended line that isn't handed out yet, if there is one. It flushes nothing.
     ///
-    /// It refuses only for want of memory, and then the block has failed.
+    /// It refuses only where memory is refused, and then the block has failed.
     pub fn next_line(&mut self) -> Result<Option<TaggedLine<T>>, Error>
     where
         T: Drop,
@@ -338,7 +338,7 @@ impl<T: Eq + Clone, W: CharWidth> WrappedBlock<T, W> {
         Ok(Some(line))
     }
 
-    /// Hands out the first ended line, as it stands without padding.
+    /// Hands out the first ended line, as it is without padding.
     fn take_line(&mut self) -> Result<Option<TaggedLine<T>>, Error>
     where
         T: Drop,
@@ -382,7 +382,7 @@ impl<T: Eq + Clone, W: CharWidth> WrappedBlock<T, W> {
 
     /// Ends the run, and hands out all lines that aren't handed out yet.
     ///
-    /// It refuses as [`flush`](WrappedBlock::flush) does, and for want of memory.
+    /// It refuses as [`flush`](WrappedBlock::flush) does, and where memory is refused.
     pub fn into_lines(mut self) -> Result<Vec<TaggedLine<T>>, Error>
     where
         T: Drop,
@@ -448,7 +448,7 @@ fn keep<R>(failure: &mut Option<Error>, done: Result<R, Error>) -> Result<R, Err
     done
 }
 
-/// Keeps want of memory.
+/// Keeps that memory was refused.
 fn keep_want<R>(failure: &mut Option<Error>, done: Result<R, OutOfMemory>) -> Result<R, Error>
     ensures ok { IfOk result (λ r. (done ≡ Ok r) × (failure.new ≡ failure.old)) }
     ensures failed { IfErr result (λ e. IsErr done × (e ≡ E.OutOfMemory) × (failure.new ≡ Some e)) }

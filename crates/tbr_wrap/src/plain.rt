@@ -101,7 +101,7 @@ pub fn words_in_front<W: CharWidth>(text: &str, room: usize) -> usize
     end
 }
 
-/// Whether a word is under way behind one more byte, where narrow words stand with one space between two.
+/// Whether a word is under way behind one more byte, where narrow words come with one space between two.
 fn reads<W: CharWidth>(inside: bool, byte: u8) -> Option<bool>
     ensures { result ≡ plain.reads W.columns (Some inside) byte }
 {

@@ -854,7 +854,7 @@ impl<T: Eq + Clone + Drop> Wrapper<T> {
         self.lines.flat.take_markers()
     }
 
-    /// Ends the run: lays the last word, ends the line, and drops the pending space. Markers that stand on no ended
+    /// Ends the run: lays the last word, ends the line, and drops the pending space. Markers that are on no ended
     /// line become the next run's word.
     pub fn finish<W: CharWidth>(&mut self) -> Result<(), Error>
         requires faithful { CopiesAreEqual T.is_clone T.eq }

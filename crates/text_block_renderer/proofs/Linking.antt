@@ -1,4 +1,4 @@
--- Links that end with their own numbers, and where their targets stand.
+-- Links that end with their own numbers, and where their targets are.
 use Rattle.std.proofs.Common.{◌≡◌, ℕ, zero, suc, ◌+◌, ◌⊎◌, inl, inr, Option, Some, None, List, [], ◌∷◌, ◌++◌, map, drop, length, refl, ap, sym, ◌∙◌, subst, arith, append_assoc, append-nil}
 use Rattle.std.specs.Prelude.{if◌then◌else◌}
 use Rattle.std.specs.List.{slice_get}
@@ -13,14 +13,14 @@ use Rattle.tbr_stack.specs.StackCalls.{StackCall, change_top, set_table_depth, p
 
 -- ---- links that are open, as the places of their targets
 
--- A link stands behind so many others: in the top, or below renderers in which just so many are open.
+-- A link is behind so many others: in the top, or below renderers in which just so many are open.
 abbrev Stands : List ℕ → List (List ℕ) → ℕ → Type 0
 Stands [] opens k = ⊥
 Stands (n ∷ numbers) [] k = ⊥
 Stands (n ∷ []) (o ∷ opens) k = slice_get o n ≡ Some k
 Stands (n ∷ m ∷ numbers) (o ∷ opens) k = (length o ≡ n) × Stands (m ∷ numbers) opens k
 
--- what a call makes of the links that are open, where so many targets stand
+-- what a call makes of the links that are open, where so many targets are there
 abbrev opens_behind : StackCall → ℕ → List (List ℕ) → List (List ℕ)
 opens_behind change_top n opens = opens
 opens_behind (set_table_depth depth) n opens = opens
@@ -29,7 +29,7 @@ opens_behind pop n opens = drop 1 opens
 opens_behind (start_link target) n opens = in_first (λ o. (n + 1) ∷ o) opens
 opens_behind end_link n opens = in_first (drop 1) opens
 
--- Behind a call a link stands that is the next to end.
+-- After a call there is a link that is the next to end.
 abbrev GoesOn : StackCall → List StackCall → ℕ → List (List ℕ) → ℕ → Type 0
 GoesOn call calls n opens k = (numbers : List ℕ) × IsNextToEnd numbers calls × Stands numbers (opens_behind call n opens) k
 
@@ -51,7 +51,7 @@ goes_on end_link calls n (zero ∷ m ∷ numbers) ((p ∷ o) ∷ opens) k next h
 goes_on end_link calls n (suc j ∷ m ∷ numbers) ([] ∷ opens) k next h = absurd (omega (arith, h.0))
 goes_on end_link calls n (suc j ∷ m ∷ numbers) ((p ∷ o) ∷ opens) k next h = (j ∷ m ∷ numbers, next, (omega (arith, h.0), h.1))
 
--- A link that stands behind a call stood before it, or this call started it.
+-- A link that is there after a call was there before it, or this call started it.
 abbrev CameFrom : StackCall → List StackCall → ℕ → List (List ℕ) → ℕ → Type 0
 CameFrom call calls n opens k =
     ((numbers : List ℕ) × IsNextToEnd numbers (call ∷ calls) × Stands numbers opens k)

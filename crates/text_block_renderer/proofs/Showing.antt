@@ -1,4 +1,4 @@
--- Visible characters stand once.
+-- Visible characters are there once.
 use Rattle.std.proofs.Common.{◌≡◌, ℕ, inl, zero, suc, ◌&&◌, Bool, true, false, if◌then◌else◌, Option, Some, None, is_some, List, [], ◌∷◌, ◌++◌, map, fold, refl, ap, sym, ◌∙◌, subst, append_assoc, append-nil}
 use Rattle.std.specs.List.{AllZip}
 use Rattle.tbr_model.specs.Codes.{space_character}

@@ -1,4 +1,4 @@
--- What was brought stands in the lines of text, or waits.
+-- What was brought is in the lines of text, or waits.
 use Rattle.std.proofs.Common.{◌≡◌, ℕ, inl, zero, suc, Bool, true, false, not, if◌then◌else◌, Option, Some, None, List, [], ◌∷◌, ◌++◌, filter, fold, refl, ap, sym, ◌∙◌, subst, append_assoc, append-nil}
 use Rattle.std.specs.List.{AllZip}
 use Rattle.std.proofs.lemmas.List.Elements.{filter-append}
@@ -153,7 +153,7 @@ module _ {T : Type 0} (columns : ℕ → Option ℕ) where
       go true rest = ((refl, inl refl), rest)
       go false rest = rest
 
-  -- the lines of a run, and the markers that stand on none of them
+  -- the lines of a run, and the markers that are on none of them
   pub run_stands : (width : ℕ) (may_overflow : Bool) (run : List (Entry T)) (texts : List (List (Item T))) (names : List (List ℕ)) → EndsRun columns width may_overflow run texts names → StandFor columns (joined texts ++ marker_items names) run
   run_stands width may_overflow run texts names ends = record {
     order = subst (λ (is : List (Item T)). AllZip (ShowsEntry (λ a b. a ≡ b)) is (filter (is_entry_to_show columns) run)) (sym (shown_before (joined texts) names)) ends.order;
@@ -241,7 +241,7 @@ module _ {D A : Type 0} (columns : ℕ → Option ℕ) where
   pub new_stands : (width : ℕ) (options : RenderOptions) (decorator : D) → Stands columns (new_renderer {D = D} {A = A} width options decorator) []
   new_stands width options decorator = stands (new_renderer width options decorator) [] [] refl (nothing_stands columns)
 
-  -- nothing more stands
+  -- nothing more is there
   as_before : (r s : Renderer D A (List A)) (es ended : List (Entry (List A))) → SeenBehind (items_so_far r) [] (items_so_far s) → ended ++ open_run s.block ≡ es → StandFor columns (items_so_far r) ended → Stands columns s es
   as_before r s es ended seen whole h =
       let k : StandFor columns (items_so_far s) (ended ++ []) = stand_behind columns (items_so_far r) [] (items_so_far s) ended [] seen h (nothing_stands columns) in

@@ -1,4 +1,4 @@
--- The lines of a run stand together, and no legal layout is ahead of them.
+-- The lines of a run are together, and no legal layout is ahead of them.
 use Rattle.std.proofs.Common.{◌≡◌, ℕ, ◌==◌, ◌⊎◌, inl, inr, nat_lt, Bool, true, false, not, if◌then◌else◌, Option, Some, None, unwrap_or, List, [], ◌∷◌, ◌++◌, map, flat_map, fold, length, take, drop, refl, ap, sym, ◌∙◌, subst, arith, append_assoc, append-nil}
 use Rattle.std.specs.List.{AllByRecursion as Each}
 use Rattle.std.proofs.lemmas.Bool.{eqb-true}
@@ -60,7 +60,7 @@ module _ {T : Type 0} where
       ∙ ap (λ is. map (λ s. s.item) l ++ is) (unspaced_lines ls (each_back (λ s. IsNoSpace s.item) l (joined ls) h))
       ∙ sym (map-append (λ s. s.item) l (joined ls))
 
-  -- as many items stand on the first lines as the layout has placed there
+  -- as many items are on the first lines as the layout has placed there
   placed_on : (n : ℕ) (ls : List (List (Slot T))) → Each (λ s. IsNoSpace s.item) (joined ls) → items_on n (map line_text ls) ≡ placed n ls
   placed_on n ls h =
       let parts : joined (take n ls) ++ joined (drop n ls) ≡ joined ls = sym (joined-append (take n ls) (drop n ls)) ∙ ap joined (take-append-drop n ls) in

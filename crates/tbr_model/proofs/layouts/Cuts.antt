@@ -22,7 +22,7 @@ slice_get-append [] ys k h = absurd (omega arith)
 slice_get-append (x ∷ xs) ys zero h = refl
 slice_get-append (x ∷ xs) ys (suc k) h = slice_get-append xs ys k (omega arith)
 
--- a line and what stands behind it
+-- a line and what is behind it
 pub line_and_rest : {X : Type 0} (xs : List X) (c d : ℕ) → c ≤ d → slice_range xs c d ++ drop d xs ≡ drop c xs
 line_and_rest xs c d h = sym (drop_split xs c d h)
 

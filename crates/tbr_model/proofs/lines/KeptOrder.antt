@@ -50,7 +50,7 @@ module _ {A : Type 0} (columns : ℕ → Option ℕ) (width : ℕ) (Same : A →
   all_in_order : (is : List (Item A)) (es : List (Entry A)) → AllZip (StandsFor AnyMode) is es → InOrder is es
   all_in_order = by_entry AnyMode InOrder tt one_in_order (λ name is es rest. (refl, rest))
 
-  -- The visible characters and the markers of a run stand on its lines and then wait, in their order.
+  -- The visible characters and the markers of a run are on its lines and then wait, in their order.
   pub shown_in_order : (es : List (Event A)) → ShowsInOrder columns Same (run_of es) (lines_of columns width es) (names_waiting columns width es)
   shown_in_order es =
       let g = found_at_end (looks_in_order columns) width es (any_entries (run_of es)) in

@@ -1,4 +1,4 @@
--- What stands on the lines of a run comes from it.
+-- What is on the lines of a run comes from it.
 use Rattle.std.proofs.Common.{◌≡◌, ℕ, inl, inr, ◌==◌, Bool, true, false, not, Option, List, refl}
 use Rattle.std.specs.List.{Contains}
 use Rattle.std.specs.Prelude.{slice_index_or}
@@ -32,7 +32,7 @@ module _ {A : Type 0} (columns : ℕ → Option ℕ) (Same : A → A → Type 0)
   )
   brings (marker_entry name) h = h
 
--- In every mode nothing stands on the lines but visible characters, white space under the run's annotations, and its
+-- In every mode nothing is on the lines but visible characters, white space under the run's annotations, and its
 -- markers.
 pub nothing_invented : {A : Type 0} (columns : ℕ → Option ℕ) (width : ℕ) (Same : A → A → Type 0) → ((x : A) → Same x x) → (es : List (Event A)) →
     InventsNothing columns Same (run_of es) (lines_of columns width es)

@@ -1,4 +1,4 @@
--- In a run without `Pre` each visible character stands under its own annotation.
+-- In a run without `Pre` each visible character is under its own annotation.
 use Rattle.std.proofs.Common.{◌≡◌, ◌≢◌, ℕ, ◌⊎◌, inl, inr, Option, List, refl}
 use Rattle.std.specs.List.{AllByRecursion as Each}
 use Rattle.tbr_model.specs.declared.white_space.WhiteSpace.{WhiteSpace}
@@ -10,7 +10,7 @@ use Rattle.tbr_model.proofs.rule.Content.{found_from}
 use Rattle.tbr_model.proofs.rule.HardLines.{start_fresh}
 use Rattle.tbr_model.proofs.rule.VisibleCharacters.{none_visible, looks_at_characters, visible_zip}
 
--- In a run without `Pre` the visible characters stand under their own annotations.
+-- In a run without `Pre` the visible characters are under their own annotations.
 pub own_shown : {A : Type 0} (columns : ℕ → Option ℕ) (width : ℕ) (Same : A → A → Type 0) → ((x : A) → Same x x) → (es : List (Event A)) → Each IsNotPre (run_of es) → ShowsOwn columns Same (run_of es) (lines_of columns width es)
 own_shown {A} columns width Same same es h =
     let looks = looks_at_characters {A = A} columns IsNotPre (λ m. m ≢ Pre) (λ c a b m other. other) in

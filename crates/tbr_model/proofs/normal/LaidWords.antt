@@ -195,7 +195,7 @@ module _ {A : Type 0} (columns : ℕ → Option ℕ) (width : ℕ) where
       closed [] full fits = absurd (omega (arith, full, fits))
       closed (s ∷ last) full fits = refl
 
-      -- the word stands on a line of its own, or it is wider
+      -- the word is on a line of its own, or it is wider
       pick : width < line_width (lines.last ++ slots) → (w : Bool) → wider ≡ w →
           text_of (fill width (close lines.done lines.last) [] slots) ≡ text_of (if w then fill width (close lines.done lines.last) [] slots else record { done = lines.done ++ lines.last ∷ []; last = slots })
       pick full true e = refl

@@ -1,4 +1,4 @@
--- A run of Normal mode stands, by the rule, at the texts of the layout of its words so far.
+-- A run of Normal mode is, by the rule, at the texts of the layout of its words so far.
 use Rattle.std.proofs.Common.{◌≡◌, ℕ, ◌+◌, ◌<◌, ◌≤◌, ◌⊎◌, inl, inr, Bool, true, false, nat_lt, nat_le, ◌&&◌, not, ◌==◌, if◌then◌else◌, is_some, Option, None, Some, List, [], ◌∷◌, ◌++◌, map, fold, refl, ap, sym, ◌∙◌, subst, append_assoc, append-nil, ltb-true, lt-ltb}
 use Rattle.std.specs.List.{AllByRecursion as Each}
 use Rattle.std.proofs.lemmas.Bool.{cond_both, or_parts}
@@ -110,7 +110,7 @@ module _ {A : Type 0} (columns : ℕ → Option ℕ) (width : ℕ) where
         last = subst (λ (q : Lines A). LastHas q.last) (sym placed) letters.1;
       }
 
-  -- where a reading stands
+  -- where a reading is
   abbrev pub state_of : Reading A → Progress A
   state_of r = standing (wrapped columns width r.words) r.gap r.items
 

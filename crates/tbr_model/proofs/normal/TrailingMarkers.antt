@@ -13,7 +13,7 @@ use Rattle.tbr_model.proofs.normal.StaysLaid.{AllLaid, IsNarrowItem, laid_end_if
 use Rattle.tbr_model.proofs.normal.LayoutSoFar.{Lined, state_of, lay_narrow, lay_reading, wrapped-push, normal_state}
 
 module _ {A : Type 0} (columns : ℕ → Option ℕ) (width : ℕ) where
-  -- where a reading stands, with its word laid if it has a character
+  -- where a reading is, with its word laid if it has a character
   abbrev flushed : Reading A → Bool → Progress A
   flushed r b = if b then lay columns width (state_of columns width r) else state_of columns width r
 

@@ -78,7 +78,7 @@ put_cut {A} columns width (glyph c a ∷ is) l wide units same fits some =
 
 -- ---- the word
 
--- a word stands cut on these lines, the open one too
+-- a word is cut on these lines, the open one too
 pub record IsCutOn {A : Type 0} (width : ℕ) (is : List (Item A)) (l : Laid A) : Type 0 where
   pub cut : IsCutEvery width (letters_of is) (map letters_of (end_line l).done)
   pub last : has_character l.line ≡ true

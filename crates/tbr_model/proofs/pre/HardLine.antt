@@ -23,7 +23,7 @@ record IsShownBy {A : Type 0} (ls : List (List ℕ)) (l : Laid A) : Type 0 where
   same : map letters_of (end_line l).done ≡ ls
   last : has_character l.line ≡ true
 
--- what waits stands on one line, where it fits
+-- what waits is on one line, where it fits
 fitting : {A : Type 0} (columns : ℕ → Option ℕ) (width : ℕ) (q : Progress A) → HasNothingLaid columns q → has_character q.word ≡ true → length (waiting q) ≤ width → IsShownBy (waiting q ∷ []) (flush_word columns width q).laid
 fitting columns width q h some fits =
     let test : nat_le (q.laid.width + (pending_width q.space + items_width columns q.word)) width ≡ true = le-leb _ _ (omega (arith, fits, h.width, waiting_length columns q h)) in

@@ -1,4 +1,4 @@
--- In a run of `Pre` each character that is kept stands on the lines, in order.
+-- In a run of `Pre` each character that is kept is on the lines, in order.
 use Rattle.std.proofs.Common.{◌≡◌, ℕ, if◌then◌else◌, Option, List, ◌∷◌, filter, fold, refl, ap, ◌∙◌}
 use Rattle.std.specs.List.{AllZip, AllByRecursion as Each}
 use Rattle.tbr_model.specs.declared.white_space.WhiteSpace.{WhiteSpace}

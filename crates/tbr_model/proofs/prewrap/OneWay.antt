@@ -72,7 +72,7 @@ beyond_spaces (suc n) (x ∷ y ∷ a) b cs e h =
     let w = beyond_spaces n (y ∷ a) b cs rest h in
     (w.0, (let p : y ∷ a ≡ replicate n 32 ++ w.0 = w.1 in cc), w.2)
 
--- two texts that begin with a non-blank stand behind as many spaces
+-- two texts that begin with a non-blank come after as many spaces
 same_gap : (n k : ℕ) (a b c e : List ℕ) → replicate n 32 ++ (a ++ b) ≡ replicate k 32 ++ (c ++ e) → BeginsWithNonBlank a → BeginsWithNonBlank c → n ≡ k
 same_gap n k [] b c e h p q = absurd p
 same_gap n k (x ∷ a) b [] e h p q = absurd q

@@ -1,4 +1,4 @@
--- The items of a word of `PreWrap`, put one by one: on which lines its text stands.
+-- The items of a word of `PreWrap`, put one by one: on which lines its text is.
 use Rattle.std.proofs.Common.{◌≡◌, ◌≢◌, ℕ, ◌+◌, ◌<◌, ◌≤◌, ◌⊎◌, inl, inr, ◌==◌, Bool, true, false, nat_le, Option, List, [], ◌∷◌, ◌++◌, map, length, refl, ap, sym, ◌∙◌, arith, append_assoc, append-nil, length-append, subst, leb-true, leb-false, ne_eqb}
 use Rattle.std.specs.List.{AllByRecursion as Each}
 use Rattle.std.proofs.lemmas.List.{map-append}
@@ -42,7 +42,7 @@ nonblanks columns (glyph c a ∷ is) h = (h.0.from, nonblanks columns is h.1)
 nonblanks columns (marker name ∷ is) h = nonblanks columns is h.1
 
 module _ {A : Type 0} (columns : ℕ → Option ℕ) (width : ℕ) (some : 0 < width) where
-  -- what the lines are that go on from the open line of the second, from the open line of the first, on which stand
+  -- what the lines are that go on from the open line of the second, from the open line of the first, on which are
   -- the characters y, with w between: it reaches all of these that a line has columns for
   pub record ReachesFrom (l : Laid A) (y w : List ℕ) (r : Laid A) (text : List ℕ) (ls : List (List ℕ)) : Type 0 where
     pub all : List (List ℕ)

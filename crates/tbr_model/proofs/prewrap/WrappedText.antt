@@ -20,7 +20,7 @@ ends_append (x ∷ []) [] h = absurd h
 ends_append (x ∷ []) (y ∷ ys) h = h
 ends_append (x ∷ z ∷ xs) ys h = ends_append (z ∷ xs) ys h
 
--- a text of non-blanks and what stands behind it begin with all of it
+-- a text of non-blanks and what is behind it begin with all of it
 pub stretch_front : (cs ds : List ℕ) → AreNonBlank cs → length cs ≤ length (first_stretch (cs ++ ds))
 stretch_front [] ds h = omega arith
 stretch_front (c ∷ cs) ds h =
@@ -108,7 +108,7 @@ from_some width (c ∷ line) text ls some h = h
 pub from_none : (width : ℕ) (line text : List ℕ) (ls : List (List ℕ)) → line ≡ [] → IsWrapped width [] text ls → GoesOn width line text ls
 from_none width line text ls none h = subst (λ (cs : List ℕ). GoesOn width cs text ls) (sym none) h
 
--- a text that ends with a non-blank is one, or what stands behind its first character does
+-- a text that ends with a non-blank is one, or what is behind its first character does
 pub last_of : (c : ℕ) (cs : List ℕ) → EndsWithNonBlank (c ∷ cs) → ((cs ≡ []) × (c ≢ 32)) ⊎ EndsWithNonBlank cs
 last_of c [] h = inl (refl, h.0)
 last_of c (d ∷ cs) h = inr h

@@ -58,7 +58,7 @@ put_tab_under : {A : Type 0} (width column : ℕ) (a : A) (d : List (List (Item 
 put_tab_under width column a d l =
     if_same (under d) (nat_le (8 - column % 8) (width - column)) _ _ _ _ refl (end_line_under d (extended l (spaces (width - column) a) (width - column)))
 
--- ---- where a block stands
+-- ---- where a block is
 
 wrap_space_by_behind : {A : Type 0} (columns : ℕ → Option ℕ) (width : ℕ) (d : List (List (Item A))) (p : Progress A) (s : Space A) (mode : WhiteSpace) →
     wrap_space_by columns width (behind d p) s mode ≡ behind d (wrap_space_by columns width p s mode)

@@ -1,4 +1,4 @@
--- Where a block stands at the beginning of a hard line.
+-- Where a block is at the beginning of a hard line.
 use Rattle.std.proofs.Common.{◌≡◌, false, None, []}
 use Rattle.tbr_model.specs.Run.{has_character}
 use Rattle.tbr_model.specs.Rule.{Progress}

@@ -15,7 +15,7 @@ use Rattle.tbr_model.proofs.rule.DoneLines.{behind, fold_behind, finished_behind
 
 -- ---- a word that is flushed
 
--- no character stands on a fresh line
+-- no character is on a fresh line
 pub no_character_after_end : {A : Type 0} (l : Laid A) → has_character (end_if_character l).line ≡ false
 no_character_after_end {A} l = cond_both (has_character l.line) _ _ (λ (m : Laid A). has_character m.line ≡ false) (λ _. refl) (λ h. h)
 
@@ -83,7 +83,7 @@ run_of-append [] fs = refl
 run_of-append (call ∷ es) fs = run_of-append es fs
 run_of-append {A} (entry e ∷ es) fs = ap (λ (r : List (Entry A)). e ∷ r) (run_of-append es fs)
 
--- no newline stands among the entries
+-- no newline is among the entries
 abbrev pub NoNewline : {A : Type 0} → List (Entry A) → Type 0
 NoNewline es = Each (λ e. is_newline e ≡ false) es
 

@@ -39,7 +39,7 @@ names_alike = by_entry AnyMode (λ is es. names_in_items is ≡ names_in_run es)
 module _ {A : Type 0} (columns : ℕ → Option ℕ) (width : ℕ) where
   -- ---- a run
 
-  -- The markers of a run stand on its lines and in its word once, in order.
+  -- The markers of a run are on its lines and in its word once, in order.
   pub markers_run : (es : List (Event A)) → let p = progress columns width es in names_in_items (joined p.laid.done) ++ (names_in_items p.laid.line ++ names_in_items p.word) ≡ names_in_run (run_of es)
   markers_run es =
       let p : Progress A = progress columns width es in
@@ -47,7 +47,7 @@ module _ {A : Type 0} (columns : ℕ → Option ℕ) (width : ℕ) where
       sym (append_assoc (names_in_items (joined p.laid.done)) (names_in_items p.laid.line) (names_in_items p.word))
       ∙ ap (λ ns. ns ++ names_in_items p.word) (sym (names_in_items-append (joined p.laid.done) p.laid.line)) ∙ g.are ∙ names_alike g.items (run_of es) g.stand
 
-  -- at its end they stand on its lines, or wait
+  -- at its end they are on its lines, or wait
   pub markers_at_end : (es : List (Event A)) → names_in_items (joined (lines_of columns width es)) ++ names_in_items (waiting columns width (progress columns width es)) ≡ names_in_run (run_of es)
   markers_at_end es =
       let g = found_at_end (looks_at_markers columns) width es (any_entries (run_of es)) in

@@ -325,7 +325,7 @@ module _ {A : Type 0} (columns : ℕ → Option ℕ) (width : ℕ) where
   out_events [] so_far can = subst CanTakeOut (sym (append-nil so_far)) can
   out_events (x ∷ es) so_far can = subst CanTakeOut (append_assoc so_far (x ∷ []) es) (out_events es (so_far ++ x ∷ []) (out_event so_far x can))
 
-  -- Without the markers that end the word under way, a run stands at the same place but for them.
+  -- Without the markers that end the word under way, a run is at the same place but for them.
   pub taken_events : (es : List (Event A)) (front ms : List (Item A)) → (progress columns width es).word ≡ front ++ ms → has_character ms ≡ false →
       progress columns width (without_markers (length ms) es) ≡ record (progress columns width es) { word = front }
   taken_events es = out_events es [] (λ front ms e h. nothing_out [] front ms e (append_none front ms e))

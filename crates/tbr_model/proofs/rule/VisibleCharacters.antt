@@ -92,6 +92,6 @@ module _ {A : Type 0} (columns : ℕ → Option ℕ) (width : ℕ) (Same : A →
     record { line = λ h. cc; visible = visible_from p es f; blank = λ spaces. (blank_line columns width p es f m spaces).1 },
   )
 
-  -- In a preserving run each hard line's visible characters stand on lines of its own, and a newline ends a line.
+  -- In a preserving run each hard line's visible characters are on lines of its own, and a newline ends a line.
   pub hard_lines_shown : (es : List (Event A)) → Each Preserves (run_of es) → Parted (ShowsHardLine columns Same) (hard_lines (run_of es)) (lines_of columns width es)
   hard_lines_shown es h = hard_lines_parted columns width (ShowsHardLine columns Same) Preserves (λ e m. m) one_hard_line es h

@@ -11,7 +11,7 @@ use Rattle.tbr_model.specs.Hard.{letters_of}
 use Rattle.tbr_model.proofs.words.Items.{back_has, letters_of-append, items_width-append, no_character_no_width, no_letters, letters_of-spaces, letters_of-space_text, pending_width-of}
 use Rattle.tbr_model.proofs.rule.Printable.{prepared}
 
--- a text stands on the open line, in the pending space and in the word, and no line is ended
+-- a text is on the open line, in the pending space and in the word, and no line is ended
 pub record HoldsText {A : Type 0} (columns : ℕ → Option ℕ) (x : List ℕ) (p : Progress A) : Type 0 where
   pub done : p.laid.done ≡ []
   pub width : p.laid.width ≡ length (letters_of p.laid.line)
@@ -118,7 +118,7 @@ character_joins {A} columns width c a b mode p =
     cond_both (is_pre mode && passes columns width 1 p) _ _ (λ (q : Progress A). has_character q.word ≡ true) (λ _. back_has p.word (glyph c b ∷ []) refl)
     (λ _. back_has p.word (glyph c (tag_of p a b) ∷ []) refl)
 
--- spaces up to the next multiple of eight stand behind the text
+-- spaces up to the next multiple of eight are behind the text
 pub tab_reads : {A : Type 0} (columns : ℕ → Option ℕ) (width : ℕ) (a : A) (x : List ℕ) (p : Progress A) → HoldsText columns x p → has_character p.word ≡ false →
     length x + (8 - length x % 8) ≤ width → HoldsText columns (x ++ replicate (8 - length x % 8) 32) (tab width a p)
 tab_reads {A} columns width a x p h none fits = subst (λ (l : Laid A). HoldsText columns (x ++ replicate (8 - length x % 8) 32) (record p { laid = l })) (sym put) (record {

@@ -16,7 +16,7 @@ pub record HasRead {A : Type 0} (columns : ℕ → Option ℕ) (width : ℕ) (ru
   pub reads : reading columns run ≡ fold (read columns) (read_since columns words before []) left
   pub unkept : kept_items columns before ≡ []
 
--- a word may be read with what stands before it
+-- a word may be read with what is before it
 same_word : {A : Type 0} (columns : ℕ → Option ℕ) (before content : List (Entry A)) → kept_items columns before ≡ [] → word_behind columns [] (before ++ content) ≡ word_behind columns before content
 same_word {A} columns before content h =
     let items : kept_items columns (before ++ content) ≡ kept_items columns content = flat_map-append (items_of columns) before content ∙ ap (λ (is : List (Item A)). is ++ kept_items columns content) h in
@@ -70,7 +70,7 @@ range_add {X} xs a b n h =
     ap (λ k. take k (drop a xs)) (let e : (b + n) - a ≡ (b - a) + n = omega arith in e) ∙ take_add (b - a) n (drop a xs)
     ∙ ap (λ (ys : List X). slice_range xs a b ++ take n ys) (drop-drop (b - a) a xs ∙ ap (λ k. drop k xs) (let e : a + (b - a) ≡ b = omega arith in e))
 
--- an item by its place, and what stands behind it
+-- an item by its place, and what is behind it
 split_at : {X : Type 0} (xs : List X) (i : ℕ) (x : X) → slice_get xs i ≡ Some x → drop i xs ≡ x ∷ drop (suc i) xs
 split_at [] i x h = cc
 split_at (y ∷ xs) zero x h = let same : y ≡ x = cc in ap (λ z. z ∷ xs) same

@@ -1,4 +1,4 @@
--- What stands between neighbouring words of a line.
+-- What is between neighbouring words of a line.
 use Rattle.std.proofs.Common.{◌≡◌, ℕ, ◌<◌, Bool, false, Option, None, Some, List, [], ◌∷◌, ◌++◌, map, flat_map, length, nat_lt, refl, ap, sym, ◌∙◌, arith, append_assoc}
 use Rattle.std.specs.List.{AllByRecursion as Each}
 use Rattle.tbr_model.specs.Run.{Entry, Item, items_width, first_of, blank_of, Word}

@@ -23,7 +23,7 @@ use tbr_lines::{
 };
 
 impl<D: TextDecorator, W: CharWidth> SubRenderer<D, W> {
-    /// A line as text: a border's cells stand under a copy of the annotations.
+    /// A line as text: a border's cells are under a copy of the annotations.
     fn as_text(
         &self,
         line: RenderLine<Vec<D::Annotation>>,
@@ -201,7 +201,7 @@ fn with_room(alloc: Global, prefix: &str, room: usize) -> Result<String, OutOfMe
     Ok(s)
 }
 
-/// The bytes of a text's first piece, if that stands under an equal tag: they come behind what is put in front.
+/// The bytes of a text's first piece, if that is under an equal tag: they come behind what is put in front.
 fn bytes_under<T: Eq>(text: &TaggedLine<T>, tag: &T) -> usize {
     match text.iter().next() {
         Some(TaggedLineElement::Str(first)) if first.tag == *tag => first.s.len(),

@@ -18,7 +18,7 @@ use tbr_lines::{CharWidth, EndedLines, Error, OutOfMemory, TaggedLine, WrappedBl
 const MANY: usize = 4;
 
 impl<D: TextDecorator, W: CharWidth> SubRenderer<D, W> {
-    /// Adds the lines that a block has ended. It refuses only for want of memory.
+    /// Adds the lines that a block has ended. It refuses only where memory is refused.
     fn add_lines_of(&mut self, block: WrappedBlock<Vec<D::Annotation>, W>) -> Result<(), Error>
         requires unfailed { self.old.failure ≡ None }
         requires block { block.failure ≡ None }
@@ -52,7 +52,7 @@ impl<D: TextDecorator, W: CharWidth> SubRenderer<D, W> {
         !block.pads() && !self.options.pad_block_width && self.waiting.is_empty()
     }
 
-    /// Adds the lines that a block has ended, one by one. It refuses only for want of memory.
+    /// Adds the lines that a block has ended, one by one. It refuses only where memory is refused.
     fn add_each_line_of(
         &mut self,
         mut block: WrappedBlock<Vec<D::Annotation>, W>,

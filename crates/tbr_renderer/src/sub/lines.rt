@@ -23,7 +23,7 @@ use tbr_lines::{CharWidth, Error, OutOfMemory, RenderLine};
 
 impl<D: TextDecorator, W: CharWidth> SubRenderer<D, W> {
     /// Ends the open line, and hands out all lines. Their pieces are the longest stretches under equal annotations.
-    /// There are none where nothing stands in the renderer.
+    /// There are none where nothing is in the renderer.
     ///
     /// It refuses as `new_line` does. The list takes memory for each line.
     pub fn into_lines(self) -> Result<LinkedList<RenderLine<Vec<D::Annotation>>>, Error>

@@ -25,7 +25,7 @@ use tbr_rows::{Columns, Overhang, Row, RowStyle};
 
 impl<D: TextDecorator, W: CharWidth> SubRenderer<D, W> {
     /// Whether a row of these renderers, each with the rows that it spans, has a place for each cell that overhangs
-    /// from the rows before: the place of a renderer of the same width in which nothing stands, or one behind all of
+    /// from the rows before: the place of a renderer of the same width in which nothing is, or one behind all of
     /// them. It takes no memory, and doesn't look at a failure of its own; one of `cols` that has failed isn't blank.
     pub fn row_fits(&self, cols: &Vec<(SubRenderer<D, W>, usize)>) -> bool
         ensures fits { result ≡ row_fits self.now.hanging (model.spots_of cols.now.items) }
@@ -38,7 +38,7 @@ impl<D: TextDecorator, W: CharWidth> SubRenderer<D, W> {
         fitting.fits()
     }
 
-    /// Whether nothing stands in it: it hasn't failed, it has no line, and its open block, if any, holds no character.
+    /// Whether nothing is in it: it hasn't failed, it has no line, and its open block, if any, holds no character.
     fn is_blank(&self) -> bool
         ensures asks { result ≡ model.is_blank self.now }
         ensures normal { model.TellsBlank W.columns self.now }
@@ -59,7 +59,7 @@ impl<D: TextDecorator, W: CharWidth> SubRenderer<D, W> {
     }
 
     /// Ends the run, and then those of other renderers, and adds a row of their lines. Where alignments are missing,
-    /// cells stand at the left.
+    /// cells are at the left.
     pub(crate) fn try_append_columns(
         &mut self,
         cols: Vec<(SubRenderer<D, W>, usize)>,

@@ -1,4 +1,4 @@
--- Where all that stands wraps normally, a command leads to one progress, or is refused, and not both.
+-- Where all that is there wraps normally, a command leads to one progress, or is refused, and not both.
 use Rattle.std.proofs.Common.{◌≡◌, ◌⊎◌, ℕ, Option, List, length, sym, ap, ◌∙◌, subst, inl, inr}
 use Rattle.std.proofs.lemmas.Bool.{false≢true}
 use Rattle.tbr_decor.specs.Decoration.{Decoration}

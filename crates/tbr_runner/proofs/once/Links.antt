@@ -1,4 +1,4 @@
--- Links, where all that stands wraps normally.
+-- Links, where all that is there wraps normally.
 use Rattle.std.proofs.Common.{◌≡◌, ◌+◌, ℕ, Option, None, Some, List, [], ◌∷◌, length, chars, sym, ap, ◌∙◌, subst, inl, inr}
 use Rattle.tbr_decor.specs.Start as start
 use Rattle.tbr_decor.specs.End as end_text

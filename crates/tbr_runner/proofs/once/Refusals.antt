@@ -46,7 +46,7 @@ module _ {D M : Type 0} (columns : ℕ → Option ℕ) (decoration : Decoration 
   end_link_refused_once p number d e (inr a) (inl b) = absurd (a.0 b.0)
   end_link_refused_once p number d e (inr a) (inr b) = a.2 ∙ sym b.2
 
-  -- a row fits or not, where what stands wraps normally
+  -- a row fits or not, where what is there wraps normally
   row_refused_once : (p : Progress D M (List M)) (number : ℕ) (d e : RunError) → AllPlain p → RowRefuses columns p number d → RowRefuses columns p number e → d ≡ e
   row_refused_once p number d e all (inl a) (inl b) = a.1 ∙ sym b.1
   row_refused_once p number d e all (inl a) (inr b) = absurd (row_fits_or_not columns p all b.0 a.0)

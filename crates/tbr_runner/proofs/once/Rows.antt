@@ -1,4 +1,4 @@
--- Where all that stands wraps normally, a row of cells fits or not, and leads to one progress, or is refused.
+-- Where all that is there wraps normally, a row of cells fits or not, and leads to one progress, or is refused.
 use Rattle.std.proofs.Common.{◌≡◌, ◌⊎◌, ℕ, Bool, true, false, ◌&&◌, not, is_none, IsTrue, Option, None, Some, List, [], ◌∷◌, map, refl, sym, ap, ◌∙◌, subst, inl, inr}
 use Rattle.std.proofs.lemmas.Bool.{false≢true}
 use Rattle.std.specs.Option.{option_map}

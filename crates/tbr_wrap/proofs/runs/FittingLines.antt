@@ -1,4 +1,4 @@
--- A hard line of `Pre` that fits isn't cut, and stands under its own annotations.
+-- A hard line of `Pre` that fits isn't cut, and is under its own annotations.
 use Rattle.std.proofs.Common.{◌≡◌, ℕ, ◌+◌, ◌-◌, ◌%◌, ◌≤◌, ◌==◌, inl, inr, nat_le, nat_lt, Bool, true, false, if◌then◌else◌, Option, Some, None, unwrap_or, List, [], ◌∷◌, map, fold, length, Contains, refl, ap, sym, ◌∙◌, arith, subst, le-leb, lt-ltb, le-ltb}
 use Rattle.std.specs.List.{AllZip, AllByRecursion as Each}
 use Rattle.std.proofs.lemmas.Bool.{cond_both}
@@ -64,7 +64,7 @@ under_own Same (g ∷ gs) (character c a b m ∷ es) h = ((h.0.0, elim h.0.1 [ i
 under_own Same (g ∷ gs) (marker_entry name ∷ es) h = absurd h.0
 
 module _ {A : Type 0} (columns : ℕ → Option ℕ) (width : ℕ) where
-  -- What came of the hard line takes n columns, and stands on no ended line. No line goes on.
+  -- What came of the hard line takes n columns, and is on no ended line. No line goes on.
   record FitsSoFar (n : ℕ) (p : Progress A) : Type 0 where
     done : p.laid.done ≡ []
     reaches : p.laid.width + (pending_width p.space + items_width columns p.word) ≡ n
@@ -217,7 +217,7 @@ module _ {A : Type 0} (columns : ℕ → Option ℕ) (Same : A → A → Type 0)
     at_end : ShowsFitting columns Same width false (run_of es) (finished columns width q).done
     at_end = record { uncut = λ fits. (short fits).1; own = λ fits. (both fits).1.0; under = λ fits. (both fits).1.1 }
 
-  -- In a run of `Pre` alone each hard line that fits isn't cut, and stands under its own annotations.
+  -- In a run of `Pre` alone each hard line that fits isn't cut, and is under its own annotations.
   pub fitting_lines : (es : List (Event A)) → Each (HasMode Pre) (run_of es) → Parted (ShowsFitting columns Same width) (hard_lines (run_of es)) (lines_of columns width es)
   fitting_lines es pre =
       hard_lines_parted columns width (ShowsFitting columns Same width) (HasMode Pre) (mode_preserves Pre (λ e. cc))

@@ -101,7 +101,7 @@ all_ascii columns cs w = subst IsAscii (sym w.is) (IsAscii-append w.front (32 �
 -- ---- what the rule does with them
 
 module _ {A : Type 0} (columns : ℕ → Option ℕ) (one : columns 32 ≡ Some 1) (width : ℕ) (a b : A) where
-  -- the word stands on the open line, and a space waits behind it
+  -- the word is on the open line, and a space waits behind it
   abbrev after_word : Progress A → Progress A
   after_word q = record q {
     laid = extended q.laid (space_text q.space ++ q.word) (pending_width q.space + items_width columns q.word);

@@ -33,7 +33,7 @@ module _ {A : Type 0} (columns : ℕ → Option ℕ) (eq : A → A → Bool) (la
   abbrev q : Progress A
   q = flush_word columns b.lines.width p
 
-  -- what stands on no ended line waits as a word
+  -- what is on no ended line waits as a word
   pub run_finished : (h : HoldsRule columns eq d before given (end_if_character q.laid)) → SameItems eq d.flat.word q.word → has_character (waiting columns b.lines.width p) ≡ false → KeepsLimits b.lines d →
       c.lines.flat.placed ≡ joined (before ++ h.laid.done) → c.lines.flat.word ≡ h.laid.line ++ d.flat.word → c.lines.ended ≡ d.ended → c.lines.line_len ≡ 0 → c.lines.line_markers ≡ 0 → c.lines.line_width ≡ 0 → c.word_width ≡ 0 → c.space ≡ None → c.word_mode ≡ Normal →
       c.continuation_flag ≡ false → c.in_continuation ≡ false → RunIsFinished columns eq b c before given p

@@ -1,4 +1,4 @@
--- The block stands where the rule stands.
+-- The block is where the rule is.
 use Rattle.std.proofs.Common.{rules, ◌≡◌, nat_le, ℕ, ◌+◌, ◌<◌, ◌≤◌, Bool, true, false, if◌then◌else◌, Option, None, Some, List, [], ◌∷◌, ◌++◌, refl, sym, ◌∙◌, subst, arith, append_assoc, append-nil, Result, Ok, Err, OnOk, le-leb, inl, inr}
 use Rattle.std.proofs.lemmas.Bool.{cases_lt}
 use Rattle.tbr_model.specs.declared.white_space.WhiteSpace.TheVariants.{Normal}
