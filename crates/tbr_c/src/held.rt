@@ -141,7 +141,7 @@ impl Held {
         self.state.has_overhang(self.alloc)
     }
 
-    /// The columns of the innermost level behind a prefix, but so many at least.
+    /// The columns of the innermost level after a prefix, but so many at least.
     pub fn width_minus(&self, prefix: usize, least: usize) -> Result<usize, Fault> {
         self.state.width_minus(prefix, least)
     }

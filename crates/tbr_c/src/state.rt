@@ -125,7 +125,7 @@ impl State {
         })
     }
 
-    /// The columns of the innermost level behind a prefix, but so many at least.
+    /// The columns of the innermost level after a prefix, but so many at least.
     pub fn width_minus(&self, prefix: usize, least: usize) -> Result<usize, Fault>
         requires { CanGoOn self.now }
         ensures ended { HasEnded self.now result }

@@ -1,4 +1,4 @@
--- What the lines of a run show, in every mode, and what waits behind them.
+-- What the lines of a run show, in every mode, and what waits after them.
 pub mod EachItem
 pub mod Passing
 pub mod WaitingMarkers

@@ -169,8 +169,8 @@ abbrev pub first_stretch : List ℕ → List ℕ
 first_stretch [] = []
 first_stretch (c ∷ cs) = if c == space_character then [] else c ∷ first_stretch cs
 
--- How a line begins behind spaces that are dropped, and behind the line before, which is empty where the hard line
--- begins: with the hard line, or with a stretch that doesn't fit behind that line with the spaces. If no spaces are
+-- How a line begins after spaces that are dropped, and after the line before, which is empty where the hard line
+-- begins: with the hard line, or with a stretch that doesn't fit after that line with the spaces. If no spaces are
 -- dropped, it goes on with a stretch that filled the line before alone.
 abbrev pub BeginsBehind : ℕ → List ℕ → ℕ → List ℕ → Type 0
 BeginsBehind width before gap l =
@@ -178,7 +178,7 @@ BeginsBehind width before gap l =
     ⊎ (BeginsWithNonBlank l × (width < length before + (gap + length (first_stretch l)))
     × (gap ≡ 0 → (length before ≡ width) × (first_stretch before ≡ before)))
 
--- A text is these lines, behind the line before: each ends with a non-blank and fits, and spaces are dropped before
+-- A text is these lines, after the line before: each ends with a non-blank and fits, and spaces are dropped before
 -- lines that begin so, and at the end.
 abbrev pub IsWrapped : ℕ → List ℕ → List ℕ → List (List ℕ) → Type 0
 IsWrapped width before text [] = IsSpaces text
@@ -233,7 +233,7 @@ pub record ShowsPre {A : Type 0} (columns : ℕ → Option ℕ) (Same : A → A 
       IsCutEvery width (entry_letters h) (map letters_of ls)
   -- spaces alone leave an empty line before a newline, and no line at the end of the run
   pub blank : IsSpaces (entry_letters h) → ls ≡ blank_lines more
-  -- its first line's characters are under their annotations, and those behind under the continuation annotations
+  -- its first line's characters are under their annotations, and those after it under the continuation annotations
   pub main : IsPrintableLine columns h → BeginsWithNonBlank (entry_letters h) →
       StandUnder (HasMain Same) (take width (glyphs_of (joined ls))) (take width h)
   pub continuation : IsPrintableLine columns h → BeginsWithNonBlank (entry_letters h) →

@@ -27,7 +27,7 @@ end_if_character l = if has_character l.line then end_line l else l
 abbrev pub end_if_columns : {A : Type 0} → Laid A → Laid A
 end_if_columns l = if l.width == 0 then l else end_line l
 
--- An item of a wider word: on the open line where it fits, else on a fresh one. An item that fits no line goes behind
+-- An item of a wider word: on the open line where it fits, else on a fresh one. An item that fits no line goes after
 -- items of no width, and its line is ended at once.
 abbrev pub put_item : {A : Type 0} → (ℕ → Option ℕ) → ℕ → Laid A → Item A → Laid A
 put_item columns width l i =

@@ -4,7 +4,7 @@ use Rattle.std.specs.List.{AllByRecursion as Each}
 use Rattle.tbr_model.specs.Codes.{space_character}
 use Rattle.tbr_model.specs.Run.{Entry, Item, glyph, item_width, items_width, kept_items, has_character, Word, words_of}
 
--- An item of a run, with what a line has to know of it: its width, whether it begins a word and behind which gap, and
+-- An item of a run, with what a line has to know of it: its width, whether it begins a word and after which gap, and
 -- whether its word is wider than a line.
 pub record Slot (A : Type 0) : Type 0 where
   pub item : Item A
@@ -34,12 +34,12 @@ word_slots columns width w = slots_within columns (nat_lt width (items_width col
 abbrev pub slots_of : {A : Type 0} → (ℕ → Option ℕ) → ℕ → List (Entry A) → List (Slot A)
 slots_of columns width run = flat_map (word_slots columns width) (words_of columns run)
 
--- A space behind other items of the line takes a column.
+-- A space after other items of the line takes a column.
 abbrev pub gap_width : {A : Type 0} → Option A → ℕ
 gap_width None = 0
 gap_width (Some a) = 1
 
--- the columns of slots that are behind others
+-- the columns of slots that are after others
 abbrev pub rest_width : {A : Type 0} → List (Slot A) → ℕ
 rest_width [] = 0
 rest_width (s ∷ ss) = (gap_width s.gap + s.width) + rest_width ss
@@ -49,7 +49,7 @@ abbrev pub line_width : {A : Type 0} → List (Slot A) → ℕ
 line_width [] = 0
 line_width (s ∷ ss) = s.width + rest_width ss
 
--- the text of slots that are behind others, with a space at each spaced gap
+-- the text of slots that are after others, with a space at each spaced gap
 abbrev pub gap_text : {A : Type 0} → Option A → List (Item A)
 gap_text None = []
 gap_text (Some a) = glyph space_character a ∷ []

@@ -19,7 +19,7 @@ NoBreakWorks {A} columns es =
     IsTrue (is_break_entry e) → ¬ HasColumns columns before
 
 -- What is between two neighbouring working break points, or the run's start and the first, and the break point
--- behind it.
+-- after it.
 pub record Region (A : Type 0) : Type 0 where
   pub content : List (Entry A)
   pub break : Entry A
@@ -28,7 +28,7 @@ pub record Region (A : Type 0) : Type 0 where
 abbrev pub region_entries : {A : Type 0} → Region A → List (Entry A)
 region_entries r = r.content ++ r.break ∷ []
 
--- The first break point that works is the one behind the content.
+-- The first break point that works is the one after the content.
 pub record EndsAtWorkingBreak {A : Type 0} (columns : ℕ → Option ℕ) (r : Region A) : Type 0 where
   pub is_break : IsTrue (is_break_entry r.break)
   pub works : HasColumns columns r.content
@@ -40,7 +40,7 @@ IsFirstWorkingBreak {A} columns es place =
     (e : Entry A) × (slice_get es place ≡ Some e)
     × EndsAtWorkingBreak columns (record { content = take place es; break = e })
 
--- The run is the regions, each with its break point behind it, one after another, and the rest, where no break point
+-- The run is the regions, each with its break point after it, one after another, and the rest, where no break point
 -- works.
 pub record IsParted {A : Type 0} (columns : ℕ → Option ℕ) (run : List (Entry A))
     (regions : List (Region A)) (rest : List (Entry A)) : Type 0 where
@@ -62,7 +62,7 @@ word_behind columns before content = record {
   items = kept_items columns content;
 }
 
--- The words of the regions behind a break point, and of the rest, if that has a character.
+-- The words of the regions after a break point, and of the rest, if that has a character.
 abbrev pub words_behind : {A : Type 0} →
     (ℕ → Option ℕ) → List (Entry A) → List (Region A) → List (Entry A) → List (Word A)
 words_behind columns before [] rest =

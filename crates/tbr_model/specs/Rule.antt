@@ -102,8 +102,8 @@ trimmed columns l = record {
 }
 
 -- What becomes of pending space in front of a word that doesn't fit, by the space's mode. `Normal` space is dropped.
--- `Pre` space is laid if it ends before the line does, else what is left of it behind the line's end waits. `PreWrap`
--- space is dropped, with the spaces before it on the line and the white space behind it in the word.
+-- `Pre` space is laid if it ends before the line does, else what is left of it after the line's end waits. `PreWrap`
+-- space is dropped, with the spaces before it on the line and the white space after it in the word.
 abbrev pub wrap_space_by : {A : Type 0} → (ℕ → Option ℕ) → ℕ → Progress A → Space A → WhiteSpace → Progress A
 wrap_space_by columns width p s Normal = record p { space = None }
 wrap_space_by columns width p s Pre =
@@ -150,7 +150,7 @@ lay_here columns p = record p {
   continuation_flag = false;
 }
 
--- The word on a fresh line, behind what is still pending. A word that has lost its characters stays.
+-- The word on a fresh line, after what is still pending. A word that has lost its characters stays.
 abbrev pub lay_fresh : {A : Type 0} → (ℕ → Option ℕ) → ℕ → Progress A → Progress A
 lay_fresh columns width p =
     let l = put_pending width p.space (end_if_character p.laid) in
@@ -184,7 +184,7 @@ join c a mode p = record p { word = p.word ++ glyph c a ∷ []; mode = (if has_c
 
 -- ---- the modes
 
--- white space that collapses: one space waits behind what takes columns
+-- white space that collapses: one space waits after what takes columns
 abbrev pub collapse : {A : Type 0} → ℕ → A → Progress A → Progress A
 collapse c a p =
     if is_blank c && (nat_lt 0 p.laid.width && is_none p.space) then record p { space = space_of 1 a Normal } else p
@@ -227,7 +227,7 @@ abbrev pub tag_of : {A : Type 0} → Progress A → A → A → A
 tag_of p a b = if p.in_continuation then b else a
 
 -- Any other character joins the word, if it has a width. In `Pre` the one that would pass the line's end, and those
--- behind it, have the continuation annotation.
+-- after it, have the continuation annotation.
 abbrev pub keep_character : {A : Type 0} →
     (ℕ → Option ℕ) → ℕ → ℕ → A → A → WhiteSpace → Option ℕ → Progress A → Progress A
 keep_character columns width c a b mode None p = p

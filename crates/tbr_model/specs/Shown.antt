@@ -117,7 +117,7 @@ abbrev pub is_newline_or_tab : {A : Type 0} → Entry A → Bool
 is_newline_or_tab (character c a b mode) = preserves mode && ((c == newline_character) || (c == tab_character))
 is_newline_or_tab (marker_entry name) = false
 
--- the lines and one more behind them
+-- the lines and one more after them
 abbrev pub HasOneMore : {X : Type 0} → List X → List X → Type 0
 HasOneMore {X} ls ms = (line : X) × (ms ≡ ls ++ line ∷ [])
 
@@ -126,7 +126,7 @@ abbrev pub first_columns : {A : Type 0} → (ℕ → Option ℕ) → List (Item 
 first_columns columns [] = 0
 first_columns columns (i ∷ is) = if item_width columns i == 0 then first_columns columns is else item_width columns i
 
--- Behind each line but the last, the first item of the next one that takes columns wouldn't have fitted.
+-- After each line but the last, the first item of the next one that takes columns wouldn't have fitted.
 abbrev pub EndWhereFull : {A : Type 0} → (ℕ → Option ℕ) → ℕ → List (List (Item A)) → Type 0
 EndWhereFull columns width [] = Unit {0}
 EndWhereFull columns width (l ∷ []) = Unit {0}

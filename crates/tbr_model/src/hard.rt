@@ -19,7 +19,7 @@ pub fn hard_lines_are_shown<T>()
 
 /// In a run of `Pre` alone each hard line keeps its characters, in order. A hard line of printable characters, not of
 /// spaces alone, is one line where it fits. If it begins with a non-blank, it is cut after every `width` characters,
-/// and those behind the first cut have the continuation annotation. Spaces alone leave an empty line before a newline,
+/// and those after the first cut have the continuation annotation. Spaces alone leave an empty line before a newline,
 /// and no line at the end of the run.
 pub fn pre_lines_are_shown<T>()
     ensures { (columns : ℕ → Option ℕ) (eq : T → T → Bool) (width : ℕ) →

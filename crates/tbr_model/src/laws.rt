@@ -27,7 +27,7 @@ pub fn best_is_unique<T>()
         others ≡ lines }
 {}
 
-/// A run's words, and the markers behind them, hold its kept characters and its markers once, in order.
+/// A run's words, and the markers after them, hold its kept characters and its markers once, in order.
 pub fn words_hold_kept_items<T>()
     ensures { (columns : ℕ → Option ℕ) (run : List (Entry T)) →
         flat_map (λ w. w.items) (words_of columns run) ++ trailing columns run ≡ kept_items columns run }

@@ -1,4 +1,4 @@
-//! The laws of what the lines of a run show, and what waits behind them, each as the contract of a function that does
+//! The laws of what the lines of a run show, and what waits after them, each as the contract of a function that does
 //! nothing.
 ghost use Rattle.std.specs.Prelude.{◌≡◌, ◌≢◌, ℕ, ◌≤◌, ◌⊎◌, Bool, true, false, Option, List, [], ◌++◌, length};
 ghost use Rattle.std.specs.List.{AllByRecursion as Each};
@@ -38,7 +38,7 @@ pub fn only_pre_is_continued<T>()
         ShowsOwn columns (λ a b. eq a b ≡ true) (run_of es) (lines_of columns width es) }
 {}
 
-/// The markers that wait where a run ends come behind its last visible character, and in a run of `Normal` alone behind
+/// The markers that wait where a run ends come after its last visible character, and in a run of `Normal` alone after
 /// its last kept one.
 pub fn waiting_markers_end_a_run<T>()
     ensures visible { (columns : ℕ → Option ℕ) (width : ℕ) (es : List (Event T)) →

@@ -10,7 +10,7 @@ pub struct Slot<'a, T> {
     pub entry: &'a Entry<T>,
     /// Its width in columns.
     pub width: usize,
-    /// The annotation of the space before it, where it begins a word behind a spaced gap.
+    /// The annotation of the space before it, where it begins a word after a spaced gap.
     pub gap: Option<&'a T>,
     /// Whether it begins a word.
     pub begins: bool,

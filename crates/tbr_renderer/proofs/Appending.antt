@@ -93,7 +93,7 @@ module _ {D A M : Type 0} (f : A → M) (columns : ℕ → Option ℕ) (first : 
   abbrev pub HasCell : List (RenderLine (Vec A)) → Renderer D A (Vec A) → Type 0
   HasCell lines now = HasPut (map (as_text (map f first.annotations)) (seen lines)) now
 
-  -- ---- lines behind prefixes
+  -- ---- lines after prefixes
 
   module _ {S X : Type 0} (can : S → Type 0) (gives : S → Option X → S → Type 0) (read : X → List ℕ) (it : S) where
     pub record HasPrefixed (lines : List (RenderLine (Vec A))) (left : S) (now : Renderer D A (Vec A)) : Type 0 where

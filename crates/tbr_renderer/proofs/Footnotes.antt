@@ -59,7 +59,7 @@ module _ {T : Type 0} (columns : ℕ → Option ℕ) where
   pub text_ends : (c d : Cutting T) (tag : T) (cs ds : List ℕ) → d ≡ with_items columns c (text_items (map unbroken cs) tag) → cs ≡ ds → d ≡ with_items columns c (text_items (map unbroken ds) tag)
   text_ends c d tag cs ds so_far all = so_far ∙ ap (λ xs. with_items columns c (text_items (map unbroken xs) tag)) all
 
-  -- what fits behind a line, where more does, and behind a character of it
+  -- what fits after a line, where more does, and after a character of it
   fits_at_most : (width : Option ℕ) (held : List (Item T)) (more most : ℕ) → more ≤ most → fits_behind columns width held most ≡ true → fits_behind columns width held more ≡ true
   fits_at_most None held more most h fits = refl
   fits_at_most (Some width) held more most h fits = le-leb _ _ (omega (arith, h, leb-true _ _ fits))
@@ -157,7 +157,7 @@ module _ {A M : Type 0} (f : A → M) where
       merged_held = merged;
     }
 
--- ---- footnotes behind the lines
+-- ---- footnotes after the lines
 
 module _ {D A M : Type 0} (f : A → M) (columns : ℕ → Option ℕ) (first : Renderer D A (Vec A)) where
   -- the lines of a footnote are decided by what isn't text

@@ -76,7 +76,7 @@ text_content : {T : Type 0} (texts : List (List (Item T))) → list_any line_has
 text_content [] = refl
 text_content (is ∷ texts) = ap (λ b. has_character is || b) (text_content texts)
 
--- the last lines, and a block's behind them, are a part more
+-- the last lines, and a block's after them, are a part more
 pub part_behind : {T : Type 0} (ps : List (Part T)) (p : Part T) → parts_seen (ps ++ p ∷ []) ≡ (parts_seen ps ++ map line_seen p.before.items) ++ text_lines p.ended
 part_behind ps p =
     flat_map-append part_seen ps (p ∷ []) ∙ ap (λ ls. parts_seen ps ++ ls) (append-nil (part_seen p)) ∙ sym (append_assoc (parts_seen ps) (map line_seen p.before.items) (text_lines p.ended))
@@ -156,7 +156,7 @@ content_seen eq (Text line) merged = merged_piece_has eq line merged
 content_seen eq (Rule b) merged = refl
 
 module _ {T : Type 0} (b : Border T) (old new : List (RenderLine T)) (is : old ≡ new ++ Rule b ∷ []) where
-  -- lines with content, and a border behind them
+  -- lines with content, and a border after them
   pub counted : length (filter line_has_content (map line_seen old)) ≡ length (filter line_has_content (map line_seen new)) + (if not (has_holes b.holes) then 1 else 0)
   counted =
       ap (λ ls. length (filter line_has_content (map line_seen ls))) is ∙ ap (λ ls. length (filter line_has_content ls)) (map-append line_seen new (Rule b ∷ []))
@@ -248,7 +248,7 @@ module _ {T : Type 0} (eq : T → T → Bool) (laws : IsEquivalence eq) where
   same_lines [] = tt
   same_lines (l ∷ ls) = (same_line l, same_lines ls)
 
-  -- lines, and last ones behind them
+  -- lines, and last ones after them
   pub lines_behind : (lines last : List (RenderLine T)) (seen : List (Line T)) → AllZip (SameSeen eq) (map line_seen lines) seen → AllZip (SameSeen eq) (map line_seen (lines ++ last)) (seen ++ map line_seen last)
   lines_behind lines last seen h =
       subst (λ ls. AllZip (SameSeen eq) ls (seen ++ map line_seen last)) (sym (map-append line_seen lines last))

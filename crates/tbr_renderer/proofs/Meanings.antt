@@ -59,7 +59,7 @@ module _ {D A M : Type 0} (f : A → M) (columns : ℕ → Option ℕ) (r : Rend
       padded : text_items (spaces (r.width - items_width columns (items_meant f is))) (map f r.annotations) ≡ line_padding columns (meant f r) (items_meant f is)
       padded = rw pads refl
 
--- ---- lines behind markers
+-- ---- lines after markers
 
 marker_elements : (T : Type 0) (names : List (List ℕ)) → items_of (map (λ n. let e : Element T = marker_element n in e) names) ≡ marker_items names
 marker_elements T [] = refl
@@ -89,7 +89,7 @@ module _ {D A M : Type 0} (f : A → M) where
   line_alone columns r is none =
       ap (λ ms. record (with_filled columns r is) { waiting = ms }) none ∙ ap (λ ms. with_filled columns (record r { waiting = [] }) (marker_items ms ++ is)) (sym none)
 
-  -- behind the markers that waited
+  -- after the markers that waited
   pub line_behind : (columns : ℕ → Option ℕ) (r a b : Renderer D A (Vec A)) (es : List (Element (Vec A))) (whole line : List (Item (Vec A))) →
       AreMarkers es → names_of es ≡ r.waiting → a ≡ record r { waiting = [] } → items_meant f whole ≡ items_meant f (items_of es ++ line) →
       meant f b ≡ with_filled columns (meant f a) (items_meant f whole) → meant f b ≡ with_line columns (meant f r) (items_meant f line)

@@ -119,7 +119,7 @@ no_border_there (l ∷ ls) (Some x) not some found = no_last_border (l ∷ ls) x
 -- ---- a row that is put
 
 module _ {D A M : Type 0} (f : A → M) (columns : ℕ → Option ℕ) where
-  -- behind the lines
+  -- after the lines
   pub row_put : (r s0 s1 s2 s3 : Renderer D A (Vec A)) (above next : Option (Border (Vec A))) (texts : List (List (Item (List M)))) (overhang : List (Cell (Vec A))) (row : SeenRow (List M)) →
       s0 ≡ record r { lines = r.lines ++ border_lines above } → s1 ≡ record s0 { hanging = overhang } → meant f s2 ≡ fold (with_line columns) (meant f s1) texts →
       meant f s3 ≡ with_next columns (meant f s2) (option_map (map_border (tag_meant f)) next) →

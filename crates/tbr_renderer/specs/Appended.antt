@@ -51,7 +51,7 @@ abbrev pub as_text : {T : Type 0} → T → Line T → List (Item T)
 as_text tag (text is) = is
 as_text tag (border b) = shown tag b
 
--- each line as text behind its prefix, as long as there are both
+-- each line as text after its prefix, as long as there are both
 abbrev pub prefixed : {T : Type 0} → T → List (List ℕ) → List (Line T) → List (List (Item T))
 prefixed tag [] lines = []
 prefixed tag (prefix ∷ prefixes) [] = []
@@ -67,13 +67,13 @@ module _ {D A : Type 0} (columns : ℕ → Option ℕ) where
   abbrev pub HoldsBack : Renderer D A (List A) → Type 0
   HoldsBack r = (r.failure ≡ Some TooNarrow) ⊎ ((r.failure ≡ None) × FlushIsTooNarrow columns r)
 
-  -- A border of so many `─` comes behind a flush.
+  -- A border of so many `─` comes after a flush.
   abbrev pub AddsBorder : ℕ → Renderer D A (List A) → Renderer D A (List A) → Type 0
   AddsBorder width r s =
       (m : Renderer D A (List A)) × Flushes columns r m
       × (s ≡ with_border columns m (border_of_cells horizontal width r))
 
-  -- Behind a flush each line comes behind its prefix as a line of text, as long as there are both.
+  -- After a flush each line comes after its prefix as a line of text, as long as there are both.
   abbrev pub AppendsLines :
       List (List ℕ) → List (Line (List A)) → Renderer D A (List A) → Renderer D A (List A) → Type 0
   AppendsLines prefixes lines r s =
@@ -82,7 +82,7 @@ module _ {D A : Type 0} (columns : ℕ → Option ℕ) where
 
   -- ---- cells below one another
 
-  -- a border between them or behind, where borders are drawn
+  -- a border between them or after, where borders are drawn
   abbrev pub with_divider : Cell → Renderer D A (List A) → Renderer D A (List A)
   with_divider cell r =
       if r.options.draw_borders then with_border columns r (border_of_cells cell r.width r) else r
@@ -100,7 +100,7 @@ module _ {D A : Type 0} (columns : ℕ → Option ℕ) where
   with_cells r [] = r
   with_cells r (lines ∷ cells) = fold with_cell_below (with_cell r lines) cells
 
-  -- Behind a flush cells come one below another. Where borders are drawn, one is between each two and one behind
+  -- After a flush cells come one below another. Where borders are drawn, one is between each two and one after
   -- all.
   abbrev pub AppendsCells :
       List (List (Line (List A))) → Renderer D A (List A) → Renderer D A (List A) → Type 0

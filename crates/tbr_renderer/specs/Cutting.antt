@@ -20,7 +20,7 @@ pub record Cutting (T : Type 0) : Type 0 where
 abbrev pub nothing_cut : {T : Type 0} → Option ℕ → Cutting T
 nothing_cut width = record { width = width; ended = []; held = [] }
 
--- the open line ended, and a fresh one behind it
+-- the open line ended, and a fresh one after it
 abbrev pub line_ended : {T : Type 0} → Cutting T → Cutting T
 line_ended c = record c { ended = c.ended ++ c.held ∷ []; held = [] }
 
@@ -32,7 +32,7 @@ extended c is = record c { held = c.held ++ is }
 abbrev pub appended : {T : Type 0} → Cutting T → Item T → Cutting T
 appended c i = extended c (i ∷ [])
 
--- an item more, on a fresh line where it doesn't fit behind what the open one holds
+-- an item more, on a fresh line where it doesn't fit after what the open one holds
 abbrev pub with_item : {T : Type 0} → (ℕ → Option ℕ) → Cutting T → Item T → Cutting T
 with_item columns c i =
     appended (if fits_behind columns c.width c.held (item_width columns i) then c else line_ended c) i

@@ -10,7 +10,7 @@ use Rattle.tbr_renderer.specs.Renderer.{Renderer, new_renderer, with_annotation,
 use Rattle.tbr_renderer.specs.Steps.{AddsText, TextIsTooNarrow}
 use Rattle.tbr_renderer.specs.Image.{shown_title}
 
--- behind the beginning of a strikeout text is struck, and behind its end no longer
+-- after the beginning of a strikeout text is struck, and after its end no longer
 abbrev pub struck_from : {D A T : Type 0} → Renderer D A T → Renderer D A T
 struck_from r = if r.options.use_unicode_strikeout then record r { strikeouts = suc r.strikeouts } else r
 

@@ -50,7 +50,7 @@ abbrev pub line_meant : {A M : Type 0} →
     (ℕ → Option ℕ) → (A → M) → Block (Vec A) → List (Item (Vec A)) → List (Item (List M))
 line_meant columns meaning b is = items_meant meaning (is ++ padding_of columns b.padding b.width is)
 
--- A block's lines come as they are: neither padded, nor behind markers that wait.
+-- A block's lines come as they are: neither padded, nor after markers that wait.
 pub record AddsAsIs {D A : Type 0} (r : Renderer D A (Vec A)) (b : Block (Vec A)) : Type 0 where
   pub padding : b.padding ≡ None
   pub unpadded : r.options.pad_block_width ≡ false

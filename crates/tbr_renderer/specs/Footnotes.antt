@@ -1,4 +1,4 @@
--- The targets of links, which are behind a document.
+-- The targets of links, which are after a document.
 use Rattle.std.specs.Prelude.{ℕ, Bool, true, Option, Some, None, ◌+◌, nat_le, ◌==◌, if◌then◌else◌, List, [], ◌∷◌, ◌++◌, map, flat_map, fold}
 use Rattle.tbr_model.specs.Codes.{newline_character, space_character}
 use Rattle.tbr_model.specs.Run.{Item, item_width, items_width}
@@ -22,12 +22,12 @@ footnote_items [] = []
 footnote_items (piece cs a ∷ es) = text_items (map unbroken cs) (a ∷ []) ++ footnote_items es
 footnote_items (marker_element name ∷ es) = footnote_items es
 
--- Whether so many columns more fit behind what a line holds. Without a width they do.
+-- Whether so many columns more fit after what a line holds. Without a width they do.
 abbrev pub fits_behind : {A : Type 0} → (ℕ → Option ℕ) → Option ℕ → List (Item A) → ℕ → Bool
 fits_behind columns None held more = true
 fits_behind columns (Some width) held more = nat_le (items_width columns held + more) width
 
--- A line ends before each item that doesn't fit behind what it holds.
+-- A line ends before each item that doesn't fit after what it holds.
 abbrev pub cut_lines : {A : Type 0} → (ℕ → Option ℕ) → Option ℕ → List (Item A) → List (Item A) → List (List (Item A))
 cut_lines columns width held [] = held ∷ []
 cut_lines columns width held (i ∷ is) =
@@ -44,6 +44,6 @@ module _ {D A : Type 0} (columns : ℕ → Option ℕ) where
   abbrev pub footnote_lines : Renderer D A (List A) → List (Element A) → List (List (Item (List A)))
   footnote_lines r es = cut_lines columns (link_width r.options r.width) [] (footnote_items es)
 
-  -- the footnotes come behind the lines, and the open run stays open
+  -- the footnotes come after the lines, and the open run stays open
   abbrev pub with_footnotes : Renderer D A (List A) → List (List (Element A)) → Renderer D A (List A)
   with_footnotes r footnotes = fold (with_line columns) r (flat_map (footnote_lines r) footnotes)

@@ -15,7 +15,7 @@ abbrev pub text_lines : {T : Type 0} → List (List (Item T)) → List (Line T)
 text_lines [] = []
 text_lines (is ∷ texts) = text is ∷ text_lines texts
 
--- lines, and behind them those of a block
+-- lines, and after them those of a block
 abbrev pub part_seen : {T : Type 0} → Part T → List (Line T)
 part_seen p = map line_seen p.before.items ++ text_lines p.ended
 

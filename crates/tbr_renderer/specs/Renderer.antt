@@ -104,7 +104,7 @@ IsOneOf x (y ∷ z ∷ zs) = (x ≡ y) ⊎ IsOneOf x (z ∷ zs)
 abbrev pub without_last : {X : Type 0} → List X → List X
 without_last xs = take (length xs - 1) xs
 
--- an annotation more, behind those that are open
+-- an annotation more, after those that are open
 abbrev pub with_annotation : {D A T : Type 0} → Renderer D A T → A → Renderer D A T
 with_annotation r annotation = record r { annotations = r.annotations ++ annotation ∷ [] }
 
@@ -134,7 +134,7 @@ abbrev pub with_filled : {D A : Type 0} →
     (ℕ → Option ℕ) → Renderer D A (List A) → List (Item (List A)) → Renderer D A (List A)
 with_filled columns r is = record r { lines = r.lines ++ text (is ++ line_padding columns r is) ∷ [] }
 
--- the same behind the markers that wait
+-- the same after the markers that wait
 abbrev pub with_line : {D A : Type 0} →
     (ℕ → Option ℕ) → Renderer D A (List A) → List (Item (List A)) → Renderer D A (List A)
 with_line columns r is = with_filled columns (record r { waiting = [] }) (marker_items r.waiting ++ is)
@@ -187,12 +187,12 @@ last_mode [] = Normal
 last_mode (mode ∷ []) = mode
 last_mode (mode ∷ next ∷ modes) = last_mode (next ∷ modes)
 
--- a character with so many strokes behind it, if it takes columns
+-- a character with so many strokes after it, if it takes columns
 abbrev pub struck_character : (ℕ → Option ℕ) → ℕ → ℕ → List ℕ
 struck_character columns depth c =
     c ∷ (if nat_lt 0 (unwrap_or (columns c) 0) then replicate depth stroke else [])
 
--- a text with so many strokes behind each character that takes columns
+-- a text with so many strokes after each character that takes columns
 abbrev pub struck : (ℕ → Option ℕ) → ℕ → List ℕ → List ℕ
 struck columns depth cs = flat_map (struck_character columns depth) cs
 
@@ -215,6 +215,6 @@ entries_of columns preformatted r cs = entries_under preformatted r (struck colu
 abbrev pub is_white : List ℕ → Bool
 is_white cs = list_all is_whitespace cs
 
--- behind the end of a block white space is ignored in `Normal`
+-- after the end of a block white space is ignored in `Normal`
 abbrev pub ignores : {D A T : Type 0} → Renderer D A T → List ℕ → Bool
 ignores r cs = r.block_ended && (not (preserves (last_mode r.modes)) && is_white cs)

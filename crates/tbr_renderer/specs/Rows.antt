@@ -132,7 +132,7 @@ abbrev pub with_next : {D A : Type 0} →
 with_next columns r None = r
 with_next columns r (Some b) = with_border columns r b
 
--- The border above a row, its lines and the border below come behind the others, and what overhangs waits for the next
+-- The border above a row, its lines and the border below come after the others, and what overhangs waits for the next
 -- row.
 abbrev pub with_row_behind : {D A : Type 0} →
     (ℕ → Option ℕ) → Renderer D A (List A) → SeenRow (List A) → Renderer D A (List A)
@@ -157,7 +157,7 @@ pub record PutsRow {D A : Type 0} (columns : ℕ → Option ℕ) (collapses : Bo
   pub means : MeansRow columns (style_in r collapses) r.annotations r.hanging own (last_border r.lines) row
   pub is : s ≡ with_row columns r row
 
--- and so it does behind a flush
+-- and so it does after a flush
 abbrev pub AppendsRow : {D A : Type 0} → (ℕ → Option ℕ) → Bool → List (GivenCell (List A))
     → Renderer D A (List A) → Renderer D A (List A) → Type 0
 AppendsRow {D} {A} columns collapses cells r s =

@@ -7,19 +7,19 @@ use Rattle.tbr_renderer.specs.Renderer.{Open, Renderer, has_content, with_line, 
 use Rattle.tbr_renderer.specs.Flush.{RunGoesOn, RunStops, Flushes, FlushIsTooNarrow}
 
 module _ {D A : Type 0} (columns : ℕ → Option ℕ) where
-  -- an empty line, behind which no block has ended
+  -- an empty line, after which no block has ended
   abbrev pub with_empty_line : Renderer D A (List A) → Renderer D A (List A)
   with_empty_line r = record (with_line columns r []) { block_ended = false }
 
-  -- An empty line comes behind a flush.
+  -- An empty line comes after a flush.
   abbrev pub AddsEmptyLine : Renderer D A (List A) → Renderer D A (List A) → Type 0
   AddsEmptyLine r s = (m : Renderer D A (List A)) × Flushes columns r m × (s ≡ with_empty_line m)
 
-  -- a block begins behind an empty line, where any line has content
+  -- a block begins after an empty line, where any line has content
   abbrev pub block_started : Renderer D A (List A) → Renderer D A (List A)
   block_started r = if has_content r then with_empty_line r else record r { block_ended = false }
 
-  -- A block begins behind a flush, and behind an empty line where any line has content.
+  -- A block begins after a flush, and after an empty line where any line has content.
   abbrev pub StartsBlock : Renderer D A (List A) → Renderer D A (List A) → Type 0
   StartsBlock r s = (m : Renderer D A (List A)) × Flushes columns r m × (s ≡ block_started m)
 
@@ -60,7 +60,7 @@ module _ {D A : Type 0} (columns : ℕ → Option ℕ) (preformatted : D → Boo
       RunGoesOn columns (block_width r) (may_overflow r) (open_run r.block ++ entries_of columns preformatted r cs)
       × (s ≡ with_entries r (entries_of columns preformatted r cs))
 
-  -- Behind the end of a block white space is ignored in `Normal`, and any other text begins a block.
+  -- After the end of a block white space is ignored in `Normal`, and any other text begins a block.
   abbrev pub AddsTextBy : Bool → Bool → List ℕ → Renderer D A (List A) → Renderer D A (List A) → Type 0
   AddsTextBy true ended cs r s = s ≡ r
   AddsTextBy false true cs r s = (m : Renderer D A (List A)) × StartsBlock columns r m × JoinsText cs m s

@@ -107,7 +107,7 @@ impl<D: TextDecorator, W: CharWidth> FootnoteLines<D, W> {
         }
     }
 
-    /// The columns of the open line with a text behind it, where that has no newline and fits as a whole.
+    /// The columns of the open line with a text after it, where that has no newline and fits as a whole.
     fn columns_with(&self, text: &str) -> Option<usize>
         ensures columns { let held = (cut_meant D.meaning self.now).held in IfSome result (λ columns.
             columns ≡ items_width W.columns held + width_of_text W.columns (chars text.now)) }
@@ -149,7 +149,7 @@ impl<D: TextDecorator, W: CharWidth> FootnoteLines<D, W> {
         Ok(())
     }
 
-    /// Adds a character, on a fresh line where it doesn't fit behind what the open one holds.
+    /// Adds a character, on a fresh line where it doesn't fit after what the open one holds.
     fn push(&mut self, c: char, tag: &Vec<D::Annotation>) -> Result<(), OutOfMemory>
         ensures { OnOk result (cut_meant D.meaning self.new
             ≡ with_item W.columns (cut_meant D.meaning self.old) (glyph c (tag_meant D.meaning tag.now))) }
@@ -160,7 +160,7 @@ impl<D: TextDecorator, W: CharWidth> FootnoteLines<D, W> {
         self.append(c, tag)
     }
 
-    /// Whether a character fits behind what the open line holds.
+    /// Whether a character fits after what the open line holds.
     fn fits(&self, c: char) -> bool
         ensures { result
             ≡ fits_behind W.columns self.now.width (cut_meant D.meaning self.now).held (unwrap_or (W.columns c) 0) }
@@ -197,7 +197,7 @@ impl<D: TextDecorator, W: CharWidth> FootnoteLines<D, W> {
     }
 }
 
-/// The columns of a text behind so many others, where it has no newline.
+/// The columns of a text after so many others, where it has no newline.
 fn columns_behind<W: CharWidth>(before: usize, text: &str) -> Option<usize>
     ensures columns { IfSome result (λ columns. columns ≡ before + width_of_text W.columns (chars text.now)) }
     ensures unbroken { IfSome result (λ _. map model.unbroken (chars text.now) ≡ chars text.now) }

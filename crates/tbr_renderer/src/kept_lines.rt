@@ -24,13 +24,13 @@ pub struct KeptLines<T: Eq> {
     above: Vec<Part<T>>,
     /// Whether a line of these has content.
     content_above: bool,
-    /// The lines behind them.
+    /// The lines after them.
     last: Vec<RenderLine<T>>,
     /// How many of the last lines have content.
     with_content: usize,
 }
 
-/// Lines, and behind them those that a block has ended.
+/// Lines, and after them those that a block has ended.
 #[derive(Drop)]
 pub struct Part<T> {
     before: Vec<RenderLine<T>>,

@@ -60,9 +60,9 @@ pub struct RenderOptions {
     pub draw_borders: bool,
     /// Kept for callers, and not read.
     pub fence_tables: bool,
-    /// Whether the targets behind a document are cut where they don't fit a line.
+    /// Whether the targets after a document are cut where they don't fit a line.
     pub wrap_links: bool,
-    /// Whether links are numbered, and their targets listed behind the document.
+    /// Whether links are numbered, and their targets listed after the document.
     pub include_link_footnotes: bool,
     /// Whether struck out text has strokes.
     pub use_unicode_strikeout: bool,

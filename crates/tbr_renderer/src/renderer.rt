@@ -295,7 +295,7 @@ pub trait Renderer {
             OnErr result (stops_at_stage (call.finish end.superscript) self.old self.new) }
         ensures kept { KeepsFailure kept_refusal self.old result self.new };
 
-    /// Begins a strikeout, as a link is begun. Text behind the decorator's has a stroke more, if struck out text has
+    /// Begins a strikeout, as a link is begun. Text after the decorator's has a stroke more, if struck out text has
     /// any. A depth that passes `usize` is refused by `OutOfMemory`.
     fn start_strikeout(&mut self) -> Result<(), Error>
         ensures ok { OnOk result (does call.start_strikeout self.old self.new) }
@@ -355,7 +355,7 @@ pub trait Renderer {
             OnErr result (stops_at_stage (call.add_border width) self.old self.new) }
         ensures kept { KeepsFailure kept_refusal self.old result self.new };
 
-    /// Ends the open line, and then that of another renderer, and adds the lines of that one, each behind a prefix and
+    /// Ends the open line, and then that of another renderer, and adds the lines of that one, each after a prefix and
     /// under the annotations. A border becomes text.
     ///
     /// One prefix is asked for a line. Where they run out, the lines that are left are dropped. A refusal of the other
@@ -379,7 +379,7 @@ pub trait Renderer {
         ensures kept { KeepsFailure kept_refusal self.old result self.new };
 
     /// Ends the open line, and adds the lines of other renderers, one below another, as `append_subrender` does without
-    /// prefixes. Where borders are drawn, one of slashes is between each two, and a plain one behind all, also
+    /// prefixes. Where borders are drawn, one of slashes is between each two, and a plain one after all, also
     /// where there are none. A refusal of one of them is passed on, the first in order.
     fn append_vert_row(&mut self, cols: Vec<Self>) -> Result<(), Error>
         ensures ok { OnOk result ((cells : List (List (Line Tag)))

@@ -263,7 +263,7 @@ impl<D: TextDecorator, W: CharWidth> SubRenderer<D, W> {
         line.pad_to::<W>(self.width, &self.annotations)
     }
 
-    /// Adds a line of text behind the markers that wait. It is filled, where lines are padded.
+    /// Adds a line of text after the markers that wait. It is filled, where lines are padded.
     ///
     /// Where memory is refused the line is lost, and markers may be.
     fn add_line(&mut self, line: TaggedLine<Vec<D::Annotation>>) -> Result<(), OutOfMemory>

@@ -11,7 +11,7 @@ use Rattle.tbr_lines.specs.Elements.{Element, element_characters, characters}
 use Rattle.tbr_show.specs.Written.{printable}
 use Rattle.tbr_show.specs.Html.{escaped, between, is_wide_after, shown_from, shown}
 
--- one more part behind those that were appended already
+-- one more part after those that were appended already
 pub one_behind : {X : Type 0} (start so_far more text new : List X) → text ≡ start ++ so_far → new ≡ text ++ more → new ≡ start ++ (so_far ++ more)
 one_behind {X} start so_far more text new is e = e ∙ ap (λ (ys : List X). ys ++ more) is ∙ append_assoc start so_far more
 
@@ -55,12 +55,12 @@ module _ {X Y Z : Type 0} (f : Y → List Z) (g : X → Y) where
 -- ---- characters in their columns
 
 module _ (columns : ℕ → Option ℕ) where
-  -- characters without what closes behind them
+  -- characters without what closes after them
   abbrev pub shown_open : Bool → List ℕ → List ℕ
   shown_open is_wide [] = []
   shown_open is_wide (c ∷ cs) = between is_wide (columns c) ++ (escaped c ++ shown_open (is_wide_after is_wide (columns c)) cs)
 
-  -- whether an element is open behind them
+  -- whether an element is open after them
   abbrev pub wide_behind : Bool → List ℕ → Bool
   wide_behind is_wide [] = is_wide
   wide_behind is_wide (c ∷ cs) = wide_behind (is_wide_after is_wide (columns c)) cs
@@ -86,7 +86,7 @@ module _ (columns : ℕ → Option ℕ) where
   wide_push is_wide [] c = refl
   wide_push is_wide (d ∷ cs) c = wide_push (is_wide_after is_wide (columns d)) cs c
 
--- ---- lists behind a call that may refuse
+-- ---- lists after a call that may refuse
 
 pub on_ok_then : {T E : Type 0} {P Q : Type 0} (r : Result T E) → (P → Q) → OnOk r P → OnOk r Q
 on_ok_then (Ok x) f h = f h
@@ -121,7 +121,7 @@ module _ (columns : ℕ → Option ℕ) (start cs : List ℕ) (text : List ℕ) 
 
 -- ---- an object of JSON
 
--- three tokens, more, two tokens, more, and two tokens, one behind another
+-- three tokens, more, two tokens, more, and two tokens, one after another
 module _ {X : Type 0} (t u1 u2 u3 u4 u5 u6 u7 u8 u9 : List X) (x y z k o p q : X) (columns parts : List X)
     (e1 : u1 ≡ t ++ x ∷ []) (e2 : u2 ≡ u1 ++ y ∷ []) (e3 : u3 ≡ u2 ++ z ∷ []) (e4 : u4 ≡ u3 ++ columns) (e5 : u5 ≡ u4 ++ k ∷ [])
     (e6 : u6 ≡ u5 ++ o ∷ []) (e7 : u7 ≡ u6 ++ parts) (e8 : u8 ≡ u7 ++ p ∷ []) (e9 : u9 ≡ u8 ++ q ∷ []) where

@@ -30,7 +30,7 @@ BeginNot [] = Unit {0}
 BeginNot (line ∷ lines) = (is_skipped line ≡ false) × ((opening : Opening) → IsOpening line opening → ⊥)
 
 -- The first line that asks for something is no first command, or there is none. The refusal tells that line, or the one
--- behind the last.
+-- after the last.
 pub record BeginsNot (script : List ℕ) (refusal : Refusal) : Type 0 where
   pub skipped : List (List ℕ)
   pub rest : List (List ℕ)

@@ -5,12 +5,12 @@ use Rattle.tbr_model.specs.Run.{Item, has_character}
 use Rattle.tbr_model.specs.Layout.{joined}
 use Rattle.tbr_tagged.specs.Walks.{item_characters}
 
--- the parts of a list that have these lengths, one behind the other
+-- the parts of a list that have these lengths, one after the other
 abbrev pub cut : {X : Type 0} → List ℕ → List X → List (List X)
 cut [] xs = []
 cut (n ∷ ns) xs = take n xs ∷ cut ns (drop n xs)
 
--- The first placed items are those of the lines, which have these lengths, and behind them is no character.
+-- The first placed items are those of the lines, which have these lengths, and after them is no character.
 pub record AreLines {A : Type 0} (lens : List ℕ) (placed : List (Item A)) (lines : List (List (Item A))) : Type 0 where
   pub behind : List (Item A)
   pub placed_is : placed ≡ joined lines ++ behind

@@ -11,7 +11,7 @@ use Rattle.tbr_wrap.specs.declared.block.WrappedBlock.TheInside.{Inside}
 use Rattle.tbr_wrap.specs.Wrapper.{IsAtProgress}
 use Rattle.tbr_wrap.specs.declared.wrapper.Wrapper.{Wrapper}
 
--- The lines of earlier runs, and behind them what the rule has laid of the current run, but for its lines that were
+-- The lines of earlier runs, and after them what the rule has laid of the current run, but for its lines that were
 -- handed out. A line has ended where one was handed out or one is left.
 pub record HoldsAt {A : Type 0} (columns : ℕ → Option ℕ) (eq : A → A → Bool) (b : Wrapper A) (begun : Bool)
     (s : Block A) (p : Progress A) : Type 0 where

@@ -9,7 +9,7 @@ use Rattle.tbr_tagged.specs.Elements.{SameItems}
 use Rattle.tbr_wrap.specs.Wrapped.{FitsBlock}
 use Rattle.tbr_wrap.specs.declared.laid_lines.LaidLines.{LaidLines}
 
--- The fields hold what is laid, behind the lines of earlier runs.
+-- The fields hold what is laid, after the lines of earlier runs.
 pub record HoldsLaid {A : Type 0} (b : LaidLines A) (before : List (List (Item A))) (l : Laid A) : Type 0 where
   pub placed : b.flat.placed ≡ joined (before ++ l.done) ++ l.line
   pub lens : b.ended.items ≡ map length (before ++ l.done)
@@ -55,7 +55,7 @@ pub record PutsFront {A E : Type 0} (columns : ℕ → Option ℕ) (eq : A → A
   pub put : (js : List (Item A)) → SameItems eq b.flat.word js →
       LinesFollow columns eq b c result (λ r. put_items columns b.width r (take count js))
 
--- The fields hold what is laid, with placed items behind it that no line has yet.
+-- The fields hold what is laid, with placed items after it that no line has yet.
 pub record HoldsLaidBefore {A : Type 0} (b : LaidLines A) (before : List (List (Item A))) (l : Laid A)
     (behind : List (Item A)) : Type 0 where
   pub placed : b.flat.placed ≡ (joined (before ++ l.done) ++ l.line) ++ behind

@@ -43,7 +43,7 @@ pub record IsStretch (columns : ℕ → Option ℕ) (spaced : Bool) (text : List
 abbrev pub is_narrow : (ℕ → Option ℕ) → ℕ → Bool
 is_narrow columns c = unwrap_or (plain_width columns c) 0 == 1
 
--- Whether a word is under way behind one more character, where narrow words come with one space between two. None
+-- Whether a word is under way after one more character, where narrow words come with one space between two. None
 -- where the character isn't one of these.
 abbrev pub reads : (ℕ → Option ℕ) → Option Bool → ℕ → Option Bool
 reads columns None c = None
@@ -51,7 +51,7 @@ reads columns (Some inside) c =
     if c == space_character then (if inside then Some false else None)
     else (if is_narrow columns c then Some true else None)
 
--- narrow words with one space between two, and one behind the last
+-- narrow words with one space between two, and one after the last
 pub record AreWords (columns : ℕ → Option ℕ) (cs : List ℕ) : Type 0 where
   pub front : List ℕ
   pub is : cs ≡ front ++ space_character ∷ []

@@ -57,7 +57,7 @@ AreLastOf {X} xs all = (front : List X) × (front ++ xs ≡ all)
 
 -- ---- hard lines that fit
 
--- The column behind an entry that comes at a column: a tab goes to the next multiple of eight, and U+200B takes none.
+-- The column after an entry that comes at a column: a tab goes to the next multiple of eight, and U+200B takes none.
 abbrev pub column_behind : {A : Type 0} → (ℕ → Option ℕ) → ℕ → Entry A → ℕ
 column_behind columns n (character c a b m) =
     if c == zero_width_space then n
@@ -105,7 +105,7 @@ pub record EndsRun {A : Type 0} (columns : ℕ → Option ℕ) (width : ℕ) (ma
   pub kept : IsNormal run → without_spaces (joined texts) ++ marker_items names ≡ kept_items columns run
   -- markers are on the lines or wait, once and in order
   pub markers : names_in_items (joined texts) ++ names ≡ names_in_run run
-  -- those that wait come behind the last visible character, in a `Normal` run behind the last kept one
+  -- those that wait come after the last visible character, in a `Normal` run after the last kept one
   pub behind : AreLastOf names (names_behind (is_visible columns) run)
   pub behind_kept : IsNormal run → AreLastOf names (names_behind (is_kept columns) run)
   pub waits : may_overflow ≡ false → IsNormal run → marker_items names ≡ trailing columns run

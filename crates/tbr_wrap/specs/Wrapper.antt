@@ -27,18 +27,18 @@ abbrev pub held_width : {A : Type 0} → Option (HeldSpace A) → ℕ
 held_width None = 0
 held_width (Some s) = s.width
 
--- Characters of so many columns change no tag: in `Pre` the open line has room for them behind the pending space and
+-- Characters of so many columns change no tag: in `Pre` the open line has room for them after the pending space and
 -- the word, or the continuation tag has begun, for this call and the next.
 abbrev pub KeepsTag : {A : Type 0} → Wrapper A → WhiteSpace → ℕ → Type 0
 KeepsTag b mode n = is_pre mode ≡ true →
     (b.lines.line_width + (held_width b.space + (b.word_width + n)) ≤ b.lines.width)
     ⊎ ((b.continuation_flag ≡ true) × (b.in_continuation ≡ true))
 
--- White space that is pending is dropped where the word behind it doesn't fit.
+-- White space that is pending is dropped where the word after it doesn't fit.
 abbrev pub DropsSpace : {A : Type 0} → Option (HeldSpace A) → Type 0
 DropsSpace {A} held = (s : HeldSpace A) → held ≡ Some s → s.mode ≡ Normal
 
--- Words of which the first doesn't fit behind what is pending, as so many characters of it don't, and which all fit a
+-- Words of which the first doesn't fit after what is pending, as so many characters of it don't, and which all fit a
 -- fresh line.
 pub record AreMoved {A : Type 0} (columns : ℕ → Option ℕ) (b : Wrapper A) (text : List ℕ) : Type 0 where
   pub words : AreWords columns text
@@ -103,7 +103,7 @@ pub record EndsWideWord {A : Type 0} (columns : ℕ → Option ℕ) (width : ℕ
   pub text_is : chars text ≡ first ∷ rest
   pub normal : mode ≡ Normal → (is_break first ≡ true) × (0 < items_width columns p.word)
 
--- The run has ended: the lines of it that weren't handed out are behind those of earlier runs, and a run can begin
+-- The run has ended: the lines of it that weren't handed out are after those of earlier runs, and a run can begin
 -- with the markers that wait.
 pub record RunIsFinished {A : Type 0} (columns : ℕ → Option ℕ) (eq : A → A → Bool) (b c : Wrapper A)
     (before given : List (List (Item A))) (p : Progress A) : Type 0 where

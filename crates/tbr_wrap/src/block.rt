@@ -212,7 +212,7 @@ impl<T: Eq + Clone, W: CharWidth> WrappedBlock<T, W> {
     }
 
     /// The text joins the run, in the given mode: each character under a copy of the main tag, or of the wrap tag where
-    /// its hard line goes on behind a full line.
+    /// its hard line goes on after a full line.
     ///
     /// A word that ends is placed. In a `Normal` run `TooNarrow` comes exactly where a word that a break point of the
     /// text ends, of the run with this text, has a character wider than the block; in any other run only where the run

@@ -14,7 +14,7 @@ use tbr_tagged::{Error, OutOfMemory, TaggedLine};
 /// How many columns tab stops are apart.
 const TAB_STOP: usize = 8;
 
-/// The items of a block that aren't handed out: those of its ended lines, those of the open line, and behind them the
+/// The items of a block that aren't handed out: those of its ended lines, those of the open line, and after them the
 /// word's.
 #[derive(Drop)]
 pub struct LaidLines<T> {
@@ -123,7 +123,7 @@ impl<T: Eq + Clone + Drop> LaidLines<T> {
         self.end_line()
     }
 
-    /// Puts the word's first item, of `width` columns, behind those of no width, and ends the line.
+    /// Puts the word's first item, of `width` columns, after those of no width, and ends the line.
     fn place_wide<W: CharWidth>(&mut self, width: usize) -> Result<(), OutOfMemory>
         requires some { 0 < length self.old.flat.word }
         requires width { width ≡ items_width W.columns (take 1 self.old.flat.word) }
@@ -145,7 +145,7 @@ impl<T: Eq + Clone + Drop> LaidLines<T> {
         Ok(())
     }
 
-    /// Puts the word's first item, of `width` columns, which is wider than a line: behind items of no width, on a line
+    /// Puts the word's first item, of `width` columns, which is wider than a line: after items of no width, on a line
     /// that is ended at once.
     fn put_wide<W: CharWidth>(&mut self, width: usize) -> Result<(), Error>
         requires some { 0 < length self.old.flat.word }
@@ -256,7 +256,7 @@ impl<T: Eq + Clone + Drop> LaidLines<T> {
         Ok(())
     }
 
-    /// Takes `count` spaces, which are placed behind the open line, onto it, and ends it if they fill it.
+    /// Takes `count` spaces, which are placed after the open line, onto it, and ends it if they fill it.
     fn take_spaces(&mut self, count: usize) -> Result<(), OutOfMemory>
         requires some { 0 < count }
         requires room { self.old.line_width + count ≤ self.old.width }

@@ -28,7 +28,7 @@ pub fn lines_are_handed_out_in_order<T>()
     ensures settings { (n : ℕ) (s : Block T) → settings_of (lines_handed_out n s) ≡ settings_of s }
 {}
 
-/// Lines that a run ends, under way or where it is flushed, come behind those that are left. Where open line and word
+/// Lines that a run ends, under way or where it is flushed, come after those that are left. Where open line and word
 /// hold no character a flush ends none, and a marker never does.
 pub fn lines_join_behind_those_left<T>()
     ensures text { (columns : ℕ → Option ℕ) (s t : Block T) (cs : List ℕ) (a b : T) (mode : WhiteSpace) →
@@ -78,8 +78,8 @@ pub fn runs_decide_what_is_open<T>()
         takes_no_columns columns s ≡ false → has_no_character columns s ≡ false }
 {}
 
-/// The loose markers are the last ones of the run, behind its last visible character; in a `Normal` run where no line
-/// may be wider than the block they are those behind its last kept one.
+/// The loose markers are the last ones of the run, after its last visible character; in a `Normal` run where no line
+/// may be wider than the block they are those after its last kept one.
 pub fn loose_markers_are_last<T>()
     ensures last { (columns : ℕ → Option ℕ) (s : Block T) →
         loose columns s ≡ last (length (loose columns s)) (names_in_run (run_of s.events)) }

@@ -10,7 +10,7 @@ use tbr_tagged::is_wordbreak_point;
 
 /// How many bytes of plain characters a text begins with that fit into `room` columns, and the columns that these take.
 ///
-/// A plain character is printable ASCII that has a width; the space is one only if `spaced`. The one behind these isn't
+/// A plain character is printable ASCII that has a width; the space is one only if `spaced`. The one after these isn't
 /// plain, or doesn't fit.
 pub fn plain_in_front<W: CharWidth>(text: &str, spaced: bool, room: usize) -> (usize, usize)
     ensures within { result.0 ≤ length text.now }
@@ -79,7 +79,7 @@ fn kept_width<W: CharWidth>(c: char) -> Option<usize>
     W::width(c)
 }
 
-/// How many bytes the words take that a text begins with, each with the space behind it. Their characters are plain, of
+/// How many bytes the words take that a text begins with, each with the space after it. Their characters are plain, of
 /// one column each. All but the last space fit into `room` columns.
 pub fn words_in_front<W: CharWidth>(text: &str, room: usize) -> usize
     ensures within { result ≤ length text.now }
@@ -101,7 +101,7 @@ pub fn words_in_front<W: CharWidth>(text: &str, room: usize) -> usize
     end
 }
 
-/// Whether a word is under way behind one more byte, where narrow words come with one space between two.
+/// Whether a word is under way after one more byte, where narrow words come with one space between two.
 fn reads<W: CharWidth>(inside: bool, byte: u8) -> Option<bool>
     ensures { result ≡ plain.reads W.columns (Some inside) byte }
 {

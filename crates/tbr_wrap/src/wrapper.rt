@@ -4,8 +4,8 @@
 //! - The beginning of a text is *added* as it goes at one go: words, a stretch of characters, or one (`add_front`).
 //! - A character *joins* the word (`join`), or a stretch of them does at which no word ends (`add_stretch`). White
 //!   space that doesn't is pending before it (`collapse`, `keep_space`).
-//! - The word is *laid* where it ends: here, behind what is pending, if both fit the open line (`lay_here`), and else
-//!   afresh, behind what is left of that (`wrap_space`, `lay_fresh`).
+//! - The word is *laid* where it ends: here, after what is pending, if both fit the open line (`lay_here`), and else
+//!   afresh, after what is left of that (`wrap_space`, `lay_fresh`).
 //! - Words that a text begins with, and that fit the open line, are laid here as one word would be (`add_words`). Where
 //!   the first one doesn't fit, and a fresh line has room for all, they are moved to it (`move_words`).
 //! - What fits the open line is *placed* on it (`place_pending`, `place_word`). What may not fit is *put* on it and the
@@ -94,7 +94,7 @@ impl<T> Wrapper<T> {
         }
     }
 
-    /// Whether the word fits the open line behind the pending space.
+    /// Whether the word fits the open line after the pending space.
     fn has_room(&self) -> bool
         ensures { IsTrue result ↔
             (self.now.lines.line_width + (held_width self.now.space + self.now.word_width) ≤ self.now.lines.width) }
@@ -153,7 +153,7 @@ impl<T: Eq + Clone + Drop> Wrapper<T> {
         }
     }
 
-    /// Puts the word behind the pending space on the open line, where both fit.
+    /// Puts the word after the pending space on the open line, where both fit.
     fn lay_here<W: CharWidth>(&mut self) -> Result<(), OutOfMemory>
         requires faithful { CopiesAreEqual T.is_clone T.eq }
         requires room { self.old.lines.line_width + (held_width self.old.space + self.old.word_width) ≤
@@ -168,7 +168,7 @@ impl<T: Eq + Clone + Drop> Wrapper<T> {
         Ok(())
     }
 
-    /// Does with the pending space what its mode asks for where the word behind it doesn't fit.
+    /// Does with the pending space what its mode asks for where the word after it doesn't fit.
     fn wrap_space<W: CharWidth>(&mut self) -> Result<(), OutOfMemory>
         requires faithful { CopiesAreEqual T.is_clone T.eq }
         requires stands { IsUnderWay W.columns T.eq self.old }
@@ -245,7 +245,7 @@ impl<T: Eq + Clone + Drop> Wrapper<T> {
         self.lines.put_word::<W>()
     }
 
-    /// Puts the word on a fresh line, behind what is still pending. A word that has lost its characters stays.
+    /// Puts the word on a fresh line, after what is still pending. A word that has lost its characters stays.
     fn lay_fresh<W: CharWidth>(&mut self) -> Result<(), Error>
         requires faithful { CopiesAreEqual T.is_clone T.eq }
         requires stands { IsUnderWay W.columns T.eq self.old }
@@ -264,7 +264,7 @@ impl<T: Eq + Clone + Drop> Wrapper<T> {
         Ok(())
     }
 
-    /// Lays the word: behind the pending space if both fit the open line, and else on a fresh one.
+    /// Lays the word: after the pending space if both fit the open line, and else on a fresh one.
     fn lay<W: CharWidth>(&mut self) -> Result<(), Error>
         requires faithful { CopiesAreEqual T.is_clone T.eq }
         requires stands { IsUnderWay W.columns T.eq self.old }
@@ -395,7 +395,7 @@ impl<T: Eq + Clone + Drop> Wrapper<T> {
         self.in_continuation = self.continuation_flag;
     }
 
-    /// Notes white space that collapses, behind what the line has.
+    /// Notes white space that collapses, after what the line has.
     fn collapse(&mut self, c: char, tag: &T) -> Result<(), OutOfMemory>
         requires faithful { CopiesAreEqual T.is_clone T.eq }
         requires is_break { is_break c ≡ true }
@@ -641,7 +641,7 @@ impl<T: Eq + Clone + Drop> Wrapper<T> {
     }
 
     /// The characters that a text begins with and that join the word under the tag of this call: as many as are plain,
-    /// and where there are none of these, as many of any script. In `Pre` the spaces behind a character of the word are
+    /// and where there are none of these, as many of any script. In `Pre` the spaces after a character of the word are
     /// plain. None where there are none.
     fn fitting_stretch<W: CharWidth>(&self, text: &str, mode: WhiteSpace) -> Option<Stretch>
         ensures some { IfSome result (λ s. 0 < s.count) }
@@ -692,7 +692,7 @@ impl<T: Eq + Clone + Drop> Wrapper<T> {
         self.join_text(text, count, width, tag, mode)
     }
 
-    /// How many bytes the words take that a text begins with, each with the space behind it, where they go on the open
+    /// How many bytes the words take that a text begins with, each with the space after it, where they go on the open
     /// line at once.
     fn fitting_words<W: CharWidth>(&self, text: &str, mode: WhiteSpace) -> usize
         ensures within { result ≤ length text.now }
@@ -711,7 +711,7 @@ impl<T: Eq + Clone + Drop> Wrapper<T> {
         }
     }
 
-    /// Adds words, each with a space behind it, to the open line. The last space waits.
+    /// Adds words, each with a space after it, to the open line. The last space waits.
     fn add_words<W: CharWidth>(
         &mut self,
         text: &str,
@@ -735,7 +735,7 @@ impl<T: Eq + Clone + Drop> Wrapper<T> {
         self.collapse(' ', tag)
     }
 
-    /// Whether white space that is pending is dropped where the word behind it doesn't fit.
+    /// Whether white space that is pending is dropped where the word after it doesn't fit.
     fn drops_space(&self) -> bool
         ensures { IsTrue result ↔ DropsSpace self.now.space }
     {
@@ -745,7 +745,7 @@ impl<T: Eq + Clone + Drop> Wrapper<T> {
         }
     }
 
-    /// How many bytes the words take that a text begins with, each with the space behind it, where the first one
+    /// How many bytes the words take that a text begins with, each with the space after it, where the first one
     /// doesn't fit the open line, and a fresh one has room for all.
     fn moved_words<W: CharWidth>(&self, text: &str, mode: WhiteSpace) -> usize
         ensures within { result ≤ length text.now }
@@ -766,7 +766,7 @@ impl<T: Eq + Clone + Drop> Wrapper<T> {
         words_in_front::<W>(text, self.lines.width - self.word_width)
     }
 
-    /// Adds words, each with a space behind it, to a fresh line. The last space waits, and that before them is dropped.
+    /// Adds words, each with a space after it, to a fresh line. The last space waits, and that before them is dropped.
     fn move_words<W: CharWidth>(
         &mut self,
         text: &str,

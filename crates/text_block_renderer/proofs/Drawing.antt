@@ -32,7 +32,7 @@ module _ {T : Type 0} where
   none_among : (ls : List (Line T)) → AreDrawnAmong [] ls ls
   none_among ls = (map as_it_is ls, put_as_they_are ls, none_drawn ls, all_others ls)
 
-  -- more lines behind lines
+  -- more lines after lines
   among_both : (bs cs : List (List Cell)) (ls ms ks ns : List (Line T)) → AreDrawnAmong bs ls ks → AreDrawnAmong cs ms ns → AreDrawnAmong (bs ++ cs) (ls ++ ms) (ks ++ ns)
   among_both bs cs ls ms ks ns g h = (
     g.0 ++ h.0,
@@ -64,7 +64,7 @@ module _ {D A : Type 0} (columns : ℕ → Option ℕ) where
   abbrev on : Renderer D A (List A) → List (Line (List A)) → Renderer D A (List A)
   on r ls = record r { lines = ls }
 
-  -- Moves lead from one renderer to the other, where lines that came are behind other lines, but for the borders drawn as text.
+  -- Moves lead from one renderer to the other, where lines that came are after other lines, but for the borders drawn as text.
   record Less (r s : Renderer D A (List A)) (ls : List (Line (List A))) (es : List (Entry (List A))) (bs : List (List Cell)) : Type 0 where
     more : List (Line (List A))
     rest : List (Line (List A))

@@ -15,7 +15,7 @@ use Rattle.text_block_renderer.specs.Stretches.{padded_line, lines_laid}
 use Rattle.text_block_renderer.specs.Nested.{visible_behind}
 use Rattle.text_block_renderer.proofs.Showing.{space_unseen, glyphs-append, shown_line}
 
--- ---- behind prefixes
+-- ---- after prefixes
 
 module _ {T : Type 0} (columns : ℕ → Option ℕ) where
   shown_behind : (tag : T) (prefixes : List (List ℕ)) (lines : List (Line T)) → visible_glyphs columns (joined (prefixed tag prefixes lines)) ≡ flat_map (visible_behind columns tag) (zip prefixes lines)

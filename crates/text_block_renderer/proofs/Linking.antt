@@ -13,7 +13,7 @@ use Rattle.tbr_stack.specs.StackCalls.{StackCall, change_top, set_table_depth, p
 
 -- ---- links that are open, as the places of their targets
 
--- A link is behind so many others: in the top, or below renderers in which just so many are open.
+-- A link is after so many others: in the top, or below renderers in which just so many are open.
 abbrev Stands : List ℕ → List (List ℕ) → ℕ → Type 0
 Stands [] opens k = ⊥
 Stands (n ∷ numbers) [] k = ⊥

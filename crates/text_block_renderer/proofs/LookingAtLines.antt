@@ -25,7 +25,7 @@ no_text_behind ls b = text_of_lines-append ls (border b ∷ []) ∙ append-nil (
 pub marker_items-append : {T : Type 0} (ms ns : List (List ℕ)) → (let is : List (Item T) = marker_items (ms ++ ns) in is) ≡ marker_items ms ++ marker_items ns
 marker_items-append {T} ms ns = map-append (λ n. let i : Item T = marker n in i) ms ns
 
--- One who looks at items, one behind another, and sees nothing in spaces.
+-- One who looks at items, one after another, and sees nothing in spaces.
 pub record Looks {T Y : Type 0} (look : List (Item T) → List Y) : Type 0 where
   pub append : (is js : List (Item T)) → look (is ++ js) ≡ look is ++ look js
   pub nothing : look [] ≡ []

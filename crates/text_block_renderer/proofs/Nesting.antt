@@ -1,4 +1,4 @@
--- Lines behind the prefixes of blocks inside blocks.
+-- Lines after the prefixes of blocks inside blocks.
 use Rattle.std.proofs.Common.{◌≡◌, ℕ, zero, suc, min, Option, Some, None, List, [], ◌∷◌, ◌++◌, map, fold, length, refl, ap, sym, ◌∙◌, append_assoc, append-nil}
 use Rattle.std.specs.List.{slice_get, zip}
 use Rattle.std.specs.Option.{option_map}

@@ -85,7 +85,7 @@ module _ {T : Type 0} (columns : ℕ → Option ℕ) where
   pub nothing_stands : StandFor {T = T} columns [] []
   nothing_stands = record { order = tt; names = refl; kept = λ normal. refl }
 
-  -- one behind the other
+  -- one after the other
   pub stand_behind : (old more new : List (Item T)) (es fs : List (Entry T)) → SeenBehind old more new → StandFor columns old es → StandFor columns more fs → StandFor columns new (es ++ fs)
   stand_behind old more new es fs seen h k = record {
     order =
@@ -164,7 +164,7 @@ module _ {T : Type 0} (columns : ℕ → Option ℕ) where
 -- ---- which markers wait
 
 module _ {T : Type 0} (test : ℕ → Bool) where
-  -- the markers behind the last character that passes, of items
+  -- the markers after the last character that passes, of items
   abbrev item_behind : List (List ℕ) → Item T → List (List ℕ)
   item_behind names (glyph c a) = if test c then [] else names
   item_behind names (marker name) = names ++ name ∷ []
@@ -208,7 +208,7 @@ module _ {T : Type 0} (columns : ℕ → Option ℕ) where
       go rest true e = ap (λ (v : Bool). fold (item_behind (is_kept columns)) (if v then [] else names) (kept_items columns es)) e ∙ rest []
       go rest false e = rest names
 
-  -- the markers at the end of items that stand for entries come behind the last visible character, and the last kept one
+  -- the markers at the end of items that stand for entries come after the last visible character, and the last kept one
   pub waits_behind : (is : List (Item T)) (names : List (List ℕ)) (es : List (Entry T)) → StandFor columns (is ++ marker_items names) es → AreLastOf names (names_behind (is_visible columns) es)
   waits_behind is names es h =
       last_behind (is_visible columns) (filter (is_visible_or_marker columns) is) names (names_behind (is_visible columns) es)

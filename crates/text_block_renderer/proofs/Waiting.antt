@@ -75,7 +75,7 @@ module _ {D A : Type 0} (columns : ℕ → Option ℕ) where
   none_wait q [] e = e
   none_wait q (t ∷ ts) e = none_wait (with_line columns q t) ts refl
 
-  -- a block without lines: its markers wait behind the others
+  -- a block without lines: its markers wait after the others
   bare_flush : (r s : Renderer D A (List A)) (b : Open (List A)) → (h : EndsBlock columns r b s) → h.texts ≡ [] → s ≡ record r { block = None; waiting = r.waiting ++ h.names }
   bare_flush r s b h none = h.is ∙ ap (λ (ts : List (List (Item (List A)))). flushed columns r (block_lines columns r b ts) h.names) none
 

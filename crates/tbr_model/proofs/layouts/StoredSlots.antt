@@ -9,7 +9,7 @@ use Rattle.tbr_model.specs.declared.slot.Slot.{Slot as StoredSlot}
 use Rattle.tbr_model.specs.Layout.{gap_width, rest_width, line_width, MayFollow, IsLegalLine}
 use Rattle.tbr_model.specs.Slot.{slot_value, slot_values}
 
--- the columns of a slot that is behind others
+-- the columns of a slot that is after others
 abbrev pub width_behind : {A : Type 0} → StoredSlot A → ℕ
 width_behind s = gap_width (option_copied s.gap) + s.width
 

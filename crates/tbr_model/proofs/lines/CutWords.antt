@@ -7,7 +7,7 @@ use Rattle.tbr_model.specs.Shown.{first_columns, EndWhereFull, word_lines}
 use Rattle.tbr_model.proofs.words.Items.{items_width-append}
 
 module _ {A : Type 0} (columns : ℕ → Option ℕ) (width : ℕ) where
-  -- The open line goes on with the first items, and with lines behind it each ends where it is full.
+  -- The open line goes on with the first items, and with lines after it each ends where it is full.
   record IsCutWhereFull (l r : Laid A) : Type 0 where
     front : List (Item A)
     others : List (List (Item A))
@@ -18,7 +18,7 @@ module _ {A : Type 0} (columns : ℕ → Option ℕ) (width : ℕ) where
   first_item i is =
       cond_both (item_width columns i == 0) _ _ (λ (n : ℕ). item_width columns i ≤ n) (λ e. let none : item_width columns i ≡ 0 = eqb-true _ 0 e in omega arith) (λ _. omega arith)
 
-  -- the same from a line that is ended behind items
+  -- the same from a line that is ended after items
   goes_on : (l : Laid A) (is : List (Item A)) (n : ℕ) (r : Laid A) → IsCutWhereFull (extended l is n) r → IsCutWhereFull l r
   goes_on l is n r k =
       let line : (l.line ++ is) ++ k.front ≡ l.line ++ (is ++ k.front) = append_assoc l.line is k.front in

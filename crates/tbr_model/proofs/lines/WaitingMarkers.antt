@@ -1,4 +1,4 @@
--- The markers that wait where a run ends come behind its last visible character.
+-- The markers that wait where a run ends come after its last visible character.
 use Rattle.std.proofs.Common.{◌≡◌, ℕ, Bool, true, false, not, if◌then◌else◌, Option, List, [], ◌∷◌, ◌++◌, fold, refl, ap, sym, ◌∙◌, append_assoc, append-nil}
 use Rattle.std.specs.List.{AllZip, AllByRecursion as Each}
 use Rattle.std.specs.Char.{is_whitespace}
@@ -29,7 +29,7 @@ IsNormalMode mode = mode ≡ Normal
 pub looks_at_kept : {A : Type 0} (columns : ℕ → Option ℕ) → LooksAtKept {A = A} columns (HasMode Normal) IsNormalMode (passing (is_kept columns))
 looks_at_kept columns = looks_at_passing columns (HasMode Normal) IsNormalMode (is_kept columns) (λ c a b m h. h) (λ c h. h) (λ m c h. cc)
 
--- ---- markers behind the last character that passes
+-- ---- markers after the last character that passes
 
 module _ {A : Type 0} (test : ℕ → Bool) where
   abbrev item_behind : List (List ℕ) → Item A → List (List ℕ)
@@ -53,7 +53,7 @@ module _ {A : Type 0} (test : ℕ → Bool) where
       go rest true e = ap (λ (b : Bool). fold item_behind (if b then [] else names) (passing test is)) e ∙ rest []
       go rest false e = rest names
 
-  -- markers alone are all behind
+  -- markers alone are all after
   behind_markers : (names : List (List ℕ)) (is : List (Item A)) → has_character is ≡ false → fold item_behind names is ≡ names ++ names_in_items is
   behind_markers names [] h = sym (append-nil names)
   behind_markers names (glyph c a ∷ is) h = cc
@@ -74,12 +74,12 @@ module _ {A : Type 0} (test : ℕ → Bool) where
             ∙ behind_alike Modes g.items (run_of es) g.stand [],
       )
 
--- those that wait come behind the last visible character
+-- those that wait come after the last visible character
 pub waits_behind_visible : {A : Type 0} (columns : ℕ → Option ℕ) (width : ℕ) (es : List (Event A)) →
     (front : List (List ℕ)) × (front ++ names_in_items (waiting columns width (progress columns width es)) ≡ names_behind (is_visible columns) (run_of es))
 waits_behind_visible columns width es = waits_behind (is_visible columns) columns AnyEntry AnyMode (looks_at_visible columns) width es (any_entries (run_of es))
 
--- and in a run of `Normal` alone behind the last kept one
+-- and in a run of `Normal` alone after the last kept one
 pub waits_behind_kept : {A : Type 0} (columns : ℕ → Option ℕ) (width : ℕ) (es : List (Event A)) → Each (HasMode Normal) (run_of es) →
     (front : List (List ℕ)) × (front ++ names_in_items (waiting columns width (progress columns width es)) ≡ names_behind (is_kept columns) (run_of es))
 waits_behind_kept columns width es modes = waits_behind (is_kept columns) columns (HasMode Normal) IsNormalMode (looks_at_kept columns) width es modes

@@ -1,4 +1,4 @@
--- What holds of each item of two lists, of one behind the other, and of a list under a function.
+-- What holds of each item of two lists, of one after the other, and of a list under a function.
 use Rattle.std.proofs.Common.{◌≡◌, Bool, true, false, if◌then◌else◌, List, [], ◌∷◌, ◌++◌, map, filter, refl, ap, ◌∙◌}
 use Rattle.std.specs.List.{AllZip, AllByRecursion as Each}
 

@@ -29,6 +29,6 @@ pub placed_all : {X : Type 0} (ls : List (List X)) → placed (length ls) ls ≡
 placed_all [] = refl
 placed_all (l ∷ ls) = omega (arith, placed_all ls, length-append l (joined (take (length ls) ls)), length-append l (joined ls))
 
--- a loop's item, behind what is done
+-- a loop's item, after what is done
 pub take_item : {X : Type 0} (xs : List X) (i : ℕ) (x : X) → i < length xs → x ≡ get_or xs i x → take (i + 1) xs ≡ take i xs ++ x ∷ []
 take_item xs i x h e = take_more xs i x h ∙ ap (λ y. take i xs ++ y ∷ []) (sym e)

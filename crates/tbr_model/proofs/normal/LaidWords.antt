@@ -15,7 +15,7 @@ use Rattle.tbr_model.proofs.layouts.Greedy.{line_width_front}
 use Rattle.tbr_model.proofs.words.BestLayout.{rest_width_within}
 use Rattle.tbr_model.proofs.words.LinesHaveCharacters.{LastHas, Inner, inner_slots, items_within, line_width-one}
 
--- the gap behind what a line has; in front of it none counts
+-- the gap after what a line has; in front of it none counts
 abbrev pub gap_behind : {A : Type 0} → List (Slot A) → Option A → Option A
 gap_behind [] gap = None
 gap_behind (s ∷ ss) gap = gap
@@ -33,7 +33,7 @@ normal_space (Some a) = Some (record { width = 1; tag = a; mode = Normal })
 abbrev pub normal_at : {A : Type 0} → Laid A → Option A → List (Item A) → Progress A
 normal_at l gap items = record { laid = l; space = normal_space gap; word = items; mode = Normal; continuation_flag = false; in_continuation = false }
 
--- a word behind a gap: on the open line where both fit, else on a fresh one
+-- a word after a gap: on the open line where both fit, else on a fresh one
 abbrev pub laid_word : {A : Type 0} → (ℕ → Option ℕ) → ℕ → Laid A → Option A → List (Item A) → Laid A
 laid_word columns width l gap items =
     if nat_le (l.width + (gap_width gap + items_width columns items)) width
@@ -46,7 +46,7 @@ no_gaps_text : {A : Type 0} (ss : List (Slot A)) → Each (λ t. t.gap ≡ None)
 no_gaps_text [] h = refl
 no_gaps_text (s ∷ ss) h = rw (h.0) (ap (λ is. s.item ∷ is) (no_gaps_text ss h.1))
 
--- slots of a word behind those of a line
+-- slots of a word after those of a line
 word_text : {A : Type 0} (l : List (Slot A)) (s : Slot A) (ss : List (Slot A)) → Each (λ t. t.gap ≡ None) ss →
     line_text (l ++ (s ∷ ss)) ≡ line_text l ++ (gap_text (gap_behind l s.gap) ++ map (λ t. t.item) (s ∷ ss))
 word_text [] s ss h = ap (λ is. s.item ∷ is) (no_gaps_text ss h)

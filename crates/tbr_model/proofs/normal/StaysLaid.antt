@@ -29,7 +29,7 @@ module _ {A : Type 0} (P : Item A → Type 0) where
   all_lines [] h = tt
   all_lines (l ∷ ls) h = (each_front P l (joined ls) h, all_lines ls (each_back P l (joined ls) h))
 
-  -- what is laid, and more behind it
+  -- what is laid, and more after it
   laid_behind : (l m : Laid A) (is : List (Item A)) → text m ≡ text l ++ is → AllLaid P m → AllLaid P l × Each P is
   laid_behind l m is e h =
       let all : Each P (text l ++ is) = subst (Each P) e (each_append P (joined m.done) m.line (all_joined m.done h.0) h.1) in
@@ -49,7 +49,7 @@ pub collapse_laid : {A : Type 0} (c : ℕ) (a : A) (p : Progress A) → (collaps
 collapse_laid {A} c a p = cond_both (is_blank c && (nat_lt 0 p.laid.width && is_none p.space)) _ _ (λ (q : Progress A). q.laid ≡ p.laid) (λ _. refl) (λ _. refl)
 
 module _ {A : Type 0} (columns : ℕ → Option ℕ) (width : ℕ) where
-  -- more is laid behind a text
+  -- more is laid after a text
   abbrev Grows : List (Item A) → Laid A → Type 0
   Grows base l = (is : List (Item A)) × (text l ≡ base ++ is)
 
@@ -79,7 +79,7 @@ module _ {A : Type 0} (columns : ℕ → Option ℕ) (width : ℕ) where
   begins : (p : Progress A) → Waits (more_laid (text p.laid)) p.space → Stands (more_laid (text p.laid)) [] p
   begins p waits = record { laid = ([], sym (append-nil (text p.laid))); space = waits; flags = ((λ _ e. cc), (λ _ e. cc), (λ _ e. cc)) }
 
-  -- behind an entry, by further ones
+  -- after an entry, by further ones
   pub laid_next : (P : Item A → Type 0) (p : Progress A) (e : Entry A) (es : List (Event A)) → HasMode Normal e → Each (HasMode Normal) (run_of es) → WaitsIn Normal p.space →
       AllLaid P (fold (step columns width) (enter columns width p e) es).laid → AllLaid P (enter columns width p e).laid
   laid_next P p e es mode modes waits h =

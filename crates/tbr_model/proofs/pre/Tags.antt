@@ -1,4 +1,4 @@
--- The annotations of a hard line of Pre: the main one up to the width, the continuation's behind it.
+-- The annotations of a hard line of Pre: the main one up to the width, the continuation's after it.
 use Rattle.std.proofs.Common.{◌≡◌, ◌≢◌, ℕ, zero, suc, ◌+◌, ◌<◌, ◌≤◌, ◌==◌, if◌then◌else◌, Bool, true, false, Option, Some, None, List, [], ◌∷◌, ◌++◌, map, fold, length, take, drop, refl, ap, sym, ◌∙◌, arith, append_assoc, append-nil, subst, add-one, ltb-true, ltb-false}
 use Rattle.std.specs.List.{AllByRecursion as Each}
 use Rattle.std.proofs.lemmas.Bool.{cond_both, eqb-true, eqb-false}

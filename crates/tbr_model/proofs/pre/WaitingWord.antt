@@ -1,4 +1,4 @@
--- A hard line of printable characters waits as one word behind its first spaces.
+-- A hard line of printable characters waits as one word after its first spaces.
 use Rattle.std.proofs.Common.{◌≡◌, ℕ, ◌+◌, if◌then◌else◌, Bool, true, false, Option, Some, List, [], ◌∷◌, ◌++◌, map, fold, length, refl, ap, sym, ◌∙◌, arith, append_assoc, append-nil, length-append, inl, inr}
 use Rattle.std.specs.List.{AllByRecursion as Each}
 use Rattle.std.proofs.lemmas.Bool.{cond_both}

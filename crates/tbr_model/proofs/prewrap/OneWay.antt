@@ -44,7 +44,7 @@ first_ends (c ∷ a) cs = go (eqb_tells c 32) (first_ends a cs)
 first_none : (cs : List ℕ) → length (first_stretch (32 ∷ cs)) ≡ 0
 first_none cs = refl
 
--- behind a part of a stretch the text goes on with a non-blank
+-- after a part of a stretch the text goes on with a non-blank
 stretch_goes_on : (a b c e : List ℕ) → a ++ b ≡ c ++ e → length a < length (first_stretch c) → BeginsWithNonBlank b
 stretch_goes_on a b [] e h k = absurd (omega arith)
 stretch_goes_on [] b (x ∷ c) e h k = go (eqb_tells x 32)
@@ -90,7 +90,7 @@ same_behind (suc n) a b e = let rest : replicate n 32 ++ a ≡ replicate n 32 ++
 
 -- ---- lines
 
--- a line behind which a stretch goes on was filled by that stretch alone
+-- a line after which a stretch goes on was filled by that stretch alone
 pub filled : (width : ℕ) (l r : List ℕ) (ls : List (List ℕ)) → EndsWithNonBlank l → BeginsWithNonBlank r → IsWrapped width l r ls → (length l ≡ width) × (first_stretch l ≡ l)
 filled width l r [] ends begins h = absurd (begins_not_spaces r begins h)
 filled width l r (m ∷ ls) ends begins h = go h.5

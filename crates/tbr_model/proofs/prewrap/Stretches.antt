@@ -101,7 +101,7 @@ module _ (width : ℕ) where
   apart : (l r : List ℕ) (ps : List (List ℕ)) → stretches (l ++ r) ≡ stretches l ++ stretches r → IsCutOf width (stretches r) ps → IsCutOf width (stretches (l ++ r)) (stretches l ++ ps)
   apart l r ps is h = subst (λ (ss : List (List ℕ)). IsCutOf width ss (stretches l ++ ps)) (sym is) (whole_first (stretches l) (stretches r) ps h)
 
-  -- A line, and the lines behind it. If a stretch goes on from one to the other, it fills the line, and is cut.
+  -- A line, and the lines after it. If a stretch goes on from one to the other, it fills the line, and is cut.
   cut_line : (l r : List ℕ) (ls : List (List ℕ)) → EndsWithNonBlank l → IsWrapped width l r ls → IsCutOf width (stretches r) (flat_map stretches ls) → IsCutOf width (stretches (l ++ r)) (stretches l ++ flat_map stretches ls)
   cut_line l [] ls ends h k = apart l [] (flat_map stretches ls) (ap stretches (append-nil l) ∙ sym (append-nil (stretches l))) k
   cut_line l (c ∷ r) ls ends h k = elim (eqb_tells c 32) [

@@ -82,7 +82,7 @@ module _ {A : Type 0} (columns : ℕ → Option ℕ) (width : ℕ) (some : 0 < w
             word = plain_leading columns p.word h.plain;
           })
 
-  -- where the word begins a line behind what is ended
+  -- where the word begins a line after what is ended
   fresh_text : (p q : Progress A) → IsReadyForWord columns p → IsOpen width (letters_of p.laid.line) → has_character p.word ≡ true →
       width < p.laid.width + (pending_width p.space + items_width columns p.word) → HasDropped p q → LaysText p (lay_fresh columns width q)
   fresh_text p q h line has over d = rw (d.space, d.word, has) (go (has_character q.laid.line) refl)
@@ -227,7 +227,7 @@ module _ {A : Type 0} (columns : ℕ → Option ℕ) (width : ℕ) (some : 0 < w
   end_wraps : (p : Progress A) → IsReadyForWord columns p → IsOpen width (letters_of p.laid.line) → WrapsText p (text_ahead p []) (flush_word columns width p).laid
   end_wraps p h line = cond_both (has_character p.word) _ _ (λ (q : Progress A). WrapsText p (text_ahead p []) q.laid) (λ has. end_laid p h line has) (λ none. end_bare p line none)
 
-  -- a space behind a word that is laid
+  -- a space after a word that is laid
   space_laid : (p : Progress A) (a : A) (cs : List ℕ) (l : Laid A) → LaysText p (lay columns width p) →
       (let n : Progress A = record (lay columns width p) { space = space_of (pending_width (lay columns width p).space + 1) a PreWrap } in WrapsText n (text_ahead n cs) l) → WrapsText p (text_ahead p (32 ∷ cs)) l
   space_laid p a cs l k rest =
@@ -244,7 +244,7 @@ module _ {A : Type 0} (columns : ℕ → Option ℕ) (width : ℕ) (some : 0 < w
         last = elim rest.last [ inl bare ↦ absurd (omega (arith, k.measured, ap length bare.1)) | inr has ↦ inr has ];
       }
 
-  -- a space behind others
+  -- a space after others
   space_more : (p : Progress A) (a : A) (cs : List ℕ) (l : Laid A) → has_character p.word ≡ false →
       (let n : Progress A = record p { space = space_of (pending_width p.space + 1) a PreWrap } in WrapsText n (text_ahead n cs) l) → WrapsText p (text_ahead p (32 ∷ cs)) l
   space_more p a cs l none rest =
@@ -260,7 +260,7 @@ module _ {A : Type 0} (columns : ℕ → Option ℕ) (width : ℕ) (some : 0 < w
   abbrev end_laid_from : Progress A → List (Event A) → Laid A
   end_laid_from p es = (flush_word columns width (fold (step columns width) p es)).laid
 
-  -- a state behind a space, with one more that waits
+  -- a state after a space, with one more that waits
   abbrev spaced : Progress A → A → Progress A
   spaced q x = record q { space = space_of (pending_width q.space + 1) x PreWrap }
 

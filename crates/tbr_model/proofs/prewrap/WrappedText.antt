@@ -20,7 +20,7 @@ ends_append (x ∷ []) [] h = absurd h
 ends_append (x ∷ []) (y ∷ ys) h = h
 ends_append (x ∷ z ∷ xs) ys h = ends_append (z ∷ xs) ys h
 
--- a text of non-blanks and what is behind it begin with all of it
+-- a text of non-blanks and what is after it begin with all of it
 pub stretch_front : (cs ds : List ℕ) → AreNonBlank cs → length cs ≤ length (first_stretch (cs ++ ds))
 stretch_front [] ds h = omega arith
 stretch_front (c ∷ cs) ds h =
@@ -108,7 +108,7 @@ from_some width (c ∷ line) text ls some h = h
 pub from_none : (width : ℕ) (line text : List ℕ) (ls : List (List ℕ)) → line ≡ [] → IsWrapped width [] text ls → GoesOn width line text ls
 from_none width line text ls none h = subst (λ (cs : List ℕ). GoesOn width cs text ls) (sym none) h
 
--- a text that ends with a non-blank is one, or what is behind its first character does
+-- a text that ends with a non-blank is one, or what is after its first character does
 pub last_of : (c : ℕ) (cs : List ℕ) → EndsWithNonBlank (c ∷ cs) → ((cs ≡ []) × (c ≢ 32)) ⊎ EndsWithNonBlank cs
 last_of c [] h = inl (refl, h.0)
 last_of c (d ∷ cs) h = inr h
@@ -122,7 +122,7 @@ begins_nonblank (c ∷ cs) h = elim (eqb_tells c 32) [
   | inr w ↦ w.1
 ]
 
--- A word that doesn't fit behind the line before begins a line behind dropped spaces, if that reaches all of it that a
+-- A word that doesn't fit after the line before begins a line after dropped spaces, if that reaches all of it that a
 -- line has columns for.
 pub begins_behind : (width : ℕ) → 0 < width → (before : List ℕ) (gap : ℕ) (w more : List ℕ) → 0 < length w → width < length before + (gap + length w) → 0 < gap →
     ((k : ℕ) → k ≤ width → k ≤ length w → k ≤ length (first_stretch more)) → BeginsBehind width before gap more

@@ -15,7 +15,7 @@ if_same f false x y z w p q = q
 
 -- ---- what is laid
 
--- behind lines that are done
+-- after lines that are done
 abbrev pub under : {A : Type 0} → List (List (Item A)) → Laid A → Laid A
 under d l = record l { done = d ++ l.done }
 

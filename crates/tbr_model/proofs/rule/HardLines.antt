@@ -67,7 +67,7 @@ if_break : {A : Type 0} (columns : ℕ → Option ℕ) (width : ℕ) (b : Bool) 
 if_break columns width true p = flush_after_break columns width p
 if_break columns width false p = refl
 
--- in a preserving mode a newline ends the line behind the word
+-- in a preserving mode a newline ends the line after the word
 pub enter_newline : {A : Type 0} (columns : ℕ → Option ℕ) (width : ℕ) (p : Progress A) (e : Entry A) → Preserves e → is_newline e ≡ true →
     enter columns width p e ≡ newline (flush_word columns width p)
 enter_newline columns width p (marker_entry name) m h = cc
@@ -111,7 +111,7 @@ parted_front {A} {Y} R x es front back first others =
 module _ {A : Type 0} (columns : ℕ → Option ℕ) (width : ℕ) (R : Bool → List (Entry A) → List (List (Item A)) → Type 0) (M : Entry A → Type 0) (preserves : (e : Entry A) → M e → Preserves e)
     (one : (p : Progress A) (es : List (Event A)) → BeginsHardLine p → Each M (run_of es) → NoNewline (run_of es) →
     R true (run_of es) (newline (flush_word columns width (fold (step columns width) p es))).laid.done × R false (run_of es) (finished columns width (fold (step columns width) p es)).done) where
-  -- entries that come, behind a hard line's entries so far
+  -- entries that come, after a hard line's entries so far
   abbrev pub GoOn : List (Event A) → Type 0
   GoOn es = (p : Progress A) (so_far : List (Event A)) → BeginsHardLine p → Each M (run_of so_far) → NoNewline (run_of so_far) →
       Parted R (hard_lines (run_of so_far ++ run_of es)) (finished columns width (fold (step columns width) (fold (step columns width) p so_far) es)).done

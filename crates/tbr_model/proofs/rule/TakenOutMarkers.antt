@@ -130,7 +130,7 @@ module _ {A : Type 0} where
   abbrev EndsWhole : Progress A → Type 0
   EndsWhole p = (front ms : List (Item A)) → has_character ms ≡ false → p.word ≡ front ++ ms → ms ≡ []
 
-  -- markers that end the word behind the step end it before, and the step goes the same way without them
+  -- markers that end the word after the step end it before, and the step goes the same way without them
   abbrev Leaves : (Progress A → Progress A) → Progress A → Type 0
   Leaves f p = (front ms : List (Item A)) → has_character ms ≡ false → (f p).word ≡ front ++ ms →
       (ms ≡ []) ⊎ ((before : List (Item A)) × (p.word ≡ before ++ ms) × (f (with_word p before) ≡ with_word (f p) front))

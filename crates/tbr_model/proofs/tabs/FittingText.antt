@@ -84,7 +84,7 @@ join_reads {A} columns c a mode x p one h = record {
     wide : items_width columns (glyph c a ∷ []) ≡ 1
     wide = rw one refl
 
--- a space joins the word, or waits behind other space
+-- a space joins the word, or waits after other space
 pub space_reads : {A : Type 0} (columns : ℕ → Option ℕ) (a : A) (mode : WhiteSpace) (x : List ℕ) (p : Progress A) → columns 32 ≡ Some 1 → HoldsText columns x p → HoldsText columns (x ++ 32 ∷ []) (keep_space 32 a mode (Some 1) p)
 space_reads {A} columns a mode x p one h =
     cond_both (has_character p.word) _ _ (λ (q : Progress A). HoldsText columns (x ++ 32 ∷ []) q) (λ _. join_reads columns 32 a mode x p one h) (λ none. record {
@@ -118,7 +118,7 @@ character_joins {A} columns width c a b mode p =
     cond_both (is_pre mode && passes columns width 1 p) _ _ (λ (q : Progress A). has_character q.word ≡ true) (λ _. back_has p.word (glyph c b ∷ []) refl)
     (λ _. back_has p.word (glyph c (tag_of p a b) ∷ []) refl)
 
--- spaces up to the next multiple of eight are behind the text
+-- spaces up to the next multiple of eight are after the text
 pub tab_reads : {A : Type 0} (columns : ℕ → Option ℕ) (width : ℕ) (a : A) (x : List ℕ) (p : Progress A) → HoldsText columns x p → has_character p.word ≡ false →
     length x + (8 - length x % 8) ≤ width → HoldsText columns (x ++ replicate (8 - length x % 8) 32) (tab width a p)
 tab_reads {A} columns width a x p h none fits = subst (λ (l : Laid A). HoldsText columns (x ++ replicate (8 - length x % 8) 32) (record p { laid = l })) (sym put) (record {

@@ -18,7 +18,7 @@ use Rattle.tbr_model.proofs.tabs.FittingText.{HoldsText, lay_fits, laid_letters,
 
 -- ---- one entry
 
--- what a character adds to the text behind n columns
+-- what a character adds to the text after n columns
 abbrev pub filled : ℕ → ℕ → List ℕ
 filled n c = if c == 9 then replicate (8 - n % 8) 32 else c ∷ []
 

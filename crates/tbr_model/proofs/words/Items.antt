@@ -1,4 +1,4 @@
--- Characters and columns of items, one behind another, and of space that waits.
+-- Characters and columns of items, one after another, and of space that waits.
 use Rattle.std.proofs.Common.{◌≡◌, ℕ, zero, suc, ◌+◌, ◌<◌, true, false, not, ◌||◌, is_some, Option, Some, None, List, [], ◌∷◌, ◌++◌, map, length, replicate, refl, ap, ◌∙◌, arith}
 use Rattle.std.specs.List.{AllByRecursion as Each}
 use Rattle.std.proofs.lemmas.Bool.{and_right, or_right, not_from_true}
@@ -8,7 +8,7 @@ use Rattle.tbr_model.specs.Run.{Item, glyph, marker, items_width, has_character,
 use Rattle.tbr_model.specs.Rule.{Space, spaces, pending_width, space_text, space_of}
 use Rattle.tbr_model.specs.Hard.{glyphs_of, letters_of}
 
--- ---- items behind items
+-- ---- items after items
 
 pub items_width-append : {A : Type 0} (columns : ℕ → Option ℕ) (a b : List (Item A)) → items_width columns (a ++ b) ≡ items_width columns a + items_width columns b
 items_width-append columns [] b = omega arith

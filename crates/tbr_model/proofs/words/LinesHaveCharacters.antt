@@ -28,7 +28,7 @@ HasGlyph l = line_has_character l ≡ true
 
 -- ---- a wider word's lines
 
--- inside a word: behind no gap, as wide as its item, and no wider than a line
+-- inside a word: after no gap, as wide as its item, and no wider than a line
 abbrev pub Inner : {A : Type 0} → (ℕ → Option ℕ) → ℕ → Slot A → Type 0
 Inner columns width s = (s.gap ≡ None) × (s.width ≡ item_width columns s.item) × (s.width ≤ width)
 

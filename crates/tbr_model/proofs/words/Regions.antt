@@ -47,7 +47,7 @@ pub first_blank-append : {A : Type 0} (a b : List (Entry A)) → first_blank (a 
 first_blank-append [] b = refl
 first_blank-append (e ∷ a) b = ap (first_of (blank_of e)) (first_blank-append a b) ∙ sym (first_of_assoc (blank_of e) (first_blank a) (first_blank b))
 
--- where the reading has read, since the last working break point, these entries behind that break point
+-- where the reading has read, since the last working break point, these entries after that break point
 abbrev pub read_since : {A : Type 0} → (ℕ → Option ℕ) → List (Word A) → List (Entry A) → List (Entry A) → Reading A
 read_since columns words before since = record { words = words; gap = first_blank (before ++ since); items = kept_items columns since }
 
@@ -195,7 +195,7 @@ parting {A} columns run = part_more columns [] run [] [] (record { whole = refl;
 
 -- ---- in one way only
 
--- the first break point that works behind one list of entries is that behind another
+-- the first break point that works after one list of entries is that after another
 one_end : {A : Type 0} (columns : ℕ → Option ℕ) (c d x y : List (Entry A)) (b e : Entry A) →
     c ++ b ∷ x ≡ d ++ e ∷ y → HasColumns columns c → IsTrue (is_break_entry b) → HasColumns columns d → IsTrue (is_break_entry e) → NoBreakWorks columns c → NoBreakWorks columns d →
     (c ≡ d) × (b ≡ e) × (x ≡ y)

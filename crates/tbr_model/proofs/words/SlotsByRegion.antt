@@ -8,7 +8,7 @@ use Rattle.tbr_model.proofs.words.KeptItems.{break_left}
 use Rattle.tbr_model.proofs.layouts.Cuts.{line_and_rest, slice_get-drop}
 use Rattle.tbr_model.proofs.words.Regions.{read_since, still, over_region}
 
--- What is known behind a working break point, or at the run's start: the slots of the words so far, the entries before (the
+-- What is known after a working break point, or at the run's start: the slots of the words so far, the entries before (the
 -- break point, or none), and those that are left.
 pub record HasRead {A : Type 0} (columns : ℕ → Option ℕ) (width : ℕ) (run : List (Entry A)) (slots : List (Slot A)) (before left : List (Entry A)) : Type 0 where
   pub words : List (Word A)
@@ -70,7 +70,7 @@ range_add {X} xs a b n h =
     ap (λ k. take k (drop a xs)) (let e : (b + n) - a ≡ (b - a) + n = omega arith in e) ∙ take_add (b - a) n (drop a xs)
     ∙ ap (λ (ys : List X). slice_range xs a b ++ take n ys) (drop-drop (b - a) a xs ∙ ap (λ k. drop k xs) (let e : a + (b - a) ≡ b = omega arith in e))
 
--- an item by its place, and what is behind it
+-- an item by its place, and what is after it
 split_at : {X : Type 0} (xs : List X) (i : ℕ) (x : X) → slice_get xs i ≡ Some x → drop i xs ≡ x ∷ drop (suc i) xs
 split_at [] i x h = cc
 split_at (y ∷ xs) zero x h = let same : y ≡ x = cc in ap (λ z. z ∷ xs) same

@@ -59,7 +59,7 @@ impl<D: TextDecorator, W: CharWidth> SubRenderer<D, W> {
         text.insert_front(TaggedString { s, tag })
     }
 
-    /// Adds each line behind its prefix, as long as there are both.
+    /// Adds each line after its prefix, as long as there are both.
     fn add_prefixed<P: AsStr + Drop, I: Iterator<Item = P>>(
         &mut self,
         lines: Vec<RenderLine<Vec<D::Annotation>>>,
@@ -191,7 +191,7 @@ impl<D: TextDecorator, W: CharWidth> SubRenderer<D, W> {
     }
 }
 
-/// A prefix, with room for so many bytes behind it.
+/// A prefix, with room for so many bytes after it.
 fn with_room(alloc: Global, prefix: &str, room: usize) -> Result<String, OutOfMemory>
     ensures bytes { IfOk result (λ s. string_bytes s ≡ prefix.now) }
     ensures len { IfOk result (λ s. string_len s ≡ length prefix.now) }
@@ -201,7 +201,7 @@ fn with_room(alloc: Global, prefix: &str, room: usize) -> Result<String, OutOfMe
     Ok(s)
 }
 
-/// The bytes of a text's first piece, if that is under an equal tag: they come behind what is put in front.
+/// The bytes of a text's first piece, if that is under an equal tag: they come after what is put in front.
 fn bytes_under<T: Eq>(text: &TaggedLine<T>, tag: &T) -> usize {
     match text.iter().next() {
         Some(TaggedLineElement::Str(first)) if first.tag == *tag => first.s.len(),

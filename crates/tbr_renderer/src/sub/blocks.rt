@@ -45,7 +45,7 @@ impl<D: TextDecorator, W: CharWidth> SubRenderer<D, W> {
         self.lines.push_ended(ended)
     }
 
-    /// Whether a block's lines come as they are: neither padded, nor behind markers that wait.
+    /// Whether a block's lines come as they are: neither padded, nor after markers that wait.
     fn adds_as_is(&self, block: &WrappedBlock<Vec<D::Annotation>, W>) -> bool
         ensures { result ≡ true → AddsAsIs self.now block.now }
     {
@@ -106,7 +106,7 @@ impl<D: TextDecorator, W: CharWidth> SubRenderer<D, W> {
         Ok(())
     }
 
-    /// Adds an empty line, behind which no block has ended.
+    /// Adds an empty line, after which no block has ended.
     fn put_empty_line(&mut self) -> Result<(), OutOfMemory>
         requires { self.old.failure ≡ None }
         ensures line { OnOk result (meant D.meaning self.new ≡ with_empty_line W.columns (meant D.meaning self.old)) }
@@ -133,7 +133,7 @@ impl<D: TextDecorator, W: CharWidth> SubRenderer<D, W> {
         Ok(())
     }
 
-    /// Begins a block, behind an empty line where any line has content.
+    /// Begins a block, after an empty line where any line has content.
     fn begin_block(&mut self) -> Result<(), OutOfMemory>
         requires { self.old.failure ≡ None }
         ensures begun { OnOk result (meant D.meaning self.new ≡ block_started W.columns (meant D.meaning self.old)) }

@@ -1,4 +1,4 @@
-//! The targets of links, which are behind a document.
+//! The targets of links, which are after a document.
 ghost use Rattle.std.specs.Prelude.{◌≡◌, ◌≢◌, None, Some, Err, map, IfOk, IfErr, OnOk, OnErr};
 ghost use Rattle.std.specs.List.{AllByRecursion as Each};
 ghost use Rattle.tbr_lines.specs.Copies.{equal_lists};
@@ -66,10 +66,10 @@ impl<D: TextDecorator, W: CharWidth> SubRenderer<D, W> {
         self.decorator.finalise(self.alloc, links)
     }
 
-    /// Adds footnotes behind the lines. Their markers are dropped, newlines become spaces, and each piece is under
+    /// Adds footnotes after the lines. Their markers are dropped, newlines become spaces, and each piece is under
     /// the list of its one annotation. Where links are wrapped, a line ends before each character that passes the
-    /// renderer's width behind what the line holds, also an empty one. Each footnote begins a line, and an empty one is
-    /// an empty line. The lines come behind the markers that wait, and are filled where lines are padded. The open run
+    /// renderer's width after what the line holds, also an empty one. Each footnote begins a line, and an empty one is
+    /// an empty line. The lines come after the markers that wait, and are filled where lines are padded. The open run
     /// stays open.
     ///
     /// It refuses only for want of memory, also where the columns of a line pass `usize`, and then the renderer has
@@ -87,7 +87,7 @@ impl<D: TextDecorator, W: CharWidth> SubRenderer<D, W> {
         self.keep(done)
     }
 
-    /// Adds footnotes behind the lines.
+    /// Adds footnotes after the lines.
     fn try_fmt_links(&mut self, links: Vec<TaggedLine<D::Annotation>>) -> Result<(), Error>
         requires { self.old.failure ≡ None }
         ensures ok { OnOk result (meant D.meaning self.new

@@ -44,7 +44,7 @@ impl<D: TextDecorator, W: CharWidth> SubRenderer<D, W> {
         }
     }
 
-    /// Opens a strikeout, behind whose own text characters have strokes.
+    /// Opens a strikeout, after whose own text characters have strokes.
     pub(crate) fn try_start_strikeout(&mut self) -> Result<(), Error>
         requires { self.old.failure ≡ None }
         ensures ok { OnOk result (OpensStrikeout W.columns (decoration_of D.TextDecorator)

@@ -183,7 +183,7 @@ impl<D: TextDecorator, W: CharWidth> SubRenderer<D, W> {
         Ok(())
     }
 
-    /// Whether a text is ignored, as white space behind the end of a block is.
+    /// Whether a text is ignored, as white space after the end of a block is.
     fn ignores(&self, text: &str) -> bool
         ensures { result ≡ ignores self.now (chars text.now) }
     {
@@ -211,7 +211,7 @@ impl<D: TextDecorator, W: CharWidth> SubRenderer<D, W> {
         self.add_to_block(text)
     }
 
-    /// Adds text: to the open block or a new one, or behind the end of a block to one that it begins.
+    /// Adds text: to the open block or a new one, or after the end of a block to one that it begins.
     pub(crate) fn try_add_text(&mut self, text: &str) -> Result<(), Error>
         requires { self.old.failure ≡ None }
         ensures ok { OnOk result (AddsText W.columns D.preformatted (chars text.now)
@@ -253,7 +253,7 @@ fn is_white_text(text: &str) -> bool
     text.chars().all(|c| c.is_whitespace())
 }
 
-/// The text with strokes, as many as `depth`, behind each character that takes columns.
+/// The text with strokes, as many as `depth`, after each character that takes columns.
 fn struck_text<W: CharWidth>(alloc: Global, text: &str, depth: usize) -> Result<String, OutOfMemory>
     ensures { IfOk result (λ s. chars_of s ≡ struck W.columns depth (chars text.now)) }
 {
@@ -264,7 +264,7 @@ fn struck_text<W: CharWidth>(alloc: Global, text: &str, depth: usize) -> Result<
     Ok(s)
 }
 
-/// Appends a character, with strokes behind it if it takes columns.
+/// Appends a character, with strokes after it if it takes columns.
 fn push_struck<W: CharWidth>(s: &mut String, c: char, depth: usize) -> Result<(), OutOfMemory>
     ensures { OnOk result (chars_of s.new ≡ chars_of s.old ++ struck_character W.columns depth c) }
 {

@@ -47,7 +47,7 @@ module _ {A : Type 0} where
   lines_any lens placed lines h =
       ap has_character h.placed_is ∙ has_character-append (joined lines) h.behind ∙ ap (λ b. has_character (joined lines) || b) h.blank ∙ or-false (has_character (joined lines)) ∙ joined_any lines
 
-  -- the first line, and those behind it
+  -- the first line, and those after it
   first_len : (n : ℕ) (ns : List ℕ) (placed : List (Item A)) → AreLines (n ∷ ns) placed (cut (n ∷ ns) placed) → length (take n placed) ≡ n
   first_len n ns placed h = let both : n ∷ ns ≡ length (take n placed) ∷ map length (cut ns (drop n placed)) = h.lens_is in cc
 

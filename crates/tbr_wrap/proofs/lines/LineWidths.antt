@@ -18,7 +18,7 @@ module _ {A : Type 0} (columns : ℕ → Option ℕ) (width : ℕ) (overflow : B
   pub measured_extended : (r : Laid A) (is : List (Item A)) (n : ℕ) → RuleFitsWidth columns width overflow r → n ≡ items_width columns is → r.width + n ≤ width → RuleFitsWidth columns width overflow (extended r is n)
   measured_extended r is n h e room = record { small = room; line = omega (arith, h.line, e, items_width-append columns r.line is); done = h.done }
 
-  -- behind items of no width, one that has some
+  -- after items of no width, one that has some
   taking_push : (is : List (Item A)) (i : Item A) → 0 < item_width columns i → items_width columns is ≡ 0 → taking_columns columns (is ++ i ∷ []) ≡ 1
   taking_push [] i wide h =
       let test : nat_lt 0 (item_width columns i) ≡ true = lt-ltb _ _ wide in
@@ -27,7 +27,7 @@ module _ {A : Type 0} (columns : ℕ → Option ℕ) (width : ℕ) (overflow : B
       let test : nat_lt 0 (item_width columns j) ≡ false = le-ltb _ _ (omega arith) in
       omega (arith, ap (λ b. cond {A = ℕ} b 1 0) test, taking_push is i wide (omega arith))
 
-  -- an item wider than a line, behind items of no width
+  -- an item wider than a line, after items of no width
   pub measured_wide : (r : Laid A) (i : Item A) → RuleFitsWidth columns width overflow r → overflow ≡ true → r.width ≡ 0 → 0 < item_width columns i → RuleFitsWidth columns width overflow (end_line (extended r (i ∷ []) (item_width columns i)))
   measured_wide r i h sure zero wide = record {
     small = omega arith;

@@ -5,7 +5,7 @@ use Rattle.tbr_model.specs.Laid.{Laid, extended, end_line}
 use Rattle.tbr_model.specs.Rule.{spaces, put_space, put_spaces}
 
 module _ {A : Type 0} (width : ℕ) (a : A) where
-  -- spaces behind spaces
+  -- spaces after spaces
   pub put_more : (m n : ℕ) (l : Laid A) → put_spaces width a (m + n) l ≡ put_spaces width a n (put_spaces width a m l)
   put_more zero n l = ap (λ k. put_spaces width a k l) (let e : zero + n ≡ n = omega arith in e)
   put_more (suc m) n l = ap (λ k. put_spaces width a k l) (let e : suc m + n ≡ suc (m + n) = omega arith in e) ∙ put_more m n (put_space width a l)

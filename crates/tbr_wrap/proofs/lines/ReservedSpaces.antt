@@ -19,7 +19,7 @@ spaces_more zero n a = ap (λ k. spaces k a) (let e : zero + n ≡ n = omega ari
 spaces_more (suc m) n a = ap (λ k. spaces k a) (let e : suc m + n ≡ suc (m + n) = omega arith in e) ∙ ap (λ is. spaces 1 a ++ is) (spaces_more m n a)
 
 module _ {A : Type 0} (columns : ℕ → Option ℕ) (eq : A → A → Bool) (laws : IsEquivalence eq) (b c : LaidLines A) (limits : KeepsLimits b c) (before given : List (List (Item A))) (r : Laid A) where
-  -- where items are placed behind what is laid
+  -- where items are placed after what is laid
   pub reserved : (behind : List (Item A)) → HoldsRule columns eq b before given r → c.flat.placed ≡ b.flat.placed ++ behind → c.ended ≡ b.ended → c.line_len ≡ b.line_len → c.line_markers ≡ b.line_markers → c.line_width ≡ b.line_width → HoldsRuleBefore columns eq c before given r behind
   reserved behind h placed lines len markers width = record {
     laid = h.laid;

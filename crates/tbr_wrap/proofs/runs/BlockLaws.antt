@@ -145,7 +145,7 @@ module _ {A : Type 0} (columns : ℕ → Option ℕ) where
       let none : has_character left ≡ false = waiting_none columns s.width (progress_of columns s) in
       ap (λ (p : Progress A). loose_names p.word) (progress_flushed columns s) ∙ rw none refl
 
-  -- the lines that the end of the run adds come behind those that are left
+  -- the lines that the end of the run adds come after those that are left
   pub left_ended : (s : Block A) → s.handed ≤ length (lines columns s) → (more : List (List (Item A))) × (all_lines columns s ≡ lines columns s ++ more) × (left columns (flushed columns s) ≡ left columns s ++ more)
   left_ended s within =
       let add = finished_adds columns s.width (progress_of columns s) in (
@@ -308,7 +308,7 @@ module _ {A : Type 0} (columns : ℕ → Option ℕ) where
   pub flush_none : (s t : Block A) → after_flush columns s ≡ done t → has_no_character columns s ≡ true → left columns t ≡ left columns s
   flush_none s t e none = ap (left columns) (flush_leaves s t e) ∙ left_flushed s ∙ ap (λ ls. s.ended ++ drop s.handed ls) (none_ended s none)
 
-  -- behind it nothing of the run under way has ended
+  -- after it nothing of the run under way has ended
   pub left_of_flushed : (s t : Block A) → after_flush columns s ≡ done t → left columns t ≡ t.ended
   left_of_flushed s t e = subst (λ (q : Block A). left columns q ≡ q.ended) (flush_made s t e).1 (left_flushed s)
 
@@ -432,7 +432,7 @@ module _ {A : Type 0} (columns : ℕ → Option ℕ) where
             let parts : names_in_run (run_of s.events) ≡ front ++ loose columns s = all ∙ ap (λ ns. front ++ ns) (sym names) in
             sym (ap (last (length (loose columns s))) parts ∙ last_of_two front (loose columns s))
 
-    -- they come behind the last visible character
+    -- they come after the last visible character
     pub loose_behind : AreLastOf (loose columns s) (names_behind (is_visible columns) (run_of s.events))
     loose_behind = both (has_character (p s).word) refl
       where

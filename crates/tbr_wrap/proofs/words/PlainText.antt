@@ -1,4 +1,4 @@
--- Characters at which no word ends join the word, one behind the other.
+-- Characters at which no word ends join the word, one after the other.
 use Rattle.std.proofs.Common.{◌≡◌, ◌≢◌, ℕ, ◌+◌, ◌<◌, ◌≤◌, ◌==◌, Bool, true, false, not, ◌&&◌, ◌||◌, if◌then◌else◌, Option, None, Some, is_some, unwrap_or, List, [], ◌∷◌, ◌++◌, fold, length, get_or, take, refl, ap, sym, ◌∙◌, subst, arith, append_assoc, le-ltb}
 use Rattle.std.specs.Char.{is_ascii_graphic, is_whitespace}
 use Rattle.std.specs.Str.{IsAscii}
@@ -145,7 +145,7 @@ module _ {A : Type 0} (columns : ℕ → Option ℕ) (width : ℕ) (a b : A) whe
   kept_entered PreWrap c n p has_width is h =
       rw is (preserve_kept columns width c a b PreWrap p (no_break c 8203 is refl) (no_break c 10 is refl) (no_break c 9 is refl) n (kept_takes c is) has_width ∙ keeps_tag columns width a b PreWrap c n p h)
 
-  -- behind a character of the word
+  -- after a character of the word
   space_entered : (mode : WhiteSpace) (p : Progress A) → columns 32 ≡ Some 1 → is_pre mode ≡ true → has_character p.word ≡ true → enter columns width p (character 32 a b mode) ≡ join 32 (tag_of p a b) mode p
   space_entered Normal p one is some = cc
   space_entered PreWrap p one is some = cc
@@ -153,7 +153,7 @@ module _ {A : Type 0} (columns : ℕ → Option ℕ) (width : ℕ) (a b : A) whe
       preserve_space columns width 32 a b Pre p (λ e. omega (arith, e)) (λ e. omega (arith, e)) (λ e. omega (arith, e)) 1 refl one ∙ keep_joins 32 (tag_of p a b) Pre 1 p some
 
   module _ (mode : WhiteSpace) (spaced : Bool) (one : columns 32 ≡ Some 1) where
-    -- spaces join where white space is kept, behind a character of the word
+    -- spaces join where white space is kept, after a character of the word
     abbrev pub SpacesJoin : Progress A → Type 0
     SpacesJoin p = spaced ≡ true → (is_pre mode ≡ true) × (has_character p.word ≡ true)
 

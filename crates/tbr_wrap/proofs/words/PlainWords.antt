@@ -42,7 +42,7 @@ reads_none : (columns : ℕ → Option ℕ) (cs : List ℕ) → fold (reads colu
 reads_none columns [] = refl
 reads_none columns (c ∷ cs) = reads_none columns cs
 
--- the next character is a space behind a word, or narrow
+-- the next character is a space after a word, or narrow
 data NextRead (columns : ℕ → Option ℕ) (inside : Bool) (c : ℕ) (cs : List ℕ) (end : Bool) : Type 0 where
   space : c ≡ 32 → inside ≡ true → fold (reads columns) (Some false) cs ≡ Some end → NextRead columns inside c cs end
   narrow : Narrow columns c → fold (reads columns) (Some true) cs ≡ Some end → NextRead columns inside c cs end
@@ -101,7 +101,7 @@ all_ascii columns cs w = subst IsAscii (sym w.is) (IsAscii-append w.front (32 �
 -- ---- what the rule does with them
 
 module _ {A : Type 0} (columns : ℕ → Option ℕ) (one : columns 32 ≡ Some 1) (width : ℕ) (a b : A) where
-  -- the word is on the open line, and a space waits behind it
+  -- the word is on the open line, and a space waits after it
   abbrev after_word : Progress A → Progress A
   after_word q = record q {
     laid = extended q.laid (space_text q.space ++ q.word) (pending_width q.space + items_width columns q.word);
@@ -123,7 +123,7 @@ module _ {A : Type 0} (columns : ℕ → Option ℕ) (one : columns 32 ≡ Some 
       let lays : break_word columns width q ≡ lay_here columns q = rw (test, room) refl in
       normal_break columns width 32 (tag_of q a b) q refl ∙ ap (collapse 32 (tag_of q a b)) lays ∙ collapsed q some
 
-  -- narrow characters behind the word, and a space behind them
+  -- narrow characters after the word, and a space after them
   abbrev after_words : Progress A → List ℕ → Progress A
   after_words q cs = record q {
     laid = extended q.laid (space_text q.space ++ (q.word ++ text_items cs (tag_of q a b))) (pending_width q.space + (items_width columns q.word + length cs));
@@ -253,7 +253,7 @@ module _ {A : Type 0} (columns : ℕ → Option ℕ) (one : columns 32 ≡ Some 
       let ends_afresh : break_word columns width (afresh q) ≡ lay columns width (afresh q) = rw some refl in
       normal_break columns width 32 t q refl ∙ ap (collapse 32 t) (ends ∙ laid_afresh q drops h blank wide fits ∙ sym ends_afresh) ∙ sym (normal_break columns width 32 t (afresh q) refl)
 
-  -- no letters go on behind a space
+  -- no letters go on after a space
   no_more : (n : ℕ) (cs : List ℕ) → JoinWord columns false (take n (32 ∷ cs)) → n ≡ 0
   no_more zero cs h = refl
   no_more (suc n) cs h = let apart : joins columns false 32 ≡ false = rw one refl in absurd (let e : true ≡ false = sym h.0 ∙ apart in cc)

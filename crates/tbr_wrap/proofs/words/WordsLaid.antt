@@ -73,7 +73,7 @@ same_narrow columns eq width [] js same h = tt
 same_narrow columns eq width (i ∷ is) [] same h = absurd same
 same_narrow columns eq width (i ∷ is) (j ∷ js) same h = (omega (arith, h.0, same_width_one columns eq i j same.0), same_narrow columns eq width is js same.1 h.1)
 
--- a word that has a character is put behind what is pending
+-- a word that has a character is put after what is pending
 pub lay_fresh_some : {A : Type 0} (columns : ℕ → Option ℕ) (width : ℕ) (p : Progress A) → has_character p.word ≡ true →
     lay_fresh columns width p ≡ record p { laid = put_items columns width (put_pending width p.space (end_if_character p.laid)) p.word; space = None; word = []; continuation_flag = is_pre p.mode }
 lay_fresh_some columns width p e = rw e refl
