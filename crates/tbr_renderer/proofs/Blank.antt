@@ -1,64 +1,83 @@
 -- Renderers with nothing in them.
-use Rattle.std.proofs.Common.{◌≡◌, ℕ, ◌&&◌, ◌||◌, ◌↔◌, not, IsTrue, Bool, true, false, is_none, Option, None, Some, List, [], ◌∷◌, ◌++◌, map, drop, refl, ap, sym, ◌∙◌, subst}
+use Rattle.std.proofs.Common.{◌≡◌, ℕ, ◌&&◌, not, Bool, true, is_none, Option, None, Some, List, [], ◌∷◌, ◌++◌, map, refl, ap, sym, ◌∙◌, subst}
 use Rattle.std.specs.Global.{Vec}
+use Rattle.std.specs.Option.{option_map}
 use Rattle.std.proofs.lemmas.Bool.{and_parts}
-use Rattle.tbr_model.specs.Run.{kept_items, has_character}
-use Rattle.tbr_model.specs.Rule.{run_of}
-use Rattle.tbr_model.proofs.words.Items.{no_character_no_width}
+use Rattle.tbr_model.specs.Run.{Item}
+use Rattle.tbr_lines.specs.State.{is_some_list}
+use Rattle.tbr_lines.specs.Block.{Block, lines, any_line, has_no_character}
 use Rattle.tbr_lines.specs.declared.Error.{Error}
-use Rattle.tbr_lines.specs.State.{IsNormal, is_some_list}
-use Rattle.tbr_lines.specs.Block.{Block, lines, left, any_line, has_no_character}
-use Rattle.tbr_lines.proofs.BlockLaws.{run_decides}
-use Rattle.tbr_renderer.specs.Renderer.{Open, Renderer, block_width, may_overflow}
-use Rattle.tbr_renderer.specs.Meant.{tag_meant, map_line, meant}
-use Rattle.tbr_renderer.specs.View.{IsFresh, block_seen}
-use Rattle.tbr_renderer.specs.Rows.{block_is_blank, is_blank, TellsBlank}
+use Rattle.tbr_lines.proofs.BlockLaws.{none_ended}
+use Rattle.tbr_renderer.specs.Renderer.{Line, Open, Renderer, block_width, may_overflow}
+use Rattle.tbr_renderer.specs.Appended.{HandsOut}
+use Rattle.tbr_renderer.specs.Flush.{block_in, block_lines, lines_at_end, names_at_end, flushed, FlushesBlock}
+use Rattle.tbr_renderer.specs.Meant.{tag_meant, map_line, map_open, meant}
+use Rattle.tbr_renderer.specs.View.{IsFresh, open_seen, block_seen}
+use Rattle.tbr_renderer.specs.Rows.{block_is_blank, is_blank}
+use Rattle.tbr_renderer.proofs.MappedBlocks.{any_line-map, has_no_character-map}
 
 none_of_not : {X : Type 0} (xs : List X) → not (is_some_list xs) ≡ true → xs ≡ []
 none_of_not [] h = refl
 none_of_not (x ∷ xs) h = cc
 
-none_mapped : {X Y : Type 0} (f : X → Y) (xs : List X) → map f xs ≡ [] → xs ≡ []
-none_mapped f [] h = refl
-none_mapped f (x ∷ xs) h = cc
+-- ---- what a block answers
 
-module _ {D A : Type 0} (columns : ℕ → Option ℕ) (r : Renderer D A (Vec A)) (b : Block (Vec A)) (seen : block_seen columns (Some b) ≡ r.block) (fresh : IsFresh columns (block_width r) (may_overflow r) b) where
-  abbrev bare : Bool
-  bare = has_no_character columns b
+module _ {D A : Type 0} (columns : ℕ → Option ℕ) (r : Renderer D A (Vec A)) (b : Block (Vec A)) (fresh : IsFresh columns (block_width r) (may_overflow r) b) where
+  -- a fresh block by what a contract sees of it
+  block_seen_is : block_in r (open_seen b) ≡ b
+  block_seen_is i = record {
+    width = sym fresh.width_is i;
+    may_overflow = sym fresh.may_overflow i;
+    padding = b.padding;
+    failure = sym fresh.unfailed i;
+    begun = sym fresh.begun i;
+    ended = sym fresh.ended i;
+    events = b.events;
+    handed = sym fresh.handed i;
+  }
 
-  -- what a block answers
-  pub block_asked : (blank : Bool) → blank ≡ is_none b.failure && (not (any_line columns b) && bare) → blank ≡ block_is_blank r.block
-  block_asked blank asked = asked ∙ ap (λ (o : Option Error). is_none o && (not (any_line columns b) && bare)) fresh.unfailed ∙ ap block_is_blank seen
+  pub block_asked : (blank : Bool) → block_seen (Some b) ≡ r.block → blank ≡ is_none b.failure && (not (any_line columns b) && has_no_character columns b) → blank ≡ block_is_blank columns r r.block
+  block_asked blank seen asked =
+      asked ∙ ap (λ (o : Option Error). is_none o && (not (any_line columns b) && has_no_character columns b)) fresh.unfailed
+      ∙ ap (λ (s : Block (Vec A)). not (any_line columns s) && has_no_character columns s) (sym block_seen_is) ∙ ap (block_is_blank columns r) seen
 
-  -- a blank one has no line that is left
-  pub none_left : block_is_blank r.block ≡ true → (bare ≡ true) × (left columns b ≡ [])
-  none_left blank =
-      let parts = and_parts (not (any_line columns b)) bare (ap block_is_blank seen ∙ blank) in
-      let none : lines columns b ≡ [] = none_of_not (lines columns b) (ap (λ (begun : Bool). not (begun || is_some_list (lines columns b))) (sym fresh.begun) ∙ parts.0) in
-      (parts.1, λ i. fresh.ended i ++ drop (fresh.handed i) (none i))
+-- ---- what its annotations mean doesn't matter
 
-  -- and what that tells of a `Normal` run
-  pub block_tells : columns 32 ≡ Some 1 → TellsBlank columns r
-  block_tells one live o is narrow normal =
-      subst (λ (q : Option (Open (Vec A))). Told q) (seen ∙ is) told normal
-    where
-      Told : Option (Open (Vec A)) → Type 0
-      Told None = ⊥
-      Told (Some q) = IsNormal q.run → IsTrue q.blank ↔ (has_character (kept_items columns q.run) ≡ false)
+module _ {D A M : Type 0} (f : A → M) (columns : ℕ → Option ℕ) (r : Renderer D A (Vec A)) where
+  some-map : (ls : List (Line (Vec A))) → is_some_list (map (map_line (tag_meant f)) ls) ≡ is_some_list ls
+  some-map [] = refl
+  some-map (l ∷ ls) = refl
 
-      told : IsNormal (run_of b.events) → IsTrue (not (any_line columns b) && bare) ↔ (has_character (kept_items columns (run_of b.events)) ≡ false)
-      told normal_run =
-          let known = run_decides columns one b fresh.sound (fresh.may_overflow ∙ narrow) normal_run in (
-            λ yes. known.no_character.0 (and_parts (not (any_line columns b)) bare yes).1,
-            λ none.
-                ap (λ (begun : Bool). not (begun || is_some_list (lines columns b)) && bare) fresh.begun
-                ∙ ap (λ (ls : List (List _)). not (is_some_list ls) && bare) (known.no_line (no_character_no_width columns (kept_items columns (run_of b.events)) none))
-                ∙ known.no_character.1 none,
-          )
+  block-map : (o : Option (Open (Vec A))) → block_is_blank columns (meant f r) (option_map (map_open (tag_meant f)) o) ≡ block_is_blank columns r o
+  block-map None = refl
+  block-map (Some b) =
+      let s = block_in r b in
+      ap (λ any. not any && has_no_character columns (block_in (meant f r) (map_open (tag_meant f) b))) (any_line-map (tag_meant f) columns s)
+      ∙ ap (λ none. not (any_line columns s) && none) (has_no_character-map (tag_meant f) columns s)
 
--- a blank renderer, whose flush adds no line, hands out none
-pub none_handed : {D A M : Type 0} (f : A → M) (r s : Renderer D A (Vec A)) → is_blank r ≡ true → (block_is_blank r.block ≡ true → (meant f s).lines ≡ (meant f r).lines) → s.lines ≡ []
-none_handed f r s blank flushed =
-    let rest = (and_parts (is_none r.failure) (block_is_blank r.block && not (is_some_list r.lines)) blank).1 in
-    let (block, line) = and_parts (block_is_blank r.block) (not (is_some_list r.lines)) rest in
-    none_mapped (map_line (tag_meant f)) s.lines (flushed block ∙ ap (map (map_line (tag_meant f))) (none_of_not r.lines line))
+  pub blank_meant : is_blank columns (meant f r) ≡ is_blank columns r
+  blank_meant =
+      ap (λ block. is_none r.failure && (block && not (is_some_list (map (map_line (tag_meant f)) r.lines)))) (block-map r.block)
+      ∙ ap (λ some. is_none r.failure && (block_is_blank columns r r.block && not some)) (some-map r.lines)
+
+-- ---- it hands out no line
+
+module _ {D A : Type 0} (columns : ℕ → Option ℕ) (r s : Renderer D A (List A)) where
+  no_line_ends : (b : Open (List A)) → block_is_blank columns r (Some b) ≡ true → lines_at_end columns r b ≡ []
+  no_line_ends b blank =
+      let t = block_in r b in
+      let (line, character) = and_parts (not (any_line columns t)) (has_no_character columns t) blank in
+      none_ended columns t character ∙ none_of_not (lines columns t) line
+
+  none_come : (o : Option (Open (List A))) → block_is_blank columns r o ≡ true → FlushesBlock columns r o s → s.lines ≡ r.lines
+  none_come None blank h = ap (λ (q : Renderer D A (List A)). q.lines) h
+  none_come (Some b) blank h =
+      ap (λ (q : Renderer D A (List A)). q.lines) h.is
+      ∙ ap (λ (ts : List (List (Item (List A)))). (flushed columns r (block_lines columns r b ts) (names_at_end columns r b)).lines) (no_line_ends b blank)
+
+pub blank_hands_none : {D A : Type 0} (columns : ℕ → Option ℕ) (r : Renderer D A (List A)) (lines : List (Line (List A))) → is_blank columns r ≡ true → HandsOut columns r lines → lines ≡ []
+blank_hands_none columns r lines blank h =
+    let (s, flushes, is) = h.1 in
+    let rest = (and_parts (is_none r.failure) (block_is_blank columns r r.block && not (is_some_list r.lines)) blank).1 in
+    let (block, line) = and_parts (block_is_blank columns r r.block) (not (is_some_list r.lines)) rest in
+    is ∙ none_come columns r s r.block block flushes ∙ none_of_not r.lines line

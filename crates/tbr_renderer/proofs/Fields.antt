@@ -35,7 +35,7 @@ module _ {D W A : Type 0} (columns : ℕ → Option ℕ) (r : Inside D W A) (mor
     };
   }
 
-  pub waiting_seen : (s : Renderer D A (Vec A)) → renderer_of columns r ≡ s → renderer_of columns (record r { waiting = waiting }) ≡ record s { waiting = s.waiting ++ names_of (map element_of more) }
+  pub waiting_seen : (s : Renderer D A (Vec A)) → renderer_of r ≡ s → renderer_of (record r { waiting = waiting }) ≡ record s { waiting = s.waiting ++ names_of (map element_of more) }
   waiting_seen s view =
-      ap (λ ns. record (renderer_of columns r) { waiting = ns }) (ap names_of elements ∙ names_append (map element_of r.waiting.items) (map element_of more))
+      ap (λ ns. record (renderer_of r) { waiting = ns }) (ap names_of elements ∙ names_append (map element_of r.waiting.items) (map element_of more))
       ∙ ap (λ (q : Renderer D A (Vec A)). record q { waiting = q.waiting ++ names_of (map element_of more) }) view

@@ -1,5 +1,5 @@
 -- Lines of a block that join those of a renderer.
-use Rattle.std.proofs.Common.{◌≡◌, ℕ, ◌-◌, not, ◌&&◌, Bool, true, false, Option, None, Some, List, [], ◌∷◌, ◌++◌, map, fold, drop, refl, ap, sym, ◌∙◌, subst, append_assoc, append-nil}
+use Rattle.std.proofs.Common.{◌≡◌, ℕ, ◌-◌, ◌<◌, not, ◌&&◌, Bool, true, false, Option, None, Some, List, [], ◌∷◌, ◌++◌, map, fold, drop, refl, ap, sym, ◌∙◌, subst, append_assoc, append-nil}
 use Rattle.std.specs.Global.{Vec}
 use Rattle.std.proofs.lemmas.List.{map-append}
 use Rattle.std.proofs.lemmas.Grind.{fold-append}
@@ -14,23 +14,19 @@ use Rattle.tbr_lines.specs.Elements.{Element, marker_element, items_of, text_ite
 use Rattle.tbr_lines.specs.Padding.{spaces}
 use Rattle.tbr_lines.specs.Block.{Block, Settings, progress_of, all_lines, left, has_no_character, loose, waiting_names, flushed, without_loose, after_flush, after_taking}
 use Rattle.tbr_lines.specs.Outcome.{done, refused}
-use Rattle.tbr_lines.specs.State.{EndsRun}
 use Rattle.tbr_lines.specs.Wrapped.{padding_of}
 use Rattle.tbr_lines.specs.declared.Error.TheVariants as E
 use Rattle.tbr_lines.proofs.Blocks.{progress_flushed, progress_taken}
 use Rattle.tbr_lines.proofs.LinesLeft.{handed_failure, handed_settings, left_after}
-use Rattle.tbr_lines.proofs.BlockLaws.{HandsOne, flush_leaves, taking_leaves, left_taken, left_flushed, loose_flushed, flush_none, flush_ends, flush_words_fit, flush_visible_fit, flush_never, flush_wide, flush_wide_word}
-use Rattle.tbr_lines.proofs.MappedRuns.{ends_run-map}
+use Rattle.tbr_lines.proofs.BlockLaws.{HandsOne, flush_allowed, flush_leaves, taking_leaves, left_taken, left_flushed, loose_flushed}
 use Rattle.tbr_renderer.specs.Renderer.{KeepsSettings, settings_of, Open, Renderer, has_content, with_line, block_width, may_overflow}
 use Rattle.tbr_renderer.specs.Meant.{tag_meant, items_meant, map_open, meant}
-use Rattle.tbr_renderer.specs.View.{block_seen, names_of, AreMarkers, IsFresh}
-use Rattle.tbr_renderer.specs.Flush.{line_meant, block_lines, RunFits, RunIsTooNarrow, EndsBlock, FlushesBlock, Flushes, BlockIsTooNarrow, FlushIsTooNarrow}
+use Rattle.tbr_renderer.specs.View.{block_seen, block_meant, names_of, AreMarkers, IsFresh}
+use Rattle.tbr_renderer.specs.Flush.{line_meant, block_lines, lines_at_end, names_at_end, fits_at_end, EndsBlock, FlushesBlock, Flushes, BlockIsTooNarrow, FlushIsTooNarrow}
 use Rattle.tbr_renderer.specs.Steps.{block_started, StartsBlock}
-use Rattle.tbr_renderer.specs.Rows.{block_is_blank}
-use Rattle.tbr_renderer.proofs.Blank.{none_left}
 use Rattle.tbr_renderer.proofs.Meanings.{text_items-map}
 use Rattle.tbr_lines.proofs.MappedTags.{means_same_items}
-use Rattle.tbr_renderer.proofs.Fits.{run_fits-map, run_is_too_narrow-map}
+use Rattle.tbr_renderer.proofs.MappedBlocks.{lines_meant, names_meant, fits_meant, flush_narrow, end_promised, end_narrow}
 
 -- The lines of a block that a renderer has: given ones, and the block has the others left.
 pub record HasLines {D A M : Type 0} (f : A → M) (columns : ℕ → Option ℕ) (first old : Block (Vec A)) (r q : Renderer D A (Vec A)) : Type 0 where
@@ -99,10 +95,7 @@ markers_named {T} es names e = ap names_of e ∙ names_of_markers T names
 pub are_markers : {T : Type 0} (es : List (Element T)) (names : List (List ℕ)) → es ≡ map marker_element names → AreMarkers es
 are_markers {T} es names e = ap (map (λ n. let x : Element T = marker_element n in x)) (markers_named es names e) ∙ sym e
 
-module _ {D A M : Type 0} (f : A → M) (columns : ℕ → Option ℕ) (one : columns 32 ≡ Some 1) (r : Renderer D A (Vec A)) (b : Block (Vec A)) (seen : block_seen columns (Some b) ≡ r.block) (fresh : IsFresh columns (block_width r) (may_overflow r) b) where
-  abbrev run : List (Entry (Vec A))
-  run = run_of b.events
-
+module _ {D A M : Type 0} (f : A → M) (columns : ℕ → Option ℕ) (one : columns 32 ≡ Some 1) (r : Renderer D A (Vec A)) (b : Block (Vec A)) (seen : block_seen (Some b) ≡ r.block) (fresh : IsFresh columns (block_width r) (may_overflow r) b) where
   -- what a block that was flushed, and that handed its markers out, has left
   module _ (after behind : Block (Vec A)) (e : after_flush columns b ≡ done after) (taken : after_taking columns after ≡ done behind) where
     behind_is : behind ≡ without_loose columns (flushed columns b)
@@ -128,44 +121,29 @@ module _ {D A M : Type 0} (f : A → M) (columns : ℕ → Option ℕ) (one : co
     pub block_flushed : (waiting : List (List ℕ)) (s0 s1 s2 : Renderer D A (Vec A)) → s0 ≡ record r { block = None } →
         meant f s1 ≡ fold (with_line columns) (meant f s0) (map (line_meant columns f behind) (left columns behind)) → waiting ≡ loose columns after → s2 ≡ record s1 { waiting = s1.waiting ++ waiting } → Flushes columns (meant f r) (meant f s2)
     block_flushed waiting s0 s1 s2 emptied lines names_are waits =
-        let g = tag_meant f in
-        let all = all_lines columns b in
-        let names = waiting_names columns b in
-        let fits : RunFits columns b.width b.may_overflow run = record { visible = flush_visible_fit columns one b fresh.sound.wide after e; words = flush_words_fit columns one b fresh.sound.wide after e } in
+        let opened : Open (List M) = block_meant f b in
+        let wide_enough : 0 < block_width r = subst (λ (n : ℕ). 0 < n) fresh.width_is fresh.sound.wide in
+        let fits : fits_at_end columns (meant f r) opened ≡ true = fits_meant f columns r b fresh ∙ flush_allowed columns b after e in
         let padding : behind.padding ≡ b.padding = ap (λ (s : Block (Vec A)). s.padding) behind_is in
         let wide : behind.width ≡ block_width r = ap (λ (s : Block (Vec A)). s.width) behind_is ∙ fresh.width_is in
-        let here : map (line_meant columns f behind) (left columns behind) ≡ map (λ is. is ++ padding_of columns (option_map g b.padding) (block_width r) is) (map_lines g all) =
-        ap (map (line_meant columns f behind)) all_left ∙ lines-map f columns behind b.padding (block_width r) all padding wide in
-        let after_lines : meant f s1 ≡ fold (with_line columns) (record (meant f r) { block = None }) (map (λ is. is ++ padding_of columns (option_map g b.padding) (block_width r) is) (map_lines g all)) =
+        let here : map (line_meant columns f behind) (left columns behind) ≡ block_lines columns (meant f r) opened (lines_at_end columns (meant f r) opened) =
+        ap (map (line_meant columns f behind)) all_left ∙ lines-map f columns behind b.padding (block_width r) (all_lines columns b) padding wide
+        ∙ ap (block_lines columns (meant f r) opened) (sym (lines_meant f columns r b fresh)) in
+        let after_lines : meant f s1 ≡ fold (with_line columns) (record (meant f r) { block = None }) (block_lines columns (meant f r) opened (lines_at_end columns (meant f r) opened)) =
         lines ∙ ap (λ (q : Renderer D A (Vec A)). fold (with_line columns) (meant f q) (map (line_meant columns f behind) (left columns behind))) emptied ∙ ap (fold (with_line columns) (record (meant f r) { block = None })) here in
-        let ended : EndsBlock columns (meant f r) (record { padding = option_map g b.padding; run = map_run g run; blank = false }) (meant f s2) = record {
-          texts = map_lines g all;
-          names = names;
-          fits = run_fits-map g columns (block_width r) (may_overflow r) run
-              (subst (λ (w : ℕ). RunFits columns w (may_overflow r) run) fresh.width_is (subst (λ (o : Bool). RunFits columns b.width o run) fresh.may_overflow fits));
-          ends = ends_run-map g columns (block_width r) (may_overflow r) run all names
-              (subst (λ (w : ℕ). EndsRun columns w (may_overflow r) run all names) fresh.width_is (subst (λ (o : Bool). EndsRun columns b.width o run all names) fresh.may_overflow (flush_ends columns one b fresh.sound.wide after e)));
-          is = ap (meant f) waits ∙ ap (λ ns. record (meant f s1) { waiting = s1.waiting ++ ns }) (names_are ∙ names_wait) ∙ ap (λ (m : Renderer D M (List M)). record m { waiting = m.waiting ++ names }) after_lines;
+        let ended : EndsBlock columns (meant f r) opened (meant f s2) = record {
+          fits = fits;
+          ends = end_promised columns one (meant f r) opened wide_enough fits;
+          is = ap (meant f) waits ∙ ap (λ ns. record (meant f s1) { waiting = s1.waiting ++ ns }) (names_are ∙ names_wait ∙ sym (names_meant f columns r b fresh))
+              ∙ ap (λ (m : Renderer D M (List M)). record m { waiting = m.waiting ++ names_at_end columns (meant f r) opened }) after_lines;
         } in
-        subst (λ (o : Option (Open (Vec A))). FlushesBlock columns (meant f r) (option_map (map_open g) o) (meant f s2)) seen ended
-
-    -- a blank one adds no line
-    pub blank_left : block_is_blank r.block ≡ true → left columns behind ≡ []
-    blank_left blank =
-        let none = none_left columns r b seen fresh blank in
-        ap (left columns) (taking_leaves columns after behind taken) ∙ left_taken columns after ∙ flush_none columns b after e none.0 ∙ none.1
+        subst (λ (o : Option (Open (Vec A))). FlushesBlock columns (meant f r) (option_map (map_open (tag_meant f)) o) (meant f s2)) seen ended
 
   -- and where it is refused
   pub block_refused : after_flush columns b ≡ refused E.TooNarrow → FlushIsTooNarrow columns (meant f r)
   block_refused e =
-      let narrow : RunIsTooNarrow columns b.width b.may_overflow run = record {
-        narrow = flush_never columns one b fresh.sound.wide fresh.unfailed e;
-        wide = flush_wide columns one b fresh.sound.wide fresh.unfailed e;
-        words = flush_wide_word columns one b fresh.sound.wide fresh.unfailed e;
-      } in
       subst (λ (o : Option (Open (Vec A))). BlockIsTooNarrow columns (meant f r) (option_map (map_open (tag_meant f)) o)) seen
-      (run_is_too_narrow-map (tag_meant f) columns (block_width r) (may_overflow r) run
-      (subst (λ (w : ℕ). RunIsTooNarrow columns w (may_overflow r) run) fresh.width_is (subst (λ (o : Bool). RunIsTooNarrow columns b.width o run) fresh.may_overflow narrow)))
+      (end_narrow columns one (meant f r) (block_meant f b) (subst (λ (n : ℕ). 0 < n) fresh.width_is fresh.sound.wide) (fits_meant f columns r b fresh ∙ flush_narrow columns b fresh.unfailed e))
 
 -- ---- the columns of blocks stay
 
@@ -176,7 +154,7 @@ module _ {D A : Type 0} (columns : ℕ → Option ℕ) where
 
   flush_width : (r s : Renderer D A (List A)) (o : Option (Open (List A))) → FlushesBlock columns r o s → block_width s ≡ block_width r
   flush_width r s None h = ap block_width h
-  flush_width r s (Some b) h = ap block_width h.is ∙ lines_width (block_lines columns r b h.texts) (record r { block = None })
+  flush_width r s (Some b) h = ap block_width h.is ∙ lines_width (block_lines columns r b (lines_at_end columns r b)) (record r { block = None })
 
   pub start_width : (r s : Renderer D A (List A)) → StartsBlock columns r s → block_width s ≡ block_width r
   start_width r s h = ap block_width h.2 ∙ go (has_content h.0) refl ∙ flush_width r h.0 r.block h.1

@@ -3,6 +3,8 @@ pub mod Stages
 pub mod Images
 pub mod Opened
 pub mod Meanings
+pub mod MappedRule
+pub mod MappedBlocks
 pub mod Bordering
 pub mod LineTexts
 pub mod Appending
@@ -10,10 +12,9 @@ pub mod Fields
 pub mod KeptLines
 pub mod Lines
 pub mod Footnotes
-pub mod Blank
-pub mod Fits
 pub mod LinesAsTheyAre
 pub mod Flushing
+pub mod Blank
 pub mod Rowing
 pub mod Texts
 pub mod Writing

@@ -132,9 +132,9 @@ module _ {D A M : Type 0} (f : A → M) (columns : ℕ → Option ℕ) (r : Rend
 
 module _ {D A M : Type 0} (f : A → M) (r : Renderer D A (Vec A)) where
   pub opened_new : (columns : ℕ → Option ℕ) (v : Vec A) (pads : Bool) (b : Block (Vec A)) (width : ℕ) (overflows : Bool) → pads ≡ r.options.pad_block_width → tag_meant f v ≡ map f r.annotations → b ≡ block.new_block width overflows (if pads then Some v else None) →
-      block_meant columns f b ≡ new_block (meant f r)
-  opened_new columns v true b width overflows pads under is = ap (block_meant columns f) is ∙ rw (← pads) (ap (λ (xs : List M). record { padding = Some xs; run = []; blank = false }) under)
-  opened_new columns v false b width overflows pads under is = ap (block_meant columns f) is ∙ rw (← pads) refl
+      block_meant f b ≡ new_block (meant f r)
+  opened_new columns v true b width overflows pads under is = ap (block_meant f) is ∙ rw (← pads) (ap (λ (xs : List M). record { padding = Some xs; events = [] }) under)
+  opened_new columns v false b width overflows pads under is = ap (block_meant f) is ∙ rw (← pads) refl
 
 -- ---- modes
 

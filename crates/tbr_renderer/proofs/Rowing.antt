@@ -34,9 +34,10 @@ use Rattle.tbr_rows.proofs.MeantTexts.{items-map, longest_means}
 use Rattle.tbr_renderer.specs.Renderer.{Line, text, border, Open, Renderer, without_last, with_line}
 use Rattle.tbr_renderer.specs.Meant.{tag_meant, map_line, meant}
 use Rattle.tbr_renderer.specs.View.{line_seen}
-use Rattle.tbr_renderer.specs.Flush.{block_lines, Flushes, FlushesBlock}
+use Rattle.tbr_renderer.specs.Flush.{block_lines, lines_at_end, Flushes, FlushesBlock}
 use Rattle.tbr_renderer.specs.Appended.{HandsOut}
 use Rattle.tbr_renderer.specs.Rows.{is_rule, is_border, is_blank, looks, spots_of, LeavesFree, GivenCell, align_in, GivesCell, FillsCell, ComesAs, aligned_as, border_in, last_border, before_border, border_lines, style_in, with_next, with_row_behind, with_row}
+use Rattle.tbr_renderer.proofs.Blank.{blank_hands_none, blank_meant}
 
 -- ---- lists of annotations that mean the same are equal
 
@@ -170,7 +171,7 @@ module _ {D A : Type 0} (columns : ℕ → Option ℕ) where
 
   block_hangs : (r s : Renderer D A (List A)) (o : Option (Open (List A))) → FlushesBlock columns r o s → s.hanging ≡ r.hanging
   block_hangs r s None h = ap (λ (q : Renderer D A (List A)). q.hanging) h
-  block_hangs r s (Some b) h = ap (λ (q : Renderer D A (List A)). q.hanging) h.is ∙ lines_hang (block_lines columns r b h.texts) (record r { block = None })
+  block_hangs r s (Some b) h = ap (λ (q : Renderer D A (List A)). q.hanging) h.is ∙ lines_hang (block_lines columns r b (lines_at_end columns r b)) (record r { block = None })
 
   pub flush_hangs : (r s : Renderer D A (List A)) → Flushes columns r s → s.hanging ≡ r.hanging
   flush_hangs r s h = block_hangs r s r.block h
@@ -193,24 +194,24 @@ side_by_side-map f at (c ∷ cs) h = (h.0, side_by_side-map f (c.place + c.width
 pub stand_meant : {A M : Type 0} (f : A → M) (cells : List (Cell (Vec A))) → AreSideBySide 0 cells → AreSideBySide 0 (map (map_cell (tag_meant f)) cells)
 stand_meant f cells h = side_by_side-map (tag_meant f) 0 cells h
 
-freed : {D A T : Type 0} (at : ℕ) (cols : List (Renderer D A T × ℕ)) (cells : List (Cell T)) → AllZip LeavesFree cols cells → AllZip IsAsFree (spots_from at (map looks cols)) (spots_from at (map look cells))
-freed at [] [] h = tt
-freed at [] (c ∷ cs) h = absurd h
-freed at (d ∷ ds) [] h = absurd h
-freed {D} {A} {T} at (d ∷ ds) (c ∷ cs) h =
+freed : {D A T : Type 0} (columns : ℕ → Option ℕ) (at : ℕ) (cols : List (Renderer D A T × ℕ)) (cells : List (Cell T)) → AllZip (LeavesFree columns) cols cells → AllZip IsAsFree (spots_from at (map (looks columns) cols)) (spots_from at (map look cells))
+freed columns at [] [] h = tt
+freed columns at [] (c ∷ cs) h = absurd h
+freed columns at (d ∷ ds) [] h = absurd h
+freed {D} {A} {T} columns at (d ∷ ds) (c ∷ cs) h =
     let wide : c.width ≡ d.0.width = h.0.0 in
-    let none : is_blank d.0 ≡ true → is_none (first_line c.lines) ≡ true = λ blank. ap (λ ls. is_none (first_line ls)) (h.0.1 blank) in (
+    let none : is_blank columns d.0 ≡ true → is_none (first_line c.lines) ≡ true = λ blank. ap (λ ls. is_none (first_line ls)) (h.0.1 blank) in (
       (refl, wide, none),
-      subst (λ n. AllZip IsAsFree (spots_from (at + d.0.width + 1) (map looks ds)) (spots_from (at + n + 1) (map look cs))) (sym wide) (freed (at + d.0.width + 1) ds cs h.1),
+      subst (λ n. AllZip IsAsFree (spots_from (at + d.0.width + 1) (map (looks columns) ds)) (spots_from (at + n + 1) (map look cs))) (sym wide) (freed columns (at + d.0.width + 1) ds cs h.1),
     )
 
 -- the row of the cells fits where that of the renderers does
-pub still_fits : {D A M : Type 0} (f : A → M) (columns : ℕ → Option ℕ) (r s : Renderer D A (Vec A)) (cols : List (Renderer D A (Vec A) × ℕ)) (cells : List (Cell (Vec A))) → Flushes columns (meant f r) (meant f s) → AreSideBySide 0 cells → AllZip LeavesFree cols cells →
-    row_fits r.hanging (spots_of cols) ≡ true → row_fits s.hanging (map spot_of cells) ≡ true
+pub still_fits : {D A M : Type 0} (f : A → M) (columns : ℕ → Option ℕ) (r s : Renderer D A (Vec A)) (cols : List (Renderer D A (Vec A) × ℕ)) (cells : List (Cell (Vec A))) → Flushes columns (meant f r) (meant f s) → AreSideBySide 0 cells → AllZip (LeavesFree columns) cols cells →
+    row_fits r.hanging (spots_of columns cols) ≡ true → row_fits s.hanging (map spot_of cells) ≡ true
 still_fits f columns r s cols cells flushes stand free fits =
-    let same : row_fits s.hanging (spots_of cols) ≡ row_fits r.hanging (spots_of cols) =
-    sym (fits_mean (tag_meant f) s.hanging (spots_of cols)) ∙ ap (λ hs. row_fits hs (spots_of cols)) (flush_hangs columns (meant f r) (meant f s) flushes) ∙ fits_mean (tag_meant f) r.hanging (spots_of cols) in
-    ap (row_fits s.hanging) (spots_are cells stand) ∙ fits_with_fewer_lines s.hanging (spots_of cols) (spots_from 0 (map look cells)) (freed 0 cols cells free) (same ∙ fits)
+    let same : row_fits s.hanging (spots_of columns cols) ≡ row_fits r.hanging (spots_of columns cols) =
+    sym (fits_mean (tag_meant f) s.hanging (spots_of columns cols)) ∙ ap (λ hs. row_fits hs (spots_of columns cols)) (flush_hangs columns (meant f r) (meant f s) flushes) ∙ fits_mean (tag_meant f) r.hanging (spots_of columns cols) in
+    ap (row_fits s.hanging) (spots_are cells stand) ∙ fits_with_fewer_lines s.hanging (spots_of columns cols) (spots_from 0 (map look cells)) (freed columns 0 cols cells free) (same ∙ fits)
 
 -- ---- cells that come one after another
 
@@ -235,7 +236,11 @@ module _ {A M : Type 0} (f : A → M) (eq : A → A → Bool) (means : MeansEqua
   lines_fill (l ∷ ls) [] merged h = absurd h
   lines_fill (l ∷ ls) (d ∷ ds) merged h = (line_fills l d merged.0 h.0, lines_fill ls ds merged.1 h.1)
 
-pub none_filled : {X Y : Type 0} (R : X → Y → Type 0) (xs : List X) (ys : List Y) → AllZip R xs ys → xs ≡ [] → ys ≡ []
+none_mapped : {X Y : Type 0} (f : X → Y) (xs : List X) → map f xs ≡ [] → xs ≡ []
+none_mapped f [] h = refl
+none_mapped f (x ∷ xs) h = cc
+
+none_filled : {X Y : Type 0} (R : X → Y → Type 0) (xs : List X) (ys : List Y) → AllZip R xs ys → xs ≡ [] → ys ≡ []
 none_filled R [] [] h e = refl
 none_filled R [] (y ∷ ys) h e = absurd h
 none_filled R (x ∷ xs) ys h e = absurd (let no : ⊥ = cc in no)
@@ -272,16 +277,16 @@ module _ {D A M : Type 0} (f : A → M) (columns : ℕ → Option ℕ) (aligns :
     pub aligned : map align_in cells ≡ aligned_as aligns cols
     pub left_is : left ≡ drop (length cols) aligns
     pub come : AllZip (ComesAs columns tag) cells (map (map_cell (tag_meant f)) own)
-    pub free : AllZip LeavesFree cols own
+    pub free : AllZip (LeavesFree columns) cols own
 
   pub no_columns : HasColumns [] [] aligns
   no_columns = record { cells = []; give = tt; aligned = refl; left_is = refl; come = tt; free = tt }
 
   pub columns_go_on : (cols : List (Renderer D A (Vec A) × ℕ)) (own next : List (Cell (Vec A))) (left rest : List CellAlign) (col : Renderer D A (Vec A)) (span : ℕ) (align : CellAlign) (seen : List (Line (List M))) (filled : List (RenderLine (Vec A))) → (h : HasColumns cols own left) →
       HandsOut columns (meant f col) seen → align ≡ next_align left → rest ≡ drop 1 left →
-      AllZip (FillsCell columns align col.width tag) seen (map (map_row_line (tag_meant f)) filled) → (is_blank col ≡ true → filled ≡ []) →
+      AllZip (FillsCell columns align col.width tag) seen (map (map_row_line (tag_meant f)) filled) →
       next ≡ own ++ cell_behind own col.width span filled ∷ [] → HasColumns (cols ++ (col, span) ∷ []) next rest
-  columns_go_on cols own next left rest col span align seen filled h hands aligned_by rest_is fills blank is =
+  columns_go_on cols own next left rest col span align seen filled h hands aligned_by rest_is fills is =
       let cell : GivenCell (List M) = record { width = col.width; span = span; align = align; lines = seen } in
       let placed : Cell (Vec A) = cell_behind own col.width span filled in
       let g = map_cell (tag_meant f) in
@@ -292,7 +297,7 @@ module _ {D A M : Type 0} (f : A → M) (columns : ℕ → Option ℕ) (aligns :
         aligned = map-append align_in h.cells (cell ∷ []) ∙ ap (λ bs. bs ++ align ∷ []) h.aligned ∙ ap (λ a. aligned_as aligns cols ++ a ∷ []) (aligned_by ∙ ap next_align h.left_is) ∙ sym (aligned_more aligns cols (col, span));
         left_is = rest_is ∙ ap (drop 1) h.left_is ∙ dropped (length cols) aligns ∙ ap (λ n. drop n aligns) (let one : suc (length cols) ≡ length (cols ++ (col, span) ∷ []) = omega (arith, length-append cols ((col, span) ∷ [])) in one);
         come = subst (AllZip (ComesAs columns tag) (h.cells ++ cell ∷ [])) (sym more) (zip_behind (ComesAs columns tag) h.cells (map g own) cell (g placed) h.come (refl, refl, fills));
-        free = subst (AllZip LeavesFree (cols ++ (col, span) ∷ [])) (sym is) (zip_behind LeavesFree cols own (col, span) placed h.free (refl, blank));
+        free = subst (AllZip (LeavesFree columns) (cols ++ (col, span) ∷ [])) (sym is) (zip_behind (LeavesFree columns) cols own (col, span) placed h.free (refl, λ blank. none_mapped (map_row_line (tag_meant f)) filled (none_filled _ seen _ fills (blank_hands_none columns (meant f col) seen (blank_meant f columns col ∙ blank) hands))));
       }
     where
       dropped : (n : ℕ) (bs : List CellAlign) → drop 1 (drop n bs) ≡ drop (suc n) bs

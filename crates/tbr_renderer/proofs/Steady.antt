@@ -6,7 +6,7 @@ use Rattle.tbr_decor.specs.Decoration.{Decoration}
 use Rattle.tbr_lines.specs.declared.Error.{Error}
 use Rattle.tbr_renderer.specs.Decorated.{asked_to_close, Closes}
 use Rattle.tbr_renderer.specs.Renderer.{Open, Renderer, Settings, settings_of, has_content, with_line, without_last, without_annotation, ignores}
-use Rattle.tbr_renderer.specs.Flush.{block_lines, Flushes, FlushesBlock}
+use Rattle.tbr_renderer.specs.Flush.{block_lines, lines_at_end, Flushes, FlushesBlock}
 use Rattle.tbr_renderer.specs.Steps.{AddsEmptyLine, block_started, StartsBlock, AddsText, AddsTextBy}
 
 -- the settings, and the kept refusal
@@ -24,7 +24,7 @@ module _ {D A : Type 0} (columns : ℕ → Option ℕ) where
 
   block_flushed : (r s : Renderer D A (List A)) (o : Option (Open (List A))) → FlushesBlock columns r o s → steady s ≡ steady r
   block_flushed r s None h = ap (λ (q : Renderer D A (List A)). steady q) h
-  block_flushed r s (Some b) h = ap (λ (q : Renderer D A (List A)). steady q) h.is ∙ lines_added (block_lines columns r b h.texts) (record r { block = None })
+  block_flushed r s (Some b) h = ap (λ (q : Renderer D A (List A)). steady q) h.is ∙ lines_added (block_lines columns r b (lines_at_end columns r b)) (record r { block = None })
 
   pub flushed_alike : (r s : Renderer D A (List A)) → Flushes columns r s → steady s ≡ steady r
   flushed_alike r s h = block_flushed r s r.block h

@@ -4,6 +4,7 @@ use Rattle.std.specs.List.{AllZip}
 use Rattle.tbr_model.specs.Hard.{IsShown, visible_glyphs, visible_entries}
 use Rattle.tbr_model.specs.declared.white_space.WhiteSpace.{WhiteSpace}
 use Rattle.tbr_model.specs.declared.white_space.WhiteSpace.TheVariants.{Pre}
+use Rattle.tbr_model.specs.Rule.{entry}
 use Rattle.tbr_model.specs.Run.{Entry, character, marker_entry, Item, glyph, marker}
 use Rattle.tbr_model.specs.Layout.{joined}
 use Rattle.tbr_lines.specs.declared.Error.{Error}
@@ -12,7 +13,7 @@ use Rattle.tbr_decor.specs.Decoration.{Decoration}
 use Rattle.tbr_decor.specs.Start as start
 use Rattle.tbr_decor.specs.End as end
 use Rattle.tbr_decor.specs.Ground.{Ground}
-use Rattle.tbr_renderer.specs.Renderer.{Line, text, border, Renderer, open_run, with_entries, without_last, entries_of, ignores, IsOneOf, settings_of}
+use Rattle.tbr_renderer.specs.Renderer.{Line, text, border, Renderer, open_run, with_events, without_last, entries_of, ignores, IsOneOf, settings_of}
 use Rattle.tbr_renderer.specs.Flush.{Flushes, FlushIsTooNarrow}
 use Rattle.tbr_renderer.specs.Steps.{AddsEmptyLine, StartsBlock, BreaksLine, AddsText, TextIsTooNarrow}
 use Rattle.tbr_renderer.specs.Appended.{as_text, prefixed, AddsBorder, AppendsLines, AppendsCells}
@@ -68,7 +69,7 @@ module _ {D A : Type 0} (columns : ℕ → Option ℕ) (decoration : Decoration 
   Does pop_ws r s = s ≡ record r { modes = without_last r.modes }
   Does push_preformat r s = s ≡ record r { preformatted = suc r.preformatted }
   Does pop_preformat r s = s ≡ record r { preformatted = r.preformatted - 1 }
-  Does (record_frag_start name) r s = s ≡ with_entries r (marker_entry name ∷ [])
+  Does (record_frag_start name) r s = s ≡ with_events r (entry (marker_entry name) ∷ [])
   Does (begin opened) r s = Opens columns decoration opened r s
   Does (finish closed) r s = Closes columns decoration closed r s
   Does start_strikeout r s = OpensStrikeout columns decoration r s

@@ -1,44 +1,37 @@
 -- The end of the open run.
-use Rattle.std.specs.Prelude.{◌≡◌, ℕ, Bool, false, Option, None, Some, List, [], ◌++◌, map, fold}
+use Rattle.std.specs.Prelude.{◌≡◌, ℕ, Bool, true, false, Option, None, Some, List, [], ◌++◌, map, fold}
 use Rattle.std.specs.Global.{Vec}
+use Rattle.tbr_model.specs.Rule.{Event, run_of}
+use Rattle.tbr_model.specs.Run.{Item}
+use Rattle.tbr_lines.specs.Block.{Block, lines, all_lines, waiting_names, allows, grown}
+use Rattle.tbr_lines.specs.Block as block
+use Rattle.tbr_lines.specs.State.{EndsRun, CharactersFit}
+use Rattle.tbr_lines.specs.Wrapped.{padding_of}
 use Rattle.tbr_renderer.specs.Meant.{items_meant}
-use Rattle.tbr_model.specs.Run.{Entry, Item}
-use Rattle.tbr_lines.specs.Block.{Block}
-use Rattle.tbr_lines.specs.State.{EndsRun, IsNormal, CharactersFit, VisibleFit}
-use Rattle.tbr_lines.specs.Wrapped.{WordsFit, EndedWordsFit, padding_of}
 use Rattle.tbr_renderer.specs.Renderer.{Open, Renderer, with_line, block_width, may_overflow}
 
--- No word that the end of the run places has a character wider than the block. Of a run that isn't `Normal` it is only
--- said that no visible character is wider.
-pub record RunFits {T : Type 0} (columns : ℕ → Option ℕ) (width : ℕ) (overflows : Bool)
-    (run : List (Entry T)) : Type 0 where
-  pub visible : overflows ≡ false → VisibleFit columns width run
-  pub words : overflows ≡ false → IsNormal run → WordsFit columns width run
+-- ---- the open block by its rule
 
--- No line may be wider than the block, and some word that the end of the run places has a character that is. Of a run
--- that isn't `Normal` it is only said that some character of it is.
-pub record RunIsTooNarrow {T : Type 0} (columns : ℕ → Option ℕ) (width : ℕ) (overflows : Bool)
-    (run : List (Entry T)) : Type 0 where
-  pub narrow : overflows ≡ false
-  pub wide : ¬ (CharactersFit columns width run)
-  pub words : IsNormal run → ¬ (WordsFit columns width run)
+-- the open block, of which no line was handed out
+abbrev pub block_in : {D A T : Type 0} → Renderer D A T → Open T → Block T
+block_in r b = record (block.new_block (block_width r) (may_overflow r) b.padding) { events = b.events }
 
--- No word that a break point of a run under way has ended has a character wider than the block. It is said of `Normal`
--- runs, where no line may be wider.
-abbrev pub RunGoesOn : {T : Type 0} → (ℕ → Option ℕ) → ℕ → Bool → List (Entry T) → Type 0
-RunGoesOn columns width overflows run = overflows ≡ false → IsNormal run → EndedWordsFit columns width run
+-- whether no line that has ended is wider than the block, or may be, once more has come
+abbrev pub fits_grown : {D A T : Type 0} → (ℕ → Option ℕ) → Renderer D A T → Open T → List (Event T) → Bool
+fits_grown columns r b es = let g = grown (block_in r b) es in allows columns g (lines columns g)
 
--- No line may be wider than the block, and some word that a break point of a run under way has ended has a character
--- that is. Of a run that isn't `Normal` it is only said that some character of it is.
-pub record RunStops {T : Type 0} (columns : ℕ → Option ℕ) (width : ℕ) (overflows : Bool)
-    (run : List (Entry T)) : Type 0 where
-  pub narrow : overflows ≡ false
-  pub wide : ¬ (CharactersFit columns width run)
-  pub words : IsNormal run → ¬ (EndedWordsFit columns width run)
+-- the lines of the block where its run ends, and the markers that wait then
+abbrev pub lines_at_end : {D A T : Type 0} → (ℕ → Option ℕ) → Renderer D A T → Open T → List (List (Item T))
+lines_at_end columns r b = all_lines columns (block_in r b)
 
--- entries join the run of an open block
-abbrev pub with_run : {T : Type 0} → Open T → List (Entry T) → Open T
-with_run b es = record b { run = b.run ++ es }
+abbrev pub names_at_end : {D A T : Type 0} → (ℕ → Option ℕ) → Renderer D A T → Open T → List (List ℕ)
+names_at_end columns r b = waiting_names columns (block_in r b)
+
+-- whether no line is wider than the block, or may be, where its run ends
+abbrev pub fits_at_end : {D A T : Type 0} → (ℕ → Option ℕ) → Renderer D A T → Open T → Bool
+fits_at_end columns r b = allows columns (block_in r b) (lines_at_end columns r b)
+
+-- ---- its lines
 
 -- lines of a block, each padded to the block's width
 abbrev pub block_lines : {D A : Type 0} →
@@ -63,14 +56,13 @@ flushed columns r lines names =
     let s = fold (with_line columns) (record r { block = None }) lines in
     record s { waiting = s.waiting ++ names }
 
--- the end of a block
+-- The end of a block: its lines fit, are what a block promises of its run's, and join the others.
 pub record EndsBlock {D A : Type 0} (columns : ℕ → Option ℕ) (r : Renderer D A (List A)) (b : Open (List A))
     (s : Renderer D A (List A)) : Type 0 where
-  pub texts : List (List (Item (List A)))
-  pub names : List (List ℕ)
-  pub fits : RunFits columns (block_width r) (may_overflow r) b.run
-  pub ends : EndsRun columns (block_width r) (may_overflow r) b.run texts names
-  pub is : s ≡ flushed columns r (block_lines columns r b texts) names
+  pub fits : fits_at_end columns r b ≡ true
+  pub ends : EndsRun columns (block_width r) (may_overflow r) (run_of b.events)
+      (lines_at_end columns r b) (names_at_end columns r b)
+  pub is : s ≡ flushed columns r (block_lines columns r b (lines_at_end columns r b)) (names_at_end columns r b)
 
 -- What a flush leaves: where no block is open, what there was.
 abbrev pub FlushesBlock : {D A : Type 0} →
@@ -82,11 +74,15 @@ FlushesBlock columns r (Some b) s = EndsBlock columns r b s
 abbrev pub Flushes : {D A : Type 0} → (ℕ → Option ℕ) → Renderer D A (List A) → Renderer D A (List A) → Type 0
 Flushes columns r s = FlushesBlock columns r r.block s
 
--- where a flush answers that the block is too narrow
-abbrev pub BlockIsTooNarrow : {D A T : Type 0} → (ℕ → Option ℕ) → Renderer D A T → Option (Open T) → Type 0
-BlockIsTooNarrow columns r None = ⊥
-BlockIsTooNarrow columns r (Some b) = RunIsTooNarrow columns (block_width r) (may_overflow r) b.run
+-- A line of the block would be wider than it, and none may be. So some character of its run is wider.
+pub record RunIsTooNarrow {D A T : Type 0} (columns : ℕ → Option ℕ) (r : Renderer D A T) (b : Open T) : Type 0 where
+  pub narrow : fits_at_end columns r b ≡ false
+  pub wide : ¬ (CharactersFit columns (block_width r) (run_of b.events))
 
 -- A flush answers that the open block is too narrow.
+abbrev pub BlockIsTooNarrow : {D A T : Type 0} → (ℕ → Option ℕ) → Renderer D A T → Option (Open T) → Type 0
+BlockIsTooNarrow columns r None = ⊥
+BlockIsTooNarrow columns r (Some b) = RunIsTooNarrow columns r b
+
 abbrev pub FlushIsTooNarrow : {D A T : Type 0} → (ℕ → Option ℕ) → Renderer D A T → Type 0
 FlushIsTooNarrow columns r = BlockIsTooNarrow columns r r.block

@@ -1,10 +1,11 @@
 -- What a contract sees of a renderer, and the small steps by which it changes.
-use Rattle.std.specs.Prelude.{◌≡◌, ◌⊎◌, ℕ, ◌-◌, Bool, true, false, ◌&&◌, nat_lt, nat_le, if◌then◌else◌, Option, None, Some, unwrap_or, not, List, [], ◌∷◌, ◌++◌, flat_map, replicate, length, take}
+use Rattle.std.specs.Prelude.{◌≡◌, ◌⊎◌, ℕ, ◌-◌, Bool, true, false, ◌&&◌, nat_lt, nat_le, if◌then◌else◌, Option, None, Some, unwrap_or, not, List, [], ◌∷◌, ◌++◌, map, flat_map, replicate, length, take}
 use Rattle.std.specs.List.{list_any, list_all}
 use Rattle.std.specs.Char.{is_whitespace}
 use Rattle.tbr_model.specs.declared.white_space.WhiteSpace.{WhiteSpace}
 use Rattle.tbr_model.specs.declared.white_space.WhiteSpace.TheVariants.{Normal}
 use Rattle.tbr_model.specs.WhiteSpace.{preserves}
+use Rattle.tbr_model.specs.Rule.{Event, call, entry, run_of}
 use Rattle.tbr_model.specs.Run.{Entry, Item, has_character}
 use Rattle.tbr_model.specs.Markers.{marker_items}
 pub use Rattle.tbr_model.specs.Width.{stroke}
@@ -20,12 +21,10 @@ pub data Line (T : Type 0) : Type 0 where
   text : List (Item T) → Line T
   border : Border T → Line T
 
--- The open block: what the padding of its lines is under, where they are padded, and its run.
+-- The open block: what the padding of its lines is under, where they are padded, and what came.
 pub record Open (T : Type 0) : Type 0 where
   pub padding : Option T
-  pub run : List (Entry T)
-  -- Whether no line of it has ended, and what is open holds no character. Its meaning doesn't tell: it says no there.
-  pub blank : Bool
+  pub events : List (Event T)
 
 -- A renderer, whose decorator is a `D`. Text is under a `T`, which holds several annotations `A`.
 pub record Renderer (D A T : Type 0) : Type 0 where
@@ -162,8 +161,7 @@ may_overflow r = overflows r.options (block_width r)
 abbrev pub new_block : {D A : Type 0} → Renderer D A (List A) → Open (List A)
 new_block r = record {
   padding = (if r.options.pad_block_width then Some r.annotations else None);
-  run = [];
-  blank = false;
+  events = [];
 }
 
 -- the open block, or a new one
@@ -173,11 +171,19 @@ open_block r = unwrap_or r.block (new_block r)
 -- the open run, which is empty where no block is open
 abbrev pub open_run : {T : Type 0} → Option (Open T) → List (Entry T)
 open_run None = []
-open_run (Some b) = b.run
+open_run (Some b) = run_of b.events
 
--- entries join the run of the open block
-abbrev pub with_entries : {D A : Type 0} → Renderer D A (List A) → List (Entry (List A)) → Renderer D A (List A)
-with_entries r es = let b = open_block r in record r { block = Some (record b { run = b.run ++ es }) }
+-- a block to which more comes
+abbrev pub with_more : {T : Type 0} → Open T → List (Event T) → Open T
+with_more b es = record b { events = b.events ++ es }
+
+-- more comes to the open block, or to a new one
+abbrev pub with_events : {D A : Type 0} → Renderer D A (List A) → List (Event (List A)) → Renderer D A (List A)
+with_events r es = record r { block = Some (with_more (open_block r) es) }
+
+-- a call by which these entries come
+abbrev pub called : {T : Type 0} → List (Entry T) → List (Event T)
+called es = call ∷ map entry es
 
 -- ---- text
 

@@ -1,12 +1,13 @@
 -- Rows of cells side by side: what comes into them, and what they add to a renderer.
-use Rattle.std.specs.Prelude.{◌≡◌, ◌↔◌, IsTrue, ℕ, ◌-◌, Bool, true, false, not, ◌&&◌, if◌then◌else◌, is_none, is_some, Option, None, Some, List, [], ◌∷◌, ◌++◌, map, fold}
+use Rattle.std.specs.Prelude.{◌≡◌, ℕ, ◌-◌, Bool, true, false, not, ◌&&◌, if◌then◌else◌, is_none, is_some, Option, None, Some, List, [], ◌∷◌, ◌++◌, map, fold}
 use Rattle.std.specs.List.{AllZip}
 use Rattle.std.specs.Borrow.{Bor}
-use Rattle.tbr_model.specs.Run.{items_width, has_character, kept_items}
+use Rattle.tbr_model.specs.Run.{items_width}
+use Rattle.tbr_lines.specs.Block.{any_line, has_no_character}
 use Rattle.tbr_lines.specs.Border.{Border, with_cells, stretched}
 use Rattle.tbr_lines.specs.Elements.{items_of}
 use Rattle.tbr_lines.specs.Padding.{aligned_items}
-use Rattle.tbr_lines.specs.State.{IsNormal, is_some_list}
+use Rattle.tbr_lines.specs.State.{is_some_list}
 use Rattle.tbr_lines.specs.declared.CellAlign.{CellAlign}
 use Rattle.tbr_lines.specs.declared.CellAlign.TheVariants.{Left}
 use Rattle.tbr_lines.specs.declared.RenderLine.{RenderLine}
@@ -15,39 +16,33 @@ use Rattle.tbr_rows.specs.Cells.{AreSideBySide, Spot, spots_from}
 use Rattle.tbr_rows.specs.Meant.{AreLongest, SeenRow, MeansRow}
 use Rattle.tbr_rows.specs.declared.LineSet.{LineSet as Cell}
 use Rattle.tbr_rows.specs.declared.RowStyle.{RowStyle}
-use Rattle.tbr_renderer.specs.Renderer.{Line, text, border, Open, Renderer, may_overflow, without_last, with_line}
-use Rattle.tbr_renderer.specs.Flush.{Flushes}
+use Rattle.tbr_renderer.specs.Renderer.{Line, text, border, Open, Renderer, without_last, with_line}
+use Rattle.tbr_renderer.specs.Flush.{block_in, Flushes}
 use Rattle.tbr_renderer.specs.Appended.{with_border}
 
 -- ---- renderers with nothing in them
 
--- whether the open block is blank, or none is open
-abbrev pub block_is_blank : {T : Type 0} → Option (Open T) → Bool
-block_is_blank None = true
-block_is_blank (Some b) = b.blank
+-- whether no block is open, or no line of the open one has ended, and what is open there holds no character
+abbrev pub block_is_blank : {D A T : Type 0} → (ℕ → Option ℕ) → Renderer D A T → Option (Open T) → Bool
+block_is_blank columns r None = true
+block_is_blank columns r (Some b) =
+    let s = block_in r b in not (any_line columns s) && has_no_character columns s
 
 -- It hasn't failed, its open block, if any, is blank, and it has no line.
-abbrev pub is_blank : {D A T : Type 0} → Renderer D A T → Bool
-is_blank r = is_none r.failure && (block_is_blank r.block && not (is_some_list r.lines))
-
--- An open block whose run is `Normal` is blank exactly where the run has no kept character, if no line may be wider
--- than the block.
-abbrev pub TellsBlank : {D A T : Type 0} → (ℕ → Option ℕ) → Renderer D A T → Type 0
-TellsBlank {D} {A} {T} columns r =
-    r.failure ≡ None → (b : Open T) → r.block ≡ Some b → may_overflow r ≡ false → IsNormal b.run →
-    IsTrue b.blank ↔ (has_character (kept_items columns b.run) ≡ false)
+abbrev pub is_blank : {D A T : Type 0} → (ℕ → Option ℕ) → Renderer D A T → Bool
+is_blank columns r = is_none r.failure && (block_is_blank columns r r.block && not (is_some_list r.lines))
 
 -- a renderer that comes with a span, as a cell of a row: its width, and whether nothing is in it
-abbrev pub looks : {D A T : Type 0} → Renderer D A T × ℕ → ℕ × Bool
-looks col = (col.0.width, is_blank col.0)
+abbrev pub looks : {D A T : Type 0} → (ℕ → Option ℕ) → Renderer D A T × ℕ → ℕ × Bool
+looks columns col = (col.0.width, is_blank columns col.0)
 
 -- where renderers that come as cells will be, and whether nothing is in them
-abbrev pub spots_of : {D A T : Type 0} → List (Renderer D A T × ℕ) → List Spot
-spots_of cols = spots_from 0 (map looks cols)
+abbrev pub spots_of : {D A T : Type 0} → (ℕ → Option ℕ) → List (Renderer D A T × ℕ) → List Spot
+spots_of columns cols = spots_from 0 (map (looks columns) cols)
 
 -- A cell of such a renderer takes as many columns, and has no line where nothing is in the renderer.
-abbrev pub LeavesFree : {D A T : Type 0} → Renderer D A T × ℕ → Cell T → Type 0
-LeavesFree col cell = (cell.width ≡ col.0.width) × (is_blank col.0 ≡ true → cell.lines ≡ [])
+abbrev pub LeavesFree : {D A T : Type 0} → (ℕ → Option ℕ) → Renderer D A T × ℕ → Cell T → Type 0
+LeavesFree columns col cell = (cell.width ≡ col.0.width) × (is_blank columns col.0 ≡ true → cell.lines ≡ [])
 
 -- ---- what comes into a row
 

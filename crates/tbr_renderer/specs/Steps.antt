@@ -1,10 +1,10 @@
 -- What each call makes of a renderer.
-use Rattle.std.specs.Prelude.{◌≡◌, ℕ, Bool, true, false, if◌then◌else◌, ◌↔◌, IsTrue, is_none, Option, None, Some, List, [], ◌++◌, ◌⊎◌}
-use Rattle.tbr_model.specs.Run.{items_width, kept_items}
-use Rattle.tbr_lines.specs.State.{IsNormal, is_some_list}
-use Rattle.tbr_model.specs.Shown.{run_shows_columns}
-use Rattle.tbr_renderer.specs.Renderer.{Open, Renderer, has_content, with_line, block_width, may_overflow, open_run, with_entries, entries_of, ignores}
-use Rattle.tbr_renderer.specs.Flush.{RunGoesOn, RunStops, Flushes, FlushIsTooNarrow}
+use Rattle.std.specs.Prelude.{◌≡◌, ℕ, Bool, true, false, not, ◌&&◌, if◌then◌else◌, is_none, Option, None, Some, List, [], ◌++◌, ◌⊎◌}
+use Rattle.tbr_model.specs.Rule.{Event}
+use Rattle.tbr_lines.specs.Block.{any_line, takes_no_columns}
+use Rattle.tbr_lines.specs.State.{is_some_list, CharactersFit}
+use Rattle.tbr_renderer.specs.Renderer.{Open, Renderer, has_content, with_line, block_width, open_block, open_run, called, with_events, entries_of, ignores}
+use Rattle.tbr_renderer.specs.Flush.{block_in, fits_grown, Flushes, FlushIsTooNarrow}
 
 module _ {D A : Type 0} (columns : ℕ → Option ℕ) where
   -- an empty line, after which no block has ended
@@ -23,42 +23,39 @@ module _ {D A : Type 0} (columns : ℕ → Option ℕ) where
   abbrev pub StartsBlock : Renderer D A (List A) → Renderer D A (List A) → Type 0
   StartsBlock r s = (m : Renderer D A (List A)) × Flushes columns r m × (s ≡ block_started m)
 
-  -- Whether no block is open, or its open line and word take no columns. A `Normal` run decides it where no line may be
-  -- wider than the block.
-  abbrev pub BlockIsAtLineStart : Renderer D A (List A) → Bool → Option (Open (List A)) → Type 0
-  BlockIsAtLineStart r at None = at ≡ true
-  BlockIsAtLineStart r at (Some b) =
-      may_overflow r ≡ false → IsNormal b.run → IsTrue at ↔ (items_width columns (kept_items columns b.run) ≡ 0)
+  -- whether no block is open, or its open line and word take no columns
+  abbrev pub at_line_start : Renderer D A (List A) → Option (Open (List A)) → Bool
+  at_line_start r None = true
+  at_line_start r (Some b) = takes_no_columns columns (block_in r b)
 
   -- A line break adds an empty line at the beginning of a line, and else ends the line.
   abbrev pub BreaksLineAt : Bool → Renderer D A (List A) → Renderer D A (List A) → Type 0
   BreaksLineAt true r s = AddsEmptyLine r s
   BreaksLineAt false r s = Flushes columns r s
 
-  -- A line break comes, at the beginning of a line or not, as far as the open block tells.
+  -- A line break comes, at the beginning of a line or not.
   abbrev pub BreaksLine : Renderer D A (List A) → Renderer D A (List A) → Type 0
-  BreaksLine r s = (at : Bool) × BlockIsAtLineStart r at r.block × BreaksLineAt at r s
+  BreaksLine r s = BreaksLineAt (at_line_start r r.block) r s
 
-  -- Whether no block is open, or the open one is empty: a `Normal` run decides it where no line may be wider than the
-  -- block, and a visible character that takes columns says no in any run.
-  abbrev pub BlockIsEmpty : Renderer D A (List A) → Bool → Option (Open (List A)) → Type 0
-  BlockIsEmpty r empty None = empty ≡ true
-  BlockIsEmpty r empty (Some b) =
-      (may_overflow r ≡ false → IsNormal b.run → IsTrue empty ↔ (items_width columns (kept_items columns b.run) ≡ 0))
-      × (run_shows_columns columns b.run ≡ true → empty ≡ false)
+  -- whether no block is open, or no line of the open one has ended, and its open line and word take no columns
+  abbrev pub block_is_empty : Renderer D A (List A) → Option (Open (List A)) → Bool
+  block_is_empty r None = true
+  block_is_empty r (Some b) =
+      let s = block_in r b in not (any_line columns s) && takes_no_columns columns s
 
-  -- What `empty` answers: no where the renderer has failed or has a line, and else whether its open block is empty.
-  abbrev pub TellsEmpty : Renderer D A (List A) → Bool → Type 0
-  TellsEmpty r empty =
-      (is_none r.failure ≡ false → empty ≡ false) × (is_some_list r.lines ≡ true → empty ≡ false)
-      × (r.failure ≡ None → r.lines ≡ [] → BlockIsEmpty r empty r.block)
+  -- whether it hasn't failed, has no line, and its open block, if any, is empty
+  abbrev pub is_empty : Renderer D A (List A) → Bool
+  is_empty r = is_none r.failure && (not (is_some_list r.lines) && block_is_empty r r.block)
 
 module _ {D A : Type 0} (columns : ℕ → Option ℕ) (preformatted : D → Bool → A) where
-  -- the text joins the run of the open block, which goes on
+  -- what a text brings to the open block, or to a new one
+  abbrev pub text_brings : List ℕ → Renderer D A (List A) → List (Event (List A))
+  text_brings cs r = called (entries_of columns preformatted r cs)
+
+  -- The text joins the run of the open block. No line that has ended is wider than that, or may be.
   abbrev pub JoinsText : List ℕ → Renderer D A (List A) → Renderer D A (List A) → Type 0
   JoinsText cs r s =
-      RunGoesOn columns (block_width r) (may_overflow r) (open_run r.block ++ entries_of columns preformatted r cs)
-      × (s ≡ with_entries r (entries_of columns preformatted r cs))
+      (fits_grown columns r (open_block r) (text_brings cs r) ≡ true) × (s ≡ with_events r (text_brings cs r))
 
   -- After the end of a block white space is ignored in `Normal`, and any other text begins a block.
   abbrev pub AddsTextBy : Bool → Bool → List ℕ → Renderer D A (List A) → Renderer D A (List A) → Type 0
@@ -70,10 +67,11 @@ module _ {D A : Type 0} (columns : ℕ → Option ℕ) (preformatted : D → Boo
   abbrev pub AddsText : List ℕ → Renderer D A (List A) → Renderer D A (List A) → Type 0
   AddsText cs r s = AddsTextBy (ignores r cs) r.block_ended cs r s
 
-  -- A text that joins the open run is answered by `TooNarrow`.
-  abbrev pub JoinIsTooNarrow : List ℕ → Renderer D A (List A) → Type 0
-  JoinIsTooNarrow cs r =
-      RunStops columns (block_width r) (may_overflow r) (open_run r.block ++ entries_of columns preformatted r cs)
+  -- A text that joins the open run is answered by `TooNarrow`: a line that has ended would be wider than the block, and
+  -- none may be. So some character of the run is wider.
+  pub record JoinIsTooNarrow (cs : List ℕ) (r : Renderer D A (List A)) : Type 0 where
+    pub narrow : fits_grown columns r (open_block r) (text_brings cs r) ≡ false
+    pub wide : ¬ (CharactersFit columns (block_width r) (open_run r.block ++ entries_of columns preformatted r cs))
 
   -- A text is answered by `TooNarrow`, before a block begins for it or where it joins a run. One that is ignored never
   -- is.

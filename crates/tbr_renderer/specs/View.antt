@@ -2,12 +2,11 @@
 use Rattle.std.specs.Prelude.{◌≡◌, ◌<◌, ℕ, Bool, false, not, ◌&&◌, ⊤, Option, Some, None, List, [], ◌∷◌, map, chars}
 use Rattle.std.specs.Option.{option_map}
 use Rattle.std.specs.Global.{Box, Vec}
-use Rattle.tbr_model.specs.Rule.{run_of}
 use Rattle.tbr_lines.specs.View.{element_of}
 use Rattle.tbr_renderer.specs.Meant.{tag_meant, map_open}
 use Rattle.tbr_renderer.specs.declared.sub.SubRenderer.TheInside.{Inside}
 use Rattle.tbr_lines.specs.Elements.{Element, piece, marker_element, items_of}
-use Rattle.tbr_lines.specs.Block.{Block, any_line, has_no_character, IsSound}
+use Rattle.tbr_lines.specs.Block.{Block, IsSound}
 use Rattle.tbr_decor.specs.Start as start
 use Rattle.tbr_decor.specs.End as end
 use Rattle.tbr_decor.specs.Ground as ground
@@ -26,25 +25,21 @@ abbrev pub line_seen : {T : Type 0} → RenderLine T → Line T
 line_seen (Text es) = text (items_of es)
 line_seen (Rule b) = border b
 
--- an open block as a contract sees it: blank where no line of it has ended and it holds no character
-abbrev pub open_seen : {T : Type 0} → (ℕ → Option ℕ) → Block T → Open T
-open_seen columns b = record {
-  padding = b.padding;
-  run = run_of b.events;
-  blank = not (any_line columns b) && has_no_character columns b;
-}
+-- an open block as a contract sees it
+abbrev pub open_seen : {T : Type 0} → Block T → Open T
+open_seen b = record { padding = b.padding; events = b.events }
 
 -- the block that is in a box, if there is one
 abbrev pub unboxed : {T : Type 0} → Option (Box (Block T)) → Option (Block T)
 unboxed boxed = option_map (λ b. b.value) boxed
 
 -- and so the open block, if there is one
-abbrev pub block_seen : {T : Type 0} → (ℕ → Option ℕ) → Option (Block T) → Option (Open T)
-block_seen columns block = option_map (open_seen columns) block
+abbrev pub block_seen : {T : Type 0} → Option (Block T) → Option (Open T)
+block_seen block = option_map open_seen block
 
 -- a block by what its tags mean
-abbrev pub block_meant : {A M : Type 0} → (ℕ → Option ℕ) → (A → M) → Block (Vec A) → Open (List M)
-block_meant columns meaning b = map_open (tag_meant meaning) (open_seen columns b)
+abbrev pub block_meant : {A M : Type 0} → (A → M) → Block (Vec A) → Open (List M)
+block_meant meaning b = map_open (tag_meant meaning) (open_seen b)
 
 -- the names of markers
 abbrev pub names_of : {T : Type 0} → List (Element T) → List (List ℕ)
@@ -72,13 +67,13 @@ IsOpened columns width overflows None = ⊤
 IsOpened columns width overflows (Some b) = IsFresh columns width overflows b
 
 -- what a contract sees of the fields
-abbrev pub renderer_of : {D W A : Type 0} → (ℕ → Option ℕ) → Inside D W A → Renderer D A (Vec A)
-renderer_of columns r = record {
+abbrev pub renderer_of : {D W A : Type 0} → Inside D W A → Renderer D A (Vec A)
+renderer_of r = record {
   width = r.width;
   options = r.options;
   decorator = r.decorator;
   lines = r.lines;
-  block = block_seen columns (unboxed r.wrapping);
+  block = block_seen (unboxed r.wrapping);
   waiting = names_of (map element_of r.waiting.items);
   block_ended = r.block_ended;
   annotations = r.annotations.items;

@@ -67,7 +67,7 @@ impl<D: TextDecorator, W: CharWidth> Model for SubRenderer<D, W> {
 
     ghost use Rattle.tbr_renderer.specs.View.{renderer_of, HoldsRenderer};
 
-    ghost view = { λ r. renderer_of W.columns r };
+    ghost view = { λ r. renderer_of r };
 
     ghost invariant = { λ r. HoldsRenderer W.columns r };
 }
@@ -186,7 +186,7 @@ impl<D: TextDecorator, W: CharWidth> SubRenderer<D, W> {
     /// Takes the open block.
     fn take_block(&mut self) -> Option<Box<WrappedBlock<Vec<D::Annotation>, W>>>
         requires { self.old.failure ≡ None }
-        ensures block { block_seen W.columns (unboxed result) ≡ self.old.block }
+        ensures block { block_seen (unboxed result) ≡ self.old.block }
         ensures opened { IsOpened W.columns (block_width self.old) (may_overflow self.old) (unboxed result) }
         ensures rest { self.new ≡ record self.old { block = None } }
     {
@@ -196,7 +196,7 @@ impl<D: TextDecorator, W: CharWidth> SubRenderer<D, W> {
     /// Opens a block again.
     fn put_block(&mut self, block: Box<WrappedBlock<Vec<D::Annotation>, W>>)
         requires { IsFresh W.columns (block_width self.old) (may_overflow self.old) block.value }
-        ensures { self.new ≡ record self.old { block = block_seen W.columns (Some block.value) } }
+        ensures { self.new ≡ record self.old { block = block_seen (Some block.value) } }
     {
         self.wrapping = Some(block);
     }

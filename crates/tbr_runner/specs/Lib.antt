@@ -3,5 +3,4 @@ pub mod Progress
 pub mod Decorations
 pub mod Closing
 pub mod Meaning
-pub mod Normal
 pub mod Overhang

@@ -11,7 +11,7 @@ use Rattle.text_block_renderer.specs.Flush.{FlushIsTooNarrow}
 use Rattle.text_block_renderer.specs.Decorated.{sub_renderer}
 use Rattle.text_block_renderer.specs.Appended.{HandsOut, HoldsBack, FirstToRefuse}
 use Rattle.text_block_renderer.specs.Calls.{begin, append_subrender, append_vert_row, Does, IsTooNarrow}
-use Rattle.text_block_renderer.specs.Rows.{TellsBlank, looks, GivenCell, align_in, GivesCell, AppendsRow}
+use Rattle.text_block_renderer.specs.Rows.{spots_of, GivenCell, align_in, GivesCell, AppendsRow}
 use Rattle.tbr_script.specs.declared.error.RunError.{RunError}
 use Rattle.tbr_script.specs.declared.error.RunError.TheVariants.{TooNarrow, NotACommand, NothingToEnd, RowDoesNotFit}
 use Rattle.tbr_script.specs.Script.{lines_of}
@@ -78,20 +78,10 @@ Ends columns decoration p number outcome =
 
 -- ---- whether a row fits
 
--- the same renderer, its open block blank or not
-abbrev pub with_blank : {D A T : Type 0} → Bool → Renderer D A T → Renderer D A T
-with_blank {D} {A} {T} blank r = record r { block = option_map (λ (b : Open T). record b { blank = blank }) r.block }
-
-module _ {D M : Type 0} (columns : ℕ → Option ℕ) where
-  -- How a cell may look: its columns, and whether nothing is in it, as far as that is told of an open block.
-  abbrev pub MayLook : Renderer D M (List M) × ℕ → ℕ × Bool → Type 0
-  MayLook col look =
-      (blank : Bool) × TellsBlank columns (with_blank blank col.0) × (look ≡ looks (with_blank blank col.0, col.1))
-
-  -- Whether the cells that wait may be found to fit as the next row of a renderer.
-  abbrev pub MayFit : List (Renderer D M (List M) × ℕ) → Bool → Renderer D M (List M) → Type 0
-  MayFit cells fits r =
-      (seen : List (ℕ × Bool)) × AllZip MayLook cells seen × (row_fits r.hanging (spots_from 0 seen) ≡ fits)
+-- whether the cells that wait fit as the next row of a renderer
+abbrev pub CellsFit : {D M : Type 0} →
+    (ℕ → Option ℕ) → List (Renderer D M (List M) × ℕ) → Bool → Renderer D M (List M) → Type 0
+CellsFit columns cells fits r = row_fits r.hanging (spots_of columns cells) ≡ fits
 
 -- ---- where a command leads
 
@@ -153,7 +143,7 @@ module _ {D M : Type 0} (columns : ℕ → Option ℕ) (decoration : Decoration 
 
   -- The waiting cells fit as a row and are added side by side, and none waits any more.
   pub record RowDoes (p : Progress D M (List M)) (collapse : Bool) (next : Progress D M (List M)) : Type 0 where
-    pub fits : OfTop (MayFit columns p.pending.cells true) p.stack
+    pub fits : OfTop (CellsFit columns p.pending.cells true) p.stack
     pub cells : List (GivenCell (List M))
     pub come : AllZip (GivesCell (λ r. r.width) (HandsOut columns)) p.pending.cells cells
     pub aligned : map align_in cells ≡ p.pending.aligns
@@ -207,8 +197,8 @@ module _ {D M : Type 0} (columns : ℕ → Option ℕ) where
   -- The waiting cells don't fit as a row, or they do and something is too narrow.
   abbrev pub RowRefuses : Progress D M (List M) → ℕ → RunError → Type 0
   RowRefuses p number e =
-      (OfTop (MayFit columns p.pending.cells false) p.stack × (e ≡ RowDoesNotFit number))
-      ⊎ (OfTop (MayFit columns p.pending.cells true) p.stack × CellsAreTooNarrow p × (e ≡ TooNarrow))
+      (OfTop (CellsFit columns p.pending.cells false) p.stack × (e ≡ RowDoesNotFit number))
+      ⊎ (OfTop (CellsFit columns p.pending.cells true) p.stack × CellsAreTooNarrow p × (e ≡ TooNarrow))
 
 module _ {D M : Type 0} (columns : ℕ → Option ℕ) (decoration : Decoration D M) where
   -- It ends nothing, or the renderer on top is too narrow.

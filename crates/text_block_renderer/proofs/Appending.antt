@@ -9,7 +9,7 @@ use Rattle.tbr_lines.specs.Cell.{Cell, horizontal, slash}
 use Rattle.tbr_renderer.specs.declared.options.RenderOptions.{RenderOptions}
 use Rattle.text_block_renderer.specs.Drawn.{row_borders}
 use Rattle.tbr_renderer.specs.Renderer.{Line, Open, Renderer, with_line}
-use Rattle.tbr_renderer.specs.Flush.{block_lines, FlushesBlock}
+use Rattle.tbr_renderer.specs.Flush.{block_lines, FlushesBlock, lines_at_end}
 use Rattle.tbr_renderer.specs.Appended.{with_border, border_of_cells, as_text, prefixed, AddsBorder, AppendsLines, with_divider, with_cell, with_cell_below, with_cells, AppendsCells}
 use Rattle.tbr_renderer.specs.Calls.{laid_entry, laid_entries}
 use Rattle.text_block_renderer.proofs.Moves.{flush, line, rule, Kind, MayLay, MayRule, Course, Path, onward, one, stays, flushed_none}
@@ -64,7 +64,7 @@ module _ {D A : Type 0} (columns : ℕ → Option ℕ) (kind : Kind) where
   joins_flushed : (r s : Renderer D A (List A)) (o : Option (Open (List A))) → o ≡ r.block → FlushesBlock columns r o s → Joins r s
   joins_flushed r s None e h = subst (λ (q : Renderer D A (List A)). Joins r q) (sym h) (record { block = sym e; width = refl; annotations = refl; options = refl })
   joins_flushed r s (Some b) e h =
-      let after = joins_lines (block_lines columns r b h.texts) r (record r { block = None }) (record { block = refl; width = refl; annotations = refl; options = refl }) in
+      let after = joins_lines (block_lines columns r b (lines_at_end columns r b)) r (record r { block = None }) (record { block = refl; width = refl; annotations = refl; options = refl }) in
       subst (λ (q : Renderer D A (List A)). Joins r q) (sym h.is) (record { block = after.block; width = after.width; annotations = after.annotations; options = after.options })
 
   lines_put : (ts : List (List (Item (List A)))) (q : Renderer D A (List A)) → ((is : List (Item (List A))) → MayLay kind is) → q.block ≡ None → Path columns kind q (fold (with_line columns) q ts) (laid_entries (joined ts))

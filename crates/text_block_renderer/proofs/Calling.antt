@@ -1,5 +1,7 @@
 -- Calls as the moves of which they consist.
 use Rattle.std.proofs.Common.{◌≡◌, ℕ, ◌-◌, inl, inr, suc, Bool, true, false, if◌then◌else◌, Option, Some, None, List, [], ◌∷◌, ◌++◌, flat_map, fold, refl, ap, sym, ◌∙◌, subst, append-nil}
+use Rattle.tbr_lines.proofs.BlockLaws.{entries_run}
+use Rattle.tbr_model.specs.Rule.{entry}
 use Rattle.tbr_model.specs.Run.{Entry, marker_entry, Item}
 use Rattle.tbr_lines.specs.Cell.{Cell}
 use Rattle.tbr_decor.specs.Decoration.{Decoration}
@@ -10,9 +12,9 @@ use Rattle.tbr_decor.specs.End as end
 use Rattle.tbr_decor.specs.End.{End}
 use Rattle.tbr_decor.specs.Ground.{Ground}
 use Rattle.tbr_renderer.specs.declared.options.RenderOptions.{RenderOptions}
-use Rattle.tbr_renderer.specs.Renderer.{Open, Renderer, has_content, with_line, without_last, without_annotation, entries_of, ignores}
-use Rattle.tbr_renderer.specs.Flush.{block_lines, FlushesBlock}
-use Rattle.tbr_renderer.specs.Steps.{AddsEmptyLine, with_empty_line, block_started, StartsBlock, BreaksLineAt, AddsText, AddsTextBy}
+use Rattle.tbr_renderer.specs.Renderer.{Open, Renderer, has_content, with_line, without_last, without_annotation, entries_of, ignores, with_events}
+use Rattle.tbr_renderer.specs.Flush.{block_lines, FlushesBlock, lines_at_end}
+use Rattle.tbr_renderer.specs.Steps.{AddsEmptyLine, with_empty_line, block_started, StartsBlock, BreaksLineAt, AddsText, AddsTextBy, text_brings, at_line_start}
 use Rattle.tbr_renderer.specs.Image.{shown_title}
 use Rattle.tbr_renderer.specs.Decorated.{struck_from, struck_until, asked_to_close, annotated, coloured, uncoloured, Opens, Closes, AddsImageBy}
 use Rattle.tbr_renderer.specs.Calls.{Call, add_empty_line, new_line, new_line_hard, start_block, start_table, end_block, add_inline_text, push_ws, pop_ws, push_preformat, pop_preformat, record_frag_start, begin, finish, start_strikeout, end_strikeout, add_image, push_colour, pop_colour, add_border, append_subrender, append_vert_row, Does, Steps, text_brought, image_brought, entries_brought, Brings}
@@ -88,7 +90,7 @@ module _ {D A : Type 0} (columns : ℕ → Option ℕ) (kind : Kind) where
 
     entries_flushed : (cs : List ℕ) (r s : Renderer D A (List A)) (o : Option (Open (List A))) → FlushesBlock columns r o s → entries_of columns preformatted s cs ≡ entries_of columns preformatted r cs
     entries_flushed cs r s None h = ap (λ (q : Renderer D A (List A)). entries_of columns preformatted q cs) h
-    entries_flushed cs r s (Some b) h = ap (λ (q : Renderer D A (List A)). entries_of columns preformatted q cs) h.is ∙ entries_kept cs (block_lines columns r b h.texts) (record r { block = None })
+    entries_flushed cs r s (Some b) h = ap (λ (q : Renderer D A (List A)). entries_of columns preformatted q cs) h.is ∙ entries_kept cs (block_lines columns r b (lines_at_end columns r b)) (record r { block = None })
 
     entries_started : (cs : List ℕ) (r s : Renderer D A (List A)) → StartsBlock columns r s → entries_of columns preformatted s cs ≡ entries_of columns preformatted r cs
     entries_started cs r s h = ap (λ (q : Renderer D A (List A)). entries_of columns preformatted q cs) h.2 ∙ go (has_content h.0) refl ∙ entries_flushed cs r h.0 r.block h.1
@@ -97,13 +99,16 @@ module _ {D A : Type 0} (columns : ℕ → Option ℕ) (kind : Kind) where
         go true e = rw e refl
         go false e = rw e refl
 
+    text_joined : (cs : List ℕ) (r s : Renderer D A (List A)) → s ≡ with_events r (text_brings columns preformatted cs r) → Path columns kind r s (entries_of columns preformatted r cs)
+    text_joined cs r s h = subst (λ (es : List (Entry (List A))). Path columns kind r s es) (entries_run (entries_of columns preformatted r cs)) (one columns kind (join (text_brings columns preformatted cs r)) r s h)
+
     text_added : (ignored ended : Bool) (cs : List ℕ) (r s : Renderer D A (List A)) → AddsTextBy columns preformatted ignored ended cs r s →
         Path columns kind r s (if ignored then [] else entries_of columns preformatted r cs)
     text_added true ended cs r s h = stays columns kind r s h
-    text_added false false cs r s h = one columns kind (join (entries_of columns preformatted r cs)) r s h.1
+    text_added false false cs r s h = text_joined cs r s h.1
     text_added false true cs r s h =
         subst (λ (es : List (Entry (List A))). Path columns kind r s es) (entries_started cs r h.0 h.1)
-        (onward columns kind r h.0 s [] (entries_of columns preformatted h.0 cs) (started r h.0 h.1) (one columns kind (join (entries_of columns preformatted h.0 cs)) h.0 s h.2.1))
+        (onward columns kind r h.0 s [] (entries_of columns preformatted h.0 cs) (started r h.0 h.1) (text_joined cs h.0 s h.2.1))
 
   -- ---- decorated text
 
@@ -153,7 +158,7 @@ module _ {D A : Type 0} (columns : ℕ → Option ℕ) (kind : Kind) where
     call_moves : (c : Call (List A)) (r s : Renderer D A (List A)) → Fits kind r (c ∷ []) → Does columns decoration c r s → Course columns kind r s (entries_brought columns decoration c r) (borders_added r.width r.options c)
     call_moves add_empty_line r s fits h = empty_added r s h
     call_moves new_line r s fits h = one columns kind flush r s h
-    call_moves new_line_hard r s fits h = broken r s h.0 h.2
+    call_moves new_line_hard r s fits h = broken r s (at_line_start columns r r.block) h
     call_moves start_block r s fits h = started r s h
     call_moves start_table r s fits h = started r s h
     call_moves end_block r s fits h = turned columns kind r (record r { block_ended = true }) s refl refl refl refl refl refl h
@@ -162,7 +167,7 @@ module _ {D A : Type 0} (columns : ℕ → Option ℕ) (kind : Kind) where
     call_moves pop_ws r s fits h = turned columns kind r (record r { modes = without_last r.modes }) s refl refl refl refl refl refl h
     call_moves push_preformat r s fits h = turned columns kind r (record r { preformatted = suc r.preformatted }) s refl refl refl refl refl refl h
     call_moves pop_preformat r s fits h = turned columns kind r (record r { preformatted = r.preformatted - 1 }) s refl refl refl refl refl refl h
-    call_moves (record_frag_start name) r s fits h = one columns kind (join (marker_entry name ∷ [])) r s h
+    call_moves (record_frag_start name) r s fits h = one columns kind (join (entry (marker_entry name) ∷ [])) r s h
     call_moves (begin opened) r s fits h = opens opened r s h
     call_moves (finish closed) r s fits h = closes closed r s h
     call_moves start_strikeout r s fits h =

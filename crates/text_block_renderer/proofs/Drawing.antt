@@ -9,7 +9,7 @@ use Rattle.tbr_decor.specs.Decoration.{Decoration}
 use Rattle.tbr_renderer.specs.declared.options.RenderOptions.{RenderOptions}
 use Rattle.tbr_renderer.specs.Renderer.{Line, text, border, Open, Renderer, line_padding, with_line}
 use Rattle.tbr_model.specs.Markers.{marker_items}
-use Rattle.tbr_renderer.specs.Flush.{block_lines, flushed, FlushesBlock}
+use Rattle.tbr_renderer.specs.Flush.{block_lines, flushed, FlushesBlock, lines_at_end, names_at_end}
 use Rattle.tbr_renderer.specs.Appended.{border_line, with_border}
 use Rattle.tbr_renderer.specs.Calls.{Call, Steps, Brings}
 use Rattle.text_block_renderer.specs.Drawn.{as_it_is, drawn, line_put, not_drawn, cells_drawn, AreDrawnAmong, WithoutDrawnBorders, CameWithoutDrawnBorders, borders_drawn, DrawNone}
@@ -136,10 +136,10 @@ module _ {D A : Type 0} (columns : ℕ → Option ℕ) where
   flush_less r s ls None e h =
       nothing r s ls [] [] (ap (λ (q : Renderer D A (List A)). q.lines) h ∙ sym (append-nil r.lines)) (none_among []) (ap (λ (q : Renderer D A (List A)). on q ls) h)
   flush_less r s ls (Some b) e h =
-      let alike = come_alike (block_lines columns r b h.texts) (record r { block = None }) ls in
-      let same : on s (ls ++ alike.more) ≡ flushed columns (on r ls) (block_lines columns r b h.texts) h.names =
-      ap (λ (q : Renderer D A (List A)). on q (ls ++ alike.more)) h.is ∙ sym (ap (λ (q : Renderer D A (List A)). record q { waiting = q.waiting ++ h.names }) alike.others) in
-      let flushes : FlushesBlock columns (on r ls) (Some b) (on s (ls ++ alike.more)) = record { texts = h.texts; names = h.names; fits = h.fits; ends = h.ends; is = same } in
+      let alike = come_alike (block_lines columns r b (lines_at_end columns r b)) (record r { block = None }) ls in
+      let same : on s (ls ++ alike.more) ≡ flushed columns (on r ls) (block_lines columns r b (lines_at_end columns r b)) (names_at_end columns r b) =
+      ap (λ (q : Renderer D A (List A)). on q (ls ++ alike.more)) h.is ∙ sym (ap (λ (q : Renderer D A (List A)). record q { waiting = q.waiting ++ (names_at_end columns r b) }) alike.others) in
+      let flushes : FlushesBlock columns (on r ls) (Some b) (on s (ls ++ alike.more)) = record { fits = h.fits; ends = h.ends; is = same } in
       as_they_are flush r s ls alike.more (ap (λ (q : Renderer D A (List A)). q.lines) h.is ∙ alike.lines)
       (subst (λ (p : Option (Open (List A))). FlushesBlock columns (on r ls) p (on s (ls ++ alike.more))) e flushes)
 

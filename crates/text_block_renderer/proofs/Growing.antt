@@ -2,7 +2,7 @@
 use Rattle.std.proofs.Common.{◌≡◌, ℕ, Option, Some, None, List, [], ◌∷◌, ◌++◌, fold, refl, ap, sym, ◌∙◌, append_assoc, append-nil}
 use Rattle.tbr_model.specs.Run.{Item}
 use Rattle.tbr_renderer.specs.Renderer.{Line, Open, Renderer, with_line}
-use Rattle.tbr_renderer.specs.Flush.{block_lines, FlushesBlock}
+use Rattle.tbr_renderer.specs.Flush.{block_lines, FlushesBlock, lines_at_end}
 use Rattle.tbr_decor.specs.Decoration.{Decoration}
 use Rattle.tbr_renderer.specs.Calls.{Call, Steps}
 use Rattle.text_block_renderer.proofs.Moves.{Move, flush, line, rule, join, turn, Makes, MakesAll, through, any}
@@ -29,7 +29,7 @@ module _ {D A : Type 0} (columns : ℕ → Option ℕ) where
   flush_grows : (r s : Renderer D A (List A)) (o : Option (Open (List A))) → FlushesBlock columns r o s → Grows r s
   flush_grows r s None h = stays r s (ap (λ (q : Renderer D A (List A)). q.lines) h)
   flush_grows r s (Some b) h =
-      let g = lines_grow (block_lines columns r b h.texts) (record r { block = None }) in
+      let g = lines_grow (block_lines columns r b (lines_at_end columns r b)) (record r { block = None }) in
       (g.0, ap (λ (q : Renderer D A (List A)). q.lines) h.is ∙ g.1)
 
   move_grows : (m : Move (List A)) (r s : Renderer D A (List A)) → Makes columns any m r s → Grows r s

@@ -1,6 +1,7 @@
 -- The headline.
 use Rattle.std.proofs.Common.{◌≡◌, ℕ, Option, ◌≤◌, List, ap, sym, ◌∙◌, subst}
 use Rattle.std.specs.List.{AllByRecursion as Each}
+use Rattle.tbr_model.specs.Rule.{run_of}
 use Rattle.tbr_model.specs.declared.white_space.WhiteSpace.TheVariants.{Normal, Pre}
 use Rattle.tbr_model.specs.Run.{Entry, character, marker_entry}
 use Rattle.tbr_model.specs.Hard.{HasMode}
@@ -26,13 +27,13 @@ module _ {D A : Type 0} (columns : ℕ → Option ℕ) where
     not_pre (marker_entry name) h = tt
 
     no_layout : (r : Renderer D A (List A)) (p : Piece D A columns) → IsPiece columns r p → NoLayoutIsAhead columns p
-    no_layout r (part (ended q b texts)) h = λ narrow normal. none_ahead columns (block_width q) b.run texts (h.ends.shown.best narrow normal)
+    no_layout r (part (ended q b texts)) h = λ narrow normal. none_ahead columns (block_width q) (run_of b.events) texts (h.ends.shown.best narrow normal)
     no_layout r (part (laid q is)) h = tt
     no_layout r (part (ruled q cells)) h = tt
     no_layout r (put p) h = tt
 
     once : (r : Renderer D A (List A)) (p : Piece D A columns) → IsPiece columns r p → StandsOnce columns p
-    once r (part (ended q b texts)) h = (h.ends.shown.visible, λ normal. h.ends.own (each_gives (HasMode Normal) IsNotPre not_pre b.run normal))
+    once r (part (ended q b texts)) h = (h.ends.shown.visible, λ normal. h.ends.own (each_gives (HasMode Normal) IsNotPre not_pre (run_of b.events) normal))
     once r (part (laid q is)) h = tt
     once r (part (ruled q cells)) h = tt
     once r (put p) h = tt

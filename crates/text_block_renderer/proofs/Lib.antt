@@ -4,7 +4,6 @@ pub mod Calling
 pub mod Drawing
 pub mod Growing
 pub mod Settings
-pub mod Once
 pub mod OneState
 pub mod Showing
 pub mod LookingAtLines

@@ -2,24 +2,25 @@
 use Rattle.std.proofs.Common.{◌≡◌, ℕ, false, Option, Some, None, List, [], ◌∷◌, ◌++◌, fold, refl, ap, sym, ◌∙◌, subst, append_assoc, append-nil}
 use Rattle.std.specs.Prelude.{⊤}
 use Rattle.std.specs.List.{AllByRecursion as Each}
+use Rattle.tbr_model.specs.Rule.{Event, run_of}
 use Rattle.tbr_model.specs.Run.{Entry, Item}
 use Rattle.tbr_lines.specs.Border.{without_holes}
 use Rattle.tbr_lines.specs.Cell.{Cell}
 use Rattle.tbr_rows.specs.declared.LineSet.{LineSet as Overhanging}
 use Rattle.tbr_renderer.specs.declared.options.RenderOptions.{RenderOptions}
-use Rattle.tbr_renderer.specs.Renderer.{Open, Renderer, with_line, with_entries}
-use Rattle.tbr_renderer.specs.Flush.{block_lines, Flushes, FlushesBlock}
+use Rattle.tbr_renderer.specs.Renderer.{Open, Renderer, with_line, with_events}
+use Rattle.tbr_renderer.specs.Flush.{block_lines, Flushes, FlushesBlock, lines_at_end}
 use Rattle.tbr_renderer.specs.Appended.{with_border}
 use Rattle.tbr_renderer.specs.Calls.{Call, laid_entries}
 use Rattle.text_block_renderer.specs.Drawn.{DrawNone}
 use Rattle.text_block_renderer.specs.Stretches.{AppendsNothing}
 
--- The end of the open run; where no block is open, a line of text or a border; entries that join the open run; or a change of what isn't text.
+-- The end of the open run; where no block is open, a line of text or a border; what comes to the open block; or a change of what isn't text.
 pub data Move (T : Type 0) : Type 0 where
   flush : Move T
   line : List (Item T) → Move T
   rule : List Cell → Move T
-  join : List (Entry T) → Move T
+  join : List (Event T) → Move T
   turn : Move T
 
 -- the same lines, open block and waiting markers, in a renderer that wraps alike
@@ -35,7 +36,7 @@ abbrev pub brought_by : {T : Type 0} → Move T → List (Entry T)
 brought_by flush = []
 brought_by (line is) = laid_entries is
 brought_by (rule cells) = []
-brought_by (join es) = es
+brought_by (join es) = run_of es
 brought_by turn = []
 
 abbrev pub brought : {T : Type 0} → List (Move T) → List (Entry T)
@@ -105,7 +106,7 @@ module _ {D A : Type 0} (columns : ℕ → Option ℕ) where
 
   closed : (r s : Renderer D A (List A)) (o : Option (Open (List A))) → o ≡ r.block → FlushesBlock columns r o s → s.block ≡ None
   closed r s None e h = ap (λ (q : Renderer D A (List A)). q.block) h ∙ sym e
-  closed r s (Some b) e h = ap (λ (q : Renderer D A (List A)). q.block) h.is ∙ no_block (block_lines columns r b h.texts) (record r { block = None }) refl
+  closed r s (Some b) e h = ap (λ (q : Renderer D A (List A)). q.block) h.is ∙ no_block (block_lines columns r b (lines_at_end columns r b)) (record r { block = None }) refl
 
   pub flushed_none : (r s : Renderer D A (List A)) → Flushes columns r s → s.block ≡ None
   flushed_none r s h = closed r s r.block refl h
@@ -116,14 +117,14 @@ module _ {D A : Type 0} (columns : ℕ → Option ℕ) where
 
   pub flush_frame : (r s : Renderer D A (List A)) (o : Option (Open (List A))) → FlushesBlock columns r o s → frame s ≡ frame r
   flush_frame r s None h = ap (λ (q : Renderer D A (List A)). frame q) h
-  flush_frame r s (Some b) h = ap (λ (q : Renderer D A (List A)). frame q) h.is ∙ frame_of_lines (block_lines columns r b h.texts) (record r { block = None })
+  flush_frame r s (Some b) h = ap (λ (q : Renderer D A (List A)). frame q) h.is ∙ frame_of_lines (block_lines columns r b (lines_at_end columns r b)) (record r { block = None })
 
 module _ {D A : Type 0} (columns : ℕ → Option ℕ) (kind : Kind) where
   abbrev pub Makes : Move (List A) → Renderer D A (List A) → Renderer D A (List A) → Type 0
   Makes flush r s = Flushes columns r s
   Makes (line is) r s = MayLay kind is × (r.block ≡ None) × (s ≡ with_line columns r is)
   Makes (rule cells) r s = MayRule kind r × (r.block ≡ None) × (s ≡ with_border columns r (without_holes cells r.annotations))
-  Makes (join es) r s = s ≡ with_entries r es
+  Makes (join es) r s = s ≡ with_events r es
   Makes turn r s = SameText r s
 
   abbrev pub MakesAll : List (Move (List A)) → Renderer D A (List A) → Renderer D A (List A) → Type 0

@@ -1,13 +1,14 @@
 -- All lines that come are parts: stretches of runs, laid texts, and borders.
 use Rattle.std.proofs.Common.{◌≡◌, ℕ, Option, Some, None, List, [], ◌∷◌, ◌++◌, flat_map, refl, ap, sym, ◌∙◌, subst, append_assoc, append-nil}
 use Rattle.std.proofs.lemmas.List.Concat.{flat_map-append}
+use Rattle.tbr_model.specs.Rule.{run_of, Event}
 use Rattle.tbr_model.specs.Run.{Entry, Item}
 use Rattle.tbr_model.proofs.lists.Each.{each_append}
 use Rattle.tbr_lines.specs.Border.{without_holes}
 use Rattle.tbr_lines.specs.Cell.{Cell}
 use Rattle.tbr_decor.specs.Decoration.{Decoration}
-use Rattle.tbr_renderer.specs.Renderer.{Open, Renderer, with_line, with_entries, open_run}
-use Rattle.tbr_renderer.specs.Flush.{block_lines, EndsBlock, FlushesBlock}
+use Rattle.tbr_renderer.specs.Renderer.{Open, Renderer, with_line, with_events, open_run}
+use Rattle.tbr_renderer.specs.Flush.{block_lines, EndsBlock, FlushesBlock, lines_at_end, names_at_end}
 use Rattle.tbr_renderer.specs.Appended.{with_border}
 use Rattle.tbr_renderer.specs.Calls.{Call, laid_entries, Brings}
 use Rattle.text_block_renderer.specs.Drawn.{borders_added}
@@ -17,7 +18,7 @@ use Rattle.std.specs.List.{AllByRecursion as Each}
 use Rattle.text_block_renderer.proofs.Moves as moves
 use Rattle.text_block_renderer.proofs.Moves.{Move, flush, line, rule, join, turn, brought_by, brought, ruled_by, Kind, any, undrawn, own, Fits, MayLay, MayRule, Makes, MakesAll, Frame, no_block, flush_frame}
 use Rattle.text_block_renderer.proofs.Calling.{calls_move}
-use Rattle.tbr_renderer.proofs.Writing.{open_run_is}
+use Rattle.tbr_renderer.proofs.Writing.{run_joined}
 use Rattle.text_block_renderer.proofs.Stretching.{flush_adds}
 
 flat_map_one : {X Y : Type 0} (f : X → List Y) (xs : List X) (x : X) → flat_map f (xs ++ x ∷ []) ≡ flat_map f xs ++ f x
@@ -90,16 +91,16 @@ module _ {D A : Type 0} (columns : ℕ → Option ℕ) (kind : Kind) where
 
   ended_part : (r q s : Renderer D A (List A)) (b : Open (List A)) (es : List (Entry (List A))) (bs : List (List Cell)) → q.block ≡ Some b → EndsBlock columns q b s → CameInParts r q es bs → CameInParts r s (es ++ []) (bs ++ [])
   ended_part r q s b es bs open_block_is h k =
-      let texts : List (List (Item (List A))) = block_lines columns q b h.texts in
+      let texts : List (List (Item (List A))) = block_lines columns q b (lines_at_end columns q b) in
       let closed : Renderer D A (List A) = record q { block = None } in
       let same = flush_frame columns q s (Some b) h in
-      one_part r q s es [] bs (ended q b h.texts)
+      one_part r q s es [] bs (ended q b (lines_at_end columns q b))
       (ap (λ (f : Frame A). f.width) same)
       (ap (λ (f : Frame A). f.options) same)
-      (record { width = k.width; options = k.options; block = open_block_is; names = h.names; ends = h.ends })
-      (ended_kind kind q b h.texts)
+      (record { width = k.width; options = k.options; block = open_block_is; names = names_at_end columns q b; ends = h.ends })
+      (ended_kind kind q b (lines_at_end columns q b))
       (flush_adds columns q s b h)
-      (append-nil (open_run q.block) ∙ ap open_run open_block_is ∙ sym (append-nil b.run) ∙ ap (λ o. b.run ++ open_run o) (sym (ap (λ (p : Renderer D A (List A)). p.block) h.is ∙ no_block columns texts closed refl)))
+      (append-nil (open_run q.block) ∙ ap open_run open_block_is ∙ sym (append-nil (run_of b.events)) ∙ ap (λ o. (run_of b.events) ++ open_run o) (sym (ap (λ (p : Renderer D A (List A)). p.block) h.is ∙ no_block columns texts closed refl)))
       k
 
   flush_parts : (r q s : Renderer D A (List A)) (o : Option (Open (List A))) (es : List (Entry (List A))) (bs : List (List Cell)) → q.block ≡ o → FlushesBlock columns q o s → CameInParts r q es bs → CameInParts r s (es ++ []) (bs ++ [])
@@ -121,10 +122,10 @@ module _ {D A : Type 0} (columns : ℕ → Option ℕ) (kind : Kind) where
       subst (λ (p : Renderer D A (List A)). CameInParts r p (es ++ []) (bs ++ cells ∷ [])) (sym h)
       (one_part r q (with_border columns q (without_holes cells q.annotations)) es [] bs (ruled q cells) refl refl (record { width = k.width; options = k.options; block = none }) (ruled_kind kind q cells may) refl (none_open q [] none) k)
 
-  join_parts : (r q s : Renderer D A (List A)) (es more : List (Entry (List A))) (bs : List (List Cell)) → s ≡ with_entries q more → CameInParts r q es bs → CameInParts r s (es ++ more) (bs ++ [])
+  join_parts : (r q s : Renderer D A (List A)) (es : List (Entry (List A))) (more : List (Event (List A))) (bs : List (List Cell)) → s ≡ with_events q more → CameInParts r q es bs → CameInParts r s (es ++ run_of more) (bs ++ [])
   join_parts r q s es more bs h k =
-      subst (λ (p : Renderer D A (List A)). CameInParts r p (es ++ more) (bs ++ [])) (sym h)
-      (no_part r q (with_entries q more) es more bs refl refl refl (ap (λ run. run ++ more) (open_run_is q)) k)
+      subst (λ (p : Renderer D A (List A)). CameInParts r p (es ++ run_of more) (bs ++ [])) (sym h)
+      (no_part r q (with_events q more) es (run_of more) bs refl refl refl (run_joined q more) k)
 
   move_parts : (r : Renderer D A (List A)) (m : Move (List A)) (q s : Renderer D A (List A)) (es : List (Entry (List A))) (bs : List (List Cell)) → Makes columns kind m q s → CameInParts r q es bs → CameInParts r s (es ++ brought_by m) (bs ++ ruled_by m)
   move_parts r flush q s es bs h k = flush_parts r q s q.block es bs refl h k

@@ -15,10 +15,9 @@ use Rattle.tbr_rows.proofs.OneRow.{longest_same, one_row}
 use Rattle.tbr_renderer.specs.Renderer.{Line, text, border, Open, Renderer, Settings, settings_of, without_last, with_line, least, overflows, open_run}
 use Rattle.tbr_renderer.specs.Calls.{text_of_lines}
 use Rattle.tbr_renderer.specs.Rows.{GivenCell, FillsCell, ComesAs, last_border, before_border, border_lines, style_in, with_next, with_row, PutsRow, AppendsRow}
-use Rattle.text_block_renderer.specs.Normal.{WrapsNormally}
 use Rattle.text_block_renderer.proofs.Growing.{Grows, lines_grow, moves_grow}
 use Rattle.text_block_renderer.proofs.Moves.{flush, no_block, flushed_none}
-use Rattle.text_block_renderer.proofs.Once.{flushes_once}
+use Rattle.text_block_renderer.proofs.OneState.{flush_once}
 use Rattle.tbr_renderer.proofs.Steady.{Steady, flushed_alike}
 
 -- ---- texts only come
@@ -127,14 +126,6 @@ module _ {D A : Type 0} (columns : ℕ → Option ℕ) where
       let top : Renderer D A (List A) = record m { lines = before_border m.lines ++ border_lines row.above; hanging = row.overhang } in
       ap (λ (q : Renderer D A (List A)). q.block) puts.is ∙ next_closed (fold (with_line columns) top row.lines) row.next (no_block columns row.lines top (flushed_none columns r m flushes))
 
-  pub rows_stay_normal : (collapses : Bool) (cells : List (GivenCell (List A))) (r s : Renderer D A (List A)) → WrapsNormally r → AppendsRow columns collapses cells r s → WrapsNormally s
-  rows_stay_normal collapses cells r s normal h =
-      let kept = settings_stay collapses cells r s h in record {
-        narrow = ap (λ (t : Settings D A). overflows t.options (least t.width t.options.wrap_width)) kept ∙ normal.narrow;
-        modes = subst (Each (λ mode. mode ≡ Normal)) (sym (ap (λ (t : Settings D A). t.modes) kept)) normal.modes;
-        run = subst (λ (o : Option (Open (List A))). IsNormal (open_run o)) (sym (row_closed collapses cells r s h)) tt;
-      }
-
 -- ---- one state
 
 one_line : {A : Type 0} (columns : ℕ → Option ℕ) (align : CellAlign) (width : ℕ) (a : A) (l : Line A) (x y : RenderLine A) → FillsCell columns align width a l x → FillsCell columns align width a l y → x ≡ y
@@ -180,7 +171,7 @@ module _ {D A : Type 0} (columns : ℕ → Option ℕ) (collapses : Bool) (cells
       let row : k.row ≡ h.row = one_row columns (style_in r collapses) r.annotations r.hanging h.own (last_border r.lines) k.row h.row means h.means in
       k.is ∙ ap (with_row columns r) row ∙ sym h.is
 
-  pub rows_once : (r s t : Renderer D A (List A)) → WrapsNormally r → AppendsRow columns collapses cells r s → AppendsRow columns collapses cells r t → t ≡ s
-  rows_once r s t normal h k =
-      let same : k.0 ≡ h.0 = flushes_once columns r h.0 k.0 normal.narrow normal.run h.1 k.1 in
+  pub rows_once : (r s t : Renderer D A (List A)) → AppendsRow columns collapses cells r s → AppendsRow columns collapses cells r t → t ≡ s
+  rows_once r s t h k =
+      let same : k.0 ≡ h.0 = flush_once columns r h.0 k.0 h.1 k.1 in
       puts_once h.0 s t h.2 (subst (λ (q : Renderer D A (List A)). PutsRow columns collapses cells q t) same k.2)

@@ -1,6 +1,7 @@
 -- Visible characters are there once.
 use Rattle.std.proofs.Common.{◌≡◌, ℕ, inl, zero, suc, ◌&&◌, Bool, true, false, if◌then◌else◌, Option, Some, None, is_some, List, [], ◌∷◌, ◌++◌, map, fold, refl, ap, sym, ◌∙◌, subst, append_assoc, append-nil}
 use Rattle.std.specs.List.{AllZip}
+use Rattle.tbr_model.specs.Rule.{run_of, Event}
 use Rattle.tbr_model.specs.Codes.{space_character}
 use Rattle.tbr_model.specs.declared.white_space.WhiteSpace.TheVariants.{Pre}
 use Rattle.tbr_model.specs.Run.{Entry, character, marker_entry, Item, glyph, marker}
@@ -13,8 +14,8 @@ use Rattle.tbr_lines.specs.Elements.{text_items}
 use Rattle.tbr_lines.specs.Padding.{spaces}
 use Rattle.tbr_lines.specs.Wrapped.{padding_of}
 use Rattle.tbr_lines.proofs.SameItems.{all_zip_append}
-use Rattle.tbr_renderer.specs.Renderer.{Line, Open, Renderer, new_renderer, with_line, open_run, with_entries, block_width}
-use Rattle.tbr_renderer.specs.Flush.{block_lines, FlushesBlock}
+use Rattle.tbr_renderer.specs.Renderer.{Line, Open, Renderer, new_renderer, with_line, open_run, with_events, block_width}
+use Rattle.tbr_renderer.specs.Flush.{block_lines, FlushesBlock, lines_at_end}
 use Rattle.tbr_renderer.specs.Appended.{border_line, with_border, HandsOut}
 use Rattle.tbr_renderer.specs.declared.options.RenderOptions.{RenderOptions}
 use Rattle.tbr_decor.specs.Decoration.{Decoration}
@@ -22,7 +23,7 @@ use Rattle.tbr_renderer.specs.Calls.{Call, laid_entries, Brings, text_of_lines, 
 use Rattle.text_block_renderer.specs.Drawn.{AreDrawnAmong, WithoutDrawnBorders, borders_drawn, DrawNone}
 use Rattle.text_block_renderer.proofs.Moves.{Move, flush, line, rule, join, turn, brought_by, Makes, no_block, flushed_none, undrawn}
 use Rattle.text_block_renderer.proofs.Drawing.{if_drawn, if_none_drawn, moves_on, brings_on, brings_on_all, border_stays}
-use Rattle.tbr_renderer.proofs.Writing.{open_run_is}
+use Rattle.tbr_renderer.proofs.Writing.{run_joined}
 use Rattle.text_block_renderer.proofs.LookingAtLines.{Looks, seen_line, seen_lines, no_text_behind}
 use Rattle.text_block_renderer.specs.MarkersStand.{items_so_far}
 
@@ -100,17 +101,17 @@ module _ {D A : Type 0} (columns : ℕ → Option ℕ) where
   shows_flush : (r s : Renderer D A (List A)) (o : Option (Open (List A))) (es : List (Entry (List A))) → o ≡ r.block → FlushesBlock columns r o s → Shows columns r es → Shows columns s es
   shows_flush r s None es e h k = subst (λ (q : Renderer D A (List A)). Shows columns q es) (sym h) k
   shows_flush r s (Some b) es e h k =
-      let after = fold (with_line columns) (record r { block = None }) (block_lines columns r b h.texts) in
-      let lines = shown_lines b (block_width r) h.texts (record r { block = None }) in
-      let both : AllZip (IsShown (λ x y. x ≡ y)) (visible_glyphs columns (text_of_lines after.lines)) (visible_entries columns (k.ended ++ b.run)) =
-      subst (λ (gs : List (ℕ × List A)). AllZip (IsShown (λ x y. x ≡ y)) gs (visible_entries columns (k.ended ++ b.run))) (sym lines)
-      (subst (λ (fs : List (Entry (List A))). AllZip (IsShown (λ x y. x ≡ y)) (visible_glyphs columns (text_of_lines r.lines) ++ visible_glyphs columns (joined h.texts)) fs) (sym (entries-append columns k.ended b.run))
-      (all_zip_append (IsShown (λ x y. x ≡ y)) (visible_glyphs columns (text_of_lines r.lines)) (visible_glyphs columns (joined h.texts)) (visible_entries columns k.ended) (visible_entries columns b.run) k.shown h.ends.shown.visible)) in
-      let nothing : open_run after.block ≡ [] = ap open_run (no_block columns (block_lines columns r b h.texts) (record r { block = None }) refl) in
-      let whole : visible_entries columns ((k.ended ++ b.run) ++ open_run after.block) ≡ visible_entries columns es =
-      ap (λ (run : List (Entry (List A))). visible_entries columns ((k.ended ++ b.run) ++ run)) nothing ∙ ap (visible_entries columns) (append-nil (k.ended ++ b.run))
+      let after = fold (with_line columns) (record r { block = None }) (block_lines columns r b (lines_at_end columns r b)) in
+      let lines = shown_lines b (block_width r) (lines_at_end columns r b) (record r { block = None }) in
+      let both : AllZip (IsShown (λ x y. x ≡ y)) (visible_glyphs columns (text_of_lines after.lines)) (visible_entries columns (k.ended ++ (run_of b.events))) =
+      subst (λ (gs : List (ℕ × List A)). AllZip (IsShown (λ x y. x ≡ y)) gs (visible_entries columns (k.ended ++ (run_of b.events)))) (sym lines)
+      (subst (λ (fs : List (Entry (List A))). AllZip (IsShown (λ x y. x ≡ y)) (visible_glyphs columns (text_of_lines r.lines) ++ visible_glyphs columns (joined (lines_at_end columns r b))) fs) (sym (entries-append columns k.ended (run_of b.events)))
+      (all_zip_append (IsShown (λ x y. x ≡ y)) (visible_glyphs columns (text_of_lines r.lines)) (visible_glyphs columns (joined (lines_at_end columns r b))) (visible_entries columns k.ended) (visible_entries columns (run_of b.events)) k.shown h.ends.shown.visible)) in
+      let nothing : open_run after.block ≡ [] = ap open_run (no_block columns (block_lines columns r b (lines_at_end columns r b)) (record r { block = None }) refl) in
+      let whole : visible_entries columns ((k.ended ++ (run_of b.events)) ++ open_run after.block) ≡ visible_entries columns es =
+      ap (λ (run : List (Entry (List A))). visible_entries columns ((k.ended ++ (run_of b.events)) ++ run)) nothing ∙ ap (visible_entries columns) (append-nil (k.ended ++ (run_of b.events)))
       ∙ ap (λ (p : Option (Open (List A))). visible_entries columns (k.ended ++ open_run p)) e ∙ k.whole in
-      subst (λ (q : Renderer D A (List A)). Shows columns q es) (sym h.is) (record { ended = k.ended ++ b.run; shown = both; whole = whole })
+      subst (λ (q : Renderer D A (List A)). Shows columns q es) (sym h.is) (record { ended = k.ended ++ (run_of b.events); shown = both; whole = whole })
 
   -- laid items, put as a line where no block is open
   pub shows_put : (r s : Renderer D A (List A)) (is : List (Item (List A))) (es : List (Entry (List A))) → r.block ≡ None → s ≡ with_line columns r is → Shows columns r es → Shows columns s (es ++ laid_entries is)
@@ -139,12 +140,12 @@ module _ {D A : Type 0} (columns : ℕ → Option ℕ) where
         whole = k.whole;
       })
 
-  shows_more : (r s : Renderer D A (List A)) (more es : List (Entry (List A))) → s ≡ with_entries r more → Shows columns r es → Shows columns s (es ++ more)
-  shows_more r s more es e k = subst (λ (q : Renderer D A (List A)). Shows columns q (es ++ more)) (sym e) (record {
+  shows_more : (r s : Renderer D A (List A)) (more : List (Event (List A))) (es : List (Entry (List A))) → s ≡ with_events r more → Shows columns r es → Shows columns s (es ++ run_of more)
+  shows_more r s more es e k = subst (λ (q : Renderer D A (List A)). Shows columns q (es ++ run_of more)) (sym e) (record {
     ended = k.ended;
     shown = k.shown;
-    whole = ap (λ (run : List (Entry (List A))). visible_entries columns (k.ended ++ (run ++ more))) (open_run_is r) ∙ ap (visible_entries columns) (sym (append_assoc k.ended (open_run r.block) more)) ∙ entries-append columns (k.ended ++ open_run r.block) more
-        ∙ ap (λ fs. fs ++ visible_entries columns more) k.whole ∙ sym (entries-append columns es more);
+    whole = ap (λ (run : List (Entry (List A))). visible_entries columns (k.ended ++ run)) (run_joined r more) ∙ ap (visible_entries columns) (sym (append_assoc k.ended (open_run r.block) (run_of more)))
+        ∙ entries-append columns (k.ended ++ open_run r.block) (run_of more) ∙ ap (λ fs. fs ++ visible_entries columns (run_of more)) k.whole ∙ sym (entries-append columns es (run_of more));
   })
 
   with_none : (s : Renderer D A (List A)) (es : List (Entry (List A))) → Shows columns s es → Shows columns s (es ++ [])

@@ -10,7 +10,7 @@ use Rattle.tbr_model.specs.Markers.{names_in_items, names_in_run, marker_items, 
 use Rattle.tbr_model.specs.Hard.{HasMode, is_visible}
 use Rattle.tbr_model.specs.declared.white_space.WhiteSpace.TheVariants.{Normal, Pre}
 use Rattle.tbr_model.specs.Shown.{without_spaces, is_visible_or_marker, is_entry_to_show, ShowsEntry}
-use Rattle.tbr_model.specs.Rule.{is_space_item}
+use Rattle.tbr_model.specs.Rule.{is_space_item, run_of, Event}
 use Rattle.tbr_model.proofs.lists.Each.{each_front, each_back}
 use Rattle.tbr_lines.specs.Border.{Border, without_holes}
 use Rattle.tbr_lines.specs.Cell.{Cell}
@@ -19,16 +19,16 @@ use Rattle.tbr_lines.specs.Padding.{spaces}
 use Rattle.tbr_lines.specs.State.{IsNormal, AreLastOf, EndsRun}
 use Rattle.tbr_lines.proofs.SameItems.{all_zip_append}
 use Rattle.tbr_decor.specs.Decoration.{Decoration}
-use Rattle.tbr_renderer.specs.Renderer.{Line, Open, Renderer, new_renderer, open_block, open_run, with_line, with_entries, block_width, may_overflow}
+use Rattle.tbr_renderer.specs.Renderer.{Line, Open, Renderer, new_renderer, open_block, open_run, with_line, with_events, block_width, may_overflow}
 use Rattle.tbr_renderer.specs.declared.options.RenderOptions.{RenderOptions}
-use Rattle.tbr_renderer.specs.Flush.{block_lines, flushed, FlushesBlock}
+use Rattle.tbr_renderer.specs.Flush.{block_lines, flushed, FlushesBlock, lines_at_end, names_at_end}
 use Rattle.tbr_renderer.specs.Appended.{with_border}
 use Rattle.tbr_renderer.specs.Calls.{Call, laid_entries, Brings, text_of_lines}
 use Rattle.text_block_renderer.specs.Drawn.{WithoutDrawnBorders, borders_drawn, DrawNone}
 use Rattle.text_block_renderer.specs.MarkersStand.{items_so_far, Stands}
 use Rattle.text_block_renderer.proofs.Moves.{Move, flush, line, rule, join, turn, SameText, brought_by, Makes, no_block, undrawn}
 use Rattle.text_block_renderer.proofs.Drawing.{brings_on, brings_on_all, border_stays}
-use Rattle.tbr_renderer.proofs.Writing.{open_run_is}
+use Rattle.tbr_renderer.proofs.Writing.{run_joined}
 use Rattle.text_block_renderer.proofs.LookingAtLines.{Looks, seen_line, seen_flushed, no_text_behind}
 use Rattle.text_block_renderer.proofs.Showing.{space_unseen}
 
@@ -253,15 +253,15 @@ module _ {D A : Type 0} (columns : ℕ → Option ℕ) where
   flush_stands : (r s : Renderer D A (List A)) (o : Option (Open (List A))) (es : List (Entry (List A))) → o ≡ r.block → FlushesBlock columns r o s → Stands columns r es → Stands columns s es
   flush_stands r s None es e h k = subst (λ (q : Renderer D A (List A)). Stands columns q es) (sym h) k
   flush_stands r s (Some b) es e h k =
-      let after : Renderer D A (List A) = flushed columns r (block_lines columns r b h.texts) h.names in
-      let more : List (Item (List A)) = joined h.texts ++ marker_items h.names in
-      let all : StandFor columns (items_so_far after) (k.ended ++ b.run) =
-      stand_behind columns (items_so_far r) more (items_so_far after) k.ended b.run (λ Y look looks. seen_flushed look looks columns r b h.texts h.names) (stand r es k)
-      (run_stands columns (block_width r) (may_overflow r) b.run h.texts h.names h.ends) in
-      let nothing : open_run after.block ≡ [] = ap open_run (no_block columns (block_lines columns r b h.texts) (record r { block = None }) refl) in
-      let whole : (k.ended ++ b.run) ++ open_run after.block ≡ es =
-      ap (λ (run : List (Entry (List A))). (k.ended ++ b.run) ++ run) nothing ∙ append-nil (k.ended ++ b.run) ∙ ap (λ (p : Option (Open (List A))). k.ended ++ open_run p) e ∙ k.whole in
-      subst (λ (q : Renderer D A (List A)). Stands columns q es) (sym h.is) (stands after es (k.ended ++ b.run) whole all)
+      let after : Renderer D A (List A) = flushed columns r (block_lines columns r b (lines_at_end columns r b)) (names_at_end columns r b) in
+      let more : List (Item (List A)) = joined (lines_at_end columns r b) ++ marker_items (names_at_end columns r b) in
+      let all : StandFor columns (items_so_far after) (k.ended ++ (run_of b.events)) =
+      stand_behind columns (items_so_far r) more (items_so_far after) k.ended (run_of b.events) (λ Y look looks. seen_flushed look looks columns r b (lines_at_end columns r b) (names_at_end columns r b)) (stand r es k)
+      (run_stands columns (block_width r) (may_overflow r) (run_of b.events) (lines_at_end columns r b) (names_at_end columns r b) h.ends) in
+      let nothing : open_run after.block ≡ [] = ap open_run (no_block columns (block_lines columns r b (lines_at_end columns r b)) (record r { block = None }) refl) in
+      let whole : (k.ended ++ (run_of b.events)) ++ open_run after.block ≡ es =
+      ap (λ (run : List (Entry (List A))). (k.ended ++ (run_of b.events)) ++ run) nothing ∙ append-nil (k.ended ++ (run_of b.events)) ∙ ap (λ (p : Option (Open (List A))). k.ended ++ open_run p) e ∙ k.whole in
+      subst (λ (q : Renderer D A (List A)). Stands columns q es) (sym h.is) (stands after es (k.ended ++ (run_of b.events)) whole all)
 
   put_stands : (r s : Renderer D A (List A)) (is : List (Item (List A))) (es : List (Entry (List A))) → r.block ≡ None → s ≡ with_line columns r is → Stands columns r es → Stands columns s (es ++ laid_entries is)
   put_stands r s is es none e k =
@@ -280,11 +280,11 @@ module _ {D A : Type 0} (columns : ℕ → Option ℕ) where
       ap (λ l. text_of_lines (r.lines ++ l ∷ []) ++ marker_items r.waiting) (border_stays columns r b unpadded) ∙ ap (λ is. is ++ marker_items r.waiting) (no_text_behind r.lines b) in
       subst (λ (q : Renderer D A (List A)). Stands columns q es) (sym e) (as_before r (with_border columns r b) es k.ended (same_seen r (with_border columns r b) same) k.whole (stand r es k))
 
-  join_stands : (r s : Renderer D A (List A)) (more es : List (Entry (List A))) → s ≡ with_entries r more → Stands columns r es → Stands columns s (es ++ more)
+  join_stands : (r s : Renderer D A (List A)) (more : List (Event (List A))) (es : List (Entry (List A))) → s ≡ with_events r more → Stands columns r es → Stands columns s (es ++ run_of more)
   join_stands r s more es e k =
-      let whole : k.ended ++ ((open_block r).run ++ more) ≡ es ++ more =
-      ap (λ (run : List (Entry (List A))). k.ended ++ (run ++ more)) (open_run_is r) ∙ sym (append_assoc k.ended (open_run r.block) more) ∙ ap (λ fs. fs ++ more) k.whole in
-      subst (λ (q : Renderer D A (List A)). Stands columns q (es ++ more)) (sym e) (stands (with_entries r more) (es ++ more) k.ended whole (stand r es k))
+      let whole : k.ended ++ run_of ((open_block r).events ++ more) ≡ es ++ run_of more =
+      ap (λ (run : List (Entry (List A))). k.ended ++ run) (run_joined r more) ∙ sym (append_assoc k.ended (open_run r.block) (run_of more)) ∙ ap (λ fs. fs ++ run_of more) k.whole in
+      subst (λ (q : Renderer D A (List A)). Stands columns q (es ++ run_of more)) (sym e) (stands (with_events r more) (es ++ run_of more) k.ended whole (stand r es k))
 
   turn_stands : (r s : Renderer D A (List A)) (es : List (Entry (List A))) → SameText r s → Stands columns r es → Stands columns s es
   turn_stands r s es h k =

@@ -4,9 +4,10 @@ use Rattle.std.specs.List.{AllByRecursion as Each}
 use Rattle.std.proofs.lemmas.Bool.{eqb-true}
 use Rattle.std.proofs.lemmas.List.{length-map, map-append, take-map, take-append-drop}
 use Rattle.std.proofs.lemmas.List.Elements.{filter-append}
+use Rattle.tbr_model.proofs.rule.HardLines.{run_of-append}
 use Rattle.tbr_model.specs.Run.{Entry, character, marker_entry, Item, glyph, is_kept, kept_items, items_width, Word, words_of, trailing}
 use Rattle.tbr_model.specs.Layout.{Slot, slot_of, word_slots, slots_of, gap_text, rest_text, line_text, joined, placed}
-use Rattle.tbr_model.specs.Rule.{is_space_item}
+use Rattle.tbr_model.specs.Rule.{is_space_item, run_of, Event}
 use Rattle.tbr_model.specs.Shown.{without_spaces}
 use Rattle.tbr_model.proofs.lists.Each.{each_front, each_back, each_append}
 use Rattle.tbr_model.proofs.lists.Joined.{joined-append}
@@ -16,8 +17,8 @@ use Rattle.tbr_lines.specs.State.{EndsRun}
 use Rattle.tbr_lines.specs.Wrapped.{padding_of, HasBestLines}
 use Rattle.tbr_decor.specs.Decoration.{Decoration}
 use Rattle.tbr_renderer.specs.declared.options.RenderOptions.{RenderOptions}
-use Rattle.tbr_renderer.specs.Renderer.{Line, Open, Renderer, new_block, least, overflows, with_line, with_entries, block_width, may_overflow}
-use Rattle.tbr_renderer.specs.Flush.{block_lines, with_run, EndsBlock, FlushesBlock, Flushes}
+use Rattle.tbr_renderer.specs.Renderer.{Line, Open, Renderer, new_block, least, overflows, with_line, with_events, with_more, block_width, may_overflow}
+use Rattle.tbr_renderer.specs.Flush.{block_lines, EndsBlock, FlushesBlock, Flushes, lines_at_end, names_at_end}
 use Rattle.tbr_renderer.specs.Calls.{Call, Steps, Brings}
 use Rattle.text_block_renderer.specs.Stretches.{line_of_text, stretch, items_on, NoneIsAhead, StandsAsStretch, StaysOpen, EndsAsStretch}
 use Rattle.text_block_renderer.proofs.Moves.{Move, flush, line, rule, join, turn, SameText, brought, MakesAll, any}
@@ -143,17 +144,17 @@ module _ {D A : Type 0} (columns : ℕ → Option ℕ) where
 
   -- ---- the end of a run
 
-  pub flush_adds : (r q : Renderer D A (List A)) (b : Open (List A)) → (h : EndsBlock columns r b q) → q.lines ≡ r.lines ++ stretch columns r b h.texts
+  pub flush_adds : (r q : Renderer D A (List A)) (b : Open (List A)) → (h : EndsBlock columns r b q) → q.lines ≡ r.lines ++ stretch columns r b (lines_at_end columns r b)
   flush_adds r q b h =
-      ap (λ (p : Renderer D A (List A)). p.lines) h.is ∙ lines_added b h.texts (record r { block = None })
-      ∙ ap (λ ls. r.lines ++ ls) (same_stretch r (record r { block = None }) b b h.texts refl refl refl refl refl)
+      ap (λ (p : Renderer D A (List A)). p.lines) h.is ∙ lines_added b (lines_at_end columns r b) (record r { block = None })
+      ∙ ap (λ ls. r.lines ++ ls) (same_stretch r (record r { block = None }) b b (lines_at_end columns r b) refl refl refl refl refl)
 
   as_stretch : (r q s : Renderer D A (List A)) (b : Open (List A)) → EndsBlock columns r b q → (more : List (Line (List A))) × (s.lines ≡ q.lines ++ more) → StandsAsStretch columns r b s.lines
   as_stretch r q s b h grows = record {
-    texts = h.texts;
-    names = h.names;
+    texts = (lines_at_end columns r b);
+    names = (names_at_end columns r b);
     ends = h.ends;
-    ahead = λ narrow normal. none_ahead columns (block_width r) b.run h.texts (h.ends.shown.best narrow normal);
+    ahead = λ narrow normal. none_ahead columns (block_width r) (run_of b.events) (lines_at_end columns r b) (h.ends.shown.best narrow normal);
     behind = grows.0;
     is = grows.1 ∙ ap (λ ls. ls ++ grows.0) (flush_adds r q b h);
   }
@@ -165,15 +166,15 @@ module _ {D A : Type 0} (columns : ℕ → Option ℕ) where
     texts = h.texts;
     names = h.names;
     ends = ends;
-    ahead = λ narrow normal. none_ahead columns (block_width r) b.run h.texts (ends.shown.best narrow normal);
+    ahead = λ narrow normal. none_ahead columns (block_width r) (run_of b.events) h.texts (ends.shown.best narrow normal);
     behind = h.behind;
     is = h.is ∙ ap (λ ls. ls ++ stretch columns q b h.texts ++ h.behind) same ∙ ap (λ ls. r.lines ++ ls ++ h.behind) (same_stretch r q b b h.texts width options annotations waiting refl);
   }
     where
-      ends : EndsRun columns (block_width r) (may_overflow r) b.run h.texts h.names
+      ends : EndsRun columns (block_width r) (may_overflow r) (run_of b.events) h.texts h.names
       ends =
-          subst (λ (w : ℕ). EndsRun columns (least w r.options.wrap_width) (overflows r.options (least w r.options.wrap_width)) b.run h.texts h.names) width
-          (subst (λ (o : RenderOptions). EndsRun columns (least q.width o.wrap_width) (overflows o (least q.width o.wrap_width)) b.run h.texts h.names) options h.ends)
+          subst (λ (w : ℕ). EndsRun columns (least w r.options.wrap_width) (overflows r.options (least w r.options.wrap_width)) (run_of b.events) h.texts h.names) width
+          (subst (λ (o : RenderOptions). EndsRun columns (least q.width o.wrap_width) (overflows o (least q.width o.wrap_width)) (run_of b.events) h.texts h.names) options h.ends)
 
   flush_stands : (r q s : Renderer D A (List A)) (b : Open (List A)) → r.block ≡ Some b → Flushes columns r q → (more : List (Line (List A))) × (s.lines ≡ q.lines ++ more) → StandsAsStretch columns r b s.lines
   flush_stands r q s b open_block_is h grows = as_stretch r q s b (subst (λ (o : Option (Open (List A))). FlushesBlock columns r o q) open_block_is h) grows
@@ -183,54 +184,60 @@ module _ {D A : Type 0} (columns : ℕ → Option ℕ) where
 
   -- ---- an open run
 
-  -- Entries joined the run, and nothing else of lines changed.
-  record Since (r : Renderer D A (List A)) (b : Open (List A)) (es : List (Entry (List A))) (q : Renderer D A (List A)) : Type 0 where
-    text : StaysOpen r b es q
+  -- More came to the block, and nothing else of lines changed.
+  record Since (r : Renderer D A (List A)) (b : Open (List A)) (es : List (Event (List A))) (q : Renderer D A (List A)) : Type 0 where
+    lines : q.lines ≡ r.lines
+    block : q.block ≡ Some (with_more b es)
+    waiting : q.waiting ≡ r.waiting
     width : q.width ≡ r.width
     options : q.options ≡ r.options
 
-  joined_more : (r q s : Renderer D A (List A)) (b : Open (List A)) (es more : List (Entry (List A))) → Since r b es q → s ≡ with_entries q more → Since r b (es ++ more) s
+  joined_more : (r q s : Renderer D A (List A)) (b : Open (List A)) (es more : List (Event (List A))) → Since r b es q → s ≡ with_events q more → Since r b (es ++ more) s
   joined_more r q s b es more since h = record {
-    text = record {
-      lines = ap (λ (p : Renderer D A (List A)). p.lines) h ∙ since.text.lines;
-      block = ap (λ (p : Renderer D A (List A)). p.block) h ∙ ap (λ (o : Option (Open (List A))). let c = unwrap_or o (new_block q) in Some (with_run c more)) since.text.block
-          ∙ ap (λ (run : List (Entry (List A))). Some (record b { run = run })) (append_assoc b.run es more);
-      waiting = ap (λ (p : Renderer D A (List A)). p.waiting) h ∙ since.text.waiting;
-    };
+    lines = ap (λ (p : Renderer D A (List A)). p.lines) h ∙ since.lines;
+    block = ap (λ (p : Renderer D A (List A)). p.block) h ∙ ap (λ (o : Option (Open (List A))). let c = unwrap_or o (new_block q) in Some (with_more c more)) since.block
+        ∙ ap (λ (events : List (Event (List A))). Some (record b { events = events })) (append_assoc b.events es more);
+    waiting = ap (λ (p : Renderer D A (List A)). p.waiting) h ∙ since.waiting;
     width = ap (λ (p : Renderer D A (List A)). p.width) h ∙ since.width;
     options = ap (λ (p : Renderer D A (List A)). p.options) h ∙ since.options;
   }
 
-  turned : (r q s : Renderer D A (List A)) (b : Open (List A)) (es : List (Entry (List A))) → Since r b es q → SameText q s → Since r b es s
+  turned : (r q s : Renderer D A (List A)) (b : Open (List A)) (es : List (Event (List A))) → Since r b es q → SameText q s → Since r b es s
   turned r q s b es since h = record {
-    text = record { lines = h.lines ∙ since.text.lines; block = h.block ∙ since.text.block; waiting = h.waiting ∙ since.text.waiting };
+    lines = h.lines ∙ since.lines;
+    block = h.block ∙ since.block;
+    waiting = h.waiting ∙ since.waiting;
     width = h.width ∙ since.width;
     options = h.options ∙ since.options;
   }
 
-  run_ends : (ms : List (Move (List A))) (r q s : Renderer D A (List A)) (b : Open (List A)) (es : List (Entry (List A))) → Since r b es q → MakesAll columns any ms q s → StaysOpen r b (es ++ brought ms) s ⊎ EndsAsStretch columns r b (es ++ brought ms) s
+  run_ends : (ms : List (Move (List A))) (r q s : Renderer D A (List A)) (b : Open (List A)) (es : List (Event (List A))) → Since r b es q → MakesAll columns any ms q s →
+      StaysOpen r b (run_of es ++ brought ms) s ⊎ EndsAsStretch columns r b (run_of es ++ brought ms) s
   run_ends [] r q s b es since h =
-      inl (subst (λ (p : Renderer D A (List A)). StaysOpen r b (es ++ []) p) (sym h) (subst (λ (fs : List (Entry (List A))). StaysOpen r b fs q) (sym (append-nil es)) since.text))
+      let open_still : StaysOpen r b (run_of es ++ []) q = record { lines = since.lines; events = es; are = sym (append-nil (run_of es)); block = since.block; waiting = since.waiting } in
+      inl (subst (λ (p : Renderer D A (List A)). StaysOpen r b (run_of es ++ []) p) (sym h) open_still)
   run_ends (flush ∷ ms) r q s b es since h = inr (record {
     more = es;
     later = brought ms;
     came = refl;
     annotations = q.annotations;
-    stands = as_before (record r { annotations = q.annotations }) q (with_run b es) s.lines since.text.lines since.width since.options refl since.text.waiting
-        (flush_stands q h.0 s (with_run b es) since.text.block h.1 (moves_grow columns ms h.0 s h.2));
+    stands = as_before (record r { annotations = q.annotations }) q (with_more b es) s.lines since.lines since.width since.options refl since.waiting
+        (flush_stands q h.0 s (with_more b es) since.block h.1 (moves_grow columns ms h.0 s h.2));
   })
-  run_ends (line is ∷ ms) r q s b es since h = absurd (let no : Some (with_run b es) ≡ None = sym since.text.block ∙ h.1.1 in cc)
-  run_ends (rule cells ∷ ms) r q s b es since h = absurd (let no : Some (with_run b es) ≡ None = sym since.text.block ∙ h.1.1 in cc)
+  run_ends (line is ∷ ms) r q s b es since h = absurd (let no : Some (with_more b es) ≡ None = sym since.block ∙ h.1.1 in cc)
+  run_ends (rule cells ∷ ms) r q s b es since h = absurd (let no : Some (with_more b es) ≡ None = sym since.block ∙ h.1.1 in cc)
   run_ends (join more ∷ ms) r q s b es since h =
-      subst (λ (fs : List (Entry (List A))). StaysOpen r b fs s ⊎ EndsAsStretch columns r b fs s) (append_assoc es more (brought ms))
-      (run_ends ms r h.0 s b (es ++ more) (joined_more r q h.0 b es more since h.1) h.2)
+      let came : run_of (es ++ more) ++ brought ms ≡ run_of es ++ (run_of more ++ brought ms) = ap (λ (run : List (Entry (List A))). run ++ brought ms) (run_of-append es more) ∙ append_assoc (run_of es) (run_of more) (brought ms) in
+      subst (λ (fs : List (Entry (List A))). StaysOpen r b fs s ⊎ EndsAsStretch columns r b fs s) came (run_ends ms r h.0 s b (es ++ more) (joined_more r q h.0 b es more since h.1) h.2)
   run_ends (turn ∷ ms) r q s b es since h = run_ends ms r h.0 s b es (turned r q h.0 b es since h.1) h.2
 
   pub brings_end : (decoration : Decoration D A) (calls : List (Call (List A))) (r s : Renderer D A (List A)) (b : Open (List A)) (es : List (Entry (List A))) → r.block ≡ Some b → Brings columns decoration calls r es s → StaysOpen r b es s ⊎ EndsAsStretch columns r b es s
   brings_end decoration calls r s b es open_block_is h =
       let path = calls_move columns any decoration calls r s es tt h in
       let none_yet : Since r b [] r = record {
-        text = record { lines = refl; block = open_block_is ∙ ap (λ (run : List (Entry (List A))). Some (record b { run = run })) (sym (append-nil b.run)); waiting = refl };
+        lines = refl;
+        block = open_block_is ∙ ap (λ (events : List (Event (List A))). Some (record b { events = events })) (sym (append-nil b.events));
+        waiting = refl;
         width = refl;
         options = refl;
       } in

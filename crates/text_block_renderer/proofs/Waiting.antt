@@ -1,5 +1,6 @@
 -- Markers that wait, where a run ends and until a line of text comes.
 use Rattle.std.proofs.Common.{◌≡◌, ℕ, ◌&&◌, ◌||◌, nat_lt, Bool, true, false, Option, Some, None, List, [], ◌∷◌, ◌++◌, map, fold, refl, ap, sym, ◌∙◌, subst, arith, append_assoc, append-nil}
+use Rattle.tbr_model.specs.Rule.{run_of}
 use Rattle.tbr_model.specs.Run.{Entry, Item, is_kept, items_of, kept_items, first_of, blank_of, has_character, is_break_entry, Reading, start, works, read, trailing}
 use Rattle.tbr_model.specs.Layout.{slots_of, line_text, joined, HasNoEmptyLine}
 use Rattle.tbr_model.specs.Markers.{names_in_items, names_in_run, marker_items, marker_run, marked_behind, names_behind}
@@ -11,7 +12,7 @@ use Rattle.tbr_lines.specs.State.{IsNormal}
 use Rattle.tbr_lines.specs.Wrapped.{HasBestLines}
 use Rattle.tbr_decor.specs.Decoration.{Decoration}
 use Rattle.tbr_renderer.specs.Renderer.{Line, text, border, Open, Renderer, with_line, block_width, may_overflow, open_run, line_padding}
-use Rattle.tbr_renderer.specs.Flush.{block_lines, flushed, FlushesBlock, Flushes, EndsBlock}
+use Rattle.tbr_renderer.specs.Flush.{block_lines, flushed, FlushesBlock, Flushes, EndsBlock, lines_at_end, names_at_end}
 use Rattle.tbr_renderer.specs.Appended.{with_border}
 use Rattle.tbr_renderer.specs.Calls.{Call, Steps}
 use Rattle.text_block_renderer.specs.Drawn.{CameWithoutDrawnBorders, borders_drawn, DrawNone}
@@ -76,50 +77,50 @@ module _ {D A : Type 0} (columns : ℕ → Option ℕ) where
   none_wait q (t ∷ ts) e = none_wait (with_line columns q t) ts refl
 
   -- a block without lines: its markers wait after the others
-  bare_flush : (r s : Renderer D A (List A)) (b : Open (List A)) → (h : EndsBlock columns r b s) → h.texts ≡ [] → s ≡ record r { block = None; waiting = r.waiting ++ h.names }
-  bare_flush r s b h none = h.is ∙ ap (λ (ts : List (List (Item (List A)))). flushed columns r (block_lines columns r b ts) h.names) none
+  bare_flush : (r s : Renderer D A (List A)) (b : Open (List A)) → (h : EndsBlock columns r b s) → (lines_at_end columns r b) ≡ [] → s ≡ record r { block = None; waiting = r.waiting ++ (names_at_end columns r b) }
+  bare_flush r s b h none = h.is ∙ ap (λ (ts : List (List (Item (List A)))). flushed columns r (block_lines columns r b ts) (names_at_end columns r b)) none
 
   -- and with lines its markers alone wait
-  full_flush : (r s : Renderer D A (List A)) (b : Open (List A)) (t : List (Item (List A))) (ts : List (List (Item (List A)))) → (h : EndsBlock columns r b s) → h.texts ≡ t ∷ ts → s.waiting ≡ h.names
+  full_flush : (r s : Renderer D A (List A)) (b : Open (List A)) (t : List (Item (List A))) (ts : List (List (Item (List A)))) → (h : EndsBlock columns r b s) → (lines_at_end columns r b) ≡ t ∷ ts → s.waiting ≡ (names_at_end columns r b)
   full_flush r s b t ts h some =
-      ap (λ (q : Renderer D A (List A)). q.waiting) h.is ∙ ap (λ (ls : List (List (Item (List A)))). (flushed columns r (block_lines columns r b ls) h.names).waiting) some
-      ∙ ap (λ ns. ns ++ h.names) (none_wait (with_line columns (record r { block = None }) _) (block_lines columns r b ts) refl)
+      ap (λ (q : Renderer D A (List A)). q.waiting) h.is ∙ ap (λ (ls : List (List (Item (List A)))). (flushed columns r (block_lines columns r b ls) (names_at_end columns r b)).waiting) some
+      ∙ ap (λ ns. ns ++ (names_at_end columns r b)) (none_wait (with_line columns (record r { block = None }) _) (block_lines columns r b ts) refl)
 
   -- what waited counts as the first of the run
-  stand_flushed : (r s : Renderer D A (List A)) (b : Open (List A)) → EndsBlock columns r b s → (is : List (Item (List A))) × StandFor columns (is ++ marker_items s.waiting) (marker_run r.waiting ++ b.run)
-  stand_flushed r s b h = go h.texts refl
+  stand_flushed : (r s : Renderer D A (List A)) (b : Open (List A)) → EndsBlock columns r b s → (is : List (Item (List A))) × StandFor columns (is ++ marker_items s.waiting) (marker_run r.waiting ++ (run_of b.events))
+  stand_flushed r s b h = go (lines_at_end columns r b) refl
     where
-      all : StandFor columns (marker_items r.waiting ++ (joined h.texts ++ marker_items h.names)) (marker_run r.waiting ++ b.run)
+      all : StandFor columns (marker_items r.waiting ++ (joined (lines_at_end columns r b) ++ marker_items (names_at_end columns r b))) (marker_run r.waiting ++ (run_of b.events))
       all =
-          stand_behind columns (marker_items r.waiting) (joined h.texts ++ marker_items h.names) (marker_items r.waiting ++ (joined h.texts ++ marker_items h.names)) (marker_run r.waiting) b.run
-          (λ Y look looks. looks.append (marker_items r.waiting) (joined h.texts ++ marker_items h.names)) (markers_stand columns r.waiting)
-          (run_stands columns (block_width r) (may_overflow r) b.run h.texts h.names h.ends)
+          stand_behind columns (marker_items r.waiting) (joined (lines_at_end columns r b) ++ marker_items (names_at_end columns r b)) (marker_items r.waiting ++ (joined (lines_at_end columns r b) ++ marker_items (names_at_end columns r b))) (marker_run r.waiting) (run_of b.events)
+          (λ Y look looks. looks.append (marker_items r.waiting) (joined (lines_at_end columns r b) ++ marker_items (names_at_end columns r b))) (markers_stand columns r.waiting)
+          (run_stands columns (block_width r) (may_overflow r) (run_of b.events) (lines_at_end columns r b) (names_at_end columns r b) h.ends)
 
-      go : (ts : List (List (Item (List A)))) → h.texts ≡ ts → (is : List (Item (List A))) × StandFor columns (is ++ marker_items s.waiting) (marker_run r.waiting ++ b.run)
+      go : (ts : List (List (Item (List A)))) → (lines_at_end columns r b) ≡ ts → (is : List (Item (List A))) × StandFor columns (is ++ marker_items s.waiting) (marker_run r.waiting ++ (run_of b.events))
       go [] e =
-          let same : marker_items r.waiting ++ (joined h.texts ++ marker_items h.names) ≡ marker_items s.waiting =
-          ap (λ (ls : List (List (Item (List A)))). marker_items r.waiting ++ (joined ls ++ marker_items h.names)) e ∙ sym (marker_items-append r.waiting h.names) ∙ ap (λ (q : Renderer D A (List A)). marker_items q.waiting) (sym (bare_flush r s b h e)) in
-          ([], subst (λ (is : List (Item (List A))). StandFor columns is (marker_run r.waiting ++ b.run)) same all)
+          let same : marker_items r.waiting ++ (joined (lines_at_end columns r b) ++ marker_items (names_at_end columns r b)) ≡ marker_items s.waiting =
+          ap (λ (ls : List (List (Item (List A)))). marker_items r.waiting ++ (joined ls ++ marker_items (names_at_end columns r b))) e ∙ sym (marker_items-append r.waiting (names_at_end columns r b)) ∙ ap (λ (q : Renderer D A (List A)). marker_items q.waiting) (sym (bare_flush r s b h e)) in
+          ([], subst (λ (is : List (Item (List A))). StandFor columns is (marker_run r.waiting ++ (run_of b.events))) same all)
       go (t ∷ ts) e =
-          let same : marker_items r.waiting ++ (joined h.texts ++ marker_items h.names) ≡ (marker_items r.waiting ++ joined h.texts) ++ marker_items s.waiting =
-          sym (append_assoc (marker_items r.waiting) (joined h.texts) (marker_items h.names)) ∙ ap (λ ns. (marker_items r.waiting ++ joined h.texts) ++ marker_items ns) (sym (full_flush r s b t ts h e)) in
-          (marker_items r.waiting ++ joined h.texts, subst (λ (is : List (Item (List A))). StandFor columns is (marker_run r.waiting ++ b.run)) same all)
+          let same : marker_items r.waiting ++ (joined (lines_at_end columns r b) ++ marker_items (names_at_end columns r b)) ≡ (marker_items r.waiting ++ joined (lines_at_end columns r b)) ++ marker_items s.waiting =
+          sym (append_assoc (marker_items r.waiting) (joined (lines_at_end columns r b)) (marker_items (names_at_end columns r b))) ∙ ap (λ ns. (marker_items r.waiting ++ joined (lines_at_end columns r b)) ++ marker_items ns) (sym (full_flush r s b t ts h e)) in
+          (marker_items r.waiting ++ joined (lines_at_end columns r b), subst (λ (is : List (Item (List A))). StandFor columns is (marker_run r.waiting ++ (run_of b.events))) same all)
 
-  trails : (r s : Renderer D A (List A)) (b : Open (List A)) → EndsBlock columns r b s → may_overflow r ≡ false → IsNormal b.run → has_character (kept_items columns b.run) ≡ true → marker_items s.waiting ≡ trailing columns b.run
-  trails r s b h narrow normal some = go h.texts refl
+  trails : (r s : Renderer D A (List A)) (b : Open (List A)) → EndsBlock columns r b s → may_overflow r ≡ false → IsNormal (run_of b.events) → has_character (kept_items columns (run_of b.events)) ≡ true → marker_items s.waiting ≡ trailing columns (run_of b.events)
+  trails r s b h narrow normal some = go (lines_at_end columns r b) refl
     where
-      go : (ts : List (List (Item (List A)))) → h.texts ≡ ts → marker_items s.waiting ≡ trailing columns b.run
+      go : (ts : List (List (Item (List A)))) → (lines_at_end columns r b) ≡ ts → marker_items s.waiting ≡ trailing columns (run_of b.events)
       go (t ∷ ts) e = ap marker_items (full_flush r s b t ts h e) ∙ h.ends.waits narrow normal
       go [] e =
-          let kept : marker_items h.names ≡ kept_items columns b.run = ap (λ (ls : List (List (Item (List A)))). without_spaces (joined ls) ++ marker_items h.names) (sym e) ∙ h.ends.kept normal in
-          let none : has_character (kept_items columns b.run) ≡ false = no_character h.names (kept_items columns b.run) (sym kept) in
+          let kept : marker_items (names_at_end columns r b) ≡ kept_items columns (run_of b.events) = ap (λ (ls : List (List (Item (List A)))). without_spaces (joined ls) ++ marker_items (names_at_end columns r b)) (sym e) ∙ h.ends.kept normal in
+          let none : has_character (kept_items columns (run_of b.events)) ≡ false = no_character (names_at_end columns r b) (kept_items columns (run_of b.events)) (sym kept) in
           absurd (let no : true ≡ false = sym some ∙ none in cc)
 
-  bare : (r s : Renderer D A (List A)) (b : Open (List A)) → EndsBlock columns r b s → may_overflow r ≡ false → IsNormal b.run → has_character (kept_items columns b.run) ≡ false → (s.lines ≡ r.lines) × (s.waiting ≡ r.waiting ++ names_in_run b.run)
+  bare : (r s : Renderer D A (List A)) (b : Open (List A)) → EndsBlock columns r b s → may_overflow r ≡ false → IsNormal (run_of b.events) → has_character (kept_items columns (run_of b.events)) ≡ false → (s.lines ≡ r.lines) × (s.waiting ≡ r.waiting ++ names_in_run (run_of b.events))
   bare r s b h narrow normal none =
-      let texts : h.texts ≡ [] = no_lines columns (block_width r) b.run h.texts (h.ends.shown.best narrow normal) none in
+      let texts : (lines_at_end columns r b) ≡ [] = no_lines columns (block_width r) (run_of b.events) (lines_at_end columns r b) (h.ends.shown.best narrow normal) none in
       let is = bare_flush r s b h texts in
-      let names : h.names ≡ names_in_run b.run = ap (λ (ls : List (List (Item (List A)))). names_in_items (joined ls) ++ h.names) (sym texts) ∙ h.ends.markers in
+      let names : (names_at_end columns r b) ≡ names_in_run (run_of b.events) = ap (λ (ls : List (List (Item (List A)))). names_in_items (joined ls) ++ (names_at_end columns r b)) (sym texts) ∙ h.ends.markers in
       (ap (λ (q : Renderer D A (List A)). q.lines) is, ap (λ (q : Renderer D A (List A)). q.waiting) is ∙ ap (λ ns. r.waiting ++ ns) names)
 
   flush_stands : (r s : Renderer D A (List A)) (o : Option (Open (List A))) → FlushesBlock columns r o s → FlushStands columns (open_run o) r s
@@ -138,11 +139,11 @@ module _ {D A : Type 0} (columns : ℕ → Option ℕ) where
       same test = ap (λ (q : Renderer D A (List A)). q.waiting) h ∙ sym (names_of_marker_run test first [] r.waiting refl) ∙ ap (names_behind test) (sym (append-nil first))
   flush_stands r s (Some b) h =
       let (is, all) = stand_flushed r s b h in record {
-        waits = waits_behind columns is s.waiting (marker_run r.waiting ++ b.run) all;
-        waits_kept = λ normal. waits_behind_kept columns is s.waiting (marker_run r.waiting ++ b.run) all (normal_behind r.waiting b.run normal);
+        waits = waits_behind columns is s.waiting (marker_run r.waiting ++ (run_of b.events)) all;
+        waits_kept = λ normal. waits_behind_kept columns is s.waiting (marker_run r.waiting ++ (run_of b.events)) all (normal_behind r.waiting (run_of b.events) normal);
         kept = λ normal.
-            ap (λ (q : Renderer D A (List A)). without_spaces (items_so_far q)) h.is ∙ seen_flushed without_spaces at_unspaced columns r b h.texts h.names
-            ∙ ap (λ js. without_spaces (items_so_far r) ++ js) ((run_stands columns (block_width r) (may_overflow r) b.run h.texts h.names h.ends).kept normal);
+            ap (λ (q : Renderer D A (List A)). without_spaces (items_so_far q)) h.is ∙ seen_flushed without_spaces at_unspaced columns r b (lines_at_end columns r b) (names_at_end columns r b)
+            ∙ ap (λ js. without_spaces (items_so_far r) ++ js) ((run_stands columns (block_width r) (may_overflow r) (run_of b.events) (lines_at_end columns r b) (names_at_end columns r b) h.ends).kept normal);
         trails = trails r s b h;
         bare = bare r s b h;
       }
@@ -220,11 +221,11 @@ module _ {D A : Type 0} (columns : ℕ → Option ℕ) where
   flush_waits r s None h = same_wait r s (ap (λ (q : Renderer D A (List A)). q.lines) h) (ap (λ (q : Renderer D A (List A)). q.waiting) h)
   flush_waits r s (Some b) h =
       let closed : Renderer D A (List A) = record r { block = None } in
-      let after : Renderer D A (List A) = fold (with_line columns) closed (block_lines columns r b h.texts) in
+      let after : Renderer D A (List A) = fold (with_line columns) closed (block_lines columns r b (lines_at_end columns r b)) in
       subst (λ (q : Renderer D A (List A)). WaitForText r q) (sym h.is)
-      (wait_on r after (record after { waiting = after.waiting ++ h.names })
-      (wait_on r closed after (same_wait r closed refl refl) (lines_came (block_lines columns r b h.texts) closed))
-      (no_line_came after (record after { waiting = after.waiting ++ h.names }) h.names refl refl))
+      (wait_on r after (record after { waiting = after.waiting ++ (names_at_end columns r b) })
+      (wait_on r closed after (same_wait r closed refl refl) (lines_came (block_lines columns r b (lines_at_end columns r b)) closed))
+      (no_line_came after (record after { waiting = after.waiting ++ (names_at_end columns r b) }) (names_at_end columns r b) refl refl))
 
   -- a border that stays one is no text
   rule_waits : (r s : Renderer D A (List A)) (b : Border (List A)) → r.options.pad_block_width ≡ false → s ≡ with_border columns r b → WaitForText r s

@@ -1,5 +1,6 @@
 -- Two columns are enough for characters that take two at most.
 use Rattle.std.proofs.Common.{unwrap_or, IfSome, ◌≡◌, ℕ, ◌≤◌, inl, inr, Bool, true, false, Option, Some, None, List, [], ◌∷◌, refl, ap, sym, subst, arith}
+use Rattle.tbr_model.specs.Rule.{run_of}
 use Rattle.tbr_model.specs.Run.{Entry, character, marker_entry}
 use Rattle.tbr_lines.specs.State.{CharactersFit}
 use Rattle.tbr_decor.specs.Start as start
@@ -27,7 +28,7 @@ characters_fit columns two width (marker_entry name ∷ es) wide = (tt, characte
 module _ {D A : Type 0} (columns : ℕ → Option ℕ) (two : TakeTwoAtMost columns) where
   block_fits : (r : Renderer D A (List A)) (o : Option (Open (List A))) → 2 ≤ block_width r → BlockIsTooNarrow columns r o → ⊥
   block_fits r None wide h = h
-  block_fits r (Some b) wide h = h.wide (characters_fit columns two (block_width r) b.run wide)
+  block_fits r (Some b) wide h = h.wide (characters_fit columns two (block_width r) (run_of b.events) wide)
 
   flush_fits : (r : Renderer D A (List A)) → 2 ≤ block_width r → FlushIsTooNarrow columns r → ⊥
   flush_fits r wide h = block_fits r r.block wide h

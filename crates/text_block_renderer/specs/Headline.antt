@@ -1,6 +1,7 @@
 -- What the repository promises first: of runs, of cells side by side, and of what wrapping never answers.
 use Rattle.std.specs.Prelude.{◌≡◌, ℕ, ◌≤◌, false, ⊤, Option, IfSome, List, [], ◌∷◌, ◌++◌, length, map}
 use Rattle.std.specs.List.{AllByRecursion as Each}
+use Rattle.tbr_model.specs.Rule.{run_of}
 use Rattle.tbr_model.specs.Run.{Entry, items_width}
 use Rattle.tbr_model.specs.Hard.{ShowsVisible}
 use Rattle.tbr_model.specs.Shown.{ShowsOwn}
@@ -19,15 +20,15 @@ module _ {D A : Type 0} (columns : ℕ → Option ℕ) where
   -- layout of it has placed more.
   abbrev pub NoLayoutIsAhead : Piece D A columns → Type 0
   NoLayoutIsAhead (part (ended r b texts)) =
-      may_overflow r ≡ false → IsNormal b.run → NoneIsAhead columns (block_width r) b.run texts
+      may_overflow r ≡ false → IsNormal (run_of b.events) → NoneIsAhead columns (block_width r) (run_of b.events) texts
   NoLayoutIsAhead other = ⊤
 
   -- Of any run that ended: its visible characters are in its lines once, in order, each under an annotation of its
   -- call; in a `Normal` run under the main one.
   abbrev pub StandsOnce : Piece D A columns → Type 0
   StandsOnce (part (ended r b texts)) =
-      ShowsVisible columns (λ x y. x ≡ y) b.run texts
-      × (IsNormal b.run → ShowsOwn columns (λ x y. x ≡ y) b.run texts)
+      ShowsVisible columns (λ x y. x ≡ y) (run_of b.events) texts
+      × (IsNormal (run_of b.events) → ShowsOwn columns (λ x y. x ≡ y) (run_of b.events) texts)
   StandsOnce other = ⊤
 
 -- ---- cells side by side

@@ -23,6 +23,5 @@ pub mod Nested
 pub mod VerticalRows
 pub mod Taken
 pub mod Settings
-pub mod Normal
 pub mod Acts
 pub mod Headline

@@ -1,14 +1,14 @@
 -- The lines of a run, which stay together for good.
 use Rattle.std.specs.Prelude.{◌≡◌, ℕ, ◌≤◌, false, ⊤, Option, Some, None, List, [], ◌∷◌, ◌++◌, map, flat_map, length, take}
 use Rattle.std.specs.List.{AllByRecursion as Each}
+use Rattle.tbr_model.specs.Rule.{run_of, Event}
 use Rattle.tbr_model.specs.Run.{Entry, Item}
 use Rattle.tbr_model.specs.Layout.{Slot, slots_of, joined, IsLegal, placed}
 use Rattle.tbr_model.specs.Markers.{marker_items}
 use Rattle.tbr_model.specs.Shown.{without_spaces}
 use Rattle.tbr_lines.specs.State.{IsNormal, EndsRun}
 use Rattle.tbr_lines.specs.Wrapped.{padding_of}
-use Rattle.tbr_renderer.specs.Renderer.{Line, text, Open, Renderer, line_padding, block_width, may_overflow, open_run}
-use Rattle.tbr_renderer.specs.Flush.{with_run}
+use Rattle.tbr_renderer.specs.Renderer.{Line, text, Open, Renderer, line_padding, block_width, may_overflow, open_run, with_more}
 use Rattle.tbr_renderer.specs.Appended.{border_line}
 use Rattle.tbr_renderer.specs.Calls.{Call, add_border, append_subrender, append_vert_row, laid_entries}
 use Rattle.tbr_lines.specs.Border.{without_holes}
@@ -44,8 +44,8 @@ pub record StandsAsStretch {D A : Type 0} (columns : ℕ → Option ℕ) (r : Re
   pub texts : List (List (Item (List A)))
   pub names : List (List ℕ)
   -- what a block promises of a run's texts: in `Normal`, where it may not overflow, those of a legal layout
-  pub ends : EndsRun columns (block_width r) (may_overflow r) b.run texts names
-  pub ahead : may_overflow r ≡ false → IsNormal b.run → NoneIsAhead columns (block_width r) b.run texts
+  pub ends : EndsRun columns (block_width r) (may_overflow r) (run_of b.events) texts names
+  pub ahead : may_overflow r ≡ false → IsNormal (run_of b.events) → NoneIsAhead columns (block_width r) (run_of b.events) texts
   pub behind : List (Line (List A))
   pub is : lines ≡ r.lines ++ stretch columns r b texts ++ behind
 
@@ -53,17 +53,19 @@ pub record StandsAsStretch {D A : Type 0} (columns : ℕ → Option ℕ) (r : Re
 pub record StaysOpen {D A : Type 0} (r : Renderer D A (List A)) (b : Open (List A)) (es : List (Entry (List A)))
     (s : Renderer D A (List A)) : Type 0 where
   pub lines : s.lines ≡ r.lines
-  pub block : s.block ≡ Some (with_run b es)
+  pub events : List (Event (List A))
+  pub are : run_of events ≡ es
+  pub block : s.block ≡ Some (with_more b events)
   pub waiting : s.waiting ≡ r.waiting
 
 -- Of the entries the first joined the run, which then ended, under the annotations of that moment.
 pub record EndsAsStretch {D A : Type 0} (columns : ℕ → Option ℕ) (r : Renderer D A (List A)) (b : Open (List A))
     (es : List (Entry (List A))) (s : Renderer D A (List A)) : Type 0 where
-  pub more : List (Entry (List A))
+  pub more : List (Event (List A))
   pub later : List (Entry (List A))
-  pub came : es ≡ more ++ later
+  pub came : es ≡ run_of more ++ later
   pub annotations : List A
-  pub stands : StandsAsStretch columns (record r { annotations = annotations }) (with_run b more) s.lines
+  pub stands : StandsAsStretch columns (record r { annotations = annotations }) (with_more b more) s.lines
 
 -- items as a line, padded to the renderer's width
 abbrev pub padded_line : {D A : Type 0} →
@@ -86,7 +88,7 @@ pub data Part (D A : Type 0) : Type 0 where
 
 -- the entries that are there
 abbrev pub entries_of_part : {D A : Type 0} → Part D A → List (Entry (List A))
-entries_of_part (ended r b texts) = b.run
+entries_of_part (ended r b texts) = (run_of b.events)
 entries_of_part (laid r is) = laid_entries is
 entries_of_part (ruled r cells) = []
 
@@ -108,7 +110,7 @@ pub record HasEnded {D A : Type 0} (columns : ℕ → Option ℕ) (first r : Ren
   pub options : r.options ≡ first.options
   pub block : r.block ≡ Some b
   pub names : List (List ℕ)
-  pub ends : EndsRun columns (block_width r) (may_overflow r) b.run texts names
+  pub ends : EndsRun columns (block_width r) (may_overflow r) (run_of b.events) texts names
 
 -- No block is open. The renderer's width and options are still those of another one.
 pub record IsBetweenBlocks {D A : Type 0} (first r : Renderer D A (List A)) : Type 0 where

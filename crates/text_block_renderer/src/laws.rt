@@ -7,12 +7,10 @@ pub mod rows;
 ghost use Rattle.std.specs.Prelude.{◌≡◌, ℕ, false, ◌⊎◌, Option, Some, List, [], ◌++◌, flat_map};
 ghost use Rattle.std.specs.List.{AllByRecursion as Each};
 ghost use Rattle.tbr_lines.specs.Cell.{Cell};
-ghost use Rattle.tbr_lines.specs.State.{IsNormal};
-ghost use Rattle.tbr_renderer.specs.Renderer.{Line, Open, Renderer, new_renderer, settings_of, may_overflow, open_run};
+ghost use Rattle.tbr_renderer.specs.Renderer.{Line, Open, Renderer, new_renderer, settings_of, open_run};
 ghost use Rattle.tbr_renderer.specs.declared.options.RenderOptions.{RenderOptions};
 ghost use Rattle.tbr_renderer.specs.Flush.{Flushes};
 ghost use Rattle.tbr_renderer.specs.Calls.{Call, Does, IsTooNarrow, Steps, Brings, Shows};
-ghost use Rattle.text_block_renderer.specs.Normal.{WrapsNormally, PushesNormal};
 ghost use Rattle.text_block_renderer.specs.Settings.{settled};
 ghost use Rattle.text_block_renderer.specs.Drawn.{WithoutDrawnBorders, CameWithoutDrawnBorders, borders_added, borders_drawn, DrawNone};
 ghost use Rattle.text_block_renderer.specs.MarkersStand.{Stands, FlushStands, WaitForText};
@@ -34,33 +32,24 @@ pub fn a_call_changes_its_own_settings_alone<D, A>()
         Does columns decoration call r s → settings_of s ≡ settings_of (settled decoration call r) }
 {}
 
-/// The end of a `Normal` run leaves one state only, where no line may be wider than the block.
-pub fn a_normal_flush_leaves_one_state<D, A>()
+/// The end of a run leaves one state only, in every mode.
+pub fn a_flush_leaves_one_state<D, A>()
     ensures { (columns : ℕ → Option ℕ) (r s t : Renderer D A (List A)) →
-        may_overflow r ≡ false → IsNormal (open_run r.block) →
         Flushes columns r s → Flushes columns r t → t ≡ s }
 {}
 
-/// A call leaves one state only, where all text is `Normal` and no line may be wider than its block.
-pub fn a_normal_call_leaves_one_state<D, A>()
+/// A call leaves one state only, in every mode.
+pub fn a_call_leaves_one_state<D, A>()
     ensures { (columns : ℕ → Option ℕ) (decoration : Decoration D A) (call : Call (List A))
         (r s t : Renderer D A (List A)) →
-        WrapsNormally r → Does columns decoration call r s → Does columns decoration call r t → t ≡ s }
+        Does columns decoration call r s → Does columns decoration call r t → t ≡ s }
 {}
 
-/// Where all text is `Normal` and no line may be wider than its block, a call that may answer `TooNarrow` leaves
-/// nothing.
-pub fn a_normal_call_is_too_narrow_or_not<D, A>()
+/// A call that is too narrow leaves nothing, in every mode.
+pub fn a_call_is_too_narrow_or_not<D, A>()
     ensures { (columns : ℕ → Option ℕ) (decoration : Decoration D A) (call : Call (List A))
         (r s : Renderer D A (List A)) →
-        WrapsNormally r → Does columns decoration call r s → IsTooNarrow columns decoration call r → ⊥ }
-{}
-
-/// Calls that push no mode but `Normal` keep all text `Normal`.
-pub fn normal_calls_keep_text_normal<D, A>()
-    ensures { (columns : ℕ → Option ℕ) (decoration : Decoration D A) (call : Call (List A))
-        (r s : Renderer D A (List A)) →
-        WrapsNormally r → PushesNormal call → Does columns decoration call r s → WrapsNormally s }
+        Does columns decoration call r s → IsTooNarrow columns decoration call r → ⊥ }
 {}
 
 /// After any calls the visible characters of what they brought are in the lines of text, but for those of the open run.

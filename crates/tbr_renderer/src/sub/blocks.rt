@@ -7,8 +7,7 @@ ghost use Rattle.tbr_lines.specs.declared.Error.TheVariants as E;
 ghost use Rattle.tbr_renderer.specs.Renderer.{KeepsSettings, with_line, block_width};
 ghost use Rattle.tbr_renderer.specs.Meant.{meant};
 ghost use Rattle.tbr_renderer.specs.Flush.{line_meant, AddsAsIs, Flushes, FlushIsTooNarrow};
-ghost use Rattle.tbr_renderer.specs.Rows.{block_is_blank};
-ghost use Rattle.tbr_renderer.specs.Steps.{with_empty_line, AddsEmptyLine, block_started, StartsBlock, BlockIsAtLineStart, BreaksLine};
+ghost use Rattle.tbr_renderer.specs.Steps.{with_empty_line, AddsEmptyLine, block_started, StartsBlock, at_line_start, BreaksLine};
 
 use crate::sub::SubRenderer;
 use tbr_decor::TextDecorator;
@@ -76,8 +75,6 @@ impl<D: TextDecorator, W: CharWidth> SubRenderer<D, W> {
         requires { self.old.failure ≡ None }
         ensures ok { OnOk result (Flushes W.columns (meant D.meaning self.old) (meant D.meaning self.new)) }
         ensures unfailed { OnOk result (self.new.failure ≡ None) }
-        ensures blank { block_is_blank self.old.block ≡ true →
-            OnOk result ((meant D.meaning self.new).lines ≡ (meant D.meaning self.old).lines) }
         ensures too_narrow { result ≡ Err E.TooNarrow → FlushIsTooNarrow W.columns (meant D.meaning self.old) }
         ensures two_columns { 2 ≤ block_width self.old → result ≢ Err E.TooNarrow }
         ensures settings { KeepsSettings (meant D.meaning self.old) (meant D.meaning self.new) }
@@ -150,7 +147,7 @@ impl<D: TextDecorator, W: CharWidth> SubRenderer<D, W> {
     /// Whether no block is open, or its open line and word take no columns.
     fn is_at_line_start(&self) -> bool
         requires { self.now.failure ≡ None }
-        ensures { BlockIsAtLineStart W.columns (meant D.meaning self.now) result (meant D.meaning self.now).block }
+        ensures { let r = meant D.meaning self.now in result ≡ at_line_start W.columns r r.block }
     {
         match &self.wrapping {
             Some(block) => block.at_line_start(),

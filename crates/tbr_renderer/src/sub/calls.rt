@@ -3,7 +3,7 @@ ghost use Rattle.std.specs.Prelude.{◌≡◌, ◌≢◌, ◌<◌, ◌++◌, ◌
 ghost use Rattle.tbr_lines.specs.declared.Error.TheVariants as E;
 ghost use Rattle.tbr_renderer.specs.Renderer.{Line, KeepsSettings, block_width, without_last};
 ghost use Rattle.tbr_renderer.specs.Meant.{meant, tag_meant};
-ghost use Rattle.tbr_renderer.specs.Steps.{BlockIsEmpty, TellsEmpty};
+ghost use Rattle.tbr_renderer.specs.Steps.{block_is_empty, is_empty};
 ghost use Rattle.tbr_renderer.specs.Calls.{Does, IsTooNarrow, StopsAtStage, KeepsFailure};
 ghost use Rattle.tbr_renderer.specs.Calls as call;
 ghost use Rattle.tbr_renderer.specs.Appended.{HandsOut, HoldsBack, FirstToRefuse, AppendsCells};
@@ -51,7 +51,7 @@ impl<D: TextDecorator, W: CharWidth> SubRenderer<D, W> {
     /// Whether no block is open, or the open one is empty.
     fn has_empty_block(&self) -> bool
         requires { self.now.failure ≡ None }
-        ensures { BlockIsEmpty W.columns (meant D.meaning self.now) result (meant D.meaning self.now).block }
+        ensures { let r = meant D.meaning self.now in result ≡ block_is_empty W.columns r r.block }
     {
         match &self.wrapping {
             Some(block) => block.is_empty(),
@@ -85,7 +85,7 @@ impl<D: TextDecorator, W: CharWidth> SubRenderer<D, W> {
 impl<D: TextDecorator, W: CharWidth> Renderer for SubRenderer<D, W> {
     ghost use Rattle.tbr_renderer.specs.Renderer.{block_width};
     ghost use Rattle.tbr_renderer.specs.Meant.{meant};
-    ghost use Rattle.tbr_renderer.specs.Steps.{TellsEmpty};
+    ghost use Rattle.tbr_renderer.specs.Steps.{is_empty};
     ghost use Rattle.tbr_renderer.specs.Appended.{HandsOut, HoldsBack};
     ghost use Rattle.std.specs.Prelude.{Some};
     ghost use Rattle.tbr_decor.specs.Decoration.{decoration_of};
@@ -101,7 +101,7 @@ impl<D: TextDecorator, W: CharWidth> Renderer for SubRenderer<D, W> {
 
     ghost holds_back = { λ r. HoldsBack W.columns (meant D.meaning r) };
 
-    ghost has_places_for = { λ r cols. row_fits r.hanging (spots_of cols) ≡ true };
+    ghost has_places_for = { λ r cols. row_fits r.hanging (spots_of W.columns cols) ≡ true };
 
     ghost appends_row = { λ collapse cells old new.
         AppendsRow W.columns collapse cells (meant D.meaning old) (meant D.meaning new) };
@@ -135,7 +135,7 @@ impl<D: TextDecorator, W: CharWidth> Renderer for SubRenderer<D, W> {
     ghost is_sub_renderer = { λ r width sub.
         meant D.meaning sub ≡ sub_renderer (decoration_of D.TextDecorator) width (meant D.meaning r) };
 
-    ghost tells_empty = { λ r empty. TellsEmpty W.columns (meant D.meaning r) empty };
+    ghost tells_empty = { λ r empty. empty ≡ is_empty W.columns (meant D.meaning r) };
 
     fn add_empty_line(&mut self) -> Result<(), Error> {
         self.refusal()?;
@@ -313,7 +313,7 @@ impl<D: TextDecorator, W: CharWidth> Renderer for SubRenderer<D, W> {
     ) -> Result<(), Error>
         requires spans { Each (λ col. 0 < col.1) cols.items }
         requires aligns { length aligns.now ≡ length cols.items }
-        requires fits { row_fits self.old.hanging (spots_of cols.items) ≡ true }
+        requires fits { row_fits self.old.hanging (spots_of W.columns cols.items) ≡ true }
         ensures ok { OnOk result ((cells : List (GivenCell (List D.Meaning)))
             × AllZip (GivesCell (λ col. col.width) (λ col lines. HandsOut W.columns (meant D.meaning col) lines))
             cols.items cells
@@ -341,7 +341,7 @@ impl<D: TextDecorator, W: CharWidth> Renderer for SubRenderer<D, W> {
         collapse: bool,
     ) -> Result<(), Error>
         requires spans { Each (λ col. 0 < col.1) cols.items }
-        requires fits { row_fits self.old.hanging (spots_of cols.items) ≡ true }
+        requires fits { row_fits self.old.hanging (spots_of W.columns cols.items) ≡ true }
         ensures ok { OnOk result ((cells : List (GivenCell (List D.Meaning)))
             × AllZip (GivesCell (λ col. col.width) (λ col lines. HandsOut W.columns (meant D.meaning col) lines))
             cols.items cells

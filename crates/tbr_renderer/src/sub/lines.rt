@@ -11,7 +11,6 @@ ghost use Rattle.tbr_renderer.specs.Text.{line_text, lines_text};
 ghost use Rattle.tbr_lines.specs.View.{chars_of};
 ghost use Rattle.tbr_renderer.specs.Meant.{tag_meant, map_line, meant};
 ghost use Rattle.tbr_renderer.specs.Flush.{Flushes, FlushIsTooNarrow};
-ghost use Rattle.tbr_renderer.specs.Rows.{is_blank};
 
 use crate::kept_lines::KeptLines;
 use crate::sub::SubRenderer;
@@ -31,7 +30,6 @@ impl<D: TextDecorator, W: CharWidth> SubRenderer<D, W> {
             × Flushes W.columns (meant D.meaning self) s
             × (map (map_line (tag_meant D.meaning)) (map line_seen lines) ≡ s.lines)) }
         ensures merged { IfOk result (λ lines. Each (IsMergedText (equal_lists D.Annotation.eq)) lines) }
-        ensures blank { is_blank self ≡ true → IfOk result (λ lines. lines ≡ []) }
         ensures too_narrow { self.failure ≡ None → result ≡ Err E.TooNarrow →
             FlushIsTooNarrow W.columns (meant D.meaning self) }
         ensures two_columns { self.failure ≡ None → 2 ≤ block_width self → result ≢ Err E.TooNarrow }
@@ -50,7 +48,6 @@ impl<D: TextDecorator, W: CharWidth> SubRenderer<D, W> {
             × Flushes W.columns (meant D.meaning self) s
             × (map (map_line (tag_meant D.meaning)) (map line_seen lines.items) ≡ s.lines)) }
         ensures merged { IfOk result (λ lines. Each (IsMergedText (equal_lists D.Annotation.eq)) lines.items) }
-        ensures blank { is_blank self ≡ true → IfOk result (λ lines. lines.items ≡ []) }
         ensures too_narrow { self.failure ≡ None → result ≡ Err E.TooNarrow →
             FlushIsTooNarrow W.columns (meant D.meaning self) }
         ensures two_columns { self.failure ≡ None → 2 ≤ block_width self → result ≢ Err E.TooNarrow }
@@ -65,7 +62,6 @@ impl<D: TextDecorator, W: CharWidth> SubRenderer<D, W> {
     fn into_kept(mut self) -> Result<KeptLines<Vec<D::Annotation>>, Error>
         ensures lines { IfOk result (λ lines. (s : Seen D D.Meaning (List D.Meaning))
             × Flushes W.columns (meant D.meaning self) s × (map (map_line (tag_meant D.meaning)) lines ≡ s.lines)) }
-        ensures blank { is_blank self ≡ true → IfOk result (λ lines. lines ≡ []) }
         ensures too_narrow { self.failure ≡ None → result ≡ Err E.TooNarrow →
             FlushIsTooNarrow W.columns (meant D.meaning self) }
         ensures two_columns { self.failure ≡ None → 2 ≤ block_width self → result ≢ Err E.TooNarrow }

@@ -28,8 +28,7 @@ impl<D: TextDecorator, W: CharWidth> SubRenderer<D, W> {
     /// from the rows before: the place of a renderer of the same width in which nothing is, or one after all of
     /// them. It takes no memory, and doesn't look at a failure of its own; one of `cols` that has failed isn't blank.
     pub fn row_fits(&self, cols: &Vec<(SubRenderer<D, W>, usize)>) -> bool
-        ensures fits { result ≡ row_fits self.now.hanging (model.spots_of cols.now.items) }
-        ensures blank { Each (λ col. model.TellsBlank W.columns col.0) cols.now.items }
+        ensures { result ≡ row_fits self.now.hanging (model.spots_of W.columns cols.now.items) }
     {
         let mut fitting = self.hanging.fitting();
         for (col, _) in cols {
@@ -40,8 +39,7 @@ impl<D: TextDecorator, W: CharWidth> SubRenderer<D, W> {
 
     /// Whether nothing is in it: it hasn't failed, it has no line, and its open block, if any, holds no character.
     fn is_blank(&self) -> bool
-        ensures asks { result ≡ model.is_blank self.now }
-        ensures normal { model.TellsBlank W.columns self.now }
+        ensures { result ≡ model.is_blank W.columns self.now }
     {
         self.failure().is_none() && self.has_blank_block() && self.has_no_line()
     }
@@ -49,8 +47,7 @@ impl<D: TextDecorator, W: CharWidth> SubRenderer<D, W> {
     /// Whether no block is open, or the open one holds no character.
     fn has_blank_block(&self) -> bool
         requires { self.now.failure ≡ None }
-        ensures asks { result ≡ model.block_is_blank self.now.block }
-        ensures normal { model.TellsBlank W.columns self.now }
+        ensures { result ≡ model.block_is_blank W.columns self.now self.now.block }
     {
         match &self.wrapping {
             Some(block) => block.is_blank(),
@@ -67,7 +64,7 @@ impl<D: TextDecorator, W: CharWidth> SubRenderer<D, W> {
         collapses: bool,
     ) -> Result<(), Error>
         requires unfailed { self.old.failure ≡ None }
-        requires fits { row_fits self.old.hanging (model.spots_of cols.items) ≡ true }
+        requires fits { row_fits self.old.hanging (model.spots_of W.columns cols.items) ≡ true }
         ensures ok { OnOk result ((cells : List (GivenCell (List D.Meaning)))
             × AllZip (GivesCell (λ col. col.width) (λ col lines. HandsOut W.columns (meant D.meaning col) lines))
             cols.items cells
@@ -98,7 +95,7 @@ impl<D: TextDecorator, W: CharWidth> SubRenderer<D, W> {
             × (map model.align_in cells ≡ model.aligned_as aligns.now cols.items)
             × AllZip (ComesAs W.columns (map D.meaning self.now.annotations)) cells
             (map (map_cell (tag_meant D.meaning)) columns)) }
-        ensures free { IfOk result (λ columns. AllZip model.LeavesFree cols.items columns) }
+        ensures free { IfOk result (λ columns. AllZip (model.LeavesFree W.columns) cols.items columns) }
         ensures side_by_side { IfOk result (λ columns. AreSideBySide 0 columns) }
         ensures too_narrow { result ≡ Err E.TooNarrow →
             FirstToRefuse (λ col lines. HandsOut W.columns (meant D.meaning col.0) lines)

@@ -2,11 +2,12 @@
 ghost use Rattle.std.specs.Prelude.{◌≡◌, ◌≢◌, ◌≤◌, ◌++◌, ◌∷◌, [], None, Err, true, false, map, chars, IfOk, IfErr, OnOk, replicate};
 ghost use Rattle.tbr_lines.specs.View.{chars_of};
 ghost use Rattle.tbr_lines.specs.declared.Error.TheVariants as E;
-ghost use Rattle.tbr_renderer.specs.Renderer.{KeepsSettings, block_width, may_overflow, last_mode, struck, struck_character, open_block, new_block, stroke, text_annotations, entries_under, entries_of, with_entries, is_white, ignores};
+ghost use Rattle.tbr_renderer.specs.Renderer.{KeepsSettings, block_width, may_overflow, last_mode, struck, struck_character, open_block, new_block, stroke, text_annotations, entries_under, entries_of, called, with_more, with_events, is_white, ignores};
 ghost use Rattle.tbr_renderer.specs.View.{IsFresh, block_meant};
 ghost use Rattle.tbr_renderer.specs.Meant.{tag_meant, meant};
-ghost use Rattle.tbr_renderer.specs.Flush.{with_run, RunGoesOn, RunStops};
+ghost use Rattle.tbr_renderer.specs.Flush.{fits_grown};
 ghost use Rattle.tbr_renderer.specs.Steps.{JoinsText, JoinIsTooNarrow, AddsTextBy, AddsText, TextIsTooNarrowBy, TextIsTooNarrow};
+ghost use Rattle.tbr_model.specs.Rule.{entry};
 ghost use Rattle.tbr_model.specs.Run.{marker_entry};
 
 use crate::sub::SubRenderer;
@@ -49,7 +50,7 @@ impl<D: TextDecorator, W: CharWidth> SubRenderer<D, W> {
     fn new_block(&self) -> Result<Box<WrappedBlock<Vec<D::Annotation>, W>>, OutOfMemory>
         ensures fresh { IfOk result (λ b. IsFresh W.columns (block_width self.now) (may_overflow self.now) b.value) }
         ensures block { IfOk result (λ b.
-            block_meant W.columns D.meaning b.value ≡ new_block (meant D.meaning self.now)) }
+            block_meant D.meaning b.value ≡ new_block (meant D.meaning self.now)) }
     {
         let block = WrappedBlock::new(
             self.alloc,
@@ -66,7 +67,7 @@ impl<D: TextDecorator, W: CharWidth> SubRenderer<D, W> {
         requires { self.old.failure ≡ None }
         ensures fresh { IfOk result (λ b. IsFresh W.columns (block_width self.old) (may_overflow self.old) b.value) }
         ensures block { IfOk result (λ b.
-            block_meant W.columns D.meaning b.value ≡ open_block (meant D.meaning self.old)) }
+            block_meant D.meaning b.value ≡ open_block (meant D.meaning self.old)) }
         ensures rest { OnOk result (self.new ≡ record self.old { block = None }) }
         ensures settings { KeepsSettings (meant D.meaning self.old) (meant D.meaning self.new) }
     {
@@ -101,14 +102,14 @@ impl<D: TextDecorator, W: CharWidth> SubRenderer<D, W> {
             ≡ text_annotations D.preformatted true (meant D.meaning self.now) }
         ensures fresh { OnOk result (IsFresh W.columns (block_width self.now) (may_overflow self.now) block.new) }
         ensures written { let es = entries_under D.preformatted (meant D.meaning self.now) (chars text.now) in
-            OnOk result (block_meant W.columns D.meaning block.new
-            ≡ with_run (block_meant W.columns D.meaning block.old) es) }
+            OnOk result (block_meant D.meaning block.new
+            ≡ with_more (block_meant D.meaning block.old) (called es)) }
         ensures goes_on { let es = entries_under D.preformatted (meant D.meaning self.now) (chars text.now) in
-            OnOk result (RunGoesOn W.columns (block_width self.now) (may_overflow self.now)
-            ((block_meant W.columns D.meaning block.old).run ++ es)) }
+            OnOk result (fits_grown W.columns (meant D.meaning self.now) (block_meant D.meaning block.old)
+            (called es) ≡ true) }
         ensures too_narrow { let es = entries_under D.preformatted (meant D.meaning self.now) (chars text.now) in
-            result ≡ Err E.TooNarrow → RunStops W.columns (block_width self.now) (may_overflow self.now)
-            ((block_meant W.columns D.meaning block.old).run ++ es) }
+            result ≡ Err E.TooNarrow → fits_grown W.columns (meant D.meaning self.now)
+            (block_meant D.meaning block.old) (called es) ≡ false }
         ensures two_columns { 2 ≤ block_width self.now → result ≢ Err E.TooNarrow }
     {
         block.add_text(text, self.mode(), main, continued)
@@ -123,14 +124,14 @@ impl<D: TextDecorator, W: CharWidth> SubRenderer<D, W> {
         requires fresh { IsFresh W.columns (block_width self.now) (may_overflow self.now) block.old }
         ensures fresh { OnOk result (IsFresh W.columns (block_width self.now) (may_overflow self.now) block.new) }
         ensures written { let es = entries_under D.preformatted (meant D.meaning self.now) (chars text.now) in
-            OnOk result (block_meant W.columns D.meaning block.new
-            ≡ with_run (block_meant W.columns D.meaning block.old) es) }
+            OnOk result (block_meant D.meaning block.new
+            ≡ with_more (block_meant D.meaning block.old) (called es)) }
         ensures goes_on { let es = entries_under D.preformatted (meant D.meaning self.now) (chars text.now) in
-            OnOk result (RunGoesOn W.columns (block_width self.now) (may_overflow self.now)
-            ((block_meant W.columns D.meaning block.old).run ++ es)) }
+            OnOk result (fits_grown W.columns (meant D.meaning self.now) (block_meant D.meaning block.old)
+            (called es) ≡ true) }
         ensures too_narrow { let es = entries_under D.preformatted (meant D.meaning self.now) (chars text.now) in
-            result ≡ Err E.TooNarrow → RunStops W.columns (block_width self.now) (may_overflow self.now)
-            ((block_meant W.columns D.meaning block.old).run ++ es) }
+            result ≡ Err E.TooNarrow → fits_grown W.columns (meant D.meaning self.now)
+            (block_meant D.meaning block.old) (called es) ≡ false }
         ensures two_columns { 2 ≤ block_width self.now → result ≢ Err E.TooNarrow }
     {
         if self.preformatted == 0 {
@@ -150,14 +151,14 @@ impl<D: TextDecorator, W: CharWidth> SubRenderer<D, W> {
         requires fresh { IsFresh W.columns (block_width self.now) (may_overflow self.now) block.old }
         ensures fresh { OnOk result (IsFresh W.columns (block_width self.now) (may_overflow self.now) block.new) }
         ensures written { let es = entries_of W.columns D.preformatted (meant D.meaning self.now) (chars text.now) in
-            OnOk result (block_meant W.columns D.meaning block.new
-            ≡ with_run (block_meant W.columns D.meaning block.old) es) }
+            OnOk result (block_meant D.meaning block.new
+            ≡ with_more (block_meant D.meaning block.old) (called es)) }
         ensures goes_on { let es = entries_of W.columns D.preformatted (meant D.meaning self.now) (chars text.now) in
-            OnOk result (RunGoesOn W.columns (block_width self.now) (may_overflow self.now)
-            ((block_meant W.columns D.meaning block.old).run ++ es)) }
+            OnOk result (fits_grown W.columns (meant D.meaning self.now) (block_meant D.meaning block.old)
+            (called es) ≡ true) }
         ensures too_narrow { let es = entries_of W.columns D.preformatted (meant D.meaning self.now) (chars text.now) in
-            result ≡ Err E.TooNarrow → RunStops W.columns (block_width self.now) (may_overflow self.now)
-            ((block_meant W.columns D.meaning block.old).run ++ es) }
+            result ≡ Err E.TooNarrow → fits_grown W.columns (meant D.meaning self.now)
+            (block_meant D.meaning block.old) (called es) ≡ false }
         ensures two_columns { 2 ≤ block_width self.now → result ≢ Err E.TooNarrow }
     {
         if self.strikeouts == 0 {
@@ -234,7 +235,7 @@ impl<D: TextDecorator, W: CharWidth> SubRenderer<D, W> {
     pub(crate) fn try_add_marker(&mut self, name: &str) -> Result<(), Error>
         requires { self.old.failure ≡ None }
         ensures ok { OnOk result
-            (meant D.meaning self.new ≡ with_entries (meant D.meaning self.old) (marker_entry name.now ∷ [])) }
+            (meant D.meaning self.new ≡ with_events (meant D.meaning self.old) (entry (marker_entry name.now) ∷ [])) }
         ensures memory { IfErr result (λ e. e ≡ E.OutOfMemory) }
         ensures settings { KeepsSettings (meant D.meaning self.old) (meant D.meaning self.new) }
     {

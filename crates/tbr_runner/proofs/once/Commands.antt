@@ -1,4 +1,4 @@
--- Where all that is there wraps normally, a command leads to one progress, or is refused, and not both.
+-- A command leads to one progress, or is refused, and not both.
 use Rattle.std.proofs.Common.{◌≡◌, ◌⊎◌, ℕ, Option, List, length, sym, ap, ◌∙◌, subst, inl, inr}
 use Rattle.std.proofs.lemmas.Bool.{false≢true}
 use Rattle.tbr_decor.specs.Decoration.{Decoration}
@@ -6,27 +6,22 @@ use Rattle.text_block_renderer.specs.Renderer.{Renderer, Line}
 use Rattle.text_block_renderer.specs.Flush.{FlushIsTooNarrow}
 use Rattle.text_block_renderer.specs.Appended.{HandsOut, HoldsBack}
 use Rattle.text_block_renderer.specs.Calls.{Call, append_subrender, append_vert_row, Does, IsTooNarrow}
-use Rattle.text_block_renderer.specs.Normal.{PushesNormal}
 use Rattle.text_block_renderer.proofs.OneState.{call_once, call_or_not}
 use Rattle.tbr_stack.specs.Stack.{Stack}
 use Rattle.tbr_stack.specs.Top.{ChangesTop, OfTop}
 use Rattle.tbr_script.specs.declared.error.RunError.{RunError}
 use Rattle.tbr_commands.specs.Request.{Request, call_of}
 use Rattle.tbr_commands.specs.Command.{Command, ask, link, end_link, sub, append, cell, end_cell, row, vertical_row}
-use Rattle.tbr_commands.specs.Syntax.{IsWritten}
 use Rattle.tbr_runner.specs.declared.opened.Opener.TheVariants.{Sub, Cell}
-use Rattle.tbr_runner.specs.Normal.{IsNormalLine}
 use Rattle.tbr_runner.specs.Prefixes.{prefixes}
 use Rattle.tbr_runner.specs.Progress.{Progress}
 use Rattle.tbr_runner.specs.Meaning.{CellDoes, CellRefuses, RequestDoes, AppendDoes, VerticalRowDoes, CommandDoes, AppendRefuses, VerticalRowRefuses, RequestRefuses, CommandRefuses}
-use Rattle.tbr_runner.proofs.once.Tops.{EachIn, on_top_once, on_top_or_not, on_top_in}
-use Rattle.tbr_runner.proofs.once.Plain.{IsPlain, call_plain}
+use Rattle.tbr_runner.proofs.once.Tops.{on_top_once, on_top_or_not}
 use Rattle.tbr_runner.proofs.once.Handed.{handed_once, handed_or_held, all_handed_once, all_handed_or_not}
-use Rattle.tbr_runner.proofs.once.Levels.{one_progress, closes_once, closes_opener, cell_once, AllPlain, waiting_wrap, top_wraps, closed_plain, still_plain, cell_plain, opens_once, opened_plain}
+use Rattle.tbr_runner.proofs.once.Levels.{one_progress, closes_once, closes_opener, cell_once, opens_once}
 use Rattle.tbr_runner.proofs.once.Refusals.{not_waiting}
-use Rattle.tbr_runner.proofs.once.Rows.{row_once, row_or_not, row_plain}
-use Rattle.tbr_runner.proofs.once.Links.{link_once, link_or_not, link_plain, end_link_once, end_link_or_not, end_link_plain}
-use Rattle.tbr_runner.proofs.once.Requests.{pushes_normal}
+use Rattle.tbr_runner.proofs.once.Rows.{row_once, row_or_not}
+use Rattle.tbr_runner.proofs.once.Links.{link_once, link_or_not, end_link_once, end_link_or_not}
 
 cell_or_not : {D A T : Type 0} (p x : Progress D A T) (number : ℕ) (e : RunError) → CellDoes p x → CellRefuses p number e → ⊥
 cell_or_not p x number e a (inl b) = b.0 a.0 a.1 (closes_opener p (Cell a.0 a.1) a.2 a.3 a.4)
@@ -35,57 +30,44 @@ cell_or_not p x number e a (inr b) = not_waiting p number e a.4.cells b.3
 module _ {D M : Type 0} (columns : ℕ → Option ℕ) (decoration : Decoration D M) where
   -- ---- a call of the renderer on top, which its width may determine
 
-  module _ (call : ℕ → Call (List M)) (p : Progress D M (List M)) (all : AllPlain p) where
+  module _ (call : ℕ → Call (List M)) (p : Progress D M (List M)) where
     abbrev Calls : Stack (Renderer D M (List M)) → Type 0
     Calls next = ChangesTop (λ r s. Does columns decoration (call r.width) r s) p.stack next
 
     called_once : (x y : Stack (Renderer D M (List M))) → Calls x → Calls y → x ≡ y
     called_once x y a b =
-        on_top_once (λ r s. Does columns decoration (call r.width) r s) p.stack x y (λ r s t is. call_once columns decoration (call r.width) r s t (top_wraps p r all is)) a b
+        on_top_once (λ r s. Does columns decoration (call r.width) r s) p.stack x y (λ r s t. call_once columns decoration (call r.width) r s t) a b
 
     called_or_not : (x : Stack (Renderer D M (List M))) → Calls x → OfTop (λ r. IsTooNarrow columns decoration (call r.width) r) p.stack → ⊥
     called_or_not x a b =
-        on_top_or_not (λ r s. Does columns decoration (call r.width) r s) (λ r. IsTooNarrow columns decoration (call r.width) r) p.stack x (λ r s is. call_or_not columns decoration (call r.width) r s (top_wraps p r all is)) a b
-
-    called_plain : (x : Stack (Renderer D M (List M))) → ((width : ℕ) → PushesNormal (call width)) → Calls x → EachIn IsPlain x.levels
-    called_plain x pushes a =
-        on_top_in IsPlain (λ r s. Does columns decoration (call r.width) r s) p.stack x (λ r s. call_plain decoration columns (call r.width) r s (pushes r.width)) all.stack a
+        on_top_or_not (λ r s. Does columns decoration (call r.width) r s) (λ r. IsTooNarrow columns decoration (call r.width) r) p.stack x (λ r s. call_or_not columns decoration (call r.width) r s) a b
 
   -- ---- requests
 
-  module _ (p x : Progress D M (List M)) (request : Request) (all : AllPlain p) (a : RequestDoes columns decoration p request x) where
+  module _ (p x : Progress D M (List M)) (request : Request) (a : RequestDoes columns decoration p request x) where
     request_once : (y : Progress D M (List M)) → RequestDoes columns decoration p request y → x ≡ y
     request_once y b =
-        one_progress x y (called_once (λ width. call_of width request) p all x.stack y.stack a.does b.does) (a.counts ∙ sym b.counts) (a.opened ∙ sym b.opened)
+        one_progress x y (called_once (λ width. call_of width request) p x.stack y.stack a.does b.does) (a.counts ∙ sym b.counts) (a.opened ∙ sym b.opened)
 
     request_or_not : (number : ℕ) (e : RunError) → RequestRefuses columns decoration p number request e → ⊥
     request_or_not number e (inl b) = false≢true (sym a.ends ∙ b.0)
-    request_or_not number e (inr b) = called_or_not (λ width. call_of width request) p all x.stack a.does b.1
-
-    request_plain : (line : List ℕ) → IsNormalLine line → IsWritten line (ask request) → AllPlain x
-    request_plain line is k =
-        let pushes = λ (width : ℕ). pushes_normal (List M) width line is request k in
-        let top = called_plain (λ width. call_of width request) p all x.stack pushes a.does in
-        still_plain x _ p.opened top a.counts a.opened all.pending all.opened
+    request_or_not number e (inr b) = called_or_not (λ width. call_of width request) p x.stack a.does b.1
 
   -- ---- lines of a level
 
-  module _ (p x : Progress D M (List M)) (first other : List ℕ) (all : AllPlain p) (a : AppendDoes columns decoration p first other x) where
+  module _ (p x : Progress D M (List M)) (first other : List ℕ) (a : AppendDoes columns decoration p first other x) where
     abbrev behind : List (Line (List M)) → Call (List M)
     behind lines = append_subrender (prefixes first other (length lines)) lines
-
-    closed : AllPlain a.closed
-    closed = closed_plain p Sub a.inside a.closed all a.closes
 
     append_once : (y : Progress D M (List M)) → AppendDoes columns decoration p first other y → x ≡ y
     append_once y b =
         let same = closes_once p Sub Sub a.inside b.inside a.closed b.closed a.closes b.closes in
         let hands = subst (λ (r : Renderer D M (List M)). HandsOut columns r b.lines) (sym same.1) b.hands_out in
-        let lines = handed_once columns decoration a.inside a.lines b.lines (top_wraps p a.inside all a.closes.top) a.hands_out hands in
+        let lines = handed_once columns decoration a.inside a.lines b.lines a.hands_out hands in
         let there = subst (λ (q : Progress D M (List M)). ChangesTop (Does columns decoration (behind b.lines)) q.stack y.stack) (sym same.2) b.does in
         let does = subst (λ (ls : List (Line (List M))). ChangesTop (Does columns decoration (behind ls)) a.closed.stack y.stack) (sym lines) there in
         one_progress x y
-        (called_once (λ width. behind a.lines) a.closed closed x.stack y.stack a.does does)
+        (called_once (λ width. behind a.lines) a.closed x.stack y.stack a.does does)
         (a.pending ∙ ap (λ (q : Progress D M (List M)). q.pending) same.2 ∙ sym b.pending)
         (a.opened ∙ ap (λ (q : Progress D M (List M)). q.opened) same.2 ∙ sym b.opened)
 
@@ -98,67 +80,46 @@ module _ {D M : Type 0} (columns : ℕ → Option ℕ) (decoration : Decoration 
         same = closes_once p Sub Sub a.inside b.0 a.closed b.1 a.closes b.2
 
         go : OfTop (FlushIsTooNarrow columns) b.1.stack ⊎ HoldsBack columns b.0 → ⊥
-        go (inl k) = called_or_not (λ width. behind a.lines) a.closed closed x.stack a.does (subst (λ (q : Progress D M (List M)). OfTop (FlushIsTooNarrow columns) q.stack) (sym same.2) k)
+        go (inl k) = called_or_not (λ width. behind a.lines) a.closed x.stack a.does (subst (λ (q : Progress D M (List M)). OfTop (FlushIsTooNarrow columns) q.stack) (sym same.2) k)
         go (inr k) =
-            handed_or_held columns decoration a.inside a.lines (top_wraps p a.inside all a.closes.top) a.hands_out (subst (λ (r : Renderer D M (List M)). HoldsBack columns r) (sym same.1) k)
-
-    append_plain : AllPlain x
-    append_plain =
-        let top = called_plain (λ width. behind a.lines) a.closed closed x.stack (λ width. tt) a.does in
-        still_plain x _ _ top a.pending a.opened closed.pending closed.opened
+            handed_or_held columns decoration a.inside a.lines a.hands_out (subst (λ (r : Renderer D M (List M)). HoldsBack columns r) (sym same.1) k)
 
   -- ---- rows
 
-  module _ (p x : Progress D M (List M)) (all : AllPlain p) (a : VerticalRowDoes columns decoration p x) where
+  module _ (p x : Progress D M (List M)) (a : VerticalRowDoes columns decoration p x) where
     vertical_once : (y : Progress D M (List M)) → VerticalRowDoes columns decoration p y → x ≡ y
     vertical_once y b =
-        let cells = all_handed_once columns decoration _ a.cells b.cells (waiting_wrap p all) a.hand_out b.hand_out in
+        let cells = all_handed_once columns decoration _ a.cells b.cells a.hand_out b.hand_out in
         let does = subst (λ (cs : List (List (Line (List M)))). ChangesTop (Does columns decoration (append_vert_row cs)) p.stack y.stack) (sym cells) b.does in
         one_progress x y
-        (called_once (λ width. append_vert_row a.cells) p all x.stack y.stack a.does does)
+        (called_once (λ width. append_vert_row a.cells) p x.stack y.stack a.does does)
         (a.pending ∙ sym b.pending) (a.opened ∙ sym b.opened)
 
     vertical_or_not : (e : RunError) → VerticalRowRefuses columns p e → ⊥
-    vertical_or_not e (inl b, is) = called_or_not (λ width. append_vert_row a.cells) p all x.stack a.does b
-    vertical_or_not e (inr b, is) = all_handed_or_not columns decoration _ a.cells (waiting_wrap p all) a.hand_out b
-
-    vertical_plain : AllPlain x
-    vertical_plain =
-        let top = called_plain (λ width. append_vert_row a.cells) p all x.stack (λ width. tt) a.does in
-        still_plain x _ p.opened top a.pending a.opened tt all.opened
+    vertical_or_not e (inl b, is) = called_or_not (λ width. append_vert_row a.cells) p x.stack a.does b
+    vertical_or_not e (inr b, is) = all_handed_or_not columns decoration _ a.cells a.hand_out b
 
   -- ---- commands
 
-  module _ (p : Progress D M (List M)) (all : AllPlain p) where
+  module _ (p : Progress D M (List M)) where
     pub does_once : (command : Command) (x y : Progress D M (List M)) → CommandDoes columns decoration p command x → CommandDoes columns decoration p command y → x ≡ y
-    does_once (ask request) x y a b = request_once p x request all a y b
-    does_once (link target) x y a b = link_once columns decoration p x target all a y b
-    does_once end_link x y a b = end_link_once columns decoration p x all a y b
+    does_once (ask request) x y a b = request_once p x request a y b
+    does_once (link target) x y a b = link_once columns decoration p x target a y b
+    does_once end_link x y a b = end_link_once columns decoration p x a y b
     does_once (sub width) x y a b = opens_once decoration p Sub width x y a b
-    does_once (append first other) x y a b = append_once p x first other all a y b
+    does_once (append first other) x y a b = append_once p x first other a y b
     does_once (cell width span align) x y a b = opens_once decoration p (Cell span align) width x y a b
     does_once end_cell x y a b = cell_once p x y a b
-    does_once (row collapse) x y a b = row_once columns decoration p x all collapse a y b
-    does_once vertical_row x y a b = vertical_once p x all a y b
+    does_once (row collapse) x y a b = row_once columns decoration p x collapse a y b
+    does_once vertical_row x y a b = vertical_once p x a y b
 
     pub does_or_not : (number : ℕ) (command : Command) (x : Progress D M (List M)) (e : RunError) → CommandDoes columns decoration p command x → CommandRefuses columns decoration p number command e → ⊥
-    does_or_not number (ask request) x e a b = request_or_not p x request all a number e b
-    does_or_not number (link target) x e a b = link_or_not columns decoration p x target all a e b
-    does_or_not number end_link x e a b = end_link_or_not columns decoration p x all a number e b
+    does_or_not number (ask request) x e a b = request_or_not p x request a number e b
+    does_or_not number (link target) x e a b = link_or_not columns decoration p x target a e b
+    does_or_not number end_link x e a b = end_link_or_not columns decoration p x a number e b
     does_or_not number (sub width) x e a b = b
-    does_or_not number (append first other) x e a b = append_or_not p x first other all a number e b
+    does_or_not number (append first other) x e a b = append_or_not p x first other a number e b
     does_or_not number (cell width span align) x e a b = b
     does_or_not number end_cell x e a b = cell_or_not p x number e a b
-    does_or_not number (row collapse) x e a b = row_or_not columns decoration p x all collapse a number e b
-    does_or_not number vertical_row x e a b = vertical_or_not p x all a e b
-
-    pub does_plain : (line : List ℕ) (command : Command) (x : Progress D M (List M)) → IsNormalLine line → IsWritten line command → CommandDoes columns decoration p command x → AllPlain x
-    does_plain line (ask request) x is k a = request_plain p x request all a line is k
-    does_plain line (link target) x is k a = link_plain columns decoration p x target all a
-    does_plain line end_link x is k a = end_link_plain columns decoration p x all a
-    does_plain line (sub width) x is k a = opened_plain decoration p Sub width x all a
-    does_plain line (append first other) x is k a = append_plain p x first other all a
-    does_plain line (cell width span align) x is k a = opened_plain decoration p (Cell span align) width x all a
-    does_plain line end_cell x is k a = cell_plain p x all a
-    does_plain line (row collapse) x is k a = row_plain columns decoration p x all collapse a
-    does_plain line vertical_row x is k a = vertical_plain p x all a
+    does_or_not number (row collapse) x e a b = row_or_not columns decoration p x collapse a number e b
+    does_or_not number vertical_row x e a b = vertical_or_not p x a e b

@@ -8,7 +8,7 @@ use Rattle.tbr_commands.specs.Command.{Command, ask, link, end_link, sub, append
 use Rattle.tbr_runner.specs.declared.opened.Opener.TheVariants.{Sub}
 use Rattle.tbr_runner.specs.Progress.{Progress}
 use Rattle.tbr_runner.specs.Meaning.{CellsWait, CellRefuses, AppendRefuses, RequestRefuses, EndLinkRefuses, RowRefuses, CommandRefuses}
-use Rattle.tbr_runner.proofs.once.Levels.{closes_opener, AllPlain}
+use Rattle.tbr_runner.proofs.once.Levels.{closes_opener}
 use Rattle.tbr_runner.proofs.once.Rows.{row_fits_or_not}
 
 module _ {D A T : Type 0} where
@@ -46,20 +46,19 @@ module _ {D M : Type 0} (columns : ℕ → Option ℕ) (decoration : Decoration 
   end_link_refused_once p number d e (inr a) (inl b) = absurd (a.0 b.0)
   end_link_refused_once p number d e (inr a) (inr b) = a.2 ∙ sym b.2
 
-  -- a row fits or not, where what is there wraps normally
-  row_refused_once : (p : Progress D M (List M)) (number : ℕ) (d e : RunError) → AllPlain p → RowRefuses columns p number d → RowRefuses columns p number e → d ≡ e
-  row_refused_once p number d e all (inl a) (inl b) = a.1 ∙ sym b.1
-  row_refused_once p number d e all (inl a) (inr b) = absurd (row_fits_or_not columns p all b.0 a.0)
-  row_refused_once p number d e all (inr a) (inl b) = absurd (row_fits_or_not columns p all a.0 b.0)
-  row_refused_once p number d e all (inr a) (inr b) = a.2 ∙ sym b.2
+  row_refused_once : (p : Progress D M (List M)) (number : ℕ) (d e : RunError) → RowRefuses columns p number d → RowRefuses columns p number e → d ≡ e
+  row_refused_once p number d e (inl a) (inl b) = a.1 ∙ sym b.1
+  row_refused_once p number d e (inl a) (inr b) = absurd (row_fits_or_not columns p b.0 a.0)
+  row_refused_once p number d e (inr a) (inl b) = absurd (row_fits_or_not columns p a.0 b.0)
+  row_refused_once p number d e (inr a) (inr b) = a.2 ∙ sym b.2
 
-  pub refused_once : (p : Progress D M (List M)) (number : ℕ) (command : Command) (d e : RunError) → AllPlain p → CommandRefuses columns decoration p number command d → CommandRefuses columns decoration p number command e → d ≡ e
-  refused_once p number (ask request) d e all a b = request_refused_once p number request d e a b
-  refused_once p number (link target) d e all a b = a.1 ∙ sym b.1
-  refused_once p number end_link d e all a b = end_link_refused_once p number d e a b
-  refused_once p number (sub width) d e all a b = absurd a
-  refused_once p number (append first other) d e all a b = append_refused_once columns p number d e a b
-  refused_once p number (cell width span align) d e all a b = absurd a
-  refused_once p number end_cell d e all a b = cell_refused_once p number d e a b
-  refused_once p number (row collapse) d e all a b = row_refused_once p number d e all a b
-  refused_once p number vertical_row d e all a b = a.1 ∙ sym b.1
+  pub refused_once : (p : Progress D M (List M)) (number : ℕ) (command : Command) (d e : RunError) → CommandRefuses columns decoration p number command d → CommandRefuses columns decoration p number command e → d ≡ e
+  refused_once p number (ask request) d e a b = request_refused_once p number request d e a b
+  refused_once p number (link target) d e a b = a.1 ∙ sym b.1
+  refused_once p number end_link d e a b = end_link_refused_once p number d e a b
+  refused_once p number (sub width) d e a b = absurd a
+  refused_once p number (append first other) d e a b = append_refused_once columns p number d e a b
+  refused_once p number (cell width span align) d e a b = absurd a
+  refused_once p number end_cell d e a b = cell_refused_once p number d e a b
+  refused_once p number (row collapse) d e a b = row_refused_once p number d e a b
+  refused_once p number vertical_row d e a b = a.1 ∙ sym b.1

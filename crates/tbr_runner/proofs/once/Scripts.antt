@@ -1,11 +1,9 @@
--- A script whose text is all `Normal` gives one thing.
+-- A script gives one thing.
 use Rattle.std.proofs.Common.{◌≡◌, ◌≢◌, ◌⊎◌, ℕ, ◌+◌, false, List, [], ◌∷◌, refl, sym, ap, ◌∙◌, Option, Result, Ok, Err, subst, inl, inr, encode_utf8_all}
-use Rattle.std.specs.List.{AllByRecursion as Each}
 use Rattle.tbr_decor.specs.Decoration.{Decoration}
 use Rattle.text_block_renderer.specs.Renderer.{Renderer}
 use Rattle.text_block_renderer.specs.Text.{lines_text}
 use Rattle.text_block_renderer.specs.Calls.{new_line}
-use Rattle.text_block_renderer.specs.Normal.{WrapsNormally}
 use Rattle.text_block_renderer.proofs.OneState.{call_once, call_or_not}
 use Rattle.tbr_script.specs.declared.error.RunError.{RunError}
 use Rattle.tbr_commands.specs.declared.opening.Decorator.{Decorator}
@@ -16,41 +14,32 @@ use Rattle.tbr_commands.proofs.OneOpening.{opening_once}
 use Rattle.tbr_runner.specs.Decorations.{plain_decoration, trivial_decoration, rich_decoration}
 use Rattle.tbr_runner.specs.Closing.{with_notes, footnotes_of, finalised, ClosesAs, ClosingIsTooNarrow}
 use Rattle.tbr_runner.specs.Progress.{Progress}
-use Rattle.tbr_runner.specs.Normal.{IsNormalLine}
 use Rattle.tbr_runner.specs.Meaning.{CommandDoes, CommandRefuses, LineDoes, LineRefuses, Ends, LinesGive, started, OpensUnder, Begins}
 use Rattle.tbr_runner.proofs.once.Tops.{top_is_both}
-use Rattle.tbr_runner.proofs.once.Levels.{AllPlain, top_wraps}
 use Rattle.tbr_runner.proofs.once.Refusals.{refused_once}
-use Rattle.tbr_runner.proofs.once.Commands.{does_once, does_or_not, does_plain}
-
-finalised_wraps : {D M : Type 0} (columns : ℕ → Option ℕ) (decoration : Decoration D M) (targets : List (List ℕ)) (r : Renderer D M (List M)) → WrapsNormally r → WrapsNormally (finalised columns decoration targets r)
-finalised_wraps columns decoration targets r normal = record { narrow = normal.narrow; modes = normal.modes; run = normal.run }
+use Rattle.tbr_runner.proofs.once.Commands.{does_once, does_or_not}
 
 module _ {D M : Type 0} (columns : ℕ → Option ℕ) (decoration : Decoration D M) where
   -- ---- lines
 
-  line_does_once : (p : Progress D M (List M)) (line : List ℕ) (x y : Progress D M (List M)) → AllPlain p → LineDoes columns decoration p line x → LineDoes columns decoration p line y → x ≡ y
-  line_does_once p [] x y all a b = a ∙ sym b
-  line_does_once p (c ∷ cs) x y all a b =
-      does_once columns decoration p all b.0 x y (subst (λ command. CommandDoes columns decoration p command x) (command_once (c ∷ cs) a.0 b.0 a.1 b.1) a.2) b.2
+  line_does_once : (p : Progress D M (List M)) (line : List ℕ) (x y : Progress D M (List M)) → LineDoes columns decoration p line x → LineDoes columns decoration p line y → x ≡ y
+  line_does_once p [] x y a b = a ∙ sym b
+  line_does_once p (c ∷ cs) x y a b =
+      does_once columns decoration p b.0 x y (subst (λ command. CommandDoes columns decoration p command x) (command_once (c ∷ cs) a.0 b.0 a.1 b.1) a.2) b.2
 
-  line_refuses_once : (p : Progress D M (List M)) (number : ℕ) (line : List ℕ) (d e : RunError) → AllPlain p → LineRefuses columns decoration p number line d → LineRefuses columns decoration p number line e → d ≡ e
-  line_refuses_once p number [] d e all a b = absurd a
-  line_refuses_once p number (c ∷ cs) d e all (inl a) (inl b) = a.1 ∙ sym b.1
-  line_refuses_once p number (c ∷ cs) d e all (inl a) (inr b) = absurd (a.0 b.0 b.1)
-  line_refuses_once p number (c ∷ cs) d e all (inr a) (inl b) = absurd (b.0 a.0 a.1)
-  line_refuses_once p number (c ∷ cs) d e all (inr a) (inr b) =
-      refused_once columns decoration p number b.0 d e all (subst (λ command. CommandRefuses columns decoration p number command d) (command_once (c ∷ cs) a.0 b.0 a.1 b.1) a.2) b.2
+  line_refuses_once : (p : Progress D M (List M)) (number : ℕ) (line : List ℕ) (d e : RunError) → LineRefuses columns decoration p number line d → LineRefuses columns decoration p number line e → d ≡ e
+  line_refuses_once p number [] d e a b = absurd a
+  line_refuses_once p number (c ∷ cs) d e (inl a) (inl b) = a.1 ∙ sym b.1
+  line_refuses_once p number (c ∷ cs) d e (inl a) (inr b) = absurd (a.0 b.0 b.1)
+  line_refuses_once p number (c ∷ cs) d e (inr a) (inl b) = absurd (b.0 a.0 a.1)
+  line_refuses_once p number (c ∷ cs) d e (inr a) (inr b) =
+      refused_once columns decoration p number b.0 d e (subst (λ command. CommandRefuses columns decoration p number command d) (command_once (c ∷ cs) a.0 b.0 a.1 b.1) a.2) b.2
 
-  line_does_or_refuses : (p : Progress D M (List M)) (number : ℕ) (line : List ℕ) (x : Progress D M (List M)) (e : RunError) → AllPlain p → LineDoes columns decoration p line x → LineRefuses columns decoration p number line e → ⊥
-  line_does_or_refuses p number [] x e all a b = b
-  line_does_or_refuses p number (c ∷ cs) x e all a (inl b) = b.0 a.0 a.1
-  line_does_or_refuses p number (c ∷ cs) x e all a (inr b) =
-      does_or_not columns decoration p all number b.0 x e (subst (λ command. CommandDoes columns decoration p command x) (command_once (c ∷ cs) a.0 b.0 a.1 b.1) a.2) b.2
-
-  line_plain : (p : Progress D M (List M)) (line : List ℕ) (x : Progress D M (List M)) → AllPlain p → IsNormalLine line → LineDoes columns decoration p line x → AllPlain x
-  line_plain p [] x all is a = subst (λ (q : Progress D M (List M)). AllPlain q) (sym a) all
-  line_plain p (c ∷ cs) x all is a = does_plain columns decoration p all (c ∷ cs) a.0 x is a.1.writes a.2
+  line_does_or_refuses : (p : Progress D M (List M)) (number : ℕ) (line : List ℕ) (x : Progress D M (List M)) (e : RunError) → LineDoes columns decoration p line x → LineRefuses columns decoration p number line e → ⊥
+  line_does_or_refuses p number [] x e a b = b
+  line_does_or_refuses p number (c ∷ cs) x e a (inl b) = b.0 a.0 a.1
+  line_does_or_refuses p number (c ∷ cs) x e a (inr b) =
+      does_or_not columns decoration p number b.0 x e (subst (λ command. CommandDoes columns decoration p command x) (command_once (c ∷ cs) a.0 b.0 a.1 b.1) a.2) b.2
 
   -- ---- the end
 
@@ -58,61 +47,54 @@ module _ {D M : Type 0} (columns : ℕ → Option ℕ) (decoration : Decoration 
   text_or_levels p none empty (inl k) = k none
   text_or_levels p none empty (inr k) = k empty
 
-  ends_or_not : (p : Progress D M (List M)) (number : ℕ) (s : List ℕ) (e : RunError) → AllPlain p → Ends columns decoration p number (Ok s) → Ends columns decoration p number (Err e) → ⊥
-  ends_or_not p number s e all a (inl b) = text_or_levels p a.0 a.1 b.0
-  ends_or_not p number s e all a (inr b) =
+  ends_or_not : (p : Progress D M (List M)) (number : ℕ) (s : List ℕ) (e : RunError) → Ends columns decoration p number (Ok s) → Ends columns decoration p number (Err e) → ⊥
+  ends_or_not p number s e a (inl b) = text_or_levels p a.0 a.1 b.0
+  ends_or_not p number s e a (inr b) =
       let targets = (let t = p.stack in t.links) in
       let both = top_is_both (λ r. ClosesAs columns decoration targets r s) (ClosingIsTooNarrow columns decoration targets) p.stack a.2 b.2 in
-      call_or_not columns decoration new_line (finalised columns decoration targets both.0) both.2.0.0 (finalised_wraps columns decoration targets both.0 (top_wraps p both.0 all both.1)) both.2.0.1 both.2.1
+      call_or_not columns decoration new_line (finalised columns decoration targets both.0) both.2.0.0 both.2.0.1 both.2.1
 
-  ends_once : (p : Progress D M (List M)) (number : ℕ) (x y : Result (List ℕ) RunError) → AllPlain p → Ends columns decoration p number x → Ends columns decoration p number y → x ≡ y
-  ends_once p number (Ok s) (Ok t) all a b =
+  ends_once : (p : Progress D M (List M)) (number : ℕ) (x y : Result (List ℕ) RunError) → Ends columns decoration p number x → Ends columns decoration p number y → x ≡ y
+  ends_once p number (Ok s) (Ok t) a b =
       let targets = (let u = p.stack in u.links) in
       let both = top_is_both (λ r. ClosesAs columns decoration targets r s) (λ r. ClosesAs columns decoration targets r t) p.stack a.2 b.2 in
       let r = both.0 in
-      let one = call_once columns decoration new_line (finalised columns decoration targets r) both.2.1.0 both.2.0.0 (finalised_wraps columns decoration targets r (top_wraps p r all both.1)) both.2.1.1 both.2.0.1 in
+      let one = call_once columns decoration new_line (finalised columns decoration targets r) both.2.1.0 both.2.0.0 both.2.1.1 both.2.0.1 in
       ap Ok (both.2.0.2 ∙ ap (λ (q : Renderer D M (List M)). encode_utf8_all (lines_text (let n = with_notes columns (footnotes_of columns decoration targets r) q in n.lines))) one ∙ sym both.2.1.2)
-  ends_once p number (Ok s) (Err e) all a b = absurd (ends_or_not p number s e all a b)
-  ends_once p number (Err d) (Ok t) all a b = absurd (ends_or_not p number t d all b a)
-  ends_once p number (Err d) (Err e) all (inl a) (inl b) = ap Err (a.1 ∙ sym b.1)
-  ends_once p number (Err d) (Err e) all (inl a) (inr b) = absurd (text_or_levels p b.0 b.1 a.0)
-  ends_once p number (Err d) (Err e) all (inr a) (inl b) = absurd (text_or_levels p a.0 a.1 b.0)
-  ends_once p number (Err d) (Err e) all (inr a) (inr b) = ap Err (a.3 ∙ sym b.3)
+  ends_once p number (Ok s) (Err e) a b = absurd (ends_or_not p number s e a b)
+  ends_once p number (Err d) (Ok t) a b = absurd (ends_or_not p number t d b a)
+  ends_once p number (Err d) (Err e) (inl a) (inl b) = ap Err (a.1 ∙ sym b.1)
+  ends_once p number (Err d) (Err e) (inl a) (inr b) = absurd (text_or_levels p b.0 b.1 a.0)
+  ends_once p number (Err d) (Err e) (inr a) (inl b) = absurd (text_or_levels p a.0 a.1 b.0)
+  ends_once p number (Err d) (Err e) (inr a) (inr b) = ap Err (a.3 ∙ sym b.3)
 
-  lines_give_once : (p : Progress D M (List M)) (number : ℕ) (lines : List (List ℕ)) (x y : Result (List ℕ) RunError) → AllPlain p → Each IsNormalLine lines → LinesGive columns decoration p number lines x → LinesGive columns decoration p number lines y → x ≡ y
-  lines_give_once p number [] x y all normal a b = ends_once p number x y all a b
-  lines_give_once p number (line ∷ lines) x y all normal (inl a) (inl b) =
-      a.2 ∙ ap Err (line_refuses_once p number line a.0 b.0 all a.1 b.1) ∙ sym b.2
-  lines_give_once p number (line ∷ lines) x y all normal (inl a) (inr b) = absurd (line_does_or_refuses p number line b.0 a.0 all b.1 a.1)
-  lines_give_once p number (line ∷ lines) x y all normal (inr a) (inl b) = absurd (line_does_or_refuses p number line a.0 b.0 all a.1 b.1)
-  lines_give_once p number (line ∷ lines) x y all normal (inr a) (inr b) =
-      lines_give_once b.0 (number + 1) lines x y (line_plain p line b.0 all normal.0 b.1) normal.1
-      (subst (λ (next : Progress D M (List M)). LinesGive columns decoration next (number + 1) lines x) (line_does_once p line a.0 b.0 all a.1 b.1) a.2) b.2
+  lines_give_once : (p : Progress D M (List M)) (number : ℕ) (lines : List (List ℕ)) (x y : Result (List ℕ) RunError) → LinesGive columns decoration p number lines x → LinesGive columns decoration p number lines y → x ≡ y
+  lines_give_once p number [] x y a b = ends_once p number x y a b
+  lines_give_once p number (line ∷ lines) x y (inl a) (inl b) =
+      a.2 ∙ ap Err (line_refuses_once p number line a.0 b.0 a.1 b.1) ∙ sym b.2
+  lines_give_once p number (line ∷ lines) x y (inl a) (inr b) = absurd (line_does_or_refuses p number line b.0 a.0 b.1 a.1)
+  lines_give_once p number (line ∷ lines) x y (inr a) (inl b) = absurd (line_does_or_refuses p number line a.0 b.0 a.1 b.1)
+  lines_give_once p number (line ∷ lines) x y (inr a) (inr b) =
+      lines_give_once b.0 (number + 1) lines x y
+      (subst (λ (next : Progress D M (List M)). LinesGive columns decoration next (number + 1) lines x) (line_does_once p line a.0 b.0 a.1 b.1) a.2) b.2
 
 -- ---- the whole
 
-started_plain : {D M : Type 0} (opening : Opening) (decorator : D) → opening.options.allow_width_overflow ≡ false → AllPlain {D = D} {M = M} (started opening decorator)
-started_plain opening decorator narrow = record {
-  stack = (record { wraps = record { narrow = rw narrow refl; modes = tt; run = tt }; narrow = narrow }, tt);
-  pending = tt;
-  opened = tt;
-}
-
 module _ (columns : ℕ → Option ℕ) where
-  opens_once : (d : Decorator) (o : Opening) (number : ℕ) (lines : List (List ℕ)) (x y : Result (List ℕ) RunError) → o.options.allow_width_overflow ≡ false → Each IsNormalLine lines → OpensUnder columns d o number lines x → OpensUnder columns d o number lines y → x ≡ y
-  opens_once Plain o number lines x y narrow normal a b =
-      lines_give_once columns plain_decoration (started o (record {})) number lines x y (started_plain o (record {}) narrow) normal a b
-  opens_once Trivial o number lines x y narrow normal a b =
-      lines_give_once columns trivial_decoration (started o (record {})) number lines x y (started_plain o (record {}) narrow) normal a b
-  opens_once Rich o number lines x y narrow normal a b =
-      lines_give_once columns rich_decoration (started o (record {})) number lines x y (started_plain o (record {}) narrow) normal a b
+  opens_once : (d : Decorator) (o : Opening) (number : ℕ) (lines : List (List ℕ)) (x y : Result (List ℕ) RunError) → OpensUnder columns d o number lines x → OpensUnder columns d o number lines y → x ≡ y
+  opens_once Plain o number lines x y a b =
+      lines_give_once columns plain_decoration (started o (record {})) number lines x y a b
+  opens_once Trivial o number lines x y a b =
+      lines_give_once columns trivial_decoration (started o (record {})) number lines x y a b
+  opens_once Rich o number lines x y a b =
+      lines_give_once columns rich_decoration (started o (record {})) number lines x y a b
 
-  pub begins_once : (number : ℕ) (lines : List (List ℕ)) (x y : Result (List ℕ) RunError) → Each IsNormalLine lines → Begins columns number lines x → Begins columns number lines y → x ≡ y
-  begins_once number [] x y normal a b = a ∙ sym b
-  begins_once number ([] ∷ lines) x y normal a b = begins_once (number + 1) lines x y normal.1 a b
-  begins_once number ((c ∷ cs) ∷ lines) x y normal (inl a) (inl b) = a.1 ∙ sym b.1
-  begins_once number ((c ∷ cs) ∷ lines) x y normal (inl a) (inr b) = absurd (a.0 b.0 b.1)
-  begins_once number ((c ∷ cs) ∷ lines) x y normal (inr a) (inl b) = absurd (b.0 a.0 a.1)
-  begins_once number ((c ∷ cs) ∷ lines) x y normal (inr a) (inr b) =
-      opens_once b.0.decorator b.0 (number + 1) lines x y (normal.0.narrow b.0 b.1) normal.1
+  pub begins_once : (number : ℕ) (lines : List (List ℕ)) (x y : Result (List ℕ) RunError) → Begins columns number lines x → Begins columns number lines y → x ≡ y
+  begins_once number [] x y a b = a ∙ sym b
+  begins_once number ([] ∷ lines) x y a b = begins_once (number + 1) lines x y a b
+  begins_once number ((c ∷ cs) ∷ lines) x y (inl a) (inl b) = a.1 ∙ sym b.1
+  begins_once number ((c ∷ cs) ∷ lines) x y (inl a) (inr b) = absurd (a.0 b.0 b.1)
+  begins_once number ((c ∷ cs) ∷ lines) x y (inr a) (inl b) = absurd (b.0 a.0 a.1)
+  begins_once number ((c ∷ cs) ∷ lines) x y (inr a) (inr b) =
+      opens_once b.0.decorator b.0 (number + 1) lines x y
       (subst (λ (o : Opening). OpensUnder columns o.decorator o (number + 1) lines x) (opening_once (c ∷ cs) a.0 b.0 a.1 b.1) a.2) b.2

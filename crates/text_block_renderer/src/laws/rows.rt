@@ -5,7 +5,6 @@ ghost use Rattle.tbr_decor.specs.Decoration.{Decoration};
 ghost use Rattle.tbr_renderer.specs.Renderer.{Renderer, settings_of};
 ghost use Rattle.tbr_renderer.specs.Calls.{text_of_lines, Shows};
 ghost use Rattle.tbr_renderer.specs.Rows.{GivenCell, AppendsRow};
-ghost use Rattle.text_block_renderer.specs.Normal.{WrapsNormally};
 ghost use Rattle.text_block_renderer.specs.Acts.{Act, ActsBring};
 
 /// A row takes no line of text back: its texts come after those that there are.
@@ -15,11 +14,10 @@ pub fn a_row_takes_no_text_back<D, A>()
         (more : List (Item (List A))) × (text_of_lines s.lines ≡ text_of_lines r.lines ++ more) }
 {}
 
-/// A row of the same cells leaves one state only, where the open run is `Normal` and no line may be wider than the
-/// block.
-pub fn a_normal_row_leaves_one_state<D, A>()
+/// A row of the same cells leaves one state only, in every mode.
+pub fn a_row_leaves_one_state<D, A>()
     ensures { (columns : ℕ → Option ℕ) (collapses : Bool) (cells : List (GivenCell (List A)))
-        (r s t : Renderer D A (List A)) → WrapsNormally r →
+        (r s t : Renderer D A (List A)) →
         AppendsRow columns collapses cells r s → AppendsRow columns collapses cells r t → t ≡ s }
 {}
 
@@ -27,13 +25,6 @@ pub fn a_normal_row_leaves_one_state<D, A>()
 pub fn a_row_changes_no_settings<D, A>()
     ensures { (columns : ℕ → Option ℕ) (collapses : Bool) (cells : List (GivenCell (List A)))
         (r s : Renderer D A (List A)) → AppendsRow columns collapses cells r s → settings_of s ≡ settings_of r }
-{}
-
-/// A row keeps all text `Normal`.
-pub fn normal_rows_keep_text_normal<D, A>()
-    ensures { (columns : ℕ → Option ℕ) (collapses : Bool) (cells : List (GivenCell (List A)))
-        (r s : Renderer D A (List A)) →
-        WrapsNormally r → AppendsRow columns collapses cells r s → WrapsNormally s }
 {}
 
 /// After any calls and rows the visible characters of what they brought are in the lines of text, but for those of the

@@ -3,4 +3,4 @@ use Rattle.tbr_runner.proofs.once.Scripts.{begins_once}
 use Rattle.tbr_runner.proofs.laws.a_script_gives_one_thing.Goals as goal
 
 pub returns : goal.returns
-returns c = λ columns script one other normal a b. begins_once columns 1 (lines_of script) one other normal a b
+returns c = λ columns script one other a b. begins_once columns 1 (lines_of script) one other a b

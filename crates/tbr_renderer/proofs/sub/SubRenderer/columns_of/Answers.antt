@@ -13,7 +13,7 @@ use Rattle.tbr_renderer.specs.View.{line_seen}
 use Rattle.tbr_renderer.specs.Appended.{FirstToRefuse, HandsOut, HoldsBack}
 use Rattle.tbr_renderer.proofs.Meanings.{tags_mean}
 use Rattle.tbr_renderer.proofs.Appending.{cols_left, cols_taken, refuses_behind, each_at, unfailed, held_back, passed_on}
-use Rattle.tbr_renderer.proofs.Rowing.{Gives, HasColumns, tags_told, no_columns, columns_go_on, next_taken, lines_fill, none_filled, lines_given}
+use Rattle.tbr_renderer.proofs.Rowing.{Gives, HasColumns, tags_told, no_columns, columns_go_on, next_taken, lines_fill, lines_given}
 use Rattle.tbr_renderer.proofs.sub.SubRenderer.columns_of.Goals as goal
 
 pub loop-col-init : goal.loop-col-init
@@ -66,7 +66,6 @@ loop-col-preserved g c =
           next.0 next.1
           (subst (λ tag. AllZip (FillsCell columns c.unwrap_or-align.result col.width tag) seen (map (map_row_line (tag_meant f)) filled)) c.in_ok-tag.ensures
           (subst (λ (n : ℕ). AllZip (FillsCell columns c.unwrap_or-align.result n (tag_meant f c.in_ok-tag.tag)) seen (map (map_row_line (tag_meant f)) filled)) c.width-width.ensures fills))
-          (λ blank. none_filled _ lines filled zip (c.in_ok-lines.ensures.blank blank))
           (c.in_ok-push.ensures.ok.2 ∙ ap (λ n. own ++ cell_behind own n c.in-Some.span filled ∷ []) c.width-width.ensures),
       c.in_ok-push.ensures.side_by_side,
     )
@@ -83,7 +82,7 @@ pub returns-clause-free : goal.returns-clause-free
 returns-clause-free g c =
     let all = c.into_iter-col-iterator.result in
     let whole = sym c.into_iter-col-iterator.ensures.into_iter_gives.0 ∙ cols_taken all all c.loop-col.col-iterator c.next.new.self c.loop-col.yielded refl c.loop-col.yielded_by c.in-None.ensures.steps in
-    subst (λ cols. AllZip LeavesFree cols c.loop-col.columns) (sym whole) c.loop-col.invariant.0.free
+    subst (λ cols. AllZip (LeavesFree g.W.CharWidth.columns) cols c.loop-col.columns) (sym whole) c.loop-col.invariant.0.free
 
 pub returns-clause-side_by_side : goal.returns-clause-side_by_side
 returns-clause-side_by_side g c = c.loop-col.invariant.1

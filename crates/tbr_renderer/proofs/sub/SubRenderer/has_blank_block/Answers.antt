@@ -1,9 +1,9 @@
-use Rattle.std.proofs.Common.{◌≡◌, ◌&&◌, not, is_none, Some, refl, ap, sym, ◌∙◌, subst}
+use Rattle.std.proofs.Common.{◌≡◌, ◌&&◌, not, is_none, Some, ap, sym, ◌∙◌, subst}
 use Rattle.std.specs.Global.{Vec}
 use Rattle.tbr_lines.specs.Block.{Block, any_line, has_no_character}
 use Rattle.tbr_renderer.specs.Renderer.{Renderer, block_width, may_overflow}
 use Rattle.tbr_renderer.specs.View.{unboxed, block_seen, IsOpened, IsFresh}
-use Rattle.tbr_renderer.proofs.Blank.{block_asked, block_tells}
+use Rattle.tbr_renderer.proofs.Blank.{block_asked}
 use Rattle.tbr_renderer.proofs.sub.SubRenderer.has_blank_block.Given.{Over}
 use Rattle.tbr_renderer.proofs.sub.SubRenderer.has_blank_block.Goals.{In-Some}
 use Rattle.tbr_renderer.proofs.sub.SubRenderer.has_blank_block.Goals as goal
@@ -15,18 +15,12 @@ fresh g c =
     let opened = subst (λ (r : R). IsOpened g.W.CharWidth.columns (block_width r) (may_overflow r) (unboxed c.self.inside.wrapping)) c.self.view_is (c.self.invariant.fresh live).opened in
     subst (λ o. IsOpened g.W.CharWidth.columns (block_width c.args.self.now) (may_overflow c.args.self.now) (unboxed o)) c.in-Some.is opened
 
-seen : (g : Over) (c : In-Some g) → block_seen g.W.CharWidth.columns (Some c.in-Some.block.value) ≡ c.args.self.now.block
+seen : (g : Over) (c : In-Some g) → block_seen (Some c.in-Some.block.value) ≡ c.args.self.now.block
 seen g c =
-    ap (λ o. block_seen g.W.CharWidth.columns (unboxed o)) (sym c.in-Some.is)
+    ap (λ o. block_seen (unboxed o)) (sym c.in-Some.is)
     ∙ ap (λ (r : Renderer g.row.D.Denot g.row.D-Annotation.Denot (Vec g.row.D-Annotation.Denot)). r.block) c.self.view_is
 
-pub returns-in-Some-clause-asks : goal.returns-in-Some-clause-asks
-returns-in-Some-clause-asks g c =
-    let some = (goal.at.returns-in-Some-clause-asks g c).In-Some in
-    block_asked g.W.CharWidth.columns c.args.self.now c.in-Some.block.value (seen g some) (fresh g some) c.is_blank.result
+pub returns-in-Some : goal.returns-in-Some
+returns-in-Some g c =
+    block_asked g.W.CharWidth.columns c.args.self.now c.in-Some.block.value (fresh g (goal.at.returns-in-Some g c).In-Some) c.is_blank.result (seen g (goal.at.returns-in-Some g c).In-Some)
     (subst (λ (b : Block (Vec g.row.D-Annotation.Denot)). c.is_blank.result ≡ is_none b.failure && (not (any_line g.W.CharWidth.columns b) && has_no_character g.W.CharWidth.columns b)) c.deref.ensures c.is_blank.ensures)
-
-pub returns-in-Some-clause-normal : goal.returns-in-Some-clause-normal
-returns-in-Some-clause-normal g c =
-    let some = (goal.at.returns-in-Some-clause-normal g c).In-Some in
-    block_tells g.W.CharWidth.columns c.args.self.now c.in-Some.block.value (seen g some) (fresh g some) (g.met.W.CharWidth.drawn_in_one 32 refl)

@@ -18,7 +18,3 @@ returns-clause-lines g c =
     let eq = g.D.Annotation.PartialEq.eq in
     let kept = c.in_ok-into_kept.ensures.lines in
     (kept.0, kept.1, same_meant (equal_lists eq) (tag_meant f) (tags_mean eq f g.met.D.TextDecorator.equal_by_meaning) (map line_seen c.in_ok-into_vec.field-0.items) c.in_ok-into_kept.field-0 c.in_ok-into_vec.ensures.lines ∙ kept.2)
-
-pub returns-clause-blank : goal.returns-clause-blank
-returns-clause-blank g c = λ blank.
-    none_of_none (equal_lists g.D.Annotation.PartialEq.eq) c.in_ok-into_vec.field-0.items (subst (λ ls. AllZip (SameSeen (equal_lists g.D.Annotation.PartialEq.eq)) (map line_seen c.in_ok-into_vec.field-0.items) ls) (c.in_ok-into_kept.ensures.blank blank) c.in_ok-into_vec.ensures.lines)

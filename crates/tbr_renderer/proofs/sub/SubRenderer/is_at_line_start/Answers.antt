@@ -10,7 +10,7 @@ returns-in-Some g c =
     let R = Renderer g.row.D.Denot g.row.D-Annotation.Denot (Vec g.row.D-Annotation.Denot) in
     let columns = g.W.CharWidth.columns in
     let live = ap (λ (r : R). r.failure) c.self.view_is ∙ c.requires in
-    let seen = ap (λ o. block_seen columns (unboxed o)) (sym c.in-Some.is) ∙ ap (λ (r : R). r.block) c.self.view_is in
+    let seen = ap (λ o. block_seen (unboxed o)) (sym c.in-Some.is) ∙ ap (λ (r : R). r.block) c.self.view_is in
     let opened = subst (λ (r : R). IsOpened columns (block_width r) (may_overflow r) (unboxed c.self.inside.wrapping)) c.self.view_is (c.self.invariant.fresh live).opened in
     let fresh = subst (λ o. IsOpened columns (block_width c.args.self.now) (may_overflow c.args.self.now) (unboxed o)) c.in-Some.is opened in
-    line_start g.D.TextDecorator.meaning columns (g.met.W.CharWidth.drawn_in_one 32 refl) c.args.self.now c.in-Some.block.value seen fresh c.at_line_start.result (rw c.deref.ensures at c.at_line_start.ensures)
+    line_start g.D.TextDecorator.meaning columns c.args.self.now c.in-Some.block.value seen fresh c.at_line_start.result (rw c.deref.ensures at c.at_line_start.ensures)

@@ -16,7 +16,7 @@ returns-clause-fresh g c =
 
 pub returns-clause-block : goal.returns-clause-block
 returns-clause-block g c =
-    ap (λ (b : Block (Vec g.row.D-Annotation.Denot)). block_meant g.W.CharWidth.columns g.D.TextDecorator.meaning b) c.in_ok-new.ensures.ok
+    ap (λ (b : Block (Vec g.row.D-Annotation.Denot)). block_meant g.D.TextDecorator.meaning b) c.in_ok-new.ensures.ok
     ∙ opened_new g.D.TextDecorator.meaning c.args.self.now g.W.CharWidth.columns c.in_ok-tag.field-0 c.self.inside.options.pad_block_width c.new-block.result c.block_columns.result _
     (ap (λ (r : Renderer g.row.D.Denot g.row.D-Annotation.Denot (Vec g.row.D-Annotation.Denot)). r.options.pad_block_width) c.self.view_is)
     c.in_ok-tag.ensures c.new-block.ensures

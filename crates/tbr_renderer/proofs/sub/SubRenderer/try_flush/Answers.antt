@@ -12,7 +12,7 @@ use Rattle.tbr_renderer.specs.Meant.{meant}
 use Rattle.tbr_renderer.specs.Renderer.{Renderer, with_line, block_width, may_overflow}
 use Rattle.tbr_renderer.specs.View.{block_seen, names_of, IsFresh}
 use Rattle.tbr_renderer.specs.Flush.{line_meant}
-use Rattle.tbr_renderer.proofs.Flushing.{markers_named, are_markers, nothing_open, block_flushed, blank_left, block_refused}
+use Rattle.tbr_renderer.proofs.Flushing.{markers_named, are_markers, nothing_open, block_flushed, block_refused}
 use Rattle.tbr_renderer.proofs.sub.SubRenderer.try_flush.Goals as goal
 
 pub flush-requires : goal.flush-requires
@@ -21,7 +21,7 @@ flush-requires g c = λ v w copy. list_copies_equal g.D.Annotation.Clone.is_clon
 pub returns-in_err-flush-clause-too_narrow : goal.returns-in_err-flush-clause-too_narrow
 returns-in_err-flush-clause-too_narrow g c = λ is.
     let fresh = subst (λ b. IsFresh g.W.CharWidth.columns (block_width c.args.self.now) (may_overflow c.args.self.now) b) (sym c.into_inner-block.ensures) c.in-Some.ensures.opened in
-    let seen = ap (λ b. block_seen g.W.CharWidth.columns (Some b)) c.into_inner-block.ensures ∙ c.in-Some.ensures.block in
+    let seen = ap (λ b. block_seen (Some b)) c.into_inner-block.ensures ∙ c.in-Some.ensures.block in
     let e : c.flush.result ≡ Err E.TooNarrow = c.in_err-flush.was ∙ ap Err (sym (subst (λ (r : Result (Unit {0}) Error). IsErrAnd r (λ x. x ≡ c.in_err-flush.field-0.0)) is c.from_residual.ensures.1)) in
     block_refused g.D.TextDecorator.meaning g.W.CharWidth.columns (g.met.W.CharWidth.drawn_in_one 32 refl) c.args.self.now c.into_inner-block.result seen fresh (c.flush.ensures.answers.too_narrow e)
 
@@ -48,7 +48,7 @@ returns-in_err-markers-clause-two_columns g c = λ two is.
 pub add_lines_of-requires-clause-ended : goal.add_lines_of-requires-clause-ended
 add_lines_of-requires-clause-ended g c =
     let fresh = subst (λ b. IsFresh g.W.CharWidth.columns (block_width c.args.self.now) (may_overflow c.args.self.now) b) (sym c.into_inner-block.ensures) c.in-Some.ensures.opened in
-    let seen = ap (λ b. block_seen g.W.CharWidth.columns (Some b)) c.into_inner-block.ensures ∙ c.in-Some.ensures.block in
+    let seen = ap (λ b. block_seen (Some b)) c.into_inner-block.ensures ∙ c.in-Some.ensures.block in
     nothing_open g.D.TextDecorator.meaning g.W.CharWidth.columns (g.met.W.CharWidth.drawn_in_one 32 refl) c.args.self.now c.into_inner-block.result seen fresh c.flush.new.self c.take_trailing_fragments.new.self c.in_ok-flush.ensures.answers.ok c.in_ok-markers.ensures.answers.ok
 
 pub add_waiting-requires : goal.add_waiting-requires
@@ -57,20 +57,8 @@ add_waiting-requires g c = are_markers (map element_of c.in_ok-markers.markers.i
 pub returns-clause-ok : goal.returns-clause-ok
 returns-clause-ok g c =
     let fresh = subst (λ b. IsFresh g.W.CharWidth.columns (block_width c.args.self.now) (may_overflow c.args.self.now) b) (sym c.into_inner-block.ensures) c.in-Some.ensures.opened in
-    let seen = ap (λ b. block_seen g.W.CharWidth.columns (Some b)) c.into_inner-block.ensures ∙ c.in-Some.ensures.block in
+    let seen = ap (λ b. block_seen (Some b)) c.into_inner-block.ensures ∙ c.in-Some.ensures.block in
     let columns = g.W.CharWidth.columns in
     block_flushed g.D.TextDecorator.meaning columns (g.met.W.CharWidth.drawn_in_one 32 refl) c.args.self.now c.into_inner-block.result seen fresh c.flush.new.self c.take_trailing_fragments.new.self c.in_ok-flush.ensures.answers.ok c.in_ok-markers.ensures.answers.ok
     (names_of (map element_of c.in_ok-markers.markers.items)) c.take_block.new.self c.add_lines_of.new.self c.add_waiting.new.self c.in-Some.ensures.rest c.in_ok-add_lines_of.ensures.lines
     (markers_named (map element_of c.in_ok-markers.markers.items) (loose columns c.flush.new.self) c.in_ok-markers.ensures.markers) c.in_ok-add_waiting.ensures.waiting
-
-pub returns-clause-blank : goal.returns-clause-blank
-returns-clause-blank g c = λ blank.
-    let R = Renderer g.row.D.Denot g.row.D-Annotation.Denot (Vec g.row.D-Annotation.Denot) in
-    let fresh = subst (λ b. IsFresh g.W.CharWidth.columns (block_width c.args.self.now) (may_overflow c.args.self.now) b) (sym c.into_inner-block.ensures) c.in-Some.ensures.opened in
-    let seen = ap (λ b. block_seen g.W.CharWidth.columns (Some b)) c.into_inner-block.ensures ∙ c.in-Some.ensures.block in
-    let f = g.D.TextDecorator.meaning in let columns = g.W.CharWidth.columns in
-    let gone = blank_left f columns (g.met.W.CharWidth.drawn_in_one 32 refl) c.args.self.now c.into_inner-block.result seen fresh c.flush.new.self c.take_trailing_fragments.new.self c.in_ok-flush.ensures.answers.ok c.in_ok-markers.ensures.answers.ok blank in
-    ap (λ (q : R). (meant f q).lines) c.in_ok-add_waiting.ensures.waiting
-    ∙ ap (λ (m : Renderer g.row.D.Denot g.D.TextDecorator.Meaning (List g.D.TextDecorator.Meaning)). m.lines)
-    (c.in_ok-add_lines_of.ensures.lines ∙ ap (λ (ls : List (List (Item (Vec g.row.D-Annotation.Denot)))). fold (with_line columns) (meant f c.take_block.new.self) (map (line_meant columns f c.take_trailing_fragments.new.self) ls)) gone)
-    ∙ ap (λ (q : R). (meant f q).lines) c.in-Some.ensures.rest

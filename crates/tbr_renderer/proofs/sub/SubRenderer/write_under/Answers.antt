@@ -2,8 +2,6 @@ use Rattle.std.proofs.Common.{chars, refl, arith}
 use Rattle.std.proofs.lemmas.Result.{on_ok_weaker}
 use Rattle.tbr_lines.proofs.BlockLaws.{text_in_two}
 use Rattle.tbr_lines.proofs.Copies.{list_copies_equal}
-use Rattle.tbr_renderer.specs.Meant.{meant}
-use Rattle.tbr_renderer.specs.Renderer.{block_width, may_overflow}
 use Rattle.tbr_renderer.proofs.Writing.{fresh_written, written, goes_on, stops}
 use Rattle.tbr_renderer.proofs.sub.SubRenderer.write_under.Goals as goal
 
@@ -12,26 +10,26 @@ add_text-requires g c = λ v w copy. list_copies_equal g.D.Annotation.Clone.is_c
 
 pub returns-clause-fresh : goal.returns-clause-fresh
 returns-clause-fresh g c =
-    let f = g.D.TextDecorator.meaning in let one = g.met.W.CharWidth.drawn_in_one 32 refl in
-    on_ok_weaker c.add_text.result (λ e. fresh_written f g.W.CharWidth.columns one c.args.block.now (block_width c.args.self.now) (may_overflow c.args.self.now) c.requires.fresh (chars c.args.text.now) c.args.main.now c.args.continued.now c.mode.result (meant f c.args.self.now)
+    let f = g.D.TextDecorator.meaning in
+    on_ok_weaker c.add_text.result (λ e. fresh_written f g.W.CharWidth.columns c.args.self.now c.args.block.now c.requires.fresh (chars c.args.text.now) c.args.main.now c.args.continued.now c.mode.result
     g.D.TextDecorator.preformatted c.requires.main c.requires.continued c.mode.ensures c.add_text.new.self e) c.add_text.ensures.answers.ok
 
 pub returns-clause-written : goal.returns-clause-written
 returns-clause-written g c =
-    let f = g.D.TextDecorator.meaning in let one = g.met.W.CharWidth.drawn_in_one 32 refl in
-    on_ok_weaker c.add_text.result (λ e. written f g.W.CharWidth.columns one c.args.block.now (block_width c.args.self.now) (may_overflow c.args.self.now) c.requires.fresh (chars c.args.text.now) c.args.main.now c.args.continued.now c.mode.result (meant f c.args.self.now)
+    let f = g.D.TextDecorator.meaning in
+    on_ok_weaker c.add_text.result (λ e. written f g.W.CharWidth.columns c.args.self.now c.args.block.now c.requires.fresh (chars c.args.text.now) c.args.main.now c.args.continued.now c.mode.result
     g.D.TextDecorator.preformatted c.requires.main c.requires.continued c.mode.ensures c.add_text.new.self e) c.add_text.ensures.answers.ok
 
 pub returns-clause-goes_on : goal.returns-clause-goes_on
 returns-clause-goes_on g c =
-    let f = g.D.TextDecorator.meaning in let one = g.met.W.CharWidth.drawn_in_one 32 refl in
-    on_ok_weaker c.add_text.result (λ e. goes_on f g.W.CharWidth.columns one c.args.block.now (block_width c.args.self.now) (may_overflow c.args.self.now) c.requires.fresh (chars c.args.text.now) c.args.main.now c.args.continued.now c.mode.result (meant f c.args.self.now)
+    let f = g.D.TextDecorator.meaning in
+    on_ok_weaker c.add_text.result (λ e. goes_on f g.W.CharWidth.columns c.args.self.now c.args.block.now c.requires.fresh (chars c.args.text.now) c.args.main.now c.args.continued.now c.mode.result
     g.D.TextDecorator.preformatted c.requires.main c.requires.continued c.mode.ensures c.add_text.new.self e) c.add_text.ensures.answers.ok
 
 pub returns-clause-too_narrow : goal.returns-clause-too_narrow
 returns-clause-too_narrow g c = λ is.
-    let f = g.D.TextDecorator.meaning in let one = g.met.W.CharWidth.drawn_in_one 32 refl in
-    stops f g.W.CharWidth.columns one c.args.block.now (block_width c.args.self.now) (may_overflow c.args.self.now) c.requires.fresh (chars c.args.text.now) c.args.main.now c.args.continued.now c.mode.result (meant f c.args.self.now)
+    let f = g.D.TextDecorator.meaning in
+    stops f g.W.CharWidth.columns c.args.self.now c.args.block.now c.requires.fresh (chars c.args.text.now) c.args.main.now c.args.continued.now c.mode.result
     g.D.TextDecorator.preformatted c.requires.main c.requires.continued c.mode.ensures (c.add_text.ensures.answers.too_narrow is)
 
 pub returns-clause-two_columns : goal.returns-clause-two_columns
