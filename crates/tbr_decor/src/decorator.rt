@@ -158,7 +158,7 @@ pub trait TextDecorator: Drop {
         ensures after { OnOk result (self.new ≡ after self.old (change.image (chars src.now) (chars title.now))) }
         ensures err { OnErr result (self.new ≡ self.old) };
 
-    /// The text before each line of a header of a level.
+    /// The text before each line of a header of the given level.
     fn header_prefix(&self, alloc: Global, level: usize) -> Result<String, OutOfMemory>
         ensures { IfOk result (λ text. chars_of text ≡ prefix_text self.now (prefix.header level)) };
 
