@@ -46,7 +46,7 @@ pub data Call (T : Type 0) : Type 0 where
   append_subrender : List (List ℕ) → List (Line T) → Call T
   append_vert_row : List (List (Line T)) → Call T
 
--- laid items as entries that stand for them: no annotation but their own comes into question
+-- laid items as entries that stand for them, under no annotation but their own
 abbrev pub laid_entry : {T : Type 0} → Item T → Entry T
 laid_entry (glyph c tag) = character c tag tag Pre
 laid_entry (marker name) = marker_entry name

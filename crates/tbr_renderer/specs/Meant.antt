@@ -23,7 +23,7 @@ abbrev pub map_line : {T U : Type 0} → (T → U) → Line T → Line U
 map_line f (text is) = text (map_items f is)
 map_line f (border b) = border (map_border f b)
 
--- and an open block; whether it is blank isn't told, and it says no
+-- and an open block; whether it is blank isn't known of it, and is false
 abbrev pub map_open : {T U : Type 0} → (T → U) → Open T → Open U
 map_open f b = record { padding = option_map f b.padding; run = map_run f b.run; blank = false }
 

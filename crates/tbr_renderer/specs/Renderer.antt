@@ -24,7 +24,7 @@ pub data Line (T : Type 0) : Type 0 where
 pub record Open (T : Type 0) : Type 0 where
   pub padding : Option T
   pub run : List (Entry T)
-  -- Whether no line of it has ended, and what is open holds no character. Its meaning doesn't tell: it says no there.
+  -- Whether no line of it has ended, and what is open holds no character. It is false in a block by what its tags mean.
   pub blank : Bool
 
 -- A renderer, whose decorator is a `D`. Text is under a `T`, which holds several annotations `A`.

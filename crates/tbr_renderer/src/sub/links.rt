@@ -24,7 +24,7 @@ impl<D: TextDecorator, W: CharWidth> SubRenderer<D, W> {
     /// The lines that the decorator makes of the targets of links in their order. Without footnotes it is asked for no
     /// target. The targets are dropped.
     ///
-    /// It refuses only for want of memory, and then the renderer has failed. One that had failed answers its refusal.
+    /// Its only refusal is `OutOfMemory`, after which the renderer has failed. One that had failed answers its refusal.
     pub fn finalise(&mut self, links: Vec<String>) -> Result<Vec<TaggedLine<D::Annotation>>, Error>
         ensures lines { IfOk result (λ lines. lines_meant D.meaning lines.items
             ≡ D.footnotes self.old.decorator (listed self.old.options (map chars_of links.items))) }
@@ -72,8 +72,8 @@ impl<D: TextDecorator, W: CharWidth> SubRenderer<D, W> {
     /// an empty line. The lines come after the markers that wait, and are filled where lines are padded. The open run
     /// stays open.
     ///
-    /// It refuses only for want of memory, also where the columns of a line pass `usize`, and then the renderer has
-    /// failed. One that had failed answers its refusal.
+    /// Its only refusal is `OutOfMemory`, also where the columns of a line pass `usize`. The renderer has then failed.
+    /// One that had failed answers its refusal.
     pub fn fmt_links(&mut self, links: Vec<TaggedLine<D::Annotation>>) -> Result<(), Error>
         ensures ok { OnOk result (meant D.meaning self.new
             ≡ with_footnotes W.columns (meant D.meaning self.old) (lines_meant D.meaning links.items)) }
