@@ -1,4 +1,4 @@
--- A level opens and closes in one way. Where all that is before wraps normally, so does all that is behind.
+-- A level opens and closes in one way. Where all that is before wraps normally, so does all that is after it.
 use Rattle.std.proofs.Common.{◌≡◌, ℕ, List, [], ◌∷◌, Some, sym, ap, ◌∙◌, subst}
 use Rattle.std.specs.List.{AllByRecursion as Each}
 use Rattle.tbr_lines.specs.declared.CellAlign.{CellAlign}
