@@ -451,7 +451,7 @@ static tbr_status run_line(tbr_renderer **r, slice line) {
     return opening(line, &options) ? tbr_new(&options, r) : TBR_NOT_A_COMMAND;
 }
 
-/* Makes all calls of a script on a renderer that its first command makes. `*end` is the number of the line behind it. */
+/* Makes all calls of a script on a renderer that its first command makes. `*end` is the number of the line after it. */
 static outcome fill(slice script, tbr_renderer **r, size_t *end) {
     for (*end = 1; script.length; ++*end) {
         tbr_status status = run_line(r, next_line(&script));
