@@ -9,7 +9,7 @@ use Rattle.tbr_decor.specs.declared.annotation.RichAnnotation.TheVariants as ric
 use Rattle.tbr_show.specs.Written.{printable, colour_parts}
 use Rattle.tbr_show.specs.Target.{encoded, is_followed}
 
--- a character, as HTML has it
+-- a character, as HTML writes it
 abbrev pub escaped : ℕ → List ℕ
 escaped c =
     if c == 38 then codes "&amp;"

@@ -88,7 +88,7 @@ pub fn form_of(word: &str) -> Option<&'static str> {
     FORMS.iter().copied().find(|form| first_word(form) == word)
 }
 
-/// How many edits lead too far from a word: three, or as many as it has bytes.
+/// How many edits are too many for a word: three, or as many as it has bytes if these are fewer.
 fn too_far(word: &str) -> usize
     ensures { result ≡ model.too_far word.now }
 {

@@ -96,7 +96,7 @@ fn told_behind(alloc: Global, calls: usize) -> Result<Vec<u8>, Fail> {
     Ok(told)
 }
 
-/// The writer has a beginning of the text, and no more, wherever it fails.
+/// Wherever the writer fails, it has a beginning of the text and no more.
 fn writers_fail(rt: &impl Abort, alloc: Global) -> Result<(), Fail> {
     for calls in 0..TEXT.len() {
         let told = outcome(alloc, SCRIPT, Slow::new(alloc, 3, calls))?;
