@@ -71,7 +71,7 @@ line_has_character line = has_character (map (λ s. s.item) line)
 abbrev pub MayBegin : {A : Type 0} → Slot A → Type 0
 MayBegin s = IsTrue (s.begins || s.wider)
 
--- A wider word begins no line's middle.
+-- In the middle of a line no wider word begins.
 abbrev pub MayFollow : {A : Type 0} → Slot A → Type 0
 MayFollow s = IsTrue (not (s.begins && s.wider))
 

@@ -63,7 +63,7 @@ pub record IsAtProgress {A : Type 0} (columns : ℕ → Option ℕ) (eq : A → 
 abbrev pub join_all : {A : Type 0} → List ℕ → A → WhiteSpace → Progress A → Progress A
 join_all cs a mode p = fold (λ q c. join c a mode q) p cs
 
--- The rule stands somewhere.
+-- The rule is somewhere.
 abbrev pub IsUnderWay : {A : Type 0} → (ℕ → Option ℕ) → (A → A → Bool) → Wrapper A → Type 0
 IsUnderWay {A} columns eq b = (before : List (List (Item A))) × (given : List (List (Item A))) × (p : Progress A)
     × IsAtProgress columns eq b before given p
