@@ -414,8 +414,8 @@ static inline void tbr_free(tbr_renderer *renderer) {
 /* ---- filling it: text, blocks and lines ---- */
 
 /*
- * All calls from here to tbr_finish_text fill the innermost level that is open. Besides what is said at each, they answer
- * TBR_OUT_OF_MEMORY, TBR_TOO_NARROW where they place a word, and TBR_FINISHED where the renderer is finished.
+ * All calls from here to tbr_finish_text fill the innermost level that is open. Besides what is said at each call, they
+ * answer TBR_OUT_OF_MEMORY, TBR_TOO_NARROW where they place a word, and TBR_FINISHED where the renderer is finished.
  */
 
 /* Adds text. White space counts as the mode that was pushed last says. A text ends no word: two texts without white

@@ -50,8 +50,8 @@ impl<T: Eq + Clone + Drop> Columns<T> {
     /// filled up to its width: a text with spaces under copies of the tag, as the alignment says, and a border with
     /// `─`.
     ///
-    /// Where memory is refused, or a place or a line's columns pass `usize`, the cell and its lines are dropped, and the
-    /// others stay.
+    /// Where memory is refused, or a place or a line's columns pass `usize`, the cell and its lines are dropped, and
+    /// the others stay.
     pub fn push<W: CharWidth>(
         &mut self,
         width: usize,

@@ -103,7 +103,8 @@ impl<D: TextDecorator, W: CharWidth> Program<D, W> {
 
     /// Does what a command asks for, on the line of this number.
     ///
-    /// After `OutOfMemory` and `TooNarrow` the program isn't to be used any more. Each other refusal leaves it as it was.
+    /// After `OutOfMemory` and `TooNarrow` the program isn't to be used any more. Each other refusal leaves it as it
+    /// was.
     pub fn run(&mut self, alloc: Global, number: usize, command: &Command) -> Result<(), RunError>
         requires live { GoesOn self.old }
         requires sized { IsSized (command_of command.now) }
