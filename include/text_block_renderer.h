@@ -155,9 +155,9 @@ typedef struct tbr_renderer tbr_renderer;
 typedef struct tbr_answer {
     /* A tbr_status. */
     uint32_t status;
-    /* The line at fault, from 1, at TBR_NOT_A_COMMAND, TBR_NOTHING_TO_END and TBR_ROW_DOES_NOT_FIT; 0 else. */
+    /* The line at fault, from 1, at TBR_NOT_A_COMMAND, TBR_NOTHING_TO_END and TBR_ROW_DOES_NOT_FIT; 0 at any other. */
     size_t line;
-    /* The bytes of the whole text at TBR_OK; 0 else. */
+    /* The bytes of the whole text at TBR_OK; 0 at any other. */
     size_t length;
 } tbr_answer;
 

@@ -16,7 +16,7 @@ wide_character = 0x6F22
 abbrev pub wide_space : ℕ
 wide_space = 0x3000
 
--- The columns of printable ASCII, and of characters beside it: two wide ones, of which one is a space, a stroke and a
+-- The columns of printable ASCII, and of some other characters: two wide ones, of which one is a space, a stroke and a
 -- break point that take none, and a space at which no line breaks.
 abbrev pub example_columns : ℕ → Option ℕ
 example_columns c =

@@ -232,8 +232,8 @@ impl<T> BorderHoriz<T> {
         self.shape.segments.is_empty()
     }
 
-    /// The text of the line above: `│` above each `┴`, `┼`, `└` and `┘`, also under holes, and spaces else. It refuses
-    /// only where memory is refused.
+    /// The text of the line above: `│` above each `┴`, `┼`, `└` and `┘`, also under holes, and spaces elsewhere. It
+    /// refuses only where memory is refused.
     pub fn to_vertical_lines_above(&self) -> Result<String, OutOfMemory>
         ensures { IfOk result (λ text. chars_of text ≡ model.lines_above self.now) }
     {

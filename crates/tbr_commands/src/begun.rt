@@ -18,7 +18,7 @@ pub struct Begun {
     pub emphases: usize,
     /// Stretches of strong text.
     pub strongs: usize,
-    /// Stretches of struck out text, also where it has no strokes.
+    /// Stretches of struck out text, even where it has no strokes.
     pub strikeouts: usize,
     /// Stretches of code.
     pub codes: usize,

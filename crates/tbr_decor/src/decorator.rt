@@ -19,7 +19,7 @@ use tbr_tagged::{OutOfMemory, TaggedLine};
 /// Puts texts round parts of a document, such as `*` round emphasised text. It gives annotations of what is between,
 /// such as its colour.
 ///
-/// The texts are wrapped with the document's own. The annotations are beside it, for whoever shows the lines. A call
+/// The texts are wrapped with the document's own. The annotations come with the lines, for whoever shows these. A call
 /// answers [`OutOfMemory`] where memory is refused or the size of a text passes `usize`, and then leaves the decorator
 /// as it was.
 ///

@@ -43,7 +43,7 @@ abbrev pub hard_lines : {A : Type 0} → List (Entry A) → List (List (Entry A)
 hard_lines [] = [] ∷ []
 hard_lines (e ∷ es) = if is_newline e then [] ∷ hard_lines es else onto_first e (hard_lines es)
 
--- The lines are groups, one for each part, and each part has its relation to its group. The relation is told whether
+-- The lines are groups, one for each part, and each part has its relation to its group. The relation is given whether
 -- another part follows.
 abbrev pub Parted : {X Y : Type 0} → (Bool → X → List Y → Type 0) → List X → List Y → Type 0
 Parted R [] ys = ys ≡ []

@@ -446,8 +446,8 @@ pub trait Renderer {
             OnErr result (stops_at_stage call.new_line self.old self.new) }
         ensures kept { KeepsFailure kept_refusal self.old result self.new };
 
-    /// Begins text in a colour, whose annotation joins the others, if the decorator has one. Its only refusal is
-    /// `OutOfMemory`.
+    /// Begins text in a colour, whose annotation joins the others, if the decorator has one. The only refusal of its
+    /// own is `OutOfMemory`.
     fn push_colour(&mut self, colour: Colour) -> Result<(), Error>
         ensures ok { OnOk result (does (call.push_colour ground.text colour) self.old self.new) }
         ensures memory { kept_refusal self.old ≡ None → result ≢ Err E.TooNarrow }

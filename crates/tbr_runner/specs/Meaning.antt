@@ -83,7 +83,7 @@ abbrev pub with_blank : {D A T : Type 0} → Bool → Renderer D A T → Rendere
 with_blank {D} {A} {T} blank r = record r { block = option_map (λ (b : Open T). record b { blank = blank }) r.block }
 
 module _ {D M : Type 0} (columns : ℕ → Option ℕ) where
-  -- How a cell may look: its columns, and whether nothing is in it, as far as that is told of an open block.
+  -- How a cell may look: its columns, and whether nothing is in it, as far as that is known of an open block.
   abbrev pub MayLook : Renderer D M (List M) × ℕ → ℕ × Bool → Type 0
   MayLook col look =
       (blank : Bool) × TellsBlank columns (with_blank blank col.0) × (look ≡ looks (with_blank blank col.0, col.1))

@@ -167,7 +167,7 @@ fn kind(annotation: &RichAnnotation) -> &'static str
     }
 }
 
-/// Writes what an annotation has beside its kind.
+/// Writes what an annotation has besides its kind.
 fn write_details(writer: &mut Writer, annotation: &RichAnnotation) -> Result<(), OutOfMemory>
     ensures tokens { OnOk result (writer.new.tokens ≡ writer.old.tokens ++ model.details annotation.now) }
     ensures before { OnOk result (writer.new.before ≡ writer.old.before) }

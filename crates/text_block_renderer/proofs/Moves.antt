@@ -65,7 +65,7 @@ brought-append (m ∷ ms) ns = ap (λ es. brought_by m ++ es) (brought-append ms
 
 -- ---- kinds
 
--- Moves of any calls, of such that no border becomes text, and of such that append nothing.
+-- Moves of any calls, of calls of which no border becomes text, and of calls that append nothing.
 pub data Kind : Type 0 where
   any : Kind
   undrawn : Kind

@@ -15,7 +15,8 @@ abbrev pub MayJoin : (ℕ → Option ℕ) → WhiteSpace → ℕ → Type 0
 MayJoin columns mode c = (is_kept columns c ≡ true) ⊎ ((is_blank c ≡ true) × (mode ≢ Normal))
 
 -- A relation of the entries that came, what is laid and the word under way, that each elementary change keeps. An entry
--- has a property, and so have its annotations and its mode. Whoever asks for rooms is told that a space has room.
+-- has a property, and so have its annotations and its mode. Where rooms are asked for, it is known that a space has
+-- room.
 pub record KeptByRule {A : Type 0} (columns : ℕ → Option ℕ) (width : ℕ) (Comes : Entry A → Type 0) (Tag : A → Type 0) (Mode : WhiteSpace → Type 0) (Rooms : Type 0)
     (R : List (Entry A) → Laid A → List (Item A) → Type 0) : Type 0 where
   pub tags : (c : ℕ) (a b : A) (m : WhiteSpace) → Comes (character c a b m) → Tag a × Tag b × Mode m
