@@ -28,8 +28,8 @@
  * their own; the library has no state beside them. No call may come from a signal handler, nor in the forked child
  * of a process with threads.
  *
- * WHAT C CAN'T STOP, and the library can't see: a call with a renderer after tbr_free, a second tbr_free, a pointer
- * that tbr_new didn't give, bytes fewer than their number says, and an out pointer that is NULL.
+ * WHAT C CAN'T STOP, and the library can't see: a call with a renderer after tbr_free, a second tbr_free, and a pointer
+ * that tbr_new didn't give. So are fewer bytes than their number says, and an out pointer that is NULL.
  */
 #ifndef TEXT_BLOCK_RENDERER_H
 #define TEXT_BLOCK_RENDERER_H

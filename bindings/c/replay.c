@@ -2,8 +2,8 @@
  * Reads a script from standard input, and makes its calls on a renderer one by one. It ends as blockrender does: the
  * same text, the same line on standard error, the same status.
  *
- * Beside that it asks for the lines piece by piece, for the text alone, and for the script as a whole, and ends with
- * status 99 where these aren't the same text.
+ * Besides, it asks for the lines piece by piece, for the text alone, and for the script as a whole. It ends with status
+ * 99 where these aren't the same text.
  */
 #include <stdio.h>
 #include <stdlib.h>

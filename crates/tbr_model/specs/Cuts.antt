@@ -38,8 +38,8 @@ placed_by_cuts items n cuts = slice_index_or cuts n items
 abbrev pub BeginsWider : {A : Type 0} → Slot A → Type 0
 BeginsWider s = IsTrue (s.begins && s.wider)
 
--- A legal layout: every line fits; no cut is inside a word that is no wider than a line; and the first item of a wider
--- word is at a cut. Cuts inside a wider word are free.
+-- A legal layout: every line fits, no cut is inside a word that is no wider than a line, and a wider word begins at a
+-- cut. Cuts inside a wider word are free.
 pub record IsLegalLayout {A : Type 0} (width : ℕ) (slots : List (Slot A)) (cuts : List ℕ) : Type 0 where
   pub layout : IsLayout (length slots) cuts
   pub fits : Each (λ line. line_width line ≤ width) (lines_between slots cuts)

@@ -170,8 +170,8 @@ first_stretch [] = []
 first_stretch (c ∷ cs) = if c == space_character then [] else c ∷ first_stretch cs
 
 -- How a line begins after spaces that are dropped, and after the line before, which is empty where the hard line
--- begins: with the hard line, or with a stretch that doesn't fit after that line with the spaces. If no spaces are
--- dropped, it goes on with a stretch that filled the line before alone.
+-- begins. It begins with the hard line, or with a stretch that doesn't fit after that line with the spaces. If no
+-- spaces are dropped, it goes on with a stretch that filled the line before alone.
 abbrev pub BeginsBehind : ℕ → List ℕ → ℕ → List ℕ → Type 0
 BeginsBehind width before gap l =
     ((before ≡ []) × (gap ≡ 0))

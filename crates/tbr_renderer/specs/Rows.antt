@@ -68,8 +68,8 @@ abbrev pub GivesCell : {S T : Type 0} →
 GivesCell columns_of hands_out col cell =
     (cell.width ≡ columns_of col.0) × (cell.span ≡ col.1) × hands_out col.0 cell.lines
 
--- A line of a cell is filled up to its width: a text with spaces as the alignment says, its pieces the longest
--- stretches under one annotation, and a border with `─`.
+-- A line of a cell is filled up to its width. A text is filled with spaces as the alignment says, in pieces that are
+-- the longest stretches under one annotation, and a border with `─`.
 abbrev pub FillsCell : {A : Type 0} → (ℕ → Option ℕ) → CellAlign → ℕ → A → Line A → RenderLine A → Type 0
 FillsCell columns align width a (text is) (Text es) =
     (items_of es ≡ aligned_items align is (width - items_width columns is) a) × AreLongest es

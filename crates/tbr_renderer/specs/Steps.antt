@@ -39,8 +39,8 @@ module _ {D A : Type 0} (columns : ℕ → Option ℕ) where
   abbrev pub BreaksLine : Renderer D A (List A) → Renderer D A (List A) → Type 0
   BreaksLine r s = (at : Bool) × BlockIsAtLineStart r at r.block × BreaksLineAt at r s
 
-  -- Whether no block is open, or the open one is empty: a `Normal` run decides it where no line may be wider than the
-  -- block, and a visible character that takes columns says no in any run.
+  -- Whether no block is open, or the open one is empty. A `Normal` run decides it where no line may be wider than the
+  -- block. In any run a visible character that takes columns says no.
   abbrev pub BlockIsEmpty : Renderer D A (List A) → Bool → Option (Open (List A)) → Type 0
   BlockIsEmpty r empty None = empty ≡ true
   BlockIsEmpty r empty (Some b) =

@@ -38,9 +38,9 @@ IsNarrowIfVisible columns width (marker_entry name) = Unit {0}
 abbrev pub VisibleFit : {A : Type 0} → (ℕ → Option ℕ) → ℕ → List (Entry A) → Type 0
 VisibleFit columns width run = Each (IsNarrowIfVisible columns width) run
 
--- The lines of a run: for a `Normal` run where no line may be wider than the block the texts of its best layout; for
--- any run lines that hold its visible characters once and in order; and for a preserving run, hard line by hard line,
--- what its mode promises.
+-- The lines of a run. Those of a `Normal` run, where no line may be wider than the block, are the texts of its best
+-- layout. Those of any run hold its visible characters once and in order. Those of a preserving run are, hard line by
+-- hard line, what its mode promises.
 pub record IsShownBy {A : Type 0} (columns : ℕ → Option ℕ) (width : ℕ) (may_overflow : Bool)
     (run : List (Entry A)) (texts : List (List (Item A))) : Type 0 where
   pub best : may_overflow ≡ false → IsNormal run → HasBestLines columns width run texts

@@ -22,8 +22,7 @@ use tbr_tagged::{Error, OutOfMemory, TaggedLine, TaggedLineElement, UnicodeColum
 ///
 /// The text that comes between two flushes is a run: [`add_text`](WrappedBlock::add_text) adds to it, and
 /// [`flush`](WrappedBlock::flush) ends it. The lines of a `Normal` run, where none may be wider than the block, are
-/// those of the layout that is ahead of every legal one: after any number of lines no legal layout has placed more of
-/// the run.
+/// those of the best layout. After any number of lines no legal layout has placed more of the run.
 ///
 /// A call that refuses leaves the block failed. The block keeps that refusal: each later call that can refuse answers
 /// it, and does nothing else. A contract sees what [`Block`] lists, and says by an equation what each call makes of it.
@@ -211,8 +210,8 @@ impl<T: Eq + Clone, W: CharWidth> WrappedBlock<T, W> {
         Ok(rest)
     }
 
-    /// The text joins the run, in the given mode: each character under a copy of the main tag, or of the wrap tag where
-    /// its hard line goes on after a full line.
+    /// The text joins the run, in the given mode. Each character is under a copy of the main tag, or of the wrap tag
+    /// where its hard line goes on after a full line.
     ///
     /// A word that ends is placed. `TooNarrow` never comes where lines may be wider. In a `Normal` run it comes exactly
     /// where a break point of the text ends a word of the run that has a character wider than the block. In any other

@@ -78,8 +78,8 @@ pub fn runs_decide_what_is_open<T>()
         takes_no_columns columns s ≡ false → has_no_character columns s ≡ false }
 {}
 
-/// The loose markers are the last ones of the run, after its last visible character; in a `Normal` run where no line
-/// may be wider than the block they are those after its last kept one.
+/// The loose markers are the last ones of the run, after its last visible character. In a `Normal` run, where no line
+/// may be wider than the block, they are those after its last kept one.
 pub fn loose_markers_are_last<T>()
     ensures last { (columns : ℕ → Option ℕ) (s : Block T) →
         loose columns s ≡ last (length (loose columns s)) (names_in_run (run_of s.events)) }

@@ -641,9 +641,9 @@ impl<T: Eq + Clone + Drop> Wrapper<T> {
         self.room()
     }
 
-    /// The characters that a text begins with and that join the word under the tag of this call: as many as are plain,
-    /// and where there are none of these, as many of any script. In `Pre` the spaces after a character of the word are
-    /// plain. None where there are none.
+    /// The characters that a text begins with and that join the word under the tag of this call. They are as many plain
+    /// ones as there are, and where there are none, as many of any script. In `Pre` the spaces after a character of the
+    /// word are plain. None where there are none.
     fn fitting_stretch<W: CharWidth>(&self, text: &str, mode: WhiteSpace) -> Option<Stretch>
         ensures some { IfSome result (λ s. 0 < s.count) }
         ensures stretch { IfSome result (λ s.
@@ -788,9 +788,9 @@ impl<T: Eq + Clone + Drop> Wrapper<T> {
         self.add_words::<W>(text, main_tag, wrap_tag)
     }
 
-    /// Adds the beginning of a text to a run, and answers how many bytes and characters that is: the words that it
-    /// begins with, where they go on the open line or on a fresh one at once, else the characters that join the word
-    /// under the tag of this call, and else its first character.
+    /// Adds the beginning of a text to a run, and answers how many bytes and characters that is. It adds the words that
+    /// the text begins with, where they go on the open line or on a fresh one at once. Else it adds the characters that
+    /// join the word under the tag of this call, and else the first character.
     pub fn add_front<W: CharWidth>(
         &mut self,
         text: &str,

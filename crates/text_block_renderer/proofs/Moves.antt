@@ -14,7 +14,7 @@ use Rattle.tbr_renderer.specs.Calls.{Call, laid_entries}
 use Rattle.text_block_renderer.specs.Drawn.{DrawNone}
 use Rattle.text_block_renderer.specs.Stretches.{AppendsNothing}
 
--- The end of the open run; where no block is open, a line of text or a border; entries that join the open run; or a
+-- The end of the open run; a line of text or a border, where no block is open; entries that join the open run. Or a
 -- change of what isn't text.
 pub data Move (T : Type 0) : Type 0 where
   flush : Move T
