@@ -63,7 +63,6 @@ flushed columns r lines names =
     let s = fold (with_line columns) (record r { block = None }) lines in
     record s { waiting = s.waiting ++ names }
 
--- the end of a block
 pub record EndsBlock {D A : Type 0} (columns : ℕ → Option ℕ) (r : Renderer D A (List A)) (b : Open (List A))
     (s : Renderer D A (List A)) : Type 0 where
   pub texts : List (List (Item (List A)))

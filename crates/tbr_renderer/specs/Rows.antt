@@ -152,7 +152,6 @@ pub record PutsRow {D A : Type 0} (columns : ℕ → Option ℕ) (collapses : Bo
   pub own : List (Cell (List A))
   pub come : AllZip (ComesAs columns r.annotations) cells own
   pub side_by_side : AreSideBySide 0 own
-  -- the row
   pub row : SeenRow (List A)
   pub means : MeansRow columns (style_in r collapses) r.annotations r.hanging own (last_border r.lines) row
   pub is : s ≡ with_row columns r row
