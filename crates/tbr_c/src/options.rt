@@ -51,7 +51,7 @@ impl Options {
     }
 }
 
-/// The decorator with a number.
+/// The decorator that a number names.
 fn decorator(number: u32) -> Result<Decorator, Fault> {
     match number {
         0 => Ok(Decorator::Plain),

@@ -88,7 +88,7 @@ impl<T> Characters<T> {
         self.word.first()
     }
 
-    /// Changes nothing: it holds characters alone.
+    /// Changes nothing. Its contract says that all items are characters.
     pub fn holds_characters(&self)
         ensures placed { Each (λ i. is_glyph i ≡ true) self.now.placed }
         ensures word { Each (λ i. is_glyph i ≡ true) self.now.word }

@@ -36,7 +36,7 @@ mod rows;
 mod strikeouts;
 mod texts;
 
-/// A renderer of a width in columns, whose text is under lists of what its decorator annotates with.
+/// A renderer of a width in columns, whose text is under lists of its decorator's annotations.
 #[derive(Drop)]
 pub struct SubRenderer<D: TextDecorator, W: CharWidth = UnicodeColumns> {
     alloc: Global,
