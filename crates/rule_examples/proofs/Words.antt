@@ -60,7 +60,7 @@ pub two_texts_are_one_run : {A : Type 0} (a b : A) →
     ≡ done (line a (codes "abc d") ∷ [])
 two_texts_are_one_run a b = refl
 
--- two texts without white space between them are one word, each character under its own annotation, also where it is
+-- two texts without white space between them are one word, each character under its own annotation, even where it is
 -- cut
 pub a_word_under_two_annotations_keeps_both : {A : Type 0} (a b : A) →
     lines_in 3 (text Normal a a (codes "ab") ∷ text Normal b b (codes "cde") ∷ [])

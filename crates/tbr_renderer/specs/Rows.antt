@@ -45,7 +45,7 @@ looks col = (col.0.width, is_blank col.0)
 abbrev pub spots_of : {D A T : Type 0} → List (Renderer D A T × ℕ) → List Spot
 spots_of cols = spots_from 0 (map looks cols)
 
--- A cell of such a renderer takes as many columns, and has no line where nothing is in the renderer.
+-- A cell of a renderer takes the renderer's columns, and has no line where nothing is in the renderer.
 abbrev pub LeavesFree : {D A T : Type 0} → Renderer D A T × ℕ → Cell T → Type 0
 LeavesFree col cell = (cell.width ≡ col.0.width) × (is_blank col.0 ≡ true → cell.lines ≡ [])
 

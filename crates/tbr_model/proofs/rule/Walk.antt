@@ -1,4 +1,4 @@
--- The rule, walked once: what each elementary change keeps is so of all that the rule lays.
+-- The rule, walked once: what each elementary change keeps holds of all that the rule lays.
 use Rattle.std.proofs.Common.{◌≡◌, ◌≢◌, ℕ, zero, suc, ◌+◌, ◌-◌, ◌%◌, ◌<◌, ◌≤◌, ◌==◌, ◌&&◌, ◌⊎◌, inl, inr, nat_le, nat_lt, Bool, true, false, not, if◌then◌else◌, is_some, is_none, Option, Some, None, List, [], ◌∷◌, ◌++◌, fold, refl, ap, sym, subst, append_assoc, append-nil, arith, leb-true, leb-false, ltb-true}
 use Rattle.std.specs.List.{AllByRecursion as Each}
 use Rattle.std.proofs.lemmas.Bool.{cond_both, eqb-true, eqb-false, and_left, and_parts, or_right}
