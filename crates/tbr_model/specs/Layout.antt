@@ -4,8 +4,8 @@ use Rattle.std.specs.List.{AllByRecursion as Each}
 use Rattle.tbr_model.specs.Codes.{space_character}
 use Rattle.tbr_model.specs.Run.{Entry, Item, glyph, item_width, items_width, kept_items, has_character, Word, words_of}
 
--- An item of a run, with what a line has to know of it: its width, whether it begins a word and after which gap. It has
--- too whether its word is wider than a line.
+-- An item of a run, with what a line has to know of it. That is its width, whether it begins a word and after which
+-- gap, and whether its word is wider than a line.
 pub record Slot (A : Type 0) : Type 0 where
   pub item : Item A
   pub width : ℕ

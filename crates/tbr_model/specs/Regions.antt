@@ -70,7 +70,7 @@ words_behind columns before [] rest =
 words_behind columns before (r ∷ rs) rest =
     word_behind columns before r.content ∷ words_behind columns (r.break ∷ []) rs rest
 
--- The words of the regions and the rest. No break point ended a word before the first, so its gap looks from the run's
+-- The words of the regions and the rest. No break point ended a word before the first, so its gap is from the run's
 -- start on. It never counts, since the first word begins a line.
 abbrev pub words_between : {A : Type 0} → (ℕ → Option ℕ) → List (Region A) → List (Entry A) → List (Word A)
 words_between columns regions rest = words_behind columns [] regions rest

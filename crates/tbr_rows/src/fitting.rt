@@ -54,7 +54,7 @@ impl<'a, T> Fitting<'a, T> {
             self.fits = self.fits && first.width == width && is_blank;
             self.first = self.rest.next();
         }
-        // The place is counted on only while a cell waits after this one, so no place passes `usize`.
+        // The place is counted only while a cell waits after this one, so no place passes `usize`.
         if let Some(next) = self.first {
             if next.place - self.at > width {
                 self.at += width + 1;

@@ -64,7 +64,7 @@ pub record Closes {D A T : Type 0} (p : Progress D A T) (by : Opener) (inside : 
   pub stack : next.stack ≡ below p.stack
 
 -- What the end of a script gives, which counts as the line of this number: its text with the footnotes of its links, or
--- that something is too narrow. Where a level is open or a cell waits, it is no command.
+-- that something is too narrow. Where a level is open or a cell waits, the end is no command.
 abbrev pub Ends :
     {D M : Type 0} → (ℕ → Option ℕ) → Decoration D M → Progress D M (List M) → ℕ → Result (List ℕ) RunError → Type 0
 Ends columns decoration p number outcome =

@@ -79,7 +79,7 @@ IsUnderOwn Same es (glyph c x) = HasOwnAnnotation Same es x
 IsUnderOwn Same es (marker name) = Unit {0}
 
 -- In a run of `Pre` alone a hard line that fits isn't cut. Each visible character there is under its own annotation,
--- and any other under the own annotation of an entry of the hard line.
+-- and any other character is under that of some entry of the hard line.
 pub record ShowsFitting {A : Type 0} (columns : ℕ → Option ℕ) (Same : A → A → Type 0) (width : ℕ) (more : Bool)
     (h : List (Entry A)) (ls : List (List (Item A))) : Type 0 where
   pub uncut : LineFits columns width h → length ls ≤ 1
