@@ -598,7 +598,7 @@ static buffer read_all(FILE *file) {
     return all;
 }
 
-/* The exit status of an outcome, which is told on standard error. */
+/* The exit status of an outcome, which is written to standard error. */
 static int tell(outcome ended) {
     if (ended.status == TBR_OK) {
         return 0;

@@ -171,8 +171,8 @@ impl Levels {
         Ok(())
     }
 
-    /// The innermost level closes, if one is open. What was known of the level outside is known again. So is a text
-    /// that is too wide, if none was known there.
+    /// The innermost level closes, if one is open. What was known of the level outside is known again. A text inside
+    /// that is too wide is then known there, if none was.
     pub fn leave(&mut self) -> Option<Opener>
         ensures closed { IfSome result (λ by. model.Leaves self.old.inside.items self.old.notes by
             self.new.inside.items self.new.notes) }

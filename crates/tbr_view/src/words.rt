@@ -95,8 +95,8 @@ fn too_far(word: &str) -> usize
     word.len().min(3)
 }
 
-/// A text whose first word is as near to a word as any, if it is at most two edits away, and fewer than the word has
-/// bytes. It refuses only where memory is refused.
+/// One of the texts whose first words are nearest to a word. `None` where all are three edits away or more, or as many
+/// as the word has bytes. It refuses only where memory is refused.
 pub fn nearest(
     alloc: Global,
     word: &str,
