@@ -28,8 +28,8 @@
  * their own; the library has no state beside them. No call may come from a signal handler, nor in the forked child
  * of a process with threads.
  *
- * WHAT C CAN'T STOP, and the library can't see: a call with a renderer after tbr_free, a second tbr_free, a pointer
- * that tbr_new didn't give, bytes fewer than their number says, and an out pointer that is NULL.
+ * WHAT C CAN'T STOP, and the library can't see: a call with a renderer after tbr_free, a second tbr_free, and a pointer
+ * that tbr_new didn't give. So are fewer bytes than their number says, and an out pointer that is NULL.
  */
 #ifndef TEXT_BLOCK_RENDERER_H
 #define TEXT_BLOCK_RENDERER_H
@@ -78,7 +78,7 @@ typedef enum tbr_status {
     TBR_NOT_FINISHED = 11,
     /* No line comes after those that were taken, or none has been taken yet. */
     TBR_NO_LINE = 12,
-    /* The line has no piece of that place, or the piece no annotation of that place, or what was asked of it. */
+    /* There is no piece at that place, or it has no annotation at that place, or none with what was asked for. */
     TBR_NO_PIECE = 13,
     /* The buffer has less room than the text has bytes. */
     TBR_BUFFER_TOO_SMALL = 14,
@@ -134,7 +134,7 @@ typedef struct tbr_options {
     uint32_t decorator;
     /* A tbr_images. */
     uint32_t images;
-    /* Whether a character that is wider than a line goes on a line of its own. It is too narrow else. */
+    /* Whether a character that is wider than a line goes on a line of its own. If not, the answer is TBR_TOO_NARROW. */
     bool overflow;
     /* Whether lines are filled with spaces up to their width. */
     bool pad;
@@ -155,9 +155,9 @@ typedef struct tbr_renderer tbr_renderer;
 typedef struct tbr_answer {
     /* A tbr_status. */
     uint32_t status;
-    /* The line at fault, from 1, at TBR_NOT_A_COMMAND, TBR_NOTHING_TO_END and TBR_ROW_DOES_NOT_FIT; 0 else. */
+    /* The line at fault, from 1, at TBR_NOT_A_COMMAND, TBR_NOTHING_TO_END and TBR_ROW_DOES_NOT_FIT; 0 at any other. */
     size_t line;
-    /* The bytes of the whole text at TBR_OK; 0 else. */
+    /* The bytes of the whole text at TBR_OK; 0 at any other. */
     size_t length;
 } tbr_answer;
 
@@ -183,12 +183,12 @@ typedef enum tbr_piece_kind {
 
 /* A piece of a line. Those of text are the longest stretches under equal annotations; end to end they are the line. */
 typedef struct tbr_piece {
-    /* Where its bytes begin in the line's text, and where they end. Both are the same of a marker. */
+    /* Where its bytes begin in the line's text, and where they end. For a marker they are equal. */
     size_t begin;
     size_t end;
-    /* How many annotations it is under: one for each stretch that is open there. None of a marker. */
+    /* How many annotations it is under: one for each stretch that is open there. 0 for a marker. */
     size_t annotations;
-    /* The bytes of a marker's name; 0 of a text. */
+    /* The bytes of a marker's name; 0 for text. */
     size_t name_bytes;
     /* A tbr_piece_kind. */
     uint32_t kind;
@@ -196,9 +196,9 @@ typedef struct tbr_piece {
 
 /* What a stretch of text is. */
 typedef enum tbr_annotation_kind {
-    /* Nothing in particular; so are all under TBR_PLAIN and TBR_TRIVIAL. */
+    /* Nothing in particular. Under TBR_PLAIN and TBR_TRIVIAL every annotation is this. */
     TBR_DEFAULT = 0,
-    /* A link. Its target is the annotation's. */
+    /* A link, to the annotation's target. */
     TBR_LINK = 1,
     /* Text that shows an image. The image's source is the annotation's target. */
     TBR_IMAGE = 2,
@@ -218,11 +218,11 @@ typedef enum tbr_annotation_kind {
 
 /* An annotation. */
 typedef struct tbr_annotation {
-    /* The bytes of its target, of TBR_LINK and TBR_IMAGE; 0 else. */
+    /* The bytes of its target, for TBR_LINK and TBR_IMAGE; 0 for all others. */
     size_t target_bytes;
     /* A tbr_annotation_kind. */
     uint32_t kind;
-    /* The parts of its colour, of TBR_COLOUR and TBR_BACKGROUND; 0 else. */
+    /* The parts of its colour, for TBR_COLOUR and TBR_BACKGROUND; 0 for all others. */
     uint8_t red;
     uint8_t green;
     uint8_t blue;
@@ -233,7 +233,7 @@ typedef struct tbr_annotation {
 /*
  * These are called by the inline functions below, and by bindings. A renderer goes in by value, as the one field of a
  * struct, and comes back through the last pointer, also where a call refuses; it is the same pointer. No other pointer
- * may be NULL, also where the number of bytes there is 0. A number that an enum has no name for is
+ * may be NULL, even where the number of bytes there is 0. For a number to which an enum gives no name the answer is
  * TBR_BAD_ARGUMENT. Their names begin with the version of this interface: what a later one changes gets a new name.
  */
 typedef struct tbr_handle {
@@ -321,7 +321,7 @@ static inline tbr_handle tbr_handle_of(tbr_renderer *renderer) {
     return handle;
 }
 
-/* A pointer that isn't NULL, to no byte where a text is NULL. */
+/* The pointer to a text, or one to no bytes where that is NULL. */
 static inline const uint8_t *tbr_bytes_of(const char *text) {
     return (const uint8_t *)(text ? text : "");
 }
@@ -330,7 +330,7 @@ static inline size_t tbr_length_of(const char *text) {
     return text ? strlen(text) : 0;
 }
 
-/* The same of a buffer that comes with a byte of the caller's. */
+/* The same for a buffer, where the caller has a spare byte. */
 static inline uint8_t *tbr_room_of(char *out, uint8_t *spare) {
     return out ? (uint8_t *)out : spare;
 }
@@ -344,10 +344,11 @@ static inline bool tbr_is_missing(const char *text, size_t length) {
 
 /*
  * Renders a script, whose language docs/SCRIPT.md teaches. As much of its text is written as `out` has room for. The
- * answer's length is that of the whole text in bytes, as of snprintf: there is more where it is greater than the room.
+ * answer's length is that of the whole text in bytes, as with snprintf: there is more where it is greater than the
+ * room.
  *
- * Any bytes may come as a script. At a status but TBR_OK the line at fault is told where one is, and nothing is
- * written.
+ * Any bytes may come as a script. At any other status than TBR_OK nothing is written, and the answer's line is the one
+ * at fault, if there is one.
  */
 static inline tbr_answer tbr_render(const char *script, size_t length, char *out, size_t room) {
     uint8_t spare = 0;
@@ -374,9 +375,9 @@ static inline tbr_status tbr_text_width(const char *text, size_t *columns) {
 
 /* ---- making a renderer ---- */
 
-/* Options of a plain renderer of so many columns: lines as wide as it, neither padded nor wider; no footnotes, whose
-   targets are cut where there are any; strokes on struck out text; borders drawn; nothing for an image without a
-   title. */
+/* Options of a plain renderer of so many columns. Lines are as wide as it, neither padded nor wider. There are no
+   footnotes; where they are turned on, their lines are cut. Struck out text has strokes, borders are drawn, and an
+   image without a title shows nothing. */
 static inline tbr_options tbr_options_default(size_t width) {
     tbr_options options;
     options.width = width;
@@ -403,7 +404,7 @@ static inline tbr_status tbr_new(const tbr_options *options, tbr_renderer **rend
     return (tbr_status)tbr1_new(options, renderer);
 }
 
-/* Gives a renderer up, in whatever state it is. NULL is let be. */
+/* Frees a renderer, in whatever state it is. With NULL it does nothing. */
 static inline void tbr_free(tbr_renderer *renderer) {
     if (renderer) {
         tbr1_free(tbr_handle_of(renderer));
@@ -413,11 +414,11 @@ static inline void tbr_free(tbr_renderer *renderer) {
 /* ---- filling it: text, blocks and lines ---- */
 
 /*
- * All calls from here to tbr_finish_text fill the innermost level that is open. Besides what is said at each, they answer
- * TBR_OUT_OF_MEMORY, TBR_TOO_NARROW where they place a word, and TBR_FINISHED where the renderer is finished.
+ * All calls from here to tbr_finish_text fill the innermost level that is open. Besides what is said at each call, they
+ * answer TBR_OUT_OF_MEMORY, TBR_TOO_NARROW where they place a word, and TBR_FINISHED where the renderer is finished.
  */
 
-/* Adds text. White space counts as the mode says that was pushed last. A text ends no word: two texts without white
+/* Adds text. White space counts as the mode that was pushed last says. A text ends no word: two texts without white
    space between them make one. TBR_NOT_UTF8 where it isn't UTF-8. */
 static inline tbr_status tbr_add_text_n(tbr_renderer *renderer, const char *text, size_t length) {
     if (tbr_is_missing(text, length)) {
@@ -431,12 +432,13 @@ static inline tbr_status tbr_add_text(tbr_renderer *renderer, const char *text) 
     return tbr_add_text_n(renderer, text, tbr_length_of(text));
 }
 
-/* Begins a block: ends the open line, and adds an empty one below lines that have content. */
+/* Begins a block: ends the open line, and adds an empty one if any line has content. */
 static inline tbr_status tbr_start_block(tbr_renderer *renderer) {
     return renderer ? (tbr_status)tbr1_start_block(tbr_handle_of(renderer), &renderer) : TBR_NO_RENDERER;
 }
 
-/* Ends a block: text that comes begins a new one, and white space before it is ignored. It may come at any time. */
+/* Ends a block: text that comes begins a new one. In TBR_NORMAL white space before it is ignored. It may come at any
+   time. */
 static inline tbr_status tbr_end_block(tbr_renderer *renderer) {
     return renderer ? (tbr_status)tbr1_end_block(tbr_handle_of(renderer), &renderer) : TBR_NO_RENDERER;
 }
@@ -451,7 +453,7 @@ static inline tbr_status tbr_new_line(tbr_renderer *renderer) {
     return renderer ? (tbr_status)tbr1_new_line(tbr_handle_of(renderer), &renderer) : TBR_NO_RENDERER;
 }
 
-/* Ends the open line, and where there is none adds an empty one. */
+/* Ends the open line. Where none is open, or it has no columns, an empty one is added. */
 static inline tbr_status tbr_new_line_hard(tbr_renderer *renderer) {
     return renderer ? (tbr_status)tbr1_new_line_hard(tbr_handle_of(renderer), &renderer) : TBR_NO_RENDERER;
 }
@@ -466,7 +468,7 @@ static inline tbr_status tbr_add_border(tbr_renderer *renderer) {
     return renderer ? (tbr_status)tbr1_add_border(tbr_handle_of(renderer), &renderer) : TBR_NO_RENDERER;
 }
 
-/* The same of so many columns, which may be 0, and more than the level has. */
+/* The same with so many columns: 0, or more than the level has, are allowed. */
 static inline tbr_status tbr_add_border_width(tbr_renderer *renderer, size_t columns) {
     return renderer ? (tbr_status)tbr1_add_border_width(tbr_handle_of(renderer), columns, &renderer)
                     : TBR_NO_RENDERER;
@@ -499,9 +501,8 @@ static inline tbr_status tbr_add_marker(tbr_renderer *renderer, const char *name
 /* ---- filling it: decorated text ---- */
 
 /*
- * A stretch is begun and ended in the same level. An end asks only that its own beginning came more often, and
- * answers TBR_NOTHING_TO_END else, so that stretches needn't lie within one another. What the decorator writes for
- * one is text.
+ * A stretch is begun and ended in the same level. An end asks only that its own beginning came more often, and answers
+ * TBR_NOTHING_TO_END if it didn't. So stretches may overlap. What the decorator writes for one is text.
  */
 
 /* Begins a link to a target, which may be empty. TBR_NOT_UTF8 where it isn't UTF-8. */
@@ -592,8 +593,8 @@ static inline tbr_status tbr_end_background(tbr_renderer *renderer) {
     return renderer ? (tbr_status)tbr1_end_background(tbr_handle_of(renderer), &renderer) : TBR_NO_RENDERER;
 }
 
-/* Adds an image by its title; what one without a title shows, the options say. TBR_NOT_UTF8 where one of the two isn't
-   UTF-8. */
+/* Adds an image, shown by its title. The options say what one without a title shows. TBR_NOT_UTF8 where one of the two
+   isn't UTF-8. */
 static inline tbr_status tbr_add_image_n(tbr_renderer *renderer, const char *source, size_t source_length,
     const char *title, size_t title_length) {
     if (tbr_is_missing(source, source_length) || tbr_is_missing(title, title_length)) {
@@ -612,8 +613,8 @@ static inline tbr_status tbr_add_image(tbr_renderer *renderer, const char *sourc
 
 /*
  * A level is a renderer inside another one, with the same options and annotations, in which all else begins anew.
- * Levels are within one another to any depth. A level takes columns of its own: leave room for the prefixes that come
- * before its lines.
+ * Levels may be inside one another to any depth. A level takes columns of its own: leave room for the prefixes that
+ * come before its lines.
  */
 
 /* Opens a level of so many columns, whose lines tbr_append_sub takes. TBR_BAD_WIDTH at 0. */
@@ -621,9 +622,9 @@ static inline tbr_status tbr_start_sub(tbr_renderer *renderer, size_t width) {
     return renderer ? (tbr_status)tbr1_start_sub(tbr_handle_of(renderer), width, &renderer) : TBR_NO_RENDERER;
 }
 
-/* Closes the level that tbr_start_sub opened, and adds its lines to the one outside: the first line after one text,
-   each other after another. TBR_NOTHING_TO_END where the innermost level is no such one, TBR_STILL_OPEN where cells
-   wait in it, TBR_NOT_UTF8 where one of the two isn't UTF-8. */
+/* Closes the level that tbr_start_sub opened, and adds its lines to the one outside: the first line after `first`, each
+   other line after `others`. TBR_NOTHING_TO_END where the innermost level isn't one of these, TBR_STILL_OPEN where
+   cells wait in it, TBR_NOT_UTF8 where one of the two isn't UTF-8. */
 static inline tbr_status tbr_append_sub_n(tbr_renderer *renderer, const char *first, size_t first_length,
     const char *others, size_t others_length) {
     if (tbr_is_missing(first, first_length) || tbr_is_missing(others, others_length)) {
@@ -646,16 +647,16 @@ static inline tbr_status tbr_start_cell(tbr_renderer *renderer, size_t width, si
         : TBR_NO_RENDERER;
 }
 
-/* Closes the cell that is open, which then waits for a row. TBR_NOTHING_TO_END where the innermost level is none,
+/* Closes the cell that is open, which then waits for a row. TBR_NOTHING_TO_END where the innermost level is no cell,
    TBR_STILL_OPEN where cells wait in it. */
 static inline tbr_status tbr_end_cell(tbr_renderer *renderer) {
     return renderer ? (tbr_status)tbr1_end_cell(tbr_handle_of(renderer), &renderer) : TBR_NO_RENDERER;
 }
 
-/* Adds the cells that wait as a row, side by side, joined to a border that is the last line, with a border below.
-   What a cell of more rows has below this one overhangs into the next. With `collapse` borders at the tops and
-   bottoms of cells become one with those of the row. TBR_ROW_DOES_NOT_FIT where cells are in the way of what
-   overhangs; they go on waiting then. */
+/* Adds the cells that wait as a row, side by side, joined to a border that is the last line, with a border below. What
+   a cell of more rows has below this one overhangs into the next. With `collapse`, borders at the tops and bottoms of
+   cells become one with those of the row. TBR_ROW_DOES_NOT_FIT where cells are in the way of what overhangs; they go on
+   waiting then. */
 static inline tbr_status tbr_add_row(tbr_renderer *renderer, bool collapse) {
     return renderer ? (tbr_status)tbr1_add_row(tbr_handle_of(renderer), collapse, &renderer) : TBR_NO_RENDERER;
 }
@@ -679,8 +680,8 @@ static inline tbr_status tbr_finish_text(tbr_renderer *renderer, size_t *length)
 
 /* ---- questions to a renderer that is being filled ---- */
 
-/* Those but tbr_refusal answer TBR_FINISHED where it is finished. They change nothing, and a refusal of theirs isn't
-   kept. */
+/* All but tbr_refusal answer TBR_FINISHED where the renderer is finished. They change nothing, and a refusal of theirs
+   isn't kept. */
 
 /* The refusal that is kept, or TBR_OK, also where it is finished. */
 static inline tbr_status tbr_refusal(tbr_renderer *renderer) {
@@ -704,8 +705,8 @@ static inline tbr_status tbr_width(tbr_renderer *renderer, size_t *columns) {
     return renderer ? (tbr_status)tbr1_width(tbr_handle_of(renderer), columns, &renderer) : TBR_NO_RENDERER;
 }
 
-/* The columns that the innermost level has left after a prefix of so many, but `least` at least. TBR_TOO_NARROW, which
-   isn't kept, where fewer than these are left and `overflow` isn't on. */
+/* The columns that the innermost level has left after a prefix of so many columns, but at least `least`.
+   TBR_TOO_NARROW, which isn't kept, where fewer than these are left and `overflow` isn't on. */
 static inline tbr_status tbr_width_minus(tbr_renderer *renderer, size_t prefix, size_t least, size_t *columns) {
     return renderer ? (tbr_status)tbr1_width_minus(tbr_handle_of(renderer), prefix, least, columns, &renderer)
                     : TBR_NO_RENDERER;
@@ -762,7 +763,7 @@ static inline tbr_status tbr_ordered_item_prefix(tbr_renderer *renderer, int64_t
                     : TBR_NO_RENDERER;
 }
 
-/* What comes before each line of a header of a level, as "## ". */
+/* What comes before each line of a header of the given level, as "## ". */
 static inline tbr_status tbr_header_prefix(tbr_renderer *renderer, size_t level, char *out, size_t room,
     size_t *length) {
     uint8_t spare = 0;
@@ -790,8 +791,8 @@ static inline tbr_status tbr_text(tbr_renderer *renderer, char *out, size_t room
                     : TBR_NO_RENDERER;
 }
 
-/* Takes the next line, of which the calls below then speak, and frees the one before. TBR_NO_LINE where none is
-   left, and the line stays the one that was taken last. TBR_OUT_OF_MEMORY, which is kept. */
+/* Takes the next line, which the calls below are about, and frees the one before. TBR_NO_LINE where none is left; the
+   line that was taken last stays. TBR_OUT_OF_MEMORY, which is kept. */
 static inline tbr_status tbr_next_line(tbr_renderer *renderer, tbr_line *line) {
     return renderer ? (tbr_status)tbr1_next_line(tbr_handle_of(renderer), line, &renderer) : TBR_NO_RENDERER;
 }
@@ -826,8 +827,8 @@ static inline tbr_status tbr_marker_name(tbr_renderer *renderer, size_t place, c
                     : TBR_NO_RENDERER;
 }
 
-/* An annotation of the piece at a place, by its own place from 0, that of the outermost stretch. TBR_NO_PIECE where
-   there is none. */
+/* The annotation at a place of the piece at a place. Both places count from 0, and the outermost stretch comes first.
+   TBR_NO_PIECE where there is none. */
 static inline tbr_status tbr_get_annotation(tbr_renderer *renderer, size_t piece, size_t place,
     tbr_annotation *annotation) {
     return renderer ? (tbr_status)tbr1_get_annotation(tbr_handle_of(renderer), piece, place, annotation, &renderer)

@@ -1,5 +1,5 @@
 /*
- * Uses the library wrongly in every way that it can see, and wants the status that the header says, and that the
+ * Uses the library wrongly in every way that it can see. It expects the status that the header says, and that the
  * renderer goes on as it was.
  */
 #include <stdio.h>

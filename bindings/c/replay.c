@@ -2,8 +2,8 @@
  * Reads a script from standard input, and makes its calls on a renderer one by one. It ends as blockrender does: the
  * same text, the same line on standard error, the same status.
  *
- * Beside that it asks for the lines piece by piece, for the text alone, and for the script as a whole, and ends with
- * status 99 where these aren't the same text.
+ * Besides, it asks for the lines piece by piece, for the text alone, and for the script as a whole. It ends with status
+ * 99 where these aren't the same text.
  */
 #include <stdio.h>
 #include <stdlib.h>
@@ -451,7 +451,7 @@ static tbr_status run_line(tbr_renderer **r, slice line) {
     return opening(line, &options) ? tbr_new(&options, r) : TBR_NOT_A_COMMAND;
 }
 
-/* Makes all calls of a script on a renderer that its first command makes. `*end` is the number of the line behind it. */
+/* Makes all calls of a script on a renderer that its first command makes. `*end` is the number of the line after it. */
 static outcome fill(slice script, tbr_renderer **r, size_t *end) {
     for (*end = 1; script.length; ++*end) {
         tbr_status status = run_line(r, next_line(&script));
@@ -598,7 +598,7 @@ static buffer read_all(FILE *file) {
     return all;
 }
 
-/* The exit status of an outcome, which is told on standard error. */
+/* The exit status of an outcome, which is written to standard error. */
 static int tell(outcome ended) {
     if (ended.status == TBR_OK) {
         return 0;

@@ -1,6 +1,6 @@
 /*
- * Renders one document in two threads, each with a renderer of its own, a thousand times, and wants the same text each
- * time.
+ * Renders one document in two threads, each with a renderer of its own, a thousand times, and expects the same text
+ * each time.
  */
 #include <pthread.h>
 #include <stdio.h>

@@ -78,8 +78,8 @@ ENDED_BY: dict[str, tuple[frozenset[str], frozenset[str]]] = {
     "li": (frozenset({"li"}), frozenset({"ul", "ol"})),
     "a": (frozenset({"a"}), TABLE_PARTS),
 }
-# What is deeper than this comes beside what it should be in, so that no mail is too deep to be drawn. A table that
-# is less deep has its cells.
+# Elements that are deeper than this come beside what they should be in, so that no mail is too deep to be drawn. The
+# cells of a table that is less deep stay in it.
 DEEPEST = 200
 
 

@@ -43,7 +43,7 @@ class Refusal(Exception):
 
 
 def refusal(number: int, error: Exception) -> Refusal:
-    """That of the line of this number. What closes where something is open is no command either."""
+    """The refusal of a call for the line of this number. What closes where more is open inside it is no command."""
     match error:
         case TooNarrowError() | OutOfMemoryError():
             return Refusal(str(error), 1)
@@ -70,7 +70,7 @@ def unescaped(found: re.Match[str]) -> str:
 
 
 def as_text(writing: str) -> str:
-    """The text that is written so: its escapes are replaced."""
+    """The text with its escapes replaced."""
     return ESCAPE.sub(unescaped, writing)
 
 

@@ -26,7 +26,7 @@ class TooNarrowError(RendererError):
 
 
 class NotACommandError(RendererError):
-    """A line of a script isn't a command, or it comes where none like it may."""
+    """A line of a script isn't a command, or is one that may not come there."""
 
     message = "not a command"
 

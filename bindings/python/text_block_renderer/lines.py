@@ -11,7 +11,7 @@ class Kind(IntEnum):
     """What a stretch of text is."""
 
     DEFAULT = 0
-    """Nothing in particular. So are all but under `Decorator.RICH`."""
+    """Nothing in particular. Under other decorators than `Decorator.RICH` every annotation is this."""
     LINK = 1
     IMAGE = 2
     EMPHASIS = 3

@@ -23,9 +23,9 @@ class Renderer:
     there.
 
     A call that does nothing raises a `RendererError`. `OutOfMemoryError` and `TooNarrowError` leave the renderer
-    refusing all that follows with the same; each other refusal leaves it as it was. `TooNarrowError` comes only where a
-    line has one column. Beside what is said of a call, any that takes memory can raise `OutOfMemoryError`, and any that
-    places a word `TooNarrowError`.
+    refusing all that follows with the same. Each other refusal leaves it as it was. `TooNarrowError` comes only where a
+    line has one column. Besides what is said of a call, any that takes memory can raise `OutOfMemoryError`, and any
+    that places a word `TooNarrowError`.
 
     A renderer is used on the thread that made it; another one gets a `RuntimeError`. Use it by `with`, or `close` it.
     """
@@ -44,7 +44,7 @@ class Renderer:
         use_unicode_strikeout: bool = True,
         img_mode: ImageRenderMode = ImageRenderMode.IGNORE_EMPTY,
     ) -> None:
-        """A renderer of so many columns, at least 1: `BadWidthError` else.
+        """A renderer of so many columns. `BadWidthError` at 0.
 
         wrap_width: the most columns that a line of wrapped text takes, where these are fewer.
         allow_width_overflow: a character that is wider than a line goes on a line of its own, and isn't too narrow.
@@ -136,7 +136,7 @@ class Renderer:
     # ---- text, blocks and lines
 
     def add_inline_text(self, text: str) -> None:
-        """Adds text, whose white space counts as the mode says that was pushed last.
+        """Adds text, whose white space counts as the mode that was pushed last says.
 
         A text ends no word: two texts without white space between them make one. `NotUtf8Error` where it has a
         surrogate.
@@ -144,13 +144,13 @@ class Renderer:
         self._owned.with_texts("add_text", text)
 
     def start_block(self) -> None:
-        """Begins a block: ends the open line, and adds an empty one below lines that have content."""
+        """Begins a block: ends the open line, and adds an empty one if any line has content."""
         self._owned.call("start_block")
 
     def end_block(self) -> None:
-        """Ends a block: text that comes begins a new one, and white space before it is ignored.
+        """Ends a block: text that comes begins a new one. In `NORMAL` white space before it is ignored.
 
-        It may come any time.
+        It may come at any time.
         """
         self._owned.call("end_block")
 
@@ -163,7 +163,7 @@ class Renderer:
         self._owned.call("new_line")
 
     def new_line_hard(self) -> None:
-        """Ends the open line, and where there is none adds an empty one."""
+        """Ends the open line. Where none is open, or it has no columns, an empty one is added."""
         self._owned.call("new_line_hard")
 
     def add_empty_line(self) -> None:
@@ -175,7 +175,7 @@ class Renderer:
         self._owned.call("add_border")
 
     def add_horizontal_border_width(self, columns: int) -> None:
-        """The same of so many columns, which may be 0, and more than the level has."""
+        """The same with so many columns: 0, or more than the level has, are allowed."""
         self._owned.call("add_border_width", size(columns))
 
     def push_ws(self, mode: WhiteSpace) -> None:
@@ -190,7 +190,7 @@ class Renderer:
         """Puts a marker where the text is, as an anchor for links. `NotUtf8Error` where it has a surrogate."""
         self._owned.with_texts("add_marker", name)
 
-    # ---- decorated text: an end asks only that its own beginning came more often, and raises `NothingToEndError` else
+    # ---- decorated text: an end asks only that its own beginning came more often, and else raises `NothingToEndError`
 
     def start_link(self, target: str) -> None:
         """Begins a link to a target, which may be empty. `NotUtf8Error` where it has a surrogate."""
@@ -217,7 +217,7 @@ class Renderer:
         self._owned.call("end_strong")
 
     def start_strikeout(self) -> None:
-        """Begins struck out text, in which each character that takes columns gets a stroke where these are on."""
+        """Begins struck out text. If strokes are on, each character of it that takes columns gets one."""
         self._owned.call("start_strikeout")
 
     def end_strikeout(self) -> None:
@@ -265,14 +265,14 @@ class Renderer:
         self._owned.call("end_background")
 
     def add_image(self, source: str, title: str) -> None:
-        """Adds an image by its title. What one without a title shows, `img_mode` says."""
+        """Adds an image, shown by its title. `img_mode` says what one without a title shows."""
         self._owned.with_texts("add_image", source, title)
 
     # ---- levels, and rows of cells
 
     @contextmanager
     def subrender(self, width: int, first: str, others: str) -> Iterator[None]:
-        """Fills a level of so many columns, and adds its lines: the first after one text, each other after another.
+        """Fills a level of so many columns, and adds its lines: the first after `first`, each other after `others`.
 
         Leave room for the prefixes, as by `width_minus`. Where an exception leaves the block, the level stays open.
         """
@@ -285,9 +285,9 @@ class Renderer:
         self._owned.call("start_sub", size(width))
 
     def append_subrender(self, first: str, others: str) -> None:
-        """Closes the level that `start_subrender` opened, and adds its lines to the one outside, after prefixes.
+        """Closes the level that `start_subrender` opened, and adds its lines, after these prefixes, to the one outside.
 
-        `NothingToEndError` where the innermost level is no such one, `StillOpenError` where cells wait in it.
+        `NothingToEndError` where the innermost level isn't one of these, `StillOpenError` where cells wait in it.
         """
         self._owned.with_texts("append_sub", first, others)
 
@@ -308,14 +308,14 @@ class Renderer:
     def end_cell(self) -> None:
         """Closes the cell that is open, which then waits for a row.
 
-        `NothingToEndError` where the innermost level is none, `StillOpenError` where cells wait in it.
+        `NothingToEndError` where the innermost level is no cell, `StillOpenError` where cells wait in it.
         """
         self._owned.call("end_cell")
 
     def append_columns_with_borders(self, collapse: bool = False) -> None:
         """Adds the cells that wait as a row, side by side, joined to a border that is the last line, with one below.
 
-        What a cell of more rows has below this one overhangs into the next. With `collapse` borders at the tops and
+        What a cell of more rows has below this one overhangs into the next. With `collapse`, borders at the tops and
         bottoms of cells become one with those of the row. `RowDoesNotFitError` where cells are in the way of what
         overhangs; they go on waiting then.
         """
@@ -344,7 +344,7 @@ class Renderer:
         return self._owned.number("width")
 
     def width_minus(self, prefix_len: int, min_width: int) -> int:
-        """The columns that it has left after a prefix, but `min_width` at least.
+        """The columns that it has left after a prefix, but at least `min_width`.
 
         `TooNarrowError`, which isn't kept, where fewer than these are left and no overflow is allowed.
         """
@@ -365,7 +365,7 @@ class Renderer:
     # ---- the prefixes of the decorator, for `append_subrender`
 
     def header_prefix(self, level: int) -> str:
-        """What comes before each line of a header of a level, as `## `."""
+        """What comes before each line of a header of the given level, as `## `."""
         return self._owned.text(_PREFIX_ROOM, "header_prefix", size(level))
 
     def quote_prefix(self) -> str:

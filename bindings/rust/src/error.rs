@@ -10,7 +10,7 @@ pub enum Error {
     /// A word holds a character that is wider than the line. It doesn't come in lines of two columns or more. A
     /// renderer keeps this refusal.
     TooNarrow,
-    /// A line of a script isn't a command, or it comes where none like it may.
+    /// A line of a script isn't a command, or is one that may not come there.
     NotACommand,
     /// An end of what wasn't begun, or was ended already, in the level that is open.
     NothingToEnd,

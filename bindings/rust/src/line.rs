@@ -34,7 +34,7 @@ pub struct TaggedString {
 #[derive(Clone, Debug, Default, PartialEq, Eq)]
 #[non_exhaustive]
 pub enum RichAnnotation {
-    /// Nothing in particular. So are all but under a rich decorator.
+    /// Nothing in particular. Under a decorator that isn't rich every annotation is this.
     #[default]
     Default,
     /// A link to a target.
@@ -49,7 +49,7 @@ pub enum RichAnnotation {
     Strikeout,
     /// Code.
     Code,
-    /// Preformatted text, on a line that continues one which was too long or not.
+    /// Preformatted text, and whether it is on a line that continues one which was too long.
     Preformat(bool),
     /// Text in a colour.
     Colour(Colour),

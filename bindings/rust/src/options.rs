@@ -55,7 +55,7 @@ impl Options {
         Options::new(width, Decorator::Plain)
     }
 
-    /// One that shows the text alone, but for `^{` and `}` about a superscript.
+    /// One that shows the text alone, with `^{` and `}` about superscripts.
     pub fn trivial(width: usize) -> Options {
         Options::new(width, Decorator::Trivial)
     }
@@ -106,7 +106,7 @@ impl Options {
         Options { wrap_links, ..self }
     }
 
-    /// Whether links show numbers, and their targets come after the text under these. At first they don't.
+    /// Whether links show numbers, under which their targets come after the text. At first they don't.
     pub fn include_link_footnotes(self, include_link_footnotes: bool) -> Options {
         Options { include_link_footnotes, ..self }
     }

@@ -9,8 +9,8 @@ use std::fmt;
 /// inside another one, which takes its lines after prefixes or as a cell of a table. What begins in a level ends
 /// there.
 ///
-/// A call that answers `OutOfMemory` or `TooNarrow` leaves the renderer refusing all that follows with the same; each
-/// other refusal leaves it as it was. [`TooNarrow`](Error::TooNarrow) comes only where a line has one column. Beside
+/// A call that answers `OutOfMemory` or `TooNarrow` leaves the renderer refusing all that follows with the same. Each
+/// other refusal leaves it as it was. [`TooNarrow`](Error::TooNarrow) comes only where a line has one column. Besides
 /// what is said of a call, any that takes memory can answer `OutOfMemory`, and any that places a word `TooNarrow`.
 ///
 /// The library asks that a renderer be used on the thread that made it, so it is neither `Send` nor `Sync`:
@@ -51,18 +51,19 @@ impl Renderer {
 
 /// Text, blocks and lines.
 impl Renderer {
-    /// Adds text, whose white space counts as the mode says that was pushed last. A text ends no word: two texts
+    /// Adds text, whose white space counts as the mode that was pushed last says. A text ends no word: two texts
     /// without white space between them make one.
     pub fn add_inline_text(&mut self, text: &str) -> Result<(), Error> {
         self.handle.with_text(sys::tbr1_add_text, text)
     }
 
-    /// Begins a block: ends the open line, and adds an empty one below lines that have content.
+    /// Begins a block: ends the open line, and adds an empty one if any line has content.
     pub fn start_block(&mut self) -> Result<(), Error> {
         self.handle.plain(sys::tbr1_start_block)
     }
 
-    /// Ends a block: text that comes begins a new one, and white space before it is ignored. It may come at any time.
+    /// Ends a block: text that comes begins a new one. In `Normal` white space before it is ignored. It may come at any
+    /// time.
     pub fn end_block(&mut self) -> Result<(), Error> {
         self.handle.plain(sys::tbr1_end_block)
     }
@@ -77,7 +78,7 @@ impl Renderer {
         self.handle.plain(sys::tbr1_new_line)
     }
 
-    /// Ends the open line, and where there is none adds an empty one.
+    /// Ends the open line. Where none is open, or it has no columns, an empty one is added.
     pub fn new_line_hard(&mut self) -> Result<(), Error> {
         self.handle.plain(sys::tbr1_new_line_hard)
     }
@@ -92,7 +93,7 @@ impl Renderer {
         self.handle.plain(sys::tbr1_add_border)
     }
 
-    /// The same of so many columns, which may be 0, and more than the level has.
+    /// The same with so many columns: 0, or more than the level has, are allowed.
     pub fn add_horizontal_border_width(&mut self, columns: usize) -> Result<(), Error> {
         // SAFETY: the renderer is live.
         self.handle.call(|it, back| unsafe { sys::tbr1_add_border_width(it, columns, back) })
@@ -115,8 +116,8 @@ impl Renderer {
     }
 }
 
-/// Decorated text. An end asks only that its own beginning came more often in the level, and answers `NothingToEnd`
-/// else, so that stretches needn't lie within one another.
+/// Decorated text. An end asks only that its own beginning came more often in the level, and answers `NothingToEnd` if
+/// it didn't. So stretches may overlap.
 impl Renderer {
     /// Begins a link to a target, which may be empty.
     pub fn start_link(&mut self, target: &str) -> Result<(), Error> {
@@ -148,7 +149,7 @@ impl Renderer {
         self.handle.plain(sys::tbr1_end_strong)
     }
 
-    /// Begins struck out text, in which each character that takes columns gets a stroke, U+0336, where these are on.
+    /// Begins struck out text. If strokes are on, each character of it that takes columns gets one, U+0336.
     pub fn start_strikeout(&mut self) -> Result<(), Error> {
         self.handle.plain(sys::tbr1_start_strikeout)
     }
@@ -212,7 +213,7 @@ impl Renderer {
         self.handle.plain(sys::tbr1_end_background)
     }
 
-    /// Adds an image by its title. What one without a title shows, the options say.
+    /// Adds an image, shown by its title. The options say what one without a title shows.
     pub fn add_image(&mut self, source: &str, title: &str) -> Result<(), Error> {
         self.handle.with_texts(sys::tbr1_add_image, source, title)
     }
@@ -220,7 +221,7 @@ impl Renderer {
 
 /// Levels, and rows of cells.
 impl Renderer {
-    /// Fills a level of so many columns, and adds its lines: the first after one text, each other after another.
+    /// Fills a level of so many columns, and adds its lines: the first after `first`, each other after `others`.
     /// `BadWidth` at 0 columns. Leave room for the prefixes, as by [`width_minus`](Renderer::width_minus).
     ///
     /// Where `fill` refuses, its refusal is the answer, and the level stays open.
@@ -252,9 +253,9 @@ impl Renderer {
         self.handle.call(|it, back| unsafe { sys::tbr1_start_sub(it, width, back) })
     }
 
-    /// Closes the level that `start_subrender` opened, and adds its lines to the one outside: the first after one
-    /// text, each other after another. `NothingToEnd` where the innermost level is no such one, `StillOpen` where
-    /// cells wait in it.
+    /// Closes the level that `start_subrender` opened, and adds its lines to the one outside: the first after `first`,
+    /// each other after `others`. `NothingToEnd` where the innermost level isn't one of these, `StillOpen` where cells
+    /// wait in it.
     pub fn append_subrender(&mut self, first: &str, others: &str) -> Result<(), Error> {
         self.handle.with_texts(sys::tbr1_append_sub, first, others)
     }
@@ -279,14 +280,14 @@ impl Renderer {
         self.handle.call(|it, back| unsafe { sys::tbr1_start_cell(it, width, span, align as u32, back) })
     }
 
-    /// Closes the cell that is open, which then waits for a row. `NothingToEnd` where the innermost level is none,
+    /// Closes the cell that is open, which then waits for a row. `NothingToEnd` where the innermost level is no cell,
     /// `StillOpen` where cells wait in it.
     pub fn end_cell(&mut self) -> Result<(), Error> {
         self.handle.plain(sys::tbr1_end_cell)
     }
 
     /// Adds the cells that wait as a row, side by side, joined to a border that is the last line, with a border below.
-    /// What a cell of more rows has below this one overhangs into the next. With `collapse` borders at the tops and
+    /// What a cell of more rows has below this one overhangs into the next. With `collapse`, borders at the tops and
     /// bottoms of cells become one with those of the row.
     ///
     /// `RowDoesNotFit` where cells are in the way of what overhangs; they go on waiting then.
@@ -326,7 +327,7 @@ impl Renderer {
         self.handle.ask(|it, answer, back| unsafe { sys::tbr1_width(it, answer, back) })
     }
 
-    /// The columns that it has left after a prefix, but `min_width` at least. `TooNarrow`, which isn't kept, where
+    /// The columns that it has left after a prefix, but at least `min_width`. `TooNarrow`, which isn't kept, where
     /// fewer than these are left and no overflow is allowed.
     pub fn width_minus(&self, prefix_len: usize, min_width: usize) -> Result<usize, Error> {
         // SAFETY: as above.
@@ -354,7 +355,7 @@ impl Renderer {
 
 /// The prefixes of the decorator, for [`append_subrender`](Renderer::append_subrender). They change nothing.
 impl Renderer {
-    /// What comes before each line of a header of a level, as `## `.
+    /// What comes before each line of a header of the given level, as `## `.
     pub fn header_prefix(&self, level: usize) -> Result<String, Error> {
         // SAFETY: the renderer is live, and so is the room.
         self.handle.text(PREFIX_ROOM, |it, out, length, back| unsafe {

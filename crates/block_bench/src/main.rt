@@ -1,7 +1,7 @@
 //! Wraps the text on standard input, so that its cost can be measured. The first line is `tags`, `markers`, `pre` or
 //! `narrow`, and what follows is the text. With `tags` it is under a tag for each character in turn, and with `markers`
 //! a marker comes before each character. With `pre` it is preformatted under one tag. With `narrow` it is in one column
-//! with overflow, where an `m` is a marker. Prints how many lines there are and how many bytes they hold.
+//! with overflow, where an `m` is a marker. The program prints how many lines there are and how many bytes they hold.
 #![tactic(auto)]
 
 ghost use Rattle.std.specs.Prelude.{◌≡◌, ℕ, List, IfOk};

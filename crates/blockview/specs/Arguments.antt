@@ -9,7 +9,7 @@ use Rattle.tbr_view.specs.declared.script.Format.TheVariants.{Text, Bare, Ansi, 
 abbrev pub value_of : ArgMatches → List ℕ → Option (List ℕ)
 value_of matches id = first_value (found_of matches) id
 
--- Whether there are colours: as the word says, or else as they are shown where nothing is said.
+-- Whether there are colours: as the word says, or else as `shows` says, where there is no word.
 pub record AreColours (word : Option (List ℕ)) (shows colours : Bool) : Type 0 where
   pub always : word ≡ Some (codes "always") → colours ≡ true
   pub never : word ≡ Some (codes "never") → colours ≡ false

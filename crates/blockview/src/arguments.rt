@@ -98,21 +98,21 @@ fn ambiguous<'a>(alloc: Global) -> Arg<'a> {
         .help("Columns of East Asian ambiguous characters: one, or two")
 }
 
-/// Whether `--colour` was given with another format than `ansi`, where it would say nothing.
+/// Whether `--colour` was given with another format than `ansi`, where it has no effect.
 pub fn has_idle_colour(matches: &ArgMatches) -> bool {
     matches.value_source("colour") == Some(ValueSource::CommandLine)
         && matches.get_str("format") != Some("ansi")
 }
 
-/// Whether colours are shown where nothing is said of them: standard output is a terminal, and the variable `NO_COLOR` is
-/// empty or isn't set.
+/// Whether `--colour auto` shows colours: standard output is a terminal, and the variable `NO_COLOR` is empty or isn't
+/// set.
 pub fn shows_colours(is_terminal: bool, no_color: Option<&str>) -> bool
     ensures { result ≡ is_terminal && model.says_nothing (option_map (λ s. s.now) no_color.entry) }
 {
     is_terminal && no_color.is_none_or(|value| value.is_empty())
 }
 
-/// How scripts are shown. `shows_colours` is what `--colour auto` stands for.
+/// How scripts are shown. `shows_colours` is whether `--colour auto` shows colours.
 pub fn settings_of(matches: &ArgMatches, shows_colours: bool) -> Settings
     ensures format { (colours : Bool) × AreColours (value_of matches.now (codes "colour")) shows_colours colours
         × IsFormat (value_of matches.now (codes "format")) colours result.format }

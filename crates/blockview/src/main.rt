@@ -113,7 +113,7 @@ fn show_file(rt: &HostRuntime, file: &str, shown: Settings, is_wide: bool) -> u8
     }
 }
 
-/// Tells why a file isn't shown.
+/// Says why a file isn't shown.
 fn tell_refusal(rt: &HostRuntime, file: &str, script: &[u8], refusal: &Refusal) {
     match refusal {
         Refusal::Script(problem) => tell(rt, file, script, problem),
@@ -143,7 +143,7 @@ fn read(rt: &HostRuntime, file: &str) -> io::Result<Vec<u8>> {
     Ok(script)
 }
 
-/// Writes what is shown of a file, tells what was lost, and answers the status.
+/// Writes what is shown of a file, says what was lost, and answers the status.
 fn write_shown(rt: &HostRuntime, file: &str, script: &[u8], shown: &Shown) -> u8 {
     for problem in &shown.lost {
         tell(rt, file, script, problem);
@@ -157,7 +157,7 @@ fn write_shown(rt: &HostRuntime, file: &str, script: &[u8], shown: &Shown) -> u8
     }
 }
 
-/// Tells a problem on standard error.
+/// Writes a problem to standard error.
 fn tell(rt: &HostRuntime, file: &str, script: &[u8], problem: &Problem) {
     if let Ok(text) = report(rt.alloc(), file, script, problem) {
         let _ = rt.eprint(text.as_str());

@@ -1,4 +1,4 @@
-//! How problems are told.
+//! How problems are reported.
 
 use std::alloc::{AllocError, Global};
 use tbr_view::{Kind, Problem};
@@ -6,7 +6,7 @@ use tbr_view::{Kind, Problem};
 /// The characters of a line that are shown at most.
 const SHOWN: usize = 120;
 
-/// The lines that tell a problem with a script of this name. What they quote has no control characters.
+/// The lines that report a problem with a script of this name. What they quote has no control characters.
 pub fn report(
     alloc: Global,
     name: &str,

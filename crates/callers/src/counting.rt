@@ -11,8 +11,8 @@ pub fn pieces<T>(line: &TaggedLine<T>) -> usize
     line.tagged_strings().count()
 }
 
-/// How many characters a line has. `None` where that passes `usize`. That the walk ends needs no proof by hand; no
-/// clause says which number comes.
+/// How many characters a line has. `None` where that passes `usize`. That the walk ends needs no proof by hand. No
+/// clause says which number it answers.
 pub fn characters<T>(line: &TaggedLine<T>) -> Option<usize> {
     let mut count: usize = 0;
     for _ in line.chars() {

@@ -12,7 +12,7 @@ pub a_marker_goes_with_its_word : {A : Type 0} (a b : A) →
     ≡ done (line a (codes "ab") ∷ (marker (codes "x") ∷ line a (codes "cde")) ∷ [])
 a_marker_goes_with_its_word a b = refl
 
--- it takes no column, and stays where it is inside a word, also where that is cut
+-- it takes no column, and stays where it is inside a word, even where that is cut
 pub a_marker_inside_a_word_stays_there : {A : Type 0} (a b : A) →
     lines_in 3 (text Normal a b (codes "ab") ∷ mark (codes "x") ∷ text Normal a b (codes "cd") ∷ [])
     ≡ done ((line a (codes "ab") ++ marker (codes "x") ∷ line a (codes "c")) ∷ line a (codes "d") ∷ [])

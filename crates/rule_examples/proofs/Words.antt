@@ -20,7 +20,7 @@ pub words_that_do_not_fit_are_moved : {A : Type 0} (a b : A) →
     lines_in 5 (text Normal a b (codes "ab cde") ∷ []) ≡ done (line a (codes "ab") ∷ line a (codes "cde") ∷ [])
 words_that_do_not_fit_are_moved a b = refl
 
--- a line takes all words that fit, also where the next is shorter then
+-- a line takes all words that fit, even where the next is then shorter
 pub lines_are_filled_and_not_balanced : {A : Type 0} (a b : A) →
     lines_in 10 (text Normal a b (codes "aaa bb cc ddddd") ∷ [])
     ≡ done (line a (codes "aaa bb cc") ∷ line a (codes "ddddd") ∷ [])
@@ -33,7 +33,7 @@ pub a_wider_word_begins_a_line : {A : Type 0} (a b : A) →
     ∷ line a (codes "boo") ∷ [])
 a_wider_word_begins_a_line a b = refl
 
--- also where that would save a line
+-- even where that would save a line
 pub a_wider_word_begins_a_line_though_that_takes_more : {A : Type 0} (a b : A) →
     lines_in 4 (text Normal a b (codes "o there") ∷ [])
     ≡ done (line a (codes "o") ∷ line a (codes "ther") ∷ line a (codes "e") ∷ [])
@@ -60,7 +60,8 @@ pub two_texts_are_one_run : {A : Type 0} (a b : A) →
     ≡ done (line a (codes "abc d") ∷ [])
 two_texts_are_one_run a b = refl
 
--- two texts without white space between them are one word, each character under its own annotation, also where it is cut
+-- two texts without white space between them are one word, each character under its own annotation, even where it is
+-- cut
 pub a_word_under_two_annotations_keeps_both : {A : Type 0} (a b : A) →
     lines_in 3 (text Normal a a (codes "ab") ∷ text Normal b b (codes "cde") ∷ [])
     ≡ done ((line a (codes "ab") ++ line b (codes "c")) ∷ line b (codes "de") ∷ [])

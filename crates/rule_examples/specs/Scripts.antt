@@ -16,8 +16,8 @@ wide_character = 0x6F22
 abbrev pub wide_space : ℕ
 wide_space = 0x3000
 
--- The columns of printable ASCII, and of characters beside it: two wide ones, of which one is a space, a stroke and a
--- break point that take none, and a space at which no line breaks.
+-- The columns of printable ASCII, and of some other characters. Two are wide, and one of these is a space. A stroke and
+-- a break point take none, and at one space no line breaks.
 abbrev pub example_columns : ℕ → Option ℕ
 example_columns c =
     if c == wide_character || c == wide_space then Some 2

@@ -232,8 +232,8 @@ impl<T> BorderHoriz<T> {
         self.shape.segments.is_empty()
     }
 
-    /// The text of the line above: `│` above each `┴`, `┼`, `└` and `┘`, also under holes, and spaces else. It refuses
-    /// only where memory is refused.
+    /// The text of the line above: `│` above each `┴`, `┼`, `└` and `┘`, also under holes, and spaces elsewhere. It
+    /// refuses only where memory is refused.
     pub fn to_vertical_lines_above(&self) -> Result<String, OutOfMemory>
         ensures { IfOk result (λ text. chars_of text ≡ model.lines_above self.now) }
     {
@@ -260,7 +260,8 @@ fn stretch(segments: &mut Vec<BorderSegHoriz>, width: usize) -> Result<(), OutOf
     Ok(())
 }
 
-/// Stretches to `x + 1` cells, and adds an arm to the cell at `x`. Where either is refused nothing changes.
+/// Stretches to `x + 1` cells, and adds an arm to the cell at `x`. Where memory is refused, or `x + 1` passes `usize`,
+/// nothing changes.
 fn join_at(segments: &mut Vec<BorderSegHoriz>, side: Side, x: usize) -> Result<(), OutOfMemory>
     ensures ok { OnOk result
         (cells_of segments.new.items ≡ model.joined_at (side_of side) x (cells_of segments.old.items)) }
@@ -276,8 +277,8 @@ fn join_at(segments: &mut Vec<BorderSegHoriz>, side: Side, x: usize) -> Result<(
     Ok(())
 }
 
-/// Adds an arm at `pos + i` for each place `i` where the other cells join, stretching as far as these come. Where that
-/// is refused nothing changes.
+/// Adds an arm at `pos + i` for each place `i` where the other cells join, and stretches as far as these come. Where
+/// memory is refused, or a place passes `usize`, nothing changes.
 fn merge(
     segments: &mut Vec<BorderSegHoriz>,
     side: Side,

@@ -30,7 +30,7 @@ impl<T> RenderLine<T> {
         }
     }
 
-    /// Appends the line's text to another. Where memory is refused some may be missing.
+    /// Appends the line's text to `text`. Where memory is refused, part of it may have been appended.
     pub fn append_to(&self, text: &mut String) -> Result<(), OutOfMemory>
         ensures { OnOk result (chars_of text.new ≡ chars_of text.old ++ item_characters (model.line_items self.now)) }
     {

@@ -127,7 +127,7 @@ HasText (Finished lines) bytes = (chars bytes ≡ text_of lines.rest) × (lines.
 HasText other bytes = ⊥
 
 -- What is answered to a question for the text of all lines that weren't taken, each with a newline: it is copied, or
--- memory for it is missing.
+-- memory for it is refused.
 abbrev pub CopiesRest : State → List ℕ → List ℕ → ℕ → Result (Unit {0}) Fault → Type 0
 CopiesRest (Finished lines) before after needed done =
     done ≢ Err fault.OutOfMemory → (text : List ℕ) × (chars text ≡ text_of lines.rest)

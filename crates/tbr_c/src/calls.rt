@@ -20,7 +20,7 @@ use tbr_decor::Colour;
 use tbr_lines::{CellAlign, WhiteSpace};
 use tbr_script::TextPair;
 
-/// A renderer, or why there is none.
+/// A renderer, or why none can be made.
 fn made(alloc: Global, options: &Options) -> Result<Box<Held>, Fault> {
     let held = Held::new(alloc, options.opening()?)?;
     Box::new(alloc, held).map_err(|_| Fault::OutOfMemory)
@@ -38,7 +38,7 @@ pub extern "C" fn tbr1_new(alloc: Global, options: &Options, back: &mut *mut u8)
     }
 }
 
-/// Gives a renderer up.
+/// Frees a renderer.
 #[unsafe(no_mangle)]
 pub extern "C" fn tbr1_free(renderer: Handle) {
     drop(renderer.open());
@@ -488,7 +488,7 @@ pub extern "C" fn tbr1_add_vertical_row(renderer: Handle, back: &mut *mut u8) ->
     run(renderer, &Command::VerticalRow, back)
 }
 
-/// Ends the last line, and lets the lines be taken.
+/// Ends the last line. The lines can then be taken.
 #[unsafe(no_mangle)]
 pub extern "C" fn tbr1_finish(renderer: Handle, back: &mut *mut u8) -> u32 {
     let mut held = renderer.open();
@@ -497,7 +497,7 @@ pub extern "C" fn tbr1_finish(renderer: Handle, back: &mut *mut u8) -> u32 {
     status(done)
 }
 
-/// Ends the last line, and lets the text of all lines be taken.
+/// Ends the last line. The text of all lines can then be taken.
 #[unsafe(no_mangle)]
 pub extern "C" fn tbr1_finish_text(renderer: Handle, length: &mut usize, back: &mut *mut u8) -> u32
     ensures text { result ≡ 0 → (text : List ℕ) × EndsAs renderer.value (Ok text)

@@ -69,7 +69,7 @@ impl Held {
         self.state.keep(copy)
     }
 
-    /// Ends the last line, and lets the lines be taken.
+    /// Ends the last line. The lines can then be taken.
     ///
     /// `StillOpen` where a level is open or cells wait. It refuses as `run` does.
     pub fn finish(&mut self) -> Result<(), Fault>
@@ -84,7 +84,8 @@ impl Held {
         }
     }
 
-    /// Ends the last line, and lets the text of all lines be taken, but none of them. It answers the bytes of the text.
+    /// Ends the last line. The text of all lines can then be taken, but no single line. It answers the bytes of the
+    /// text.
     ///
     /// It refuses as `finish` does.
     pub fn finish_text(&mut self) -> Result<usize, Fault>
@@ -102,7 +103,7 @@ impl Held {
         }
     }
 
-    /// Takes what is filled, where no level is open and no cell waits. `StillOpen` where it isn't so.
+    /// Takes what is filled. `StillOpen` where a level is open or a cell waits. It refuses as `run` does.
     fn take_closed(&mut self) -> Result<State, Fault>
         ensures taken { IfOk result (λ state. (state ≡ self.old) × CanGoOn state × MayFinish state) }
         ensures left { IfErr result (λ _. self.new ≡ self.old) }
@@ -131,7 +132,7 @@ impl Held {
         }
     }
 
-    /// What it answers while it is filled. It keeps no refusal, and neither do the questions below.
+    /// What it answers while it is filled. A refusal of this isn't kept, nor one of the questions below.
     pub fn facts(&self) -> Result<Facts, Fault> {
         self.state.facts()
     }
@@ -141,7 +142,7 @@ impl Held {
         self.state.has_overhang(self.alloc)
     }
 
-    /// The columns of the innermost level after a prefix, but so many at least.
+    /// The columns of the innermost level that are left after a prefix of `prefix` columns, but at least `least`.
     pub fn width_minus(&self, prefix: usize, least: usize) -> Result<usize, Fault> {
         self.state.width_minus(prefix, least)
     }
@@ -151,8 +152,8 @@ impl Held {
         self.state.prefix(prefix)
     }
 
-    /// Takes the next line, and answers its size. `NotFinished` where it is still filled, `NoLine` where none is left.
-    /// `OutOfMemory` is kept.
+    /// Takes the next line, and answers its size. `NotFinished` where the renderer isn't finished, `NoLine` where none
+    /// is left. `OutOfMemory` is kept.
     pub fn next_line(&mut self) -> Result<LineSize, Fault>
         ensures taken { IfOk result (λ size. TakesLine self.old self.new size) }
         ensures none { IfErr result (λ fault. fault ≢ F.OutOfMemory → fault ≢ F.TooNarrow →
@@ -162,15 +163,15 @@ impl Held {
         self.state.keep(size)
     }
 
-    /// The line that was taken last. `NotFinished` where the renderer is still filled, `NoLine` where none was taken.
+    /// The line that was taken last. `NotFinished` where the renderer isn't finished, `NoLine` where none was taken.
     pub fn line(&self) -> Result<&Line, Fault>
         ensures { MatchResult result (λ line. current_of self.now ≡ Some line.now) (λ _. current_of self.now ≡ None) }
     {
         self.state.lines()?.current()
     }
 
-    /// Copies the text of all lines that weren't taken, each with a newline, as `copy_out` does. `NotFinished` where the
-    /// renderer is still filled. `OutOfMemory` is kept.
+    /// Copies the text of all lines that weren't taken, each with a newline, as `copy_out` does. `NotFinished` where
+    /// the renderer isn't finished. `OutOfMemory` is kept.
     pub fn copy_text(&mut self, out: &mut [u8], needed: &mut usize) -> Result<(), Fault>
         ensures text { CopiesRest self.old out.old out.new needed.new result }
         ensures unwritten { IfErr result (λ _. out.new ≡ out.old) }

@@ -22,9 +22,10 @@ pub struct Options {
 }
 
 impl Options {
-    /// What a script that asks for the same begins with.
+    /// The first command of a script that asks for the same.
     ///
-    /// It answers `BadWidth` where the width is 0, and `BadArgument` where the decorator or what images show is none.
+    /// It answers `BadWidth` where the width is 0. It answers `BadArgument` where the number of the decorator, or that
+    /// of what images show, names nothing.
     pub fn opening(&self) -> Result<Opening, Fault>
         ensures width { IfOk result (λ opening. 0 < opening.width) }
         ensures wrap_width { IfOk result (λ opening. opening.options.wrap_width ≢ Some 0) }
@@ -50,7 +51,7 @@ impl Options {
     }
 }
 
-/// The decorator of a number.
+/// The decorator that a number names.
 fn decorator(number: u32) -> Result<Decorator, Fault> {
     match number {
         0 => Ok(Decorator::Plain),
@@ -60,7 +61,7 @@ fn decorator(number: u32) -> Result<Decorator, Fault> {
     }
 }
 
-/// What images without a title show, by a number.
+/// What images without a title show, by its number.
 fn images(number: u32) -> Result<ImageRenderMode, Fault> {
     match number {
         0 => Ok(ImageRenderMode::IgnoreEmpty),

@@ -1,4 +1,4 @@
-//! How far a renderer is that C holds.
+//! How far a renderer is that C holds: filled, finished or refused.
 ghost use Rattle.std.specs.Prelude.{◌≡◌, ◌≢◌, ◌<◌, [], Some, Ok, Err, IfOk, IfErr, OnOk, MatchResult, string_bytes};
 ghost use Rattle.tbr_lines.specs.declared.Error.TheVariants as Refusal;
 ghost use Rattle.tbr_lines.specs.UnicodeColumns.{unicode_columns};
@@ -37,7 +37,7 @@ pub enum State {
     Refused(Error),
 }
 
-/// What a renderer that is filled answers, and of its innermost level.
+/// What a renderer answers of itself and of its innermost level, while it is filled.
 #[derive(Clone, Copy, Drop)]
 pub struct Facts {
     /// The level's columns.
@@ -125,7 +125,7 @@ impl State {
         })
     }
 
-    /// The columns of the innermost level after a prefix, but so many at least.
+    /// The columns of the innermost level that are left after a prefix of `prefix` columns, but at least `least`.
     pub fn width_minus(&self, prefix: usize, least: usize) -> Result<usize, Fault>
         requires { CanGoOn self.now }
         ensures ended { HasEnded self.now result }
@@ -182,7 +182,7 @@ impl State {
         }
     }
 
-    /// The lines. `NotFinished` where it is still filled.
+    /// The lines. `NotFinished` where the renderer isn't finished.
     pub fn lines(&self) -> Result<&Lines, Fault>
         ensures { MatchResult result (λ lines. self.now ≡ S.Finished lines.now) (λ fault. HasNoLines self.now fault) }
     {
@@ -193,8 +193,8 @@ impl State {
         }
     }
 
-    /// Copies the text of all lines that weren't taken, each with a newline, as `copy_out` does. `NotFinished` where it
-    /// is still filled. It refuses where memory is refused too.
+    /// Copies the text of all lines that weren't taken, each with a newline, as `copy_out` does. `NotFinished` where
+    /// the renderer isn't finished. It refuses where memory is refused too.
     pub fn copy_text(
         &mut self,
         alloc: Global,
@@ -213,7 +213,8 @@ impl State {
         }
     }
 
-    /// Takes the next line, and answers its size. `NotFinished` where it is still filled, `NoLine` where none is left.
+    /// Takes the next line, and answers its size. `NotFinished` where the renderer isn't finished, `NoLine` where none
+    /// is left.
     pub fn next_line(&mut self, alloc: Global) -> Result<LineSize, Fault>
         requires { CanGoOn self.old }
         ensures taken { IfOk result (λ size. TakesLine self.old self.new size) }
@@ -228,7 +229,7 @@ impl State {
         }
     }
 
-    /// Keeps a refusal that is to be kept.
+    /// Keeps a refusal, if it is one to be kept.
     pub fn keep<T: Drop>(&mut self, done: Result<T, Fault>) -> Result<T, Fault>
         requires { MatchResult done (λ _. CanGoOn self.old) (λ fault. (IsKept fault → ⊥) → CanGoOn self.old) }
         ensures goes_on { CanGoOn self.new }

@@ -100,8 +100,8 @@ impl From<OutOfMemory> for Fault {
     }
 }
 
-/// What a refusal of a script's command is to a call that has no line. Streams, which a call doesn't have, count as
-/// memory.
+/// The fault of a call for the refusal of a script's command, without its line. Failures of streams, which no call has,
+/// count as `OutOfMemory`.
 pub fn of_command(e: RunError) -> Fault
     ensures { result ≡ fault_of_command e }
 {

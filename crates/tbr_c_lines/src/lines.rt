@@ -22,7 +22,7 @@ use tbr_lines::{OutOfMemory, RenderLine};
 pub struct Lines {
     rest: Rest,
     current: Option<Line>,
-    /// The text of the rest, where it was asked for and did not fit.
+    /// The text of the rest, if it was asked for and did not fit.
     text: Option<String>,
 }
 
@@ -91,8 +91,8 @@ impl Lines {
 
     /// Copies the text of all lines that weren't taken, each with a newline, as `copy_out` does.
     ///
-    /// It refuses for want of memory too, since it puts the text together first. Where that doesn't fit the buffer, it
-    /// is kept for the next call.
+    /// It refuses also where memory is refused, since it puts the text together first. A text that doesn't fit the
+    /// buffer is kept for the next call.
     pub fn copy_text(
         &mut self,
         alloc: Global,
@@ -141,7 +141,7 @@ fn first_of<A: Annotation>(
     }
 }
 
-/// Copies the text of these lines, each with a newline, as `copy_out` does. It is `kept` where it doesn't fit.
+/// Copies the text of these lines, each with a newline, as `copy_out` does. A text that doesn't fit is `kept`.
 fn copy_kept<A>(
     alloc: Global,
     lines: &LinkedList<RenderLine<Vec<A>>>,

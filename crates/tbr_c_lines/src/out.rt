@@ -4,7 +4,7 @@ ghost use Rattle.tbr_c_lines.specs.declared.fault.Fault.TheVariants as F;
 
 use crate::fault::Fault;
 
-/// Copies a text into a buffer, if that has room for all of it. What is needed is told in any case.
+/// Copies a text into a buffer, if that has room for all of it. `needed` becomes the bytes of the text in any case.
 pub fn copy_out(text: &[u8], out: &mut [u8], needed: &mut usize) -> Result<(), Fault>
     ensures needed { needed.new ≡ length text.now }
     ensures whole { length text.now ≤ length out.old →
@@ -19,7 +19,7 @@ pub fn copy_out(text: &[u8], out: &mut [u8], needed: &mut usize) -> Result<(), F
     Ok(())
 }
 
-/// Puts an answer where C wants it. Where there is none nothing changes there.
+/// Puts an answer where C wants it. Where it is a refusal, nothing changes there.
 pub fn answer<T: Copy>(answer: Result<T, Fault>, out: &mut T) -> Result<(), Fault>
     ensures { MatchResult answer (λ value. (result ≡ Ok tt) × (out.new ≡ value))
         (λ fault. (result ≡ Err fault) × (out.new ≡ out.old)) }

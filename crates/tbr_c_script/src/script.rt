@@ -40,7 +40,7 @@ pub extern "C" fn tbr1_render(alloc: Global, script: &[u8], out: &mut [u8]) -> A
     }
 }
 
-/// What is answered of a script that is refused. No stream fails, since none is there.
+/// What is answered where a script is refused. No stream fails, since there is none.
 fn refused(e: RunError) -> Answer
     ensures { result.status ≢ 0 }
 {

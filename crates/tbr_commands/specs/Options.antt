@@ -43,7 +43,7 @@ with_setting options Footnotes = record options { include_link_footnotes = true 
 with_setting options NoStrike = record options { use_unicode_strikeout = false }
 with_setting options (Images mode) = record options { img_mode = mode }
 
--- the options that words tell, each of them a setting, the later of a kind counting
+-- the options that words give, each of them a setting; of two of a kind the later counts
 abbrev pub AreOptions : List (List ℕ) → RenderOptions → Type 0
 AreOptions words options =
     (settings : List Setting) × AllZip IsSetting words settings × (options ≡ fold with_setting default_options settings)

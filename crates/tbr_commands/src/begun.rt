@@ -7,7 +7,7 @@ use crate::request::Request;
 use crate::request::kind::Kind;
 use tbr_lines::OutOfMemory;
 
-/// How much more often commands came than those that end what they begin.
+/// How many of each kind were begun and not ended yet.
 #[derive(Clone, Copy, Debug, PartialEq, Eq)]
 pub struct Begun {
     /// Modes of white space.
@@ -18,7 +18,7 @@ pub struct Begun {
     pub emphases: usize,
     /// Stretches of strong text.
     pub strongs: usize,
-    /// Stretches of struck out text, also where it has no strokes.
+    /// Stretches of struck out text, even where it has no strokes.
     pub strikeouts: usize,
     /// Stretches of code.
     pub codes: usize,
@@ -65,7 +65,7 @@ impl Begun {
         }
     }
 
-    /// Makes them so many.
+    /// Sets how many of a kind are begun.
     fn set(&mut self, kind: Kind, count: usize)
         ensures { self.new ≡ with_count self.old kind count }
     {

@@ -75,7 +75,7 @@ fn wrap(word: &str) -> Option<Setting>
     Some(Setting::Wrap(parse_size(word.strip_prefix("wrap=")?)?))
 }
 
-/// The options that words tell, the later of a kind counting. `None` where one of them is no option.
+/// The options that words give; of two of a kind the later counts. `None` where one of them is no option.
 pub fn parse_options(mut words: Words<'_>) -> Option<RenderOptions>
     ensures found { IfSome result (λ options. AreOptions words.entry options) }
     ensures wrap_width { IfSome result (λ options. options.wrap_width ≢ Some 0) }

@@ -85,8 +85,8 @@ impl Request {
         }
     }
 
-    /// Asks a renderer for it. The renderer hasn't failed, and what ends is open, if it is a preformatted stretch or a
-    /// strikeout with strokes.
+    /// Asks a renderer for it. The renderer must not have failed. A preformatted stretch that ends must be open, and so
+    /// must a strikeout with strokes.
     ///
     /// It refuses as the renderer's call does, and never where that takes no memory.
     pub fn call<D: TextDecorator, W: CharWidth>(

@@ -19,7 +19,7 @@ use tbr_tagged::{OutOfMemory, TaggedLine};
 /// Puts texts round parts of a document, such as `*` round emphasised text. It gives annotations of what is between,
 /// such as its colour.
 ///
-/// The texts are wrapped with the document's own. The annotations are beside it, for whoever shows the lines. A call
+/// The texts are wrapped with the document's own. The annotations come with the lines, for whoever shows these. A call
 /// answers [`OutOfMemory`] where memory is refused or the size of a text passes `usize`, and then leaves the decorator
 /// as it was.
 ///
@@ -158,7 +158,7 @@ pub trait TextDecorator: Drop {
         ensures after { OnOk result (self.new ≡ after self.old (change.image (chars src.now) (chars title.now))) }
         ensures err { OnErr result (self.new ≡ self.old) };
 
-    /// The text before each line of a header of a level.
+    /// The text before each line of a header of the given level.
     fn header_prefix(&self, alloc: Global, level: usize) -> Result<String, OutOfMemory>
         ensures { IfOk result (λ text. chars_of text ≡ prefix_text self.now (prefix.header level)) };
 

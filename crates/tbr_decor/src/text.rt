@@ -16,7 +16,7 @@ pub fn empty(alloc: Global) -> String
     String::new(alloc)
 }
 
-/// A copy of a text, of which it asks that it is ASCII. It refuses only where memory is refused.
+/// A copy of a text. It asks that the text is ASCII, and refuses only where memory is refused.
 pub fn ascii(alloc: Global, text: &str) -> Result<String, OutOfMemory>
     requires { IsTrue (list_all is_ascii text.now) }
     ensures { IfOk result (λ t. chars_of t ≡ text.now) }
@@ -31,8 +31,8 @@ pub fn copy(alloc: Global, text: &str) -> Result<String, OutOfMemory>
     Ok(String::from_str(alloc, text)?)
 }
 
-/// `level` times `#`, and a space. It refuses only where memory is refused. A size that no text has is refused before
-/// anything is written.
+/// `level` times `#`, and a space. It refuses only where memory is refused. A size that no text can have is refused
+/// before anything is written.
 pub fn header(alloc: Global, level: usize) -> Result<String, OutOfMemory>
     ensures { IfOk result (λ t. chars_of t ≡ plain.header_text level) }
 {

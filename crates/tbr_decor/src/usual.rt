@@ -25,14 +25,14 @@ pub fn superscript_end(alloc: Global) -> Result<String, OutOfMemory>
     text::ascii(alloc, "}")
 }
 
-/// The annotation of text in a colour, of a decorator without colours: none. It takes no memory.
+/// The annotation of text in a colour: none, in a decorator without colours. It takes no memory.
 pub fn push_colour<A>(_alloc: Global, _colour: Colour) -> Result<Option<A>, OutOfMemory>
     ensures { result ≡ Ok None }
 {
     Ok(None)
 }
 
-/// Whether the end of text in a colour takes an annotation away, of a decorator without colours: no. It takes no
+/// Whether the end of text in a colour takes an annotation away: never, in a decorator without colours. It takes no
 /// memory.
 pub fn pop_colour() -> bool
     ensures { result ≡ false }
@@ -40,15 +40,15 @@ pub fn pop_colour() -> bool
     false
 }
 
-/// The annotation of a background in a colour, of a decorator without colours: none. It takes no memory.
+/// The annotation of a background in a colour: none, in a decorator without colours. It takes no memory.
 pub fn push_bgcolour<A>(_alloc: Global, _colour: Colour) -> Result<Option<A>, OutOfMemory>
     ensures { result ≡ Ok None }
 {
     Ok(None)
 }
 
-/// Whether the end of a background in a colour takes an annotation away, of a decorator without colours: no. It takes
-/// no memory.
+/// Whether the end of a background in a colour takes an annotation away: never, in a decorator without colours. It
+/// takes no memory.
 pub fn pop_bgcolour() -> bool
     ensures { result ≡ false }
 {

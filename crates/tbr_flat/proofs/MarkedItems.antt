@@ -19,7 +19,6 @@ use Rattle.tbr_tagged.proofs.SameItems.{same_items_append}
 pub markers-append : {A : Type 0} (is js : List (Item A)) → length (names_in_items (is ++ js)) ≡ length (names_in_items is) + length (names_in_items js)
 markers-append is js = ap length (names_in_items-append is js) ∙ length-append (names_in_items is) (names_in_items js)
 
--- markers alone
 markers_alone : (A : Type 0) (ms : List (ℕ × List ℕ)) → has_character (marked {A = A} [] ms) ≡ false
 markers_alone A [] = refl
 markers_alone A ((zero, name) ∷ ms) = markers_alone A ms

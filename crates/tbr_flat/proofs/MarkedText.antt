@@ -39,7 +39,6 @@ module _ {A : Type 0} where
       ap (λ (x : Flat A). with_marks x p v) d ∙ ap (λ (m : MarkerPlaces). with_marks (record f { word = f.word ++ is }) p m) e
       ∙ ap (λ js. record { placed = marked f.placed p.markers; word = js }) (marked_more f.word is w.markers (omega (arith, h)))
 
-  -- the word is placed
   pub word_placed : (f g : Flat A) (p w q : MarkerPlaces) (none : MarkerPlaces) → covered p ≡ length f.placed → g ≡ record { placed = f.placed ++ f.word; word = [] } → q ≡ followed p w → none ≡ record { markers = []; after = 0 } →
       with_marks g q none ≡ record { placed = marked f.placed p.markers ++ marked f.word w.markers; word = [] }
   word_placed f g p w q none h d e n =

@@ -40,14 +40,14 @@ module _ {A : Type 0} where
   pub runs : (m n : ℕ) (t : A) (rest : List A) → replicate (m + n) t ++ rest ≡ replicate m t ++ (replicate n t ++ rest)
   runs m n t rest = ap (λ ts. ts ++ rest) (sym (replicate-append-replicate m n t)) ∙ append_assoc (replicate m t) (replicate n t) rest
 
-  -- the first of what a stored tag stands for, and what is after them
+  -- the first of the tags that a stored one repeats, and what is after them
   pub parted : (xs ys : List (RepeatedTag A)) (s : RepeatedTag A) (o p : ℕ) → xs ≡ s ∷ ys → suc s.more ≡ o + p → (take o (tags_of xs) ≡ replicate o s.tag) × (drop o (tags_of xs) ≡ replicate p s.tag ++ tags_of ys)
   parted xs ys s o p at sum =
       let run = replicate o s.tag in let rest = replicate p s.tag ++ tags_of ys in
       let parts : tags_of xs ≡ run ++ rest = ap tags_of at ∙ ap (λ n. replicate n s.tag ++ tags_of ys) sum ∙ runs o p s.tag (tags_of ys) in
       (ap (take o) parts ∙ take_at run rest o (length-replicate o s.tag), ap (drop o) parts ∙ drop_at run rest o (length-replicate o s.tag))
 
-  -- the first of what a stored tag stands for are taken, or skipped; it is read twice
+  -- the first of the tags that a stored one repeats are taken, or skipped; it is read twice
   pub skip_part : (xs : List (RepeatedTag A)) (i n : ℕ) (r s y : RepeatedTag A) → 0 < n → n ≤ length (tags_of (drop i xs)) → r ≡ get_or xs i r → s ≡ get_or xs i s → n ≤ r.more → y ≡ record s { more = s.more - n } →
       (take n (tags_of (drop i xs)) ≡ replicate n s.tag) × (tags_of (drop i (set xs i y)) ≡ drop n (tags_of (drop i xs)))
   skip_part xs i n r s y some within other is less e =

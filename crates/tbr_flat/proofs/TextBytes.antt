@@ -71,7 +71,7 @@ read_more text rest after n c h e =
     let k = next_split (chars text) (chars after) n c (h.left ∙ chars_past_char rest after c h.utf8 e) in
     (rw add-one (read_one text rest after n c h e), rw add-one k.0)
 
--- all are read where none is next
+-- where none comes next all are read
 pub all_read : (text rest : List ℕ) (n : ℕ) → IsRead text rest n → length rest ≡ 0 → length (chars text) ≤ n
 all_read text rest n h none = omega (arith, length-drop n (chars text), ap length (h.left ∙ chars_none rest none))
 

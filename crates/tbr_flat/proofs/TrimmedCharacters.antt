@@ -1,4 +1,5 @@
--- Characters beside their tags: what they take, and what is left without the spaces and the white space where words part.
+-- Characters beside their tags: what they take, and what is left without the spaces and the white space where words
+-- part.
 use Rattle.std.proofs.Common.{◌≡◌, ℕ, suc, zero, ◌+◌, ◌-◌, ◌<◌, ◌≤◌, if◌then◌else◌, Bool, true, false, Option, List, [], ◌∷◌, ◌++◌, length, take, drop, replicate, refl, ap, sym, ◌∙◌, arith, append_assoc, ne_eqb}
 use Rattle.std.specs.List.{AllByRecursion as Each}
 use Rattle.std.specs.Char.{is_whitespace}

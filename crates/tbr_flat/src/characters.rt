@@ -20,7 +20,8 @@ use tbr_tagged::{OutOfMemory, TaggedString};
 /// Characters under tags: those that are placed on lines, and after them those of the current word.
 ///
 /// A tag is stored once for neighbouring characters, on however many lines and in however many words. Placing and
-/// handing out characters costs their own length. A contract sees the characters that are placed and not handed out yet, and those
+/// handing out characters costs their own length. A contract sees the characters that are placed and not handed out
+/// yet, and those of the word.
 /// of the word.
 #[derive(Drop)]
 pub struct Characters<T> {
@@ -87,7 +88,7 @@ impl<T> Characters<T> {
         self.word.first()
     }
 
-    /// Changes nothing: it holds characters alone.
+    /// Changes nothing. Its contract says that all items are characters.
     pub fn holds_characters(&self)
         ensures placed { Each (λ i. is_glyph i ≡ true) self.now.placed }
         ensures word { Each (λ i. is_glyph i ≡ true) self.now.word }

@@ -224,9 +224,9 @@ impl<T: Drop> FlatText<T> {
         Ok(markers)
     }
 
-    /// Takes away the spaces at the end of the last `most` placed items, back to a marker, and the white space at the
-    /// word's beginning, up to a marker. It answers how many spaces that were. It takes the time of going over the
-    /// word's stored tags.
+    /// Takes away the spaces at the end of the last `most` placed items, back to a marker. It takes away too the white
+    /// space at the word's beginning, up to a marker. It answers how many placed spaces it took away. It takes the time
+    /// of going over the word's stored tags.
     pub fn trim(&mut self, most: usize) -> usize
         requires { most ≤ length self.old.placed }
         ensures placed { (before line : List (Item T)) → self.old.placed ≡ before ++ line → length line ≡ most →
@@ -263,8 +263,8 @@ impl<T: Drop> FlatText<T> {
         Ok(())
     }
 
-    /// Moves the text of the first placed items to another, of a marker, which has none, or of at most `most`
-    /// characters, all under one tag. It answers how many they are.
+    /// Moves the text of the first placed items to another text. They are a marker, which has no text, or at most
+    /// `most` characters, all under one tag. It answers how many they are.
     fn move_piece(&mut self, text: &mut String, most: usize) -> Result<usize, OutOfMemory>
         requires some { 0 < most }
         requires placed { most ≤ length self.old.placed }

@@ -12,11 +12,11 @@ use std::str::Chars;
 use tbr_model::CharWidth;
 use tbr_tagged::{OutOfMemory, spaces, text_width};
 
-/// So few bytes that are taken may stay.
+/// While fewer bytes than these were taken, they stay in memory.
 const FEW: usize = 1024;
 
-/// The bytes of the C library's least block. A text with room for them takes no more memory than one of a byte, and
-/// what pads it up to them needs no request.
+/// The bytes of the least block that the C library gives. A text with room for them takes no more memory than one of a
+/// byte, and growing up to them needs no request.
 const LEAST_ROOM: usize = 24;
 
 /// A text that is taken from its front. What is taken is forgotten. A contract sees the characters that are left.

@@ -17,7 +17,7 @@ pub text_normal : {A : Type 0} (cs : List ℕ) (a b : A) → IsNormal (text_entr
 text_normal [] a b = tt
 text_normal (c ∷ cs) a b = (refl, text_normal cs a b)
 
--- and leaves a run `Normal` that is so
+-- and a `Normal` run stays so with it
 pub normal_with : {A : Type 0} (run : List (Entry A)) (cs : List ℕ) (a b : A) → IsNormal run → IsNormal (run ++ text_entries cs a b Normal)
 normal_with run cs a b h = each_append (HasMode Normal) run (text_entries cs a b Normal) h (text_normal cs a b)
 

@@ -11,7 +11,7 @@ pub record IsLayout (items : ℕ) (cuts : List ℕ) : Type 0 where
   pub never_falls : IsNonDecreasing cuts
   pub ends : slice_get cuts (length cuts - 1) ≡ Some items
 
--- the lines behind a cut
+-- the lines after a cut
 abbrev pub lines_behind : {X : Type 0} → List X → ℕ → List ℕ → List (List X)
 lines_behind items cut [] = []
 lines_behind items cut (next ∷ cuts) = slice_range items cut next ∷ lines_behind items next cuts
@@ -21,7 +21,7 @@ abbrev pub lines_between : {X : Type 0} → List X → List ℕ → List (List X
 lines_between items [] = []
 lines_between items (cut ∷ cuts) = lines_behind items cut cuts
 
--- where each line ends, of lines behind a position
+-- where each of the lines ends that begin at a position
 abbrev pub ends_of : {X : Type 0} → ℕ → List (List X) → List ℕ
 ends_of place [] = []
 ends_of place (l ∷ ls) = (place + length l) ∷ ends_of (place + length l) ls
@@ -38,8 +38,8 @@ placed_by_cuts items n cuts = slice_index_or cuts n items
 abbrev pub BeginsWider : {A : Type 0} → Slot A → Type 0
 BeginsWider s = IsTrue (s.begins && s.wider)
 
--- A legal layout: every line fits; no cut is inside a word that is no wider than a line; and the first item of a wider
--- word is at a cut. Cuts inside a wider word are free.
+-- A legal layout: every line fits, no cut is inside a word that is no wider than a line, and a wider word begins at a
+-- cut. Cuts inside a wider word are free.
 pub record IsLegalLayout {A : Type 0} (width : ℕ) (slots : List (Slot A)) (cuts : List ℕ) : Type 0 where
   pub layout : IsLayout (length slots) cuts
   pub fits : Each (λ line. line_width line ≤ width) (lines_between slots cuts)
@@ -57,6 +57,6 @@ pub record IsBestLayout {A : Type 0} (width : ℕ) (slots : List (Slot A)) (cuts
 abbrev pub HasLegalLayout : {A : Type 0} → ℕ → List (Slot A) → Type 0
 HasLegalLayout width slots = (cuts : List ℕ) × IsLegalLayout width slots cuts
 
--- a slot behind another gap
+-- a slot after another gap
 abbrev pub with_gap : {A : Type 0} → Slot A → Option A → Slot A
 with_gap s gap = record { item = s.item; width = s.width; gap = gap; begins = s.begins; wider = s.wider }

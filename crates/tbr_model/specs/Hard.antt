@@ -43,7 +43,7 @@ abbrev pub hard_lines : {A : Type 0} → List (Entry A) → List (List (Entry A)
 hard_lines [] = [] ∷ []
 hard_lines (e ∷ es) = if is_newline e then [] ∷ hard_lines es else onto_first e (hard_lines es)
 
--- The lines are groups, one for each part, and each part has its relation to its group. The relation is told whether
+-- The lines are groups, one for each part, and each part has its relation to its group. The relation is given whether
 -- another part follows.
 abbrev pub Parted : {X Y : Type 0} → (Bool → X → List Y → Type 0) → List X → List Y → Type 0
 Parted R [] ys = ys ≡ []
@@ -170,8 +170,8 @@ first_stretch [] = []
 first_stretch (c ∷ cs) = if c == space_character then [] else c ∷ first_stretch cs
 
 -- How a line begins after spaces that are dropped, and after the line before, which is empty where the hard line
--- begins: with the hard line, or with a stretch that doesn't fit after that line with the spaces. If no spaces are
--- dropped, it goes on with a stretch that filled the line before alone.
+-- begins. It begins with the hard line, or with a stretch that doesn't fit after that line with the spaces. If no
+-- spaces are dropped, it goes on with a stretch that filled the line before alone.
 abbrev pub BeginsBehind : ℕ → List ℕ → ℕ → List ℕ → Type 0
 BeginsBehind width before gap l =
     ((before ≡ []) × (gap ≡ 0))

@@ -4,8 +4,8 @@ use Rattle.std.specs.List.{AllByRecursion as Each}
 use Rattle.tbr_model.specs.Codes.{space_character}
 use Rattle.tbr_model.specs.Run.{Entry, Item, glyph, item_width, items_width, kept_items, has_character, Word, words_of}
 
--- An item of a run, with what a line has to know of it: its width, whether it begins a word and after which gap, and
--- whether its word is wider than a line.
+-- An item of a run, with what a line has to know of it. That is its width, whether it begins a word and after which
+-- gap, and whether its word is wider than a line.
 pub record Slot (A : Type 0) : Type 0 where
   pub item : Item A
   pub width : ℕ
@@ -71,7 +71,7 @@ line_has_character line = has_character (map (λ s. s.item) line)
 abbrev pub MayBegin : {A : Type 0} → Slot A → Type 0
 MayBegin s = IsTrue (s.begins || s.wider)
 
--- A wider word begins no line's middle.
+-- In the middle of a line no wider word begins.
 abbrev pub MayFollow : {A : Type 0} → Slot A → Type 0
 MayFollow s = IsTrue (not (s.begins && s.wider))
 

@@ -3,7 +3,7 @@ use Rattle.std.specs.Prelude.{ℕ, ◌-◌, ◌<◌, ◌≤◌, ◌↔◌, Bool,
 use Rattle.tbr_model.specs.Layout.{Slot, IsLegalLine, IsLongest}
 use Rattle.tbr_model.specs.Cuts.{HasLegalLayout}
 
--- The first items of the slots, up to this end, are a legal line, and the longest behind which a line may begin. The
+-- The first items of the slots, up to this end, are a legal line, and the longest after which a line may begin. The
 -- rest has a legal layout.
 pub record IsLongestLine {A : Type 0} (width : ℕ) (slots : List (Slot A)) (end : ℕ) : Type 0 where
   pub some : 0 < end

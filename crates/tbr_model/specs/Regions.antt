@@ -53,9 +53,9 @@ abbrev pub first_blank : {A : Type 0} → List (Entry A) → Option A
 first_blank [] = None
 first_blank (e ∷ es) = first_of (blank_of e) (first_blank es)
 
--- The word of a region's content: its kept characters and markers. Its gap is spaced if white space other than U+00A0
--- is from the break point that ended the word before, which is all of `before`, up to the one that ends this word,
--- or the run's end, and has the annotation of the first.
+-- The word of a region's content: its kept characters and markers. `before` is the break point that ended the word
+-- before it, or nothing. The gap is spaced if white space other than U+00A0 is in `before` or in the content, and has
+-- the annotation of the first.
 abbrev pub word_behind : {A : Type 0} → (ℕ → Option ℕ) → List (Entry A) → List (Entry A) → Word A
 word_behind columns before content = record {
   gap = first_blank (before ++ content);
@@ -70,7 +70,7 @@ words_behind columns before [] rest =
 words_behind columns before (r ∷ rs) rest =
     word_behind columns before r.content ∷ words_behind columns (r.break ∷ []) rs rest
 
--- The words of the regions and the rest. No break point ended a word before the first, so its gap looks from the run's
+-- The words of the regions and the rest. No break point ended a word before the first, so its gap is from the run's
 -- start on. It never counts, since the first word begins a line.
 abbrev pub words_between : {A : Type 0} → (ℕ → Option ℕ) → List (Region A) → List (Entry A) → List (Word A)
 words_between columns regions rest = words_behind columns [] regions rest

@@ -1,4 +1,4 @@
--- What the lines of a run show beside its visible characters and its markers, in every mode.
+-- What the lines of a run show besides its visible characters and its markers, in every mode.
 use Rattle.std.specs.Prelude.{◌≡◌, ◌≢◌, ℕ, ◌+◌, ◌-◌, ◌%◌, ◌<◌, ◌⊎◌, Bool, true, false, not, ◌&&◌, ◌||◌, ◌==◌, nat_lt, if◌then◌else◌, Option, unwrap_or, List, [], ◌∷◌, ◌++◌, filter, length, Contains}
 use Rattle.std.specs.Char.{is_whitespace}
 use Rattle.std.specs.List.{list_any, AllZip, AllByRecursion as Each}

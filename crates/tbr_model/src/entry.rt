@@ -25,7 +25,7 @@ pub enum Entry<T> {
 }
 
 impl<T> Entry<T> {
-    /// The annotation of white space other than U+00A0; none of any other entry.
+    /// The annotation of white space other than U+00A0. `None` for any other entry.
     pub fn blank(&self) -> Option<&T>
         ensures { option_copied result ≡ blank_of (entry_value self.now) }
     {

@@ -29,7 +29,7 @@ pub fn pre_lines_are_shown<T>()
 {}
 
 /// In a run of `PreWrap` alone a hard line of printable characters, not of spaces alone, is one line where it fits
-/// without the spaces at its end, which are dropped. In any case its stretches of non-blanks are in order, and a
+/// without the spaces at its end. These are dropped. In any case its stretches of non-blanks are in order, and a
 /// stretch is cut only if it is wider than a line. Spaces are dropped, and a line ends, only where the next stretch
 /// doesn't fit. Spaces alone leave an empty line before a newline, and no line at the end of the run.
 pub fn prewrap_lines_are_shown<T>()
@@ -38,8 +38,8 @@ pub fn prewrap_lines_are_shown<T>()
         Parted (ShowsPreWrap columns width) (hard_lines (run_of es)) (lines_of columns width es) }
 {}
 
-/// In a run of one preserving mode, a hard line of printable characters and tabs that ends with a non-blank shows each
-/// tab as spaces up to the next multiple of eight, where it then fits a line.
+/// In a run of one preserving mode, a hard line of printable characters and tabs that ends with a non-blank shows its
+/// tabs as spaces. Each goes up to the next multiple of eight, where the hard line then fits a line.
 pub fn tabs_are_shown<T>()
     ensures { (columns : ℕ → Option ℕ) (width : ℕ) → columns space_character ≡ Some 1 → 0 < width →
         (mode : WhiteSpace) → mode ≢ Normal →

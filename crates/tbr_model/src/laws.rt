@@ -69,7 +69,7 @@ pub fn words_stand_between_working_breaks<T>()
 {}
 
 /// Between neighbouring words of a line is one space where the gap between them is spaced, and else nothing. It is
-/// spaced exactly where a blank stood there.
+/// spaced exactly where a blank is there.
 pub fn gaps_are_one_space<T>()
     ensures line { (columns : ℕ → Option ℕ) (width : ℕ) (w : Word T) (ws : List (Word T)) →
         Each (λ v. 0 < length v.items) (w ∷ ws) →

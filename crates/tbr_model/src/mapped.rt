@@ -5,7 +5,7 @@ ghost use Rattle.tbr_model.specs.Layout.{Slot, slots_of, line_text, IsBest};
 ghost use Rattle.tbr_model.specs.Hard.{hard_lines, Parted, ShowsVisible, ShowsHardLine, ShowsPre, ShowsPreWrap, ShowsTabs};
 ghost use Rattle.tbr_model.specs.Mapped.{map_items, map_run, map_word, map_slots, map_layout, map_lines, KeepsEqual};
 
-/// What is under which annotation doesn't change how a run is laid out.
+/// Which annotations a run has doesn't change how it is laid out.
 pub fn annotations_change_no_layout<A, B>()
     ensures words { (f : A → B) (columns : ℕ → Option ℕ) (run : List (Entry A)) →
         words_of columns (map_run f run) ≡ map (map_word f) (words_of columns run) }
@@ -19,7 +19,8 @@ pub fn annotations_change_no_layout<A, B>()
         IsBest width slots lines → IsBest width (map_slots f slots) (map_layout f lines) }
 {}
 
-/// What is shown of a run's hard lines is shown of them under other annotations, if these keep which ones are equal.
+/// What is shown of a run's hard lines is shown of them under other annotations, if annotations that are equal stay
+/// equal.
 pub fn annotations_change_no_hard_line<A, B>()
     ensures lines { (f : A → B) (run : List (Entry A)) →
         hard_lines (map_run f run) ≡ map (map_run f) (hard_lines run) }

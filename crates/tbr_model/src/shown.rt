@@ -49,9 +49,9 @@ pub fn waiting_markers_end_a_run<T>()
         × (front ++ names_waiting columns width es ≡ names_behind (is_kept columns) (run_of es)) }
 {}
 
-/// A run of `Normal` alone keeps its items, whatever the width. The items of its lines, but for the spaces that gaps
-/// are, and then what waits, are its kept characters and its markers, in order, each character under its own
-/// annotation.
+/// A run of `Normal` alone keeps its items, whatever the width. Its kept characters and its markers are on its lines,
+/// and then in what waits, in order, each character under its own annotation. Nothing else is there but the spaces that
+/// gaps are.
 pub fn normal_items_are_kept<T>()
     ensures { (columns : ℕ → Option ℕ) (width : ℕ) (es : List (Event T)) → AllHaveMode Normal (run_of es) →
         without_spaces (joined (lines_of columns width es)) ++ waiting columns width (progress columns width es)
@@ -97,10 +97,10 @@ pub fn columns_are_shown<T>()
         run_shows_columns columns (run_of es) ≡ true → HasColumns columns (progress columns width es) }
 {}
 
-/// A line ends only at a newline in a preserving mode, or where what comes next doesn't fit. While the open line, the
-/// space that waits and the word fit a line together, a newline ends one line, a tab none if its next stop is on the
-/// line, any other entry none, and the end of the run at most one. A word that begins a line is cut only where the
-/// next item that takes columns doesn't fit.
+/// A line ends only at a newline in a preserving mode, or where what comes next doesn't fit. Take an open line, space
+/// that waits and a word that fit a line together. Then a newline ends one line, a tab none if its next stop is on the
+/// line, any other entry none, and the end of the run at most one. A word that begins a line is cut only where the next
+/// item that takes columns doesn't fit.
 pub fn lines_end_where_full<T>()
     ensures entry { (columns : ℕ → Option ℕ) (width : ℕ) (p : Progress T) (e : Entry T) →
         columns_so_far columns p ≤ width → is_newline_or_tab e ≡ false →

@@ -13,7 +13,7 @@ use crate::slot::Slot;
 use crate::width::CharWidth;
 use std::alloc::{AllocError, Global};
 
-/// Before how many entries the first break point that works is.
+/// How many entries come before the first break point that works.
 fn working_break<T, W: CharWidth>(entries: &[Entry<T>]) -> Option<usize>
     ensures { MatchOption result (NoBreakWorks W.columns (entry_values entries.now))
         (IsFirstWorkingBreak W.columns (entry_values entries.now)) }

@@ -153,7 +153,7 @@ pub unfailed : {X : Type 0} (failure : Option Error) (result : Result X Error) (
 unfailed None result x is kept = refl
 unfailed (Some e) result x is kept = let refused = kept e refl in cc
 
--- one that is too narrow has failed by that, or its flush is
+-- one that is too narrow has failed with that, or its flush is too narrow
 pub held_back : {D M : Type 0} {X : Type 0} (columns : ℕ → Option ℕ) (r : Renderer D M (List M)) (result : Result X Error) → result ≡ Err TooNarrow → (r.failure ≡ None → result ≡ Err TooNarrow → FlushIsTooNarrow columns r) →
     ((e : Error) → r.failure ≡ Some e → result ≡ Err e) → HoldsBack columns r
 held_back columns r result is flush kept = go r.failure refl

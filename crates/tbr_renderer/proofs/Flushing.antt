@@ -40,7 +40,6 @@ pub record HasLines {D A M : Type 0} (f : A → M) (columns : ℕ → Option ℕ
   pub settings : KeepsSettings (meant f r) (meant f q)
 
 module _ {D A M : Type 0} (eq : A → A → Bool) (f : A → M) (agree : (v w : Vec A) → equal_lists eq v w ≡ true → tag_meant f v ≡ tag_meant f w) (columns : ℕ → Option ℕ) where
-  -- one line more
   pub one_line_more : (first old new : Block (Vec A)) (r q s : Renderer D A (Vec A)) (line : List (Element (Vec A))) → HasLines f columns first old r q → HandsOne columns (equal_lists eq) old line new →
       meant f s ≡ with_line columns (meant f q) (items_meant f (items_of line)) → HasLines f columns first new r s
   one_line_more first old new r q s line h one added =

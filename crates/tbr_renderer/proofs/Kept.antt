@@ -1,4 +1,4 @@
--- What a call ensures, after the keeping of its refusal.
+-- What a call ensures once its refusal is kept.
 use Rattle.std.proofs.Common.{◌≡◌, Result, Ok, Err, sym, subst}
 use Rattle.std.specs.Prelude.{OnOk, IfErr}
 

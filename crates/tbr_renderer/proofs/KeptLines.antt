@@ -107,7 +107,7 @@ no_border_in_parts eq (p ∷ []) h =
 no_border_in_parts eq (p ∷ q ∷ ps) h =
     last_behind (part_seen p) (parts_seen (q ∷ ps)) (parts_some eq (q ∷ ps) h.1) ∙ no_border_in_parts eq (q ∷ ps) h.1
 
--- where none of the last lines is a border at the end, none is at the end of all
+-- where no border ends the last lines, none ends all lines
 pub no_border : {T : Type 0} (eq : T → T → Bool) (ps : List (Part T)) (last : List (RenderLine T)) → Each (HoldsPart eq) ps → last_border (map line_seen last) ≡ None →
     last_border (parts_seen ps ++ map line_seen last) ≡ None
 no_border eq ps [] h none = ap last_border (append-nil (parts_seen ps)) ∙ no_border_in_parts eq ps h

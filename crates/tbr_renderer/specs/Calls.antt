@@ -20,8 +20,8 @@ use Rattle.tbr_renderer.specs.Appended.{as_text, prefixed, AddsBorder, AppendsLi
 use Rattle.tbr_renderer.specs.Image.{shown_title}
 use Rattle.tbr_renderer.specs.Decorated.{struck_until, asked_to_open, asked_to_close, asked_for_colour, annotated, coloured, uncoloured, Opens, OpenIsTooNarrow, Closes, CloseIsTooNarrow, OpensStrikeout, ClosesStrikeout, AddsImage, ImageIsTooNarrow}
 
--- A call with its arguments: a text by its characters, a marker by its name, an image by its source and title, and
--- another renderer by the lines that it hands out, which are under a `T`. Strikeouts begin and end by calls of their
+-- A call with its arguments. Texts are by their characters, markers by their names, and images by source and title.
+-- Another renderer is by the lines that it hands out, which are under a `T`. Strikeouts begin and end by calls of their
 -- own.
 pub data Call (T : Type 0) : Type 0 where
   add_empty_line : Call T
@@ -47,7 +47,7 @@ pub data Call (T : Type 0) : Type 0 where
   append_subrender : List (List ℕ) → List (Line T) → Call T
   append_vert_row : List (List (Line T)) → Call T
 
--- laid items as entries that stand for them: no annotation but their own comes into question
+-- laid items as entries that stand for them, under no annotation but their own
 abbrev pub laid_entry : {T : Type 0} → Item T → Entry T
 laid_entry (glyph c tag) = character c tag tag Pre
 laid_entry (marker name) = marker_entry name

@@ -40,7 +40,7 @@ looks columns col = (col.0.width, is_blank columns col.0)
 abbrev pub spots_of : {D A T : Type 0} → (ℕ → Option ℕ) → List (Renderer D A T × ℕ) → List Spot
 spots_of columns cols = spots_from 0 (map (looks columns) cols)
 
--- A cell of such a renderer takes as many columns, and has no line where nothing is in the renderer.
+-- A cell of a renderer takes the renderer's columns, and has no line where nothing is in the renderer.
 abbrev pub LeavesFree : {D A T : Type 0} → (ℕ → Option ℕ) → Renderer D A T × ℕ → Cell T → Type 0
 LeavesFree columns col cell = (cell.width ≡ col.0.width) × (is_blank columns col.0 ≡ true → cell.lines ≡ [])
 
@@ -63,8 +63,8 @@ abbrev pub GivesCell : {S T : Type 0} →
 GivesCell columns_of hands_out col cell =
     (cell.width ≡ columns_of col.0) × (cell.span ≡ col.1) × hands_out col.0 cell.lines
 
--- A line of a cell is filled up to its width: a text with spaces as the alignment says, its pieces the longest
--- stretches under one annotation, and a border with `─`.
+-- A line of a cell is filled up to its width. A text is filled with spaces as the alignment says, in pieces that are
+-- the longest stretches under one annotation, and a border with `─`.
 abbrev pub FillsCell : {A : Type 0} → (ℕ → Option ℕ) → CellAlign → ℕ → A → Line A → RenderLine A → Type 0
 FillsCell columns align width a (text is) (Text es) =
     (items_of es ≡ aligned_items align is (width - items_width columns is) a) × AreLongest es
@@ -147,7 +147,6 @@ pub record PutsRow {D A : Type 0} (columns : ℕ → Option ℕ) (collapses : Bo
   pub own : List (Cell (List A))
   pub come : AllZip (ComesAs columns r.annotations) cells own
   pub side_by_side : AreSideBySide 0 own
-  -- the row
   pub row : SeenRow (List A)
   pub means : MeansRow columns (style_in r collapses) r.annotations r.hanging own (last_border r.lines) row
   pub is : s ≡ with_row columns r row

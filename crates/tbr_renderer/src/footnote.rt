@@ -197,7 +197,7 @@ impl<D: TextDecorator, W: CharWidth> FootnoteLines<D, W> {
     }
 }
 
-/// The columns of a text after so many others, where it has no newline.
+/// `before` and the columns of a text together, where the text has no newline. `None` also where that passes `usize`.
 fn columns_behind<W: CharWidth>(before: usize, text: &str) -> Option<usize>
     ensures columns { IfSome result (λ columns. columns ≡ before + width_of_text W.columns (chars text.now)) }
     ensures unbroken { IfSome result (λ _. map model.unbroken (chars text.now) ≡ chars text.now) }

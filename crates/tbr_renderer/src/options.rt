@@ -50,7 +50,7 @@ impl Default for ImageRenderMode {
 pub struct RenderOptions {
     /// The most columns that a line of wrapped text takes, at least 1, if it may take fewer than the renderer has.
     pub wrap_width: Option<usize>,
-    /// Whether a character that is wider than a line goes on a line of its own. It is refused else.
+    /// Whether a character that is wider than a line goes on a line of its own. If not, it is refused.
     pub allow_width_overflow: bool,
     /// Whether lines are filled with spaces up to their width.
     pub pad_block_width: bool,

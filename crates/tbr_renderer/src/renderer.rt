@@ -21,12 +21,12 @@ use tbr_lines::{CellAlign, Error, WhiteSpace};
 
 /// What writes blocks of text, one below another.
 ///
-/// A call that ends a word, or the open line, answers `TooNarrow` where a word that it places has a character wider
-/// than the block and lines may not be wider, and so never in blocks of two columns or more. `OutOfMemory` comes where
+/// A call that ends a word, or the open line, places words. It answers `TooNarrow` where one has a character wider than
+/// the block, and lines may not be wider. In blocks of two columns or more it never does. `OutOfMemory` comes where
 /// memory is refused or a size passes `usize`.
 ///
-/// A call that refuses leaves the renderer failed. It keeps that refusal, which each later call that can refuse
-/// answers, doing nothing else; a call that can't refuse does nothing then. The four calls for prefixes and
+/// A call that refuses leaves the renderer failed. The renderer keeps that refusal: each later call that can refuse
+/// answers it, and does nothing else. A call that can't refuse does nothing then. The four calls for prefixes and
 /// `new_sub_renderer` neither leave the renderer failed nor look at a failure.
 pub trait Renderer {
     // What its text is under.
@@ -98,7 +98,7 @@ pub trait Renderer {
             OnErr result (stops_at_stage call.new_line self.old self.new) }
         ensures kept { KeepsFailure kept_refusal self.old result self.new };
 
-    /// Ends the open line, and adds an empty line where that has no columns.
+    /// Ends the open line. Where no line is open, or it has no columns, an empty line is added.
     fn new_line_hard(&mut self) -> Result<(), Error>
         ensures ok { OnOk result (does call.new_line_hard self.old self.new) }
         ensures too_narrow { kept_refusal self.old ≡ None → result ≡ Err E.TooNarrow →
@@ -109,7 +109,7 @@ pub trait Renderer {
             OnErr result (stops_at_stage call.new_line_hard self.old self.new) }
         ensures kept { KeepsFailure kept_refusal self.old result self.new };
 
-    /// Begins a block: ends the open line, and adds an empty line below lines that have content.
+    /// Begins a block: ends the open line, and adds an empty line if any line has content.
     fn start_block(&mut self) -> Result<(), Error>
         ensures ok { OnOk result (does call.start_block self.old self.new) }
         ensures too_narrow { kept_refusal self.old ≡ None → result ≡ Err E.TooNarrow →
@@ -295,8 +295,8 @@ pub trait Renderer {
             OnErr result (stops_at_stage (call.finish end.superscript) self.old self.new) }
         ensures kept { KeepsFailure kept_refusal self.old result self.new };
 
-    /// Begins a strikeout, as a link is begun. Text after the decorator's has a stroke more, if struck out text has
-    /// any. A depth that passes `usize` is refused by `OutOfMemory`.
+    /// Begins a strikeout, as a link is begun. Text after the decorator's has one stroke more, if the options ask for
+    /// strokes. `OutOfMemory` comes too where the depth passes `usize`.
     fn start_strikeout(&mut self) -> Result<(), Error>
         ensures ok { OnOk result (does call.start_strikeout self.old self.new) }
         ensures too_narrow { kept_refusal self.old ≡ None → result ≡ Err E.TooNarrow →
@@ -307,8 +307,8 @@ pub trait Renderer {
             OnErr result (stops_at_stage call.start_strikeout self.old self.new) }
         ensures kept { KeepsFailure kept_refusal self.old result self.new };
 
-    /// Ends a strikeout, as a link is ended. The decorator's text has a stroke less already, if struck out text has
-    /// any; then it asks that one is open.
+    /// Ends a strikeout, as a link is ended. The decorator's text already has one stroke less, if the options ask for
+    /// strokes. In that case it asks that a strikeout is open.
     fn end_strikeout(&mut self) -> Result<(), Error>
         requires { strikes self.old ≡ true → 0 < open_strikeouts self.old }
         ensures ok { OnOk result (does call.end_strikeout self.old self.new) }
@@ -320,8 +320,8 @@ pub trait Renderer {
             OnErr result (stops_at_stage call.end_strikeout self.old self.new) }
         ensures kept { KeepsFailure kept_refusal self.old result self.new };
 
-    /// Adds what the decorator shows for an image, under an annotation of its own. What an image without a title shows,
-    /// the options say.
+    /// Adds what the decorator shows for an image, under an annotation of its own. The options say what an image
+    /// without a title shows.
     fn add_image(&mut self, src: &str, title: &str) -> Result<(), Error>
         ensures ok { OnOk result (does (call.add_image (chars src.now) (chars title.now)) self.old self.new) }
         ensures too_narrow { kept_refusal self.old ≡ None → result ≡ Err E.TooNarrow →
@@ -357,8 +357,8 @@ pub trait Renderer {
 
     /// Ends the open line, and then that of another renderer, and adds the lines of that one, each after a prefix and
     /// under the annotations. A border becomes text.
-    ///
-    /// One prefix is asked for a line. Where they run out, the lines that are left are dropped. A refusal of the other
+    /// Each line takes one prefix. Where prefixes run out, the lines that are left are dropped. A refusal of the other
+    /// renderer is passed on.
     /// renderer is passed on.
     fn append_subrender<P: AsStr + Drop, I: Iterator<Item = P>>(
         &mut self,
@@ -379,8 +379,8 @@ pub trait Renderer {
         ensures kept { KeepsFailure kept_refusal self.old result self.new };
 
     /// Ends the open line, and adds the lines of other renderers, one below another, as `append_subrender` does without
-    /// prefixes. Where borders are drawn, one of slashes is between each two, and a plain one after all, also
-    /// where there are none. A refusal of one of them is passed on, the first in order.
+    /// prefixes. Where borders are drawn, a border of slashes is between each two renderers. A plain one is after all
+    /// of them, even where there are none. A refusal of one of them is passed on, the first in order.
     fn append_vert_row(&mut self, cols: Vec<Self>) -> Result<(), Error>
         ensures ok { OnOk result ((cells : List (List (Line Tag)))
             × AllZip (λ col lines. hands_out col lines) cols.items cells
@@ -394,15 +394,15 @@ pub trait Renderer {
             OnErr result (stops_at_stage call.new_line self.old self.new) }
         ensures kept { KeepsFailure kept_refusal self.old result self.new };
 
-    /// Ends the open line, and then those of other renderers, in order, and adds a row of their lines, side by side and
-    /// parted by `│`, or by spaces where borders aren't drawn. Each comes with the rows that it spans, at least one,
-    /// and its texts are aligned as asked, one alignment for each. It asks for a row that fits: a `SubRenderer` tells
-    /// by `row_fits`.
+    /// Ends the open line, and then those of other renderers, in order. It adds a row of their lines, side by side and
+    /// parted by `│`, or by spaces where borders aren't drawn. Each comes with the rows that it spans, at least one.
+    /// Its texts are aligned as asked, with one alignment for each renderer. It asks for a row that fits: a
+    /// `SubRenderer` tells by `row_fits`.
     ///
     /// A border that is the last line is joined to the row, and a border comes below, where borders are drawn. Lines of
-    /// a cell that spans more rows overhang into the next rows. With `collapse` borders at the top and at the bottom of
-    /// cells are merged into the borders above and below. A refusal of one of the renderers is passed on, the first in
-    /// order.
+    /// a cell that spans more rows overhang into the next rows. With `collapse`, borders at the top and at the bottom
+    /// of cells are merged into the borders above and below. A refusal of one of the renderers is passed on, the first
+    /// in order.
     fn append_columns_aligned(
         &mut self,
         cols: Vec<(Self, usize)>,
@@ -446,8 +446,8 @@ pub trait Renderer {
             OnErr result (stops_at_stage call.new_line self.old self.new) }
         ensures kept { KeepsFailure kept_refusal self.old result self.new };
 
-    /// Begins text in a colour, whose annotation joins the others, if the decorator has one. It refuses only for want
-    /// of memory.
+    /// Begins text in a colour, whose annotation joins the others, if the decorator has one. The only refusal of its
+    /// own is `OutOfMemory`.
     fn push_colour(&mut self, colour: Colour) -> Result<(), Error>
         ensures ok { OnOk result (does (call.push_colour ground.text colour) self.old self.new) }
         ensures memory { kept_refusal self.old ≡ None → result ≢ Err E.TooNarrow }
@@ -474,8 +474,8 @@ pub trait Renderer {
         ensures live { kept_refusal self.old ≡ None → does (call.pop_colour ground.background) self.old self.new }
         ensures failed { (e : Refusal) → kept_refusal self.old ≡ Some e → self.new ≡ self.old };
 
-    /// The text before each line of a header of a level. It refuses only for want of memory, also on a renderer that
-    /// has failed, and changes nothing; so do the other prefixes.
+    /// The text before each line of a header of the given level. Its only refusal is `OutOfMemory`, also on a renderer
+    /// that has failed, and it changes nothing. So do the other calls for prefixes.
     fn header_prefix(&mut self, level: usize) -> Result<String, Error>
         ensures text { IfOk result (λ text. chars_of text ≡ prefix_text self.old (prefix.header level)) }
         ensures memory { IfErr result (λ e. e ≡ E.OutOfMemory) }
@@ -500,8 +500,8 @@ pub trait Renderer {
         ensures unchanged { self.new ≡ self.old };
 
     /// A renderer for a block inside: of a width in columns, without text, with the same options and annotations, and
-    /// with the decorator that the own one makes for it. It asks for a width of at least 1. It refuses only for want of
-    /// memory, also on a renderer that has failed.
+    /// with the decorator that the own one makes for it. It asks for a width of at least 1. Its only refusal is
+    /// `OutOfMemory`, also on a renderer that has failed.
     fn new_sub_renderer(&self, width: usize) -> Result<Self, Error>
         requires { 0 < width }
         ensures sub { IfOk result (λ sub. is_sub_renderer self.now width sub) }

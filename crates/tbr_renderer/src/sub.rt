@@ -36,7 +36,7 @@ mod rows;
 mod strikeouts;
 mod texts;
 
-/// A renderer of a width in columns, whose text is under lists of what its decorator annotates with.
+/// A renderer of a width in columns, whose text is under lists of its decorator's annotations.
 #[derive(Drop)]
 pub struct SubRenderer<D: TextDecorator, W: CharWidth = UnicodeColumns> {
     alloc: Global,
@@ -143,7 +143,7 @@ impl<D: TextDecorator, W: CharWidth> SubRenderer<D, W> {
         self.preformatted
     }
 
-    /// The columns that are left behind a prefix, but `min_width` at least.
+    /// The columns that are left after a prefix of `prefix_len` columns, but at least `min_width`.
     ///
     /// It answers `TooNarrow` where fewer than `min_width` are left and lines may not be wider. It takes no memory, and
     /// doesn't look at a failure.
@@ -201,7 +201,7 @@ impl<D: TextDecorator, W: CharWidth> SubRenderer<D, W> {
         self.wrapping = Some(block);
     }
 
-    /// Ends a block, or begins one.
+    /// Sets whether text that comes begins a block.
     fn set_block_ended(&mut self, ended: bool)
         ensures { self.new ≡ record self.old { block_ended = ended } }
     {
@@ -216,7 +216,7 @@ impl<D: TextDecorator, W: CharWidth> SubRenderer<D, W> {
         self.lines.has_content()
     }
 
-    /// Lets markers wait.
+    /// Adds markers to those that wait.
     fn add_waiting(
         &mut self,
         mut markers: Vec<TaggedLineElement<Vec<D::Annotation>>>,

@@ -261,7 +261,7 @@ module _ {A : Type 0} (columns : ℕ → Option ℕ) where
         let (n, to, more_gaps, more_side, order, longer) = gaps_in_front ds more (end_of d + 1) m full behind side.1 fills.1 step.0 in
         (n, to, more_gaps, more_side, order, omega (arith, step.1, longer))
 
-    -- and from there on none comes before a place that none of its cells is before
+    -- and where no cell begins before a place, none of the gaps does
     pub gaps_behind : (p : ℕ) (ds : List (Cell A)) (b full : Border A) → HasGaps draws columns tag ds b full → Each (λ (d : Cell A). p ≤ d.place) ds →
         (hs : List (Hole A)) × (full.holes ≡ b.holes ++ hs) × BeginBehind p hs × (length b.cells ≤ length full.cells)
     gaps_behind p [] b full h far = ([], ap (λ (x : Border A). x.holes) h ∙ sym (append-nil b.holes), tt, omega (arith, ap (λ (x : Border A). length x.cells) h))

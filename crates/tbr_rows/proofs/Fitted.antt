@@ -141,8 +141,8 @@ fits_now f = go f.fits
     go true = all_found f.waiting
     go false = refl
 
--- The cells so far have been told, each by its width and whether nothing is in it: whatever comes next is asked as it is
--- of the whole row.
+-- The cells so far were given, each by its width and whether nothing is in it. Whatever comes next is then asked as of
+-- the whole row.
 pub one_more_told : {X : Type 0} (look_at : X → ℕ × Bool) (now after : List (ℕ × Bool) → Bool) (whole : List (ℕ × Bool) → Bool) (xs : List X) (i : ℕ) (x : X) → i < length xs → x ≡ get_or xs i x →
     ((more : List (ℕ × Bool)) → now more ≡ whole (map look_at (take i xs) ++ more)) → ((more : List (ℕ × Bool)) → after more ≡ now (look_at x ∷ more)) →
     (more : List (ℕ × Bool)) → after more ≡ whole (map look_at (take (i + 1) xs) ++ more)

@@ -11,7 +11,6 @@ use Rattle.tbr_tagged.proofs.SameItems.{same_items, same_from_path, same_items_t
 use Rattle.tbr_rows.specs.declared.column.Column.{Column}
 use Rattle.tbr_rows.specs.Texts.{row_text, separator_before, cell_text, line_text, dropped}
 
--- one more text
 pub row_text_more : {A : Type 0} (separator : Item A) (ts : List (List (Item A))) (t : List (Item A)) → row_text separator (ts ++ t ∷ []) ≡ row_text separator ts ++ (separator_before separator (length ts) ++ t)
 row_text_more separator [] t = refl
 row_text_more separator (u ∷ []) t = refl

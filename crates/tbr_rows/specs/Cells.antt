@@ -136,8 +136,8 @@ appended at [] = []
 appended at (h ∷ hs) =
     (if nat_lt at h.place then empty_cell at (h.place - at - 1) ∷ [] else []) ++ h ∷ appended (end_of h + 1) hs
 
--- The cells of a row from a column on, in which each overhanging cell has its place. No cell with lines goes, no other
--- one moves, and none covers another.
+-- The cells of a row from a column on, in which each overhanging cell has its place. No cell with lines is lost, no
+-- other one moves, and none covers another.
 abbrev pub with_hanging : {A : Type 0} → ℕ → List (Cell A) → List (Cell A) → Option (List (Cell A))
 with_hanging at hs [] = Some (appended at hs)
 with_hanging at [] (c ∷ cs) = Some (c ∷ cs)

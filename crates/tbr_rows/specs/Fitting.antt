@@ -5,7 +5,7 @@ use Rattle.tbr_rows.specs.declared.line_set.LineSet.{LineSet as Cell}
 use Rattle.tbr_rows.specs.Cells.{row_fits, spots_from}
 
 -- The overhanging cells that have found no place yet, the place of the row's next cell, and whether all is well so far.
--- Once no cell waits, the place isn't counted on.
+-- Once no cell waits, the place is no longer counted.
 pub record Fitting (A : Type 0) : Type 0 where
   pub waiting : List (Cell A)
   pub at : ℕ

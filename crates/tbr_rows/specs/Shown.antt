@@ -29,8 +29,8 @@ as_lines (Some b) = Line b ∷ []
 
 -- ---- over all rows of a cell
 
--- What a cell meets in a row: whether its first border is merged, which needs one above the row, whether its last one is,
--- and how high the row is.
+-- What a cell meets in a row: whether its first border is merged, which needs one above the row, whether its last one
+-- is, and how high the row is.
 pub record Meeting : Type 0 where
   pub first : Bool
   pub last : Bool

@@ -48,7 +48,6 @@ row_text separator [] = []
 row_text separator (t ∷ []) = t
 row_text separator (t ∷ u ∷ ts) = t ++ separator ∷ row_text separator (u ∷ ts)
 
--- the numbers below one
 abbrev pub numbers_below : ℕ → List ℕ
 numbers_below zero = []
 numbers_below (suc n) = numbers_below n ++ n ∷ []

@@ -12,7 +12,7 @@ use tbr_border::{BorderHoriz, RenderLine};
 use tbr_tagged::OutOfMemory;
 
 /// Joins the separators of a row to the border above it and to the one below. It stretches the one above to the row's
-/// width. Where that is refused both may be joined in part.
+/// width. Where it refuses, both may be joined in part.
 pub(crate) fn join<T>(
     above: &mut BorderHoriz<T>,
     next: &mut BorderHoriz<T>,

@@ -93,7 +93,7 @@ impl<T> CellLines<T> {
     }
 }
 
-/// Each between `<` and `>`, after a space.
+/// Each line between `<` and `>`, after a space.
 impl<T> fmt::Display for CellLines<T> {
     fn fmt<W: fmt::Write>(&self, f: &mut fmt::Formatter<W>) -> fmt::Result {
         for line in &self.lines {

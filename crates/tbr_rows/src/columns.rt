@@ -46,12 +46,12 @@ impl<T> Columns<T> {
 }
 
 impl<T: Eq + Clone + Drop> Columns<T> {
-    /// Adds a cell of a width in columns, after the others and a separator. It spans `span` rows. Each of its lines is
+    /// Adds a cell of `width` columns, after the others and a separator. It spans `span` rows. Each of its lines is
     /// filled up to its width: a text with spaces under copies of the tag, as the alignment says, and a border with
     /// `─`.
     ///
-    /// Where memory is refused, or a place or a line's columns pass `usize`, the cell and its lines are dropped, and the
-    /// others stay.
+    /// Where memory is refused, or a place or a line's columns pass `usize`, the cell and its lines are dropped, and
+    /// the others stay.
     pub fn push<W: CharWidth>(
         &mut self,
         width: usize,

@@ -7,8 +7,8 @@ use crate::line_set::LineSet;
 use std::collections::linked_list;
 use std::marker::Model;
 
-/// Whether a row has a place for each cell that overhangs. The row's own cells are told one after another. It takes no
-/// memory.
+/// Whether a row has a place for each cell that overhangs. It is given the row's own cells one after another, and takes
+/// no memory.
 #[derive(Drop)]
 pub struct Fitting<'a, T> {
     first: Option<&'a LineSet<T>>,
@@ -29,7 +29,7 @@ impl<'a, T> Model for Fitting<'a, T> {
 }
 
 impl<'a, T> Fitting<'a, T> {
-    /// Begins to ask of these cells.
+    /// Asks about these overhanging cells, before any of the row's own.
     pub(crate) fn of(mut cells: linked_list::Iter<'a, LineSet<T>>) -> Fitting<'a, T>
         requires { AreApart 0 cells }
         ensures { (own : List (ℕ × Bool)) → fits_with result own ≡ row_fits cells.entry (spots_from 0 own) }
@@ -42,7 +42,7 @@ impl<'a, T> Fitting<'a, T> {
         }
     }
 
-    /// Tells the width in columns of the row's next cell, and whether nothing is in it.
+    /// Takes the row's next cell: its width in columns, and whether it has no line.
     pub fn add(&mut self, width: usize, is_blank: bool)
         ensures { (more : List (ℕ × Bool)) →
             fits_with self.new more ≡ fits_with self.old ((width, is_blank) ∷ more) }
@@ -54,7 +54,7 @@ impl<'a, T> Fitting<'a, T> {
             self.fits = self.fits && first.width == width && is_blank;
             self.first = self.rest.next();
         }
-        // Only where a cell that waits comes after this one is its place counted on, so no place passes `usize`.
+        // The place is counted only while a cell waits after this one, so no place passes `usize`.
         if let Some(next) = self.first {
             if next.place - self.at > width {
                 self.at += width + 1;

@@ -48,21 +48,21 @@ pub fn a_row_with_fewer_lines_fits_too<T>()
         row_fits hanging spots ≡ true → row_fits hanging others ≡ true }
 {}
 
-/// What a row shows of a cell, with the line in the border below it, and what it leaves to later rows are the cell's
-/// lines.
+/// What a row shows of a cell, with the line in the border below it, and what it leaves to later rows are together the
+/// cell's lines.
 #[tactic(auto, using(crate::proofs::AllLines::part_and_later))]
 pub fn a_row_loses_no_line<T>()
     ensures { (draws : Bool) (height : ℕ) (cell : Cell T) → cell_height cell ≤ height →
         part_of draws height cell ++ later_of draws height cell ≡ lines_of cell }
 {}
 
-/// A row is as high as each of its cells asks.
+/// A row is at least as high as each of its cells asks.
 #[tactic(auto, using(crate::proofs::AllLines::row_is_high_enough))]
 pub fn a_row_is_high_enough<T>()
     ensures { (columns : List (Column T)) → Each (λ c. cell_height (cell_in c) ≤ row_height columns) columns }
 {}
 
-/// What a row merges of a cell's lines and what is left are its lines.
+/// What a row merges of a cell's lines, and what is left of them, are together the cell's lines.
 #[tactic(auto, using(crate::proofs::AllLines::merged_and_left))]
 pub fn merging_takes_borders_alone<T>()
     ensures { (m : Meeting) (cell : Cell T) →
@@ -91,7 +91,7 @@ pub fn a_row_shows_its_cells<T>()
         ≡ map (met (meeting collapses top height)) cells }
 {}
 
-/// What overhangs of a row is, of each of its cells that spans another row, what the row leaves.
+/// What overhangs of a row is what it leaves of each of its cells that spans another row.
 #[tactic(auto, using(crate::proofs::AllLines::rows_go_on))]
 pub fn a_row_hands_on_what_it_leaves<T>()
     ensures { (draws collapses : Bool) (top : Option (Border T)) (height : ℕ) (cells : List (Cell T)) →
@@ -121,8 +121,8 @@ pub fn lines_that_fit_take_their_columns<T>()
         LinesFillCell columns tag column → TakesCellColumns columns tag i column }
 {}
 
-/// A row under what its tags mean is the row of cells under what theirs mean, where tags are equal exactly if they mean
-/// the same.
+/// A row with each tag as what it means is the row of the cells with their tags as what they mean. That holds where
+/// tags are equal exactly if they mean the same.
 pub fn a_row_is_its_row_by_meaning<A, B>()
     ensures { (f : A → B) (eq : A → A → Bool) → MeansEqual f eq → EqualIfMeant f eq →
         (columns : ℕ → Option ℕ) (style : RowStyle) (tag : A) (hanging cells : List (Cell A))
@@ -131,7 +131,7 @@ pub fn a_row_is_its_row_by_meaning<A, B>()
         (option_map (map_border f) top) (row_meant f row) }
 {}
 
-/// Lines that are filled are so under what their tags mean, and meanings change no place.
+/// Lines that are filled stay so when each tag becomes what it means, and that changes no place.
 pub fn meanings_change_no_place<A, B>()
     ensures lines { (f : A → B) (eq : A → A → Bool) → MeansEqual f eq →
         (columns : ℕ → Option ℕ) (align : CellAlign) (width : ℕ) (tag : A) (lines done : List (RenderLine A)) →
@@ -142,7 +142,7 @@ pub fn meanings_change_no_place<A, B>()
         row_fits (map (map_cell f) hanging) spots ≡ row_fits hanging spots }
 {}
 
-/// By what tags mean there is only one row of the same cells under the same border.
+/// With each tag as what it means, there is only one row of the same cells under the same border.
 pub fn there_is_one_row_by_meaning<T>()
     ensures { (columns : ℕ → Option ℕ) (style : RowStyle) (tag : T) (hanging cells : List (Cell T))
         (top : Option (Border T)) (row other : SeenRow T) → MeansRow columns style tag hanging cells top row →

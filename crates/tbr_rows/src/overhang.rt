@@ -53,7 +53,7 @@ impl<T: Drop> Overhang<T> {
         }
     }
 
-    /// Begins to ask whether a row has a place for each of these cells. It takes no memory.
+    /// Whether a row has a place for each of these cells, asked cell by cell of the row. It takes no memory.
     pub fn fitting(&self) -> Fitting<'_, T>
         ensures { (own : List (ℕ × Bool)) → fits_with result own ≡ row_fits self.now (spots_from 0 own) }
     {
@@ -68,7 +68,7 @@ impl<T: Drop> Overhang<T> {
         Overhang { cells }
     }
 
-    /// The cells of a row, among which these take their places.
+    /// The cells of a row, once these have taken their places among its own.
     pub(crate) fn seat(
         self,
         alloc: Global,

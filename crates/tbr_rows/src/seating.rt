@@ -7,8 +7,8 @@ use std::alloc::Global;
 use std::collections::LinkedList;
 use tbr_tagged::OutOfMemory;
 
-/// The cells of a row, among which overhanging ones have taken their places. Those that come after all others are
-/// appended, with an empty cell before them where columns are free.
+/// The cells of a row, once overhanging ones have taken their places among its own. Those that come after all others
+/// are appended, with an empty cell before them where columns are free.
 pub(crate) fn seated<T: Drop>(
     alloc: Global,
     cells: Vec<LineSet<T>>,

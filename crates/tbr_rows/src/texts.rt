@@ -55,7 +55,7 @@ fn line_of<T: Eq + Clone + Drop>(
     Ok(line)
 }
 
-/// Appends the separator before a cell, but for the first one.
+/// Appends the separator that comes before a cell, unless that is the first.
 fn push_separator<T: Eq + Clone>(
     line: &mut TaggedLine<T>,
     cell: usize,
@@ -106,7 +106,7 @@ fn text_in_row<T: Eq + Clone + Drop>(
     }
 }
 
-/// Appends what is there where a cell has no line.
+/// Appends what fills the place of a cell that has no line left.
 fn push_filler<T: Eq + Clone + Drop>(
     alloc: Global,
     line: &mut TaggedLine<T>,

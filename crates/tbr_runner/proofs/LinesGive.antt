@@ -57,7 +57,7 @@ module _ (columns : ℕ → Option ℕ) (number : ℕ) where
 
 -- ---- the first command
 
--- what follows under the decorator that it names, follows it; the script is another list with the same bytes
+-- what lines give under the decorator that it names, they give after it; the script is another list with the same bytes
 pub opened_under : (columns : ℕ → Option ℕ) (decorator : Decorator) (opening : Opening) (number : ℕ) (lines : List (List ℕ)) (outcome : Result (List ℕ) RunError) (script same : List ℕ) → script ≡ same → opening.decorator ≡ decorator →
     (Opens columns opening number lines outcome → Gives columns script outcome) → OpensUnder columns decorator opening number lines outcome → Gives columns same outcome
 opened_under columns decorator opening number lines outcome script same are is found gives =

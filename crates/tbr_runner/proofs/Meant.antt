@@ -75,7 +75,7 @@ module _ {D A M : Type 0} (meaning : A → M) where
     stack = ap (stack_meant meaning) closes.stack ∙ ap (λ (ls : List (Level (Renderer D M (List M)))). record (stack_meant meaning p.stack) { levels = ls }) (below_top_meant p.stack.levels);
   }
 
-  -- a level that this opened closes as such
+  -- a level closes as what opened it
   closes_as : (p closed j : Progress D A (Vec A)) (by as_this : Opener) (inside : Renderer D A (Vec A)) → opener p.opened ≡ Some as_this → Closes p by inside closed → j ≡ closed → Closes (progress_meant meaning p) as_this (meant meaning inside) (progress_meant meaning j)
   closes_as p closed j by as_this inside is closes same =
       let opens : opener p.opened ≡ Some by = ap opener closes.opened in

@@ -55,7 +55,7 @@ with_cell pending inside span align = record pending {
 abbrev pub without_cells : {D A T : Type 0} → Pending D A T → Pending D A T
 without_cells pending = record pending { cells = []; aligns = [] }
 
--- The innermost level ends: its renderer is taken, and what was pending below it is so again. No cell waits in it.
+-- The innermost level ends: its renderer is taken, and what was pending below it is pending again. No cell waits in it.
 pub record Closes {D A T : Type 0} (p : Progress D A T) (by : Opener) (inside : Renderer D A T)
     (next : Progress D A T) : Type 0 where
   pub cells : p.pending.cells ≡ []
@@ -64,7 +64,7 @@ pub record Closes {D A T : Type 0} (p : Progress D A T) (by : Opener) (inside : 
   pub stack : next.stack ≡ below p.stack
 
 -- What the end of a script gives, which counts as the line of this number: its text with the footnotes of its links, or
--- that something is too narrow. Where a level is open or a cell waits, it is no command.
+-- that something is too narrow. Where a level is open or a cell waits, the end is no command.
 abbrev pub Ends :
     {D M : Type 0} → (ℕ → Option ℕ) → Decoration D M → Progress D M (List M) → ℕ → Result (List ℕ) RunError → Type 0
 Ends columns decoration p number outcome =
@@ -176,7 +176,7 @@ CellRefuses p number e =
     ⊎ ((span : ℕ) × (align : CellAlign) × (opener p.opened ≡ Some (Cell span align)) × CellsWait p number e)
 
 module _ {D M : Type 0} (columns : ℕ → Option ℕ) where
-  -- No `sub` opened the innermost level, or cells wait in it, or the renderer below it is too narrow, or its own.
+  -- No `sub` opened the innermost level, or cells wait in it, or its own renderer or the one below it is too narrow.
   abbrev pub AppendRefuses : Progress D M (List M) → ℕ → RunError → Type 0
   AppendRefuses p number e =
       ((opener p.opened ≢ Some Sub) × (e ≡ NothingToEnd number))

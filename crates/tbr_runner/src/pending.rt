@@ -82,8 +82,8 @@ impl<D: TextDecorator, W: CharWidth> Pending<D, W> {
         &self.cells
     }
 
-    /// Lets a renderer wait as a cell of so many rows, at least 1, whose texts are aligned so. Where memory is refused
-    /// the cell is dropped.
+    /// Adds a renderer to the cells that wait, with the rows that it spans and the alignment of its texts. It asks for
+    /// at least 1 row. Where memory is refused the cell is dropped.
     pub fn add_cell(
         &mut self,
         cell: SubRenderer<D, W>,

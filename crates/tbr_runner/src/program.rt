@@ -103,7 +103,8 @@ impl<D: TextDecorator, W: CharWidth> Program<D, W> {
 
     /// Does what a command asks for, on the line of this number.
     ///
-    /// After `OutOfMemory` and `TooNarrow` the program isn't to be used any more. Each other refusal leaves it as it was.
+    /// After `OutOfMemory` and `TooNarrow` the program isn't to be used any more. Each other refusal leaves it as it
+    /// was.
     pub fn run(&mut self, alloc: Global, number: usize, command: &Command) -> Result<(), RunError>
         requires live { GoesOn self.old }
         requires sized { IsSized (command_of command.now) }
@@ -342,8 +343,8 @@ impl<D: TextDecorator, W: CharWidth> Program<D, W> {
         prefix_of(top, prefix)
     }
 
-    /// Whether lines of cells still wait for their rows in the innermost level. They do where a row of one cell with a
-    /// text, as wide as can be, would not fit. It refuses only where memory is refused.
+    /// Whether lines of cells still wait for their rows in the innermost level. It asks whether a row of one cell of
+    /// the greatest width, with something in it, would fit. It refuses only where memory is refused.
     pub fn has_overhang(&self, alloc: Global) -> Result<bool, Error>
         requires { GoesOn self.now }
         ensures hangs { IfOk result (λ hangs. OfTop (λ r. hangs ≡ overhangs r) self.now.stack) }

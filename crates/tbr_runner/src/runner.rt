@@ -23,11 +23,11 @@ const CHUNK: usize = 4096;
 
 /// Reads the whole script and writes its text.
 ///
-/// The script is read to its end first, then its commands are done in order, up to the first line that is faulty or
-/// refuses. Nothing is written before the text is complete. So after a refusal of the script nothing was written, and
-/// where the writer fails a beginning of the text was. `ReadFailed` comes exactly where the reader fails and
-/// `WriteFailed` exactly where the writer does. `OutOfMemory` comes only where memory is refused. A reader that never
-/// ends meets it, at the latest where the script's length passes `usize`.
+/// The script is read to its end first. Then its commands are done in order, up to the first line that is faulty or
+/// refuses. Nothing is written before the text is complete. So nothing is written where the script is refused, and
+/// where the writer fails a beginning of the text was written. `ReadFailed` comes exactly where the reader fails, and
+/// `WriteFailed` exactly where the writer does. `OutOfMemory` comes only where memory is refused. With a reader that
+/// never ends, it comes at the latest where the script's length passes `usize`.
 pub fn run<R: Source, S: Sink>(
     alloc: Global,
     reader: &mut R,
@@ -47,7 +47,7 @@ pub fn run<R: Source, S: Sink>(
     ensures unwritten { IfErr result (λ e. e ≢ RunError.WriteFailed →
         Keeps (S.contents writer.old) (S.contents writer.new)) }
 
-    // A failure of the reader or the writer is told as such, and nothing else is.
+    // A failure of the reader or the writer is answered as such, and nothing else is.
     ensures read_failed { IsErrOf result RunError.ReadFailed ↔ (R.failed reader.new ≡ true) }
     ensures write_failed { IsErrOf result RunError.WriteFailed ↔ (S.failed writer.new ≡ true) }
     ensures beginning { IsErrOf result RunError.WriteFailed →
@@ -111,8 +111,8 @@ pub fn render<W: CharWidth, B: AsSlice<u8> + Drop>(
     }
 }
 
-/// A program under the decorator that a first command names, to which the rest of the script was told, and the number
-/// of the line after it.
+/// A program under the decorator that a first command names, which has run the rest of the script, and the number of
+/// the line after it.
 fn run_under<D: TextDecorator, W: CharWidth>(
     alloc: Global,
     opening: Opening,
@@ -136,7 +136,7 @@ fn run_under<D: TextDecorator, W: CharWidth>(
     run_lines(alloc, program, number, script)
 }
 
-/// The text of a program to which a whole script was told. The script isn't needed any more.
+/// The text of a program that has run a whole script. The script isn't needed any more.
 fn finish<D: TextDecorator, W: CharWidth, B: Drop>(
     program: Program<D, W>,
     number: usize,
@@ -180,7 +180,7 @@ fn first_command(script: &[u8]) -> Result<(Opening, usize, &[u8]), RunError>
     Err(RunError::NotACommand(number))
 }
 
-/// A program to which lines are told, the first of them with this number, and the number of the line after them.
+/// A program that has run these lines, the first of them with this number, and the number of the line after them.
 fn run_lines<D: TextDecorator, W: CharWidth>(
     alloc: Global,
     program: Program<D, W>,

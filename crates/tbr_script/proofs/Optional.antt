@@ -21,7 +21,7 @@ if_some_mapped Post P Q None r e f h = subst (λ q. IfSome q Q) (sym e) tt
 if_some_mapped Post P Q (Some x) None e f h = tt
 if_some_mapped Post P Q (Some x) (Some y) e f h = f x y e h
 
--- what is so where there is none
+-- what holds where there is none
 pub of_none : {X P : Type 0} (r : Option X) → r ≡ None → IfNone r P → P
 of_none None e h = h
 of_none (Some x) e h = absurd cc

@@ -130,7 +130,6 @@ no_escape bs rest form more b c first n t s u (inr a) e =
     let head : bs ≡ 117 ∷ 123 ∷ ((a.0 ++ 125 ∷ []) ++ more) = e ∙ ap (λ zs. zs ++ more) a.1 in
     u (char_from_byte_at bs rest _ b 117 first head (lit< tt))
 
--- an escape by digits
 pub escape_by_digits : (bs rest digits more : List ℕ) (c : ℕ) → bs ≡ 117 ∷ rest → NamesCharacter digits → c ≡ digits_value 16 digits → rest ≡ 123 ∷ ((digits ++ 125 ∷ []) ++ more) → (form : List ℕ) × IsEscape form c × (bs ≡ form ++ more)
 escape_by_digits bs rest digits more c e n v f = (codes "u{" ++ digits ++ codes "}", inr (digits, refl, n, v), e ∙ ap (λ zs. 117 ∷ zs) f)
 

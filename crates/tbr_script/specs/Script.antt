@@ -71,7 +71,7 @@ abbrev pub meant : Piece → List ℕ
 meant (itself b) = b ∷ []
 meant (escape form c) = encode_utf8 c
 
--- the text that is written so
+-- how a text is written, piece by piece
 pub record IsText (writing text : List ℕ) : Type 0 where
   pub pieces : List Piece
   pub each : Each IsPiece pieces

@@ -16,9 +16,9 @@ use tbr_tagged::{Error, OutOfMemory};
 pub enum RunError {
     /// A character is wider than the block that it is in.
     TooNarrow,
-    /// A growth was refused, or a size passes `usize`.
+    /// Memory was refused, or a size passes `usize`.
     OutOfMemory,
-    /// The line isn't a command, or it is where none like it may be.
+    /// The line isn't a command, or is one that may not come there.
     NotACommand(usize),
     /// The line ends what wasn't begun.
     NothingToEnd(usize),

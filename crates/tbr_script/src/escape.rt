@@ -6,8 +6,8 @@ ghost use Rattle.tbr_script.specs.Script.{IsEscape, IsText, NamesCharacter};
 use crate::number::character;
 use std::alloc::{AllocError, Global};
 
-/// The text that is written so: its escapes are replaced. `Ok(None)` where a backslash begins no escape. It refuses
-/// only where memory is refused.
+/// The text with its escapes replaced. `Ok(None)` where a backslash begins no escape. It refuses only where memory is
+/// refused.
 pub fn unescape(alloc: Global, writing: &str) -> Result<Option<String>, AllocError>
     ensures text { IfOk result (λ found.
         IfSome found (λ text. IsText writing.now (string_bytes text))) }

@@ -4,7 +4,7 @@ ghost use Rattle.std.specs.Option.{SomeIff};
 ghost use Rattle.std.specs.Str.Parse.{digits_value};
 ghost use Rattle.tbr_script.specs.Script.{IsNumber, IsSize, IsByte, NamesCharacter};
 
-/// The value of decimal digits. There is none without a digit, with anything else, and past `usize`.
+/// The value of decimal digits. `None` where there is no digit, where anything else is there, and past `usize`.
 pub fn parse_number(digits: &str) -> Option<usize>
     ensures { SomeIff result (IsNumber digits.now) (digits_value 10 digits.now) }
 {

@@ -11,13 +11,13 @@ use std::marker::Model;
 #[derive(Clone, Copy, PartialEq, Eq, Debug)]
 pub struct Failed;
 
-/// Where a script is read from. It may tell the bytes that it has left.
+/// Where a script is read from. A contract may know the bytes that are left.
 pub trait Source {
     ghost remaining: { Self → Option (List ℕ) };
 
     ghost failed: { Self → Bool };
 
-    /// Reads some bytes to the front of the buffer and answers how many. None into a buffer that isn't empty is the
+    /// Reads some bytes to the front of the buffer, and answers how many. For a buffer that isn't empty, 0 means the
     /// end. `Failed` comes where the source fails.
     fn read(&mut self, buf: &mut [u8]) -> Result<usize, Failed>
         ensures bound { ReadsAtMost result buf.new }
@@ -29,14 +29,14 @@ pub trait Source {
         ensures { result ≡ failed self.now };
 }
 
-/// Where a text is written to. It may tell the bytes that it holds.
+/// Where a text is written to. A contract may know the bytes that it holds.
 pub trait Sink {
     ghost contents: { Self → Option (List ℕ) };
 
     ghost failed: { Self → Bool };
 
-    /// Writes some bytes from the front and answers how many: at least one where there is one. `Failed` comes where the
-    /// sink fails.
+    /// Writes some bytes from the front, and answers how many: at least one where there is one. `Failed` comes where
+    /// the sink fails.
     fn write(&mut self, bytes: &[u8]) -> Result<usize, Failed>
         ensures bound { WritesAtMost result bytes.now }
         ensures some { IfOk result (λ n. 0 < length bytes.now → 0 < n) }
@@ -104,7 +104,7 @@ impl<R: Read> Source for StdSource<R> {
     }
 }
 
-/// A writer of std. Every error of it is `Failed`, and so is a write that takes nothing of some bytes.
+/// A writer of std. Every error of it is `Failed`, and so is a write that takes none of the bytes it is given.
 #[derive(Drop)]
 pub struct StdSink<W> {
     writer: W,

@@ -15,8 +15,8 @@ pub struct TextPair {
 }
 
 impl TextPair {
-    /// The two texts that are written so, split at the first ` | `. `Ok(None)` where that is missing, or one of the two
-    /// has a bad escape. It refuses only where memory is refused.
+    /// The two texts of an argument, split at the first ` | `, with their escapes replaced. `Ok(None)` where ` | ` is
+    /// missing, or one of the two has a bad escape. It refuses only where memory is refused.
     pub fn parse(alloc: Global, writing: &str) -> Result<Option<TextPair>, AllocError>
         ensures found { IfOk result (λ found. IfSome found (λ texts.
             AreSplitTexts writing.now (string_bytes texts.first) (string_bytes texts.second))) }

@@ -9,7 +9,7 @@ use Rattle.tbr_decor.specs.declared.annotation.RichAnnotation.TheVariants as ric
 use Rattle.tbr_show.specs.Written.{printable, colour_parts}
 use Rattle.tbr_show.specs.Target.{encoded, is_followed}
 
--- a character, as HTML has it
+-- a character, as HTML writes it
 abbrev pub escaped : ℕ → List ℕ
 escaped c =
     if c == 38 then codes "&amp;"
@@ -61,8 +61,8 @@ ends (rich.BgColour colour) = codes "</span>"
 
 -- ---- characters in their columns
 
--- What is before a character of so many columns, by whether the element of one of two is open: it is closed before
--- one of one or two, and another one begins before one of two.
+-- What is before a character of so many columns. An element for one of two columns may be open: it is closed before one
+-- of one or two. Another one begins before one of two.
 abbrev pub between : Bool → Option ℕ → List ℕ
 between false None = []
 between true None = []

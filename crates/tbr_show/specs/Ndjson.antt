@@ -34,7 +34,7 @@ abbrev pub colour_tokens : Colour → List Token
 colour_tokens c =
     key (codes "rgb") ∷ begin_array ∷ number (decimal c.r) ∷ number (decimal c.g) ∷ number (decimal c.b) ∷ end_array ∷ []
 
--- what an annotation has beside its kind
+-- what an annotation has besides its kind
 abbrev pub details : RichAnnotation → List Token
 details rich.Default = []
 details (rich.Link target) = text_tokens (codes "target") (string_bytes target)

@@ -4,7 +4,7 @@ use Rattle.std.specs.List.{list_any, starts_with}
 use Rattle.percent_encoding.specs.Percent.{percent_encode}
 use Rattle.tbr_show.specs.declared.target.TheConstants.{NOT_OF_URLS}
 
--- each byte that is in no URL as `%` and two hexadecimal digits
+-- each byte that may not be in a URL as `%` and two hexadecimal digits
 abbrev pub encoded : List ℕ → List ℕ
 encoded target = percent_encode NOT_OF_URLS target
 

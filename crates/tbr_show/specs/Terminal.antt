@@ -19,8 +19,8 @@ begins_sequence = 0x5B
 abbrev pub begins_command : ℕ
 begins_command = 0x5D
 
--- The characters that it shows, from such a place on. A control sequence ends with a character from `@` to `~`, a command
--- with an escape and one more character.
+-- The characters that it shows, from such a place on. A control sequence ends with a character from `@` to `~`, a
+-- command with an escape and one more character.
 abbrev pub seen : Place → List ℕ → List ℕ
 seen place [] = []
 seen among (c ∷ cs) = if c == escape_character then seen escaped cs else c ∷ seen among cs

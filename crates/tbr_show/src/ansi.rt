@@ -9,7 +9,7 @@ use tbr_decor::RichAnnotation;
 use tbr_lines::{OutOfMemory, TaggedLine, TaggedLineElement};
 
 /// Appends a line with its newline: each piece without its control characters, between what begins its annotations and
-/// what ends them. Markers aren't shown. Where memory is refused some may be missing.
+/// what ends them. Markers aren't shown. Where memory is refused, part of the line may have been appended.
 pub fn push_line(
     text: &mut String,
     line: &TaggedLine<Vec<RichAnnotation>>,
@@ -22,8 +22,8 @@ pub fn push_line(
     push_ascii(text, "\n")
 }
 
-/// Appends a line with its newline: the characters of its pieces, but for control characters. Where memory is refused
-/// some may be missing.
+/// Appends a line with its newline: the characters of its pieces, but for control characters. Where memory is refused,
+/// part of the line may have been appended.
 pub fn push_bare_line<T>(text: &mut String, line: &TaggedLine<T>) -> Result<(), OutOfMemory>
     ensures { OnOk result (chars_of text.new ≡ chars_of text.old ++ model.bare_line line.now) }
 {

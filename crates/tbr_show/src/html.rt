@@ -25,7 +25,7 @@ pub const END: &str = "</pre>\n";
 /// characters of no columns after it. A link to a target with another scheme than `http`, `https`, `mailto` and `ftp`
 /// leads nowhere.
 ///
-/// It refuses only where memory is refused, and some may then be missing.
+/// It refuses only where memory is refused, and part of the line may then have been appended.
 pub fn push_line<W: CharWidth>(
     text: &mut String,
     line: &TaggedLine<Vec<RichAnnotation>>,
@@ -118,7 +118,7 @@ fn end(annotation: &RichAnnotation) -> &'static str
     }
 }
 
-/// Begins a link, which leads to its target where that is one to be followed.
+/// Begins a link, which leads to its target if that may be followed.
 fn push_link(text: &mut String, target: &str) -> Result<(), OutOfMemory>
     ensures { OnOk result (chars_of text.new ≡ chars_of text.old ++ model.link target.now) }
 {
@@ -151,7 +151,7 @@ fn push_coloured(text: &mut String, property: &str, colour: Colour) -> Result<()
     push_ascii(text, ")\">")
 }
 
-/// Appends the characters of a text, but for control characters, as HTML has them.
+/// Appends the characters of a text as HTML writes them, but for control characters.
 fn push_escaped(text: &mut String, more: &str) -> Result<(), OutOfMemory>
     ensures { OnOk result
         (chars_of text.new ≡ chars_of text.old ++ flat_map model.escaped (printable (chars more.now))) }
@@ -164,7 +164,7 @@ fn push_escaped(text: &mut String, more: &str) -> Result<(), OutOfMemory>
     Ok(())
 }
 
-/// Appends a character as HTML has it.
+/// Appends a character as HTML writes it.
 fn push_character(text: &mut String, c: char) -> Result<(), OutOfMemory>
     ensures { OnOk result (chars_of text.new ≡ chars_of text.old ++ model.escaped c) }
 {
@@ -178,7 +178,7 @@ fn push_character(text: &mut String, c: char) -> Result<(), OutOfMemory>
     }
 }
 
-/// The same, each character of two columns in an element with those of no columns after it.
+/// The same, where each character of two columns is in an element, with those of no columns after it.
 fn push_shown<W: CharWidth>(text: &mut String, more: &str) -> Result<(), OutOfMemory>
     ensures { OnOk result
         (chars_of text.new ≡ chars_of text.old ++ model.shown W.columns (printable (chars more.now))) }

@@ -13,7 +13,8 @@ use tbr_lines::{CharWidth, OutOfMemory, TaggedLine, TaggedLineElement, TaggedStr
 /// Appends a line, which may be a border, as an object, with a newline. It has the columns of the line, and its pieces
 /// and markers in order: of each piece its text, its columns and its annotations, the outermost first.
 ///
-/// It refuses where memory is refused, and where the line's columns pass `usize`. Some may be missing then.
+/// It refuses where memory is refused, and where the line's columns pass `usize`. Part of the line may then have been
+/// appended.
 pub fn push_line<W: CharWidth>(
     text: &mut String,
     line: &TaggedLine<Vec<RichAnnotation>>,
@@ -166,7 +167,7 @@ fn kind(annotation: &RichAnnotation) -> &'static str
     }
 }
 
-/// Writes what an annotation has beside its kind.
+/// Writes what an annotation has besides its kind.
 fn write_details(writer: &mut Writer, annotation: &RichAnnotation) -> Result<(), OutOfMemory>
     ensures tokens { OnOk result (writer.new.tokens ≡ writer.old.tokens ++ model.details annotation.now) }
     ensures before { OnOk result (writer.new.before ≡ writer.old.before) }
@@ -210,7 +211,7 @@ fn write_colour(writer: &mut Writer, colour: Colour) -> Result<(), OutOfMemory>
     Ok(())
 }
 
-/// Appends JSON that has no control characters but those which JSON allows in strings, U+007F to U+009F, with these as
+/// Appends JSON whose only control characters are those which JSON allows in strings, U+007F to U+009F. These become
 /// escapes.
 fn push_escaped(text: &mut String, more: &str) -> Result<(), OutOfMemory>
     ensures { OnOk result (chars_of text.new ≡ chars_of text.old ++ flat_map model.escaped (chars more.now)) }

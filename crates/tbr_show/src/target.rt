@@ -6,7 +6,7 @@ ghost use Rattle.tbr_show.specs.Target.{encoded, is_followed};
 use percent_encoding::{AsciiSet, CONTROLS, ascii_set, utf8_percent_encode};
 use tbr_lines::OutOfMemory;
 
-/// What is in no URL, of ASCII. All that isn't ASCII is in none either.
+/// The characters of ASCII that may not be in a URL. No character beyond ASCII may be in one either.
 pub const NOT_OF_URLS: AsciiSet = ascii_set!(
     CONTROLS
         .add(b' ')
@@ -21,8 +21,8 @@ pub const NOT_OF_URLS: AsciiSet = ascii_set!(
         .add(b'}')
 );
 
-/// Appends a target, with each byte that is in no URL as `%` and two hexadecimal digits. What is written so already
-/// stays. It refuses only where memory is refused.
+/// Appends a target, in which each byte that may not be in a URL becomes `%` and two hexadecimal digits. What is
+/// written so already stays. It refuses only where memory is refused.
 pub fn push_target(text: &mut String, target: &str) -> Result<(), OutOfMemory>
     ensures { OnOk result (chars_of text.new ≡ chars_of text.old ++ encoded target.now) }
 {

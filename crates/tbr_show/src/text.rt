@@ -35,7 +35,8 @@ pub fn push_decimal(text: &mut String, number: u8) -> Result<(), OutOfMemory>
     Ok(())
 }
 
-/// Appends the characters of a text, but for control characters. Where memory is refused some may be missing.
+/// Appends the characters of a text, but for control characters. Where memory is refused, part of them may have been
+/// appended.
 pub fn push_printable(text: &mut String, more: &str) -> Result<(), OutOfMemory>
     ensures { OnOk result (chars_of text.new ≡ chars_of text.old ++ printable (chars more.now)) }
 {
@@ -73,8 +74,8 @@ fn push_each_printable(text: &mut String, more: &str) -> Result<(), OutOfMemory>
     Ok(())
 }
 
-/// Appends the parts of a colour in decimal digits, with a separator of ASCII between two. Where memory is refused some
-/// may be missing.
+/// Appends the parts of a colour in decimal digits, with a separator of ASCII between two. Where memory is refused,
+/// part of them may have been appended.
 pub fn push_parts(text: &mut String, colour: Colour, separator: &str) -> Result<(), OutOfMemory>
     requires { IsTrue (list_all is_ascii separator.now) }
     ensures { OnOk result (chars_of text.new ≡ chars_of text.old ++ colour_parts separator.now colour) }

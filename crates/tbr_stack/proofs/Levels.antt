@@ -13,7 +13,7 @@ split_last {X} P xs some ends = subst P (reverse-reverse xs) (go (reverse xs) (r
     go [] h = absurd (omega (arith, h))
     go (r ∷ rs) h = rw (reverse-append (r ∷ []) rs) (ends (reverse rs) r)
 
--- the last of a list is the first of those in reverse, and stays so where it is changed
+-- the last item of a list is the first in reverse, and stays so where it is changed
 pub record IsLast {X : Type 0} (xs : List X) (n : ℕ) (x : X) : Type 0 where
   pub others : List X
   pub found : reverse xs ≡ x ∷ others

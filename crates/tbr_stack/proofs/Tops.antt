@@ -63,7 +63,7 @@ module _ {D A M : Type 0} (f : A → M) where
     changes_linked target s l r q is top step =
         subst (λ u. ChangesTop Step u (stack_meant f (with_top l q))) (ap (λ u. stack_meant f u) is ∙ linked_meant target s) (changes l r q top step)
 
-    -- what is so of a step of the top
+    -- what holds of a step of the top
     pub step_meant : (P : Renderer D A (Vec A) → Renderer D A (Vec A) → Type 0) → ((r q : Renderer D A (Vec A)) → P r q → Step (meant f r) (meant f q)) →
         (s t : Stack (Renderer D A (Vec A))) → ChangesTop P s t → ChangesTop Step (stack_meant f s) (stack_meant f t)
     step_meant P carry s t h = subst (λ u. ChangesTop Step (stack_meant f s) (stack_meant f u)) (sym h.4) (changes s h.0 h.1 h.2 (carry h.0 h.1 h.3))

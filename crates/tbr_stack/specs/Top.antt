@@ -18,7 +18,7 @@ failure_of s = failure_of_first s.levels
 abbrev pub ChangesTop : {R : Type 0} → (R → R → Type 0) → Stack R → Stack R → Type 0
 ChangesTop {R} Step s t = (before after : R) × (top_of s ≡ Some before) × Step before after × (t ≡ with_top s after)
 
--- Something is so of the top.
+-- Something holds of the top.
 abbrev pub OfTop : {R : Type 0} → (R → Type 0) → Stack R → Type 0
 OfTop {R} P s = (top : R) × (top_of s ≡ Some top) × P top
 

@@ -20,9 +20,9 @@ use tbr_renderer::{Renderer, SubRenderer};
 impl<D: TextDecorator, W: CharWidth> TextRenderer<D, W> {
     /// Starts a link in the top, and adds its target to the others. It asks for a depth of at least 1.
     ///
-    /// It refuses as the top does, and where memory is refused, and then the top has failed. A top that had failed
-    /// answers its refusal, and nothing changes. Where memory is refused before the top begins the link, no link is
-    /// opened. Else it is open.
+    /// It refuses where the top does, and where memory is refused. The top has then failed. A top that had failed
+    /// answers its refusal, and nothing changes. Where memory is refused before the top begins the link, the link isn't
+    /// opened. Otherwise it is open, even where the top refuses.
     pub fn start_link(&mut self, target: &str) -> Result<(), Error>
         requires { 0 < length self.old.levels }
         ensures ok { OnOk result (StartsLink W.columns (decoration_of D.TextDecorator) (chars target.now)
@@ -46,7 +46,7 @@ impl<D: TextDecorator, W: CharWidth> TextRenderer<D, W> {
     /// Ends the link that was opened last in the top, and closes it. With footnotes its number comes after it as text.
     /// It asks for a depth of at least 1.
     ///
-    /// Where no link is open in the top, the top ends one all the same, and no number comes. It refuses as the top
+    /// Where no link is open in the top, the top ends one all the same, and no number comes. It refuses where the top
     /// does, and where memory is refused. The top has then failed, and no link was closed. A top that had failed
     /// answers its refusal, and nothing changes.
     pub fn end_link(&mut self) -> Result<(), Error>

@@ -26,7 +26,7 @@ pub struct Stack<R> {
     /// The top comes last.
     levels: Vec<Level<R>>,
     links: Vec<String>,
-    /// How deep the tables lie in one another. It is kept for callers, and not read.
+    /// How many tables are open inside one another. It is kept for callers, and not read.
     pub table_depth: usize,
 }
 

@@ -45,8 +45,8 @@ pub fn push_glyph<T: Eq + Clone>(
     elements.push(piece)
 }
 
-/// Puts text in front. It answers the text of the first piece where that piece was extended. Where memory is refused
-/// nothing changes, and the text is dropped.
+/// Puts text in front. Where that extended the first piece, it answers the text that the piece had before. Where memory
+/// is refused nothing changes, and the text is dropped.
 pub fn put_in_front<T: Eq + Drop>(
     elements: &mut ElementList<T>,
     ts: TaggedString<T>,
@@ -65,7 +65,7 @@ pub fn put_in_front<T: Eq + Drop>(
     Ok(None)
 }
 
-/// Undoes [`put_in_front`], which answered this text.
+/// Undoes [`put_in_front`], which answered `text`.
 pub fn take_from_front<T: Drop>(elements: &mut ElementList<T>, text: Option<String>)
     ensures { elements_of (stored elements.new)
         ≡ restored (elements_of (stored elements.old)) (option_map chars_of text) }

@@ -77,7 +77,7 @@ impl<T> ElementList<T> {
         }
     }
 
-    /// Appends the characters to a text. Where memory is refused some may be missing.
+    /// Appends the characters to `text`. Where memory is refused, part of them may have been appended.
     pub fn append_to(&self, text: &mut String) -> Result<(), OutOfMemory>
         ensures { OnOk result (chars_of text.new ≡ chars_of text.old ++ characters (elements_of (stored self.now))) }
     {

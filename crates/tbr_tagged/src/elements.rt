@@ -45,7 +45,8 @@ pub fn width_of<T, W: CharWidth>(elements: &[TaggedLineElement<T>]) -> Result<us
     Ok(width)
 }
 
-/// Appends their characters, without tags and markers, to a text. Where memory is refused some may be missing.
+/// Appends their characters, without tags and markers, to `text`. Where memory is refused, part of them may have been
+/// appended.
 pub fn append_text<T>(
     text: &mut String,
     elements: &[TaggedLineElement<T>],

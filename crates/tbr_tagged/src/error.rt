@@ -8,7 +8,7 @@ use std::alloc::{AllocError, AllocFailed};
 #[derive(Clone, Copy, PartialEq, Eq, Debug)]
 pub struct TooNarrow;
 
-/// A growth was refused, or a size passes `usize`.
+/// Memory was refused, or a size passes `usize`.
 #[derive(Clone, Copy, PartialEq, Eq, Debug)]
 pub struct OutOfMemory;
 
@@ -17,7 +17,7 @@ pub struct OutOfMemory;
 pub enum Error {
     /// A character is wider than the line.
     TooNarrow,
-    /// A growth was refused, or a size passes `usize`.
+    /// Memory was refused, or a size passes `usize`.
     OutOfMemory,
 }
 

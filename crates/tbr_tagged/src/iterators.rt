@@ -17,10 +17,10 @@ pub struct IntoIter<T> {
     pub(crate) rest: Rest<T>,
 }
 
-/// The elements that are still to come, as a line had them.
+/// The elements that are still to come, stored as the line stored them.
 #[derive(Drop)]
 pub enum Rest<T> {
-    /// From in place.
+    /// From a single one in place.
     Alone(Option<TaggedLineElement<T>>),
     /// From a list.
     Listed(vec::IntoIter<TaggedLineElement<T>>),

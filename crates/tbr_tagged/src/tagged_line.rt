@@ -74,7 +74,8 @@ impl<T> TaggedLine<T> {
         Ok(text)
     }
 
-    /// Appends the line's characters, without tags and markers, to a text. Where memory is refused some may be missing.
+    /// Appends the line's characters, without tags and markers, to `text`. Where memory is refused, part of them may
+    /// have been appended.
     pub fn append_to(&self, text: &mut String) -> Result<(), OutOfMemory>
         ensures { OnOk result (chars_of text.new ≡ chars_of text.old ++ characters self.now) }
     {
@@ -182,7 +183,7 @@ impl<T: Eq + Drop> TaggedLine<T> {
     }
 
     /// Puts text in front. It extends the first piece if that is under an equal tag, and else is a piece of its own,
-    /// also where the text is empty.
+    /// even where the text is empty.
     ///
     /// A call goes over what the line has. A line that is built by such calls alone takes quadratic time.
     ///

@@ -40,7 +40,7 @@ impl CharWidth for UnicodeColumns {
 }
 
 /// The columns of any character, by what is fixed and by `unicode_width`.
-// By itself, so that what most characters take is answered where it is asked.
+// It is a function of its own, so that `width` is small where it is inlined.
 #[inline(never)]
 fn looked_up(c: char) -> Option<usize>
     ensures { result ≡ unicode_columns c }
@@ -55,7 +55,7 @@ fn looked_up(c: char) -> Option<usize>
     Some(width.min(2))
 }
 
-/// Whether the character is of ASCII and printable.
+/// Whether the character is printable ASCII.
 #[inline]
 fn is_printable_ascii(c: char) -> bool
     ensures { result ≡ is_in_range 0x20 0x7E c }

@@ -136,7 +136,7 @@ pub fn cells_wait(alloc: Global, line: usize, first_cell: Option<usize>) -> Refu
     refusal(Kind::CellsWait, line, related, texts)
 }
 
-/// A row is in the way of what hangs down from the rows above it.
+/// A row is in the way of cells that overhang from the rows above.
 pub fn row_does_not_fit(alloc: Global, line: usize, columns: usize, notes: &Notes) -> Refusal
     ensures { Tells result kind_is.RowDoesNotFit line notes.now.spanning }
 {

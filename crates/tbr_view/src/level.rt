@@ -30,12 +30,13 @@ pub struct Level {
     pub outside: Notes,
 }
 
-/// What an error may have to tell of a level. Lines count from 1.
+/// What errors may say of a level. Lines count from 1.
 #[derive(Clone, Copy, Debug, Default)]
 pub struct Notes {
     /// The line of the first cell that waits.
     pub first_cell: Option<usize>,
-    /// The columns of the cells that wait, with those of the lines between them, as far as `usize` holds these.
+    /// The columns of the cells that wait, with those of the lines between them, or the greatest `usize` if they pass
+    /// it.
     pub row_columns: usize,
     /// The line of the last cell that takes more rows than one.
     pub spanning: Option<usize>,
@@ -152,7 +153,8 @@ impl Levels {
         self.inside.as_slice().last()
     }
 
-    /// The first text that is too wide of those that are known of, those of the innermost level first.
+    /// The first text that is known to be too wide. One of the innermost level comes before those of the levels
+    /// outside.
     pub fn too_wide(&self) -> Option<TooWide> {
         let outside = self.inside.iter().rev();
         self.notes.too_wide.or_else(|| outside.filter_map(|level| level.outside.too_wide).next())
@@ -169,8 +171,8 @@ impl Levels {
         Ok(())
     }
 
-    /// The innermost level closes, if one is open. What is known of the level outside is so again, and a text that is too
-    /// wide, if none was known there.
+    /// The innermost level closes, if one is open. What was known of the level outside is known again. A text inside
+    /// that is too wide is then known there, if none was.
     pub fn leave(&mut self) -> Option<Opener>
         ensures closed { IfSome result (λ by. model.Leaves self.old.inside.items self.old.notes by
             self.new.inside.items self.new.notes) }

@@ -5,7 +5,7 @@ ghost use Rattle.tbr_view.specs.Problem as model;
 use std::alloc::{AllocError, AllocFailed};
 use tbr_lines::{Error, OutOfMemory};
 
-/// Of which kind a problem is.
+/// The kinds of problems.
 #[derive(Clone, Copy, Debug, PartialEq, Eq)]
 pub enum Kind {
     /// The line is no command, or not the first one that it should be, or the script has none.
@@ -16,7 +16,7 @@ pub enum Kind {
     StillOpen,
     /// A level closes, or the script ends, before the row of cells that wait.
     CellsWait,
-    /// Cells of a row are in the way of those that hang down from the rows above.
+    /// Cells of a row are in the way of those that overhang from the rows above.
     RowDoesNotFit,
     /// A character is wider than its block.
     TooNarrow,
@@ -43,7 +43,7 @@ impl Kind {
 /// What is wrong with a script, or what was lost of it.
 #[derive(Debug, Drop)]
 pub struct Problem {
-    /// Of which kind it is.
+    /// Its kind.
     pub kind: Kind,
     /// The line at fault, counted from 1. Where the script ends too early it is the one after the last.
     pub line: usize,
@@ -67,7 +67,7 @@ pub struct Related {
 /// Why a script isn't shown.
 #[derive(Debug, Drop)]
 pub enum Refusal {
-    /// A growth was refused, or a size passes `usize`.
+    /// Memory was refused, or a size passes `usize`.
     OutOfMemory,
     /// The script is at fault.
     Script(Problem),

@@ -240,8 +240,8 @@ impl<D: TextDecorator, W: CharWidth> Session<D, W> {
         Ok(())
     }
 
-    /// What was lost of the script, after its last line, whose number is one less than this one. It refuses where a
-    /// level is open or cells wait.
+    /// What was lost of the script by its end. The number is that of the line after the last. It refuses where a level
+    /// is open or cells wait.
     fn end(&mut self, number: usize) -> Result<Vec<Problem>, Refusal>
         requires { GoesOn self.old.program }
         ensures live { OnOk result (GoesOn self.new.program) }

@@ -21,7 +21,8 @@ pub enum Statement {
 }
 
 impl Statement {
-    /// What a line asks for, without its newline. `None` where it asks for nothing that there is.
+    /// What a line asks for, without its newline. `Ok(None)` where it asks for nothing that is known. It refuses only
+    /// where memory is refused.
     pub fn parse(alloc: Global, line: &[u8]) -> Result<Option<Statement>, AllocError>
         ensures statement { IfOk result (λ found.
             IfSome found (λ statement. IsStatement line.now statement)) }

@@ -88,15 +88,15 @@ pub fn form_of(word: &str) -> Option<&'static str> {
     FORMS.iter().copied().find(|form| first_word(form) == word)
 }
 
-/// How many edits lead too far from a word: three, or as many as it has bytes.
+/// How many edits are too many for a word: three, or as many as it has bytes if these are fewer.
 fn too_far(word: &str) -> usize
     ensures { result ≡ model.too_far word.now }
 {
     word.len().min(3)
 }
 
-/// A text whose first word is as near to a word as any, if it is at most two edits away, and fewer than the word has
-/// bytes. It refuses only where memory is refused.
+/// One of the texts whose first words are nearest to a word. `None` where all are three edits away or more, or as many
+/// as the word has bytes. It refuses only where memory is refused.
 pub fn nearest(
     alloc: Global,
     word: &str,

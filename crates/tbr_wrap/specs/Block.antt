@@ -167,7 +167,7 @@ HandsOutFirst columns eq s (text ∷ texts) o = IsSomeAnd o (λ line. ShowsText 
 
 -- ---- what holds of it
 
--- A block has a column at least, its lines that have ended are those that it allows, and only such were handed out.
+-- A block has at least one column. It allows its lines that have ended, and only such lines were handed out.
 pub record IsSound {A : Type 0} (columns : ℕ → Option ℕ) (s : Block A) : Type 0 where
   pub wide : 0 < s.width
   pub allowed : allows columns s (lines columns s) ≡ true

@@ -25,7 +25,7 @@ pub record LaidLikeRule {A : Type 0} (eq : A → A → Bool) (given : List (List
   pub last : SameItems eq l.line r.line
   pub width : l.width ≡ r.width
 
--- What the rule lays is as wide as it should be.
+-- What the rule lays is no wider than it may be, and the open line's columns are those of its items.
 pub record RuleFitsWidth {A : Type 0} (columns : ℕ → Option ℕ) (width : ℕ) (may_overflow : Bool)
     (r : Laid A) : Type 0 where
   pub small : r.width ≤ width

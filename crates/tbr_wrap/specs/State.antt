@@ -38,9 +38,9 @@ IsNarrowIfVisible columns width (marker_entry name) = Unit {0}
 abbrev pub VisibleFit : {A : Type 0} → (ℕ → Option ℕ) → ℕ → List (Entry A) → Type 0
 VisibleFit columns width run = Each (IsNarrowIfVisible columns width) run
 
--- The lines of a run: for a `Normal` run where no line may be wider than the block the texts of its best layout; for
--- any run lines that hold its visible characters once and in order; and for a preserving run, hard line by hard line,
--- what its mode promises.
+-- The lines of a run. Those of a `Normal` run, where no line may be wider than the block, are the texts of its best
+-- layout. Those of any run hold its visible characters once and in order. Those of a preserving run are, hard line by
+-- hard line, what its mode promises.
 pub record IsShownBy {A : Type 0} (columns : ℕ → Option ℕ) (width : ℕ) (may_overflow : Bool)
     (run : List (Entry A)) (texts : List (List (Item A))) : Type 0 where
   pub best : may_overflow ≡ false → IsNormal run → HasBestLines columns width run texts
@@ -79,7 +79,7 @@ IsUnderOwn Same es (glyph c x) = HasOwnAnnotation Same es x
 IsUnderOwn Same es (marker name) = Unit {0}
 
 -- In a run of `Pre` alone a hard line that fits isn't cut. Each visible character there is under its own annotation,
--- and any other under the own annotation of an entry of the hard line.
+-- and any other character is under that of some entry of the hard line.
 pub record ShowsFitting {A : Type 0} (columns : ℕ → Option ℕ) (Same : A → A → Type 0) (width : ℕ) (more : Bool)
     (h : List (Entry A)) (ls : List (List (Item A))) : Type 0 where
   pub uncut : LineFits columns width h → length ls ≤ 1

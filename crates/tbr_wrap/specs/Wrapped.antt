@@ -17,7 +17,7 @@ abbrev pub FitsBlock : {A : Type 0} → (ℕ → Option ℕ) → ℕ → Bool �
 FitsBlock columns width may_overflow is =
     (items_width columns is ≤ width) ⊎ ((may_overflow ≡ true) × (taking_columns columns is ≡ 1))
 
--- The lines are the texts of the layout of the run that is ahead of every legal one, and none is without a character.
+-- The lines are the texts of the run's best layout, and each has a character.
 pub record HasBestLines {A : Type 0} (columns : ℕ → Option ℕ) (width : ℕ)
     (run : List (Entry A)) (texts : List (List (Item A))) : Type 0 where
   pub lines : List (List (Slot A))

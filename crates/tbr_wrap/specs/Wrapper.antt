@@ -27,8 +27,8 @@ abbrev pub held_width : {A : Type 0} → Option (HeldSpace A) → ℕ
 held_width None = 0
 held_width (Some s) = s.width
 
--- Characters of so many columns change no tag: in `Pre` the open line has room for them after the pending space and
--- the word, or the continuation tag has begun, for this call and the next.
+-- Characters of so many columns change no tag. In `Pre` the open line has room for them after pending space and word.
+-- Or the continuation tag has begun there, for this call and the next.
 abbrev pub KeepsTag : {A : Type 0} → Wrapper A → WhiteSpace → ℕ → Type 0
 KeepsTag b mode n = is_pre mode ≡ true →
     (b.lines.line_width + (held_width b.space + (b.word_width + n)) ≤ b.lines.width)
@@ -63,7 +63,7 @@ pub record IsAtProgress {A : Type 0} (columns : ℕ → Option ℕ) (eq : A → 
 abbrev pub join_all : {A : Type 0} → List ℕ → A → WhiteSpace → Progress A → Progress A
 join_all cs a mode p = fold (λ q c. join c a mode q) p cs
 
--- The rule stands somewhere.
+-- The rule is somewhere.
 abbrev pub IsUnderWay : {A : Type 0} → (ℕ → Option ℕ) → (A → A → Bool) → Wrapper A → Type 0
 IsUnderWay {A} columns eq b = (before : List (List (Item A))) × (given : List (List (Item A))) × (p : Progress A)
     × IsAtProgress columns eq b before given p
@@ -79,8 +79,8 @@ abbrev pub WrapperFollows : {A X E : Type 0} → (ℕ → Option ℕ) → (A →
 WrapperFollows {A} columns eq b c result f = (before given : List (List (Item A))) (p : Progress A) →
     IsAtProgress columns eq b before given p → OnOk result (IsAtProgress columns eq c before given (f p))
 
--- Wherever the rule is, a call that answers `TooNarrow` does so where a line of the rule, as `f` leads there, is wider
--- than a line may be, and none may be wider.
+-- Wherever the rule is, a call answers `TooNarrow` only where no line may be wider, and a line of the rule, as `f`
+-- leads there, is.
 abbrev pub RefusesWider : {A X : Type 0} → (ℕ → Option ℕ) → (A → A → Bool) → Wrapper A → Result X Error →
     (Progress A → List (List (Item A))) → Type 0
 RefusesWider {A} columns eq b result f = result ≡ Err E.TooNarrow → (before given : List (List (Item A)))

@@ -22,13 +22,12 @@ use tbr_tagged::{Error, OutOfMemory, TaggedLine, TaggedLineElement, UnicodeColum
 ///
 /// The text that comes between two flushes is a run: [`add_text`](WrappedBlock::add_text) adds to it, and
 /// [`flush`](WrappedBlock::flush) ends it. The lines of a `Normal` run, where none may be wider than the block, are
-/// those of the layout that is ahead of every legal one: after any number of lines no legal layout has placed more of
-/// the run.
+/// those of the best layout. After any number of lines no legal layout has placed more of the run.
 ///
-/// A call that refuses leaves the block failed. It keeps that refusal, which each later call that can refuse answers,
-/// doing nothing else. A contract sees what [`Block`] lists, and says by an equation what each call makes of it.
+/// A call that refuses leaves the block failed. The block keeps that refusal: each later call that can refuse answers
+/// it, and does nothing else. A contract sees what [`Block`] lists, and says by an equation what each call makes of it.
 ///
-/// Text that was handed out gives its memory back as more is, and its tags go with it.
+/// The memory of text that was handed out, and of its tags, is given back as more is handed out.
 #[derive(Drop)]
 pub struct WrappedBlock<T: Eq + Clone, W: CharWidth = UnicodeColumns> {
     alloc: Global,
@@ -65,9 +64,9 @@ impl<T: Eq + Clone, W: CharWidth> WrappedBlock<T, W> {
 
     /// A block without text, whose lines take `width` columns at most; it asks for at least 1. It takes no memory.
     ///
-    /// With `pad_blocks` each line that is handed out is padded to the width by spaces under the default tag. With
-    /// `allow_overflow` a character of two columns goes on a line of its own in a block of one column, where it is
-    /// refused else.
+    /// With `pad_blocks` each line that is handed out is padded to the width by spaces under the default tag. In a
+    /// block of one column a character of two columns is refused; with `allow_overflow` it goes on a line of its own
+    /// instead.
     pub fn new(
         alloc: Global,
         width: usize,
@@ -181,7 +180,7 @@ impl<T: Eq + Clone, W: CharWidth> WrappedBlock<T, W> {
             .appended(&RunChange::Called, &self.default_tag, &self.default_tag);
     }
 
-    /// Adds the beginning of a text to the run, as much as goes at one go, and answers what is left.
+    /// Adds the beginning of a text to the run, as much as can be added at once, and answers what is left.
     fn add_front<'a>(
         &mut self,
         text: &'a str,
@@ -211,12 +210,12 @@ impl<T: Eq + Clone, W: CharWidth> WrappedBlock<T, W> {
         Ok(rest)
     }
 
-    /// The text joins the run, in the given mode: each character under a copy of the main tag, or of the wrap tag where
-    /// its hard line goes on after a full line.
+    /// The text joins the run, in the given mode. Each character is under a copy of the main tag, or of the wrap tag
+    /// where its hard line goes on after a full line.
     ///
-    /// A word that ends is placed. In a `Normal` run `TooNarrow` comes exactly where a word that a break point of the
-    /// text ends, of the run with this text, has a character wider than the block; in any other run only where the run
-    /// has such a character; and never where lines may be wider. `OutOfMemory` comes only where memory is refused.
+    /// A word that ends is placed. `TooNarrow` never comes where lines may be wider. In a `Normal` run it comes exactly
+    /// where a break point of the text ends a word of the run that has a character wider than the block. In any other
+    /// run it comes only where the run has such a character. `OutOfMemory` comes only where memory is refused.
     pub fn add_text(
         &mut self,
         text: &str,
@@ -299,9 +298,10 @@ impl<T: Eq + Clone, W: CharWidth> WrappedBlock<T, W> {
     /// Ends the run. Its last word is placed, and its lines join the ended ones. Markers that are on none of them
     /// begin the next run; [`take_trailing_fragments`](WrappedBlock::take_trailing_fragments) takes them.
     ///
-    /// In a `Normal` run `TooNarrow` comes exactly where a word of the run has a character wider than the block; in any
-    /// other run only where the run has such a character, and always where that is visible; and never where lines may
-    /// be wider. `OutOfMemory` comes only for want of memory. Where open line and word hold no character, no line ends.
+    /// `TooNarrow` never comes where lines may be wider. In a `Normal` run it comes exactly where a word of the run has
+    /// a character wider than the block. In any other run it comes only where the run has such a character, and always
+    /// where that is visible. `OutOfMemory` comes only where memory is refused. Where open line and word hold no
+    /// character, no line ends.
     pub fn flush(&mut self) -> Result<(), Error>
     where
         T: Drop,

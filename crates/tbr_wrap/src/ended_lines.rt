@@ -37,7 +37,7 @@ impl<T> Model for EndedLines<T> {
         × AreLines a.lens.items a.flat.placed (cut a.lens.items a.flat.placed) };
 }
 
-/// Each between `<` and `>` on a line of its own, without its markers.
+/// Each line between `<` and `>` on a line of its own, without its markers.
 impl<T> fmt::Display for EndedLines<T> {
     fn fmt<W: fmt::Write>(&self, f: &mut fmt::Formatter<W>) -> fmt::Result {
         let mut items = self.flat.items();
@@ -99,7 +99,8 @@ impl<T> EndedLines<T> {
 }
 
 impl<T: Drop> EndedLines<T> {
-    /// Appends the text of each line and a newline to a text. Where memory is refused some may be missing.
+    /// Appends the text of each line and a newline to `text`. Where memory is refused, part of them may have been
+    /// appended.
     pub fn append_to(mut self, text: &mut String) -> Result<(), OutOfMemory>
         ensures { OnOk result (chars_of text.new ≡ chars_of text.old ++ lines_characters self) }
     {

@@ -20,7 +20,7 @@ const TAB_STOP: usize = 8;
 pub struct LaidLines<T> {
     /// The columns of a line.
     pub width: usize,
-    /// Whether a character that is wider than a line goes on one of its own.
+    /// Whether a character that is wider than a line goes on a line of its own.
     pub may_overflow: bool,
     pub flat: FlatText<T>,
     /// The ended lines, each by its number of items.

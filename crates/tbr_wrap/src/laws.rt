@@ -43,8 +43,8 @@ pub fn lines_join_behind_those_left<T>()
         lines columns t ≡ lines columns s }
 {}
 
-/// A block has a column at least, its lines that have ended are as wide as it allows, and only such are handed out,
-/// whatever calls come.
+/// Whatever calls come, a block has at least one column, and its ended lines are no wider than it allows. Only such
+/// lines are handed out.
 pub fn blocks_stay_sound<T>()
     ensures new { (columns : ℕ → Option ℕ) (width : ℕ) (may_overflow : Bool) (padding : Option T) → 0 < width →
         IsSound columns (new_block width may_overflow padding) }
@@ -78,8 +78,8 @@ pub fn runs_decide_what_is_open<T>()
         takes_no_columns columns s ≡ false → has_no_character columns s ≡ false }
 {}
 
-/// The loose markers are the last ones of the run, after its last visible character; in a `Normal` run where no line
-/// may be wider than the block they are those after its last kept one.
+/// The loose markers are the last ones of the run, after its last visible character. In a `Normal` run, where no line
+/// may be wider than the block, they are those after its last kept one.
 pub fn loose_markers_are_last<T>()
     ensures last { (columns : ℕ → Option ℕ) (s : Block T) →
         loose columns s ≡ last (length (loose columns s)) (names_in_run (run_of s.events)) }
@@ -102,8 +102,8 @@ pub fn markers_join_the_word<T>()
         has_no_character columns s ≡ true → loose columns t ≡ loose columns s ++ name ∷ [] }
 {}
 
-/// A text is too narrow only where no line may be wider than the block, and a character of the run is: in a `Normal`
-/// run exactly where one of a word is that a break point has ended. In two columns it never is.
+/// A text is too narrow only where no line may be wider than the block, and a character of the run is. In a `Normal`
+/// run it is so exactly where that character is in a word that a break point has ended. In two columns it never is.
 pub fn texts_are_too_narrow_for_characters<T>()
     ensures fits { (columns : ℕ → Option ℕ) → columns 32 ≡ Some 1 → (s t : Block T) (cs : List ℕ) (a b : T)
         (mode : WhiteSpace) → 0 < s.width → after_text columns cs a b mode s ≡ done t → s.may_overflow ≡ false →
@@ -121,8 +121,8 @@ pub fn texts_are_too_narrow_for_characters<T>()
         ¬ (after_text columns cs a b mode s ≡ refused E.TooNarrow) }
 {}
 
-/// A flush is too narrow only where no line may be wider than the block, and a character of the run is; always where
-/// a visible one is, and in a `Normal` run exactly where one of a word is. In two columns it never is.
+/// A flush is too narrow only where no line may be wider than the block, and a character of the run is. It always is
+/// where such a character is visible, and in a `Normal` run exactly where one is in a word. In two columns it never is.
 pub fn flushes_are_too_narrow_for_characters<T>()
     ensures fits { (columns : ℕ → Option ℕ) → columns 32 ≡ Some 1 → (s t : Block T) → 0 < s.width →
         after_flush columns s ≡ done t → s.may_overflow ≡ false → IsNormal (run_of s.events) →
@@ -139,15 +139,15 @@ pub fn flushes_are_too_narrow_for_characters<T>()
         (s : Block T) → 2 ≤ s.width → s.failure ≡ None → ¬ (after_flush columns s ≡ refused E.TooNarrow) }
 {}
 
-/// What the end of a run promises, it promises under other annotations too, as under what annotations mean.
+/// What the end of a run promises, it promises too with each annotation as another one, such as what it means.
 pub fn annotations_change_no_promise<A, B>()
     ensures { (f : A → B) (columns : ℕ → Option ℕ) (width : ℕ) (may_overflow : Bool) (run : List (Entry A))
         (texts : List (List (Item A))) (names : List (List ℕ)) → EndsRun columns width may_overflow run texts names →
         EndsRun columns width may_overflow (map_run f run) (map_lines f texts) names }
 {}
 
-/// A line that is handed out has its text and its padding exactly, under what the tags mean, where equal tags mean the
-/// same.
+/// A line that is handed out has its text and its padding exactly, with each tag as what it means, where equal tags
+/// mean the same.
 pub fn texts_are_shown_by_meaning<A, B>()
     ensures line { (f : A → B) (eq : A → A → Bool) → MeansEqual f eq →
         (columns : ℕ → Option ℕ) (padding : Option A) (width : ℕ) (es : List (Element A)) (is : List (Item A)) →
@@ -171,7 +171,7 @@ pub fn too_narrow_is_no_legal_layout<T>()
 {}
 
 /// The lines of a `Normal` run, and then what waits, have its kept characters and its markers, in order, each character
-/// under its own tag: also those of a word under two tags, and of one that is cut, and where lines may be wider.
+/// under its own tag. That holds too in a word under two tags, in one that is cut, and where lines may be wider.
 pub fn words_keep_their_tags<T>()
     ensures { (columns : ℕ → Option ℕ) (s : Block T) → IsNormal (run_of s.events) →
         without_spaces (joined (all_lines columns s)) ++ waiting columns s.width (progress_of columns s)

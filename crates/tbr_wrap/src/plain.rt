@@ -79,8 +79,8 @@ fn kept_width<W: CharWidth>(c: char) -> Option<usize>
     W::width(c)
 }
 
-/// How many bytes the words take that a text begins with, each with the space after it. Their characters are plain, of
-/// one column each. All but the last space fit into `room` columns.
+/// How many bytes the first words of a text take, each with the space after it. Their characters are plain, of one
+/// column each. All but the last space fit into `room` columns.
 pub fn words_in_front<W: CharWidth>(text: &str, room: usize) -> usize
     ensures within { result ≤ length text.now }
     ensures room { result ≤ room + 1 }

@@ -4,7 +4,7 @@ ghost use Rattle.tbr_wrap.specs.Story.{text_changes};
 
 use tbr_model::{History, WhiteSpace};
 
-/// What happens to a run. A history keeps with each change the tags of the character that it tells of.
+/// What happens to a run. A history keeps with each change the tags of its character.
 #[derive(Drop)]
 pub enum RunChange {
     /// A call begins.
@@ -46,7 +46,7 @@ pub fn note_text<T>(
     }
 }
 
-/// The history with one more marker, whose name is given back. The tag stands for none.
+/// The history with one more marker, whose name is given back. A marker has no tag: this one fills the place.
 pub fn with_marker<T>(changes: &RunHistory<T>, name: String, tag: &T) -> (RunHistory<T>, String)
     ensures changes { result.0.items ≡ changes.now.items ++ (RunChange.Marker name, tag.now, tag.now) ∷ [] }
     ensures name { result.1 ≡ name }

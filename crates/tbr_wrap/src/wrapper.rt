@@ -1,9 +1,10 @@
 //! Lays the characters of a run on lines, one after another.
 //!
 //! Its stages, in the words of its functions:
-//! - The beginning of a text is *added* as it goes at one go: words, a stretch of characters, or one (`add_front`).
+//! - The beginning of a text is *added* as much at once as can be: words, a stretch of characters, or one
+//!   (`add_front`).
 //! - A character *joins* the word (`join`), or a stretch of them does at which no word ends (`add_stretch`). White
-//!   space that doesn't is pending before it (`collapse`, `keep_space`).
+//!   space that doesn't join is pending before it (`collapse`, `keep_space`).
 //! - The word is *laid* where it ends: here, after what is pending, if both fit the open line (`lay_here`), and else
 //!   afresh, after what is left of that (`wrap_space`, `lay_fresh`).
 //! - Words that a text begins with, and that fit the open line, are laid here as one word would be (`add_words`). Where
@@ -617,7 +618,7 @@ impl<T: Eq + Clone + Drop> Wrapper<T> {
         }
     }
 
-    /// The columns that the open line has left behind the pending space and the word. None where these pass it.
+    /// The columns that the open line has left after the pending space and the word. None where these pass it.
     fn room(&self) -> Option<usize>
         ensures { IfSome result (λ room. self.now.lines.line_width + (held_width self.now.space + (self.now.word_width
             + room)) ≡ self.now.lines.width) }
@@ -640,9 +641,9 @@ impl<T: Eq + Clone + Drop> Wrapper<T> {
         self.room()
     }
 
-    /// The characters that a text begins with and that join the word under the tag of this call: as many as are plain,
-    /// and where there are none of these, as many of any script. In `Pre` the spaces after a character of the word are
-    /// plain. None where there are none.
+    /// The characters that a text begins with and that join the word under the tag of this call. They are as many plain
+    /// ones as there are, and where there are none, as many of any script. In `Pre` the spaces after a character of the
+    /// word are plain. None where there are none.
     fn fitting_stretch<W: CharWidth>(&self, text: &str, mode: WhiteSpace) -> Option<Stretch>
         ensures some { IfSome result (λ s. 0 < s.count) }
         ensures stretch { IfSome result (λ s.
@@ -692,8 +693,8 @@ impl<T: Eq + Clone + Drop> Wrapper<T> {
         self.join_text(text, count, width, tag, mode)
     }
 
-    /// How many bytes the words take that a text begins with, each with the space after it, where they go on the open
-    /// line at once.
+    /// How many bytes the first words of a text take, each with the space after it, as many as go on the open line at
+    /// once.
     fn fitting_words<W: CharWidth>(&self, text: &str, mode: WhiteSpace) -> usize
         ensures within { result ≤ length text.now }
         ensures mode { 0 < result → mode ≡ Normal }
@@ -745,8 +746,8 @@ impl<T: Eq + Clone + Drop> Wrapper<T> {
         }
     }
 
-    /// How many bytes the words take that a text begins with, each with the space after it, where the first one
-    /// doesn't fit the open line, and a fresh one has room for all.
+    /// How many bytes the first words of a text take, each with the space after it. The first one doesn't fit the open
+    /// line, and a fresh one has room for all.
     fn moved_words<W: CharWidth>(&self, text: &str, mode: WhiteSpace) -> usize
         ensures within { result ≤ length text.now }
         ensures mode { 0 < result → mode ≡ Normal }
@@ -787,9 +788,9 @@ impl<T: Eq + Clone + Drop> Wrapper<T> {
         self.add_words::<W>(text, main_tag, wrap_tag)
     }
 
-    /// Adds the beginning of a text to a run, and answers how many bytes and characters that is: the words that it
-    /// begins with, where they go on the open line or on a fresh one at once, else the characters that join the word
-    /// under the tag of this call, and else its first character.
+    /// Adds the beginning of a text to a run, and answers how many bytes and characters that is. It adds the words that
+    /// the text begins with, where they go on the open line or on a fresh one at once. Else it adds the characters that
+    /// join the word under the tag of this call, and else the first character.
     pub fn add_front<W: CharWidth>(
         &mut self,
         text: &str,

@@ -53,7 +53,7 @@ fn block_keeps(rt: &impl Abort, alloc: Global, block: &mut WrappedBlock<Voice>, 
     assert!(rt; block.failure() == Some(refusal) && !block.is_empty());
 }
 
-/// Takes the steps, up to one that refuses; what was made for it may have refused, and not the block.
+/// Takes the steps, up to one that refuses. The refusal may be of what was made for it, and not of the block.
 fn take_steps(
     block: &mut WrappedBlock<Voice>,
     alloc: Global,
@@ -134,7 +134,7 @@ const JOINS: &[Join<'static>] = &[
     Join::Below(usize::MAX),
 ];
 
-/// The borders tell the same, and show it if there is memory.
+/// The borders say the same of themselves, and show it if there is memory.
 fn are_alike(
     rt: &impl Abort,
     a: &BorderHoriz<Voice>,

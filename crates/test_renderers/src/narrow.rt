@@ -131,7 +131,7 @@ const TEXTS: &[&str] = &[
     "xxxxxxxxxxxxxxxxxxxxxxxxxxxxxxxxxxxxxxxxxxxxxxxxxxxxxxxxxxxxxxxxxxxxxxxxxxxxxxxx",
 ];
 
-/// A renderer doesn't refuse the text.
+/// A renderer has room for the text: it doesn't refuse it.
 fn has_room<D: TextDecorator, W: CharWidth>(
     rt: &impl Abort,
     alloc: Global,

@@ -76,7 +76,7 @@ fn prefixes_are_those_of_the_decorator(rt: HostRuntime) {
     }
 }
 
-/// What is left of five columns after a prefix, where a least width is asked for; none is a refusal.
+/// What is left of five columns after a prefix, where a least width is asked for. `None` is a refusal.
 fn left(alloc: Global, told: Told, prefix: usize, least: usize) -> Option<usize> {
     plain(alloc, 5, told).width_minus(prefix, least).ok()
 }

@@ -22,7 +22,7 @@ const WIDE: Cell<'static> = Cell(1, Block(2, &[Inner::Text("漢")]));
 /// It has no room for its text.
 const NARROW: Cell<'static> = Cell(1, Block(1, &[Inner::Text("漢")]));
 
-/// Where lines are padded there is no memory for its own.
+/// Where lines are padded, there is no memory for a line of its own.
 const HUGE: Cell<'static> = Cell(1, Block(usize::MAX, &[Inner::Text("a")]));
 
 const ROW: Example = Example {

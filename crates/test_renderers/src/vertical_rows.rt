@@ -16,7 +16,7 @@ const EMPTY: Block<'static> = Block(4, &[]);
 /// It has no room for its text.
 const NARROW: Block<'static> = Block(1, &[Inner::Text("漢")]);
 
-/// Where lines are padded there is no memory for its own.
+/// Where lines are padded, there is no memory for a line of its own.
 const HUGE: Block<'static> = Block(usize::MAX, &[Inner::Text("a")]);
 
 const ROW: Example = Example {

@@ -69,7 +69,7 @@ pub fn outcome(alloc: Global, reader: impl Read + Drop, writer: Slow) -> Result<
     Ok(told)
 }
 
-/// The script of that name tells what is expected.
+/// The script of that name ends as is expected.
 pub fn tells(
     rt: &impl Abort,
     alloc: Global,

@@ -23,7 +23,8 @@ impl<'a> Read for Cut<'a> {
     }
 }
 
-/// A script, how many bytes the writer takes a call, after how many calls it fails, and what is told.
+/// A script, how many bytes the writer takes a call, after how many calls it fails, and what is expected of the
+/// program.
 struct Example {
     name: &'static str,
     script: &'static [u8],
@@ -84,7 +85,7 @@ fn failing_streams_are_told(rt: HostRuntime) -> Result<(), Fail> {
 
 const TEXT: &[u8] = b"Hello,\nworld.\nSuperlon\ngwordrea\nlly\n";
 
-/// What is told of a writer that takes three bytes a call and fails after so many calls.
+/// What a writer holds that takes three bytes a call and fails after so many calls.
 fn told_behind(alloc: Global, calls: usize) -> Result<Vec<u8>, Fail> {
     let mut told = Vec::new(alloc);
     for byte in TEXT.iter().take(calls.saturating_mul(3)) {
@@ -96,7 +97,7 @@ fn told_behind(alloc: Global, calls: usize) -> Result<Vec<u8>, Fail> {
     Ok(told)
 }
 
-/// The writer has a beginning of the text, and no more, wherever it fails.
+/// Wherever the writer fails, it has a beginning of the text and no more.
 fn writers_fail(rt: &impl Abort, alloc: Global) -> Result<(), Fail> {
     for calls in 0..TEXT.len() {
         let told = outcome(alloc, SCRIPT, Slow::new(alloc, 3, calls))?;

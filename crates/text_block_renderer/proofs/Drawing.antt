@@ -64,7 +64,8 @@ module _ {D A : Type 0} (columns : ℕ → Option ℕ) where
   abbrev on : Renderer D A (List A) → List (Line (List A)) → Renderer D A (List A)
   on r ls = record r { lines = ls }
 
-  -- Moves lead from one renderer to the other, where lines that came are after other lines, but for the borders drawn as text.
+  -- Moves lead from one renderer to the other, where lines that came are after other lines, but for the borders drawn
+  -- as text.
   record Less (r s : Renderer D A (List A)) (ls : List (Line (List A))) (es : List (Entry (List A))) (bs : List (List Cell)) : Type 0 where
     more : List (Line (List A))
     rest : List (Line (List A))

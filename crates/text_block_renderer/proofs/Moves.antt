@@ -15,7 +15,8 @@ use Rattle.tbr_renderer.specs.Calls.{Call, laid_entries}
 use Rattle.text_block_renderer.specs.Drawn.{DrawNone}
 use Rattle.text_block_renderer.specs.Stretches.{AppendsNothing}
 
--- The end of the open run; where no block is open, a line of text or a border; what comes to the open block; or a change of what isn't text.
+-- The end of the open run; a line of text or a border, where no block is open; what comes to the open block. Or a
+-- change of what isn't text.
 pub data Move (T : Type 0) : Type 0 where
   flush : Move T
   line : List (Item T) → Move T
@@ -65,7 +66,7 @@ brought-append (m ∷ ms) ns = ap (λ es. brought_by m ++ es) (brought-append ms
 
 -- ---- kinds
 
--- Moves of any calls, of such that no border becomes text, and of such that append nothing.
+-- Moves of any calls, of calls of which no border becomes text, and of calls that append nothing.
 pub data Kind : Type 0 where
   any : Kind
   undrawn : Kind

@@ -117,7 +117,7 @@ module _ {T : Type 0} (columns : ℕ → Option ℕ) where
   pub names_before : (is : List (Item T)) (names : List (List ℕ)) → names_in_items (is ++ marker_items names) ≡ names_in_items is ++ names
   names_before is names = names-append is (marker_items names) ∙ ap (λ ns. names_in_items is ++ ns) (names_of_markers T names)
 
-  -- they stand for a run that is so
+  -- they stand for a run of these markers alone
   pub markers_stand : (names : List (List ℕ)) → StandFor columns (marker_items names) (let es : List (Entry T) = marker_run names in es)
   markers_stand [] = nothing_stands
   markers_stand (name ∷ names) =

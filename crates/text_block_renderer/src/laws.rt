@@ -53,8 +53,8 @@ pub fn a_call_is_too_narrow_or_not<D, A>()
 {}
 
 /// After any calls the visible characters of what they brought are in the lines of text, but for those of the open run.
-/// They are there once and in order, each under an annotation of its call. Borders that padding made text aren't looked
-/// at. To a new renderer nothing was brought.
+/// They are there once and in order, each under an annotation of its call. Borders that became text by padding are left
+/// out. To a new renderer nothing was brought.
 pub fn visible_characters_stand_once<D, A>()
     ensures calls { (columns : ℕ → Option ℕ) (decoration : Decoration D A) (calls : List (Call (List A)))
         (r s : Renderer D A (List A)) (borders : List (List Cell)) (before es : List (Entry (List A))) →
@@ -70,9 +70,9 @@ pub fn visible_characters_stand_once<D, A>()
 {}
 
 /// After any calls what they brought is in the lines of text, or is a marker that waits, but for the open run. The
-/// visible characters and the markers are there once and in order, and in `Normal` all kept characters and markers. No
-/// marker waits that has a visible character after it. To a new renderer nothing was brought. Borders that padding made
-/// text aren't looked at.
+/// visible characters and the markers are there once and in order, and in `Normal` so are all kept characters. No
+/// marker waits that has a visible character after it. To a new renderer nothing was brought. Borders that became text
+/// by padding are left out.
 pub fn what_was_brought_stands<D, A>()
     ensures calls { (columns : ℕ → Option ℕ) (decoration : Decoration D A) (calls : List (Call (List A)))
         (r s : Renderer D A (List A)) (borders : List (List Cell)) (before es : List (Entry (List A))) →
@@ -89,17 +89,17 @@ pub fn what_was_brought_stands<D, A>()
         Stands columns (new_renderer {D = D} {A = A} width options decorator) [] }
 {}
 
-/// What a flush puts into lines, and what it makes wait. The markers that wait then come, in the run or before it,
-/// after the last visible character of the run, in a `Normal` run after the last kept one. The kept characters and the
-/// markers of a `Normal` run come in order after all that was in lines or waited. Where it may not overflow, just its
-/// trailing markers wait.
+/// What a flush puts into lines, and which markers wait after it. These come, in the run or before it, after the last
+/// visible character of the run, and in a `Normal` run after the last kept one. The kept characters and the markers of
+/// a `Normal` run come in order after all that was in lines or waited. Where it may not overflow, just its trailing
+/// markers wait.
 pub fn what_a_flush_makes_stand<D, A>()
     ensures { (columns : ℕ → Option ℕ) (r s : Renderer D A (List A)) →
         Flushes columns r s → FlushStands columns (open_run r.block) r s }
 {}
 
-/// Markers that wait begin the next line of text, whatever calls come, and until then they wait. A border that padding
-/// made text is no such line.
+/// Markers that wait begin the next line of text, whatever calls come, and until then they wait. A border that became
+/// text by padding is no such line.
 pub fn waiting_markers_begin_the_next_text<D, A>()
     ensures calls { (columns : ℕ → Option ℕ) (decoration : Decoration D A) (calls : List (Call (List A)))
         (r s : Renderer D A (List A)) → Steps columns decoration calls r s →
@@ -117,15 +117,15 @@ pub fn a_run_is_one_stretch<D, A>()
         Steps columns decoration calls q s → StandsAsStretch columns r b s.lines }
 {}
 
-/// Whatever calls come, the run of an open block goes on, or it ends as one stretch of the lines. The stretch has the
-/// first of the entries that came too, and comes after all lines that there were.
+/// Whatever calls come, the run of an open block goes on, or it ends as one stretch of the lines. The stretch also has
+/// the first of the entries that came, and comes after all lines that there were.
 pub fn each_open_run_ends_as_one_stretch<D, A>()
     ensures { (columns : ℕ → Option ℕ) (decoration : Decoration D A) (calls : List (Call (List A)))
         (r s : Renderer D A (List A)) (b : Open (List A)) (es : List (Entry (List A))) → r.block ≡ Some b →
         Brings columns decoration calls r es s → StaysOpen r b es s ⊎ EndsAsStretch columns r b es s }
 {}
 
-/// The lines that calls add are the stretches of the runs that ended, laid texts, as empty lines are, and the borders
+/// The lines that calls add are the stretches of the runs that ended, laid texts such as empty lines, and the borders
 /// of the calls. What the calls brought are these runs and the entries of these texts, one after another, and then the
 /// run that is open. Calls that append nothing add stretches and empty lines alone.
 pub fn lines_are_stretches_laid_texts_and_borders<D, A>()

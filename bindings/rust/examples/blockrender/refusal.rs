@@ -14,8 +14,8 @@ pub enum Refusal {
 }
 
 impl Refusal {
-    /// That of a call for the line of this number. The language has no other line that the crate refuses so, but what
-    /// closes where something is open.
+    /// The refusal of a call for the line of this number. A line that closes something where more is open inside it is
+    /// no command of the language.
     pub fn at(number: usize, error: Error) -> Refusal {
         match error {
             Error::TooNarrow => Refusal::TooNarrow,

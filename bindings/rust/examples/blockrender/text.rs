@@ -2,7 +2,7 @@
 
 use std::num::NonZeroUsize;
 
-/// The text that is written so: its escapes are replaced.
+/// The text with its escapes replaced.
 pub fn text(writing: &str) -> Option<String> {
     let mut text = String::with_capacity(writing.len());
     let mut rest = writing;

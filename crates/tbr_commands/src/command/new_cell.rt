@@ -33,7 +33,7 @@ impl NewCell {
     }
 }
 
-/// The alignment that the words after a span tell: the left one, if there are none.
+/// The alignment that the words after a span give: the left one, if there are none.
 fn alignment(mut words: Words<'_>) -> Option<CellAlign>
     ensures found { IfSome result (λ align. IsAlignment words.entry align) }
     ensures none { IfNone result ((align : Meant) → IsAlignment words.entry align → ⊥) }

@@ -56,8 +56,8 @@ impl Kind {
         }
     }
 
-    /// Asks a renderer to end it. The renderer hasn't failed, and what ends is open, if it is a preformatted stretch or
-    /// a strikeout with strokes.
+    /// Asks a renderer to end it. The renderer must not have failed. A preformatted stretch must be open, and so must a
+    /// strikeout with strokes.
     ///
     /// It refuses as the renderer's call does, and never where that takes no memory.
     pub fn end<D: TextDecorator, W: CharWidth>(

@@ -15,7 +15,7 @@ line_width_back [] b = omega arith
 line_width_back (s ∷ a) [] = omega arith
 line_width_back (s ∷ a) (t ∷ b) = omega (arith, rest_width-append a (t ∷ b))
 
--- behind the first item of a line all may follow
+-- after the first item of a line all may follow
 pub others_back : {A : Type 0} (a b : List (Slot A)) → OthersMayFollow (a ++ b) → OthersMayFollow b
 others_back [] b h = h
 others_back (s ∷ a) [] h = tt
@@ -50,7 +50,7 @@ no_further {A} width d l rest m others e nonempty begins longest legal starts =
           }))
     ]
 
--- a legal layout that is behind by d never gets ahead
+-- a legal layout that has still to place d, and then the same, never gets ahead
 never_ahead : {A : Type 0} (width n : ℕ) (d : List (Slot A)) (ls ms : List (List (Slot A))) →
     joined ms ≡ d ++ joined ls → Each (IsLegalLine width) ls → HasNoEmptyLine ls → IsGreedy width ls → Each (IsLegalLine width) ms →
     placed n ms ≤ length d + placed n ls

@@ -22,7 +22,7 @@ slice_get-append [] ys k h = absurd (omega arith)
 slice_get-append (x ∷ xs) ys zero h = refl
 slice_get-append (x ∷ xs) ys (suc k) h = slice_get-append xs ys k (omega arith)
 
--- a line and what is behind it
+-- a line and what is after it
 pub line_and_rest : {X : Type 0} (xs : List X) (c d : ℕ) → c ≤ d → slice_range xs c d ++ drop d xs ≡ drop c xs
 line_and_rest xs c d h = sym (drop_split xs c d h)
 
@@ -183,7 +183,7 @@ contains_later : (c : ℕ) (ds : List ℕ) (x : ℕ) → c < x → Contains (c �
 contains_later c ds x h (zero, p, q) = absurd (omega arith)
 contains_later c ds x h (suc k, p, q) = (k, omega arith, q)
 
--- the cuts behind a position say which lines there are legal
+-- the cuts after a position say which lines there are legal
 lines_legal : {A : Type 0} (width : ℕ) (slots : List (Slot A)) (c : ℕ) (ds : List ℕ) → RisesTo c ds (length slots) →
     Each (λ line. line_width line ≤ width) (lines_behind slots c ds) →
     ((cut : ℕ) (s : Slot A) → Contains (c ∷ ds) cut → slice_get slots cut ≡ Some s → MayBegin s) →
@@ -333,7 +333,7 @@ best_alike {A} width slots cuts = (
 
 -- ---- cuts that are tried one after another
 
--- what is left to try behind a cut
+-- what is left to try after a cut
 abbrev pub LegalBehind : {A : Type 0} → ℕ → List (Slot A) → ℕ → List ℕ → Type 0
 LegalBehind width slots c ds = RisesTo c ds (length slots) × Each (IsLegalLine width) (lines_behind slots c ds)
 

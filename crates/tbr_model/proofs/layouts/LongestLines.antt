@@ -22,7 +22,7 @@ has_cuts width slots lines h = (cuts_of lines, (others_cuts width slots lines h)
 pub none_legal : {A : Type 0} (width : ℕ) → HasLegalLayout {A = A} width []
 none_legal width = has_cuts width [] [] (record { whole = refl; each = tt })
 
--- what is behind a place where a line may begin
+-- what is after a place where a line may begin
 suffix_lines : {A : Type 0} (width : ℕ) (a b : List (Slot A)) (lines : List (List (Slot A))) → joined lines ≡ a ++ b → Each (IsLegalLine width) lines → FirstMayBegin b →
     (others : List (List (Slot A))) × IsLegal width b others
 suffix_lines width [] b lines e h starts = (lines, record { whole = e; each = h })

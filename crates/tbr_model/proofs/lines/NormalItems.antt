@@ -71,8 +71,8 @@ module _ {A : Type 0} (columns : ℕ → Option ℕ) (width : ℕ) where
   without_spaces_kept [] h = refl
   without_spaces_kept (i ∷ is) h = rw (h.0) (ap (λ (js : List (Item A)). if item_passes (is_kept columns) i then i ∷ js else js) (without_spaces_kept is h.1))
 
-  -- In a run of `Normal` the items on the lines, but for the spaces that gaps are, and then what waits, are the run's
-  -- kept characters and markers, each character under its own annotation.
+  -- In a run of `Normal` the run's kept characters and markers are on the lines, and then in what waits, each character
+  -- under its own annotation. Nothing else is there but the spaces that gaps are.
   pub normal_keeps : (es : List (Event A)) → Each (HasMode Normal) (run_of es) →
       without_spaces (joined (lines_of columns width es)) ++ waiting columns width (progress columns width es) ≡ kept_items columns (run_of es)
   normal_keeps es modes =

@@ -20,8 +20,8 @@ use Rattle.tbr_model.proofs.words.Regions.{first_of_none}
 use Rattle.tbr_model.proofs.normal.LaidWords.{gap_behind, text_of, normal_space, normal_at, laid_word, word_laid, place_wide, lay_normal}
 use Rattle.tbr_model.proofs.normal.StaysLaid.{AllLaid, IsNarrowItem, laid_extended, laid_items, collapse_laid, laid_next}
 
--- What is laid is the text of lines, the space that waits is that of the gap after them, and the word holds the items. The open
--- line takes columns unless there are no lines at all, and no line is without a character.
+-- What is laid is the text of lines, the space that waits is that of the gap after them, and the word holds the items.
+-- The open line takes columns unless there are no lines at all, and no line is without a character.
 pub record NormalStands {A : Type 0} (columns : ℕ → Option ℕ) (limit : ℕ) (p : Progress A) (lines : Lines A) (gap : Option A) (items : List (Item A)) : Type 0 where
   pub done : p.laid.done ≡ map line_text lines.done
   pub line : p.laid.line ≡ line_text lines.last

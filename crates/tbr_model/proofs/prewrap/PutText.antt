@@ -42,8 +42,8 @@ nonblanks columns (glyph c a ∷ is) h = (h.0.from, nonblanks columns is h.1)
 nonblanks columns (marker name ∷ is) h = nonblanks columns is h.1
 
 module _ {A : Type 0} (columns : ℕ → Option ℕ) (width : ℕ) (some : 0 < width) where
-  -- what the lines are that go on from the open line of the second, from the open line of the first, on which are
-  -- the characters y, with w between: it reaches all of these that a line has columns for
+  -- The open line of `l` has the characters y. With w between, the lines that go on from it are those that go on from
+  -- the open line of `r`. They reach all of y and w that a line has columns for.
   pub record ReachesFrom (l : Laid A) (y w : List ℕ) (r : Laid A) (text : List ℕ) (ls : List (List ℕ)) : Type 0 where
     pub all : List (List ℕ)
     pub are : map letters_of r.done ++ ls ≡ map letters_of l.done ++ all

@@ -1,4 +1,4 @@
--- What is so before each entry of a hard line of `PreWrap`, and the items of a word, put one by one.
+-- What holds before each entry of a hard line of `PreWrap`, and the items of a word, put one by one.
 use Rattle.std.proofs.Common.{◌≡◌, ℕ, zero, suc, ◌+◌, ◌<◌, ◌≤◌, ◌⊎◌, inl, inr, Bool, true, false, nat_le, Option, Some, List, [], ◌∷◌, length, refl, ap, sym, ◌∙◌, arith, subst, le-leb}
 use Rattle.std.specs.List.{AllByRecursion as Each}
 use Rattle.std.proofs.lemmas.Bool.{lt-leb}

@@ -1,5 +1,5 @@
--- What is found in a run's items, for any way to look at them that passes over characters that aren't kept: the rule keeps
--- it, in order.
+-- What is found in a run's items, for any way to look at them that passes over characters that aren't kept. The rule
+-- keeps it, in order.
 use Rattle.std.proofs.Common.{◌≡◌, ℕ, ◌⊎◌, inl, true, false, List, Option, [], ◌∷◌, ◌++◌, fold, refl, ap, sym, ◌∙◌, append_assoc, append-nil}
 use Rattle.std.specs.Char.{is_whitespace}
 use Rattle.std.specs.List.{AllZip, AllByRecursion as Each}
@@ -18,8 +18,8 @@ use Rattle.tbr_model.proofs.words.Items.{break_lost}
 
 -- ---- ways to look at items
 
--- It looks at one item after another, and finds nothing in a character that isn't kept. Where `PreWrap` is among the modes of the
--- run, it finds nothing in white space.
+-- It looks at one item after another, and finds nothing in a character that isn't kept. Where `PreWrap` is among the
+-- modes of the run, it finds nothing in white space.
 pub record LooksAtKept {A X : Type 0} (columns : ℕ → Option ℕ) (Comes : Entry A → Type 0) (Modes : WhiteSpace → Type 0) (found : List (Item A) → List X) : Type 0 where
   pub modes : (c : ℕ) (a b : A) (m : WhiteSpace) → Comes (character c a b m) → Modes m
   pub append : (is js : List (Item A)) → found (is ++ js) ≡ found is ++ found js

@@ -105,7 +105,7 @@ has_front is front ms e h = sym (ap has_character e ∙ has_character-append fro
 width_front : {A : Type 0} (columns : ℕ → Option ℕ) (is front ms : List (Item A)) → is ≡ front ++ ms → has_character ms ≡ false → items_width columns front ≡ items_width columns is
 width_front columns is front ms e h = omega (arith, ap (items_width columns) e, items_width-append columns front ms, no_character_no_width columns ms h)
 
--- what is left behind white space, with the white space
+-- what is left after white space, with the white space
 leading_front : {A : Type 0} (is front ms : List (Item A)) → without_leading is ≡ front ++ ms → (before : List (Item A)) × (is ≡ before ++ ms) × (without_leading before ≡ front)
 leading_front [] [] ms h = ([], h, refl)
 leading_front [] (j ∷ front) ms h = cc

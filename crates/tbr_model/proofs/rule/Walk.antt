@@ -1,4 +1,4 @@
--- The rule, walked once: what each elementary change keeps is so of all that the rule lays.
+-- The rule, walked once: what each elementary change keeps holds of all that the rule lays.
 use Rattle.std.proofs.Common.{◌≡◌, ◌≢◌, ℕ, zero, suc, ◌+◌, ◌-◌, ◌%◌, ◌<◌, ◌≤◌, ◌==◌, ◌&&◌, ◌⊎◌, inl, inr, nat_le, nat_lt, Bool, true, false, not, if◌then◌else◌, is_some, is_none, Option, Some, None, List, [], ◌∷◌, ◌++◌, fold, refl, ap, sym, subst, append_assoc, append-nil, arith, leb-true, leb-false, ltb-true}
 use Rattle.std.specs.List.{AllByRecursion as Each}
 use Rattle.std.proofs.lemmas.Bool.{cond_both, eqb-true, eqb-false, and_left, and_parts, or_right}
@@ -15,7 +15,8 @@ abbrev pub MayJoin : (ℕ → Option ℕ) → WhiteSpace → ℕ → Type 0
 MayJoin columns mode c = (is_kept columns c ≡ true) ⊎ ((is_blank c ≡ true) × (mode ≢ Normal))
 
 -- A relation of the entries that came, what is laid and the word under way, that each elementary change keeps. An entry
--- has a property, and so have its annotations and its mode. Whoever asks for rooms is told that a space has room.
+-- has a property, and so have its annotations and its mode. Where rooms are asked for, it is known that a space has
+-- room.
 pub record KeptByRule {A : Type 0} (columns : ℕ → Option ℕ) (width : ℕ) (Comes : Entry A → Type 0) (Tag : A → Type 0) (Mode : WhiteSpace → Type 0) (Rooms : Type 0)
     (R : List (Entry A) → Laid A → List (Item A) → Type 0) : Type 0 where
   pub tags : (c : ℕ) (a b : A) (m : WhiteSpace) → Comes (character c a b m) → Tag a × Tag b × Mode m

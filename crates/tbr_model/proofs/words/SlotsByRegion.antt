@@ -8,8 +8,8 @@ use Rattle.tbr_model.proofs.words.KeptItems.{break_left}
 use Rattle.tbr_model.proofs.layouts.Cuts.{line_and_rest, slice_get-drop}
 use Rattle.tbr_model.proofs.words.Regions.{read_since, still, over_region}
 
--- What is known after a working break point, or at the run's start: the slots of the words so far, the entries before (the
--- break point, or none), and those that are left.
+-- What is known after a working break point, or at the run's start. These are the slots of the words so far, the
+-- entries before (the break point, or none), and those that are left.
 pub record HasRead {A : Type 0} (columns : ℕ → Option ℕ) (width : ℕ) (run : List (Entry A)) (slots : List (Slot A)) (before left : List (Entry A)) : Type 0 where
   pub words : List (Word A)
   pub placed : slots ≡ flat_map (word_slots columns width) words

@@ -126,7 +126,8 @@ impl<D: TextDecorator, W: CharWidth> SubRenderer<D, W> {
         Ok(())
     }
 
-    /// Ends the run, and adds the lines of other renderers, one below another, with borders between them and behind.
+    /// Ends the run, and adds the lines of other renderers, one below another, with borders between them and after
+    /// them.
     pub(crate) fn try_append_vert_row(&mut self, cols: Vec<SubRenderer<D, W>>) -> Result<(), Error>
         requires { self.old.failure ≡ None }
         ensures ok { OnOk result ((cells : List (List (Line (List D.Meaning))))

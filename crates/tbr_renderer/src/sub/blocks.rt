@@ -13,7 +13,7 @@ use crate::sub::SubRenderer;
 use tbr_decor::TextDecorator;
 use tbr_lines::{CharWidth, EndedLines, Error, OutOfMemory, TaggedLine, WrappedBlock};
 
-/// A block that leaves as many lines keeps them in its text, which takes less memory than each by itself.
+/// A block with at least so many lines keeps them in its one text, which takes less memory than each by itself.
 const MANY: usize = 4;
 
 impl<D: TextDecorator, W: CharWidth> SubRenderer<D, W> {
@@ -103,7 +103,7 @@ impl<D: TextDecorator, W: CharWidth> SubRenderer<D, W> {
         Ok(())
     }
 
-    /// Adds an empty line, after which no block has ended.
+    /// Adds an empty line. Text that comes after it begins no block.
     fn put_empty_line(&mut self) -> Result<(), OutOfMemory>
         requires { self.old.failure ≡ None }
         ensures line { OnOk result (meant D.meaning self.new ≡ with_empty_line W.columns (meant D.meaning self.old)) }
@@ -155,7 +155,7 @@ impl<D: TextDecorator, W: CharWidth> SubRenderer<D, W> {
         }
     }
 
-    /// Ends the run, and adds an empty line at the beginning of a line.
+    /// Ends the run. Where nothing is open that takes columns, it adds an empty line.
     pub(crate) fn try_break_line(&mut self) -> Result<(), Error>
         requires { self.old.failure ≡ None }
         ensures ok { OnOk result (BreaksLine W.columns (meant D.meaning self.old) (meant D.meaning self.new)) }

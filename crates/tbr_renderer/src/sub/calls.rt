@@ -59,7 +59,7 @@ impl<D: TextDecorator, W: CharWidth> SubRenderer<D, W> {
         }
     }
 
-    /// Puts annotations in the place of those of text that comes.
+    /// Replaces the annotations of text that comes.
     fn set_annotations(&mut self, annotations: Vec<D::Annotation>)
         ensures { meant D.meaning self.new
             ≡ record (meant D.meaning self.old) { annotations = tag_meant D.meaning annotations } }

@@ -24,7 +24,8 @@ impl<D: TextDecorator, W: CharWidth> SubRenderer<D, W> {
     /// The lines that the decorator makes of the targets of links in their order. Without footnotes it is asked for no
     /// target. The targets are dropped.
     ///
-    /// It refuses only for want of memory, and then the renderer has failed. One that had failed answers its refusal.
+    /// The only refusal of its own is `OutOfMemory`, after which the renderer has failed. One that had failed answers
+    /// its refusal.
     pub fn finalise(&mut self, links: Vec<String>) -> Result<Vec<TaggedLine<D::Annotation>>, Error>
         ensures lines { IfOk result (λ lines. lines_meant D.meaning lines.items
             ≡ D.footnotes self.old.decorator (listed self.old.options (map chars_of links.items))) }
@@ -66,14 +67,14 @@ impl<D: TextDecorator, W: CharWidth> SubRenderer<D, W> {
         self.decorator.finalise(self.alloc, links)
     }
 
-    /// Adds footnotes after the lines. Their markers are dropped, newlines become spaces, and each piece is under
-    /// the list of its one annotation. Where links are wrapped, a line ends before each character that passes the
-    /// renderer's width after what the line holds, also an empty one. Each footnote begins a line, and an empty one is
+    /// Adds footnotes after the lines. Their markers are dropped, newlines become spaces, and each piece is under the
+    /// list of its one annotation. Where links are wrapped, a line ends before each character that passes the
+    /// renderer's width after what the line holds, even an empty line. Each footnote begins a line, and an empty one is
     /// an empty line. The lines come after the markers that wait, and are filled where lines are padded. The open run
     /// stays open.
     ///
-    /// It refuses only for want of memory, also where the columns of a line pass `usize`, and then the renderer has
-    /// failed. One that had failed answers its refusal.
+    /// The only refusal of its own is `OutOfMemory`, which comes too where the columns of a line pass `usize`. The
+    /// renderer has then failed. One that had failed answers its refusal.
     pub fn fmt_links(&mut self, links: Vec<TaggedLine<D::Annotation>>) -> Result<(), Error>
         ensures ok { OnOk result (meant D.meaning self.new
             ≡ with_footnotes W.columns (meant D.meaning self.old) (lines_meant D.meaning links.items)) }

@@ -25,8 +25,9 @@ use tbr_rows::{Columns, Overhang, Row, RowStyle};
 
 impl<D: TextDecorator, W: CharWidth> SubRenderer<D, W> {
     /// Whether a row of these renderers, each with the rows that it spans, has a place for each cell that overhangs
-    /// from the rows before: the place of a renderer of the same width in which nothing is, or one after all of
-    /// them. It takes no memory, and doesn't look at a failure of its own; one of `cols` that has failed isn't blank.
+    /// from the rows before. That is the place of a renderer of the same width in which nothing is, or one after all of
+    /// them. It takes no memory, and doesn't look at a failure of its own. One of `cols` that has failed gives its
+    /// place to none.
     pub fn row_fits(&self, cols: &Vec<(SubRenderer<D, W>, usize)>) -> bool
         ensures { result ≡ row_fits self.now.hanging (model.spots_of W.columns cols.now.items) }
     {

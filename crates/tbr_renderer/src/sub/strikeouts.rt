@@ -16,7 +16,7 @@ use tbr_decor::TextDecorator;
 use tbr_lines::{CharWidth, Error};
 
 impl<D: TextDecorator, W: CharWidth> SubRenderer<D, W> {
-    /// Text that comes has a stroke more, if struck out text has any.
+    /// Text that comes has one stroke more, if the options ask for strokes.
     fn strike(&mut self) -> Result<(), Error>
         ensures ok { OnOk result (meant D.meaning self.new ≡ struck_from (meant D.meaning self.old)) }
         ensures memory { IfErr result (λ e. e ≡ E.OutOfMemory) }
@@ -32,7 +32,7 @@ impl<D: TextDecorator, W: CharWidth> SubRenderer<D, W> {
         Ok(())
     }
 
-    /// Text that comes has a stroke less, if struck out text has any.
+    /// Text that comes has one stroke less, if the options ask for strokes.
     fn end_strike(&mut self)
         requires { self.old.options.use_unicode_strikeout ≡ true → 0 < self.old.strikeouts }
         ensures ended { meant D.meaning self.new ≡ struck_until (meant D.meaning self.old) }

@@ -68,7 +68,7 @@ module _ {A : Type 0} (columns : ℕ → Option ℕ) (eq : A → A → Bool) (la
           measured = rw limits.width (rw limits.may_overflow (measured_ended columns b.width b.may_overflow (extended r (spaces n a) n) (measured_extended columns b.width b.may_overflow r (spaces n a) n h.measured (sym (spaces_width columns one n a)) small)));
         }
 
--- nothing is left behind what is laid
+-- nothing is left after what is laid
 pub all_taken : {A : Type 0} (columns : ℕ → Option ℕ) (eq : A → A → Bool) (b : LaidLines A) (before given : List (List (Item A))) (r : Laid A) → HoldsRuleBefore columns eq b before given r [] → HoldsRule columns eq b before given r
 all_taken columns eq b before given r h = record {
   laid = h.laid;

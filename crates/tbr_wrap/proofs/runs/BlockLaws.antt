@@ -282,7 +282,7 @@ module _ {A : Type 0} (columns : ℕ → Option ℕ) where
       pub flush_wide_word : IsNormal (run_of s.events) → ¬ (WordsFit columns s.width (run_of s.events))
       flush_wide_word normal fit = refused_where s (all_lines columns s) not_all (normal_end_fits columns s.width one wide s.events normal fit)
 
-    -- a `Normal` run that is refused so has no legal layout, and one that has none is
+    -- a `Normal` run is refused so exactly where it has no legal layout
     module _ (live : s.failure ≡ None) where
       pub no_layout_if_refused : after_flush columns s ≡ refused E.TooNarrow → IsNormal (run_of s.events) → ¬ (HasLegalLines s.width (slots_of columns s.width (run_of s.events)))
       no_layout_if_refused e normal some =

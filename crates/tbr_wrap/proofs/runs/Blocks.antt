@@ -195,7 +195,7 @@ module _ {A : Type 0} (columns : ℕ → Option ℕ) where
     is = k.is ∙ ap (λ (q : Block A). grown q (map entry (text_entries k.front a b mode))) h.is ∙ front_and_rest r es h.front k.front a b mode;
   }
 
-  -- with what is left it is as with the whole
+  -- with what is left of the text too, it is as with the whole text
   pub grown_whole : (r s : Block A) (es : List (Event A)) (text rest : List ℕ) (a b : A) (mode : WhiteSpace) → HasGrown r es text rest a b mode s →
       grown s (map entry (text_entries (chars rest) a b mode)) ≡ grown r (es ++ map entry (text_entries (chars text) a b mode))
   grown_whole r s es text rest a b mode h =

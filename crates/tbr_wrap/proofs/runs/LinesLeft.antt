@@ -58,7 +58,6 @@ module _ {A : Type 0} where
   pub handed_and_left : (columns : ℕ → Option ℕ) (n : ℕ) (s : Block A) → take n (left columns s) ++ left columns (lines_handed_out n s) ≡ left columns s
   handed_and_left columns n s = ap (λ ls. take n (left columns s) ++ ls) (many_left columns n s) ∙ take-append-drop n (left columns s)
 
-  -- one more
   pub handed_one_more : (n : ℕ) (s : Block A) → line_handed_out (lines_handed_out n s) ≡ lines_handed_out (suc n) s
   handed_one_more zero s = refl
   handed_one_more (suc n) s = handed_one_more n (line_handed_out s)

@@ -106,6 +106,6 @@ unspaced columns spaced (c ∷ cs) h = (or_left (is_kept columns c) (spaced && c
     or_left true s e = refl
     or_left false s e = cc
 
--- where no space joins, also where one would
+-- where no space joins, and so where one would
 pub letters_stretch : (columns : ℕ → Option ℕ) (spaced : Bool) (text : List ℕ) (s : Stretch) → IsStretch columns false text s → IsStretch columns spaced text s
 letters_stretch columns spaced text s h = record { front = h.front; width = h.width; join = unspaced columns spaced _ h.join }

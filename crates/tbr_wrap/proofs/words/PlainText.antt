@@ -54,7 +54,6 @@ plain_parts columns spaced c n h = go (spaced && c == 32) (is_ascii_graphic c) r
 
 -- ---- going over them
 
--- one more
 pub plain_more : (columns : ℕ → Option ℕ) (spaced : Bool) (bs : List ℕ) (k n : ℕ) → k < length bs → stretch_width columns spaced (get_or bs k 0) ≡ Some n → IsAscii (take k bs) → JoinWord columns spaced (take k bs) →
     IsAscii (take (k + 1) bs) × JoinWord columns spaced (take (k + 1) bs) × (width_of_text columns (take (k + 1) bs) ≡ width_of_text columns (take k bs) + n)
 plain_more columns spaced bs k n h e ascii plain =

@@ -16,9 +16,9 @@ ghost use Rattle.text_block_renderer.specs.Nested.{Level, nested, IsFront, short
 ghost use Rattle.text_block_renderer.specs.VerticalRows.{row_lines};
 ghost use Rattle.text_block_renderer.specs.Taken.{StandWithin, AreTakenIn};
 
-/// After the prefixes of blocks inside blocks, the i-th line is the i-th prefixes of all, one after another from the
-/// outermost, and then the i-th line as text. There are as many lines as the shortest has. Renderers that hand their
-/// lines on to one another give these lines, where lines aren't padded.
+/// Line i of blocks inside blocks is prefix i of each of them, from the outermost to the innermost, and then line i of
+/// the innermost as text. There are as many lines as the shortest of these lists has. Renderers that hand their lines
+/// on to one another give these lines, where lines aren't padded.
 pub fn nested_blocks_are_their_prefixes_and_lines<T, D, A>()
     ensures line { (levels : List (Level T)) (innermost : Level T) (lines : List (Line T)) (i : ℕ)
         (front : List (Item T)) (line : Line T) → IsFront i (levels ++ innermost ∷ []) front →
@@ -40,8 +40,8 @@ pub fn appended_lines_come_behind_the_others<D, A>()
         × Flushes columns r m × (s.lines ≡ m.lines ++ lines_laid columns m (prefixed r.annotations prefixes lines)) }
 {}
 
-/// The visible characters of lines that are appended come after those of the prefixes, line by line and in order. After
-/// as many prefixes none is lost, and after spaces there are no others.
+/// The visible characters of lines that are appended come after those of the prefixes, line by line and in order. Where
+/// there are as many prefixes as lines none is lost, and where prefixes are spaces there are no others.
 pub fn appended_characters_stand<D, A>()
     ensures prefixed { (columns : ℕ → Option ℕ) (decoration : Decoration D A) (prefixes : List (List ℕ))
         (lines : List (Line (List A))) (r s : Renderer D A (List A)) →
@@ -57,8 +57,8 @@ pub fn appended_characters_stand<D, A>()
         ++ visible_glyphs columns (joined (map (as_text r.annotations) lines))) }
 {}
 
-/// A vertical row is its cells with slashed borders between and a plain one after them, where lines aren't padded and
-/// no marker waits. Where borders aren't drawn, it is its cells alone.
+/// A vertical row is its cells with slashed borders between them and a plain one after them, where lines aren't padded
+/// and no marker waits. Where borders aren't drawn, it is its cells alone.
 pub fn a_vertical_row_is_its_cells_and_borders<D, A>()
     ensures drawn { (columns : ℕ → Option ℕ) (decoration : Decoration D A) (cells : List (List (Line (List A))))
         (r s : Renderer D A (List A)) → Does columns decoration (append_vert_row cells) r s →
@@ -72,7 +72,7 @@ pub fn a_vertical_row_is_its_cells_and_borders<D, A>()
 {}
 
 /// The lines that a renderer hands out have the visible characters of all that was brought to it, once and in order.
-/// Borders that padding made text aren't looked at.
+/// Borders that became text by padding are left out.
 pub fn handed_out_lines_have_all_characters<D, A>()
     ensures lines { (columns : ℕ → Option ℕ) (r : Renderer D A (List A)) (borders : List (List Cell))
         (es : List (Entry (List A))) (lines : List (Line (List A))) →
@@ -84,7 +84,7 @@ pub fn handed_out_lines_have_all_characters<D, A>()
         AllZip (IsShown (λ a b. a ≡ b)) (visible_glyphs columns (text_of_lines lines)) (visible_entries columns es) }
 {}
 
-/// Renderers take lines from one another, after as many prefixes or as cells, and hand out their own, to any depth.
+/// Renderers take lines from one another, as cells or after as many prefixes, and hand out their own, to any depth.
 /// Then the visible characters of the first lines are in the last, in order. So are those of all that was brought to a
 /// renderer that handed out the first.
 pub fn nothing_visible_is_lost_to_any_depth<D, A>()

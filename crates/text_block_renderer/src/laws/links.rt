@@ -8,8 +8,9 @@ ghost use Rattle.tbr_stack.specs.Stack.{Stack, new_stack};
 ghost use Rattle.tbr_stack.specs.Links.{first_open, open_links, StartsLink, EndsLink};
 ghost use Rattle.tbr_stack.specs.StackCalls.{StackCall, targets_of, IsNextToEnd, IsNextNumber, StackSteps, EndsAsNumber};
 
-/// A link that ends brings its own number, whatever calls come in between, and however deep links and renderers are in
-/// one another: the place of its target, from 1. Of a new stack, a link that is open in the top is one that started.
+/// A link that ends brings its own number: the place of its target, from 1. It does so whatever calls come in between,
+/// and however deep links and renderers are in one another. In a stack that began as a new one, a link that is open in
+/// the top is one that these calls started.
 pub fn a_link_ends_with_its_own_number<D, A>()
     ensures number { (columns : ℕ → Option ℕ) (decoration : Decoration D A) (target : List ℕ)
         (calls : List StackCall) (s m t u : Stack (Renderer D A (List A))) →

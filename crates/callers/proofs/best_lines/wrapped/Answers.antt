@@ -15,7 +15,7 @@ use Rattle.tbr_lines.proofs.NormalTexts.{best_lines}
 use Rattle.tbr_lines.proofs.BlockLaws.{text_leaves, text_in_two, flush_in_two}
 use Rattle.callers.proofs.best_lines.wrapped.Goals as goal
 
--- one that isn't too narrow wants memory
+-- a refusal that isn't `TooNarrow` is `OutOfMemory`
 wants_memory : {R : Type 0} (result : Result R Error) → (result ≡ Err TooNarrow → ⊥) → IfErr result (λ e. e ≡ OutOfMemory)
 wants_memory (Ok x) h = tt
 wants_memory (Err OutOfMemory) h = refl

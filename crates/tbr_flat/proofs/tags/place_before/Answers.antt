@@ -9,7 +9,7 @@ loop-left-init g c =
     let all : length c.args.stored.now.items ≡ c.len-nth.result = omega (arith, c.len-nth.ensures, c.args.stored.now.ok.0) in
     record { within = omega (arith, all); reached = omega (arith, none_left c.args.stored.now.items c.len-nth.result (omega (arith, all))) }
 
--- where the stored after a place have fewer tags than there are, one is before it
+-- where the stored tags after a place are fewer tags than there are, one is before it
 stored_before : {A : Type 0} (xs : List (RepeatedTag A)) (k : ℕ) {left last : ℕ} → left + length (tags_of (drop k xs)) ≡ last → last ≤ length (tags_of xs) → 0 < left → k ≡ suc (k - 1)
 stored_before xs zero e most some = absurd (omega arith)
 stored_before xs (suc k) e most some = omega arith

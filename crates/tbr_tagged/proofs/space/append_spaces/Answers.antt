@@ -19,6 +19,6 @@ loop-preserved c = (
   omega (arith, c.loop.invariant.1, c.in_ok-push.ensures.len, c.in_ok-push.ensures.capacity, c.loop-test.true),
 )
 
--- the room is there
+-- the room was reserved before
 pub returns-in_err-push-clause-err : goal.returns-in_err-push-clause-err
 returns-in_err-push-clause-err c = absurd (omega (arith, c.loop.invariant.1, c.in_err-push.ensures.full, c.loop-test.true))

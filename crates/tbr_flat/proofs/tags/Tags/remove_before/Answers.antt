@@ -35,7 +35,7 @@ returns-then-from-to g c =
 pub end_at-first-requires : goal.end_at-first-requires
 end_at-first-requires g c = (c.args.last + c.args.count, c.place_before-from.ensures)
 
--- the places are in two stored
+-- the places are in two stored tags
 next : (g : _) (c : After-end_at-first g) → c.place_before-from.result.nth < c.place_before-to.result.nth
 next g c =
     let p = c.place_before-from.result in let q = c.place_before-to.result in
