@@ -2,6 +2,7 @@
 use Rattle.std.proofs.Common.{◌≡◌, ℕ, ◌-◌, if◌then◌else◌, Bool, true, false, Option, Some, None, List, [], ◌∷◌, ◌++◌, map, flat_map, fold, refl, ap, sym, ◌∙◌, subst, append_assoc, append-nil}
 use Rattle.std.proofs.lemmas.List.{map-append}
 use Rattle.std.proofs.lemmas.List.Concat.{flat_map-append}
+use Rattle.tbr_model.specs.Rule.{run_of}
 use Rattle.tbr_model.specs.Run.{Entry, Item, items_width}
 use Rattle.tbr_lines.specs.Border.{Border, shown, without_holes}
 use Rattle.tbr_lines.specs.Cell.{Cell}
@@ -169,7 +170,7 @@ module _ {D A : Type 0} (columns : ℕ → Option ℕ) where
       (as_they_are (line is) r s ls (marked ∷ []) (ap (λ (q : Renderer D A (List A)). q.lines) h.2) (tt, h.1, ap (λ (q : Renderer D A (List A)). on q (ls ++ marked ∷ [])) h.2))
   move_less (rule cells) r s ls pads e h = rule_less r s ls cells pads e h.1 h.2
   move_less (join es) r s ls pads e h =
-      with_none r s ls es pads (no_line (join es) r s ls (ap (λ (q : Renderer D A (List A)). q.lines) h) (ap (λ (q : Renderer D A (List A)). on q ls) h))
+      with_none r s ls (run_of es) pads (no_line (join es) r s ls (ap (λ (q : Renderer D A (List A)). q.lines) h) (ap (λ (q : Renderer D A (List A)). on q ls) h))
   move_less turn r s ls pads e h =
       with_none r s ls [] pads (no_line turn r s ls h.lines (record { lines = refl; block = h.block; waiting = h.waiting; width = h.width; options = h.options; hanging = h.hanging }))
 

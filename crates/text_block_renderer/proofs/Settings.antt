@@ -10,7 +10,7 @@ use Rattle.tbr_renderer.specs.Image.{shown_title}
 use Rattle.tbr_renderer.specs.Decorated.{struck_from, struck_until, annotated, coloured, uncoloured, AddsImageBy}
 use Rattle.tbr_renderer.specs.Renderer.{Line, Renderer, settings_of, with_line, ignores}
 use Rattle.tbr_renderer.specs.Flush.{Flushes}
-use Rattle.tbr_renderer.specs.Steps.{BreaksLineAt}
+use Rattle.tbr_renderer.specs.Steps.{at_line_start, BreaksLineAt}
 use Rattle.tbr_renderer.specs.Calls.{Call, add_empty_line, new_line, new_line_hard, start_block, start_table, end_block, add_inline_text, push_ws, pop_ws, push_preformat, pop_preformat, record_frag_start, begin, finish, start_strikeout, end_strikeout, add_image, push_colour, pop_colour, add_border, append_subrender, append_vert_row, Does}
 use Rattle.tbr_renderer.specs.Appended.{with_border, border_of_cells, as_text, prefixed, with_divider, with_cell, with_cell_below, with_cells, AppendsCells}
 use Rattle.tbr_lines.specs.Border.{Border}
@@ -77,7 +77,7 @@ module _ {D A : Type 0} (columns : ℕ → Option ℕ) where
     pub call_settings : (call : Call (List A)) (r s : Renderer D A (List A)) → Does columns decoration call r s → steady s ≡ steady (settled decoration call r)
     call_settings add_empty_line r s h = empty_added columns r s h
     call_settings new_line r s h = flushed_alike columns r s h
-    call_settings new_line_hard r s h = broken r s h.0 h.2
+    call_settings new_line_hard r s h = broken r s (at_line_start columns r r.block) h
     call_settings start_block r s h = started_alike columns r s h
     call_settings start_table r s h = started_alike columns r s h
     call_settings end_block r s h = ap (λ (q : Renderer D A (List A)). steady q) h

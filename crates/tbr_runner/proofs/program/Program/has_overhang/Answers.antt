@@ -13,4 +13,4 @@ returns-clause-hangs g c =
     let failed = c.fail.ensures.live (ap (λ q. q.failure) sub) in
     let row = c.in_ok-push.ensures.items ∙ ap (λ cs. cs ++ (c.fail.new.self, 1) ∷ []) c.new-row.ensures.items in
     let spot = widest_spot g.W.CharWidth.columns cell c.fail.new.self TooNarrow c.push.new.self.items (ap (λ q. q.width) sub) failed row in
-    (top, subst (λ s. top_of s ≡ Some top) (ap (λ p. p.stack) c.self.view_is) c.top-top.ensures, ap not (c.row_fits.ensures.fits ∙ ap (row_fits top.hanging) spot))
+    (top, subst (λ s. top_of s ≡ Some top) (ap (λ p. p.stack) c.self.view_is) c.top-top.ensures, ap not (c.row_fits.ensures ∙ ap (row_fits top.hanging) spot))
