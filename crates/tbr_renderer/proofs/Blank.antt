@@ -6,7 +6,7 @@ use Rattle.tbr_model.specs.Run.{kept_items, has_character}
 use Rattle.tbr_model.specs.Rule.{run_of}
 use Rattle.tbr_model.proofs.words.Items.{no_character_no_width}
 use Rattle.tbr_lines.specs.declared.Error.{Error}
-use Rattle.tbr_lines.specs.State.{IsNormal, is_some_list}
+use Rattle.tbr_lines.specs.Runs.{IsNormal, is_some_list}
 use Rattle.tbr_lines.specs.Block.{Block, lines, left, any_line, has_no_character}
 use Rattle.tbr_lines.proofs.BlockLaws.{run_decides}
 use Rattle.tbr_renderer.specs.Renderer.{Open, Renderer, block_width, may_overflow}

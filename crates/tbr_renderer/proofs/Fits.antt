@@ -5,7 +5,7 @@ use Rattle.tbr_model.specs.Run.{Entry, character, marker_entry, Item, Word, Read
 use Rattle.tbr_model.specs.Greedy.{IsNarrow}
 use Rattle.tbr_model.specs.Mapped.{map_items, map_run, map_word}
 use Rattle.tbr_model.proofs.maps.Words.{item_width-map, reading-map, words_of-map}
-use Rattle.tbr_lines.specs.State.{IsNormal, CharactersFit, VisibleFit}
+use Rattle.tbr_lines.specs.Runs.{IsNormal, CharactersFit, VisibleFit}
 use Rattle.tbr_lines.specs.Wrapped.{WordsFit, EndedWordsFit}
 use Rattle.tbr_renderer.specs.Flush.{RunFits, RunIsTooNarrow, RunGoesOn, RunStops}
 

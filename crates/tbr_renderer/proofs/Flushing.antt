@@ -14,7 +14,7 @@ use Rattle.tbr_lines.specs.Elements.{Element, marker_element, items_of, text_ite
 use Rattle.tbr_lines.specs.Padding.{spaces}
 use Rattle.tbr_lines.specs.Block.{Block, Settings, progress_of, all_lines, left, has_no_character, loose, waiting_names, flushed, without_loose, after_flush, after_taking}
 use Rattle.tbr_lines.specs.Outcome.{done, refused}
-use Rattle.tbr_lines.specs.State.{EndsRun}
+use Rattle.tbr_lines.specs.Runs.{EndsRun}
 use Rattle.tbr_lines.specs.Wrapped.{padding_of}
 use Rattle.tbr_lines.specs.declared.Error.TheVariants as E
 use Rattle.tbr_lines.proofs.Blocks.{progress_flushed, progress_taken}

@@ -21,7 +21,7 @@ use Rattle.tbr_model.specs.Mapped.{map_entry, map_run}
 use Rattle.tbr_lines.specs.Block.{Block, any_line, lines, takes_no_columns, text_events, grown, after_text, after_marker, IsSound}
 use Rattle.tbr_lines.specs.Block as block
 use Rattle.tbr_lines.specs.Outcome.{done, refused}
-use Rattle.tbr_lines.specs.State.{text_entries, IsNormal, is_some_list}
+use Rattle.tbr_lines.specs.Runs.{text_entries, IsNormal, is_some_list}
 use Rattle.tbr_renderer.specs.Renderer.{Open, Renderer, new_block, open_block, open_run, text_annotations, last_mode, entries_under, with_entries, block_width, may_overflow}
 use Rattle.tbr_renderer.specs.Meant.{tag_meant, map_open, meant}
 use Rattle.tbr_renderer.specs.View.{IsFresh, block_seen, block_meant}

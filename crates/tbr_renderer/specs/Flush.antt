@@ -4,7 +4,7 @@ use Rattle.std.specs.Global.{Vec}
 use Rattle.tbr_renderer.specs.Meant.{items_meant}
 use Rattle.tbr_model.specs.Run.{Entry, Item}
 use Rattle.tbr_lines.specs.Block.{Block}
-use Rattle.tbr_lines.specs.State.{EndsRun, IsNormal, CharactersFit, VisibleFit}
+use Rattle.tbr_lines.specs.Runs.{EndsRun, IsNormal, CharactersFit, VisibleFit}
 use Rattle.tbr_lines.specs.Wrapped.{WordsFit, EndedWordsFit, padding_of}
 use Rattle.tbr_renderer.specs.Renderer.{Open, Renderer, with_line, block_width, may_overflow}
 

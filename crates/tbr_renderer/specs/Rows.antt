@@ -6,7 +6,7 @@ use Rattle.tbr_model.specs.Run.{items_width, has_character, kept_items}
 use Rattle.tbr_lines.specs.Border.{Border, with_cells, stretched}
 use Rattle.tbr_lines.specs.Elements.{items_of}
 use Rattle.tbr_lines.specs.Padding.{aligned_items}
-use Rattle.tbr_lines.specs.State.{IsNormal, is_some_list}
+use Rattle.tbr_lines.specs.Runs.{IsNormal, is_some_list}
 use Rattle.tbr_lines.specs.declared.CellAlign.{CellAlign}
 use Rattle.tbr_lines.specs.declared.CellAlign.TheVariants.{Left}
 use Rattle.tbr_lines.specs.declared.RenderLine.{RenderLine}

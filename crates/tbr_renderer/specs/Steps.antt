@@ -1,7 +1,7 @@
 -- What each call makes of a renderer.
 use Rattle.std.specs.Prelude.{◌≡◌, ℕ, Bool, true, false, if◌then◌else◌, ◌↔◌, IsTrue, is_none, Option, None, Some, List, [], ◌++◌, ◌⊎◌}
 use Rattle.tbr_model.specs.Run.{items_width, kept_items}
-use Rattle.tbr_lines.specs.State.{IsNormal, is_some_list}
+use Rattle.tbr_lines.specs.Runs.{IsNormal, is_some_list}
 use Rattle.tbr_model.specs.Shown.{run_shows_columns}
 use Rattle.tbr_renderer.specs.Renderer.{Open, Renderer, has_content, with_line, block_width, may_overflow, open_run, with_entries, entries_of, ignores}
 use Rattle.tbr_renderer.specs.Flush.{RunGoesOn, RunStops, Flushes, FlushIsTooNarrow}

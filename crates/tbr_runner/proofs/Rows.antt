@@ -7,7 +7,7 @@ use Rattle.tbr_model.specs.Run.{has_character, kept_items}
 use Rattle.tbr_model.specs.Mapped.{map_run}
 use Rattle.tbr_model.proofs.maps.Words.{has_character-map}
 use Rattle.tbr_lines.specs.declared.CellAlign.{CellAlign}
-use Rattle.tbr_lines.specs.State.{IsNormal, is_some_list}
+use Rattle.tbr_lines.specs.Runs.{IsNormal, is_some_list}
 use Rattle.tbr_lines.proofs.MappedRuns.{kept_items-map}
 use Rattle.tbr_rows.specs.Cells.{row_fits}
 use Rattle.tbr_rows.proofs.MeantRows.{fits_mean}

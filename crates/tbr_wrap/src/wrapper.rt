@@ -107,7 +107,7 @@ impl<T> Wrapper<T> {
 impl<T: Eq + Clone + Drop> Wrapper<T> {
     ghost use Rattle.tbr_wrap.specs.LaidLines.{KeepsLimits};
     ghost use Rattle.tbr_wrap.specs.Plain.{JoinWord, IsFront, IsStretch, AreWords};
-    ghost use Rattle.tbr_wrap.specs.State.{text_entries};
+    ghost use Rattle.tbr_wrap.specs.Runs.{text_entries};
     ghost use Rattle.tbr_wrap.specs.Wrapper.{IsAtProgress, IsUnderWay, Wherever, WrapperFollows, RefusesWider, Enters, EndsWideWord, RunIsFinished, SameSpace, KeepsTag, DropsSpace, AreMoved, held_width, join_all};
 
     /// The tag that a call's characters come under where no continuation begins.

@@ -4,7 +4,7 @@ use Rattle.tbr_model.specs.Run.{Item}
 use Rattle.tbr_model.specs.Layout.{slots_of, line_text}
 use Rattle.tbr_model.specs.Markers.{marker_items}
 use Rattle.tbr_model.proofs.layouts.Ahead.{unique}
-use Rattle.tbr_lines.specs.State.{IsNormal}
+use Rattle.tbr_lines.specs.Runs.{IsNormal}
 use Rattle.tbr_renderer.specs.Renderer.{Open, Renderer, block_width, may_overflow, open_run}
 use Rattle.tbr_renderer.specs.Flush.{block_lines, flushed, FlushesBlock, Flushes}
 

@@ -6,7 +6,7 @@ use Rattle.tbr_model.specs.declared.white_space.WhiteSpace.TheVariants.{Normal}
 use Rattle.tbr_model.proofs.lists.Each.{each_append}
 use Rattle.tbr_model.specs.Run.{Entry, marker_entry, Item, items_width, kept_items}
 use Rattle.tbr_model.specs.Hard.{HasMode}
-use Rattle.tbr_lines.specs.State.{IsNormal, text_entries}
+use Rattle.tbr_lines.specs.Runs.{IsNormal, text_entries}
 use Rattle.tbr_lines.proofs.NormalTexts.{normal_with}
 use Rattle.tbr_decor.specs.declared.colour.Colour.{Colour}
 use Rattle.tbr_decor.specs.Start as start

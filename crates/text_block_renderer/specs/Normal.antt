@@ -2,7 +2,7 @@
 use Rattle.std.specs.Prelude.{◌≡◌, false, ⊤, List}
 use Rattle.std.specs.List.{AllByRecursion as Each}
 use Rattle.tbr_model.specs.declared.white_space.WhiteSpace.TheVariants.{Normal}
-use Rattle.tbr_lines.specs.State.{IsNormal}
+use Rattle.tbr_lines.specs.Runs.{IsNormal}
 use Rattle.tbr_renderer.specs.Renderer.{Renderer, may_overflow, open_run}
 use Rattle.tbr_renderer.specs.Calls.{Call, push_ws}
 

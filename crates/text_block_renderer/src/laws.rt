@@ -7,7 +7,7 @@ pub mod rows;
 ghost use Rattle.std.specs.Prelude.{◌≡◌, ℕ, false, ◌⊎◌, Option, Some, List, [], ◌++◌, flat_map};
 ghost use Rattle.std.specs.List.{AllByRecursion as Each};
 ghost use Rattle.tbr_lines.specs.Cell.{Cell};
-ghost use Rattle.tbr_lines.specs.State.{IsNormal};
+ghost use Rattle.tbr_lines.specs.Runs.{IsNormal};
 ghost use Rattle.tbr_renderer.specs.Renderer.{Line, Open, Renderer, new_renderer, settings_of, may_overflow, open_run};
 ghost use Rattle.tbr_renderer.specs.declared.options.RenderOptions.{RenderOptions};
 ghost use Rattle.tbr_renderer.specs.Flush.{Flushes};

@@ -32,7 +32,7 @@ use Rattle.tbr_tagged.specs.declared.error.Error.TheVariants as E
 use Rattle.tbr_tagged.specs.Outcome.{done, refused}
 use Rattle.tbr_tagged.proofs.Outcomes.{live_done, live_goes, live_refused}
 use Rattle.tbr_wrap.specs.Wrapped.{FitsBlock, HasBestLines, WordsFit, EndedWordsFit, ShowsText}
-use Rattle.tbr_wrap.specs.State.{IsNormal, CharactersFit, VisibleFit, EndsRun, AreLastOf, is_some_list, text_entries}
+use Rattle.tbr_wrap.specs.Runs.{IsNormal, CharactersFit, VisibleFit, EndsRun, AreLastOf, is_some_list, text_entries}
 use Rattle.tbr_wrap.specs.Block.{Block, new_block, progress_of, lines, all_lines, left, takes_no_columns, has_no_character, loose_names, loose, waiting_names, allows, grown, text_events, flushed, after_text, after_marker, after_taking, after_flush, after_line, without_loose, line_handed_out, HandsOutFirst, IsSound, RunDecides}
 use Rattle.tbr_wrap.specs.LaidLines.{RuleFitsWidth}
 use Rattle.tbr_wrap.proofs.runs.EndedRuns.{shown_run, waits_normal, word_normal, blank_normal, ended_words_fit_normal, words_fit_normal, visible_fit, two_columns_characters}

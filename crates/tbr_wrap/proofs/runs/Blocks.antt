@@ -18,7 +18,7 @@ use Rattle.tbr_tagged.specs.declared.error.Error.TheVariants as E
 use Rattle.tbr_tagged.specs.Elements.{Element}
 use Rattle.tbr_tagged.specs.Outcome.{done, refused}
 use Rattle.tbr_wrap.specs.Wrapped.{FitsBlock, ShowsText}
-use Rattle.tbr_wrap.specs.State.{is_some_list, text_entries}
+use Rattle.tbr_wrap.specs.Runs.{is_some_list, text_entries}
 use Rattle.tbr_wrap.specs.Block.{Block, new_block, progress_of, lines, left, loose, allows, grown, settled, settings_of, text_events, flushed, loose_names, line_handed_out, HandsOutFirst, without_loose, HasGrown}
 use Rattle.tbr_wrap.specs.Story.{changed, story, text_changes}
 use Rattle.tbr_wrap.specs.Held.{padding_tag, block_of}

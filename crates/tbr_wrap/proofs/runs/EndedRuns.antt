@@ -25,7 +25,7 @@ use Rattle.tbr_model.proofs.normal.LayoutSoFar.{NormalStands, normal_stands}
 use Rattle.tbr_model.proofs.normal.TrailingMarkers.{normal_waiting}
 use Rattle.tbr_model.proofs.normal.BestLines.{NormalBlank, normal_lines, normal_blank}
 use Rattle.tbr_wrap.specs.Wrapped.{HasBestLines, FitsBlock, EndedWordsFit, WordsFit}
-use Rattle.tbr_wrap.specs.State.{IsNormal, CharactersFit, IsNarrowIfVisible, VisibleFit, IsShownBy}
+use Rattle.tbr_wrap.specs.Runs.{IsNormal, CharactersFit, IsNarrowIfVisible, VisibleFit, IsShownBy}
 
 -- ---- no line without a character
 

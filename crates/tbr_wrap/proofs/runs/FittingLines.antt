@@ -17,7 +17,7 @@ use Rattle.tbr_model.proofs.rule.BlankLines.{mode_preserves}
 use Rattle.tbr_model.proofs.rule.HardLineStart.{BeginsHardLine}
 use Rattle.tbr_model.proofs.rule.HardLines.{NoNewline, hard_lines_parted}
 use Rattle.tbr_model.proofs.rule.VisibleCharacters.{visible_from, visible_ended}
-use Rattle.tbr_wrap.specs.State.{column_behind, LineFits, HasOwnAnnotation, IsUnderOwn, ShowsFitting}
+use Rattle.tbr_wrap.specs.Runs.{column_behind, LineFits, HasOwnAnnotation, IsUnderOwn, ShowsFitting}
 
 -- ---- columns
 

@@ -13,7 +13,7 @@ use Rattle.tbr_model.specs.Rule.{Event, Progress, at_start, step, finished, wait
 use Rattle.tbr_model.proofs.rule.DoneLines.{finished_adds}
 use Rattle.tbr_tagged.specs.Elements.{SameItems}
 use Rattle.tbr_tagged.proofs.SameItems.{all_zip_append, same_has}
-use Rattle.tbr_wrap.specs.State.{is_some_list}
+use Rattle.tbr_wrap.specs.Runs.{is_some_list}
 use Rattle.tbr_wrap.specs.Block.{Block, new_block, progress_of, lines, all_lines, left, loose, has_no_character, grown, without_loose, flushed, line_handed_out}
 use Rattle.tbr_wrap.specs.EndedLines.{AreLines}
 use Rattle.tbr_wrap.specs.Held.{HoldsAt, HoldsRun}

@@ -10,7 +10,7 @@ use Rattle.tbr_tagged.specs.Padding.{spaces}
 use Rattle.tbr_tagged.specs.declared.error.Error.{Error}
 use Rattle.tbr_tagged.proofs.SameItems.{same_items_trans, same_items_append, same_from_path, same_width}
 use Rattle.tbr_wrap.specs.Wrapped.{ShowsText, padding_of}
-use Rattle.tbr_wrap.specs.State.{is_some_list}
+use Rattle.tbr_wrap.specs.Runs.{is_some_list}
 use Rattle.tbr_wrap.specs.Block.{Block, Settings, settings_of, lines, left, line_handed_out, lines_handed_out}
 
 pub some_count : {X : Type 0} (xs : List X) → is_some_list xs ≡ nat_lt 0 (length xs)

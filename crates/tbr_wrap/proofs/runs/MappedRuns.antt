@@ -15,7 +15,7 @@ use Rattle.tbr_model.proofs.maps.Words.{item_width-map, items_width-map, has_cha
 use Rattle.tbr_model.proofs.maps.Layouts.{slots_of-map, line_text-map, joined-map, best-map}
 use Rattle.tbr_model.proofs.maps.HardLines.{entry_letters-map, main-map, continuation-map, hard_lines-map, parted-map, map_glyph, joined_glyphs-map, visible_glyphs-map, visible_entries-map, visible-map, all_hard_lines-map, all_pre-map, all_prewrap-map, all_tabs-map}
 use Rattle.tbr_wrap.specs.Wrapped.{taking_columns, FitsBlock, HasBestLines}
-use Rattle.tbr_wrap.specs.State.{IsShownBy, column_behind, IsUnderOwn, ShowsFitting, EndsRun}
+use Rattle.tbr_wrap.specs.Runs.{IsShownBy, column_behind, IsUnderOwn, ShowsFitting, EndsRun}
 
 module _ {A B : Type 0} (f : A → B) where
   -- ---- runs

@@ -17,7 +17,7 @@ use Rattle.tbr_model.proofs.words.Items.{has_character-append, items_width-appen
 use Rattle.tbr_tagged.specs.Elements.{text_items}
 use Rattle.tbr_tagged.proofs.TextColumns.{items_width-text}
 use Rattle.tbr_wrap.specs.Plain.{is_narrow, joins, reads, JoinWord, AreWords}
-use Rattle.tbr_wrap.specs.State.{text_entries}
+use Rattle.tbr_wrap.specs.Runs.{text_entries}
 use Rattle.tbr_wrap.specs.Wrapper.{join_all}
 use Rattle.tbr_wrap.proofs.words.ModeCases.{normal_kept, normal_break}
 use Rattle.tbr_wrap.proofs.words.PlainText.{joined_text, graphic_low, graphic_joins}

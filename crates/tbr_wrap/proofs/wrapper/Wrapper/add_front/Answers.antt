@@ -9,7 +9,7 @@ use Rattle.tbr_model.specs.Run.{Entry, character}
 use Rattle.tbr_model.specs.Rule.{enter}
 use Rattle.tbr_model.specs.Fits.{lines_fit}
 use Rattle.tbr_model.proofs.rule.WiderLines.{unfit_entries}
-use Rattle.tbr_wrap.specs.State.{text_entries}
+use Rattle.tbr_wrap.specs.Runs.{text_entries}
 use Rattle.tbr_wrap.proofs.wrapper.Wrapper.add_front.Goals as goal
 
 pub range-requires-clause-end_boundary : goal.range-requires-clause-end_boundary
