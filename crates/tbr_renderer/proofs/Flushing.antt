@@ -1,25 +1,23 @@
 -- Lines of a block that join those of a renderer.
-use Rattle.std.proofs.Common.{◌≡◌, ℕ, ◌-◌, not, ◌&&◌, Bool, true, false, Option, None, Some, List, [], ◌∷◌, ◌++◌, map, fold, drop, refl, ap, sym, ◌∙◌, subst, append_assoc, append-nil}
+use Rattle.std.proofs.Common.{◌≡◌, ℕ, ◌-◌, Bool, true, false, Option, None, Some, List, [], ◌∷◌, ◌++◌, map, fold, drop, refl, ap, sym, ◌∙◌, subst, append_assoc, append-nil}
 use Rattle.std.specs.Global.{Vec}
 use Rattle.std.proofs.lemmas.List.{map-append}
 use Rattle.std.proofs.lemmas.Grind.{fold-append}
 use Rattle.std.specs.Option.{option_map}
-use Rattle.tbr_model.specs.Run.{Entry, Item, items_width, has_character}
-use Rattle.tbr_model.specs.Rule.{run_of, Progress}
-use Rattle.tbr_model.proofs.rule.Markers.{waiting_none}
+use Rattle.tbr_model.specs.Run.{Entry, Item, items_width}
+use Rattle.tbr_model.specs.Rule.{run_of}
 use Rattle.tbr_model.specs.Mapped.{map_item, map_run, map_lines}
 use Rattle.tbr_model.proofs.maps.Words.{items_width-map}
 use Rattle.tbr_lines.specs.Copies.{equal_lists}
 use Rattle.tbr_lines.specs.Elements.{Element, marker_element, items_of, text_items}
 use Rattle.tbr_lines.specs.Padding.{spaces}
-use Rattle.tbr_lines.specs.Block.{Block, Settings, progress_of, all_lines, left, has_no_character, loose, waiting_names, flushed, without_loose, after_flush, after_taking}
+use Rattle.tbr_lines.specs.Block.{Block, Settings, all_lines, left, loose, waiting_names, flushed, without_loose, after_flush, after_taking}
 use Rattle.tbr_lines.specs.Outcome.{done, refused}
 use Rattle.tbr_lines.specs.Runs.{EndsRun}
 use Rattle.tbr_lines.specs.Wrapped.{padding_of}
 use Rattle.tbr_lines.specs.declared.Error.TheVariants as E
-use Rattle.tbr_lines.proofs.Blocks.{progress_flushed, progress_taken}
 use Rattle.tbr_lines.proofs.LinesLeft.{handed_failure, handed_settings, left_after}
-use Rattle.tbr_lines.proofs.BlockLaws.{HandsOne, flush_leaves, taking_leaves, left_taken, left_flushed, loose_flushed, flush_none, flush_ends, flush_words_fit, flush_visible_fit, flush_never, flush_wide, flush_wide_word}
+use Rattle.tbr_lines.proofs.BlockLaws.{HandsOne, flush_leaves, taking_leaves, left_taken, left_flushed, waiting_loose, flush_none, flush_ends, flush_words_fit, flush_visible_fit, flush_never, flush_wide, flush_wide_word}
 use Rattle.tbr_lines.proofs.MappedRuns.{ends_run-map}
 use Rattle.tbr_renderer.specs.Renderer.{KeepsSettings, settings_of, Open, Renderer, has_content, with_line, block_width, may_overflow}
 use Rattle.tbr_renderer.specs.Meant.{tag_meant, items_meant, map_open, meant}
@@ -113,17 +111,6 @@ module _ {D A M : Type 0} (f : A → M) (columns : ℕ → Option ℕ) (one : co
         ap (left columns) behind_is ∙ left_taken columns (flushed columns b) ∙ left_flushed columns b
         ∙ ap (λ (ls : List (List (Item (Vec A)))). ls ++ drop b.handed (all_lines columns b)) fresh.ended ∙ ap (λ n. drop n (all_lines columns b)) fresh.handed
 
-    -- nothing is open then
-    pub nothing_open : has_no_character columns behind ≡ true
-    nothing_open =
-        let none : has_character (progress_of columns (flushed columns b)).word ≡ false = ap (λ (p : Progress (Vec A)). has_character p.word) (progress_flushed columns b) ∙ waiting_none columns b.width (progress_of columns b) in
-        ap (has_no_character columns) behind_is
-        ∙ ap (λ (p : Progress (Vec A)). not (has_character p.laid.line) && not (has_character p.word)) (progress_taken columns (flushed columns b) none ∙ ap (λ (p : Progress (Vec A)). record p { word = [] }) (progress_flushed columns b))
-
-    -- the markers that it hands out are those that wait
-    names_wait : loose columns after ≡ waiting_names columns b
-    names_wait = ap (loose columns) (flush_leaves columns b after e) ∙ loose_flushed columns b
-
     -- a flush where a block is open
     pub block_flushed : (waiting : List (List ℕ)) (s0 s1 s2 : Renderer D A (Vec A)) → s0 ≡ record r { block = None } →
         meant f s1 ≡ fold (with_line columns) (meant f s0) (map (line_meant columns f behind) (left columns behind)) → waiting ≡ loose columns after → s2 ≡ record s1 { waiting = s1.waiting ++ waiting } → Flushes columns (meant f r) (meant f s2)
@@ -145,7 +132,7 @@ module _ {D A M : Type 0} (f : A → M) (columns : ℕ → Option ℕ) (one : co
               (subst (λ (w : ℕ). RunFits columns w (may_overflow r) run) fresh.width_is (subst (λ (o : Bool). RunFits columns b.width o run) fresh.may_overflow fits));
           ends = ends_run-map g columns (block_width r) (may_overflow r) run all names
               (subst (λ (w : ℕ). EndsRun columns w (may_overflow r) run all names) fresh.width_is (subst (λ (o : Bool). EndsRun columns b.width o run all names) fresh.may_overflow (flush_ends columns one b fresh.sound.wide after e)));
-          is = ap (meant f) waits ∙ ap (λ ns. record (meant f s1) { waiting = s1.waiting ++ ns }) (names_are ∙ names_wait) ∙ ap (λ (m : Renderer D M (List M)). record m { waiting = m.waiting ++ names }) after_lines;
+          is = ap (meant f) waits ∙ ap (λ ns. record (meant f s1) { waiting = s1.waiting ++ ns }) (names_are ∙ waiting_loose columns b after e) ∙ ap (λ (m : Renderer D M (List M)). record m { waiting = m.waiting ++ names }) after_lines;
         } in
         subst (λ (o : Option (Open (Vec A))). FlushesBlock columns (meant f r) (option_map (map_open g) o) (meant f s2)) seen ended
 

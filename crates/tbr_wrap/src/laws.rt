@@ -3,7 +3,7 @@ ghost use Rattle.std.specs.Prelude.{◌≡◌, ◌↔◌, ℕ, ◌<◌, ◌≤�
 ghost use Rattle.std.specs.Option.{option_map};
 ghost use Rattle.std.specs.List.{AllZip};
 ghost use Rattle.tbr_model.specs.declared.white_space.WhiteSpace.{WhiteSpace};
-ghost use Rattle.tbr_model.specs.Run.{Item, Entry, trailing};
+ghost use Rattle.tbr_model.specs.Run.{Item, Entry, marker_entry, trailing};
 ghost use Rattle.tbr_model.specs.Mapped.{map_items, map_lines, map_run};
 ghost use Rattle.tbr_model.specs.Hard.{is_visible};
 ghost use Rattle.tbr_model.specs.Layout.{slots_of, joined, HasLegalLines};
@@ -58,6 +58,21 @@ pub fn blocks_stay_sound<T>()
         after_flush columns s ≡ done t → IsSound columns t }
     ensures line { (columns : ℕ → Option ℕ) (s t : Block T) → IsSound columns s →
         after_line columns s ≡ done t → IsSound columns t }
+{}
+
+/// A flush leaves nothing open: open line and word hold no character, and take no columns. The run that begins is the
+/// markers that wait, which are loose, and nothing is open where these are taken out.
+pub fn flushes_leave_nothing_open<T>()
+    ensures character { (columns : ℕ → Option ℕ) (s t : Block T) → after_flush columns s ≡ done t →
+        has_no_character columns t ≡ true }
+    ensures columns { (columns : ℕ → Option ℕ) (s t : Block T) → after_flush columns s ≡ done t →
+        takes_no_columns columns t ≡ true }
+    ensures run { (columns : ℕ → Option ℕ) (s t : Block T) → after_flush columns s ≡ done t →
+        run_of t.events ≡ map marker_entry (waiting_names columns s) }
+    ensures loose { (columns : ℕ → Option ℕ) (s t : Block T) → after_flush columns s ≡ done t →
+        loose columns t ≡ waiting_names columns s }
+    ensures markers_taken { (columns : ℕ → Option ℕ) (s t u : Block T) → after_flush columns s ≡ done t →
+        after_taking columns t ≡ done u → has_no_character columns u ≡ true }
 {}
 
 /// A flush leaves of a run the lines and the markers that `EndsRun` promises, field by field.

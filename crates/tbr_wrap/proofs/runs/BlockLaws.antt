@@ -11,7 +11,7 @@ use Rattle.tbr_model.specs.Hard.{is_visible}
 use Rattle.tbr_model.specs.Laid.{Laid, end_if_character}
 use Rattle.tbr_model.specs.Layout.{joined, slots_of, HasLegalLines}
 use Rattle.tbr_model.specs.Shown.{without_spaces, run_shows_columns}
-use Rattle.tbr_model.specs.Rule.{Event, entry, run_of, Progress, step, finished, waiting}
+use Rattle.tbr_model.specs.Rule.{Event, entry, run_of, Progress, at_start, finished, waiting}
 use Rattle.tbr_model.specs.Fits.{lines_fit}
 use Rattle.tbr_model.proofs.words.KeptItems.{narrow_if_legal, each_words_narrow}
 use Rattle.tbr_model.proofs.words.Items.{items_width-append, no_character_no_width}
@@ -51,6 +51,10 @@ last_of_two xs ys = drop_at xs ys (length (xs ++ ys) - length ys) (omega (arith,
 pub entries_run : {A : Type 0} (es : List (Entry A)) → run_of (map entry es) ≡ es
 entries_run [] = refl
 entries_run {A} (e ∷ es) = ap (λ (fs : List (Entry A)). e ∷ fs) (entries_run es)
+
+markers_run_alone : {A : Type 0} (names : List (List ℕ)) → run_of (map (λ n. let e : Event A = entry (marker_entry n) in e) names) ≡ map marker_entry names
+markers_run_alone [] = refl
+markers_run_alone {A} (name ∷ names) = ap (λ (es : List (Entry A)). marker_entry name ∷ es) (markers_run_alone names)
 
 -- A line that was handed out is the first that was left.
 pub record HandsOne {A : Type 0} (columns : ℕ → Option ℕ) (eq : A → A → Bool) (s : Block A) (line : List (Element A)) (t : Block A) : Type 0 where
@@ -137,13 +141,6 @@ module _ {A : Type 0} (columns : ℕ → Option ℕ) where
 
   pub left_flushed : (s : Block A) → left columns (flushed columns s) ≡ s.ended ++ drop s.handed (all_lines columns s)
   left_flushed s = ap (λ ls. (flushed columns s).ended ++ drop 0 ls) (none_flushed s) ∙ append-nil (flushed columns s).ended
-
-  -- the markers that wait are loose then
-  pub loose_flushed : (s : Block A) → loose columns (flushed columns s) ≡ waiting_names columns s
-  loose_flushed s =
-      let left : List (Item A) = waiting columns s.width (progress_of columns s) in
-      let none : has_character left ≡ false = waiting_none columns s.width (progress_of columns s) in
-      ap (λ (p : Progress A). loose_names p.word) (progress_flushed columns s) ∙ rw none refl
 
   -- the lines that the end of the run adds come after those that are left
   pub left_ended : (s : Block A) → s.handed ≤ length (lines columns s) → (more : List (List (Item A))) × (all_lines columns s ≡ lines columns s ++ more) × (left columns (flushed columns s) ≡ left columns s ++ more)
@@ -311,6 +308,31 @@ module _ {A : Type 0} (columns : ℕ → Option ℕ) where
   -- after it nothing of the run under way has ended
   pub left_of_flushed : (s t : Block A) → after_flush columns s ≡ done t → left columns t ≡ t.ended
   left_of_flushed s t e = subst (λ (q : Block A). left columns q ≡ q.ended) (flush_made s t e).1 (left_flushed s)
+
+  -- and nothing is open
+  module _ (s t : Block A) (e : after_flush columns s ≡ done t) where
+    after_is : progress_of columns t ≡ record at_start { word = waiting columns s.width (p s) }
+    after_is = ap (progress_of columns) (flush_leaves s t e) ∙ progress_flushed columns s
+
+    pub none_open : has_no_character columns t ≡ true
+    none_open = ap (λ (q : Progress A). not (has_character q.laid.line) && not (has_character q.word)) after_is ∙ ap not (waiting_none columns s.width (p s))
+
+    pub no_columns_open : takes_no_columns columns t ≡ true
+    no_columns_open =
+        ap (λ (q : Progress A). (q.laid.width == 0) && (items_width columns q.word == 0)) after_is
+        ∙ ap (λ n. n == 0) (no_character_no_width columns _ (waiting_none columns s.width (p s)))
+
+    pub run_waits : run_of t.events ≡ map marker_entry (waiting_names columns s)
+    run_waits = ap (λ (q : Block A). run_of q.events) (flush_leaves s t e) ∙ markers_run_alone (waiting_names columns s)
+
+    pub waiting_loose : loose columns t ≡ waiting_names columns s
+    waiting_loose = ap (λ (q : Progress A). loose_names q.word) after_is ∙ (let none = waiting_none columns s.width (p s) in rw none refl)
+
+    pub none_open_taken : (u : Block A) → after_taking columns t ≡ done u → has_no_character columns u ≡ true
+    none_open_taken u taken =
+        let none : has_character (p t).word ≡ false = ap (λ (q : Progress A). has_character q.word) after_is ∙ waiting_none columns s.width (p s) in
+        ap (has_no_character columns) (taking_leaves t u taken)
+        ∙ ap (λ (q : Progress A). not (has_character q.laid.line) && not (has_character q.word)) (progress_taken columns t none ∙ ap (λ (q : Progress A). record q { word = [] }) after_is)
 
   -- ---- a text
 
