@@ -12,7 +12,7 @@ use Rattle.tbr_model.proofs.lists.Each.{each_append}
 
 -- ---- a kept character of positive width, and the width of kept items
 
-lt-zero-add : (a b : ℕ) → nat_lt 0 (a + b) ≡ nat_lt 0 a || nat_lt 0 b
+pub lt-zero-add : (a b : ℕ) → nat_lt 0 (a + b) ≡ nat_lt 0 a || nat_lt 0 b
 lt-zero-add zero b = ap (nat_lt 0) (let e : 0 + b ≡ b = omega arith in e)
 lt-zero-add (suc a) b = rw (lt-ltb 0 (suc a + b) (omega arith), lt-ltb 0 (suc a) (omega arith)) refl
 

@@ -1,11 +1,11 @@
 -- What follows from the outcomes of a block's calls.
-use Rattle.std.proofs.Common.{◌≡◌, ◌↔◌, ℕ, ◌-◌, ◌<◌, ◌≤◌, ◌==◌, not, ◌&&◌, ◌||◌, ◌⊎◌, Bool, true, false, IsTrue, Option, None, Some, IfSome, List, [], ◌∷◌, ◌++◌, drop, length, map, refl, ap, sym, ◌∙◌, subst, arith, append_assoc, append-nil, length-append, lt-ltb, inl, inr, if◌then◌else◌}
+use Rattle.std.proofs.Common.{◌≡◌, ℕ, ◌-◌, ◌<◌, ◌≤◌, ◌==◌, not, ◌&&◌, ◌||◌, ◌⊎◌, Bool, true, false, Option, None, Some, IfSome, List, [], ◌∷◌, ◌++◌, drop, length, map, refl, ap, sym, ◌∙◌, subst, arith, append_assoc, append-nil, length-append, lt-ltb, inl, inr, if◌then◌else◌}
 use Rattle.std.proofs.Math.ListN.{drop_of_length-le}
 use Rattle.std.proofs.lemmas.List.{drop-append-le, drop_at}
-use Rattle.std.proofs.lemmas.Bool.{and_parts, and_left, and_right, cases_lt, cond_both, eqb-true, ne_eqb, not-true}
+use Rattle.std.proofs.lemmas.Bool.{and_parts, and_left, and_right, or_right, cases_lt, cond_both, eqb-true, ne_eqb, not-true}
 use Rattle.std.specs.List.{AllByRecursion as Each}
 use Rattle.tbr_model.specs.declared.white_space.WhiteSpace.{WhiteSpace}
-use Rattle.tbr_model.specs.Run.{Item, glyph, marker, Entry, marker_entry, items_width, kept_items, has_character, reading, trailing}
+use Rattle.tbr_model.specs.Run.{Item, glyph, marker, Entry, marker_entry, items_width, has_character, reading, trailing}
 use Rattle.tbr_model.specs.Markers.{names_in_items, names_in_run, marker_items, names_behind, last}
 use Rattle.tbr_model.specs.Hard.{is_visible}
 use Rattle.tbr_model.specs.Laid.{Laid, end_if_character}
@@ -40,10 +40,6 @@ use Rattle.tbr_wrap.proofs.runs.FittingLines.{fitting_lines}
 use Rattle.tbr_wrap.proofs.runs.LinesLeft.{some_count}
 use Rattle.tbr_wrap.proofs.runs.Blocks.{steps_add, progress_grown, progress_flushed, progress_taken, none_taken, allowed_each, fit_allows, if_allowed, if_not_allowed}
 use Rattle.tbr_wrap.proofs.runs.RuleWidths.{run_fits, end_fits, normal_run_fits, normal_end_fits}
-
-or_right : (x y : Bool) → y ≡ true → x || y ≡ true
-or_right true y e = refl
-or_right false y e = e
 
 last_of_two : {X : Type 0} (xs ys : List X) → last (length ys) (xs ++ ys) ≡ ys
 last_of_two xs ys = drop_at xs ys (length (xs ++ ys) - length ys) (omega (arith, length-append xs ys))

@@ -1,5 +1,5 @@
 -- What the fields of a block hold, and what each change leaves of that.
-use Rattle.std.proofs.Common.{◌≡◌, ℕ, zero, suc, ◌+◌, ◌<◌, not, ◌&&◌, ◌||◌, Bool, true, false, Option, List, [], ◌∷◌, ◌++◌, fold, map, length, take, drop, refl, ap, sym, ◌∙◌, subst, arith, append_assoc, length-append, lt-ltb, nat_lt}
+use Rattle.std.proofs.Common.{◌≡◌, ℕ, zero, suc, ◌+◌, ◌<◌, ◌||◌, Bool, true, false, Option, List, [], ◌∷◌, ◌++◌, fold, map, length, take, drop, refl, ap, sym, ◌∙◌, subst, arith, append_assoc, length-append, lt-ltb, nat_lt}
 use Rattle.std.proofs.Math.Bool.{or_assoc, or-false, or-true}
 use Rattle.std.proofs.lemmas.List.{take_at, drop_at, length-take-le, length-map}
 use Rattle.std.proofs.lemmas.List.Elements.{length_all_zip}
@@ -11,6 +11,7 @@ use Rattle.tbr_model.specs.Laid.{Laid}
 use Rattle.tbr_model.specs.Layout.{joined}
 use Rattle.tbr_model.specs.Rule.{Event, Progress, at_start, step, finished, waiting}
 use Rattle.tbr_model.proofs.rule.DoneLines.{finished_adds}
+use Rattle.tbr_model.proofs.words.Regions.{lt-zero-add}
 use Rattle.tbr_tagged.specs.Elements.{SameItems}
 use Rattle.tbr_tagged.proofs.SameItems.{all_zip_append, same_has}
 use Rattle.tbr_wrap.specs.Runs.{is_some_list}
@@ -26,15 +27,11 @@ use Rattle.tbr_wrap.proofs.runs.Blocks.{steps_add, progress_grown, progress_take
 
 -- ---- whether there are lines
 
-more_some : (n m : ℕ) → nat_lt 0 (n + m) ≡ nat_lt 0 n || nat_lt 0 m
-more_some zero m = ap (nat_lt 0) (omega arith)
-more_some (suc n) m = lt-ltb 0 (suc n + m) (omega arith) ∙ ap (λ b. b || nat_lt 0 m) (sym (lt-ltb 0 (suc n) (omega arith)))
-
 -- as many lines come to both
 begun_lists : {X Y : Type 0} (f g : Bool) (xs xs' : List X) (ys ys' : List Y) (n : ℕ) → length xs' ≡ length xs + n → length ys' ≡ length ys + n → f || is_some_list xs ≡ g || is_some_list ys →
     f || is_some_list xs' ≡ g || is_some_list ys'
 begun_lists f g xs xs' ys ys' n more_x more_y h =
-    let with_more : (b : Bool) (k : ℕ) → b || nat_lt 0 (k + n) ≡ (b || nat_lt 0 k) || nat_lt 0 n = λ b k. ap (λ c. b || c) (more_some k n) ∙ sym (or_assoc b (nat_lt 0 k) (nat_lt 0 n)) in
+    let with_more : (b : Bool) (k : ℕ) → b || nat_lt 0 (k + n) ≡ (b || nat_lt 0 k) || nat_lt 0 n = λ b k. ap (λ c. b || c) (lt-zero-add k n) ∙ sym (or_assoc b (nat_lt 0 k) (nat_lt 0 n)) in
     ap (λ b. f || b) (some_count xs' ∙ ap (nat_lt 0) more_x) ∙ with_more f (length xs)
     ∙ ap (λ b. b || nat_lt 0 n) (ap (λ b. f || b) (sym (some_count xs)) ∙ h ∙ ap (λ b. g || b) (some_count ys))
     ∙ sym (ap (λ b. g || b) (some_count ys' ∙ ap (nat_lt 0) more_y) ∙ with_more g (length ys))

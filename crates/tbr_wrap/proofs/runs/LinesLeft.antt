@@ -1,17 +1,15 @@
 -- Lines that are handed out one by one.
-use Rattle.std.proofs.Common.{◌≡◌, ℕ, zero, suc, ◌+◌, ◌-◌, ◌<◌, nat_lt, lt-ltb, Option, None, Some, Result, Ok, IfOk, Bool, List, [], ◌∷◌, ◌++◌, take, drop, length, refl, ap, sym, ◌∙◌, subst, arith, add-one}
+use Rattle.std.proofs.Common.{◌≡◌, ℕ, zero, suc, ◌+◌, ◌-◌, nat_lt, lt-ltb, Option, None, Some, Bool, List, [], ◌∷◌, ◌++◌, take, drop, length, refl, ap, sym, ◌∙◌, arith, add-one}
 use Rattle.std.proofs.lemmas.List.{drop-drop, take-append-drop}
 use Rattle.std.proofs.lemmas.Bool.{cond_both}
 use Rattle.tbr_model.specs.Run.{Item}
-use Rattle.tbr_model.specs.Rule.{Event}
 use Rattle.std.specs.Cmp.{IsEquivalence}
 use Rattle.tbr_tagged.specs.Elements.{Element, items_of, text_items, SameItems, IsMerged}
 use Rattle.tbr_tagged.specs.Padding.{spaces}
-use Rattle.tbr_tagged.specs.declared.error.Error.{Error}
 use Rattle.tbr_tagged.proofs.SameItems.{same_items_trans, same_items_append, same_from_path, same_width}
 use Rattle.tbr_wrap.specs.Wrapped.{ShowsText, padding_of}
 use Rattle.tbr_wrap.specs.Runs.{is_some_list}
-use Rattle.tbr_wrap.specs.Block.{Block, Settings, settings_of, lines, left, line_handed_out, lines_handed_out}
+use Rattle.tbr_wrap.specs.Block.{Block, settings_of, lines, left, line_handed_out, lines_handed_out}
 
 pub some_count : {X : Type 0} (xs : List X) → is_some_list xs ≡ nat_lt 0 (length xs)
 some_count [] = refl
@@ -88,7 +86,3 @@ first_of (x ∷ xs) h = (x, xs, refl)
 pub none_of : {X : Type 0} (xs : List X) → ((x : X) (rest : List X) → xs ≡ x ∷ rest → ⊥) → xs ≡ []
 none_of [] h = refl
 none_of (x ∷ xs) h = absurd (h x xs refl)
-
--- what a call ensures of its value, where it is known
-pub ok_of : {X E : Type 0} (r : Result X E) (x : X) (P : X → Type 0) → r ≡ Ok x → IfOk r P → P x
-ok_of r x P e h = subst (λ s. IfOk s P) e h

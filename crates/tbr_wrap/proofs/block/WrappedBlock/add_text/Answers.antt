@@ -1,4 +1,4 @@
-use Rattle.std.proofs.Common.{◌<◌, [], refl, ap, ◌∙◌, sym}
+use Rattle.std.proofs.Common.{[], refl, ap, ◌∙◌, sym}
 use Rattle.tbr_tagged.proofs.Outcomes.{answers_ok}
 use Rattle.tbr_wrap.specs.Block.{Block, settings_of}
 use Rattle.tbr_wrap.proofs.runs.Blocks.{grown_on, text_done}

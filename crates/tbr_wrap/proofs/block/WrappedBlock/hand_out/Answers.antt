@@ -1,4 +1,4 @@
-use Rattle.std.proofs.Common.{◌≡◌, Some, None, [], ◌∷◌, ◌++◌, drop, length, ap, ◌∙◌, sym, refl, subst, arith, append_assoc, append-nil}
+use Rattle.std.proofs.Common.{◌≡◌, [], ◌∷◌, ◌++◌, drop, length, ap, ◌∙◌, sym, refl, subst, arith, append_assoc, append-nil}
 use Rattle.tbr_wrap.specs.Block.{Block, Settings, left, HandsOutFirst}
 use Rattle.tbr_wrap.specs.Wrapped.{ShowsText}
 use Rattle.tbr_wrap.proofs.runs.LinesLeft.{handed_failure, handed_settings, left_after}

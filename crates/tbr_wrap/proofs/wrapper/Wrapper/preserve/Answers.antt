@@ -3,7 +3,8 @@ use Rattle.std.proofs.lemmas.Result.{err_from_is_err_and}
 use Rattle.tbr_model.specs.Rule.{tag_of, flush_word, tab}
 use Rattle.tbr_wrap.specs.Wrapper.{IsAtProgress}
 use Rattle.tbr_tagged.specs.declared.error.Error.TheVariants as E
-use Rattle.tbr_wrap.proofs.words.ModeCases.{preserve_newline, preserve_tab, preserve_space, preserve_kept, preserve_none, none_of}
+use Rattle.tbr_wrap.proofs.words.ModeCases.{preserve_newline, preserve_tab, preserve_space, preserve_kept, preserve_none}
+use Rattle.tbr_wrap.proofs.runs.LinesLeft.{unfailed}
 use Rattle.tbr_model.proofs.rule.WiderLines.{unfit_newline, unfit_tab}
 use Rattle.tbr_wrap.proofs.wrapper.Wrapper.preserve.Goals as goal
 
@@ -42,7 +43,7 @@ returns-then-c-eq9-clause-preserved g c = λ before given p s.
 pub returns-in_default-clause-preserved : goal.returns-in_default-clause-preserved
 returns-in_default-clause-preserved g c = λ before given p s.
     let columns = g.W.CharWidth.columns in
-    rw (preserve_none columns c.args.self.now.lines.width c.args.c c.args.main_tag.now c.args.wrap_tag.now c.args.mode p c.if-c-eq-ZERO_WIDTH_SPACE.false c.if-c-eq10.false c.if-c-eq9.false (sym c.width.ensures ∙ none_of c.width.result c.in_default.not-Some)) s
+    rw (preserve_none columns c.args.self.now.lines.width c.args.c c.args.main_tag.now c.args.wrap_tag.now c.args.mode p c.if-c-eq-ZERO_WIDTH_SPACE.false c.if-c-eq10.false c.if-c-eq9.false (sym c.width.ensures ∙ unfailed c.width.result c.in_default.not-Some)) s
 
 pub returns-then-always_takes_space-clause-preserved : goal.returns-then-always_takes_space-clause-preserved
 returns-then-always_takes_space-clause-preserved g c = λ before given p s.
