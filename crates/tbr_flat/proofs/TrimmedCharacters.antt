@@ -85,9 +85,6 @@ module _ {A : Type 0} where
     abbrev left : List A
     left = take (length ts - (k + n)) ts ++ drop (length ts - k) ts
 
-    left_len : k + n ≤ length ts → length left ≡ length ts - n
-    left_len enough = omega (arith, enough, length-append (take (length ts - (k + n)) ts) (drop (length ts - k) ts), length-take (length ts - (k + n)) ts, length-drop (length ts - k) ts)
-
     -- the placed characters lose spaces at their end
     module _ (q : List ℕ) (e : p ≡ q ++ replicate n 32) (count : k ≡ length w) where
       pub spaces_len : length p ≡ length q + n

@@ -16,7 +16,7 @@ use Rattle.tbr_lines.specs.Outcome.{done, refused}
 use Rattle.tbr_lines.specs.Runs.{EndsRun}
 use Rattle.tbr_lines.specs.Wrapped.{padding_of}
 use Rattle.tbr_lines.specs.declared.Error.TheVariants as E
-use Rattle.tbr_lines.proofs.LinesLeft.{handed_failure, handed_settings, left_after}
+use Rattle.tbr_lines.proofs.LinesLeft.{handed_keeps, left_after}
 use Rattle.tbr_lines.proofs.BlockLaws.{HandsOne, flush_leaves, taking_leaves, left_taken, left_flushed, waiting_loose, flush_none, flush_ends, flush_words_fit, flush_visible_fit, flush_never, flush_wide, flush_wide_word}
 use Rattle.tbr_lines.proofs.MappedRuns.{ends_run-map}
 use Rattle.tbr_renderer.specs.Renderer.{KeepsSettings, settings_of, Open, Renderer, has_content, with_line, block_width, may_overflow}
@@ -52,9 +52,9 @@ module _ {D A M : Type 0} (eq : A → A → Bool) (f : A → M) (agree : (v w : 
       let last : left columns new ≡ one.rest = ap (left columns) one.leaves ∙ left_after old columns ∙ ap (drop 1) one.left_is in
       record {
         unfailed = ap (λ (m : Renderer D M (List M)). m.failure) added ∙ h.unfailed;
-        live = ap (λ (b : Block (Vec A)). b.failure) one.leaves ∙ handed_failure old ∙ h.live;
-        padding = ap (λ (b : Block (Vec A)). b.padding) one.leaves ∙ ap (λ (k : Settings (Vec A)). k.padding) (handed_settings old) ∙ h.padding;
-        width = ap (λ (b : Block (Vec A)). b.width) one.leaves ∙ ap (λ (k : Settings (Vec A)). k.width) (handed_settings old) ∙ h.width;
+        live = ap (λ (b : Block (Vec A)). b.failure) one.leaves ∙ (handed_keeps old).0 ∙ h.live;
+        padding = ap (λ (b : Block (Vec A)). b.padding) one.leaves ∙ ap (λ (k : Settings (Vec A)). k.padding) (handed_keeps old).1 ∙ h.padding;
+        width = ap (λ (b : Block (Vec A)). b.width) one.leaves ∙ ap (λ (k : Settings (Vec A)). k.width) (handed_keeps old).1 ∙ h.width;
         given = h.given ++ one.text ∷ [];
         settings = ap settings_of added ∙ h.settings;
         parts = h.parts ∙ ap (λ ls. h.given ++ ls) one.left_is ∙ ap (λ ls. h.given ++ one.text ∷ ls) (sym last) ∙ sym (append_assoc h.given (one.text ∷ []) (left columns new));

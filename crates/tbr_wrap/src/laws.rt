@@ -3,11 +3,11 @@ ghost use Rattle.std.specs.Prelude.{◌≡◌, ◌↔◌, ℕ, ◌<◌, ◌≤�
 ghost use Rattle.std.specs.Option.{option_map};
 ghost use Rattle.std.specs.List.{AllZip};
 ghost use Rattle.tbr_model.specs.declared.white_space.WhiteSpace.{WhiteSpace};
-ghost use Rattle.tbr_model.specs.Run.{Item, Entry, marker_entry, trailing};
+ghost use Rattle.tbr_model.specs.Run.{Item, Entry, trailing};
 ghost use Rattle.tbr_model.specs.Mapped.{map_items, map_lines, map_run};
 ghost use Rattle.tbr_model.specs.Hard.{is_visible};
 ghost use Rattle.tbr_model.specs.Layout.{slots_of, joined, HasLegalLines};
-ghost use Rattle.tbr_model.specs.Markers.{names_in_items, names_in_run, names_behind, last};
+ghost use Rattle.tbr_model.specs.Markers.{names_in_items, names_in_run, marker_run, names_behind, last};
 ghost use Rattle.tbr_model.specs.Rule.{run_of, waiting};
 ghost use Rattle.tbr_model.specs.Run.{kept_items};
 ghost use Rattle.tbr_model.specs.Shown.{without_spaces, run_shows_columns};
@@ -68,7 +68,7 @@ pub fn flushes_leave_nothing_open<T>()
     ensures columns { (columns : ℕ → Option ℕ) (s t : Block T) → after_flush columns s ≡ done t →
         takes_no_columns columns t ≡ true }
     ensures run { (columns : ℕ → Option ℕ) (s t : Block T) → after_flush columns s ≡ done t →
-        run_of t.events ≡ map marker_entry (waiting_names columns s) }
+        run_of t.events ≡ marker_run (waiting_names columns s) }
     ensures loose { (columns : ℕ → Option ℕ) (s t : Block T) → after_flush columns s ≡ done t →
         loose columns t ≡ waiting_names columns s }
     ensures markers_taken { (columns : ℕ → Option ℕ) (s t u : Block T) → after_flush columns s ≡ done t →

@@ -1,12 +1,11 @@
 -- The word under way holds no item wider than a line, where none of the run is.
-use Rattle.std.proofs.Common.{ℕ, ◌≤◌, Option, Some, None, List, [], ◌∷◌, arith}
-use Rattle.std.specs.List.{AllByRecursion as Each}
+use Rattle.std.proofs.Common.{ℕ, ◌≤◌, Option, Some, None, [], ◌∷◌, arith}
 use Rattle.tbr_model.specs.Run.{Item, glyph, marker, item_width}
 use Rattle.tbr_model.specs.Greedy.{IsNarrow}
-use Rattle.tbr_model.specs.Rule.{Event, run_of, Progress, Space, wrap_space, break_word, progress}
+use Rattle.tbr_model.specs.Rule.{Progress, Space, wrap_space, break_word}
 use Rattle.tbr_model.specs.Hard.{IsNarrowEntry}
 use Rattle.tbr_model.proofs.lists.Each.{each_append}
-use Rattle.tbr_model.proofs.rule.Walk.{KeptByRule, Waits, Stands, wrapped, word_broken, run_walked}
+use Rattle.tbr_model.proofs.rule.Walk.{KeptByRule, Waits, Stands, wrapped, word_broken}
 
 module _ {A : Type 0} (columns : ℕ → Option ℕ) (width : ℕ) where
   -- the word holds no item wider than a line
@@ -41,6 +40,3 @@ module _ {A : Type 0} (columns : ℕ → Option ℕ) (width : ℕ) where
 
   pub narrow_break : (p : Progress A) → HasNarrowWord p → HasNarrowWord (break_word columns width p)
   narrow_break p h = (word_broken narrow_word [] p (narrow p h)).laid
-
-  pub word_from_run : (es : List (Event A)) → Each (IsNarrowEntry columns width) (run_of es) → HasNarrowWord (progress columns width es)
-  word_from_run es n = (run_walked narrow_word es tt n).laid

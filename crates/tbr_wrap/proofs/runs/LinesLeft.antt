@@ -17,14 +17,8 @@ some_count (x ∷ xs) = sym (lt-ltb 0 (length (x ∷ xs)) (omega arith))
 
 -- what a line that is handed out leaves
 module _ {A : Type 0} (s : Block A) where
-  pub handed_failure : (line_handed_out s).failure ≡ s.failure
-  handed_failure = cond_both (is_some_list s.ended) _ _ (λ (t : Block A). t.failure ≡ s.failure) (λ _. refl) (λ _. refl)
-
-  pub handed_settings : settings_of (line_handed_out s) ≡ settings_of s
-  handed_settings = cond_both (is_some_list s.ended) _ _ (λ (t : Block A). settings_of t ≡ settings_of s) (λ _. refl) (λ _. refl)
-
-  handed_events : (line_handed_out s).events ≡ s.events
-  handed_events = cond_both (is_some_list s.ended) _ _ (λ (t : Block A). t.events ≡ s.events) (λ _. refl) (λ _. refl)
+  pub handed_keeps : ((line_handed_out s).failure ≡ s.failure) × (settings_of (line_handed_out s) ≡ settings_of s) × ((line_handed_out s).events ≡ s.events)
+  handed_keeps = cond_both (is_some_list s.ended) _ _ (λ (t : Block A). (t.failure ≡ s.failure) × (settings_of t ≡ settings_of s) × (t.events ≡ s.events)) (λ _. (refl, refl, refl)) (λ _. (refl, refl, refl))
 
   pub left_after : (columns : ℕ → Option ℕ) → left columns (line_handed_out s) ≡ drop 1 (left columns s)
   left_after columns = go s.ended refl
@@ -35,17 +29,9 @@ module _ {A : Type 0} (s : Block A) where
 
 -- and many
 module _ {A : Type 0} where
-  pub many_failure : (n : ℕ) (s : Block A) → (lines_handed_out n s).failure ≡ s.failure
-  many_failure zero s = refl
-  many_failure (suc n) s = many_failure n (line_handed_out s) ∙ handed_failure s
-
-  pub many_settings : (n : ℕ) (s : Block A) → settings_of (lines_handed_out n s) ≡ settings_of s
-  many_settings zero s = refl
-  many_settings (suc n) s = many_settings n (line_handed_out s) ∙ handed_settings s
-
-  pub many_events : (n : ℕ) (s : Block A) → (lines_handed_out n s).events ≡ s.events
-  many_events zero s = refl
-  many_events (suc n) s = many_events n (line_handed_out s) ∙ handed_events s
+  pub many_keep : (n : ℕ) (s : Block A) → ((lines_handed_out n s).failure ≡ s.failure) × (settings_of (lines_handed_out n s) ≡ settings_of s) × ((lines_handed_out n s).events ≡ s.events)
+  many_keep zero s = (refl, refl, refl)
+  many_keep (suc n) s = let one = handed_keeps s in let more = many_keep n (line_handed_out s) in (more.0 ∙ one.0, more.1 ∙ one.1, more.2 ∙ one.2)
 
   pub many_left : (columns : ℕ → Option ℕ) (n : ℕ) (s : Block A) → left columns (lines_handed_out n s) ≡ drop n (left columns s)
   many_left columns zero s = refl

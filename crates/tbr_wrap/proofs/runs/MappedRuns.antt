@@ -7,7 +7,7 @@ use Rattle.tbr_model.specs.Run.{Entry, character, marker_entry, Item, glyph, mar
 use Rattle.tbr_model.specs.Layout.{slots_of, line_text, joined}
 use Rattle.tbr_model.specs.Rule.{is_space_item}
 use Rattle.tbr_model.specs.Markers.{names_in_items, names_in_run, marker_items, marked_behind}
-use Rattle.tbr_model.specs.Hard.{HasMode, Preserves, hard_lines, HasMain, HasContinuation, entry_letters, is_visible, glyphs_of, visible_glyphs, visible_entries}
+use Rattle.tbr_model.specs.Hard.{HasMode, Preserves, hard_lines, HasMain, HasContinuation, is_visible, glyphs_of, visible_glyphs, visible_entries}
 use Rattle.tbr_model.specs.Shown.{without_spaces, ComesFrom, ComesWithRun, is_visible_or_marker, is_entry_to_show, ShowsEntry, ShowsInOrder, IsNotPre, StandsUnderOwn, ShowsOwn}
 use Rattle.tbr_model.specs.Mapped.{map_item, map_items, map_entry, map_run, map_layout, map_lines}
 use Rattle.tbr_model.proofs.lists.Each.{each_map, filter-map, zip-map}
@@ -34,9 +34,6 @@ module _ {A B : Type 0} (f : A → B) where
   not_pre_unmap [] h = tt
   not_pre_unmap (character c a b m ∷ es) h = (h.0, not_pre_unmap es h.1)
   not_pre_unmap (marker_entry name ∷ es) h = (tt, not_pre_unmap es h.1)
-
-  letters-map : (run : List (Entry A)) → entry_letters (map_run f run) ≡ entry_letters run
-  letters-map = entry_letters-map f
 
   names_in_run-map : (run : List (Entry A)) → names_in_run (map_run f run) ≡ names_in_run run
   names_in_run-map [] = refl
@@ -102,15 +99,9 @@ module _ {A B : Type 0} (f : A → B) where
     comes-map (glyph c x) (inr h) = inr (h.0, (map_entry f h.1.0, contains-map run h.1.0 h.1.1, has_map h.1.0 x h.1.2))
     comes-map (marker name) h = contains-map run (marker_entry name) h
 
-    all_come-map : (is : List (Item A)) → Each (ComesFrom columns (λ a b. a ≡ b) run) is → Each (ComesFrom columns (λ a b. a ≡ b) (map_run f run)) (map_items f is)
-    all_come-map = each_map (map_item f) (ComesFrom columns (λ a b. a ≡ b) run) (ComesFrom columns (λ a b. a ≡ b) (map_run f run)) comes-map
-
     comes_with-map : (i : Item A) → ComesWithRun (λ a b. a ≡ b) run i → ComesWithRun (λ a b. a ≡ b) (map_run f run) (map_item f i)
-    comes_with-map (glyph c x) h = ((map_entry f h.0.0, contains-map run h.0.0 h.0.1, has_map h.0.0 x h.0.2), rw (letters-map run) h.1)
+    comes_with-map (glyph c x) h = ((map_entry f h.0.0, contains-map run h.0.0 h.0.1, has_map h.0.0 x h.0.2), rw (entry_letters-map f run) h.1)
     comes_with-map (marker name) h = contains-map run (marker_entry name) h
-
-    all_come_with-map : (is : List (Item A)) → Each (ComesWithRun (λ a b. a ≡ b) run) is → Each (ComesWithRun (λ a b. a ≡ b) (map_run f run)) (map_items f is)
-    all_come_with-map = each_map (map_item f) (ComesWithRun (λ a b. a ≡ b) run) (ComesWithRun (λ a b. a ≡ b) (map_run f run)) comes_with-map
 
   -- ---- order and own annotations
 
@@ -179,13 +170,6 @@ module _ {A B : Type 0} (f : A → B) where
 
   -- ---- lines
 
-  fit-map : (columns : ℕ → Option ℕ) (width : ℕ) (may_overflow : Bool) (lines : List (List (Item A))) → Each (FitsBlock columns width may_overflow) lines → Each (FitsBlock columns width may_overflow) (map_lines f lines)
-  fit-map columns width may_overflow =
-      each_map (map_items f) (FitsBlock columns width may_overflow) (FitsBlock columns width may_overflow) (λ is h. rw (items_width-map f columns is, taking_columns-map columns is) h)
-
-  full-map : (lines : List (List (Item A))) → Each (λ is. has_character is ≡ true) lines → Each (λ is. has_character is ≡ true) (map_lines f lines)
-  full-map = each_map (map_items f) (λ is. has_character is ≡ true) (λ is. has_character is ≡ true) (λ is h. has_character-map f (λ c. None) is ∙ h)
-
   texts-map : (lines : List (List _)) → map line_text (map_layout f lines) ≡ map_lines f (map line_text lines)
   texts-map [] = refl
   texts-map (l ∷ ls) = let first = line_text-map f l in let rest = texts-map ls in cc
@@ -195,7 +179,7 @@ module _ {A B : Type 0} (f : A → B) where
     lines = map_layout f h.lines;
     best = rw (slots_of-map f columns width run) (best-map f width (slots_of columns width run) h.lines h.best);
     shown = ap (map_lines f) h.shown ∙ sym (texts-map h.lines);
-    full = full-map texts h.full;
+    full = each_map (map_items f) (λ is. has_character is ≡ true) (λ is. has_character is ≡ true) (λ is k. has_character-map f (λ c. None) is ∙ k) texts h.full;
   }
 
   shown_by-map : (columns : ℕ → Option ℕ) (width : ℕ) (may_overflow : Bool) (run : List (Entry A)) (texts : List (List (Item A))) →
@@ -219,9 +203,9 @@ module _ {A B : Type 0} (f : A → B) where
       let items : joined (map_lines f texts) ≡ map_items f (joined texts) = joined-map (map_item f) texts in
       record {
         shown = shown_by-map columns width may_overflow run texts h.shown;
-        fits = fit-map columns width may_overflow texts h.fits;
-        invents = rw items (all_come-map columns run (joined texts) h.invents);
-        come = rw items (all_come_with-map columns run (joined texts) h.come);
+        fits = each_map (map_items f) (FitsBlock columns width may_overflow) (FitsBlock columns width may_overflow) (λ is k. rw (items_width-map f columns is, taking_columns-map columns is) k) texts h.fits;
+        invents = rw items (each_map (map_item f) (ComesFrom columns (λ a b. a ≡ b) run) (ComesFrom columns (λ a b. a ≡ b) (map_run f run)) (comes-map columns run) (joined texts) h.invents);
+        come = rw items (each_map (map_item f) (ComesWithRun (λ a b. a ≡ b) run) (ComesWithRun (λ a b. a ≡ b) (map_run f run)) (comes_with-map columns run) (joined texts) h.come);
         order = in_order-map columns run texts names h.order;
         own = λ plain. own-map columns run texts (h.own (not_pre_unmap run plain));
         fitting = λ pre.
@@ -234,5 +218,5 @@ module _ {A B : Type 0} (f : A → B) where
         behind = rw (behind-map (is_visible columns) run []) h.behind;
         behind_kept = λ normal. rw (behind-map (is_kept columns) run []) (h.behind_kept (mode_unmap _ run normal));
         waits = λ narrow normal. rw (trailing-map f columns run) (sym (marker_items-map names) ∙ ap (map_items f) (h.waits narrow (mode_unmap _ run normal)));
-        alone = λ none. ap (map_lines f) (h.alone (sym (letters-map run) ∙ none));
+        alone = λ none. ap (map_lines f) (h.alone (sym (entry_letters-map f run) ∙ none));
       }

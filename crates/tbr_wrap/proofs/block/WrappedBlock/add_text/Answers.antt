@@ -20,5 +20,5 @@ loop-rest-preserved g c = record {
 pub returns : goal.returns
 returns g c =
     let grown = c.loop-rest.invariant.grown in
-    let done = text_done g.W.CharWidth.columns _ _ _ _ _ _ _ grown c.in_ok-refusal.ensures (sym c.is_empty.ensures ∙ c.loop-rest-test.false) c.loop-rest.invariant.allowed in
+    let done = text_done g.W.CharWidth.columns _ _ _ _ _ _ _ grown (sym c.is_empty.ensures ∙ c.loop-rest-test.false) c.loop-rest.invariant.allowed in
     record { answers = answers_ok _ _ _ _ tt _ c.in_ok-refusal.ensures done (ap settings_of grown.is) }
