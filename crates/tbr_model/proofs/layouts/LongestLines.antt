@@ -116,20 +116,16 @@ pub tells_first : {A : Type 0} (width : ℕ) (slots : List (Slot A)) (solved : L
 tells_first {A} width slots solved e = record {
   long = omega (arith, ap length e);
   at = λ k h. let none : drop (length slots - k) slots ≡ [] = drop_of_length-le slots (omega arith) in
-      let yes : slice_index_or solved k false ≡ true = ap (λ (l : List Bool). slice_index_or l k false) e ∙ ap (slice_index_or (true ∷ []) k) refl ∙ only k h in
+      let yes : slice_index_or solved k false ≡ true = ap (λ (l : List Bool). slice_index_or l k false) e ∙ (let first : k ≡ 0 = omega arith in ap (λ (i : ℕ). slice_index_or (true ∷ []) i false) first) in
       (λ _. subst (HasLegalLayout width) (sym none) (has_cuts width [] [] (record { whole = refl; each = tt })), λ _. yes);
 }
-  where
-    only : (k : ℕ) → k < 1 → slice_index_or (true ∷ []) k false ≡ true
-    only zero h = refl
-    only (suc k) h = absurd (omega arith)
 
 pub tells_more : {A : Type 0} (width : ℕ) (slots : List (Slot A)) (n : ℕ) (solved : List Bool) (b : Bool) → TellsRests width slots n solved → length solved ≡ n →
     (IsTrue b ↔ HasLegalLayout width (drop (length slots - n) slots)) → TellsRests width slots (n + 1) (solved ++ b ∷ [])
 tells_more {A} width slots n solved b h long new = record {
   long = omega (arith, length-append solved (b ∷ []));
   at = λ k p. elim (cases_lt k n) [
-    | inl below ↦ rw (get_or_append_left solved (b ∷ []) k false (omega arith)) (h.at k below)
+    | inl below ↦ rw (get_or_append_left solved (b ∷ []) false k (omega arith)) (h.at k below)
     | inr here ↦ let same : k ≡ n = omega arith in rw (get_or_push solved b false k (omega arith), same) new
   ];
 }
