@@ -36,7 +36,7 @@ begun_lists f g xs xs' ys ys' n more_x more_y h =
     ∙ ap (λ b. b || nat_lt 0 n) (ap (λ b. f || b) (sym (some_count xs)) ∙ h ∙ ap (λ b. g || b) (some_count ys))
     ∙ sym (ap (λ b. g || b) (some_count ys' ∙ ap (nat_lt 0) more_y) ∙ with_more g (length ys))
 
-first_shown : {X Y : Type 0} (R : X → Y → Type 0) (xs : List X) (ys : List Y) (y : Y) (rest : List Y) → ys ≡ y ∷ rest → AllZip R xs ys → (x : X) × (others : List X) × (xs ≡ x ∷ others) × R x y × AllZip R others rest
+pub first_shown : {X Y : Type 0} (R : X → Y → Type 0) (xs : List X) (ys : List Y) (y : Y) (rest : List Y) → ys ≡ y ∷ rest → AllZip R xs ys → (x : X) × (others : List X) × (xs ≡ x ∷ others) × R x y × AllZip R others rest
 first_shown R [] ys y rest e h = absurd (subst (λ zs. AllZip R [] zs) e h)
 first_shown R (x ∷ xs) ys y rest e h = let k = subst (λ zs. AllZip R (x ∷ xs) zs) e h in (x, xs, refl, k.0, k.1)
 
@@ -157,10 +157,6 @@ module _ {A : Type 0} (columns : ℕ → Option ℕ) (eq : A → A → Bool) whe
     -- what is held shows what is left
     pub left_shown : AllZip (SameItems eq) (h.before ++ laid.done) (left columns s)
     left_shown = all_zip_append (SameItems eq) h.before laid.done s.ended (drop s.handed p.laid.done) h.earlier (subst (AllZip (SameItems eq) laid.done) (sym rest_is) h.stands.lays.shows.done)
-
-    pub first_left : (text : List (Item A)) (others : List (List (Item A))) → left columns s ≡ text ∷ others →
-        (is : List (Item A)) × (more : List (List (Item A))) × (h.before ++ laid.done ≡ is ∷ more) × SameItems eq is text
-    first_left text others e = let f = first_shown (SameItems eq) (h.before ++ laid.done) (left columns s) text others e left_shown in (f.0, f.1, f.2, f.3)
 
     -- as many as the fields count
     held_count : length b.lines.ended.items ≡ length (left columns s)

@@ -1,10 +1,10 @@
 use Rattle.std.proofs.Common.{◌≡◌, ◌<◌, Ok, true, false, [], length, refl, ap, ◌∙◌, sym, subst, IfSome}
-use Rattle.tbr_tagged.specs.Elements.{items_of, IsMerged}
+use Rattle.tbr_tagged.specs.Elements.{items_of, SameItems, IsMerged}
 use Rattle.tbr_tagged.proofs.SameItems.{same_items_trans}
 use Rattle.tbr_wrap.specs.Block.{Block, left, line_handed_out, settings_of}
 use Rattle.tbr_wrap.specs.Held.{HoldsRun, block_of}
 use Rattle.std.proofs.lemmas.Result.{IfOk-at_ok}
-use Rattle.tbr_wrap.proofs.runs.HeldRuns.{no_lines, holds_handed, first_left, some_left, none_left, none_held, some_held, laid}
+use Rattle.tbr_wrap.proofs.runs.HeldRuns.{no_lines, holds_handed, first_shown, left_shown, some_left, none_left, none_held, some_held, laid}
 use Rattle.tbr_wrap.proofs.runs.Blocks.{led_on, settings_kept}
 use Rattle.tbr_wrap.proofs.block.WrappedBlock.take_line.Goals as goal
 
@@ -54,7 +54,7 @@ invariant_of-self-2 g c = λ live.
 pub returns-clause-some : goal.returns-clause-some
 returns-clause-some g c = λ text rest e.
     let k = c.self.invariant (ap (λ (s : Block g.row.T.Denot). s.failure) c.self.view_is ∙ c.requires.unfailed) in
-    let f = first_left _ _ _ _ _ k text rest (ap (left g.W.CharWidth.columns) c.self.view_is ∙ e) in
+    let f = first_shown (SameItems g.T.PartialEq.eq) _ _ text rest (ap (left g.W.CharWidth.columns) c.self.view_is ∙ e) (left_shown _ _ _ _ _ k) in
     let t = IfOk-at_ok _ (c.in_ok-line.ensures.ok.0 ∙ ap Ok c.in-Some.is) (c.take_line-taken.ensures.taken k.before (laid _ _ _ _ _ k) f.0 f.1 k.stands.lays.holds f.2) in
     same_items_trans g.T.PartialEq.eq g.met.T.Eq.laws (items_of c.in-Some.line) f.0 text t.0 f.3
 
