@@ -14,12 +14,6 @@ use Rattle.tbr_wrap.proofs.words.RunEnds.{run_finished}
 use Rattle.tbr_model.proofs.rule.WiderLines.{unfit_end}
 use Rattle.tbr_wrap.proofs.wrapper.Wrapper.finish.Goals as goal
 
-pub returns-in_err-flush_word-clause-too_narrow : goal.returns-in_err-flush_word-clause-too_narrow
-returns-in_err-flush_word-clause-too_narrow g c = λ e before given p s.
-    let q = err_from_is_err_and c.from_residual.result c.from_residual.ensures.1 in
-    let is : c.flush_word.result ≡ Err E.TooNarrow = cc (q.1, q.2, e, c.in_err-flush_word.was) in
-    c.flush_word.ensures.too_narrow is before given p s
-
 pub returns-clause-finished : goal.returns-clause-finished
 returns-clause-finished g c = λ before given p s.
     let columns = g.W.CharWidth.columns in let eq = g.T.PartialEq.eq in let b = c.args.self.now in

@@ -9,18 +9,6 @@ use Rattle.tbr_model.proofs.rule.WiderLines.{unfit_by}
 use Rattle.tbr_model.proofs.rule.DoneLines.{newline_behind, tab_behind}
 use Rattle.tbr_wrap.proofs.wrapper.Wrapper.preserve.Goals as goal
 
-pub returns-in_err-flush_word-clause-too_narrow : goal.returns-in_err-flush_word-clause-too_narrow
-returns-in_err-flush_word-clause-too_narrow g c = λ e before given p s.
-    let q = err_from_is_err_and c.from_residual.result c.from_residual.ensures.1 in
-    let is : c.flush_word.result ≡ Err E.TooNarrow = cc (q.1, q.2, e, c.in_err-flush_word.was) in
-    let k = c.flush_word.ensures.too_narrow is before given p s in (k.0, k.2)
-
-pub returns-in_err-flush_word-2-clause-too_narrow : goal.returns-in_err-flush_word-2-clause-too_narrow
-returns-in_err-flush_word-2-clause-too_narrow g c = λ e before given p s.
-    let q = err_from_is_err_and c.from_residual-in_err-flush_word-2.result c.from_residual-in_err-flush_word-2.ensures.1 in
-    let is : c.flush_word-then-c-eq9.result ≡ Err E.TooNarrow = cc (q.1, q.2, e, c.in_err-flush_word-2.was) in
-    let k = c.flush_word-then-c-eq9.ensures.too_narrow is before given p s in (k.0, k.2)
-
 pub returns-then-c-eq10-clause-preserved : goal.returns-then-c-eq10-clause-preserved
 returns-then-c-eq10-clause-preserved g c = λ before given p s.
     let columns = g.W.CharWidth.columns in let width = c.args.self.now.lines.width in
