@@ -57,11 +57,11 @@ module _ {A B : Type 0} (f : A → B) where
 
   legal_line-map : (width : ℕ) (l : List (Slot A)) → IsLegalLine width l → IsLegalLine width (map_slots f l)
   legal_line-map width [] h = record { fits = h.fits; first = tt; others = tt }
-  legal_line-map width (s ∷ l) h = record { fits = rw (line_width-map (s ∷ l)) h.fits; first = h.first; others = each_map (map_slot f) MayFollow MayFollow (λ t k. k) l h.others }
+  legal_line-map width (s ∷ l) h = record { fits = omega (arith, line_width-map (s ∷ l), h.fits); first = h.first; others = each_map (map_slot f) MayFollow MayFollow (λ t k. k) l h.others }
 
   legal_line-unmap : (width : ℕ) (l : List (Slot A)) → IsLegalLine width (map_slots f l) → IsLegalLine width l
   legal_line-unmap width [] h = record { fits = h.fits; first = tt; others = tt }
-  legal_line-unmap width (s ∷ l) h = record { fits = rw (line_width-map (s ∷ l)) at h.fits; first = h.first; others = each_unmap (map_slot f) MayFollow MayFollow (λ t k. k) l h.others }
+  legal_line-unmap width (s ∷ l) h = record { fits = omega (arith, line_width-map (s ∷ l), h.fits); first = h.first; others = each_unmap (map_slot f) MayFollow MayFollow (λ t k. k) l h.others }
 
   full-map : (ls : List (List (Slot A))) → HasNoEmptyLine ls → HasNoEmptyLine (map_layout f ls)
   full-map [] h = tt
