@@ -1,25 +1,21 @@
 -- What a block's lines show of its run.
-use Rattle.std.proofs.Common.{◌≡◌, ◌≢◌, ℕ, ◌<◌, ◌≤◌, inl, inr, Bool, true, false, Option, Some, None, IfSome, unwrap_or, List, [], ◌∷◌, ◌++◌, map, filter, fold, refl, ap, sym, ◌∙◌, subst, arith, lt-ltb, nat_lt, ◌&&◌, IsTrue}
+use Rattle.std.proofs.Common.{◌≡◌, ℕ, ◌<◌, ◌≤◌, inl, inr, Bool, true, false, Option, Some, None, IfSome, unwrap_or, List, [], ◌∷◌, ◌++◌, map, filter, fold, refl, ap, sym, ◌∙◌, subst, arith, lt-ltb, nat_lt, ◌&&◌, IsTrue}
 use Rattle.std.specs.List.{AllZip, AllByRecursion as Each}
 use Rattle.std.proofs.lemmas.Bool.{cond_both}
 use Rattle.std.proofs.lemmas.List.Sums.{fold-append}
-use Rattle.tbr_model.specs.declared.white_space.WhiteSpace.{WhiteSpace}
-use Rattle.tbr_model.specs.declared.white_space.WhiteSpace.TheVariants.{Normal, Pre, PreWrap}
+use Rattle.tbr_model.specs.declared.white_space.WhiteSpace.TheVariants.{Pre, PreWrap}
 use Rattle.tbr_model.specs.Run.{Entry, character, marker_entry, Item, glyph, marker, items_width, has_character, is_break_entry, blank_of, trailing, Word, word_of, Reading, start, works, read, reading}
 use Rattle.tbr_model.specs.Layout.{Slot, line_text, joined}
 use Rattle.tbr_model.specs.Greedy.{IsNarrow, wrapped}
 use Rattle.tbr_model.specs.Laid.{Laid, end_if_character}
 use Rattle.tbr_model.specs.Rule.{Event, run_of, progress, finished, flush_word, waiting, lines_of}
-use Rattle.tbr_model.specs.Hard.{HasMode, IsNarrowEntry, glyphs_of, is_visible, visible_glyphs, visible_entries, IsShown, ShowsPre, ShowsPreWrap, ShowsTabs, Parted, hard_lines}
+use Rattle.tbr_model.specs.Hard.{IsNarrowEntry, glyphs_of, is_visible, visible_glyphs, visible_entries, IsShown}
 use Rattle.tbr_model.proofs.lists.Each.{each_append, each_front, each_back}
 use Rattle.tbr_model.proofs.words.KeptItems.{narrow_markers}
 use Rattle.tbr_model.proofs.words.LinesHaveCharacters.{HasGlyph, best_characters}
-use Rattle.tbr_model.proofs.rule.BlankLines.{mode_preserves}
-use Rattle.tbr_model.proofs.rule.HardLines.{no_character_after_end, hard_lines_parted}
+use Rattle.tbr_model.proofs.rule.PreservingModes.{pre_shown, prewrap_shown, tabs_shown}
+use Rattle.tbr_model.proofs.rule.HardLines.{no_character_after_end}
 use Rattle.tbr_model.proofs.rule.VisibleCharacters.{visible_shown, hard_lines_shown}
-use Rattle.tbr_model.proofs.pre.HardLine.{pre_line}
-use Rattle.tbr_model.proofs.prewrap.HardLine.{prewrap_line}
-use Rattle.tbr_model.proofs.tabs.HardLine.{tab_line}
 use Rattle.tbr_model.proofs.normal.LaidWords.{text_has}
 use Rattle.tbr_model.proofs.normal.StaysLaid.{AllLaid, IsNarrowItem}
 use Rattle.tbr_model.proofs.normal.LayoutSoFar.{NormalStands, normal_stands}
@@ -115,21 +111,15 @@ module _ {A : Type 0} (columns : ℕ → Option ℕ) (width : ℕ) (one_space : 
   abbrev Same : A → A → Type 0
   Same a b = a ≡ b
 
-  tabs_parted : (mode : WhiteSpace) → mode ≢ Normal → (es : List (Event A)) → Each (HasMode mode) (run_of es) → Parted (ShowsTabs columns width) (hard_lines (run_of es)) (lines_of columns width es)
-  tabs_parted mode kept es h =
-      hard_lines_parted columns width (ShowsTabs columns width) (HasMode mode) (mode_preserves mode kept) (λ p es f modes plain. tab_line columns width one_space wide mode kept p es f plain modes) es h
-
   -- what a block's lines show of its run
   pub shown_run : (may_overflow : Bool) (es : List (Event A)) → Each (FitsBlock columns width may_overflow) (lines_of columns width es) → IsShownBy columns width may_overflow (run_of es) (lines_of columns width es)
   shown_run may_overflow es fits = record {
     best = λ never normal. best_texts columns width es (subst (λ (o : Bool). Each (FitsBlock columns width o) (lines_of columns width es)) never fits) normal;
     visible = visible_shown columns width Same (λ a. refl) es;
     hard = λ kept. hard_lines_shown columns width Same (λ a. refl) es kept;
-    pre = λ modes.
-        hard_lines_parted columns width (ShowsPre columns Same width) (HasMode Pre) (mode_preserves Pre (λ e. cc)) (λ p es f modes plain. pre_line columns Same width one_space wide (λ a. refl) p es f modes plain) es modes;
-    prewrap = λ modes.
-        hard_lines_parted columns width (ShowsPreWrap columns width) (HasMode PreWrap) (mode_preserves PreWrap (λ e. cc)) (λ p es f modes plain. prewrap_line columns width one_space wide p es f plain modes) es modes;
-    tabs = λ modes. elim modes [ inl m ↦ tabs_parted Pre (λ e. cc) es m | inr m ↦ tabs_parted PreWrap (λ e. cc) es m ];
+    pre = λ modes. pre_shown columns Same width one_space wide (λ a. refl) es modes;
+    prewrap = λ modes. prewrap_shown columns width one_space wide es modes;
+    tabs = λ modes. elim modes [ inl m ↦ tabs_shown columns width one_space wide Pre (λ e. cc) es m | inr m ↦ tabs_shown columns width one_space wide PreWrap (λ e. cc) es m ];
   }
 
 -- ---- a run of Normal mode under way
