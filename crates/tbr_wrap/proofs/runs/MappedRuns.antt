@@ -7,7 +7,7 @@ use Rattle.tbr_model.specs.Run.{Entry, character, marker_entry, Item, glyph, mar
 use Rattle.tbr_model.specs.Layout.{slots_of, line_text, joined}
 use Rattle.tbr_model.specs.Rule.{is_space_item}
 use Rattle.tbr_model.specs.Markers.{names_in_items, names_in_run, marker_items, marked_behind}
-use Rattle.tbr_model.specs.Hard.{HasMode, Preserves, HasMain, HasContinuation, is_visible, glyphs_of, visible_glyphs, visible_entries}
+use Rattle.tbr_model.specs.Hard.{ShowsHardLine, ShowsPre, ShowsPreWrap, ShowsTabs, HasMode, Preserves, HasMain, HasContinuation, is_visible, glyphs_of, visible_glyphs, visible_entries}
 use Rattle.tbr_model.specs.Shown.{without_spaces, ComesFrom, ComesWithRun, is_visible_or_marker, is_entry_to_show, ShowsEntry, ShowsInOrder, IsNotPre, StandsUnderOwn, ShowsOwn}
 use Rattle.tbr_model.specs.Mapped.{map_item, map_items, map_entry, map_run, map_layout, map_lines}
 use Rattle.tbr_model.proofs.lists.Each.{each_map, filter-map, zip-map}
@@ -191,10 +191,10 @@ module _ {A B : Type 0} (f : A → B) where
       record {
         best = λ narrow normal. best_lines-map columns width run texts (h.best narrow (mode_unmap _ run normal));
         visible = visible-map f Same Other keeps columns run texts h.visible;
-        hard = λ all. hard_parts-map f _ _ (hard_line-map f Same Other keeps columns) run texts (h.hard (preserves_unmap run all));
-        pre = λ all. hard_parts-map f _ _ (pre-map f Same Other keeps columns width) run texts (h.pre (mode_unmap _ run all));
-        prewrap = λ all. hard_parts-map f _ _ (prewrap-map f columns width) run texts (h.prewrap (mode_unmap _ run all));
-        tabs = λ either. hard_parts-map f _ _ (tabs-map f columns width) run texts (h.tabs (elim either [ inl all ↦ inl (mode_unmap _ run all) | inr all ↦ inr (mode_unmap _ run all) ]));
+        hard = λ all. hard_parts-map f _ (ShowsHardLine columns Other) (hard_line-map f Same Other keeps columns) run texts (h.hard (preserves_unmap run all));
+        pre = λ all. hard_parts-map f _ (ShowsPre columns Other width) (pre-map f Same Other keeps columns width) run texts (h.pre (mode_unmap _ run all));
+        prewrap = λ all. hard_parts-map f _ (ShowsPreWrap columns width) (prewrap-map f columns width) run texts (h.prewrap (mode_unmap _ run all));
+        tabs = λ either. hard_parts-map f _ (ShowsTabs columns width) (tabs-map f columns width) run texts (h.tabs (elim either [ inl all ↦ inl (mode_unmap _ run all) | inr all ↦ inr (mode_unmap _ run all) ]));
       }
 
   pub ends_run-map : (columns : ℕ → Option ℕ) (width : ℕ) (may_overflow : Bool) (run : List (Entry A)) (texts : List (List (Item A))) (names : List (List ℕ)) →
@@ -208,7 +208,7 @@ module _ {A B : Type 0} (f : A → B) where
         come = rw items (each_map (map_item f) (ComesWithRun (λ a b. a ≡ b) run) (ComesWithRun (λ a b. a ≡ b) (map_run f run)) (comes_with-map columns run) (joined texts) h.come);
         order = in_order-map columns run texts names h.order;
         own = λ plain. own-map columns run texts (h.own (not_pre_unmap run plain));
-        fitting = λ pre. hard_parts-map f _ _ (fitting-map columns width) run texts (h.fitting (mode_unmap _ run pre));
+        fitting = λ pre. hard_parts-map f _ (ShowsFitting columns (λ a b. a ≡ b) width) (fitting-map columns width) run texts (h.fitting (mode_unmap _ run pre));
         kept = λ normal. rw (items, without_spaces-map (joined texts), kept_items-map columns run, ← marker_items-map names)
             (sym (map-append (map_item f) (without_spaces (joined texts)) (marker_items names)) ∙ ap (map_items f) (h.kept (mode_unmap _ run normal)));
         markers = rw (items, names_in_items-map (joined texts), names_in_run-map run) h.markers;

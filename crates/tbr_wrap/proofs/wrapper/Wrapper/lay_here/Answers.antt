@@ -1,4 +1,4 @@
-use Rattle.std.proofs.Common.{sym, ◌∙◌, subst, rules, []}
+use Rattle.std.proofs.Common.{refl, sym, ◌∙◌, subst, rules, []}
 use Rattle.tbr_model.specs.Run.{items_width}
 use Rattle.tbr_model.specs.Laid.{extended}
 use Rattle.tbr_model.specs.Rule.{space_text, pending_width}
