@@ -1,5 +1,5 @@
 -- What the fields of a block hold, and what each change leaves of that.
-use Rattle.std.proofs.Common.{◌≡◌, ℕ, zero, suc, ◌+◌, ◌<◌, ◌||◌, Bool, true, false, Option, List, [], ◌∷◌, ◌++◌, fold, map, length, take, drop, refl, ap, sym, ◌∙◌, subst, arith, append_assoc, length-append, lt-ltb, nat_lt}
+use Rattle.std.proofs.Common.{◌≡◌, ℕ, suc, ◌+◌, ◌<◌, ◌||◌, Bool, true, false, Option, List, [], ◌∷◌, ◌++◌, fold, map, length, take, drop, refl, ap, sym, ◌∙◌, subst, arith, append_assoc, length-append, lt-ltb, nat_lt}
 use Rattle.std.proofs.Math.Bool.{or_assoc, or-false, or-true}
 use Rattle.std.proofs.lemmas.List.{take_at, drop_at, length-take-le, length-map}
 use Rattle.std.proofs.lemmas.List.Elements.{length_all_zip}
@@ -15,7 +15,7 @@ use Rattle.tbr_model.proofs.words.Regions.{lt-zero-add}
 use Rattle.tbr_tagged.specs.Elements.{SameItems}
 use Rattle.tbr_tagged.proofs.SameItems.{all_zip_append, same_has}
 use Rattle.tbr_wrap.specs.Runs.{is_some_list}
-use Rattle.tbr_wrap.specs.Block.{Block, new_block, progress_of, lines, all_lines, left, loose, has_no_character, grown, without_loose, flushed, line_handed_out}
+use Rattle.tbr_wrap.specs.Block.{Block, new_block, progress_of, all_lines, left, loose, has_no_character, grown, without_loose, flushed, line_handed_out}
 use Rattle.tbr_wrap.specs.EndedLines.{AreLines}
 use Rattle.tbr_wrap.specs.Held.{HoldsAt, HoldsRun}
 use Rattle.tbr_wrap.specs.LaidLines.{HoldsLaid, LaidLikeRule, LeavesAfterLine, KeepsLimits}
