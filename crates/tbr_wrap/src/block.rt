@@ -301,7 +301,8 @@ impl<T: Eq + Clone, W: CharWidth> WrappedBlock<T, W> {
     ///
     /// In a `Normal` run `TooNarrow` comes exactly where a word of the run has a character wider than the block; in any
     /// other run only where the run has such a character, and always where that is visible; and never where lines may
-    /// be wider. `OutOfMemory` comes only for want of memory. Where open line and word hold no character, no line ends.
+    /// be wider. `OutOfMemory` comes only where memory is refused. Where open line and word hold no character, no line
+    /// ends.
     pub fn flush(&mut self) -> Result<(), Error>
     where
         T: Drop,
