@@ -13,7 +13,7 @@ use Rattle.tbr_lines.proofs.Outcomes.{live_done, live_goes}
 use Rattle.tbr_lines.specs.Wrapped.{ShowsText}
 use Rattle.tbr_lines.proofs.Blocks.{if_allowed}
 use Rattle.tbr_lines.proofs.BlockLaws.{HandsOne, flush_leaves, flush_allowed}
-use Rattle.tbr_lines.proofs.LinesLeft.{many_failure, many_settings, many_events, handed_one_more}
+use Rattle.tbr_lines.proofs.LinesLeft.{many_keep, handed_one_more}
 use Rattle.tbr_lines.proofs.SameItems.{all_zip_append}
 use Rattle.tbr_lines.specs.View.{element_of}
 use Rattle.tbr_lines.specs.declared.TaggedLineElement.{TaggedLineElement}
@@ -85,7 +85,7 @@ module _ {T : Type 0} (columns : ℕ → Option ℕ) (eq : T → T → Bool) whe
   -- one line more
   pub one_taken : (first old new : Block T) (lines more : List (List (Element T))) (line : List (Element T)) → HasTaken columns eq first old lines → HandsOne columns eq old line new → more ≡ lines ++ line ∷ [] → HasTaken columns eq first new more
   one_taken first old new lines more line h one pushed =
-      let settings : settings_of old ≡ settings_of first = ap settings_of h.block_is ∙ many_settings h.count first in
+      let settings : settings_of old ≡ settings_of first = ap settings_of h.block_is ∙ (many_keep h.count first).1 in
       let padding : old.padding ≡ first.padding = ap (λ (k : Settings T). k.padding) settings in
       let width : old.width ≡ first.width = ap (λ (k : Settings T). k.width) settings in
       let shows : ShowsText columns eq first.padding first.width line one.text = rw (← padding) (rw (← width) one.shows) in
@@ -103,12 +103,12 @@ module _ {T : Type 0} (columns : ℕ → Option ℕ) (eq : T → T → Bool) whe
       ((end : Block T) × (after_flush columns block ≡ done end) × AllZip (ShowsText columns eq block.padding block.width) rest end.ended) →
       (end : Block T) × (after_flush columns first ≡ done end) × AllZip (ShowsText columns eq first.padding first.width) all end.ended
   all_taken first block lines rest all h whole (end, ends, shown) =
-      let settings : settings_of block ≡ settings_of first = ap settings_of h.block_is ∙ many_settings h.count first in
+      let settings : settings_of block ≡ settings_of first = ap settings_of h.block_is ∙ (many_keep h.count first).1 in
       let padding : block.padding ≡ first.padding = ap (λ (k : Settings T). k.padding) settings in
       let width : block.width ≡ first.width = ap (λ (k : Settings T). k.width) settings in
       let may : block.may_overflow ≡ first.may_overflow = ap (λ (k : Settings T). k.may_overflow) settings in
-      let failure : block.failure ≡ first.failure = ap (λ (s : Block T). s.failure) h.block_is ∙ many_failure h.count first in
-      let events : block.events ≡ first.events = ap (λ (s : Block T). s.events) h.block_is ∙ many_events h.count first in
+      let failure : block.failure ≡ first.failure = ap (λ (s : Block T). s.failure) h.block_is ∙ (many_keep h.count first).0 in
+      let events : block.events ≡ first.events = ap (λ (s : Block T). s.events) h.block_is ∙ (many_keep h.count first).2 in
       let allowed : allows columns first (all_lines columns first) ≡ true =
       sym (λ i. may i || lines_fit columns (width i) (finished columns (width i) (progress columns (width i) (events i))).done) ∙ flush_allowed columns block end ends in
       let last : AllZip (ShowsText columns eq first.padding first.width) rest (flushed columns block).ended =

@@ -2,7 +2,7 @@
 use Rattle.std.proofs.Common.{◌≡◌, ◌↔◌, IsTrue, ℕ, suc, zero, ◌+◌, ◌-◌, ◌<◌, ◌≤◌, Bool, true, Option, None, Some, List, [], ◌∷◌, ◌++◌, length, take, drop, replicate, refl, ap, sym, ◌∙◌, subst, arith, append_assoc}
 use Rattle.std.specs.Option.{MatchOption}
 use Rattle.std.specs.List.{AllZip}
-use Rattle.std.proofs.lemmas.List.{take-append-drop, drop_at, length-append, length-take, length-take-le, length-drop, length-replicate, drop-append-le, drop-drop}
+use Rattle.std.proofs.lemmas.List.{nil_from_length, take-append-drop, drop_at, length-append, length-take, length-take-le, length-drop, length-replicate, drop-append-le, drop-drop}
 use Rattle.tbr_model.specs.Run.{Item, glyph}
 use Rattle.tbr_model.specs.Rule.{spaces}
 use Rattle.tbr_tagged.specs.Elements.{SameItems, text_items}
@@ -186,15 +186,11 @@ rest_turn {A} start now next m n k e p q =
 
 -- ---- the characters that are placed
 
-pub no_len : {X : Type 0} (xs : List X) → length xs ≡ 0 → xs ≡ []
-no_len [] h = refl
-no_len (x ∷ xs) h = absurd (omega (arith, h))
-
 module _ {A : Type 0} where
   pub placed_none : (b : Bool) (p w : List ℕ) (ts : List A) → length ts ≡ length p + length w → IsTrue b ↔ (p ≡ []) → IsTrue b ↔ ((flat p w ts).placed ≡ [])
   placed_none b p w ts h k =
       let len = flat_placed_len p w ts h in
-      (λ t. no_len (flat p w ts).placed (len ∙ ap length (k.0 t)), λ none. k.1 (no_len p (sym len ∙ ap length none)))
+      (λ t. nil_from_length (flat p w ts).placed (len ∙ ap length (k.0 t)), λ none. k.1 (nil_from_length p (sym len ∙ ap length none)))
 
   -- without their tags
   glyphs_characters : (cs : List ℕ) (ts : List A) → length cs ≤ length ts → item_characters (glyphs cs ts) ≡ cs

@@ -1,7 +1,7 @@
 -- What is counted and taken away at the end of a text and at its beginning.
-use Rattle.std.proofs.Common.{◌≡◌, true, ℕ, suc, zero, ◌+◌, ◌-◌, ◌<◌, ◌≤◌, List, [], ◌∷◌, ◌++◌, length, take, drop, get_or, replicate, refl, ap, sym, ◌∙◌, subst, arith, append_assoc}
+use Rattle.std.proofs.Common.{◌≡◌, true, ℕ, suc, zero, ◌+◌, ◌-◌, ◌<◌, ◌≤◌, List, ◌∷◌, ◌++◌, length, take, drop, get_or, replicate, refl, ap, sym, ◌∙◌, subst, arith, append_assoc}
 use Rattle.std.specs.Str.{IsUtf8, IsAscii, chars, IsCharBoundary}
-use Rattle.std.proofs.Math.Seq.{take-append_seam}
+use Rattle.std.proofs.Math.Seq.{take-append_seam, get_or-append_seam}
 use Rattle.std.proofs.lemmas.List.{take-append-drop, take_at, drop_at, length-append, length-take, length-replicate}
 use Rattle.std.proofs.lemmas.Str.{IsUtf8-take, IsUtf8-from_ascii, IsCharBoundary-from_drop, chars-append, chars-IsAscii, encodes-chars, encodes-append, encodes-IsAscii, scalars-chars, chars-encodes}
 use lib.Utf8.{encodes, scalars}
@@ -26,12 +26,6 @@ end_spaces text n u h e =
           ∙ ap (λ cs. chars (take i text) ++ cs) (ap chars e ∙ chars-IsAscii (replicate n 32) (spaces_ascii n)),
     )
 
-last_item : (xs ys : List ℕ) (c i : ℕ) → i ≡ length xs → get_or (xs ++ c ∷ ys) i 0 ≡ c
-last_item [] ys c zero e = refl
-last_item [] ys c (suc i) e = absurd (omega arith)
-last_item (x ∷ xs) ys c zero e = absurd (omega arith)
-last_item (x ∷ xs) ys c (suc i) e = last_item xs ys c i (omega arith)
-
 spaces_bytes : (text front : List ℕ) (n : ℕ) → IsUtf8 text → chars text ≡ front ++ replicate n 32 → text ≡ encodes front ++ replicate n 32
 spaces_bytes text front n u e =
     sym (encodes-chars text u) ∙ ap encodes e ∙ encodes-append front (replicate n 32) ∙ ap (λ bs. encodes front ++ bs) (encodes-IsAscii (replicate n 32) (spaces_ascii n))
@@ -45,7 +39,7 @@ more_spaces text front n u e =
     let bytes : text ≡ encodes front ++ replicate (suc n) 32 = spaces_bytes text front (suc n) u e in
     let len : length text ≡ length (encodes front) + suc n = spaces_short text (encodes front) (suc n) bytes in
     let place : length text - 1 - n ≡ length (encodes front) = omega (arith, len) in
-    (omega (arith, len), ap (λ bs. get_or bs (length text - 1 - n) 0) bytes ∙ last_item (encodes front) (replicate n 32) 32 (length text - 1 - n) place)
+    (omega (arith, len), ap (λ bs. get_or bs (length text - 1 - n) 0) bytes ∙ ap (λ i. get_or (encodes front ++ 32 ∷ replicate n 32) i 0) place ∙ get_or-append_seam (encodes front) 32 (replicate n 32) 0)
 
 -- ---- spaces are taken away at the end
 

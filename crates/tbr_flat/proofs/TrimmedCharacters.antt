@@ -86,35 +86,20 @@ module _ {A : Type 0} where
     abbrev left : List A
     left = take (length ts - (k + n)) ts ++ drop (length ts - k) ts
 
-    left_len : k + n ≤ length ts → length left ≡ length ts - n
-    left_len enough = omega (arith, enough, length-append (take (length ts - (k + n)) ts) (drop (length ts - k) ts), length-take (length ts - (k + n)) ts, length-drop (length ts - k) ts)
-
     -- the placed characters lose spaces at their end
     module _ (q : List ℕ) (e : p ≡ q ++ replicate n 32) (count : k ≡ length w) where
       pub spaces_len : length p ≡ length q + n
       spaces_len = omega (arith, ap length e, length-append q (replicate n 32), length-replicate {A = ℕ} n 32)
-
-      pub spaces_fit : length left ≡ length q + length w
-      spaces_fit = omega (arith, h, count, spaces_len, left_len (omega (arith, h, count, spaces_len)))
 
       pub spaces_placed : (flat q w left).placed ≡ take (length q) (flat p w ts).placed
       spaces_placed =
           glyphs_kept q (length ts - (k + n)) ts (drop (length ts - k) ts) (omega (arith, h, count, spaces_len)) (omega arith) ∙ ap (λ cs. glyphs cs ts) (sym (ap (take (length q)) e ∙ take-append_seam q (replicate n 32)))
           ∙ glyphs-take (length q) p ts
 
-      pub spaces_word : (flat q w left).word ≡ (flat p w ts).word
-      spaces_word =
-          let first : length (take (length ts - (k + n)) ts) ≡ length q = omega (arith, h, count, spaces_len, length-take (length ts - (k + n)) ts) in
-          let second : length ts - k ≡ length p = omega (arith, h, count) in
-          ap (glyphs w) (drop_at (take (length ts - (k + n)) ts) (drop (length ts - k) ts) (length q) first ∙ ap (λ i. drop i ts) second)
-
     -- the word loses its first characters
     module _ (within : n ≤ length w) (count : k ≡ length w - n) where
       first : length ts - (k + n) ≡ length p
       first = omega (arith, h, within, count)
-
-      pub blanks_fit : length left ≡ length p + length (drop n w)
-      blanks_fit = omega (arith, h, within, count, length-drop n w, left_len (omega (arith, h, within, count)))
 
       pub blanks_placed : (flat p (drop n w) left).placed ≡ (flat p w ts).placed
       blanks_placed = glyphs_kept p (length ts - (k + n)) ts (drop (length ts - k) ts) (omega (arith, first)) (omega arith)

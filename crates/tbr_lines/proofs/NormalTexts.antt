@@ -8,7 +8,7 @@ use Rattle.tbr_model.proofs.lists.Each.{each_append}
 use Rattle.tbr_tagged.specs.Elements.{Element}
 use Rattle.tbr_tagged.specs.Outcome.{done}
 use Rattle.tbr_wrap.specs.Wrapped.{HasBestLines, ShowsText}
-use Rattle.tbr_wrap.specs.State.{text_entries, IsNormal}
+use Rattle.tbr_wrap.specs.Runs.{text_entries, IsNormal}
 use Rattle.tbr_wrap.specs.Block.{Block, new_block, all_lines, grown, text_events, after_text, after_flush}
 use Rattle.tbr_wrap.proofs.runs.BlockLaws.{text_leaves, flush_leaves, flush_best, entries_run}
 

@@ -13,5 +13,5 @@ pub use Rattle.tbr_tagged.specs.View
 pub use Rattle.tbr_tagged.specs.Walks
 pub use Rattle.tbr_wrap.specs.Block
 pub use Rattle.tbr_wrap.specs.EndedLines
-pub use Rattle.tbr_wrap.specs.State
+pub use Rattle.tbr_wrap.specs.Runs
 pub use Rattle.tbr_wrap.specs.Wrapped

@@ -7,7 +7,6 @@ pub mod DoneLines
 pub mod HardLineStart
 pub mod HardLines
 pub mod BlankLines
-pub mod NarrowWords
 pub mod LaidText
 pub mod Printable
 pub mod PreservingModes

@@ -7,6 +7,7 @@ ghost use Rattle.tbr_model.specs.Layout.{Slot, word_slots, gap_text, slots_of, j
 ghost use Rattle.tbr_model.specs.Cuts.{IsLayout, lines_between, cuts_of, placed_by_cuts, IsLegalLayout, IsBestLayout, with_gap};
 
 /// A legal layout without empty lines, each line as long as a legal one can be, is ahead of every legal layout.
+#[tactic(auto, using(crate::proofs::layouts::Ahead::greedy_best))]
 pub fn greedy_is_best<T>()
     ensures { (width : ℕ) (slots : List (Slot T)) (lines : List (List (Slot T))) →
         IsLegal width slots lines → HasNoEmptyLine lines → IsGreedy width lines →
@@ -14,6 +15,7 @@ pub fn greedy_is_best<T>()
 {}
 
 /// The best layout has the fewest lines.
+#[tactic(auto, using(crate::proofs::layouts::Ahead::fewest))]
 pub fn best_has_fewest_lines<T>()
     ensures { (width : ℕ) (slots : List (Slot T)) (lines others : List (List (Slot T))) →
         IsBest width slots lines → IsLegal width slots others →
@@ -21,6 +23,7 @@ pub fn best_has_fewest_lines<T>()
 {}
 
 /// There is only one best layout.
+#[tactic(auto, using(crate::proofs::layouts::Ahead::unique))]
 pub fn best_is_unique<T>()
     ensures { (width : ℕ) (slots : List (Slot T)) (lines others : List (List (Slot T))) →
         IsBest width slots lines → IsBest width slots others →
@@ -28,6 +31,7 @@ pub fn best_is_unique<T>()
 {}
 
 /// A run's words, and the markers after them, hold its kept characters and its markers once, in order.
+#[tactic(auto, using(crate::proofs::words::KeptItems::words_hold))]
 pub fn words_hold_kept_items<T>()
     ensures { (columns : ℕ → Option ℕ) (run : List (Entry T)) →
         flat_map (λ w. w.items) (words_of columns run) ++ trailing columns run ≡ kept_items columns run }

@@ -52,6 +52,7 @@ pub fn waiting_markers_end_a_run<T>()
 /// A run of `Normal` alone keeps its items, whatever the width. Its kept characters and its markers are on its lines,
 /// and then in what waits, in order, each character under its own annotation. Nothing else is there but the spaces that
 /// gaps are.
+#[tactic(auto, using(crate::proofs::lines::NormalItems::normal_keeps))]
 pub fn normal_items_are_kept<T>()
     ensures { (columns : ℕ → Option ℕ) (width : ℕ) (es : List (Event T)) → AllHaveMode Normal (run_of es) →
         without_spaces (joined (lines_of columns width es)) ++ waiting columns width (progress columns width es)
@@ -92,6 +93,7 @@ pub fn markers_alone_are_trailing<T>()
 {}
 
 /// Where a visible character that takes columns came, a line has ended, or the open line or the word takes columns.
+#[tactic(auto, using(crate::proofs::lines::Columns::columns_show))]
 pub fn columns_are_shown<T>()
     ensures { (columns : ℕ → Option ℕ) (width : ℕ) (es : List (Event T)) →
         run_shows_columns columns (run_of es) ≡ true → HasColumns columns (progress columns width es) }

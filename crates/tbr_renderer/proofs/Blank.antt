@@ -4,7 +4,7 @@ use Rattle.std.specs.Global.{Vec}
 use Rattle.std.specs.Option.{option_map}
 use Rattle.std.proofs.lemmas.Bool.{and_parts}
 use Rattle.tbr_model.specs.Run.{Item}
-use Rattle.tbr_lines.specs.State.{is_some_list}
+use Rattle.tbr_lines.specs.Runs.{is_some_list}
 use Rattle.tbr_lines.specs.Block.{Block, lines, any_line, has_no_character}
 use Rattle.tbr_lines.specs.declared.Error.{Error}
 use Rattle.tbr_lines.proofs.BlockLaws.{none_ended}

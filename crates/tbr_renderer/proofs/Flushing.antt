@@ -4,21 +4,19 @@ use Rattle.std.specs.Global.{Vec}
 use Rattle.std.proofs.lemmas.List.{map-append}
 use Rattle.std.proofs.lemmas.Grind.{fold-append}
 use Rattle.std.specs.Option.{option_map}
-use Rattle.tbr_model.specs.Run.{Entry, Item, items_width, has_character}
-use Rattle.tbr_model.specs.Rule.{run_of, Progress}
-use Rattle.tbr_model.proofs.rule.Markers.{waiting_none}
+use Rattle.tbr_model.specs.Run.{Entry, Item, items_width}
+use Rattle.tbr_model.specs.Rule.{run_of}
 use Rattle.tbr_model.specs.Mapped.{map_item, map_run, map_lines}
 use Rattle.tbr_model.proofs.maps.Words.{items_width-map}
 use Rattle.tbr_lines.specs.Copies.{equal_lists}
 use Rattle.tbr_lines.specs.Elements.{Element, marker_element, items_of, text_items}
 use Rattle.tbr_lines.specs.Padding.{spaces}
-use Rattle.tbr_lines.specs.Block.{Block, Settings, progress_of, all_lines, left, has_no_character, loose, waiting_names, flushed, without_loose, after_flush, after_taking}
+use Rattle.tbr_lines.specs.Block.{Block, Settings, all_lines, left, loose, waiting_names, flushed, without_loose, after_flush, after_taking}
 use Rattle.tbr_lines.specs.Outcome.{done, refused}
 use Rattle.tbr_lines.specs.Wrapped.{padding_of}
 use Rattle.tbr_lines.specs.declared.Error.TheVariants as E
-use Rattle.tbr_lines.proofs.Blocks.{progress_flushed, progress_taken}
-use Rattle.tbr_lines.proofs.LinesLeft.{handed_failure, handed_settings, left_after}
-use Rattle.tbr_lines.proofs.BlockLaws.{HandsOne, flush_allowed, flush_leaves, taking_leaves, left_taken, left_flushed, loose_flushed}
+use Rattle.tbr_lines.proofs.LinesLeft.{handed_keeps, left_after}
+use Rattle.tbr_lines.proofs.BlockLaws.{HandsOne, flush_allowed, flush_leaves, taking_leaves, left_taken, left_flushed, waiting_loose}
 use Rattle.tbr_renderer.specs.Renderer.{KeepsSettings, settings_of, Open, Renderer, has_content, with_line, block_width, may_overflow}
 use Rattle.tbr_renderer.specs.Meant.{tag_meant, items_meant, map_open, meant}
 use Rattle.tbr_renderer.specs.View.{block_seen, block_meant, names_of, AreMarkers, IsFresh}
@@ -49,9 +47,9 @@ module _ {D A M : Type 0} (eq : A → A → Bool) (f : A → M) (agree : (v w : 
       let last : left columns new ≡ one.rest = ap (left columns) one.leaves ∙ left_after old columns ∙ ap (drop 1) one.left_is in
       record {
         unfailed = ap (λ (m : Renderer D M (List M)). m.failure) added ∙ h.unfailed;
-        live = ap (λ (b : Block (Vec A)). b.failure) one.leaves ∙ handed_failure old ∙ h.live;
-        padding = ap (λ (b : Block (Vec A)). b.padding) one.leaves ∙ ap (λ (k : Settings (Vec A)). k.padding) (handed_settings old) ∙ h.padding;
-        width = ap (λ (b : Block (Vec A)). b.width) one.leaves ∙ ap (λ (k : Settings (Vec A)). k.width) (handed_settings old) ∙ h.width;
+        live = ap (λ (b : Block (Vec A)). b.failure) one.leaves ∙ (handed_keeps old).0 ∙ h.live;
+        padding = ap (λ (b : Block (Vec A)). b.padding) one.leaves ∙ ap (λ (k : Settings (Vec A)). k.padding) (handed_keeps old).1 ∙ h.padding;
+        width = ap (λ (b : Block (Vec A)). b.width) one.leaves ∙ ap (λ (k : Settings (Vec A)). k.width) (handed_keeps old).1 ∙ h.width;
         given = h.given ++ one.text ∷ [];
         settings = ap settings_of added ∙ h.settings;
         parts = h.parts ∙ ap (λ ls. h.given ++ ls) one.left_is ∙ ap (λ ls. h.given ++ one.text ∷ ls) (sym last) ∙ sym (append_assoc h.given (one.text ∷ []) (left columns new));
@@ -105,17 +103,6 @@ module _ {D A M : Type 0} (f : A → M) (columns : ℕ → Option ℕ) (one : co
         ap (left columns) behind_is ∙ left_taken columns (flushed columns b) ∙ left_flushed columns b
         ∙ ap (λ (ls : List (List (Item (Vec A)))). ls ++ drop b.handed (all_lines columns b)) fresh.ended ∙ ap (λ n. drop n (all_lines columns b)) fresh.handed
 
-    -- nothing is open then
-    pub nothing_open : has_no_character columns behind ≡ true
-    nothing_open =
-        let none : has_character (progress_of columns (flushed columns b)).word ≡ false = ap (λ (p : Progress (Vec A)). has_character p.word) (progress_flushed columns b) ∙ waiting_none columns b.width (progress_of columns b) in
-        ap (has_no_character columns) behind_is
-        ∙ ap (λ (p : Progress (Vec A)). not (has_character p.laid.line) && not (has_character p.word)) (progress_taken columns (flushed columns b) none ∙ ap (λ (p : Progress (Vec A)). record p { word = [] }) (progress_flushed columns b))
-
-    -- the markers that it hands out are those that wait
-    names_wait : loose columns after ≡ waiting_names columns b
-    names_wait = ap (loose columns) (flush_leaves columns b after e) ∙ loose_flushed columns b
-
     -- a flush where a block is open
     pub block_flushed : (waiting : List (List ℕ)) (s0 s1 s2 : Renderer D A (Vec A)) → s0 ≡ record r { block = None } →
         meant f s1 ≡ fold (with_line columns) (meant f s0) (map (line_meant columns f behind) (left columns behind)) → waiting ≡ loose columns after → s2 ≡ record s1 { waiting = s1.waiting ++ waiting } → Flushes columns (meant f r) (meant f s2)
@@ -133,7 +120,7 @@ module _ {D A M : Type 0} (f : A → M) (columns : ℕ → Option ℕ) (one : co
         let ended : EndsBlock columns (meant f r) opened (meant f s2) = record {
           fits = fits;
           ends = end_promised columns one (meant f r) opened wide_enough fits;
-          is = ap (meant f) waits ∙ ap (λ ns. record (meant f s1) { waiting = s1.waiting ++ ns }) (names_are ∙ names_wait ∙ sym (names_meant f columns r b fresh))
+          is = ap (meant f) waits ∙ ap (λ ns. record (meant f s1) { waiting = s1.waiting ++ ns }) (names_are ∙ waiting_loose columns b after e ∙ sym (names_meant f columns r b fresh))
               ∙ ap (λ (m : Renderer D M (List M)). record m { waiting = m.waiting ++ names_at_end columns (meant f r) opened }) after_lines;
         } in
         subst (λ (o : Option (Open (Vec A))). FlushesBlock columns (meant f r) (option_map (map_open (tag_meant f)) o) (meant f s2)) seen ended

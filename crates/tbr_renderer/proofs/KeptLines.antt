@@ -14,7 +14,7 @@ use Rattle.tbr_lines.proofs.SameItems.{all_zip_append, same_items}
 use Rattle.std.specs.Cmp.{IsEquivalence}
 use Rattle.tbr_lines.specs.EndedLines.{line_characters, lines_characters}
 use Rattle.tbr_lines.specs.RenderLine.{IsMergedText, has_content as line_holds}
-use Rattle.tbr_lines.specs.State.{is_some_list}
+use Rattle.tbr_lines.specs.Runs.{is_some_list}
 use Rattle.tbr_lines.proofs.MappedTags.{merged_piece_has, means_same_items}
 use Rattle.tbr_rows.specs.Meant.{map_border}
 use Rattle.tbr_renderer.specs.Meant.{map_line}

@@ -17,7 +17,7 @@ use Rattle.tbr_lines.proofs.Blocks.{if_allowed, if_not_allowed}
 use Rattle.tbr_lines.proofs.BlockLaws.{flush_ends, flush_wide, text_wide}
 use Rattle.tbr_lines.specs.declared.Error.TheVariants as E
 use Rattle.tbr_model.specs.declared.white_space.WhiteSpace.{WhiteSpace}
-use Rattle.tbr_lines.specs.State.{is_some_list, text_entries, EndsRun, CharactersFit}
+use Rattle.tbr_lines.specs.Runs.{is_some_list, text_entries, EndsRun, CharactersFit}
 use Rattle.tbr_lines.specs.declared.Error.{Error}
 use Rattle.tbr_renderer.specs.Renderer.{Open, Renderer, called, with_more, block_width, may_overflow}
 use Rattle.tbr_renderer.specs.Meant.{tag_meant, map_event, map_events, map_open, meant}

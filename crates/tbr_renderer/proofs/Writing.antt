@@ -14,7 +14,7 @@ use Rattle.tbr_lines.specs.declared.Error.TheVariants as E
 use Rattle.tbr_lines.specs.Block.{Block, any_line, lines, takes_no_columns, allows, text_events, grown, after_text, after_marker, IsSound}
 use Rattle.tbr_lines.specs.Block as block
 use Rattle.tbr_lines.specs.Outcome.{done, refused}
-use Rattle.tbr_lines.specs.State.{text_entries, CharactersFit}
+use Rattle.tbr_lines.specs.Runs.{text_entries, CharactersFit}
 use Rattle.tbr_renderer.specs.Renderer.{Open, Renderer, new_block, open_block, open_run, text_annotations, last_mode, struck, entries_under, entries_of, called, with_more, with_events, block_width, may_overflow}
 use Rattle.tbr_renderer.specs.Meant.{tag_meant, map_event, map_events, map_open, meant}
 use Rattle.tbr_renderer.specs.View.{IsFresh, block_seen, block_meant}

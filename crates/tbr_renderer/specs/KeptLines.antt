@@ -4,7 +4,7 @@ use Rattle.std.specs.List.{AllByRecursion as Each, list_any}
 use Rattle.tbr_model.specs.Run.{Item}
 use Rattle.tbr_lines.specs.Elements.{SameItems}
 use Rattle.tbr_lines.specs.RenderLine.{IsMergedText}
-use Rattle.tbr_lines.specs.State.{is_some_list}
+use Rattle.tbr_lines.specs.Runs.{is_some_list}
 use Rattle.tbr_renderer.specs.Renderer.{Line, text, border, line_has_content}
 use Rattle.tbr_renderer.specs.View.{line_seen}
 use Rattle.tbr_renderer.specs.declared.kept_lines.Part.{Part}

@@ -10,7 +10,7 @@ use Rattle.tbr_model.specs.Run.{Entry, Item, has_character}
 use Rattle.tbr_model.specs.Markers.{marker_items}
 pub use Rattle.tbr_model.specs.Width.{stroke}
 use Rattle.tbr_lines.specs.Border.{Border, has_holes}
-use Rattle.tbr_lines.specs.State.{text_entries}
+use Rattle.tbr_lines.specs.Runs.{text_entries}
 use Rattle.tbr_lines.specs.Wrapped.{padding_of}
 use Rattle.tbr_lines.specs.declared.Error.{Error}
 use Rattle.tbr_rows.specs.declared.line_set.LineSet.{LineSet as Cell}

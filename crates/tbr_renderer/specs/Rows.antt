@@ -7,7 +7,7 @@ use Rattle.tbr_lines.specs.Block.{any_line, has_no_character}
 use Rattle.tbr_lines.specs.Border.{Border, with_cells, stretched}
 use Rattle.tbr_lines.specs.Elements.{items_of}
 use Rattle.tbr_lines.specs.Padding.{aligned_items}
-use Rattle.tbr_lines.specs.State.{is_some_list}
+use Rattle.tbr_lines.specs.Runs.{is_some_list}
 use Rattle.tbr_lines.specs.declared.CellAlign.{CellAlign}
 use Rattle.tbr_lines.specs.declared.CellAlign.TheVariants.{Left}
 use Rattle.tbr_lines.specs.declared.RenderLine.{RenderLine}

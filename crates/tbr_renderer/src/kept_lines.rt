@@ -3,7 +3,7 @@ ghost use Rattle.std.specs.Prelude.{◌≡◌, ◌≢◌, ◌++◌, ◌∷◌, [
 ghost use Rattle.std.specs.List.{AllZip, AllByRecursion as Each, list_any};
 ghost use Rattle.tbr_lines.specs.Copies.{CopiesAreEqual};
 ghost use Rattle.tbr_lines.specs.RenderLine.{IsMergedText};
-ghost use Rattle.tbr_lines.specs.State.{is_some_list};
+ghost use Rattle.tbr_lines.specs.Runs.{is_some_list};
 ghost use Rattle.tbr_lines.specs.View.{chars_of};
 ghost use Rattle.tbr_lines.specs.declared.RenderLine.TheVariants.{Line as Rule};
 ghost use Rattle.tbr_renderer.specs.KeptLines.{text_lines, parts_seen, HoldsPart, SameSeen};

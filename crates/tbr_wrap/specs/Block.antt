@@ -10,7 +10,7 @@ use Rattle.tbr_tagged.specs.declared.error.Error.{Error}
 use Rattle.tbr_tagged.specs.declared.error.Error.TheVariants as E
 use Rattle.tbr_tagged.specs.Elements.{Element}
 use Rattle.tbr_tagged.specs.Outcome.{Outcome, done, refused, if_live}
-use Rattle.tbr_wrap.specs.State.{is_some_list, text_entries, IsNormal}
+use Rattle.tbr_wrap.specs.Runs.{is_some_list, text_entries, IsNormal}
 use Rattle.tbr_wrap.specs.Wrapped.{ShowsText}
 
 pub record Block (A : Type 0) : Type 0 where

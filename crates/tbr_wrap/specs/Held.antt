@@ -4,7 +4,7 @@ use Rattle.std.specs.List.{AllZip}
 use Rattle.tbr_model.specs.Run.{Item}
 use Rattle.tbr_model.specs.Rule.{Progress}
 use Rattle.tbr_tagged.specs.Elements.{SameItems}
-use Rattle.tbr_wrap.specs.State.{is_some_list}
+use Rattle.tbr_wrap.specs.Runs.{is_some_list}
 use Rattle.tbr_wrap.specs.Block.{Block, progress_of}
 use Rattle.tbr_wrap.specs.Story.{story}
 use Rattle.tbr_wrap.specs.declared.block.WrappedBlock.TheInside.{Inside}

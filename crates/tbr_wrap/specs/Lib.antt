@@ -2,7 +2,7 @@ pub mod Wrapped
 pub mod LaidLines
 pub mod Plain
 pub mod Wrapper
-pub mod State
+pub mod Runs
 pub mod Block
 pub mod Story
 pub mod Held

@@ -1,10 +1,9 @@
 -- What the fields of a wrapper say of the pending space and of the word under way.
-use Rattle.std.specs.Prelude.{◌≡◌, ◌≤◌, ◌<◌, ◌+◌, ◌∷◌, chars, ◌⊎◌, ℕ, Bool, true, false, Option, None, Some, List, [], ◌++◌, fold, length, take, Result, OnOk, Err}
+use Rattle.std.specs.Prelude.{◌≡◌, ◌≤◌, ◌<◌, ◌+◌, ◌⊎◌, ℕ, Bool, true, false, Option, None, Some, List, [], ◌++◌, fold, length, take, Result, OnOk, Err}
 use Rattle.std.specs.List.{AllZip, AllByRecursion as Each}
 use Rattle.tbr_model.specs.declared.white_space.WhiteSpace.{WhiteSpace}
 use Rattle.tbr_model.specs.declared.white_space.WhiteSpace.TheVariants.{Normal}
-use Rattle.tbr_model.specs.Greedy.{IsNarrow}
-use Rattle.tbr_model.specs.Run.{Item, Entry, items_width, is_break}
+use Rattle.tbr_model.specs.Run.{Item, Entry, items_width}
 use Rattle.tbr_model.specs.Rule.{Space, Progress, at_start, is_pre, join, enter, finished, waiting}
 use Rattle.tbr_model.specs.Fits.{lines_fit}
 use Rattle.tbr_tagged.specs.Elements.{SameItems}
@@ -92,16 +91,6 @@ abbrev pub Enters : {A : Type 0} → (ℕ → Option ℕ) → (A → A → Bool)
 Enters {A} columns eq b c es = (before given : List (List (Item A))) (p : Progress A) →
     IsAtProgress columns eq b before given p →
     IsAtProgress columns eq c before given (fold (enter columns b.lines.width) p es)
-
--- The first character of a text ends a word with a character that is wider than a line. In `Normal` that is a break
--- point, and the word has columns.
-pub record EndsWideWord {A : Type 0} (columns : ℕ → Option ℕ) (width : ℕ) (mode : WhiteSpace) (text : List ℕ)
-    (p : Progress A) : Type 0 where
-  pub wide : ¬ (IsNarrow columns width p.word)
-  pub first : ℕ
-  pub rest : List ℕ
-  pub text_is : chars text ≡ first ∷ rest
-  pub normal : mode ≡ Normal → (is_break first ≡ true) × (0 < items_width columns p.word)
 
 -- The run has ended: the lines of it that weren't handed out are after those of earlier runs, and a run can begin
 -- with the markers that wait.

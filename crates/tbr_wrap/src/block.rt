@@ -7,7 +7,7 @@ ghost use Rattle.tbr_model.specs.Rule.{call, entry, run_of};
 ghost use Rattle.tbr_tagged.specs.Copies.{CopiesAreEqual};
 ghost use Rattle.tbr_tagged.specs.Elements.{items_of, SameItems, IsMerged};
 ghost use Rattle.tbr_wrap.specs.Wrapped.{HasBestLines, ShowsText, padding_of};
-ghost use Rattle.tbr_wrap.specs.State.{text_entries};
+ghost use Rattle.tbr_wrap.specs.Runs.{text_entries};
 ghost use Rattle.tbr_tagged.specs.declared.error.Error.TheVariants as E;
 
 use crate::ended_lines::EndedLines;

@@ -7,7 +7,7 @@ ghost use Rattle.tbr_model.specs.Run.{Item, Entry, trailing};
 ghost use Rattle.tbr_model.specs.Mapped.{map_items, map_lines, map_run};
 ghost use Rattle.tbr_model.specs.Hard.{is_visible};
 ghost use Rattle.tbr_model.specs.Layout.{slots_of, joined, HasLegalLines};
-ghost use Rattle.tbr_model.specs.Markers.{names_in_items, names_in_run, names_behind, last};
+ghost use Rattle.tbr_model.specs.Markers.{names_in_items, names_in_run, marker_run, names_behind, last};
 ghost use Rattle.tbr_model.specs.Rule.{run_of, waiting};
 ghost use Rattle.tbr_model.specs.Run.{kept_items};
 ghost use Rattle.tbr_model.specs.Shown.{without_spaces, run_shows_columns};
@@ -17,7 +17,7 @@ ghost use Rattle.tbr_tagged.specs.Outcome.{done, refused};
 ghost use Rattle.tbr_tagged.specs.declared.error.Error.TheVariants as E;
 ghost use Rattle.tbr_wrap.specs.Block.{Block, new_block, settings_of, lines, all_lines, left, takes_no_columns, has_no_character, loose, waiting_names, after_text, after_marker, after_taking, after_flush, after_line, lines_handed_out, progress_of, IsSound, WrapsNormally, RunDecides};
 ghost use Rattle.tbr_wrap.specs.Wrapped.{ShowsText, WordsFit, EndedWordsFit, padding_of};
-ghost use Rattle.tbr_wrap.specs.State.{IsNormal, CharactersFit, VisibleFit, AreLastOf, EndsRun, is_some_list, text_entries};
+ghost use Rattle.tbr_wrap.specs.Runs.{IsNormal, CharactersFit, VisibleFit, AreLastOf, EndsRun, is_some_list, text_entries};
 
 /// The lines that are handed out one by one, and then those that are left, are in order those that were left before;
 /// and the run stays. So the lines of `next_line`, and then those of `into_lines`, are what `into_lines` alone gives.
@@ -58,6 +58,21 @@ pub fn blocks_stay_sound<T>()
         after_flush columns s ≡ done t → IsSound columns t }
     ensures line { (columns : ℕ → Option ℕ) (s t : Block T) → IsSound columns s →
         after_line columns s ≡ done t → IsSound columns t }
+{}
+
+/// A flush leaves nothing open: open line and word hold no character, and take no columns. The run that begins is the
+/// markers that wait, which are loose, and nothing is open where these are taken out.
+pub fn flushes_leave_nothing_open<T>()
+    ensures character { (columns : ℕ → Option ℕ) (s t : Block T) → after_flush columns s ≡ done t →
+        has_no_character columns t ≡ true }
+    ensures columns { (columns : ℕ → Option ℕ) (s t : Block T) → after_flush columns s ≡ done t →
+        takes_no_columns columns t ≡ true }
+    ensures run { (columns : ℕ → Option ℕ) (s t : Block T) → after_flush columns s ≡ done t →
+        run_of t.events ≡ marker_run (waiting_names columns s) }
+    ensures loose { (columns : ℕ → Option ℕ) (s t : Block T) → after_flush columns s ≡ done t →
+        loose columns t ≡ waiting_names columns s }
+    ensures markers_taken { (columns : ℕ → Option ℕ) (s t u : Block T) → after_flush columns s ≡ done t →
+        after_taking columns t ≡ done u → has_no_character columns u ≡ true }
 {}
 
 /// A flush leaves of a run the lines and the markers that `EndsRun` promises, field by field.

@@ -15,7 +15,7 @@
 ghost use Rattle.std.specs.Prelude.{◌≡◌, ◌≤◌, ◌<◌, ◌+◌, ◌&&◌, ◌↔◌, [], ℕ, List, fold, length, take, map, chars, string_bytes, Bool, if◌then◌else◌, IsTrue, Option, None, Some, true, false, OnOk, IfOk, IfSome, Err};
 ghost use Rattle.tbr_tagged.specs.Copies.{CopiesAreEqual};
 ghost use Rattle.tbr_model.specs.Width.{width_of_text};
-ghost use Rattle.tbr_model.specs.Run.{Item, character, marker_entry, items_width, has_character, is_break};
+ghost use Rattle.tbr_model.specs.Run.{Item, character, marker_entry, has_character, is_break};
 ghost use Rattle.tbr_model.specs.Laid.{extended, put_items};
 ghost use Rattle.tbr_model.specs.Rule as model;
 ghost use Rattle.tbr_model.specs.Rule.{Progress, space_text, pending_width, put_pending, lay_here, lay_fresh, wrap_space_by, wrap_space, lay, flush_word, break_word, join};
@@ -108,8 +108,8 @@ impl<T> Wrapper<T> {
 impl<T: Eq + Clone + Drop> Wrapper<T> {
     ghost use Rattle.tbr_wrap.specs.LaidLines.{KeepsLimits};
     ghost use Rattle.tbr_wrap.specs.Plain.{JoinWord, IsFront, IsStretch, AreWords};
-    ghost use Rattle.tbr_wrap.specs.State.{text_entries};
-    ghost use Rattle.tbr_wrap.specs.Wrapper.{IsAtProgress, IsUnderWay, Wherever, WrapperFollows, RefusesWider, Enters, EndsWideWord, RunIsFinished, SameSpace, KeepsTag, DropsSpace, AreMoved, held_width, join_all};
+    ghost use Rattle.tbr_wrap.specs.Runs.{text_entries};
+    ghost use Rattle.tbr_wrap.specs.Wrapper.{IsAtProgress, IsUnderWay, Wherever, WrapperFollows, RefusesWider, Enters, RunIsFinished, SameSpace, KeepsTag, DropsSpace, AreMoved, held_width, join_all};
 
     /// The tag that a call's characters come under where no continuation begins.
     fn call_tag<'a>(&self, main_tag: &'a T, wrap_tag: &'a T) -> &'a T
@@ -272,8 +272,6 @@ impl<T: Eq + Clone + Drop> Wrapper<T> {
         ensures laid { WrapperFollows W.columns T.eq self.old self.new result (lay W.columns self.old.lines.width) }
         ensures wider { RefusesWider W.columns T.eq self.old result (λ p.
             (lay W.columns self.old.lines.width p).laid.done) }
-        ensures too_narrow { result ≡ Err E.TooNarrow → Wherever W.columns T.eq self.old (λ p.
-            (self.old.lines.may_overflow ≡ false) × ¬ (IsNarrow W.columns self.old.lines.width p.word)) }
         ensures limits { KeepsLimits self.old.lines self.new.lines }
     {
         if self.has_room() {
@@ -292,9 +290,6 @@ impl<T: Eq + Clone + Drop> Wrapper<T> {
             (flush_word W.columns self.old.lines.width) }
         ensures wider { RefusesWider W.columns T.eq self.old result (λ p.
             (flush_word W.columns self.old.lines.width p).laid.done) }
-        ensures too_narrow { result ≡ Err E.TooNarrow → Wherever W.columns T.eq self.old (λ p.
-            (self.old.lines.may_overflow ≡ false) × (has_character p.word ≡ true)
-            × ¬ (IsNarrow W.columns self.old.lines.width p.word)) }
         ensures limits { KeepsLimits self.old.lines self.new.lines }
     {
         if !self.lines.flat.has_word() {
@@ -311,9 +306,6 @@ impl<T: Eq + Clone + Drop> Wrapper<T> {
             (break_word W.columns self.old.lines.width) }
         ensures wider { RefusesWider W.columns T.eq self.old result (λ p.
             (break_word W.columns self.old.lines.width p).laid.done) }
-        ensures too_narrow { result ≡ Err E.TooNarrow → Wherever W.columns T.eq self.old (λ p.
-            (self.old.lines.may_overflow ≡ false) × (0 < items_width W.columns p.word)
-            × ¬ (IsNarrow W.columns self.old.lines.width p.word)) }
         ensures limits { KeepsLimits self.old.lines self.new.lines }
     {
         if self.word_width == 0 {
@@ -530,8 +522,6 @@ impl<T: Eq + Clone + Drop> Wrapper<T> {
             (preserve W.columns self.old.lines.width c main_tag.now wrap_tag.now mode) }
         ensures wider { RefusesWider W.columns T.eq self.old result (λ p.
             (preserve W.columns self.old.lines.width c main_tag.now wrap_tag.now mode p).laid.done) }
-        ensures too_narrow { result ≡ Err E.TooNarrow → Wherever W.columns T.eq self.old (λ p.
-            (self.old.lines.may_overflow ≡ false) × ¬ (IsNarrow W.columns self.old.lines.width p.word)) }
         ensures limits { KeepsLimits self.old.lines self.new.lines }
     {
         if c == ZERO_WIDTH_SPACE {
@@ -567,9 +557,6 @@ impl<T: Eq + Clone + Drop> Wrapper<T> {
             WrapperFollows W.columns T.eq self.old self.new result (enter_normal W.columns self.old.lines.width c a) }
         ensures wider { (a : T) → RefusesWider W.columns T.eq self.old result (λ p.
             (enter_normal W.columns self.old.lines.width c a p).laid.done) }
-        ensures too_narrow { result ≡ Err E.TooNarrow → Wherever W.columns T.eq self.old (λ p.
-            (self.old.lines.may_overflow ≡ false) × (is_break c ≡ true)
-            × (0 < items_width W.columns p.word) × ¬ (IsNarrow W.columns self.old.lines.width p.word)) }
         ensures limits { KeepsLimits self.old.lines self.new.lines }
     {
         if is_wordbreak_point(c) {
@@ -597,9 +584,6 @@ impl<T: Eq + Clone + Drop> Wrapper<T> {
             enter W.columns self.old.lines.width p (character c main_tag.now wrap_tag.now mode)) }
         ensures wider { RefusesWider W.columns T.eq self.old result (λ p.
             (enter W.columns self.old.lines.width p (character c main_tag.now wrap_tag.now mode)).laid.done) }
-        ensures too_narrow { result ≡ Err E.TooNarrow → Wherever W.columns T.eq self.old (λ p.
-            (self.old.lines.may_overflow ≡ false) × ¬ (IsNarrow W.columns self.old.lines.width p.word)
-            × (mode ≡ Normal → (is_break c ≡ true) × (0 < items_width W.columns p.word))) }
         ensures limits { KeepsLimits self.old.lines self.new.lines }
     {
         match mode {
@@ -808,8 +792,6 @@ impl<T: Eq + Clone + Drop> Wrapper<T> {
         ensures wider { RefusesWider W.columns T.eq self.old result (λ p.
             (fold (enter W.columns self.old.lines.width) p
             (text_entries (chars text.now) main_tag.now wrap_tag.now mode)).laid.done) }
-        ensures too_narrow { result ≡ Err E.TooNarrow → Wherever W.columns T.eq self.old (λ p.
-            (self.old.lines.may_overflow ≡ false) × EndsWideWord W.columns self.old.lines.width mode text.now p) }
         ensures limits { KeepsLimits self.old.lines self.new.lines }
     {
         let words = self.fitting_words::<W>(text, mode);
@@ -865,9 +847,6 @@ impl<T: Eq + Clone + Drop> Wrapper<T> {
             OnOk result (RunIsFinished W.columns T.eq self.old self.new before given p) }
         ensures wider { RefusesWider W.columns T.eq self.old result (λ p.
             (model.finished W.columns self.old.lines.width p).done) }
-        ensures too_narrow { result ≡ Err E.TooNarrow → Wherever W.columns T.eq self.old (λ p.
-            (self.old.lines.may_overflow ≡ false) × (has_character p.word ≡ true)
-            × ¬ (IsNarrow W.columns self.old.lines.width p.word)) }
         ensures limits { KeepsLimits self.old.lines self.new.lines }
     {
         self.flush_word::<W>()?;

@@ -2,7 +2,7 @@
 use Rattle.std.proofs.Common.{◌≡◌, ℕ, ◌+◌, ◌-◌, suc, Bool, if◌then◌else◌, is_some, Option, Some, None, List, [], ◌∷◌, ◌++◌, fold, take, length, refl, ap, sym, ◌∙◌, subst, append_assoc, append-nil, arith}
 use Rattle.std.specs.List.{AllZip, AllByRecursion as Each}
 use Rattle.tbr_model.specs.declared.white_space.WhiteSpace.TheVariants.{Normal}
-use Rattle.tbr_lines.specs.State.{IsNormal}
+use Rattle.tbr_lines.specs.Runs.{IsNormal}
 use Rattle.tbr_model.specs.Run.{Item}
 use Rattle.tbr_lines.specs.Border.{Border}
 use Rattle.tbr_lines.specs.declared.CellAlign.{CellAlign}

@@ -16,7 +16,7 @@ use Rattle.tbr_lines.specs.Border.{Border, without_holes}
 use Rattle.tbr_lines.specs.Cell.{Cell}
 use Rattle.tbr_lines.specs.Elements.{text_items}
 use Rattle.tbr_lines.specs.Padding.{spaces}
-use Rattle.tbr_lines.specs.State.{IsNormal, AreLastOf, EndsRun}
+use Rattle.tbr_lines.specs.Runs.{IsNormal, AreLastOf, EndsRun}
 use Rattle.tbr_lines.proofs.SameItems.{all_zip_append}
 use Rattle.tbr_decor.specs.Decoration.{Decoration}
 use Rattle.tbr_renderer.specs.Renderer.{Line, Open, Renderer, new_renderer, open_block, open_run, with_line, with_events, block_width, may_overflow}

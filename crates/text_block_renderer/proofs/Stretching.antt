@@ -13,7 +13,7 @@ use Rattle.tbr_model.proofs.lists.Each.{each_front, each_back, each_append}
 use Rattle.tbr_model.proofs.lists.Joined.{joined-append}
 use Rattle.tbr_model.proofs.words.Items.{break_lost}
 use Rattle.tbr_model.proofs.words.KeptItems.{words_hold}
-use Rattle.tbr_lines.specs.State.{EndsRun}
+use Rattle.tbr_lines.specs.Runs.{EndsRun}
 use Rattle.tbr_lines.specs.Wrapped.{padding_of, HasBestLines}
 use Rattle.tbr_decor.specs.Decoration.{Decoration}
 use Rattle.tbr_renderer.specs.declared.options.RenderOptions.{RenderOptions}

@@ -8,7 +8,7 @@ use Rattle.tbr_model.specs.Hard.{is_visible}
 use Rattle.tbr_model.specs.Shown.{without_spaces}
 use Rattle.tbr_model.proofs.words.Items.{no_character_no_width, has_character-append}
 use Rattle.tbr_lines.specs.Border.{Border, without_holes}
-use Rattle.tbr_lines.specs.State.{IsNormal}
+use Rattle.tbr_lines.specs.Runs.{IsNormal}
 use Rattle.tbr_lines.specs.Wrapped.{HasBestLines}
 use Rattle.tbr_decor.specs.Decoration.{Decoration}
 use Rattle.tbr_renderer.specs.Renderer.{Line, text, border, Open, Renderer, with_line, block_width, may_overflow, open_run, line_padding}

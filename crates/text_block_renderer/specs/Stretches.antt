@@ -6,7 +6,7 @@ use Rattle.tbr_model.specs.Run.{Entry, Item}
 use Rattle.tbr_model.specs.Layout.{Slot, slots_of, joined, IsLegal, placed}
 use Rattle.tbr_model.specs.Markers.{marker_items}
 use Rattle.tbr_model.specs.Shown.{without_spaces}
-use Rattle.tbr_lines.specs.State.{IsNormal, EndsRun}
+use Rattle.tbr_lines.specs.Runs.{IsNormal, EndsRun}
 use Rattle.tbr_lines.specs.Wrapped.{padding_of}
 use Rattle.tbr_renderer.specs.Renderer.{Line, text, Open, Renderer, line_padding, block_width, may_overflow, open_run, with_more}
 use Rattle.tbr_renderer.specs.Appended.{border_line}

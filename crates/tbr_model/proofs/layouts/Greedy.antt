@@ -2,7 +2,7 @@
 use Rattle.std.proofs.Common.{◌≡◌, ℕ, ◌<◌, ◌≤◌, Bool, true, false, not, ◌&&◌, ◌||◌, nat_le, if◌then◌else◌, IsTrue, IsFalse, List, [], ◌∷◌, ◌++◌, length, refl, ap, sym, ◌∙◌, inl, inr, arith, length-append, append_assoc, append-nil, subst, leb-true, leb-false}
 use Rattle.std.specs.List.{AllByRecursion as Each}
 use Rattle.std.proofs.lemmas.Bool.{or_right}
-use Rattle.tbr_model.specs.Layout.{Slot, joined, line_width, MayBegin, MayFollow, FirstMayBegin, OthersMayFollow, IsLegalLine, IsLongest, IsGreedy, HasNoEmptyLine}
+use Rattle.tbr_model.specs.Layout.{Slot, joined, line_width, MayFollow, FirstMayBegin, OthersMayFollow, IsLegalLine, IsLongest, IsGreedy, HasNoEmptyLine}
 use Rattle.tbr_model.specs.Greedy.{close, Lines, fill}
 use Rattle.tbr_model.proofs.lists.Joined.{cut_twice, joined-append}
 use Rattle.tbr_model.proofs.lists.Each.{each_back, each_append}
@@ -35,12 +35,9 @@ sealed_close {A} width (l ∷ ls) last u h k = (
   sealed_close width ls last u h.1 k,
 )
 
-pub longest_end : {A : Type 0} (width : ℕ) (l : List (Slot A)) → IsLongest width l []
-longest_end width l more others e p starts = absurd (omega (arith, ap length e, length-append more others))
-
 pub greedy_close : {A : Type 0} (width : ℕ) (ls : List (List (Slot A))) (last : List (Slot A)) → Sealed width ls last → IsGreedy width (close ls last)
 greedy_close width [] [] h = tt
-greedy_close width [] (s ∷ last) h = (longest_end width (s ∷ last), tt)
+greedy_close width [] (s ∷ last) h = (λ more others e p starts. absurd (omega (arith, ap length e, length-append more others)), tt)
 greedy_close {A} width (l ∷ ls) [] h = (
   (let e : (joined ls ++ []) ++ [] ≡ joined ls = simp append-nil in subst (λ (r : List (Slot A)). IsLongest width l r) e (h.0 [])),
   greedy_close width ls [] h.1,
@@ -152,22 +149,16 @@ next_holds_slots width slots done last v some h stays legal = record {
   legal = legal;
 }
 
-in_wider_follows : {A : Type 0} (s : Slot A) → s.begins ≡ false → MayFollow s
-in_wider_follows s e = rw e refl
-
-in_wider_begins : {A : Type 0} (s : Slot A) → s.wider ≡ true → MayBegin s
-in_wider_begins s e = or_right s.begins s.wider e
-
 pub fill_holds_slots : {A : Type 0} (width : ℕ) (slots : List (Slot A)) (done : List (List (Slot A))) (last v : List (Slot A)) → 0 < length last →
     HoldsSlots width slots (record { done = done; last = last }) → Each (InWider width) v → HoldsSlots width (slots ++ v) (fill width done last v)
 fill_holds_slots width slots done last [] some h inside = rw append-nil h
 fill_holds_slots {A} width slots done last (s ∷ v) some h inside = go (nat_le (line_width (last ++ s ∷ [])) width) refl (
     λ fits. fill_holds_slots width (slots ++ s ∷ []) done (last ++ s ∷ []) v (omega (arith, length-append last (s ∷ [])))
-    (longer_holds_slots width slots done last (s ∷ []) h (longer width last (s ∷ []) some h.legal fits (in_wider_follows s inside.0.0, tt))) inside.1
+    (longer_holds_slots width slots done last (s ∷ []) h (longer width last (s ∷ []) some h.legal fits (rw inside.0.0 refl, tt))) inside.1
     ) (
     λ not_fits. fill_holds_slots width (slots ++ s ∷ []) (done ++ last ∷ []) (s ∷ []) v (omega arith)
     (next_holds_slots width slots done last (s ∷ []) some h (stays_by_unit width last s [] not_fits tt)
-    (record { fits = omega (arith, inside.0.2); first = in_wider_begins s inside.0.1; others = tt })) inside.1
+    (record { fits = omega (arith, inside.0.2); first = or_right s.begins s.wider inside.0.1; others = tt })) inside.1
     )
   where
     Goal : Lines A → Type 0

@@ -1,6 +1,6 @@
 -- A layout of longest lines is the best one.
-use Rattle.std.proofs.Common.{◌≡◌, ℕ, zero, suc, ◌+◌, ◌-◌, ◌<◌, ◌≤◌, ◌↔◌, Bool, true, false, IsTrue, Option, Some, None, is_some, MatchOption, List, [], ◌∷◌, ◌++◌, length, take, drop, slice_index_or, refl, ap, sym, ◌∙◌, inl, inr, arith, length-append, length-drop, subst, take-append-drop, drop-drop, take_at, drop_of_length-le}
-use Rattle.std.proofs.lemmas.List.{get_or_push, drop_at}
+use Rattle.std.proofs.Common.{◌≡◌, ℕ, ◌+◌, ◌-◌, ◌<◌, ◌≤◌, ◌↔◌, Bool, true, false, IsTrue, Option, Some, None, is_some, MatchOption, List, [], ◌∷◌, ◌++◌, length, take, drop, slice_index_or, refl, ap, sym, ◌∙◌, inl, inr, arith, length-append, length-drop, subst, take-append-drop, drop-drop, take_at, drop_of_length-le}
+use Rattle.std.proofs.lemmas.List.{get_or_push, get_or_append_left, drop_at}
 use Rattle.std.specs.List.{AllByRecursion as Each}
 use Rattle.std.proofs.lemmas.Bool.{cases_lt}
 use Rattle.tbr_model.specs.Layout.{Slot, joined, line_width, FirstMayBegin, OthersMayFollow, IsLegalLine, IsLegal}
@@ -9,7 +9,7 @@ use Rattle.tbr_model.specs.Longest.{IsLongestLine, TellsRests}
 use Rattle.tbr_model.proofs.lists.Joined.{cut_twice}
 use Rattle.tbr_model.proofs.layouts.Ahead.{line_width_back, others_back}
 use Rattle.tbr_model.proofs.layouts.Cuts.{legal_alike, others_cuts}
-use Rattle.tbr_model.proofs.words.SlotsByRegion.{take_add}
+use Rattle.std.proofs.Math.Seq.{take-add}
 
 -- ---- which slots have a legal layout
 
@@ -18,9 +18,6 @@ has_lines width slots h = (_, ((legal_alike width slots h.0).0 h.1).1)
 
 pub has_cuts : {A : Type 0} (width : ℕ) (slots : List (Slot A)) (lines : List (List (Slot A))) → IsLegal width slots lines → HasLegalLayout width slots
 has_cuts width slots lines h = (cuts_of lines, (others_cuts width slots lines h).0)
-
-pub none_legal : {A : Type 0} (width : ℕ) → HasLegalLayout {A = A} width []
-none_legal width = has_cuts width [] [] (record { whole = refl; each = tt })
 
 -- what is after a place where a line may begin
 suffix_lines : {A : Type 0} (width : ℕ) (a b : List (Slot A)) (lines : List (List (Slot A))) → joined lines ≡ a ++ b → Each (IsLegalLine width) lines → FirstMayBegin b →
@@ -92,7 +89,7 @@ longest_end_line {A} width slots end some within h none = record {
   legal = h.0;
   rest = h.1;
   longest = λ more others e p starts legal.
-      let front : take (end + length more) slots ≡ take end slots ++ more = take_add end (length more) slots
+      let front : take (end + length more) slots ≡ take end slots ++ more = take-add end (length more) slots
       ∙ ap (λ (l : List (Slot A)). take end slots ++ l) (ap (take (length more)) (sym e) ∙ take_at more others (length more) refl) in
       let back : drop (end + length more) slots ≡ others = sym (drop-drop (length more) end slots) ∙ ap (drop (length more)) (sym e) ∙ drop_at more others (length more) refl in
       let rest : HasLegalLayout width (more ++ others) = subst (HasLegalLayout width) (sym e) h.1 in
@@ -114,30 +111,21 @@ pub rest_solved : {A : Type 0} (width n : ℕ) (slots : List (Slot A)) (solved :
 rest_solved {A} width n slots solved h long end some within =
     subst (λ k. IsTrue (slice_index_or solved (n - end) false) ↔ HasLegalLayout width (drop k slots)) (let e : length slots - (n - end) ≡ end = omega arith in e) (h.at (n - end) (omega arith))
 
-get_or-push : {X : Type 0} (xs : List X) (x d : X) (k : ℕ) → k < length xs → slice_index_or (xs ++ x ∷ []) k d ≡ slice_index_or xs k d
-get_or-push [] x d k h = absurd (omega arith)
-get_or-push (y ∷ xs) x d zero h = refl
-get_or-push (y ∷ xs) x d (suc k) h = get_or-push xs x d k (omega arith)
-
 -- nothing is left
 pub tells_first : {A : Type 0} (width : ℕ) (slots : List (Slot A)) (solved : List Bool) → solved ≡ true ∷ [] → TellsRests width slots 1 solved
 tells_first {A} width slots solved e = record {
   long = omega (arith, ap length e);
   at = λ k h. let none : drop (length slots - k) slots ≡ [] = drop_of_length-le slots (omega arith) in
-      let yes : slice_index_or solved k false ≡ true = ap (λ (l : List Bool). slice_index_or l k false) e ∙ ap (slice_index_or (true ∷ []) k) refl ∙ only k h in
-      (λ _. subst (HasLegalLayout width) (sym none) (none_legal width), λ _. yes);
+      let yes : slice_index_or solved k false ≡ true = ap (λ (l : List Bool). slice_index_or l k false) e ∙ (let first : k ≡ 0 = omega arith in ap (λ (i : ℕ). slice_index_or (true ∷ []) i false) first) in
+      (λ _. subst (HasLegalLayout width) (sym none) (has_cuts width [] [] (record { whole = refl; each = tt })), λ _. yes);
 }
-  where
-    only : (k : ℕ) → k < 1 → slice_index_or (true ∷ []) k false ≡ true
-    only zero h = refl
-    only (suc k) h = absurd (omega arith)
 
 pub tells_more : {A : Type 0} (width : ℕ) (slots : List (Slot A)) (n : ℕ) (solved : List Bool) (b : Bool) → TellsRests width slots n solved → length solved ≡ n →
     (IsTrue b ↔ HasLegalLayout width (drop (length slots - n) slots)) → TellsRests width slots (n + 1) (solved ++ b ∷ [])
 tells_more {A} width slots n solved b h long new = record {
   long = omega (arith, length-append solved (b ∷ []));
   at = λ k p. elim (cases_lt k n) [
-    | inl below ↦ rw (get_or-push solved b false k (omega arith)) (h.at k below)
+    | inl below ↦ rw (get_or_append_left solved (b ∷ []) false k (omega arith)) (h.at k below)
     | inr here ↦ let same : k ≡ n = omega arith in rw (get_or_push solved b false k (omega arith), same) new
   ];
 }

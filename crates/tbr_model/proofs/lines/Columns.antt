@@ -1,7 +1,8 @@
 -- Where a visible character that takes columns came, a line has ended, or the open line or the word takes columns.
-use Rattle.std.proofs.Common.{◌≡◌, ℕ, zero, suc, ◌<◌, ◌⊎◌, inl, inr, ◌||◌, nat_lt, unwrap_or, if◌then◌else◌, append_assoc, Bool, true, false, not, Option, List, [], ◌∷◌, ◌++◌, length, refl, ap, sym, ◌∙◌, arith}
+use Rattle.std.proofs.Common.{◌≡◌, ℕ, ◌<◌, ◌⊎◌, inl, inr, ◌||◌, nat_lt, unwrap_or, if◌then◌else◌, append_assoc, Bool, true, false, not, Option, List, [], ◌∷◌, ◌++◌, length, refl, ap, sym, ◌∙◌, arith}
 use Rattle.std.specs.List.{list_any, AllZip}
 use Rattle.std.specs.Char.{is_whitespace}
+use Rattle.std.proofs.lemmas.Bool.{cases_lt}
 use Rattle.std.proofs.lemmas.Bool.{and_left, and_right, not_from_true, or_cases, or_from, le-ltb}
 use Rattle.std.proofs.lemmas.List.Folds.{list_any-append}
 use Rattle.tbr_model.specs.Run.{Entry, Item, glyph, marker, item_width, items_width, is_kept}
@@ -15,10 +16,6 @@ use Rattle.tbr_model.proofs.rule.Content.{LooksAtKept, AnyEntry, AnyMode, Stands
 use Rattle.tbr_model.proofs.rule.LaidText.{text}
 use Rattle.tbr_model.proofs.rule.Walk.{KeptByRule, any_entries, run_walked}
 use Rattle.tbr_model.proofs.lines.Passing.{passing, passing-append, looks_at_passing}
-
-positive : (n : ℕ) → (n ≡ 0) ⊎ (0 < n)
-positive zero = inl refl
-positive (suc n) = inr (omega arith)
 
 module _ {A : Type 0} (columns : ℕ → Option ℕ) where
   -- the visible characters of items that take columns, and the markers
@@ -108,13 +105,13 @@ module _ {A : Type 0} (columns : ℕ → Option ℕ) where
       p = progress columns width es
 
       on_line : some_shown p.laid.line ≡ true → 0 < p.laid.width
-      on_line some = elim (positive p.laid.width) [
-        | inl none ↦ absurd (let hides : some_shown p.laid.line ≡ false = (run_walked (open_so width) es (λ e. refl) (any_entries (run_of es))).laid none in cc)
-        | inr more ↦ more
+      on_line some = elim (cases_lt 0 p.laid.width) [
+        | inl more ↦ more
+        | inr none ↦ absurd (let hides : some_shown p.laid.line ≡ false = (run_walked (open_so width) es (λ e. refl) (any_entries (run_of es))).laid (omega (arith, none)) in cc)
       ]
 
       in_word : some_shown p.word ≡ true → 0 < items_width columns p.word
-      in_word some = elim (positive (items_width columns p.word)) [ inl none ↦ absurd (let hides : some_shown p.word ≡ false = none_shown p.word none in cc) | inr more ↦ more ]
+      in_word some = elim (cases_lt 0 (items_width columns p.word)) [ inl more ↦ more | inr none ↦ absurd (let hides : some_shown p.word ≡ false = none_shown p.word (omega (arith, none)) in cc) ]
 
       behind : (some_shown p.laid.line ≡ true) ⊎ (some_shown p.word ≡ true) → HasColumns columns p
       behind (inl some) = inr (inl (on_line some))

@@ -4,7 +4,7 @@ use Rattle.std.specs.List.{AllByRecursion as Each}
 use Rattle.tbr_model.specs.Run.{Entry, character, marker_entry, Item, glyph, marker, item_width}
 use Rattle.tbr_model.specs.Layout.{joined}
 use Rattle.tbr_model.specs.Laid.{Laid, extended, end_line}
-use Rattle.tbr_model.specs.Rule.{Event, run_of, Progress, flush_word, newline, step, is_space_item, without_trailing, trimmed, progress, finished, lines_of}
+use Rattle.tbr_model.specs.Rule.{Event, run_of, Progress, flush_word, newline, step, is_space_item, without_trailing, progress, finished, lines_of}
 use Rattle.tbr_model.proofs.lists.Each.{each_append, each_front, each_back}
 use Rattle.tbr_model.proofs.words.Items.{each_marker}
 use Rattle.tbr_model.proofs.rule.HardLineStart.{BeginsHardLine}
@@ -38,9 +38,6 @@ module _ {A : Type 0} (columns : ℕ → Option ℕ) (P : Item A → Type 0) (Of
   line_laid : (l : Laid A) → AllLaid l → AllLaid (end_line l)
   line_laid l r = subst (Each P) (sym (text-end_line l)) r
 
-  trimmed_laid : (l : Laid A) → AllLaid l → AllLaid (trimmed columns l)
-  trimmed_laid l r = each_append P (joined l.done) (without_trailing l.line) (each_front P (joined l.done) l.line r) (each_trailing P l.line (each_back P (joined l.done) l.line r))
-
   each_laid : (width : ℕ) → KeptByRule columns width (Brings columns P Of) Of (λ m. Unit {0}) ⊥ (λ es l w. AllLaid l × Each P w)
   each_laid width = record {
     tags = λ c a b m h. (h.0, h.1, tt);
@@ -50,7 +47,7 @@ module _ {A : Type 0} (columns : ℕ → Option ℕ) (P : Item A → Type 0) (Of
     wide = λ es l i w _ _ r. (line_laid (extended l (i ∷ []) (item_width columns i)) (item_laid l i (item_width columns i) r.1.0 r.0), r.1.1);
     space = λ es l w a _ h r. (item_laid l (glyph 32 a) 1 (space a h) r.0, r.1);
     ended = λ es l w r. (line_laid l r.0, r.1);
-    trims = λ _ es l w r. (trimmed_laid l r.0, r.1);
+    trims = λ _ es l w r. (each_append P (joined l.done) (without_trailing l.line) (each_front P (joined l.done) l.line r.0) (each_trailing P l.line (each_back P (joined l.done) l.line r.0)), r.1);
     white = λ _ es l i w _ r. (r.0, r.1.1);
     joins = λ es l w c a b m x h either may r. (
       r.0,

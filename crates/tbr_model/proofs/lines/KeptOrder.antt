@@ -11,7 +11,7 @@ use Rattle.tbr_model.specs.Rule.{Event, run_of, progress, waiting, lines_of}
 use Rattle.tbr_model.specs.Markers.{marker_items}
 use Rattle.tbr_model.specs.Hard.{is_visible}
 use Rattle.tbr_model.specs.Shown.{names_waiting, is_visible_or_marker, is_entry_to_show, ShowsEntry, ShowsInOrder}
-use Rattle.tbr_model.proofs.rule.Content.{LooksAtKept, AnyEntry, AnyMode, StandsFor, by_entry, found_at_end}
+use Rattle.tbr_model.proofs.rule.Content.{LooksAtKept, AnyEntry, AnyMode, by_entry, found_at_end}
 use Rattle.tbr_model.proofs.rule.Walk.{any_entries}
 use Rattle.tbr_model.proofs.rule.Markers.{waiting_none, marker_items_alone}
 use Rattle.tbr_model.proofs.rule.VisibleCharacters.{white_not_visible}
@@ -47,9 +47,6 @@ module _ {A : Type 0} (columns : ℕ → Option ℕ) (width : ℕ) (Same : A →
       go true e = rw e ((refl, under x a b either), rest)
       go false e = rw e rest
 
-  all_in_order : (is : List (Item A)) (es : List (Entry A)) → AllZip (StandsFor AnyMode) is es → InOrder is es
-  all_in_order = by_entry AnyMode InOrder tt one_in_order (λ name is es rest. (refl, rest))
-
   -- The visible characters and the markers of a run are on its lines and then wait, in their order.
   pub shown_in_order : (es : List (Event A)) → ShowsInOrder columns Same (run_of es) (lines_of columns width es) (names_waiting columns width es)
   shown_in_order es =
@@ -60,4 +57,4 @@ module _ {A : Type 0} (columns : ℕ → Option ℕ) (width : ℕ) (Same : A →
       ap seen (marker_items_alone left (waiting_none columns width (progress columns width es))) ∙ markers_all columns (names_waiting columns width es) in
       let all : seen (joined (lines_of columns width es)) ++ marker_items (names_waiting columns width es) ≡ seen g.items =
       ap (λ is. seen (joined (lines_of columns width es)) ++ is) (sym wait) ∙ sym (filter-append (is_visible_or_marker columns) (joined (lines_of columns width es)) left) ∙ g.are in
-      subst (λ (is : List (Item A)). AllZip (ShowsEntry Same) is (filter (is_entry_to_show columns) (run_of es))) (sym all) (all_in_order g.items (run_of es) g.stand)
+      subst (λ (is : List (Item A)). AllZip (ShowsEntry Same) is (filter (is_entry_to_show columns) (run_of es))) (sym all) (by_entry AnyMode InOrder tt one_in_order (λ name is fs rest. (refl, rest)) g.items (run_of es) g.stand)

@@ -1,12 +1,13 @@
 -- A line ends only at a newline, or where what comes next doesn't fit.
-use Rattle.std.proofs.Common.{◌≡◌, ◌≢◌, ℕ, ◌+◌, ◌-◌, ◌%◌, ◌≤◌, ◌⊎◌, inl, inr, ◌==◌, ◌&&◌, ◌||◌, nat_le, nat_lt, Bool, true, false, if◌then◌else◌, is_some, is_none, Option, Some, None, List, [], ◌∷◌, ◌++◌, refl, ap, sym, ◌∙◌, subst, arith, le-leb, lt-ltb}
+use Rattle.std.proofs.Common.{◌≡◌, ◌≢◌, ℕ, ◌+◌, ◌-◌, ◌%◌, ◌≤◌, ◌⊎◌, inl, inr, ◌==◌, ◌&&◌, ◌||◌, nat_le, nat_lt, Bool, true, false, if◌then◌else◌, is_some, Option, Some, None, List, [], ◌∷◌, ◌++◌, refl, ap, sym, ◌∙◌, subst, arith, le-leb, lt-ltb}
 use Rattle.std.proofs.lemmas.Bool.{cond_both, or_parts}
 use Rattle.tbr_model.specs.declared.white_space.WhiteSpace.{WhiteSpace}
 use Rattle.tbr_model.specs.declared.white_space.WhiteSpace.TheVariants.{Normal, Pre, PreWrap}
 use Rattle.tbr_model.specs.Run.{Entry, character, marker_entry, Item, items_width, has_character, is_blank, is_break}
 use Rattle.tbr_model.specs.Laid.{Laid}
-use Rattle.tbr_model.specs.Rule.{Progress, pending_width, lay, flush_word, break_word, collapse, newline, tab, keep_space, is_pre, passes, tag_of, keep_character, preserve, enter, finished}
+use Rattle.tbr_model.specs.Rule.{Progress, pending_width, lay, flush_word, break_word, newline, tab, keep_space, is_pre, passes, tag_of, keep_character, preserve, enter, finished}
 use Rattle.tbr_model.specs.Shown.{columns_so_far, next_stop, is_newline_or_tab, HasOneMore}
+use Rattle.tbr_model.proofs.normal.StaysLaid.{collapse_laid}
 use Rattle.tbr_model.proofs.words.Items.{no_character_no_width}
 use Rattle.tbr_model.proofs.rule.HardLines.{flush_flushes}
 
@@ -39,9 +40,6 @@ module _ {A : Type 0} (columns : ℕ → Option ℕ) (width : ℕ) where
   abbrev Ends : Progress A → Progress A → Type 0
   Ends p q = q.laid.done ≡ p.laid.done
 
-  collapse_done : (c : ℕ) (a : A) (p : Progress A) → Ends p (collapse c a p)
-  collapse_done c a p = cond_both (is_blank c && (nat_lt 0 p.laid.width && is_none p.space)) _ _ (Ends p) (λ _. refl) (λ _. refl)
-
   keep_space_done : (c : ℕ) (a : A) (mode : WhiteSpace) (o : Option ℕ) (p : Progress A) → Ends p (keep_space c a mode o p)
   keep_space_done c a mode None p = refl
   keep_space_done c a mode (Some n) p = cond_both (has_character p.word) _ _ (Ends p) (λ _. refl) (λ _. refl)
@@ -61,7 +59,7 @@ module _ {A : Type 0} (columns : ℕ → Option ℕ) (width : ℕ) where
   pub entry_ends_none : (p : Progress A) (e : Entry A) → columns_so_far columns p ≤ width → is_newline_or_tab e ≡ false → (enter columns width p e).laid.done ≡ p.laid.done
   entry_ends_none p (marker_entry name) fits other = refl
   entry_ends_none p (character c a b Normal) fits other =
-      cond_both (is_break c) _ _ (Ends p) (λ _. collapse_done c (tag_of p a b) (break_word columns width p) ∙ (break_rests p fits).done)
+      cond_both (is_break c) _ _ (Ends p) (λ _. ap (λ (l : Laid A). l.done) (collapse_laid c (tag_of p a b) (break_word columns width p)) ∙ (break_rests p fits).done)
       (λ _. cond_both (is_some (columns c)) _ _ (Ends p) (λ _. refl) (λ _. refl))
   entry_ends_none p (character c a b Pre) fits other = preserve_done c a b Pre p other
   entry_ends_none p (character c a b PreWrap) fits other =

@@ -49,9 +49,6 @@ module _ {A : Type 0} (columns : ℕ → Option ℕ) (width : ℕ) where
   abbrev SpaceOrKept : Item A → Type 0
   SpaceOrKept i = not (is_space_item i) ≡ item_passes (is_kept columns) i
 
-  space_so : (a : A) → SpaceOrKept (glyph 32 a)
-  space_so a = sym (break_lost columns 32 refl)
-
   joins_so : (c : ℕ) (x : A) → MayJoin columns Normal c → SpaceOrKept (glyph c x)
   joins_so c x (inr blank) = absurd (blank.1 refl)
   joins_so c x (inl keeps) = go (c == 32) refl
@@ -76,5 +73,5 @@ module _ {A : Type 0} (columns : ℕ → Option ℕ) (width : ℕ) where
   pub normal_keeps : (es : List (Event A)) → Each (HasMode Normal) (run_of es) →
       without_spaces (joined (lines_of columns width es)) ++ waiting columns width (progress columns width es) ≡ kept_items columns (run_of es)
   normal_keeps es modes =
-      let so = each_on_lines columns SpaceOrKept (λ a. Unit {0}) (λ a _. space_so a) width es (all_so (run_of es) modes) in
+      let so = each_on_lines columns SpaceOrKept (λ a. Unit {0}) (λ a _. sym (break_lost columns 32 refl)) width es (all_so (run_of es) modes) in
       ap (λ (is : List (Item A)). is ++ waiting columns width (progress columns width es)) (without_spaces_kept (joined (lines_of columns width es)) so) ∙ kept_at_end es modes

@@ -1,5 +1,5 @@
 -- What holds of each item of two lists, of one after the other, and of a list under a function.
-use Rattle.std.proofs.Common.{◌≡◌, Bool, true, false, if◌then◌else◌, List, [], ◌∷◌, ◌++◌, map, filter, refl, ap, ◌∙◌}
+use Rattle.std.proofs.Common.{◌≡◌, Bool, true, false, if◌then◌else◌, List, [], ◌∷◌, ◌++◌, map, filter, refl, ap, sym, ◌∙◌, subst, append_assoc, append-nil}
 use Rattle.std.specs.List.{AllZip, AllByRecursion as Each}
 
 pub each_front : {X : Type 0} (P : X → Type 0) (a b : List X) → Each P (a ++ b) → Each P a
@@ -13,6 +13,11 @@ each_back P (x ∷ a) b h = each_back P a b h.1
 pub each_append : {X : Type 0} (P : X → Type 0) (a b : List X) → Each P a → Each P b → Each P (a ++ b)
 each_append P [] b h k = k
 each_append P (x ∷ a) b h k = (h.0, each_append P a b h.1 k)
+
+-- what one more item keeps
+pub from_front : {X : Type 0} (P : List X → Type 0) → ((xs : List X) (x : X) → P xs → P (xs ++ x ∷ [])) → (front xs : List X) → P front → P (front ++ xs)
+from_front P more front [] h = subst P (sym (append-nil front)) h
+from_front P more front (x ∷ xs) h = subst P (append_assoc front (x ∷ []) xs) (from_front P more (front ++ x ∷ []) xs (more front x h))
 
 -- ---- under a function
 

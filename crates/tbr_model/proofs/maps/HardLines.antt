@@ -155,23 +155,7 @@ module _ {A B : Type 0} (f : A → B) where
 
   -- ---- all hard lines of a run
 
-  hard_parts-map : (R : Bool → List (Entry A) → List (List (Item A)) → Type 0) (S : Bool → List (Entry B) → List (List (Item B)) → Type 0) →
+  pub hard_parts-map : (R : Bool → List (Entry A) → List (List (Item A)) → Type 0) (S : Bool → List (Entry B) → List (List (Item B)) → Type 0) →
       ((more : Bool) (h : List (Entry A)) (ls : List (List (Item A))) → R more h ls → S more (map_run f h) (map_lines f ls)) →
       (run : List (Entry A)) (lines : List (List (Item A))) → Parted R (hard_lines run) lines → Parted S (hard_lines (map_run f run)) (map_lines f lines)
   hard_parts-map R S each run lines h = rw (hard_lines-map f run) (parted-map R S (map_run f) (map_items f) each (hard_lines run) lines h)
-
-  pub all_hard_lines-map : (Same : A → A → Type 0) (Other : B → B → Type 0) → ((x y : A) → Same x y → Other (f x) (f y)) → (columns : ℕ → Option ℕ) (run : List (Entry A)) (lines : List (List (Item A))) →
-      Parted (ShowsHardLine columns Same) (hard_lines run) lines → Parted (ShowsHardLine columns Other) (hard_lines (map_run f run)) (map_lines f lines)
-  all_hard_lines-map Same Other keeps columns = hard_parts-map (ShowsHardLine columns Same) (ShowsHardLine columns Other) (hard_line-map Same Other keeps columns)
-
-  pub all_pre-map : (Same : A → A → Type 0) (Other : B → B → Type 0) → ((x y : A) → Same x y → Other (f x) (f y)) → (columns : ℕ → Option ℕ) (width : ℕ) (run : List (Entry A)) (lines : List (List (Item A))) →
-      Parted (ShowsPre columns Same width) (hard_lines run) lines → Parted (ShowsPre columns Other width) (hard_lines (map_run f run)) (map_lines f lines)
-  all_pre-map Same Other keeps columns width = hard_parts-map (ShowsPre columns Same width) (ShowsPre columns Other width) (pre-map Same Other keeps columns width)
-
-  pub all_prewrap-map : (columns : ℕ → Option ℕ) (width : ℕ) (run : List (Entry A)) (lines : List (List (Item A))) →
-      Parted (ShowsPreWrap columns width) (hard_lines run) lines → Parted (ShowsPreWrap columns width) (hard_lines (map_run f run)) (map_lines f lines)
-  all_prewrap-map columns width = hard_parts-map (ShowsPreWrap columns width) (ShowsPreWrap columns width) (prewrap-map columns width)
-
-  pub all_tabs-map : (columns : ℕ → Option ℕ) (width : ℕ) (run : List (Entry A)) (lines : List (List (Item A))) →
-      Parted (ShowsTabs columns width) (hard_lines run) lines → Parted (ShowsTabs columns width) (hard_lines (map_run f run)) (map_lines f lines)
-  all_tabs-map columns width = hard_parts-map (ShowsTabs columns width) (ShowsTabs columns width) (tabs-map columns width)

@@ -4,7 +4,7 @@ use Rattle.std.specs.Option.{option_map}
 use Rattle.std.specs.List.{AllByRecursion as Each}
 use Rattle.std.proofs.lemmas.List.{map-append, length-map, take-map}
 use Rattle.tbr_model.specs.Run.{Entry, Item, items_width, Word, words_of}
-use Rattle.tbr_model.specs.Layout.{Slot, slot_of, slots_within, word_slots, slots_of, gap_width, rest_width, line_width, gap_text, rest_text, line_text, MayFollow, FirstMayBegin, OthersMayFollow, IsLegalLine, joined, placed, HasNoEmptyLine, IsBest}
+use Rattle.tbr_model.specs.Layout.{Slot, slot_of, slots_within, word_slots, slots_of, gap_width, rest_width, line_width, gap_text, rest_text, line_text, MayFollow, IsLegalLine, joined, placed, HasNoEmptyLine, IsBest}
 use Rattle.tbr_model.specs.Mapped.{map_item, map_items, map_run, map_word, map_slot, map_slots, map_layout}
 use Rattle.tbr_model.proofs.lists.Each.{each_map, each_unmap}
 use Rattle.tbr_model.proofs.maps.Words.{item_width-map, items_width-map, words_of-map}
@@ -55,39 +55,13 @@ module _ {A B : Type 0} (f : A → B) where
   line_text-map [] = refl
   line_text-map (s ∷ l) = ap (λ is. map_item f s.item ∷ is) (rest_text-map l)
 
-  first-map : (l : List (Slot A)) → FirstMayBegin l → FirstMayBegin (map_slots f l)
-  first-map [] h = tt
-  first-map (s ∷ l) h = h
-
-  first-unmap : (l : List (Slot A)) → FirstMayBegin (map_slots f l) → FirstMayBegin l
-  first-unmap [] h = tt
-  first-unmap (s ∷ l) h = h
-
-  follow-map : (l : List (Slot A)) → Each MayFollow l → Each MayFollow (map_slots f l)
-  follow-map = each_map (map_slot f) MayFollow MayFollow (λ s h. h)
-
-  follow-unmap : (l : List (Slot A)) → Each MayFollow (map_slots f l) → Each MayFollow l
-  follow-unmap = each_unmap (map_slot f) MayFollow MayFollow (λ s h. h)
-
-  others-map : (l : List (Slot A)) → OthersMayFollow l → OthersMayFollow (map_slots f l)
-  others-map [] h = tt
-  others-map (s ∷ l) h = follow-map l h
-
-  others-unmap : (l : List (Slot A)) → OthersMayFollow (map_slots f l) → OthersMayFollow l
-  others-unmap [] h = tt
-  others-unmap (s ∷ l) h = follow-unmap l h
-
   legal_line-map : (width : ℕ) (l : List (Slot A)) → IsLegalLine width l → IsLegalLine width (map_slots f l)
-  legal_line-map width l h = record { fits = rw (line_width-map l) h.fits; first = first-map l h.first; others = others-map l h.others }
+  legal_line-map width [] h = record { fits = h.fits; first = tt; others = tt }
+  legal_line-map width (s ∷ l) h = record { fits = omega (arith, line_width-map (s ∷ l), h.fits); first = h.first; others = each_map (map_slot f) MayFollow MayFollow (λ t k. k) l h.others }
 
   legal_line-unmap : (width : ℕ) (l : List (Slot A)) → IsLegalLine width (map_slots f l) → IsLegalLine width l
-  legal_line-unmap width l h = record { fits = rw (line_width-map l) at h.fits; first = first-unmap l h.first; others = others-unmap l h.others }
-
-  legal_lines-map : (width : ℕ) (ls : List (List (Slot A))) → Each (IsLegalLine width) ls → Each (IsLegalLine width) (map_layout f ls)
-  legal_lines-map width = each_map (map_slots f) (IsLegalLine width) (IsLegalLine width) (legal_line-map width)
-
-  legal_lines-unmap : (width : ℕ) (ls : List (List (Slot A))) → Each (IsLegalLine width) (map_layout f ls) → Each (IsLegalLine width) ls
-  legal_lines-unmap width = each_unmap (map_slots f) (IsLegalLine width) (IsLegalLine width) (legal_line-unmap width)
+  legal_line-unmap width [] h = record { fits = h.fits; first = tt; others = tt }
+  legal_line-unmap width (s ∷ l) h = record { fits = omega (arith, line_width-map (s ∷ l), h.fits); first = h.first; others = each_unmap (map_slot f) MayFollow MayFollow (λ t k. k) l h.others }
 
   full-map : (ls : List (List (Slot A))) → HasNoEmptyLine ls → HasNoEmptyLine (map_layout f ls)
   full-map [] h = tt
@@ -124,11 +98,11 @@ lines_from_map {X} {Y} g xs (l ∷ ls) e =
 -- the best layout stays the best
 pub best-map : {A B : Type 0} (f : A → B) (width : ℕ) (slots : List (Slot A)) (lines : List (List (Slot A))) → IsBest width slots lines → IsBest width (map_slots f slots) (map_layout f lines)
 best-map {A} {B} f width slots lines best = record {
-  legal = record { whole = joined-map (map_slot f) lines ∙ ap (map_slots f) best.legal.whole; each = legal_lines-map f width lines best.legal.each };
+  legal = record { whole = joined-map (map_slot f) lines ∙ ap (map_slots f) best.legal.whole; each = each_map (map_slots f) (IsLegalLine width) (IsLegalLine width) (legal_line-map f width) lines best.legal.each };
   full = full-map f lines best.full;
   ahead = λ others other n.
       let w = lines_from_map (map_slot f) slots others other.whole in
-      let each : Each (IsLegalLine width) w.0 = legal_lines-unmap f width w.0 (subst (Each (IsLegalLine width)) w.1 other.each) in
+      let each : Each (IsLegalLine width) w.0 = each_unmap (map_slots f) (IsLegalLine width) (IsLegalLine width) (legal_line-unmap f width) w.0 (subst (Each (IsLegalLine width)) w.1 other.each) in
       let behind = best.ahead w.0 (record { whole = w.2; each = each }) n in
       omega (arith, behind, ap (placed n) w.1, placed-map (map_slot f) n w.0, placed-map (map_slot f) n lines);
 }

@@ -11,6 +11,7 @@ use Rattle.tbr_model.proofs.words.Items.{back_has}
 use Rattle.tbr_model.proofs.rule.HardLineStart.{BeginsHardLine}
 use Rattle.tbr_model.proofs.rule.LaidText.{joined-end_line}
 use Rattle.tbr_model.proofs.rule.BlankLines.{blank_line_of}
+use Rattle.tbr_model.proofs.prewrap.OneWay.{begins_not_spaces}
 use Rattle.tbr_model.proofs.pre.KeptCharacters.{pre_kept}
 use Rattle.tbr_model.proofs.pre.WaitingWord.{HasNothingLaid, waiting, waiting_length, WaitsWith, line_waits, fresh_plain, fresh_waiting}
 use Rattle.tbr_model.proofs.pre.CutWord.{IsCutOn, cut_laid}
@@ -66,13 +67,9 @@ module _ {A : Type 0} (columns : ℕ → Option ℕ) (width : ℕ) (p : Progress
       subst (λ (cs : List ℕ). IsShownBy (cs ∷ []) (flush_word columns width q).laid) all
       (fitting columns width q (waits printable).plain (some_waits printable other) (omega (arith, fits, ap length all, printable_length columns (run_of es) printable)))
 
-  begins_other : (cs : List ℕ) → BeginsWithNonBlank cs → ¬ (IsSpaces cs)
-  begins_other [] h all = h
-  begins_other (c ∷ cs) h all = h all.0
-
   line_cut : 0 < width → IsPrintableLine columns (run_of es) → BeginsWithNonBlank (entry_letters (run_of es)) → q.space ≡ None → IsCutOn width q.word laid
   line_cut wide printable begins none =
-      cut_laid columns width q wide (waits printable).plain none (some_waits printable (begins_other (entry_letters (run_of es)) begins))
+      cut_laid columns width q wide (waits printable).plain none (some_waits printable (begins_not_spaces (entry_letters (run_of es)) begins))
 
   module _ (Same : A → A → Type 0) (wide : 0 < width) (reflexive : (x : A) → Same x x) where
     tags : IsPrintableLine columns (run_of es) → BeginsWithNonBlank (entry_letters (run_of es)) → IsTagged Same width 0 (glyphs_of q.word) (run_of es) × (q.space ≡ None)

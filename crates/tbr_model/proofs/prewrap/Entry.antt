@@ -2,9 +2,8 @@
 use Rattle.std.proofs.Common.{◌≡◌, ℕ, ◌<◌, false, Option, Some, refl, ap, ◌∙◌, lt-ltb}
 use Rattle.tbr_model.specs.declared.white_space.WhiteSpace.{WhiteSpace}
 use Rattle.tbr_model.specs.declared.white_space.WhiteSpace.TheVariants.{PreWrap}
-use Rattle.tbr_model.specs.Run.{items_width, character, has_character, is_break}
+use Rattle.tbr_model.specs.Run.{items_width, character, is_break}
 use Rattle.tbr_model.specs.Rule.{Progress, lay, break_word, join, tag_of, keep_space, enter}
-use Rattle.tbr_model.proofs.words.Items.{no_character_no_width}
 use Rattle.tbr_model.proofs.rule.Printable.{IsVisible, break_not, preserved_space, preserved_visible}
 
 module _ {A : Type 0} (columns : ℕ → Option ℕ) (width : ℕ) (a b : A) (mode : WhiteSpace) (p : Progress A) (wraps : mode ≡ PreWrap) where
@@ -21,10 +20,6 @@ module _ {A : Type 0} (columns : ℕ → Option ℕ) (width : ℕ) (a b : A) (mo
       joins =
           let e : is_break c ≡ false = break_not c v.from v.to in
           rw e (preserved_visible columns width c a b PreWrap p v)
-
--- a word without a character isn't broken
-pub break_none : {A : Type 0} (columns : ℕ → Option ℕ) (width : ℕ) (p : Progress A) → has_character p.word ≡ false → break_word columns width p ≡ p
-break_none columns width p none = rw (no_character_no_width columns p.word none) refl
 
 -- a word that takes columns is broken
 pub break_some : {A : Type 0} (columns : ℕ → Option ℕ) (width : ℕ) (p : Progress A) → 0 < items_width columns p.word → break_word columns width p ≡ lay columns width p

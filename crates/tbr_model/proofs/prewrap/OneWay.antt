@@ -22,7 +22,7 @@ ends_back [] y z e = e
 ends_back (c ∷ []) y z e = e
 ends_back (c ∷ d ∷ a) y z e = ends_back (d ∷ a) y z e
 
-begins_not_spaces : (cs : List ℕ) → BeginsWithNonBlank cs → ¬ (IsSpaces cs)
+pub begins_not_spaces : (cs : List ℕ) → BeginsWithNonBlank cs → ¬ (IsSpaces cs)
 begins_not_spaces [] e h = absurd e
 begins_not_spaces (c ∷ cs) e h = e h.0
 

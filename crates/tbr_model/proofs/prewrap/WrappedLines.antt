@@ -9,10 +9,11 @@ use Rattle.tbr_model.specs.Run.{character, marker_entry, Item, glyph, items_widt
 use Rattle.tbr_model.specs.Laid.{Laid, end_line, end_if_character, put_items}
 use Rattle.tbr_model.specs.Rule.{Event, call, entry, run_of, Progress, Space, pending_width, space_of, trimmed, wrap_space_by, wrap_space, is_pre, lay_here, lay_fresh, lay, flush_word, break_word, join, tag_of, keep_space, newline, enter, step, finished}
 use Rattle.tbr_model.specs.Hard.{HasMode, letters_of, entry_letters, IsPrintableLine, IsSpaces, EndsWithNonBlank, IsWrapped}
+use Rattle.tbr_model.proofs.rule.BlankLines.{not_broken}
 use Rattle.tbr_model.proofs.words.Items.{letters_of-append, some_letters, has_letters, no_letters, no_character_no_width, WaitsIn, pending_width-of}
 use Rattle.tbr_model.proofs.tabs.FittingText.{laid_letters}
 use Rattle.tbr_model.proofs.prewrap.WordUnderWay.{IsVisibleOrMarker, plain_width, plain_leading, IsReadyForWord, waits, join_ready, again_ready, fresh_ready}
-use Rattle.tbr_model.proofs.prewrap.Entry.{enter_wrap_space, enter_wrap_visible, break_none, break_some}
+use Rattle.tbr_model.proofs.prewrap.Entry.{enter_wrap_space, enter_wrap_visible, break_some}
 use Rattle.tbr_model.proofs.rule.Printable.{visible_of}
 use Rattle.tbr_model.proofs.rule.HardLineStart.{BeginsHardLine}
 use Rattle.tbr_model.proofs.prewrap.WrappedText.{GoesOnFrom, GoesOn, IsOpen, ends_nonblank, ends_append, goes_on_some, ended, begun, on_line, from_some, from_none, begins_behind, first_begins, spaces_alone, one_more_space}
@@ -224,9 +225,6 @@ module _ {A : Type 0} (columns : ℕ → Option ℕ) (width : ℕ) (some : 0 < w
             last = inl (spaces, bare);
           }
 
-  end_wraps : (p : Progress A) → IsReadyForWord columns p → IsOpen width (letters_of p.laid.line) → WrapsText p (text_ahead p []) (flush_word columns width p).laid
-  end_wraps p h line = cond_both (has_character p.word) _ _ (λ (q : Progress A). WrapsText p (text_ahead p []) q.laid) (λ has. end_laid p h line has) (λ none. end_bare p line none)
-
   -- a space after a word that is laid
   space_laid : (p : Progress A) (a : A) (cs : List ℕ) (l : Laid A) → LaysText p (lay columns width p) →
       (let n : Progress A = record (lay columns width p) { space = space_of (pending_width (lay columns width p).space + 1) a PreWrap } in WrapsText n (text_ahead n cs) l) → WrapsText p (text_ahead p (32 ∷ cs)) l
@@ -291,11 +289,11 @@ module _ {A : Type 0} (columns : ℕ → Option ℕ) (width : ℕ) (some : 0 < w
       go false e =
           let n : Progress A = spaced p (tag_of p a b) in
           let rest = later n (waits columns p (tag_of p a b) h.plain h.measured) line in
-          subst (ReadsSpace es p a b) (sym (break_none columns width p e)) (kept p e (space_more p (tag_of p a b) (entry_letters (run_of es)) (end_laid_from n es) e rest))
+          subst (ReadsSpace es p a b) (sym (not_broken columns width p e)) (kept p e (space_more p (tag_of p a b) (entry_letters (run_of es)) (end_laid_from n es) e rest))
 
   wraps_read : (es : List (Event A)) (p : Progress A) → columns 32 ≡ Some 1 → Each (HasMode PreWrap) (run_of es) → IsPrintableLine columns (run_of es) → IsReadyForWord columns p → IsOpen width (letters_of p.laid.line) →
       WrapsText p (text_ahead p (entry_letters (run_of es))) (flush_word columns width (fold (step columns width) p es)).laid
-  wraps_read [] p one modes printable h line = end_wraps p h line
+  wraps_read [] p one modes printable h line = cond_both (has_character p.word) _ _ (λ (q : Progress A). WrapsText p (text_ahead p []) q.laid) (λ has. end_laid p h line has) (λ none. end_bare p line none)
   wraps_read (call ∷ es) p one modes printable h line =
       let k = wraps_read es (record p { in_continuation = p.continuation_flag }) one modes printable (again_ready columns p p.continuation_flag h) line in
       record { lines = k.lines; are = k.are; goes = k.goes; last = k.last }

@@ -27,7 +27,7 @@ record IsBlankSoFar {A : Type 0} (p : Progress A) : Type 0 where
   word : has_character p.word ≡ false
 
 module _ {A : Type 0} (columns : ℕ → Option ℕ) (width : ℕ) where
-  not_broken : (p : Progress A) → has_character p.word ≡ false → break_word columns width p ≡ p
+  pub not_broken : (p : Progress A) → has_character p.word ≡ false → break_word columns width p ≡ p
   not_broken p h = let none : items_width columns p.word ≡ 0 = no_character_no_width columns p.word h in rw none refl
 
   space_waits : (a : A) (mode : WhiteSpace) (o : Option ℕ) (p : Progress A) → IsBlankSoFar p → IsBlankSoFar (keep_space 32 a mode o p)

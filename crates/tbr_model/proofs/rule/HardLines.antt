@@ -166,9 +166,5 @@ module _ {A : Type 0} (columns : ℕ → Option ℕ) (width : ℕ) (R : Bool →
       go_on_either e es m false k rest = go_on_entry e es m k rest
 
   -- what holds of each hard line, begun afresh, holds of the hard lines of a run
-  pub fresh_lines_parted : (p : Progress A) (es : List (Event A)) → BeginsHardLine p → Each M (run_of es) →
-      Parted R (hard_lines (run_of es)) (finished columns width (fold (step columns width) p es)).done
-  fresh_lines_parted p es is_fresh h = go_on es h p [] is_fresh tt tt
-
   pub hard_lines_parted : (es : List (Event A)) → Each M (run_of es) → Parted R (hard_lines (run_of es)) (lines_of columns width es)
-  hard_lines_parted es h = fresh_lines_parted at_start es start_fresh h
+  hard_lines_parted es h = go_on es h at_start [] start_fresh tt tt

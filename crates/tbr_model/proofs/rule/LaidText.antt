@@ -26,15 +26,12 @@ text-end_line l = append-nil (joined (end_line l).done) ∙ joined-end_line l
 pub text-end_if_character : {A : Type 0} (l : Laid A) → text (end_if_character l) ≡ text l
 text-end_if_character {A} l = cond_both (has_character l.line) _ _ (λ (m : Laid A). text m ≡ text l) (λ _. text-end_line l) (λ _. refl)
 
-text-end_if_columns : {A : Type 0} (l : Laid A) → text (end_if_columns l) ≡ text l
-text-end_if_columns {A} l = cond_both (l.width == 0) _ _ (λ (m : Laid A). text m ≡ text l) (λ _. refl) (λ _. text-end_line l)
-
 text-put_item : {A : Type 0} (columns : ℕ → Option ℕ) (width : ℕ) (l : Laid A) (i : Item A) → text (put_item columns width l i) ≡ text l ++ i ∷ []
 text-put_item {A} columns width l i =
     cond_both (nat_le (l.width + item_width columns i) width) _ _ Holds (λ _. text-extended l (i ∷ []) (item_width columns i))
     (λ _. cond_both (nat_le (item_width columns i) width) _ _ Holds
     (λ _. text-extended (end_line l) (i ∷ []) (item_width columns i) ∙ ap (λ is. is ++ i ∷ []) (text-end_line l))
-    (λ _. text-end_line (extended (end_if_columns l) (i ∷ []) (item_width columns i)) ∙ text-extended (end_if_columns l) (i ∷ []) (item_width columns i) ∙ ap (λ is. is ++ i ∷ []) (text-end_if_columns l)))
+    (λ _. text-end_line (extended (end_if_columns l) (i ∷ []) (item_width columns i)) ∙ text-extended (end_if_columns l) (i ∷ []) (item_width columns i) ∙ ap (λ is. is ++ i ∷ []) (cond_both (l.width == 0) _ _ (λ (m : Laid A). text m ≡ text l) (λ _. refl) (λ _. text-end_line l))))
   where
     Holds : Laid A → Type 0
     Holds m = text m ≡ text l ++ i ∷ []

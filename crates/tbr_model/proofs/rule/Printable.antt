@@ -6,7 +6,7 @@ use Rattle.std.specs.Char.{is_whitespace}
 use Rattle.tbr_model.specs.declared.white_space.WhiteSpace.{WhiteSpace}
 use Rattle.tbr_model.specs.declared.white_space.WhiteSpace.TheVariants.{Normal, Pre, PreWrap}
 use Rattle.tbr_model.specs.Run.{character, is_blank, is_break}
-use Rattle.tbr_model.specs.Rule.{Progress, break_word, flush_word, tab, tag_of, keep_space, keep_character, preserve, enter}
+use Rattle.tbr_model.specs.Rule.{Progress, break_word, tag_of, keep_space, keep_character, preserve, enter}
 use Rattle.tbr_model.specs.Hard.{IsPrintable}
 
 pub whitespace_not : (c : ℕ) → 33 ≤ c → c ≤ 126 → is_whitespace c ≡ false
@@ -38,10 +38,6 @@ pub entered : {A : Type 0} (columns : ℕ → Option ℕ) (width c : ℕ) (a b :
 entered columns width c a b Normal p h = absurd (h refl)
 entered columns width c a b Pre p h = refl
 entered columns width c a b PreWrap p h = refl
-
-pub preserved_tab : {A : Type 0} (columns : ℕ → Option ℕ) (width : ℕ) (a b : A) (mode : WhiteSpace) (p : Progress A) →
-    preserve columns width 9 a b mode p ≡ tab width (tag_of p a b) (flush_word columns width p)
-preserved_tab columns width a b mode p = refl
 
 pub preserved_space : {A : Type 0} (columns : ℕ → Option ℕ) (width : ℕ) (a b : A) (mode : WhiteSpace) (p : Progress A) → columns 32 ≡ Some 1 →
     preserve columns width 32 a b mode p ≡ keep_space 32 (tag_of p a b) mode (Some 1) p

@@ -1,5 +1,5 @@
 -- Markers at the end of the word under way can be taken out of the run.
-use Rattle.std.proofs.Common.{◌≡◌, ℕ, ◌+◌, ◌-◌, ◌≤◌, ◌⊎◌, inl, inr, ◌==◌, ◌&&◌, ◌||◌, Bool, true, false, nat_le, nat_lt, if◌then◌else◌, is_some, is_none, Option, Some, None, List, [], ◌∷◌, ◌++◌, length, refl, ap, sym, ◌∙◌, subst, arith, append_assoc, append-nil, length-append, ltb-true, ltb-false, lt-ltb}
+use Rattle.std.proofs.Common.{◌≡◌, ℕ, ◌+◌, ◌-◌, ◌≤◌, ◌⊎◌, inl, inr, ◌==◌, ◌&&◌, ◌||◌, Bool, true, false, nat_le, nat_lt, if◌then◌else◌, is_some, is_none, Option, Some, None, List, [], ◌∷◌, ◌++◌, length, refl, ap, sym, ◌∙◌, arith, append-nil, length-append, ltb-true, ltb-false, lt-ltb}
 use Rattle.std.proofs.lemmas.Bool.{cond_both, le-ltb, or_parts}
 use Rattle.std.proofs.lemmas.List.Sums.{fold-append}
 use Rattle.tbr_model.specs.declared.white_space.WhiteSpace.{WhiteSpace}
@@ -7,32 +7,15 @@ use Rattle.tbr_model.specs.declared.white_space.WhiteSpace.TheVariants.{Normal, 
 use Rattle.tbr_model.specs.Run.{Entry, character, marker_entry, Item, glyph, marker, items_width, has_character, is_blank, is_break}
 use Rattle.tbr_model.specs.Laid.{extended, end_if_character, put_items}
 use Rattle.tbr_model.specs.Rule.{Event, call, entry, run_of, Space, Progress, at_start, spaces, pending_width, space_of, is_white_item, without_leading, wrap_space_by, wrap_space, put_pending, lay_here, lay_fresh, lay, flush_word, break_word, join, collapse, newline, tab, keep_space, is_pre, passes, tag_of, keep_character, preserve, enter_normal, enter, step, progress}
-use Rattle.tbr_model.specs.Markers.{names_in_run, without_last_markers}
+use Rattle.tbr_model.specs.Markers.{names_in_run}
 use Rattle.tbr_model.specs.TakenOut.{without_markers}
+use Rattle.tbr_model.proofs.lists.Each.{from_front}
 use Rattle.tbr_model.proofs.words.Items.{items_width-append, has_character-append, back_has, no_character_no_width}
 use Rattle.tbr_model.proofs.rule.HardLines.{run_of-append}
 use Rattle.std.proofs.Math.Bool.{or-false}
 use Rattle.tbr_model.proofs.rule.Markers.{names_in_run-append}
 
--- ---- the last markers of a run
-
-pub without_none : {A : Type 0} (es : List (Entry A)) → without_last_markers 0 es ≡ es
-without_none [] = refl
-without_none {A} (character c a b mode ∷ es) = ap (λ (fs : List (Entry A)). character c a b mode ∷ fs) (without_none es)
-without_none {A} (marker_entry name ∷ es) = rw (le-ltb (length (names_in_run es)) 0 (omega arith)) (ap (λ (fs : List (Entry A)). marker_entry name ∷ fs) (without_none es))
-
 -- ---- the last markers among events
-
-pub run_without : {A : Type 0} (n : ℕ) (es : List (Event A)) → run_of (without_markers n es) ≡ without_last_markers n (run_of es)
-run_without n [] = refl
-run_without n (call ∷ es) = run_without n es
-run_without {A} n (entry (character c a b mode) ∷ es) = ap (λ (fs : List (Entry A)). character c a b mode ∷ fs) (run_without n es)
-run_without {A} n (entry (marker_entry name) ∷ es) = go (nat_lt (length (names_in_run (run_of es))) n) (run_without n es)
-  where
-    go : (x : Bool) → run_of (without_markers n es) ≡ without_last_markers n (run_of es) →
-        run_of (if x then without_markers n es else entry (marker_entry name) ∷ without_markers n es) ≡ (if x then without_last_markers n (run_of es) else marker_entry name ∷ without_last_markers n (run_of es))
-    go true rest = rest
-    go false rest = ap (λ (fs : List (Entry A)). marker_entry name ∷ fs) rest
 
 pub without_no_event : {A : Type 0} (es : List (Event A)) → without_markers 0 es ≡ es
 without_no_event [] = refl
@@ -176,12 +159,6 @@ module _ {A : Type 0} where
 
   -- ---- what leaves the word
 
-  newline_leaves : (p : Progress A) → Leaves newline p
-  newline_leaves p front ms h e = inr (front, e, refl)
-
-  tab_leaves : (width : ℕ) (a : A) (p : Progress A) → Leaves (tab width a) p
-  tab_leaves width a p front ms h e = inr (front, e, refl)
-
   collapse_leaves : (c : ℕ) (a : A) (p : Progress A) → Leaves (collapse c a) p
   collapse_leaves c a p =
       leaves_if (λ q. is_blank c && (nat_lt 0 q.laid.width && is_none q.space)) (λ q. record q { space = space_of 1 a Normal }) (λ q. q) p
@@ -248,8 +225,8 @@ module _ {A : Type 0} (columns : ℕ → Option ℕ) (width : ℕ) where
           else if blank then keep_space c (tag_of q a b) mode (columns c) q
           else keep_character columns width c a b mode (columns c) q) p
       go true newlines tabs blank = λ front ms h e. inr (front, e, refl)
-      go false true tabs blank = leaves_then (flush_word columns width) newline p (flush_word_leaves p) (newline_leaves (flush_word columns width p))
-      go false false true blank = leaves_then (flush_word columns width) (tab width (tag_of p a b)) p (flush_word_leaves p) (tab_leaves width (tag_of p a b) (flush_word columns width p))
+      go false true tabs blank = leaves_then (flush_word columns width) newline p (flush_word_leaves p) (λ front ms h e. inr (front, e, refl))
+      go false false true blank = leaves_then (flush_word columns width) (tab width (tag_of p a b)) p (flush_word_leaves p) (λ front ms h e. inr (front, e, refl))
       go false false false true = keep_space_leaves c (tag_of p a b) mode (columns c) p
       go false false false false = keep_character_leaves c a b mode (columns c) p
 
@@ -321,15 +298,7 @@ module _ {A : Type 0} (columns : ℕ → Option ℕ) (width : ℕ) where
   out_event es (entry (character c a b mode)) can =
       out_behind es (entry (character c a b mode)) can (enter_leaves c a b mode (progress columns width es)) (λ n. without_behind n es c a b mode)
 
-  out_events : (es so_far : List (Event A)) → CanTakeOut so_far → CanTakeOut (so_far ++ es)
-  out_events [] so_far can = subst CanTakeOut (sym (append-nil so_far)) can
-  out_events (x ∷ es) so_far can = subst CanTakeOut (append_assoc so_far (x ∷ []) es) (out_events es (so_far ++ x ∷ []) (out_event so_far x can))
-
   -- Without the markers that end the word under way, a run is at the same place but for them.
   pub taken_events : (es : List (Event A)) (front ms : List (Item A)) → (progress columns width es).word ≡ front ++ ms → has_character ms ≡ false →
       progress columns width (without_markers (length ms) es) ≡ record (progress columns width es) { word = front }
-  taken_events es = out_events es [] (λ front ms e h. nothing_out [] front ms e (append_none front ms e))
-
-  pub taken_out : (es : List (Event A)) (front ms : List (Item A)) → (progress columns width es).word ≡ front ++ ms → has_character ms ≡ false →
-      (fs : List (Event A)) × (run_of fs ≡ without_last_markers (length ms) (run_of es)) × (progress columns width fs ≡ record (progress columns width es) { word = front })
-  taken_out es front ms e h = (without_markers (length ms) es, run_without (length ms) es, taken_events es front ms e h)
+  taken_events es = from_front CanTakeOut out_event [] es (λ front ms e h. nothing_out [] front ms e (append_none front ms e))

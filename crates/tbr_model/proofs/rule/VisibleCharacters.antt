@@ -1,5 +1,5 @@
 -- A block shows the visible characters of its run once, in order.
-use Rattle.std.proofs.Common.{◌≡◌, ℕ, ◌<◌, ◌⊎◌, inl, inr, Bool, true, false, not, Option, List, [], ◌∷◌, ◌++◌, filter, fold, length, refl, ap, ◌∙◌, arith, length-append}
+use Rattle.std.proofs.Common.{◌≡◌, ℕ, ◌⊎◌, inl, inr, Bool, true, false, not, Option, List, [], ◌∷◌, ◌++◌, filter, fold, refl, ap, ◌∙◌, arith, length-append}
 use Rattle.std.specs.List.{AllZip, AllByRecursion as Each}
 use Rattle.std.specs.Char.{is_whitespace}
 use Rattle.std.proofs.lemmas.Bool.{and_left, and_right, not_from_true}
@@ -81,14 +81,11 @@ module _ {A : Type 0} (columns : ℕ → Option ℕ) (width : ℕ) (Same : A →
 
   -- ---- hard lines
 
-  ends_a_line : (p : Progress A) → 0 < length (newline p).laid.done
-  ends_a_line p = omega (arith, length-append p.laid.done (p.laid.line ∷ []))
-
   one_hard_line : (p : Progress A) (es : List (Event A)) → BeginsHardLine p → Each Preserves (run_of es) → NoNewline (run_of es) →
       ShowsHardLine columns Same true (run_of es) (newline (flush_word columns width (fold (step columns width) p es))).laid.done
       × ShowsHardLine columns Same false (run_of es) (finished columns width (fold (step columns width) p es)).done
   one_hard_line p es f m n = (
-    record { line = λ _. ends_a_line (flush_word columns width (fold (step columns width) p es)); visible = visible_ended p es f; blank = λ spaces. (blank_line columns width p es f m spaces).0 },
+    record { line = λ _. (let q = flush_word columns width (fold (step columns width) p es) in omega (arith, length-append q.laid.done (q.laid.line ∷ []))); visible = visible_ended p es f; blank = λ spaces. (blank_line columns width p es f m spaces).0 },
     record { line = λ h. cc; visible = visible_from p es f; blank = λ spaces. (blank_line columns width p es f m spaces).1 },
   )
 

@@ -36,12 +36,12 @@ pub record KeptByRule {A : Type 0} (columns : ℕ → Option ℕ) (width : ℕ) 
   pub marks : (es : List (Entry A)) (l : Laid A) (w : List (Item A)) (name : List ℕ) → Comes (marker_entry name) → R es l w → R (es ++ marker_entry name ∷ []) l (w ++ marker name ∷ [])
   pub lost : (es : List (Entry A)) (l : Laid A) (w : List (Item A)) (c : ℕ) (a b : A) (m : WhiteSpace) → is_kept columns c ≡ false → R es l w → R (es ++ character c a b m ∷ []) l w
 
-extended_twice : {A : Type 0} (l : Laid A) (is js : List (Item A)) (n m k : ℕ) → n + m ≡ k → extended (extended l is n) js m ≡ extended l (is ++ js) k
+pub extended_twice : {A : Type 0} (l : Laid A) (is js : List (Item A)) (n m k : ℕ) → n + m ≡ k → extended (extended l is n) js m ≡ extended l (is ++ js) k
 extended_twice l is js n m k e =
     let columns : (l.width + n) + m ≡ l.width + k = omega (arith, e) in
     rw (columns, append_assoc l.line is js) refl
 
-extended_nothing : {A : Type 0} (l : Laid A) → extended l [] 0 ≡ l
+pub extended_nothing : {A : Type 0} (l : Laid A) → extended l [] 0 ≡ l
 extended_nothing l =
     let columns : l.width + 0 ≡ l.width = omega arith in
     rw (columns, append-nil l.line) refl

@@ -13,7 +13,7 @@ use Rattle.tbr_model.specs.Hard.{HasMode, Preserves, is_newline, letters_of, ent
 use Rattle.tbr_model.proofs.words.Items.{back_has, no_character_no_width, no_letters}
 use Rattle.tbr_model.proofs.rule.BlankLines.{all_preserve}
 use Rattle.tbr_model.proofs.rule.HardLineStart.{BeginsHardLine}
-use Rattle.tbr_model.proofs.rule.Printable.{IsVisible, prepared, entered, preserved_tab, preserved_space, preserved_visible, visible_of}
+use Rattle.tbr_model.proofs.rule.Printable.{IsVisible, prepared, entered, preserved_space, preserved_visible, visible_of}
 use Rattle.tbr_model.proofs.tabs.FittingText.{HoldsText, lay_fits, laid_letters, flush_reads, prepared_reads, space_reads, continuation_reads, character_reads, character_joins, tab_reads}
 
 -- ---- one entry
@@ -36,7 +36,7 @@ module _ {A : Type 0} (columns : ℕ → Option ℕ) (width : ℕ) (a b : A) (mo
   tab_entered fits =
       let ready = prepared_reads columns width 9 mode x p h (omega (arith, fits)) in
       let flushed = flush_reads columns width x (prepared columns width 9 mode p) ready (omega (arith, fits)) in
-      subst (HoldsText columns (x ++ replicate (8 - length x % 8) 32)) (sym (entered columns width 9 a b mode p kept ∙ preserved_tab columns width a b mode (prepared columns width 9 mode p)))
+      subst (HoldsText columns (x ++ replicate (8 - length x % 8) 32)) (sym (entered columns width 9 a b mode p kept))
       (tab_reads columns width (tag_of (prepared columns width 9 mode p) a b) x (flush_word columns width (prepared columns width 9 mode p)) flushed.0 flushed.1 fits)
 
   pub space_entered : columns 32 ≡ Some 1 → length x ≤ width → HoldsText columns (x ++ 32 ∷ []) (enter columns width p (character 32 a b mode))

@@ -30,9 +30,6 @@ each_weaker P Q f (x ∷ xs) h = (f x h.0, each_weaker P Q f xs h.1)
 
 -- ---- placing a word keeps what holds
 
-follows_within : {A : Type 0} (width : ℕ) (wider : Bool) (s : Slot A) → InWord width wider s → MayFollow s
-follows_within width wider s h = rw (h.0) refl
-
 closed_first : {A : Type 0} (width : ℕ) (slots : List (Slot A)) (done : List (List (Slot A))) (last : List (Slot A)) (t : Slot A) →
     HoldsSlots width slots (record { done = done; last = last }) → t.begins ≡ true → t.wider ≡ true → t.width ≤ width →
     HoldsSlots width (slots ++ t ∷ []) (record { done = close done last; last = t ∷ [] })
@@ -52,7 +49,7 @@ place_holds {A} width slots lines wider t v h begins is_wider narrow inside test
     (λ e. fitting (leb-true _ _ e)) (λ e. cond_both wider _ _ (HoldsSlots width (slots ++ (t ∷ v))) (too_wide (leb-false _ _ e)) (next (leb-false _ _ e)))
   where
     follow : Each MayFollow v
-    follow = each_weaker (InWord width wider) MayFollow (follows_within width wider) v inside
+    follow = each_weaker (InWord width wider) MayFollow (λ s i. rw (i.0) refl) v inside
 
     starts : FirstMayBegin (t ∷ v)
     starts = rw begins refl
@@ -72,18 +69,12 @@ place_holds {A} width slots lines wider t v h begins is_wider narrow inside test
     fitting : line_width (lines.last ++ (t ∷ v)) ≤ width → HoldsSlots width (slots ++ (t ∷ v)) (record { done = lines.done; last = lines.last ++ (t ∷ v) })
     fitting n = longer_holds_slots width slots lines.done lines.last (t ∷ v) h (on lines.last h n)
 
-    to_wider : wider ≡ true → (s : Slot A) → InWord width wider s → InWider width s
-    to_wider e s i = (i.0, i.1 ∙ e, i.2)
-
     too_wide : width < line_width (lines.last ++ (t ∷ v)) → wider ≡ true → HoldsSlots width (slots ++ (t ∷ v)) (fill width (close lines.done lines.last) [] (t ∷ v))
     too_wide n e =
         let first : nat_le (line_width ([] ++ (t ∷ []))) width ≡ true = le-leb _ _ (omega (arith, narrow)) in
         rw first (rw append_assoc at (fill_holds_slots width (slots ++ t ∷ []) (close lines.done lines.last) (t ∷ []) v (omega arith)
         (closed_first width slots lines.done lines.last t h begins (is_wider ∙ e) narrow)
-        (each_weaker (InWord width wider) (InWider width) (to_wider e) v inside)))
-
-    cannot_begin : wider ≡ false → (s : Slot A) → InWord width wider s → MayNotBegin s
-    cannot_begin e s i = rw (i.0, i.1, e) refl
+        (each_weaker (InWord width wider) (InWider width) (λ s i. (i.0, i.1 ∙ e, i.2)) v inside)))
 
     some : (last : List (Slot A)) → width < line_width (last ++ (t ∷ v)) → line_width (t ∷ v) ≤ width → 0 < length last
     some [] n m = absurd (omega arith)
@@ -93,7 +84,7 @@ place_holds {A} width slots lines wider t v h begins is_wider narrow inside test
     next n e =
         let m : line_width (t ∷ v) ≤ width = ltb-false _ _ (test ∙ e) in
         next_holds_slots width slots lines.done lines.last (t ∷ v) (some lines.last n m) h
-        (stays_by_unit width lines.last t v n (each_weaker (InWord width wider) MayNotBegin (cannot_begin e) v inside)) (legal_word m)
+        (stays_by_unit width lines.last t v n (each_weaker (InWord width wider) MayNotBegin (λ s i. rw (i.0, i.1, e) refl) v inside)) (legal_word m)
 
 -- ---- all words
 

@@ -20,9 +20,6 @@ line-append a b = ap has_character (map-append (λ s. s.item) a b) ∙ has_chara
 back_has : {A : Type 0} (a b : List (Slot A)) → line_has_character b ≡ true → line_has_character (a ++ b) ≡ true
 back_has a b h = line-append a b ∙ or_right (line_has_character a) (line_has_character b) h
 
-front_has : {A : Type 0} (a b : List (Slot A)) → line_has_character a ≡ true → line_has_character (a ++ b) ≡ true
-front_has a b h = line-append a b ∙ ap (λ x. x || line_has_character b) h
-
 abbrev pub HasGlyph : {A : Type 0} → List (Slot A) → Type 0
 HasGlyph l = line_has_character l ≡ true
 
@@ -56,7 +53,7 @@ fill_characters {A} columns width done last (s ∷ ss) h inner fits empty some =
     let wide : width < line_width last + s.width = omega (arith, leb-false _ _ e, line_width-one last s inner.0.0) in
     fill_characters columns width (done ++ last ∷ []) (s ∷ []) ss (each_append HasGlyph done (last ∷ []) h (ended (line_has_character last) refl wide, tt)) inner.1
     (omega (arith, inner.0.2)) (λ none. omega (arith, one_width columns s inner.0.1 none))
-    (front_has (s ∷ []) ss (wide_has columns s inner.0.1 (omega (arith, wide, fits)))))
+    (line-append (s ∷ []) ss ∙ ap (λ x. x || line_has_character ss) (wide_has columns s inner.0.1 (omega (arith, wide, fits)))))
   where
     longer : line_has_character (last ++ s ∷ []) ≡ false → line_width (last ++ s ∷ []) ≡ 0
     longer none =

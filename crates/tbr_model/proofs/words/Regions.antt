@@ -3,7 +3,7 @@ use Rattle.std.proofs.Common.{◌≡◌, ℕ, zero, suc, ◌+◌, Bool, true, fa
 use Rattle.std.specs.List.{AllByRecursion as Each, list_any}
 use Rattle.std.proofs.lemmas.List.Concat.{flat_map-append}
 use Rattle.std.proofs.lemmas.List.Sums.{fold-append}
-use Rattle.std.proofs.lemmas.Bool.{and_from, and_parts}
+use Rattle.std.proofs.lemmas.Bool.{and_from, and_parts, false_from_ne_true}
 use Rattle.tbr_model.specs.Run.{Entry, character, marker_entry, Item, glyph, items_width, items_of, kept_items, is_kept, is_break, is_break_entry, blank_of, first_of, has_character, Word, word_of, Reading, works, read, words_of, trailing}
 use Rattle.tbr_model.specs.Regions.{takes_columns, HasColumns, NoBreakWorks, Region, region_entries, EndsAtWorkingBreak, IsParted, first_blank, word_behind, words_behind, words_between, markers_left}
 use Rattle.tbr_model.proofs.words.Items.{items_width-append}
@@ -12,7 +12,7 @@ use Rattle.tbr_model.proofs.lists.Each.{each_append}
 
 -- ---- a kept character of positive width, and the width of kept items
 
-lt-zero-add : (a b : ℕ) → nat_lt 0 (a + b) ≡ nat_lt 0 a || nat_lt 0 b
+pub lt-zero-add : (a b : ℕ) → nat_lt 0 (a + b) ≡ nat_lt 0 a || nat_lt 0 b
 lt-zero-add zero b = ap (nat_lt 0) (let e : 0 + b ≡ b = omega arith in e)
 lt-zero-add (suc a) b = rw (lt-ltb 0 (suc a + b) (omega arith), lt-ltb 0 (suc a) (omega arith)) refl
 
@@ -51,10 +51,6 @@ first_blank-append (e ∷ a) b = ap (first_of (blank_of e)) (first_blank-append 
 abbrev pub read_since : {A : Type 0} → (ℕ → Option ℕ) → List (Word A) → List (Entry A) → List (Entry A) → Reading A
 read_since columns words before since = record { words = words; gap = first_blank (before ++ since); items = kept_items columns since }
 
-pub not_true : (b : Bool) → (IsTrue b → ⊥) → b ≡ false
-not_true true h = absurd (h refl)
-not_true false h = refl
-
 goes_on : {A : Type 0} (columns : ℕ → Option ℕ) (words : List (Word A)) (before since : List (Entry A)) (e : Entry A) →
     (IsTrue (is_break_entry e) → ¬ HasColumns columns since) → read columns (read_since columns words before since) e ≡ read_since columns words before (since ++ e ∷ [])
 goes_on {A} columns words before since e h =
@@ -64,7 +60,7 @@ goes_on {A} columns words before since e h =
     stays = go (is_break_entry e) refl
       where
         go : (b : Bool) → is_break_entry e ≡ b → b && nat_lt 0 (items_width columns (kept_items columns since)) ≡ false
-        go true k = sym (has_columns_width columns since) ∙ not_true _ (h k)
+        go true k = sym (has_columns_width columns since) ∙ false_from_ne_true _ (h k)
         go false k = refl
 
     blank : first_of (first_blank (before ++ since)) (blank_of e) ≡ first_blank (before ++ (since ++ e ∷ []))

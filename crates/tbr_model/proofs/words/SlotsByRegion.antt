@@ -1,5 +1,6 @@
 -- The slots of a run, read region by region.
 use Rattle.std.proofs.Common.{◌≡◌, ℕ, zero, suc, ◌+◌, ◌-◌, ◌≤◌, Bool, true, false, if◌then◌else◌, Option, Some, List, [], ◌∷◌, ◌++◌, fold, flat_map, take, drop, slice_get, slice_range, ap, sym, ◌∙◌, arith, append_assoc, append-nil, take-append-drop, drop-drop, add-one}
+use Rattle.std.proofs.Math.Seq.{take-add}
 use Rattle.std.proofs.lemmas.List.Concat.{flat_map-append}
 use Rattle.tbr_model.specs.Run.{Entry, Item, items_of, kept_items, has_character, Word, word_of, Reading, read, reading}
 use Rattle.tbr_model.specs.Layout.{Slot, word_slots, slots_of}
@@ -56,18 +57,9 @@ at_end {A} columns width run slots before left h last =
 
 -- ---- by places
 
-pub take_add : {X : Type 0} (m n : ℕ) (xs : List X) → take (m + n) xs ≡ take m xs ++ take n (drop m xs)
-take_add zero n xs = ap (λ k. take k xs) (let e : 0 + n ≡ n = omega arith in e)
-take_add {X} (suc m) n [] = take_nil n
-  where
-    take_nil : (k : ℕ) → take (suc m + k) (let l : List X = [] in l) ≡ take k []
-    take_nil zero = ap (λ j. take j []) (let e : suc m + 0 ≡ suc m = omega arith in e)
-    take_nil (suc k) = ap (λ j. take j []) (let e : suc m + suc k ≡ suc (m + suc k) = omega arith in e)
-take_add (suc m) n (x ∷ xs) = ap (λ k. take k (x ∷ xs)) (let e : suc m + n ≡ suc (m + n) = omega arith in e) ∙ ap (λ ys. x ∷ ys) (take_add m n xs)
-
 range_add : {X : Type 0} (xs : List X) (a b n : ℕ) → a ≤ b → slice_range xs a (b + n) ≡ slice_range xs a b ++ take n (drop b xs)
 range_add {X} xs a b n h =
-    ap (λ k. take k (drop a xs)) (let e : (b + n) - a ≡ (b - a) + n = omega arith in e) ∙ take_add (b - a) n (drop a xs)
+    ap (λ k. take k (drop a xs)) (let e : (b + n) - a ≡ (b - a) + n = omega arith in e) ∙ take-add (b - a) n (drop a xs)
     ∙ ap (λ (ys : List X). slice_range xs a b ++ take n ys) (drop-drop (b - a) a xs ∙ ap (λ k. drop k xs) (let e : a + (b - a) ≡ b = omega arith in e))
 
 -- an item by its place, and what is after it

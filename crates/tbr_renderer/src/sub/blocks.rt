@@ -1,6 +1,6 @@
 //! The end of runs, and the beginning of blocks.
 ghost use Rattle.std.specs.Prelude.{◌≡◌, ◌≢◌, ◌≤◌, ◌++◌, None, Err, true, map, fold, IfErr, OnOk};
-ghost use Rattle.tbr_lines.specs.State.{is_some_list};
+ghost use Rattle.tbr_lines.specs.Runs.{is_some_list};
 ghost use Rattle.tbr_lines.specs.Block.{has_no_character, left};
 ghost use Rattle.tbr_renderer.specs.KeptLines.{text_lines};
 ghost use Rattle.tbr_lines.specs.declared.Error.TheVariants as E;

@@ -13,7 +13,7 @@ ghost use Rattle.tbr_lines.specs.declared.CellAlign.TheVariants as A;
 ghost use Rattle.tbr_renderer.specs.Flush.{FlushIsTooNarrow};
 ghost use Rattle.tbr_decor.specs.Decoration.{decoration_of};
 ghost use Rattle.std.specs.List.{AllZip, AllByRecursion as Each};
-ghost use Rattle.tbr_lines.specs.State.{is_some_list};
+ghost use Rattle.tbr_lines.specs.Runs.{is_some_list};
 
 use crate::renderer::Renderer;
 use crate::sub::SubRenderer;

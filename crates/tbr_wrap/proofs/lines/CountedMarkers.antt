@@ -1,5 +1,5 @@
 -- The markers among items, counted.
-use Rattle.std.proofs.Common.{◌≡◌, ℕ, zero, suc, nat_lt, ◌+◌, ◌≤◌, true, List, [], ◌∷◌, length, inl, inr, refl, sym, ◌∙◌, arith}
+use Rattle.std.proofs.Common.{◌≡◌, ℕ, zero, suc, nat_lt, ◌≤◌, true, List, [], ◌∷◌, length, inl, inr, refl, sym, ◌∙◌, arith}
 use Rattle.std.proofs.lemmas.Bool.{cond_both, cases_lt, lt-ltb, le-ltb}
 use Rattle.tbr_model.specs.Run.{Item, glyph, marker, has_character}
 use Rattle.tbr_model.specs.Rule.{spaces, is_space_item, without_trailing}

@@ -35,9 +35,6 @@ module _ {A : Type 0} where
   pub are_cut : (lens : List ℕ) (placed : List (Item A)) (lines : List (List (Item A))) → AreLines lens placed lines → AreLines lens placed (cut lens placed)
   are_cut lens placed lines h = subst (AreLines lens placed) (sym (cut_lines lens placed lines h)) h
 
-  pub no_lines : (placed : List (Item A)) (lens : List ℕ) → placed ≡ [] → lens ≡ [] → AreLines lens placed (cut lens placed)
-  no_lines placed lens p e = rw (p, e) (record { behind = []; placed_is = refl; lens_is = refl; blank = refl })
-
   -- whether there is a character
   joined_any : (ls : List (List (Item A))) → has_character (joined ls) ≡ list_any has_character ls
   joined_any [] = refl
@@ -46,22 +43,3 @@ module _ {A : Type 0} where
   pub lines_any : (lens : List ℕ) (placed : List (Item A)) (lines : List (List (Item A))) → AreLines lens placed lines → has_character placed ≡ list_any has_character lines
   lines_any lens placed lines h =
       ap has_character h.placed_is ∙ has_character-append (joined lines) h.behind ∙ ap (λ b. has_character (joined lines) || b) h.blank ∙ or-false (has_character (joined lines)) ∙ joined_any lines
-
-  -- the first line, and those after it
-  first_len : (n : ℕ) (ns : List ℕ) (placed : List (Item A)) → AreLines (n ∷ ns) placed (cut (n ∷ ns) placed) → length (take n placed) ≡ n
-  first_len n ns placed h = let both : n ∷ ns ≡ length (take n placed) ∷ map length (cut ns (drop n placed)) = h.lens_is in cc
-
-  lines_behind : (n : ℕ) (ns : List ℕ) (placed : List (Item A)) → AreLines (n ∷ ns) placed (cut (n ∷ ns) placed) → AreLines ns (drop n placed) (cut ns (drop n placed))
-  lines_behind n ns placed h =
-      let rest = cut ns (drop n placed) in
-      let both : n ∷ ns ≡ length (take n placed) ∷ map length rest = h.lens_is in
-      record {
-        behind = h.behind;
-        placed_is = ap (drop n) h.placed_is ∙ ap (drop n) (append_assoc (take n placed) (joined rest) h.behind) ∙ drop_at (take n placed) (joined rest ++ h.behind) n (first_len n ns placed h);
-        lens_is = (let is : ns ≡ map length rest = cc in is);
-        blank = h.blank;
-      }
-
-  pub lines_left : (n : ℕ) (lens left : List ℕ) (placed now : List (Item A)) → lens ≡ n ∷ left → now ≡ drop n placed → AreLines lens placed (cut lens placed) → AreLines left now (cut left now)
-  lines_left n lens left placed now e d h =
-      subst (λ is. AreLines left is (cut left is)) (sym d) (lines_behind n left placed (subst (λ ms. AreLines ms placed (cut ms placed)) e h))

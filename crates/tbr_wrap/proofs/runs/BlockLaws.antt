@@ -1,24 +1,24 @@
 -- What follows from the outcomes of a block's calls.
-use Rattle.std.proofs.Common.{◌≡◌, ◌↔◌, ℕ, ◌-◌, ◌<◌, ◌≤◌, ◌==◌, not, ◌&&◌, ◌||◌, ◌⊎◌, Bool, true, false, IsTrue, Option, None, Some, IfSome, List, [], ◌∷◌, ◌++◌, drop, length, map, refl, ap, sym, ◌∙◌, subst, arith, append_assoc, append-nil, length-append, lt-ltb, inl, inr, if◌then◌else◌}
+use Rattle.std.proofs.Common.{◌≡◌, ℕ, ◌-◌, ◌<◌, ◌≤◌, ◌==◌, not, ◌&&◌, ◌||◌, ◌⊎◌, Bool, true, false, Option, None, Some, IfSome, List, [], ◌∷◌, ◌++◌, drop, length, map, refl, ap, sym, ◌∙◌, subst, arith, append_assoc, append-nil, length-append, lt-ltb, inl, inr, if◌then◌else◌}
 use Rattle.std.proofs.Math.ListN.{drop_of_length-le}
 use Rattle.std.proofs.lemmas.List.{drop-append-le, drop_at}
-use Rattle.std.proofs.lemmas.Bool.{and_parts, and_left, and_right, cases_lt, cond_both, eqb-true, ne_eqb, not-true}
+use Rattle.std.proofs.lemmas.Bool.{and_parts, and_left, and_right, or_right, cases_lt, cond_both, eqb-true, ne_eqb, not-true}
 use Rattle.std.specs.List.{AllByRecursion as Each}
 use Rattle.tbr_model.specs.declared.white_space.WhiteSpace.{WhiteSpace}
-use Rattle.tbr_model.specs.Run.{Item, glyph, marker, Entry, marker_entry, items_width, kept_items, has_character, reading, trailing}
-use Rattle.tbr_model.specs.Markers.{names_in_items, names_in_run, marker_items, names_behind, last}
+use Rattle.tbr_model.specs.Run.{Item, glyph, marker, Entry, marker_entry, items_width, has_character, reading, trailing}
+use Rattle.tbr_model.specs.Markers.{names_in_items, names_in_run, marker_run, marker_items, names_behind, last}
 use Rattle.tbr_model.specs.Hard.{is_visible}
 use Rattle.tbr_model.specs.Laid.{Laid, end_if_character}
 use Rattle.tbr_model.specs.Layout.{joined, slots_of, HasLegalLines}
 use Rattle.tbr_model.specs.Shown.{without_spaces, run_shows_columns}
-use Rattle.tbr_model.specs.Rule.{Event, entry, run_of, Progress, step, finished, waiting}
+use Rattle.tbr_model.specs.Rule.{Event, entry, run_of, Progress, at_start, finished, waiting}
 use Rattle.tbr_model.specs.Fits.{lines_fit}
 use Rattle.tbr_model.proofs.words.KeptItems.{narrow_if_legal, each_words_narrow}
 use Rattle.tbr_model.proofs.words.Items.{items_width-append, no_character_no_width}
 use Rattle.tbr_model.proofs.normal.BestLines.{NormalBlank}
 use Rattle.tbr_model.proofs.rule.DoneLines.{if_same, finished_adds}
 use Rattle.tbr_model.proofs.rule.HardLines.{run_of-append, not_flushed}
-use Rattle.tbr_model.proofs.rule.Markers.{markers_run, markers_at_end, waiting_none, marker_items_alone, names_in_items-append}
+use Rattle.tbr_model.proofs.rule.Markers.{run_of_markers, markers_run, markers_at_end, waiting_none, marker_items_alone, names_in_items-append}
 use Rattle.tbr_model.proofs.lines.Columns.{columns_show}
 use Rattle.tbr_model.proofs.lines.KeptOrder.{shown_in_order}
 use Rattle.tbr_model.proofs.lines.MarkersAlone.{no_line_ends}
@@ -32,18 +32,14 @@ use Rattle.tbr_tagged.specs.declared.error.Error.TheVariants as E
 use Rattle.tbr_tagged.specs.Outcome.{done, refused}
 use Rattle.tbr_tagged.proofs.Outcomes.{live_done, live_goes, live_refused}
 use Rattle.tbr_wrap.specs.Wrapped.{FitsBlock, HasBestLines, WordsFit, EndedWordsFit, ShowsText}
-use Rattle.tbr_wrap.specs.State.{IsNormal, CharactersFit, VisibleFit, EndsRun, AreLastOf, is_some_list, text_entries}
+use Rattle.tbr_wrap.specs.Runs.{IsNormal, CharactersFit, VisibleFit, EndsRun, AreLastOf, is_some_list, text_entries}
 use Rattle.tbr_wrap.specs.Block.{Block, new_block, progress_of, lines, all_lines, left, takes_no_columns, has_no_character, loose_names, loose, waiting_names, allows, grown, text_events, flushed, after_text, after_marker, after_taking, after_flush, after_line, without_loose, line_handed_out, HandsOutFirst, IsSound, RunDecides}
 use Rattle.tbr_wrap.specs.LaidLines.{RuleFitsWidth}
-use Rattle.tbr_wrap.proofs.runs.EndedRuns.{shown_run, waits_normal, word_normal, blank_normal, ended_words_fit_normal, words_fit_normal, visible_fit, two_columns_characters}
+use Rattle.tbr_wrap.proofs.runs.EndedRuns.{shown_run, waits_normal, blank_normal, stands, words_fit, visible_fit, two_columns_characters}
 use Rattle.tbr_wrap.proofs.runs.FittingLines.{fitting_lines}
 use Rattle.tbr_wrap.proofs.runs.LinesLeft.{some_count}
 use Rattle.tbr_wrap.proofs.runs.Blocks.{steps_add, progress_grown, progress_flushed, progress_taken, none_taken, allowed_each, fit_allows, if_allowed, if_not_allowed}
 use Rattle.tbr_wrap.proofs.runs.RuleWidths.{run_fits, end_fits, normal_run_fits, normal_end_fits}
-
-or_right : (x y : Bool) → y ≡ true → x || y ≡ true
-or_right true y e = refl
-or_right false y e = e
 
 last_of_two : {X : Type 0} (xs ys : List X) → last (length ys) (xs ++ ys) ≡ ys
 last_of_two xs ys = drop_at xs ys (length (xs ++ ys) - length ys) (omega (arith, length-append xs ys))
@@ -137,13 +133,6 @@ module _ {A : Type 0} (columns : ℕ → Option ℕ) where
 
   pub left_flushed : (s : Block A) → left columns (flushed columns s) ≡ s.ended ++ drop s.handed (all_lines columns s)
   left_flushed s = ap (λ ls. (flushed columns s).ended ++ drop 0 ls) (none_flushed s) ∙ append-nil (flushed columns s).ended
-
-  -- the markers that wait are loose then
-  pub loose_flushed : (s : Block A) → loose columns (flushed columns s) ≡ waiting_names columns s
-  loose_flushed s =
-      let left : List (Item A) = waiting columns s.width (progress_of columns s) in
-      let none : has_character left ≡ false = waiting_none columns s.width (progress_of columns s) in
-      ap (λ (p : Progress A). loose_names p.word) (progress_flushed columns s) ∙ rw none refl
 
   -- the lines that the end of the run adds come after those that are left
   pub left_ended : (s : Block A) → s.handed ≤ length (lines columns s) → (more : List (List (Item A))) × (all_lines columns s ≡ lines columns s ++ more) × (left columns (flushed columns s) ≡ left columns s ++ more)
@@ -249,7 +238,7 @@ module _ {A : Type 0} (columns : ℕ → Option ℕ) where
       markers = markers_at_end columns s.width s.events;
       behind = waits_behind_visible columns s.width s.events;
       behind_kept = λ normal. waits_behind_kept columns s.width s.events normal;
-      waits = λ never normal. sym left_is ∙ waits_normal columns s.width s.events (subst (λ o. Each (FitsBlock columns s.width o) (all_lines columns s)) never fits) run refl normal;
+      waits = λ never normal. sym left_is ∙ waits_normal columns s.width s.events (subst (λ o. Each (FitsBlock columns s.width o) (all_lines columns s)) never fits) normal;
       alone = λ none. no_line_ends columns s.width s.events none;
     }
 
@@ -263,10 +252,10 @@ module _ {A : Type 0} (columns : ℕ → Option ℕ) where
       flush_best never normal = flush_ends.shown.best never normal
 
       pub flush_words_fit : s.may_overflow ≡ false → IsNormal (run_of s.events) → WordsFit columns s.width (run_of s.events)
-      flush_words_fit never normal = words_fit_normal columns s.width s.events (run_of s.events) refl normal (allowed_each columns s (all_lines columns s) never (flush_allowed s t e))
+      flush_words_fit never normal = words_fit columns s.width s.events (allowed_each columns s (all_lines columns s) never (flush_allowed s t e)) normal
 
       pub flush_visible_fit : s.may_overflow ≡ false → VisibleFit columns s.width (run_of s.events)
-      flush_visible_fit never = visible_fit columns s.width s.events (run_of s.events) refl (allowed_each columns s (all_lines columns s) never (flush_allowed s t e))
+      flush_visible_fit never = visible_fit columns s.width s.events (allowed_each columns s (all_lines columns s) never (flush_allowed s t e))
 
     module _ (live : s.failure ≡ None) (e : after_flush columns s ≡ refused E.TooNarrow) where
       not_all : allows columns s (all_lines columns s) ≡ false
@@ -308,9 +297,30 @@ module _ {A : Type 0} (columns : ℕ → Option ℕ) where
   pub flush_none : (s t : Block A) → after_flush columns s ≡ done t → has_no_character columns s ≡ true → left columns t ≡ left columns s
   flush_none s t e none = ap (left columns) (flush_leaves s t e) ∙ left_flushed s ∙ ap (λ ls. s.ended ++ drop s.handed ls) (none_ended s none)
 
-  -- after it nothing of the run under way has ended
-  pub left_of_flushed : (s t : Block A) → after_flush columns s ≡ done t → left columns t ≡ t.ended
-  left_of_flushed s t e = subst (λ (q : Block A). left columns q ≡ q.ended) (flush_made s t e).1 (left_flushed s)
+  -- after it nothing is open
+  module _ (s t : Block A) (e : after_flush columns s ≡ done t) where
+    after_is : progress_of columns t ≡ record at_start { word = waiting columns s.width (p s) }
+    after_is = ap (progress_of columns) (flush_leaves s t e) ∙ progress_flushed columns s
+
+    pub none_open : has_no_character columns t ≡ true
+    none_open = ap (λ (q : Progress A). not (has_character q.laid.line) && not (has_character q.word)) after_is ∙ ap not (waiting_none columns s.width (p s))
+
+    pub no_columns_open : takes_no_columns columns t ≡ true
+    no_columns_open =
+        ap (λ (q : Progress A). (q.laid.width == 0) && (items_width columns q.word == 0)) after_is
+        ∙ ap (λ n. n == 0) (no_character_no_width columns _ (waiting_none columns s.width (p s)))
+
+    pub run_waits : run_of t.events ≡ marker_run (waiting_names columns s)
+    run_waits = ap (λ (q : Block A). run_of q.events) (flush_leaves s t e) ∙ run_of_markers (waiting_names columns s)
+
+    pub waiting_loose : loose columns t ≡ waiting_names columns s
+    waiting_loose = ap (λ (q : Progress A). loose_names q.word) after_is ∙ (let none = waiting_none columns s.width (p s) in rw none refl)
+
+    pub none_open_taken : (u : Block A) → after_taking columns t ≡ done u → has_no_character columns u ≡ true
+    none_open_taken u taken =
+        let none : has_character (p t).word ≡ false = ap (λ (q : Progress A). has_character q.word) after_is ∙ waiting_none columns s.width (p s) in
+        ap (has_no_character columns) (taking_leaves t u taken)
+        ∙ ap (λ (q : Progress A). not (has_character q.laid.line) && not (has_character q.word)) (progress_taken columns t none ∙ ap (λ (q : Progress A). record q { word = [] }) after_is)
 
   -- ---- a text
 
@@ -326,7 +336,7 @@ module _ {A : Type 0} (columns : ℕ → Option ℕ) where
     text_words_fit t e one wide never normal =
         let fits = run_fits columns s.width true one wide g.events (inl refl) in
         subst (EndedWordsFit columns s.width) text_run
-        (ended_words_fit_normal columns s.width g.events (run_of g.events) refl (subst (λ (es : List (Entry A)). IsNormal es) (sym text_run) normal) (allowed_each columns g (lines columns g) never (text_made s t cs a b mode e).0) fits.small fits.line)
+        (stands columns s.width g.events (subst (λ (es : List (Entry A)). IsNormal es) (sym text_run) normal) (allowed_each columns g (lines columns g) never (text_made s t cs a b mode e).0) fits.small fits.line).0
 
     module _ (live : s.failure ≡ None) (e : after_text columns cs a b mode s ≡ refused E.TooNarrow) where
       not_ended : allows columns g (lines columns g) ≡ false
@@ -366,12 +376,12 @@ module _ {A : Type 0} (columns : ℕ → Option ℕ) where
       -- the markers that trail are those of a word without a character
       pub loose_trailing : loose columns s ≡ names_in_items (trailing columns (run_of s.events))
       loose_trailing =
-          ap loose_names (word_normal columns s.width s.events (run_of s.events) refl normal ended measured.small measured.line)
+          ap loose_names ((stands columns s.width s.events normal ended measured.small measured.line).1.word)
           ∙ if_same names_in_items (has_character (reading columns (run_of s.events)).items) [] (reading columns (run_of s.events)).items _ _ refl refl
 
       pub run_decides : RunDecides columns s
       run_decides =
-          let blank : NormalBlank columns (p s) (run_of s.events) = blank_normal columns s.width s.events (run_of s.events) refl normal ended measured.small measured.line in
+          let blank : NormalBlank columns (p s) (run_of s.events) = blank_normal columns s.width s.events normal ended measured.small measured.line in
           record {
             no_columns = (
               λ both. let parts = and_parts _ _ both in blank.blank_if (eqb-true _ _ parts.0) (eqb-true _ _ parts.1),

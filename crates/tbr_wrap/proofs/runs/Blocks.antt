@@ -1,6 +1,6 @@
 -- What each change leaves of a block, and where it allows its lines.
 use Rattle.std.proofs.Common.{◌≡◌, ℕ, if◌then◌else◌, ◌==◌, ◌||◌, length, Bool, true, false, Option, None, Some, List, [], ◌∷◌, ◌++◌, map, fold, chars, refl, ap, sym, ◌∙◌, subst, arith, append_assoc, append-nil, le-leb, leb-true, ne_eqb, inl, inr}
-use Rattle.std.proofs.lemmas.Bool.{cond_both, and_parts}
+use Rattle.std.proofs.lemmas.Bool.{and_parts}
 use Rattle.std.proofs.lemmas.List.{length-map}
 use Rattle.std.proofs.lemmas.List.Sums.{fold-append}
 use Rattle.std.proofs.lemmas.Str.{chars-nil}
@@ -18,8 +18,9 @@ use Rattle.tbr_tagged.specs.declared.error.Error.TheVariants as E
 use Rattle.tbr_tagged.specs.Elements.{Element}
 use Rattle.tbr_tagged.specs.Outcome.{done, refused}
 use Rattle.tbr_wrap.specs.Wrapped.{FitsBlock, ShowsText}
-use Rattle.tbr_wrap.specs.State.{is_some_list, text_entries}
+use Rattle.tbr_wrap.specs.Runs.{is_some_list, text_entries}
 use Rattle.tbr_wrap.specs.Block.{Block, new_block, progress_of, lines, left, loose, allows, grown, settled, settings_of, text_events, flushed, loose_names, line_handed_out, HandsOutFirst, without_loose, HasGrown}
+use Rattle.tbr_wrap.proofs.runs.LinesLeft.{handed_keeps}
 use Rattle.tbr_wrap.specs.Story.{changed, story, text_changes}
 use Rattle.tbr_wrap.specs.Held.{padding_tag, block_of}
 use Rattle.tbr_wrap.specs.LaidLines.{KeepsLimits}
@@ -34,29 +35,17 @@ no_chars (c ∷ cs) e = absurd (let f : true ≡ false = sym e ∙ ne_eqb (lengt
 module _ {A : Type 0} (columns : ℕ → Option ℕ) where
   -- ---- settings
 
-  record HasSettings (width : ℕ) (may : Bool) (padding : Option A) (s : Block A) : Type 0 where
-    pub width_is : s.width ≡ width
-    pub may_is : s.may_overflow ≡ may
-    pub padding_is : s.padding ≡ padding
-    pub live : s.failure ≡ None
+  one_keeps : (s : Block A) (x : RunChange × A × A) → ((changed columns s x).failure ≡ s.failure) × (settings_of (changed columns s x) ≡ settings_of s)
+  one_keeps s (Called, a, b) = (refl, refl)
+  one_keeps s (Character c m, a, b) = (refl, refl)
+  one_keeps s (Marker n, a, b) = (refl, refl)
+  one_keeps s (Taken, a, b) = (refl, refl)
+  one_keeps s (Ended, a, b) = (refl, refl)
+  one_keeps s (HandedOut, a, b) = let keeps = handed_keeps s in (keeps.0, keeps.1)
 
-  module _ (width : ℕ) (may : Bool) (padding : Option A) where
-    one_kept : (s : Block A) (x : RunChange × A × A) → HasSettings width may padding s → HasSettings width may padding (changed columns s x)
-    one_kept s (Called, a, b) h = record { width_is = h.width_is; may_is = h.may_is; padding_is = h.padding_is; live = h.live }
-    one_kept s (Character c m, a, b) h = record { width_is = h.width_is; may_is = h.may_is; padding_is = h.padding_is; live = h.live }
-    one_kept s (Marker n, a, b) h = record { width_is = h.width_is; may_is = h.may_is; padding_is = h.padding_is; live = h.live }
-    one_kept s (Taken, a, b) h = record { width_is = h.width_is; may_is = h.may_is; padding_is = h.padding_is; live = h.live }
-    one_kept s (Ended, a, b) h = record { width_is = h.width_is; may_is = h.may_is; padding_is = h.padding_is; live = h.live }
-    one_kept s (HandedOut, a, b) h = cond_both (is_some_list s.ended) _ _ (λ (t : Block A). HasSettings width may padding t)
-        (λ _. record { width_is = h.width_is; may_is = h.may_is; padding_is = h.padding_is; live = h.live })
-        (λ _. record { width_is = h.width_is; may_is = h.may_is; padding_is = h.padding_is; live = h.live })
-
-    all_kept : (changes : List (RunChange × A × A)) (s : Block A) → HasSettings width may padding s → HasSettings width may padding (fold (changed columns) s changes)
-    all_kept [] s h = h
-    all_kept (x ∷ changes) s h = all_kept changes (changed columns s x) (one_kept s x h)
-
-    settings : (changes : List (RunChange × A × A)) → HasSettings width may padding (story columns width may padding changes)
-    settings changes = all_kept changes (new_block width may padding) (record { width_is = refl; may_is = refl; padding_is = refl; live = refl })
+  all_keep : (changes : List (RunChange × A × A)) (s : Block A) → ((fold (changed columns) s changes).failure ≡ s.failure) × (settings_of (fold (changed columns) s changes) ≡ settings_of s)
+  all_keep [] s = (refl, refl)
+  all_keep (x ∷ changes) s = let one = one_keeps s x in let more = all_keep changes (changed columns s x) in (more.0 ∙ one.0, more.1 ∙ one.1)
 
   -- ---- what a contract sees of the fields
 
@@ -64,12 +53,12 @@ module _ {A : Type 0} (columns : ℕ → Option ℕ) where
     -- where a block hasn't failed, that is what its changes have led to
     seen_is : (r : Inside A W) → r.failure ≡ None → block_of columns r ≡ story columns r.wrapper.lines.width r.wrapper.lines.may_overflow (padding_tag r) r.changes.items
     seen_is r live =
-        let has = settings r.wrapper.lines.width r.wrapper.lines.may_overflow (padding_tag r) r.changes.items in
+        let keeps = all_keep r.changes.items (new_block r.wrapper.lines.width r.wrapper.lines.may_overflow (padding_tag r)) in
         λ i. record (story columns r.wrapper.lines.width r.wrapper.lines.may_overflow (padding_tag r) r.changes.items) {
-          width = sym has.width_is i;
-          may_overflow = sym has.may_is i;
-          padding = sym has.padding_is i;
-          failure = (live ∙ sym has.live) i;
+          width = (sym keeps.1 i).width;
+          may_overflow = (sym keeps.1 i).may_overflow;
+          padding = (sym keeps.1 i).padding;
+          failure = (live ∙ sym keeps.0) i;
         }
 
     -- more changes lead on
@@ -160,10 +149,6 @@ module _ {A : Type 0} (columns : ℕ → Option ℕ) where
   pub not_allowed : (s : Block A) (ls : List (List (Item A))) → s.may_overflow ≡ false → lines_fit columns s.width ls ≡ false → allows columns s ls ≡ false
   not_allowed s ls never h = ap (λ may. may || lines_fit columns s.width ls) never ∙ h
 
-  -- a call begins, and a text goes on
-  pub called_allows : (s : Block A) → allows columns s (lines columns s) ≡ true → allows columns (grown s (call ∷ [])) (lines columns (grown s (call ∷ []))) ≡ true
-  called_allows s h = ap (λ (p : Progress A). allows columns s p.laid.done) (progress_grown s (call ∷ [])) ∙ h
-
   pub entered_allows : (s : Block A) (es : List (Entry A)) → Each (FitsBlock columns s.width s.may_overflow) (fold (enter columns s.width) (progress_of columns s) es).laid.done →
       allows columns (grown s (map entry es)) (lines columns (grown s (map entry es))) ≡ true
   entered_allows s es h =
@@ -209,14 +194,10 @@ module _ {A : Type 0} (columns : ℕ → Option ℕ) where
       ∙ ap (λ cs. grown s (map entry (text_entries cs a b mode))) (sym (no_chars rest e))
       ∙ grown_whole r s es text rest a b mode h
 
-  module _ (r s : Block A) (text rest : List ℕ) (a b : A) (mode : WhiteSpace) (h : HasGrown r (call ∷ []) text rest a b mode s) (live : r.failure ≡ None) where
+  module _ (r s : Block A) (text rest : List ℕ) (a b : A) (mode : WhiteSpace) (h : HasGrown r (call ∷ []) text rest a b mode s) where
     -- the whole text has come
     pub text_done : (length rest == 0) ≡ true → allows columns s (lines columns s) ≡ true → settled columns (grown r (text_events (chars text) a b mode)) ≡ done s
     text_done e test = ap (settled columns) (sym (grown_all r s (call ∷ []) text rest a b mode e h)) ∙ if_allowed (allows columns s (lines columns s)) s test
-
-    -- what is left of it is refused
-    pub text_refused : settled columns (grown s (map entry (text_entries (chars rest) a b mode))) ≡ refused E.TooNarrow → settled columns (grown r (text_events (chars text) a b mode)) ≡ refused E.TooNarrow
-    text_refused e = ap (settled columns) (sym (grown_whole r s (call ∷ []) text rest a b mode h)) ∙ e
 
   -- a word of the text is too wide
   pub refused_text : (s : Block A) (es : List (Entry A)) → s.may_overflow ≡ false → lines_fit columns s.width (fold (enter columns s.width) (progress_of columns s) es).laid.done ≡ false → settled columns (grown s (map entry es)) ≡ refused E.TooNarrow
@@ -234,6 +215,3 @@ module _ {A : Type 0} (columns : ℕ → Option ℕ) where
 
   pub no_line : (s t : Block A) → left columns s ≡ [] → t ≡ s → done (if is_some_list (left columns s) then line_handed_out s else s) ≡ done t
   no_line s t none is = ap (λ (ls : List (List (Item A))). done (if is_some_list ls then line_handed_out s else s)) none ∙ ap done (sym is)
-
-  pub one_line : (s t : Block A) (text : List (Item A)) (rest : List (List (Item A))) → left columns s ≡ text ∷ rest → t ≡ line_handed_out s → done (if is_some_list (left columns s) then line_handed_out s else s) ≡ done t
-  one_line s t text rest some is = ap (λ (ls : List (List (Item A))). done (if is_some_list ls then line_handed_out s else s)) some ∙ ap done (sym is)

@@ -1,31 +1,28 @@
 -- What a block's lines show of its run.
-use Rattle.std.proofs.Common.{◌≡◌, ◌≢◌, ℕ, ◌<◌, ◌≤◌, inl, inr, Bool, true, false, Option, Some, None, IfSome, unwrap_or, List, [], ◌∷◌, ◌++◌, map, filter, fold, refl, ap, sym, ◌∙◌, subst, arith, lt-ltb, nat_lt, ◌&&◌, IsTrue}
+use Rattle.std.proofs.Common.{◌≡◌, ℕ, ◌<◌, ◌≤◌, inl, inr, Bool, true, false, Option, Some, None, IfSome, unwrap_or, List, [], ◌∷◌, ◌++◌, map, filter, fold, refl, ap, sym, ◌∙◌, subst, arith, lt-ltb, nat_lt, ◌&&◌, IsTrue}
 use Rattle.std.specs.List.{AllZip, AllByRecursion as Each}
 use Rattle.std.proofs.lemmas.Bool.{cond_both}
 use Rattle.std.proofs.lemmas.List.Sums.{fold-append}
-use Rattle.tbr_model.specs.declared.white_space.WhiteSpace.{WhiteSpace}
-use Rattle.tbr_model.specs.declared.white_space.WhiteSpace.TheVariants.{Normal, Pre, PreWrap}
+use Rattle.tbr_model.specs.declared.white_space.WhiteSpace.TheVariants.{Pre, PreWrap}
 use Rattle.tbr_model.specs.Run.{Entry, character, marker_entry, Item, glyph, marker, items_width, has_character, is_break_entry, blank_of, trailing, Word, word_of, Reading, start, works, read, reading}
 use Rattle.tbr_model.specs.Layout.{Slot, line_text, joined}
 use Rattle.tbr_model.specs.Greedy.{IsNarrow, wrapped}
 use Rattle.tbr_model.specs.Laid.{Laid, end_if_character}
 use Rattle.tbr_model.specs.Rule.{Event, run_of, progress, finished, flush_word, waiting, lines_of}
-use Rattle.tbr_model.specs.Hard.{HasMode, Preserves, IsNarrowEntry, glyphs_of, is_visible, visible_glyphs, visible_entries, IsShown, ShowsPre, ShowsPreWrap, ShowsTabs, Parted, hard_lines}
+use Rattle.tbr_model.specs.Hard.{IsNarrowEntry, glyphs_of, is_visible, visible_glyphs, visible_entries, IsShown}
 use Rattle.tbr_model.proofs.lists.Each.{each_append, each_front, each_back}
 use Rattle.tbr_model.proofs.words.KeptItems.{narrow_markers}
 use Rattle.tbr_model.proofs.words.LinesHaveCharacters.{HasGlyph, best_characters}
-use Rattle.tbr_model.proofs.rule.HardLines.{no_character_after_end, hard_lines_parted}
+use Rattle.tbr_model.proofs.rule.PreservingModes.{pre_shown, prewrap_shown, tabs_shown}
+use Rattle.tbr_model.proofs.rule.HardLines.{no_character_after_end}
 use Rattle.tbr_model.proofs.rule.VisibleCharacters.{visible_shown, hard_lines_shown}
-use Rattle.tbr_model.proofs.pre.HardLine.{pre_line}
-use Rattle.tbr_model.proofs.prewrap.HardLine.{prewrap_line}
-use Rattle.tbr_model.proofs.tabs.HardLine.{tab_line}
 use Rattle.tbr_model.proofs.normal.LaidWords.{text_has}
 use Rattle.tbr_model.proofs.normal.StaysLaid.{AllLaid, IsNarrowItem}
 use Rattle.tbr_model.proofs.normal.LayoutSoFar.{NormalStands, normal_stands}
 use Rattle.tbr_model.proofs.normal.TrailingMarkers.{normal_waiting}
 use Rattle.tbr_model.proofs.normal.BestLines.{NormalBlank, normal_lines, normal_blank}
 use Rattle.tbr_wrap.specs.Wrapped.{HasBestLines, FitsBlock, EndedWordsFit, WordsFit}
-use Rattle.tbr_wrap.specs.State.{IsNormal, CharactersFit, IsNarrowIfVisible, VisibleFit, IsShownBy}
+use Rattle.tbr_wrap.specs.Runs.{IsNormal, CharactersFit, IsNarrowIfVisible, VisibleFit, IsShownBy}
 
 -- ---- no line without a character
 
@@ -53,21 +50,19 @@ module _ {A : Type 0} (columns : ℕ → Option ℕ) (width : ℕ) where
   narrow_joined [] h = tt
   narrow_joined (l ∷ ls) h = each_append (IsNarrowItem columns width) l (joined ls) h.0 (narrow_joined ls h.1)
 
-  narrow_fresh : (l : Laid A) → Each (FitsBlock columns width false) (end_if_character l).done → AllLaid (IsNarrowItem columns width) (end_if_character l)
-  narrow_fresh l h = (narrow_lines (end_if_character l).done h, narrow_markers columns width (end_if_character l).line (no_character_after_end l))
-
   -- ---- where a run ends
 
   module _ (es : List (Event A)) (fits : Each (FitsBlock columns width false) (lines_of columns width es)) where
     narrow_end : AllLaid (IsNarrowItem columns width) (finished columns width (progress columns width es))
-    narrow_end = narrow_fresh (flush_word columns width (progress columns width es)).laid fits
+    narrow_end =
+        let l : Laid A = (flush_word columns width (progress columns width es)).laid in
+        (narrow_lines (end_if_character l).done fits, narrow_markers columns width (end_if_character l).line (no_character_after_end l))
 
-    words_fit : IsNormal (run_of es) → WordsFit columns width (run_of es)
+    pub words_fit : IsNormal (run_of es) → WordsFit columns width (run_of es)
     words_fit normal = (normal_lines columns width es normal narrow_end).0
 
-    pub waits_normal : (run : List (Entry A)) → run_of es ≡ run → IsNormal run → waiting columns width (progress columns width es) ≡ trailing columns run
-    waits_normal run is normal =
-        subst (λ (rs : List (Entry A)). IsNormal rs → waiting columns width (progress columns width es) ≡ trailing columns rs) is (λ modes. normal_waiting columns width es modes narrow_end) normal
+    pub waits_normal : IsNormal (run_of es) → waiting columns width (progress columns width es) ≡ trailing columns (run_of es)
+    waits_normal normal = normal_waiting columns width es normal narrow_end
 
     best_texts : IsNormal (run_of es) → HasBestLines columns width (run_of es) (lines_of columns width es)
     best_texts normal =
@@ -103,44 +98,18 @@ module _ {A : Type 0} (columns : ℕ → Option ℕ) (width : ℕ) where
       cond_both (is_visible columns c) _ _ (λ (es : List (Entry A)). Each (IsNarrowEntry columns width) es → IsNarrowIfVisible columns width (character c a b m) × VisibleFit columns width run)
       (λ _ k. (λ _. k.0, narrow_visible run k.1)) (λ hidden k. (λ visible. absurd (let t : true ≡ false = sym visible ∙ hidden in cc), narrow_visible run k)) h
 
-  pub visible_fit : (es : List (Event A)) (run : List (Entry A)) → run_of es ≡ run → Each (FitsBlock columns width false) (lines_of columns width es) → VisibleFit columns width run
-  visible_fit es run is fits =
+  pub visible_fit : (es : List (Event A)) → Each (FitsBlock columns width false) (lines_of columns width es) → VisibleFit columns width (run_of es)
+  visible_fit es fits =
       let ls : List (List (Item A)) = lines_of columns width es in
       let glyphs : Each IsNarrowGlyph (glyphs_of (joined ls)) = glyphs_narrow (joined ls) (narrow_joined ls (narrow_lines ls fits)) in
       let seen : Each IsNarrowGlyph (visible_glyphs columns (joined ls)) = each_filter IsNarrowGlyph (λ g. is_visible columns g.0) (glyphs_of (joined ls)) glyphs in
-      subst (VisibleFit columns width) is
-      (narrow_visible (run_of es) (shown_narrow (λ x y. true) (visible_glyphs columns (joined ls)) (visible_entries columns (run_of es)) (visible_shown columns width (λ x y. true ≡ true) (λ x. refl) es) seen))
-
-  pub words_fit_normal : (es : List (Event A)) (run : List (Entry A)) → run_of es ≡ run → IsNormal run → Each (FitsBlock columns width false) (lines_of columns width es) → WordsFit columns width run
-  words_fit_normal es run is normal fits = subst (WordsFit columns width) is (words_fit es fits (subst IsNormal (sym is) normal))
+      narrow_visible (run_of es) (shown_narrow (λ x y. true) (visible_glyphs columns (joined ls)) (visible_entries columns (run_of es)) (visible_shown columns width (λ x y. true ≡ true) (λ x. refl) es) seen)
 
 -- ---- a whole run
-
-pre_kept : Pre ≢ Normal
-pre_kept e = cc
-
-prewrap_kept : PreWrap ≢ Normal
-prewrap_kept e = cc
 
 module _ {A : Type 0} (columns : ℕ → Option ℕ) (width : ℕ) (one_space : columns 32 ≡ Some 1) (wide : 0 < width) where
   abbrev Same : A → A → Type 0
   Same a b = a ≡ b
-
-  preserving : (mode : WhiteSpace) → mode ≢ Normal → (e : Entry A) → HasMode mode e → Preserves e
-  preserving mode kept (character c a b m) h = λ normal. kept (sym h ∙ normal)
-  preserving mode kept (marker_entry name) h = tt
-
-  pre_parted : (es : List (Event A)) → Each (HasMode Pre) (run_of es) → Parted (ShowsPre columns Same width) (hard_lines (run_of es)) (lines_of columns width es)
-  pre_parted es h =
-      hard_lines_parted columns width (ShowsPre columns Same width) (HasMode Pre) (preserving Pre pre_kept) (λ p es f modes plain. pre_line columns Same width one_space wide (λ a. refl) p es f modes plain) es h
-
-  prewrap_parted : (es : List (Event A)) → Each (HasMode PreWrap) (run_of es) → Parted (ShowsPreWrap columns width) (hard_lines (run_of es)) (lines_of columns width es)
-  prewrap_parted es h =
-      hard_lines_parted columns width (ShowsPreWrap columns width) (HasMode PreWrap) (preserving PreWrap prewrap_kept) (λ p es f modes plain. prewrap_line columns width one_space wide p es f plain modes) es h
-
-  tabs_parted : (mode : WhiteSpace) → mode ≢ Normal → (es : List (Event A)) → Each (HasMode mode) (run_of es) → Parted (ShowsTabs columns width) (hard_lines (run_of es)) (lines_of columns width es)
-  tabs_parted mode kept es h =
-      hard_lines_parted columns width (ShowsTabs columns width) (HasMode mode) (preserving mode kept) (λ p es f modes plain. tab_line columns width one_space wide mode kept p es f plain modes) es h
 
   -- what a block's lines show of its run
   pub shown_run : (may_overflow : Bool) (es : List (Event A)) → Each (FitsBlock columns width may_overflow) (lines_of columns width es) → IsShownBy columns width may_overflow (run_of es) (lines_of columns width es)
@@ -148,9 +117,9 @@ module _ {A : Type 0} (columns : ℕ → Option ℕ) (width : ℕ) (one_space : 
     best = λ never normal. best_texts columns width es (subst (λ (o : Bool). Each (FitsBlock columns width o) (lines_of columns width es)) never fits) normal;
     visible = visible_shown columns width Same (λ a. refl) es;
     hard = λ kept. hard_lines_shown columns width Same (λ a. refl) es kept;
-    pre = λ modes. pre_parted es modes;
-    prewrap = λ modes. prewrap_parted es modes;
-    tabs = λ modes. elim modes [ inl m ↦ tabs_parted Pre pre_kept es m | inr m ↦ tabs_parted PreWrap prewrap_kept es m ];
+    pre = λ modes. pre_shown columns Same width one_space wide (λ a. refl) es modes;
+    prewrap = λ modes. prewrap_shown columns width one_space wide es modes;
+    tabs = λ modes. elim modes [ inl m ↦ tabs_shown columns width one_space wide Pre (λ e. cc) es m | inr m ↦ tabs_shown columns width one_space wide PreWrap (λ e. cc) es m ];
   }
 
 -- ---- a run of Normal mode under way
@@ -193,32 +162,23 @@ module _ {A : Type 0} (columns : ℕ → Option ℕ) (width : ℕ) where
       (each_back (λ w. IsNarrow columns width w.items) r.words (word_of r ∷ []) (subst (Each (λ w. IsNarrow columns width w.items)) words fit)).0
 
   -- no line that is laid is wider than the block
-  module _ (es : List (Event A)) (run : List (Entry A)) (is : run_of es ≡ run) (normal : IsNormal run) (done : Each (FitsBlock columns width false) (progress columns width es).laid.done)
+  module _ (es : List (Event A)) (normal : IsNormal (run_of es)) (done : Each (FitsBlock columns width false) (progress columns width es).laid.done)
       (small : (progress columns width es).laid.width ≤ width) (line : (progress columns width es).laid.width ≡ items_width columns (progress columns width es).laid.line) where
     all_narrow : AllLaid (IsNarrowItem columns width) (progress columns width es).laid
     all_narrow = (narrow_lines columns width (progress columns width es).laid.done done, narrow_within columns width (progress columns width es).laid.line (omega (arith, small, line)))
 
-    stands : EndedWordsFit columns width run × NormalStands columns width (progress columns width es) (wrapped columns width (reading columns run).words) (reading columns run).gap (reading columns run).items
-    stands =
-        subst (λ (rs : List (Entry A)). let r = reading columns rs in IsNormal rs → EndedWordsFit columns width rs × NormalStands columns width (progress columns width es) (wrapped columns width r.words) r.gap r.items) is
-        (λ modes. normal_stands columns width es modes all_narrow) normal
+    pub stands : let r = reading columns (run_of es) in EndedWordsFit columns width (run_of es) × NormalStands columns width (progress columns width es) (wrapped columns width r.words) r.gap r.items
+    stands = normal_stands columns width es normal all_narrow
 
-    pub ended_words_fit_normal : EndedWordsFit columns width run
-    ended_words_fit_normal = stands.0
-
-    -- the word under way
-    pub word_normal : (progress columns width es).word ≡ (reading columns run).items
-    word_normal = stands.1.word
-
-    pub blank_normal : NormalBlank columns (progress columns width es) run
-    blank_normal = subst (λ (rs : List (Entry A)). IsNormal rs → NormalBlank columns (progress columns width es) rs) is (λ modes. normal_blank columns width es modes all_narrow) normal
+    pub blank_normal : NormalBlank columns (progress columns width es) (run_of es)
+    blank_normal = normal_blank columns width es normal all_narrow
 
     -- a word that a break point ends has none
-    pub narrow_if_ended : (e : Entry A) → is_break_entry e ≡ true → 0 < items_width columns (progress columns width es).word → EndedWordsFit columns width (run ++ e ∷ []) → IsNarrow columns width (progress columns width es).word
-    narrow_if_ended e breaks some fit = subst (IsNarrow columns width) (sym stands.1.word) (broken_fits run e breaks (subst (λ (js : List (Item A)). 0 < items_width columns js) stands.1.word some) fit)
+    pub narrow_if_ended : (e : Entry A) → is_break_entry e ≡ true → 0 < items_width columns (progress columns width es).word → EndedWordsFit columns width (run_of es ++ e ∷ []) → IsNarrow columns width (progress columns width es).word
+    narrow_if_ended e breaks some fit = subst (IsNarrow columns width) (sym stands.1.word) (broken_fits (run_of es) e breaks (subst (λ (js : List (Item A)). 0 < items_width columns js) stands.1.word some) fit)
 
-    pub narrow_if_all : WordsFit columns width run → IsNarrow columns width (progress columns width es).word
-    narrow_if_all fit = subst (IsNarrow columns width) (sym stands.1.word) (last_fits run fit)
+    pub narrow_if_all : WordsFit columns width (run_of es) → IsNarrow columns width (progress columns width es).word
+    narrow_if_all fit = subst (IsNarrow columns width) (sym stands.1.word) (last_fits (run_of es) fit)
 
 -- ---- characters that all fit
 

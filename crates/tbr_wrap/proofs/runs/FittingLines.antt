@@ -17,7 +17,7 @@ use Rattle.tbr_model.proofs.rule.BlankLines.{mode_preserves}
 use Rattle.tbr_model.proofs.rule.HardLineStart.{BeginsHardLine}
 use Rattle.tbr_model.proofs.rule.HardLines.{NoNewline, hard_lines_parted}
 use Rattle.tbr_model.proofs.rule.VisibleCharacters.{visible_from, visible_ended}
-use Rattle.tbr_wrap.specs.State.{column_behind, LineFits, HasOwnAnnotation, IsUnderOwn, ShowsFitting}
+use Rattle.tbr_wrap.specs.Runs.{column_behind, LineFits, HasOwnAnnotation, IsUnderOwn, ShowsFitting}
 
 -- ---- columns
 
@@ -211,14 +211,11 @@ module _ {A : Type 0} (columns : ℕ → Option ℕ) (Same : A → A → Type 0)
           (shows_own (finished columns width (fold (step columns width) p (map own_event es))).done (visible_from columns width Same same p (map own_event es) f), under.1),
         )
 
-    before_newline : ShowsFitting columns Same width true (run_of es) (newline (flush_word columns width q)).laid.done
-    before_newline = record { uncut = λ fits. (short fits).0; own = λ fits. (both fits).0.0; under = λ fits. (both fits).0.1 }
-
-    at_end : ShowsFitting columns Same width false (run_of es) (finished columns width q).done
-    at_end = record { uncut = λ fits. (short fits).1; own = λ fits. (both fits).1.0; under = λ fits. (both fits).1.1 }
-
   -- In a run of `Pre` alone each hard line that fits isn't cut, and is under its own annotations.
   pub fitting_lines : (es : List (Event A)) → Each (HasMode Pre) (run_of es) → Parted (ShowsFitting columns Same width) (hard_lines (run_of es)) (lines_of columns width es)
   fitting_lines es pre =
       hard_lines_parted columns width (ShowsFitting columns Same width) (HasMode Pre) (mode_preserves Pre (λ e. cc))
-      (λ p fs f modes plain. (before_newline p fs f modes plain, at_end p fs f modes plain)) es pre
+      (λ p fs f modes plain. let s = short p fs f modes plain in let b = both p fs f modes plain in (
+        record { uncut = λ fits. (s fits).0; own = λ fits. (b fits).0.0; under = λ fits. (b fits).0.1 },
+        record { uncut = λ fits. (s fits).1; own = λ fits. (b fits).1.0; under = λ fits. (b fits).1.1 },
+      )) es pre

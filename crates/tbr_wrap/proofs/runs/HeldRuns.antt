@@ -1,5 +1,5 @@
 -- What the fields of a block hold, and what each change leaves of that.
-use Rattle.std.proofs.Common.{◌≡◌, ℕ, zero, suc, ◌+◌, ◌<◌, not, ◌&&◌, ◌||◌, Bool, true, false, Option, List, [], ◌∷◌, ◌++◌, fold, map, length, take, drop, refl, ap, sym, ◌∙◌, subst, arith, append_assoc, length-append, lt-ltb, nat_lt}
+use Rattle.std.proofs.Common.{◌≡◌, ℕ, suc, ◌+◌, ◌<◌, ◌||◌, Bool, true, false, Option, List, [], ◌∷◌, ◌++◌, fold, map, length, take, drop, refl, ap, sym, ◌∙◌, subst, arith, append_assoc, length-append, lt-ltb, nat_lt}
 use Rattle.std.proofs.Math.Bool.{or_assoc, or-false, or-true}
 use Rattle.std.proofs.lemmas.List.{take_at, drop_at, length-take-le, length-map}
 use Rattle.std.proofs.lemmas.List.Elements.{length_all_zip}
@@ -11,10 +11,11 @@ use Rattle.tbr_model.specs.Laid.{Laid}
 use Rattle.tbr_model.specs.Layout.{joined}
 use Rattle.tbr_model.specs.Rule.{Event, Progress, at_start, step, finished, waiting}
 use Rattle.tbr_model.proofs.rule.DoneLines.{finished_adds}
+use Rattle.tbr_model.proofs.words.Regions.{lt-zero-add}
 use Rattle.tbr_tagged.specs.Elements.{SameItems}
 use Rattle.tbr_tagged.proofs.SameItems.{all_zip_append, same_has}
-use Rattle.tbr_wrap.specs.State.{is_some_list}
-use Rattle.tbr_wrap.specs.Block.{Block, new_block, progress_of, lines, all_lines, left, loose, has_no_character, grown, without_loose, flushed, line_handed_out}
+use Rattle.tbr_wrap.specs.Runs.{is_some_list}
+use Rattle.tbr_wrap.specs.Block.{Block, new_block, progress_of, all_lines, left, loose, has_no_character, grown, without_loose, flushed, line_handed_out}
 use Rattle.tbr_wrap.specs.EndedLines.{AreLines}
 use Rattle.tbr_wrap.specs.Held.{HoldsAt, HoldsRun}
 use Rattle.tbr_wrap.specs.LaidLines.{HoldsLaid, LaidLikeRule, LeavesAfterLine, KeepsLimits}
@@ -26,20 +27,16 @@ use Rattle.tbr_wrap.proofs.runs.Blocks.{steps_add, progress_grown, progress_take
 
 -- ---- whether there are lines
 
-more_some : (n m : ℕ) → nat_lt 0 (n + m) ≡ nat_lt 0 n || nat_lt 0 m
-more_some zero m = ap (nat_lt 0) (omega arith)
-more_some (suc n) m = lt-ltb 0 (suc n + m) (omega arith) ∙ ap (λ b. b || nat_lt 0 m) (sym (lt-ltb 0 (suc n) (omega arith)))
-
 -- as many lines come to both
 begun_lists : {X Y : Type 0} (f g : Bool) (xs xs' : List X) (ys ys' : List Y) (n : ℕ) → length xs' ≡ length xs + n → length ys' ≡ length ys + n → f || is_some_list xs ≡ g || is_some_list ys →
     f || is_some_list xs' ≡ g || is_some_list ys'
 begun_lists f g xs xs' ys ys' n more_x more_y h =
-    let with_more : (b : Bool) (k : ℕ) → b || nat_lt 0 (k + n) ≡ (b || nat_lt 0 k) || nat_lt 0 n = λ b k. ap (λ c. b || c) (more_some k n) ∙ sym (or_assoc b (nat_lt 0 k) (nat_lt 0 n)) in
+    let with_more : (b : Bool) (k : ℕ) → b || nat_lt 0 (k + n) ≡ (b || nat_lt 0 k) || nat_lt 0 n = λ b k. ap (λ c. b || c) (lt-zero-add k n) ∙ sym (or_assoc b (nat_lt 0 k) (nat_lt 0 n)) in
     ap (λ b. f || b) (some_count xs' ∙ ap (nat_lt 0) more_x) ∙ with_more f (length xs)
     ∙ ap (λ b. b || nat_lt 0 n) (ap (λ b. f || b) (sym (some_count xs)) ∙ h ∙ ap (λ b. g || b) (some_count ys))
     ∙ sym (ap (λ b. g || b) (some_count ys' ∙ ap (nat_lt 0) more_y) ∙ with_more g (length ys))
 
-first_shown : {X Y : Type 0} (R : X → Y → Type 0) (xs : List X) (ys : List Y) (y : Y) (rest : List Y) → ys ≡ y ∷ rest → AllZip R xs ys → (x : X) × (others : List X) × (xs ≡ x ∷ others) × R x y × AllZip R others rest
+pub first_shown : {X Y : Type 0} (R : X → Y → Type 0) (xs : List X) (ys : List Y) (y : Y) (rest : List Y) → ys ≡ y ∷ rest → AllZip R xs ys → (x : X) × (others : List X) × (xs ≡ x ∷ others) × R x y × AllZip R others rest
 first_shown R [] ys y rest e h = absurd (subst (λ zs. AllZip R [] zs) e h)
 first_shown R (x ∷ xs) ys y rest e h = let k = subst (λ zs. AllZip R (x ∷ xs) zs) e h in (x, xs, refl, k.0, k.1)
 
@@ -160,10 +157,6 @@ module _ {A : Type 0} (columns : ℕ → Option ℕ) (eq : A → A → Bool) whe
     -- what is held shows what is left
     pub left_shown : AllZip (SameItems eq) (h.before ++ laid.done) (left columns s)
     left_shown = all_zip_append (SameItems eq) h.before laid.done s.ended (drop s.handed p.laid.done) h.earlier (subst (AllZip (SameItems eq) laid.done) (sym rest_is) h.stands.lays.shows.done)
-
-    pub first_left : (text : List (Item A)) (others : List (List (Item A))) → left columns s ≡ text ∷ others →
-        (is : List (Item A)) × (more : List (List (Item A))) × (h.before ++ laid.done ≡ is ∷ more) × SameItems eq is text
-    first_left text others e = let f = first_shown (SameItems eq) (h.before ++ laid.done) (left columns s) text others e left_shown in (f.0, f.1, f.2, f.3)
 
     -- as many as the fields count
     held_count : length b.lines.ended.items ≡ length (left columns s)

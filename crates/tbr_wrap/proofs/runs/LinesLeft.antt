@@ -1,17 +1,15 @@
 -- Lines that are handed out one by one.
-use Rattle.std.proofs.Common.{◌≡◌, ℕ, zero, suc, ◌+◌, ◌-◌, ◌<◌, nat_lt, lt-ltb, Option, None, Some, Result, Ok, IfOk, Bool, List, [], ◌∷◌, ◌++◌, take, drop, length, refl, ap, sym, ◌∙◌, subst, arith, add-one}
+use Rattle.std.proofs.Common.{◌≡◌, ℕ, zero, suc, ◌+◌, ◌-◌, nat_lt, lt-ltb, Option, None, Some, Bool, List, [], ◌∷◌, ◌++◌, take, drop, length, refl, ap, sym, ◌∙◌, arith, add-one}
 use Rattle.std.proofs.lemmas.List.{drop-drop, take-append-drop}
 use Rattle.std.proofs.lemmas.Bool.{cond_both}
 use Rattle.tbr_model.specs.Run.{Item}
-use Rattle.tbr_model.specs.Rule.{Event}
 use Rattle.std.specs.Cmp.{IsEquivalence}
 use Rattle.tbr_tagged.specs.Elements.{Element, items_of, text_items, SameItems, IsMerged}
 use Rattle.tbr_tagged.specs.Padding.{spaces}
-use Rattle.tbr_tagged.specs.declared.error.Error.{Error}
 use Rattle.tbr_tagged.proofs.SameItems.{same_items_trans, same_items_append, same_from_path, same_width}
 use Rattle.tbr_wrap.specs.Wrapped.{ShowsText, padding_of}
-use Rattle.tbr_wrap.specs.State.{is_some_list}
-use Rattle.tbr_wrap.specs.Block.{Block, Settings, settings_of, lines, left, line_handed_out, lines_handed_out}
+use Rattle.tbr_wrap.specs.Runs.{is_some_list}
+use Rattle.tbr_wrap.specs.Block.{Block, settings_of, lines, left, line_handed_out, lines_handed_out}
 
 pub some_count : {X : Type 0} (xs : List X) → is_some_list xs ≡ nat_lt 0 (length xs)
 some_count [] = refl
@@ -19,14 +17,8 @@ some_count (x ∷ xs) = sym (lt-ltb 0 (length (x ∷ xs)) (omega arith))
 
 -- what a line that is handed out leaves
 module _ {A : Type 0} (s : Block A) where
-  pub handed_failure : (line_handed_out s).failure ≡ s.failure
-  handed_failure = cond_both (is_some_list s.ended) _ _ (λ (t : Block A). t.failure ≡ s.failure) (λ _. refl) (λ _. refl)
-
-  pub handed_settings : settings_of (line_handed_out s) ≡ settings_of s
-  handed_settings = cond_both (is_some_list s.ended) _ _ (λ (t : Block A). settings_of t ≡ settings_of s) (λ _. refl) (λ _. refl)
-
-  handed_events : (line_handed_out s).events ≡ s.events
-  handed_events = cond_both (is_some_list s.ended) _ _ (λ (t : Block A). t.events ≡ s.events) (λ _. refl) (λ _. refl)
+  pub handed_keeps : ((line_handed_out s).failure ≡ s.failure) × (settings_of (line_handed_out s) ≡ settings_of s) × ((line_handed_out s).events ≡ s.events)
+  handed_keeps = cond_both (is_some_list s.ended) _ _ (λ (t : Block A). (t.failure ≡ s.failure) × (settings_of t ≡ settings_of s) × (t.events ≡ s.events)) (λ _. (refl, refl, refl)) (λ _. (refl, refl, refl))
 
   pub left_after : (columns : ℕ → Option ℕ) → left columns (line_handed_out s) ≡ drop 1 (left columns s)
   left_after columns = go s.ended refl
@@ -37,17 +29,9 @@ module _ {A : Type 0} (s : Block A) where
 
 -- and many
 module _ {A : Type 0} where
-  pub many_failure : (n : ℕ) (s : Block A) → (lines_handed_out n s).failure ≡ s.failure
-  many_failure zero s = refl
-  many_failure (suc n) s = many_failure n (line_handed_out s) ∙ handed_failure s
-
-  pub many_settings : (n : ℕ) (s : Block A) → settings_of (lines_handed_out n s) ≡ settings_of s
-  many_settings zero s = refl
-  many_settings (suc n) s = many_settings n (line_handed_out s) ∙ handed_settings s
-
-  pub many_events : (n : ℕ) (s : Block A) → (lines_handed_out n s).events ≡ s.events
-  many_events zero s = refl
-  many_events (suc n) s = many_events n (line_handed_out s) ∙ handed_events s
+  pub many_keep : (n : ℕ) (s : Block A) → ((lines_handed_out n s).failure ≡ s.failure) × (settings_of (lines_handed_out n s) ≡ settings_of s) × ((lines_handed_out n s).events ≡ s.events)
+  many_keep zero s = (refl, refl, refl)
+  many_keep (suc n) s = let one = handed_keeps s in let more = many_keep n (line_handed_out s) in (more.0 ∙ one.0, more.1 ∙ one.1, more.2 ∙ one.2)
 
   pub many_left : (columns : ℕ → Option ℕ) (n : ℕ) (s : Block A) → left columns (lines_handed_out n s) ≡ drop n (left columns s)
   many_left columns zero s = refl
@@ -87,7 +71,3 @@ first_of (x ∷ xs) h = (x, xs, refl)
 pub none_of : {X : Type 0} (xs : List X) → ((x : X) (rest : List X) → xs ≡ x ∷ rest → ⊥) → xs ≡ []
 none_of [] h = refl
 none_of (x ∷ xs) h = absurd (h x xs refl)
-
--- what a call ensures of its value, where it is known
-pub ok_of : {X E : Type 0} (r : Result X E) (x : X) (P : X → Type 0) → r ≡ Ok x → IfOk r P → P x
-ok_of r x P e h = subst (λ s. IfOk s P) e h

@@ -7,15 +7,15 @@ use Rattle.tbr_model.specs.Run.{Entry, character, marker_entry, Item, glyph, mar
 use Rattle.tbr_model.specs.Layout.{slots_of, line_text, joined}
 use Rattle.tbr_model.specs.Rule.{is_space_item}
 use Rattle.tbr_model.specs.Markers.{names_in_items, names_in_run, marker_items, marked_behind}
-use Rattle.tbr_model.specs.Hard.{HasMode, Preserves, hard_lines, HasMain, HasContinuation, entry_letters, is_visible, glyphs_of, visible_glyphs, visible_entries}
+use Rattle.tbr_model.specs.Hard.{ShowsHardLine, ShowsPre, ShowsPreWrap, ShowsTabs, HasMode, Preserves, HasMain, HasContinuation, is_visible, glyphs_of, visible_glyphs, visible_entries}
 use Rattle.tbr_model.specs.Shown.{without_spaces, ComesFrom, ComesWithRun, is_visible_or_marker, is_entry_to_show, ShowsEntry, ShowsInOrder, IsNotPre, StandsUnderOwn, ShowsOwn}
 use Rattle.tbr_model.specs.Mapped.{map_item, map_items, map_entry, map_run, map_layout, map_lines}
 use Rattle.tbr_model.proofs.lists.Each.{each_map, filter-map, zip-map}
 use Rattle.tbr_model.proofs.maps.Words.{item_width-map, items_width-map, has_character-map, items_of-map, trailing-map}
 use Rattle.tbr_model.proofs.maps.Layouts.{slots_of-map, line_text-map, joined-map, best-map}
-use Rattle.tbr_model.proofs.maps.HardLines.{entry_letters-map, main-map, continuation-map, hard_lines-map, parted-map, map_glyph, joined_glyphs-map, visible_glyphs-map, visible_entries-map, visible-map, all_hard_lines-map, all_pre-map, all_prewrap-map, all_tabs-map}
+use Rattle.tbr_model.proofs.maps.HardLines.{entry_letters-map, main-map, continuation-map, map_glyph, joined_glyphs-map, visible_glyphs-map, visible_entries-map, visible-map, hard_line-map, pre-map, prewrap-map, tabs-map, hard_parts-map}
 use Rattle.tbr_wrap.specs.Wrapped.{taking_columns, FitsBlock, HasBestLines}
-use Rattle.tbr_wrap.specs.State.{IsShownBy, column_behind, IsUnderOwn, ShowsFitting, EndsRun}
+use Rattle.tbr_wrap.specs.Runs.{IsShownBy, column_behind, IsUnderOwn, ShowsFitting, EndsRun}
 
 module _ {A B : Type 0} (f : A → B) where
   -- ---- runs
@@ -34,9 +34,6 @@ module _ {A B : Type 0} (f : A → B) where
   not_pre_unmap [] h = tt
   not_pre_unmap (character c a b m ∷ es) h = (h.0, not_pre_unmap es h.1)
   not_pre_unmap (marker_entry name ∷ es) h = (tt, not_pre_unmap es h.1)
-
-  letters-map : (run : List (Entry A)) → entry_letters (map_run f run) ≡ entry_letters run
-  letters-map = entry_letters-map f
 
   names_in_run-map : (run : List (Entry A)) → names_in_run (map_run f run) ≡ names_in_run run
   names_in_run-map [] = refl
@@ -102,15 +99,9 @@ module _ {A B : Type 0} (f : A → B) where
     comes-map (glyph c x) (inr h) = inr (h.0, (map_entry f h.1.0, contains-map run h.1.0 h.1.1, has_map h.1.0 x h.1.2))
     comes-map (marker name) h = contains-map run (marker_entry name) h
 
-    all_come-map : (is : List (Item A)) → Each (ComesFrom columns (λ a b. a ≡ b) run) is → Each (ComesFrom columns (λ a b. a ≡ b) (map_run f run)) (map_items f is)
-    all_come-map = each_map (map_item f) (ComesFrom columns (λ a b. a ≡ b) run) (ComesFrom columns (λ a b. a ≡ b) (map_run f run)) comes-map
-
     comes_with-map : (i : Item A) → ComesWithRun (λ a b. a ≡ b) run i → ComesWithRun (λ a b. a ≡ b) (map_run f run) (map_item f i)
-    comes_with-map (glyph c x) h = ((map_entry f h.0.0, contains-map run h.0.0 h.0.1, has_map h.0.0 x h.0.2), rw (letters-map run) h.1)
+    comes_with-map (glyph c x) h = ((map_entry f h.0.0, contains-map run h.0.0 h.0.1, has_map h.0.0 x h.0.2), rw (entry_letters-map f run) h.1)
     comes_with-map (marker name) h = contains-map run (marker_entry name) h
-
-    all_come_with-map : (is : List (Item A)) → Each (ComesWithRun (λ a b. a ≡ b) run) is → Each (ComesWithRun (λ a b. a ≡ b) (map_run f run)) (map_items f is)
-    all_come_with-map = each_map (map_item f) (ComesWithRun (λ a b. a ≡ b) run) (ComesWithRun (λ a b. a ≡ b) (map_run f run)) comes_with-map
 
   -- ---- order and own annotations
 
@@ -179,13 +170,6 @@ module _ {A B : Type 0} (f : A → B) where
 
   -- ---- lines
 
-  fit-map : (columns : ℕ → Option ℕ) (width : ℕ) (may_overflow : Bool) (lines : List (List (Item A))) → Each (FitsBlock columns width may_overflow) lines → Each (FitsBlock columns width may_overflow) (map_lines f lines)
-  fit-map columns width may_overflow =
-      each_map (map_items f) (FitsBlock columns width may_overflow) (FitsBlock columns width may_overflow) (λ is h. rw (items_width-map f columns is, taking_columns-map columns is) h)
-
-  full-map : (lines : List (List (Item A))) → Each (λ is. has_character is ≡ true) lines → Each (λ is. has_character is ≡ true) (map_lines f lines)
-  full-map = each_map (map_items f) (λ is. has_character is ≡ true) (λ is. has_character is ≡ true) (λ is h. has_character-map f (λ c. None) is ∙ h)
-
   texts-map : (lines : List (List _)) → map line_text (map_layout f lines) ≡ map_lines f (map line_text lines)
   texts-map [] = refl
   texts-map (l ∷ ls) = let first = line_text-map f l in let rest = texts-map ls in cc
@@ -195,7 +179,7 @@ module _ {A B : Type 0} (f : A → B) where
     lines = map_layout f h.lines;
     best = rw (slots_of-map f columns width run) (best-map f width (slots_of columns width run) h.lines h.best);
     shown = ap (map_lines f) h.shown ∙ sym (texts-map h.lines);
-    full = full-map texts h.full;
+    full = each_map (map_items f) (λ is. has_character is ≡ true) (λ is. has_character is ≡ true) (λ is k. has_character-map f (λ c. None) is ∙ k) texts h.full;
   }
 
   shown_by-map : (columns : ℕ → Option ℕ) (width : ℕ) (may_overflow : Bool) (run : List (Entry A)) (texts : List (List (Item A))) →
@@ -207,10 +191,10 @@ module _ {A B : Type 0} (f : A → B) where
       record {
         best = λ narrow normal. best_lines-map columns width run texts (h.best narrow (mode_unmap _ run normal));
         visible = visible-map f Same Other keeps columns run texts h.visible;
-        hard = λ all. all_hard_lines-map f Same Other keeps columns run texts (h.hard (preserves_unmap run all));
-        pre = λ all. all_pre-map f Same Other keeps columns width run texts (h.pre (mode_unmap _ run all));
-        prewrap = λ all. all_prewrap-map f columns width run texts (h.prewrap (mode_unmap _ run all));
-        tabs = λ either. all_tabs-map f columns width run texts (h.tabs (elim either [ inl all ↦ inl (mode_unmap _ run all) | inr all ↦ inr (mode_unmap _ run all) ]));
+        hard = λ all. hard_parts-map f _ (ShowsHardLine columns Other) (hard_line-map f Same Other keeps columns) run texts (h.hard (preserves_unmap run all));
+        pre = λ all. hard_parts-map f _ (ShowsPre columns Other width) (pre-map f Same Other keeps columns width) run texts (h.pre (mode_unmap _ run all));
+        prewrap = λ all. hard_parts-map f _ (ShowsPreWrap columns width) (prewrap-map f columns width) run texts (h.prewrap (mode_unmap _ run all));
+        tabs = λ either. hard_parts-map f _ (ShowsTabs columns width) (tabs-map f columns width) run texts (h.tabs (elim either [ inl all ↦ inl (mode_unmap _ run all) | inr all ↦ inr (mode_unmap _ run all) ]));
       }
 
   pub ends_run-map : (columns : ℕ → Option ℕ) (width : ℕ) (may_overflow : Bool) (run : List (Entry A)) (texts : List (List (Item A))) (names : List (List ℕ)) →
@@ -219,20 +203,17 @@ module _ {A B : Type 0} (f : A → B) where
       let items : joined (map_lines f texts) ≡ map_items f (joined texts) = joined-map (map_item f) texts in
       record {
         shown = shown_by-map columns width may_overflow run texts h.shown;
-        fits = fit-map columns width may_overflow texts h.fits;
-        invents = rw items (all_come-map columns run (joined texts) h.invents);
-        come = rw items (all_come_with-map columns run (joined texts) h.come);
+        fits = each_map (map_items f) (FitsBlock columns width may_overflow) (FitsBlock columns width may_overflow) (λ is k. rw (items_width-map f columns is, taking_columns-map columns is) k) texts h.fits;
+        invents = rw items (each_map (map_item f) (ComesFrom columns (λ a b. a ≡ b) run) (ComesFrom columns (λ a b. a ≡ b) (map_run f run)) (comes-map columns run) (joined texts) h.invents);
+        come = rw items (each_map (map_item f) (ComesWithRun (λ a b. a ≡ b) run) (ComesWithRun (λ a b. a ≡ b) (map_run f run)) (comes_with-map columns run) (joined texts) h.come);
         order = in_order-map columns run texts names h.order;
         own = λ plain. own-map columns run texts (h.own (not_pre_unmap run plain));
-        fitting = λ pre.
-            rw (hard_lines-map f run)
-            (parted-map (ShowsFitting columns (λ a b. a ≡ b) width) (ShowsFitting columns (λ a b. a ≡ b) width) (map_run f) (map_items f)
-            (fitting-map columns width) (hard_lines run) texts (h.fitting (mode_unmap _ run pre)));
+        fitting = λ pre. hard_parts-map f _ (ShowsFitting columns (λ a b. a ≡ b) width) (fitting-map columns width) run texts (h.fitting (mode_unmap _ run pre));
         kept = λ normal. rw (items, without_spaces-map (joined texts), kept_items-map columns run, ← marker_items-map names)
             (sym (map-append (map_item f) (without_spaces (joined texts)) (marker_items names)) ∙ ap (map_items f) (h.kept (mode_unmap _ run normal)));
         markers = rw (items, names_in_items-map (joined texts), names_in_run-map run) h.markers;
         behind = rw (behind-map (is_visible columns) run []) h.behind;
         behind_kept = λ normal. rw (behind-map (is_kept columns) run []) (h.behind_kept (mode_unmap _ run normal));
         waits = λ narrow normal. rw (trailing-map f columns run) (sym (marker_items-map names) ∙ ap (map_items f) (h.waits narrow (mode_unmap _ run normal)));
-        alone = λ none. ap (map_lines f) (h.alone (sym (letters-map run) ∙ none));
+        alone = λ none. ap (map_lines f) (h.alone (sym (entry_letters-map f run) ∙ none));
       }

@@ -1,6 +1,8 @@
 -- Characters that a text begins with, and that join a word where it is.
 use Rattle.std.proofs.Common.{◌≡◌, ℕ, ◌+◌, ◌≤◌, ◌==◌, Bool, true, false, not, ◌&&◌, ◌||◌, if◌then◌else◌, Option, None, Some, is_some, unwrap_or, List, [], ◌∷◌, ◌++◌, length, take, drop, chars, encode_utf8, refl, ap, sym, ◌∙◌, subst, arith, append-nil, length-append, length-take-le}
 use lib.Utf8.{encodes}
+use Rattle.std.proofs.Math.Bool.{or-false}
+use Rattle.std.proofs.lemmas.Bool.{or_left}
 use Rattle.std.specs.Char.{len_utf8}
 use Rattle.std.specs.Str.{IsUtf8, IsAscii}
 use Rattle.std.proofs.Math.Seq.{take-append_seam}
@@ -98,14 +100,7 @@ plain_stretch columns spaced text n m within ascii join width =
       join = subst (JoinWord columns spaced) same join;
     }
 
-unspaced : (columns : ℕ → Option ℕ) (spaced : Bool) (cs : List ℕ) → JoinWord columns false cs → JoinWord columns spaced cs
-unspaced columns spaced [] h = h
-unspaced columns spaced (c ∷ cs) h = (or_left (is_kept columns c) (spaced && c == 32) h.0, unspaced columns spaced cs h.1)
-  where
-    or_left : (b s : Bool) → b || false ≡ true → b || s ≡ true
-    or_left true s e = refl
-    or_left false s e = cc
-
 -- where no space joins, and so where one would
-pub letters_stretch : (columns : ℕ → Option ℕ) (spaced : Bool) (text : List ℕ) (s : Stretch) → IsStretch columns false text s → IsStretch columns spaced text s
-letters_stretch columns spaced text s h = record { front = h.front; width = h.width; join = unspaced columns spaced _ h.join }
+pub unspaced : (columns : ℕ → Option ℕ) (spaced : Bool) (cs : List ℕ) → JoinWord columns false cs → JoinWord columns spaced cs
+unspaced columns spaced [] h = h
+unspaced columns spaced (c ∷ cs) h = (or_left (is_kept columns c) (spaced && c == 32) (sym (or-false (is_kept columns c)) ∙ h.0), unspaced columns spaced cs h.1)

@@ -1,5 +1,6 @@
 -- What the rule does with a character, by tests that the code makes.
 use Rattle.std.proofs.Common.{◌≡◌, ◌≢◌, nat_lt, ◌&&◌, ◌||◌, not, ◌==◌, ℕ, zero, suc, ◌+◌, ◌<◌, Bool, true, false, if◌then◌else◌, Option, None, Some, is_none, is_some, List, refl, ap, ◌∙◌, arith, Result, Ok, Err, OnOk, le-ltb, ne_eqb}
+use Rattle.std.proofs.lemmas.Bool.{and_left, and_right}
 use Rattle.std.specs.Char.{is_whitespace}
 use Rattle.tbr_model.specs.declared.white_space.WhiteSpace.{WhiteSpace}
 use Rattle.tbr_model.specs.declared.white_space.WhiteSpace.TheVariants.{Normal}
@@ -13,13 +14,6 @@ use Rattle.tbr_wrap.specs.declared.laid_lines.LaidLines.{LaidLines}
 use Rattle.tbr_wrap.specs.declared.wrapper.Wrapper.{Wrapper}
 use Rattle.tbr_wrap.proofs.words.WordsLaid.{stands_laid}
 use Rattle.tbr_wrap.specs.declared.wrapper.Space.{Space as HeldSpace}
-
-and_left : (x y : Bool) → x ≡ false → (x && y) ≡ false
-and_left x y e = ap (λ b. b && y) e
-
-and_right : (x y : Bool) → y ≡ false → (x && y) ≡ false
-and_right false y e = refl
-and_right true y e = e
 
 -- U+200B, white space that waits already, and an empty line: nothing is noted
 pub collapse_zero : {A : Type 0} (c : ℕ) (a : A) (p : Progress A) → c ≡ 8203 → collapse c a p ≡ p
@@ -107,10 +101,6 @@ module _ {A : Type 0} (columns : ℕ → Option ℕ) (width c : ℕ) (a b : A) (
         both : (t : Bool) → (if t then keep_space c (tag_of p a b) mode None p else keep_character columns width c a b mode None p) ≡ p
         both true = refl
         both false = refl
-
-pub none_of : {X : Type 0} (o : Option X) → ((x : X) → o ≢ Some x) → o ≡ None
-none_of None h = refl
-none_of (Some x) h = absurd (h x refl)
 
 -- ---- where white space collapses
 

@@ -18,7 +18,7 @@ use Rattle.tbr_model.proofs.words.Items.{has_character-append, items_width-appen
 use Rattle.tbr_tagged.specs.Elements.{text_items}
 use Rattle.tbr_tagged.proofs.TextColumns.{width_of_text-append}
 use Rattle.tbr_wrap.specs.Plain.{stretch_width, joins, JoinWord}
-use Rattle.tbr_wrap.specs.State.{text_entries}
+use Rattle.tbr_wrap.specs.Runs.{text_entries}
 use Rattle.tbr_wrap.specs.Wrapper.{join_all}
 use Rattle.tbr_wrap.proofs.words.ModeCases.{normal_kept, preserve_kept, preserve_space, keep_joins}
 

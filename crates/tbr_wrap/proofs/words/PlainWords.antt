@@ -17,11 +17,12 @@ use Rattle.tbr_model.proofs.words.Items.{has_character-append, items_width-appen
 use Rattle.tbr_tagged.specs.Elements.{text_items}
 use Rattle.tbr_tagged.proofs.TextColumns.{items_width-text}
 use Rattle.tbr_wrap.specs.Plain.{is_narrow, joins, reads, JoinWord, AreWords}
-use Rattle.tbr_wrap.specs.State.{text_entries}
+use Rattle.tbr_wrap.specs.Runs.{text_entries}
 use Rattle.tbr_wrap.specs.Wrapper.{join_all}
 use Rattle.tbr_wrap.proofs.words.ModeCases.{normal_kept, normal_break}
 use Rattle.tbr_wrap.proofs.words.PlainText.{joined_text, graphic_low, graphic_joins}
-use Rattle.tbr_wrap.proofs.words.WordsLaid.{extended_twice, put_fitting, lay_fresh_some}
+use Rattle.tbr_model.proofs.rule.Walk.{extended_twice}
+use Rattle.tbr_wrap.proofs.words.WordsLaid.{put_fitting, lay_fresh_some}
 
 -- ---- what is read
 
@@ -161,7 +162,7 @@ module _ {A : Type 0} (columns : ℕ → Option ℕ) (one : columns 32 ≡ Some 
   after_space cs q =
       let t = tag_of q a b in
       let wide : pending_width q.space + items_width columns q.word + (1 + (0 + length cs)) ≡ pending_width q.space + (items_width columns q.word + suc (length cs)) = omega arith in
-      let twice = extended_twice q.laid (space_text q.space ++ q.word) (glyph 32 t ∷ text_items cs t) (pending_width q.space + items_width columns q.word) (1 + (0 + length cs)) in
+      let twice = extended_twice q.laid (space_text q.space ++ q.word) (glyph 32 t ∷ text_items cs t) (pending_width q.space + items_width columns q.word) (1 + (0 + length cs)) _ refl in
       let whole = twice ∙ (λ i. extended q.laid (append_assoc (space_text q.space) q.word (glyph 32 t ∷ text_items cs t) i) (wide i)) in
       ap (λ l. record q { laid = l; space = Some (record { width = 1; tag = t; mode = Normal }); word = []; mode = Normal; continuation_flag = false }) whole
 

@@ -1,12 +1,11 @@
 -- Where a run ends.
 use Rattle.std.proofs.Common.{◌≡◌, ℕ, Bool, false, Option, None, List, [], ◌∷◌, ◌++◌, map, length, refl, ap, sym, ◌∙◌, subst, arith, append-nil}
-use Rattle.std.proofs.lemmas.Bool.{cond_both}
 use Rattle.std.specs.List.{AllByRecursion as Each}
 use Rattle.std.specs.Cmp.{IsEquivalence}
 use Rattle.tbr_model.specs.declared.white_space.WhiteSpace.TheVariants.{Normal}
-use Rattle.tbr_model.specs.Run.{Item, glyph, marker, items_width, has_character}
+use Rattle.tbr_model.specs.Run.{Item, marker, items_width, has_character}
 use Rattle.tbr_model.specs.Layout.{joined}
-use Rattle.tbr_model.specs.Laid.{Laid, nothing_laid, end_if_character}
+use Rattle.tbr_model.specs.Laid.{nothing_laid, end_if_character}
 use Rattle.tbr_model.specs.Rule.{Progress, flush_word, waiting}
 use Rattle.tbr_tagged.specs.Elements.{SameItems}
 use Rattle.tbr_wrap.specs.Wrapped.{FitsBlock}
@@ -18,16 +17,6 @@ use Rattle.tbr_wrap.proofs.lines.HeldLines.{holds_same}
 use Rattle.tbr_wrap.proofs.lines.LaidByRule.{lays_same}
 use Rattle.tbr_model.proofs.words.Items.{items_width-append, no_character_no_width}
 use Rattle.tbr_tagged.proofs.SameItems.{same_has, same_items_append}
-
--- a fresh line has no character
-pub fresh_none : {A : Type 0} (l : Laid A) → has_character (end_if_character l).line ≡ false
-fresh_none {A} l = cond_both (has_character l.line) _ _ (λ (m : Laid A). has_character m.line ≡ false) (λ _. refl) (λ none. none)
-
--- two lists of items without a character have none
-pub append_none : {A : Type 0} (is js : List (Item A)) → has_character is ≡ false → has_character js ≡ false → has_character (is ++ js) ≡ false
-append_none [] js h k = k
-append_none (glyph c a ∷ is) js h k = cc
-append_none (marker name ∷ is) js h k = append_none is js h k
 
 module _ {A : Type 0} (columns : ℕ → Option ℕ) (eq : A → A → Bool) (laws : IsEquivalence eq) (b c : Wrapper A) (d : LaidLines A) (before given : List (List (Item A))) (p : Progress A) where
   abbrev q : Progress A

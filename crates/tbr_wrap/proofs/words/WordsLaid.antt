@@ -1,10 +1,11 @@
 -- The block is where the rule is.
-use Rattle.std.proofs.Common.{rules, ◌≡◌, nat_le, ℕ, ◌+◌, ◌<◌, ◌≤◌, Bool, true, false, if◌then◌else◌, Option, None, Some, List, [], ◌∷◌, ◌++◌, refl, sym, ◌∙◌, subst, arith, append_assoc, append-nil, Result, Ok, Err, OnOk, le-leb, inl, inr}
+use Rattle.std.proofs.Common.{rules, ◌≡◌, nat_le, ℕ, ◌+◌, ◌<◌, ◌≤◌, Bool, true, false, Option, None, Some, List, [], ◌∷◌, refl, sym, ◌∙◌, subst, arith, Result, Ok, Err, OnOk, le-leb, inl, inr}
 use Rattle.std.proofs.lemmas.Bool.{cases_lt}
 use Rattle.tbr_model.specs.declared.white_space.WhiteSpace.TheVariants.{Normal}
 use Rattle.tbr_model.specs.Run.{Item, items_width, item_width, has_character}
 use Rattle.tbr_model.specs.Laid.{Laid, extended, end_if_character, put_items}
 use Rattle.tbr_model.specs.Greedy.{IsNarrow}
+use Rattle.tbr_model.proofs.rule.Walk.{extended_twice, extended_nothing}
 use Rattle.tbr_model.specs.Rule.{Space, Progress, pending_width, put_pending, is_pre, lay_fresh}
 use Rattle.tbr_tagged.specs.Elements.{SameItems}
 use Rattle.tbr_wrap.specs.LaidLines.{HoldsRule}
@@ -24,28 +25,12 @@ same_held_width eq (Some s) (Some t) h = h.0
 same_held_width eq None (Some t) h = absurd h
 same_held_width eq (Some s) None h = absurd h
 
-pub laid_is : {A : Type 0} (l m : Laid A) → l.done ≡ m.done → l.line ≡ m.line → l.width ≡ m.width → l ≡ m
-laid_is l m d e w = rw (d, e, w) refl
-
-pub extended_none : {A : Type 0} (l : Laid A) → extended l [] 0 ≡ l
-extended_none l = laid_is _ l refl (append-nil l.line) (omega arith)
-
-pub extended_twice : {A : Type 0} (l : Laid A) (is js : List (Item A)) (m n : ℕ) → extended (extended l is m) js n ≡ extended l (is ++ js) (m + n)
-extended_twice l is js m n = laid_is _ _ refl (append_assoc l.line is js) (omega arith)
-
 -- a word that fits is put as it is
 pub put_fitting : {A : Type 0} (columns : ℕ → Option ℕ) (width : ℕ) (l : Laid A) (is : List (Item A)) → l.width + items_width columns is ≤ width → put_items columns width l is ≡ extended l is (items_width columns is)
-put_fitting columns width l [] h = sym (extended_none l)
+put_fitting columns width l [] h = sym (extended_nothing l)
 put_fitting columns width l (i ∷ is) h =
     let test : nat_le (l.width + item_width columns i) width ≡ true = le-leb _ _ (omega (arith, h)) in
-    rw test (put_fitting columns width (extended l (i ∷ []) (item_width columns i)) is (omega (arith, h)) ∙ extended_twice l (i ∷ []) is (item_width columns i) (items_width columns is))
-
--- the mode of a word with one more character
-pub mode_kept : {X : Type 0} (b : Bool) (x y : X) → b ≡ true → x ≡ (if b then x else y)
-mode_kept b x y e = rw e refl
-
-pub mode_given : {X : Type 0} (b : Bool) (x y : X) → b ≡ false → y ≡ (if b then x else y)
-mode_given b x y e = rw e refl
+    rw test (put_fitting columns width (extended l (i ∷ []) (item_width columns i)) is (omega (arith, h)) ∙ extended_twice l (i ∷ []) is (item_width columns i) (items_width columns is) _ refl)
 
 -- more on the lines, and the word as it was
 pub stands_laid : {A : Type 0} (columns : ℕ → Option ℕ) (eq : A → A → Bool) (b : Wrapper A) (lines : LaidLines A) (before given : List (List (Item A))) (p : Progress A) (r : Laid A) → IsAtProgress columns eq b before given p → HoldsRule columns eq lines before given r →

@@ -6,7 +6,7 @@ use Rattle.tbr_model.specs.Run.{Item}
 use Rattle.tbr_model.specs.declared.white_space.WhiteSpace.TheVariants.{Normal}
 use Rattle.tbr_lines.specs.Block.{Block, new_block, after_text, after_flush}
 use Rattle.tbr_lines.specs.Outcome.{done, refused}
-use Rattle.tbr_lines.specs.State.{text_entries}
+use Rattle.tbr_lines.specs.Runs.{text_entries}
 use Rattle.tbr_lines.specs.UnicodeColumns.{unicode_columns, unicode_columns_drawn, unicode_columns_at_most_two}
 use Rattle.tbr_lines.specs.Wrapped.{HasBestLines, ShowsText}
 use Rattle.tbr_lines.specs.declared.Error.{Error}

@@ -1,5 +1,5 @@
 use Rattle.std.proofs.Common.{not, ap, ◌∙◌}
-use Rattle.tbr_lines.specs.State.{is_some_list}
+use Rattle.tbr_lines.specs.Runs.{is_some_list}
 use Rattle.tbr_renderer.proofs.KeptLines.{none_there, some_in_parts}
 use Rattle.tbr_renderer.proofs.kept_lines.KeptLines.is_empty.Goals as goal
 

@@ -6,13 +6,13 @@ use Rattle.tbr_lines.specs.Block.{Block, loose}
 use Rattle.tbr_lines.specs.View.{element_of}
 use Rattle.tbr_lines.specs.declared.Error.{Error}
 use Rattle.tbr_lines.specs.declared.Error.TheVariants as E
-use Rattle.tbr_lines.proofs.BlockLaws.{flush_in_two, flush_leaves}
+use Rattle.tbr_lines.proofs.BlockLaws.{flush_in_two, flush_leaves, none_open_taken}
 use Rattle.tbr_lines.proofs.Copies.{list_copies_equal}
 use Rattle.tbr_renderer.specs.Meant.{meant}
 use Rattle.tbr_renderer.specs.Renderer.{Renderer, with_line, block_width, may_overflow}
 use Rattle.tbr_renderer.specs.View.{block_seen, names_of, IsFresh}
 use Rattle.tbr_renderer.specs.Flush.{line_meant}
-use Rattle.tbr_renderer.proofs.Flushing.{markers_named, are_markers, nothing_open, block_flushed, block_refused}
+use Rattle.tbr_renderer.proofs.Flushing.{markers_named, are_markers, block_flushed, block_refused}
 use Rattle.tbr_renderer.proofs.sub.SubRenderer.try_flush.Goals as goal
 
 pub flush-requires : goal.flush-requires
@@ -47,9 +47,7 @@ returns-in_err-markers-clause-two_columns g c = λ two is.
 
 pub add_lines_of-requires-clause-ended : goal.add_lines_of-requires-clause-ended
 add_lines_of-requires-clause-ended g c =
-    let fresh = subst (λ b. IsFresh g.W.CharWidth.columns (block_width c.args.self.now) (may_overflow c.args.self.now) b) (sym c.into_inner-block.ensures) c.in-Some.ensures.opened in
-    let seen = ap (λ b. block_seen (Some b)) c.into_inner-block.ensures ∙ c.in-Some.ensures.block in
-    nothing_open g.D.TextDecorator.meaning g.W.CharWidth.columns (g.met.W.CharWidth.drawn_in_one 32 refl) c.args.self.now c.into_inner-block.result seen fresh c.flush.new.self c.take_trailing_fragments.new.self c.in_ok-flush.ensures.answers.ok c.in_ok-markers.ensures.answers.ok
+    none_open_taken g.W.CharWidth.columns c.into_inner-block.result c.flush.new.self c.in_ok-flush.ensures.answers.ok c.take_trailing_fragments.new.self c.in_ok-markers.ensures.answers.ok
 
 pub add_waiting-requires : goal.add_waiting-requires
 add_waiting-requires g c = are_markers (map element_of c.in_ok-markers.markers.items) (loose g.W.CharWidth.columns c.flush.new.self) c.in_ok-markers.ensures.markers

@@ -4,7 +4,7 @@ use Rattle.std.proofs.lemmas.Str.{chars-append, IsCharBoundary-from_take}
 use Rattle.tbr_model.specs.Run.{Entry}
 use Rattle.tbr_model.specs.Rule.{entry}
 use Rattle.tbr_tagged.specs.declared.error.Error.TheVariants as E
-use Rattle.tbr_wrap.specs.State.{text_entries}
+use Rattle.tbr_wrap.specs.Runs.{text_entries}
 use Rattle.tbr_wrap.specs.Block.{Block, lines, allows, grown, settled, settings_of}
 use Rattle.tbr_wrap.specs.Held.{HoldsRun, block_of}
 use Rattle.tbr_wrap.specs.Wrapper.{IsAtProgress}

@@ -1,4 +1,4 @@
-use Rattle.std.proofs.Common.{◌<◌, [], refl, ap, ◌∙◌, sym}
+use Rattle.std.proofs.Common.{[], refl, ap, ◌∙◌, sym}
 use Rattle.tbr_tagged.proofs.Outcomes.{answers_ok}
 use Rattle.tbr_wrap.specs.Block.{Block, settings_of}
 use Rattle.tbr_wrap.proofs.runs.Blocks.{grown_on, text_done}
@@ -20,5 +20,5 @@ loop-rest-preserved g c = record {
 pub returns : goal.returns
 returns g c =
     let grown = c.loop-rest.invariant.grown in
-    let done = text_done g.W.CharWidth.columns _ _ _ _ _ _ _ grown c.in_ok-refusal.ensures (sym c.is_empty.ensures ∙ c.loop-rest-test.false) c.loop-rest.invariant.allowed in
+    let done = text_done g.W.CharWidth.columns _ _ _ _ _ _ _ grown (sym c.is_empty.ensures ∙ c.loop-rest-test.false) c.loop-rest.invariant.allowed in
     record { answers = answers_ok _ _ _ _ tt _ c.in_ok-refusal.ensures done (ap settings_of grown.is) }

@@ -1,9 +1,9 @@
 use Rattle.std.proofs.Common.{◌≡◌, true, [], ◌∷◌, refl, ap, ◌∙◌, sym, subst}
-use Rattle.tbr_model.specs.Rule.{call}
+use Rattle.tbr_model.specs.Rule.{call, Progress}
 use Rattle.tbr_wrap.specs.Block.{Block, lines, allows}
 use Rattle.tbr_wrap.specs.Held.{HoldsRun, block_of}
 use Rattle.tbr_wrap.proofs.runs.HeldRuns.{holds_grown}
-use Rattle.tbr_wrap.proofs.runs.Blocks.{led_on, fit_allows, called_allows}
+use Rattle.tbr_wrap.proofs.runs.Blocks.{led_on, fit_allows, progress_grown}
 use Rattle.tbr_wrap.proofs.block.WrappedBlock.begin_call.Goals as goal
 
 pub invariant_of-self : goal.invariant_of-self
@@ -21,4 +21,5 @@ returns-clause-allowed g c =
     let t = record r { wrapper = c.begin_call.new.self; changes = c.appended-self-inside.result } in
     let live = ap (λ (s : Block g.row.T.Denot). s.failure) c.self.view_is ∙ c.requires in
     subst (λ (s : Block g.row.T.Denot). allows columns s (lines columns s) ≡ true) (sym (led_on columns r t _ c.begin_call.ensures.limits refl c.appended-self-inside.ensures live live))
-    (called_allows columns (block_of columns r) (fit_allows columns r.wrapper.lines.width r.wrapper.lines.may_overflow _ (c.self.invariant live).stands.lays.measured.done))
+    (ap (λ (p : Progress g.row.T.Denot). allows columns (block_of columns r) p.laid.done) (progress_grown columns (block_of columns r) (call ∷ []))
+    ∙ fit_allows columns r.wrapper.lines.width r.wrapper.lines.may_overflow _ (c.self.invariant live).stands.lays.measured.done)

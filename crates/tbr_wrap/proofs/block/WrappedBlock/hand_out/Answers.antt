@@ -1,7 +1,7 @@
-use Rattle.std.proofs.Common.{◌≡◌, Some, None, [], ◌∷◌, ◌++◌, drop, length, ap, ◌∙◌, sym, refl, subst, arith, append_assoc, append-nil}
+use Rattle.std.proofs.Common.{◌≡◌, [], ◌∷◌, ◌++◌, drop, length, ap, ◌∙◌, sym, refl, subst, arith, append_assoc, append-nil}
 use Rattle.tbr_wrap.specs.Block.{Block, Settings, left, HandsOutFirst}
 use Rattle.tbr_wrap.specs.Wrapped.{ShowsText}
-use Rattle.tbr_wrap.proofs.runs.LinesLeft.{handed_failure, handed_settings, left_after}
+use Rattle.tbr_wrap.proofs.runs.LinesLeft.{handed_keeps, left_after}
 use Rattle.tbr_wrap.proofs.runs.BlockLaws.{HandsOne, one_handed, none_handed}
 use Rattle.tbr_tagged.proofs.SameItems.{all_zip_append}
 use Rattle.tbr_wrap.proofs.block.WrappedBlock.hand_out.Given.{Over}
@@ -32,9 +32,9 @@ loop-lines-preserved g c =
     let gone = ap (left columns) f.leaves ∙ left_after block columns ∙ ap (drop 1) f.left_is in
     let line : shows c.in-Some.line f.text =
     subst (λ o. ShowsText columns g.T.PartialEq.eq o c.args.self.now.width c.in-Some.line f.text) inv.1 (subst (λ n. ShowsText columns g.T.PartialEq.eq block.padding n c.in-Some.line f.text) inv.2 f.shows) in (
-      ap (λ (s : Block g.row.T.Denot). s.failure) f.leaves ∙ handed_failure block ∙ inv.0,
-      ap (λ (s : Block g.row.T.Denot). s.padding) f.leaves ∙ ap (λ (k : Settings g.row.T.Denot). k.padding) (handed_settings block) ∙ inv.1,
-      ap (λ (s : Block g.row.T.Denot). s.width) f.leaves ∙ ap (λ (k : Settings g.row.T.Denot). k.width) (handed_settings block) ∙ inv.2,
+      ap (λ (s : Block g.row.T.Denot). s.failure) f.leaves ∙ (handed_keeps block).0 ∙ inv.0,
+      ap (λ (s : Block g.row.T.Denot). s.padding) f.leaves ∙ ap (λ (k : Settings g.row.T.Denot). k.padding) (handed_keeps block).1 ∙ inv.1,
+      ap (λ (s : Block g.row.T.Denot). s.width) f.leaves ∙ ap (λ (k : Settings g.row.T.Denot). k.width) (handed_keeps block).1 ∙ inv.2,
       inv.3 ++ f.text ∷ [],
       inv.4 ∙ ap (λ ls. inv.3 ++ ls) f.left_is ∙ ap (λ ls. inv.3 ++ f.text ∷ ls) (sym gone) ∙ sym (append_assoc inv.3 (f.text ∷ []) (left columns c.next_line.new.self)),
       rw c.in_ok-push.ensures.items (all_zip_append shows c.loop-lines.lines.items (c.in-Some.line ∷ []) inv.3 (f.text ∷ []) inv.5 (line, tt)),

@@ -1,11 +1,11 @@
-use Rattle.std.proofs.Common.{◌≡◌, None, ap, ◌∙◌}
+use Rattle.std.proofs.Common.{◌≡◌, ap, ◌∙◌, sym, subst}
 use Rattle.std.specs.List.{AllZip}
 use Rattle.std.proofs.lemmas.Result.{IfOk-weaker}
 use Rattle.tbr_tagged.specs.Outcome.{done}
 use Rattle.tbr_tagged.proofs.Outcomes.{live_done}
 use Rattle.tbr_wrap.specs.Block.{Block, Settings, left, after_flush}
 use Rattle.tbr_wrap.specs.Wrapped.{ShowsText}
-use Rattle.tbr_wrap.proofs.runs.BlockLaws.{flush_leaves, left_of_flushed}
+use Rattle.tbr_wrap.proofs.runs.BlockLaws.{flush_leaves, left_flushed}
 use Rattle.tbr_wrap.proofs.block.WrappedBlock.into_lines.Goals as goal
 
 pub hand_out-requires-clause-live : goal.hand_out-requires-clause-live
@@ -18,7 +18,7 @@ returns-clause-gives g c =
     let columns = g.W.CharWidth.columns in let t = c.flush.new.self in
     let padding = ap (λ (k : Settings g.row.T.Denot). k.padding) c.in_ok-flush.ensures.answers.settings_stay in
     let width = ap (λ (k : Settings g.row.T.Denot). k.width) c.in_ok-flush.ensures.answers.settings_stay in
-    let ended : left columns t ≡ t.ended = left_of_flushed columns c.args.self t c.in_ok-flush.ensures.answers.ok in
+    let ended : left columns t ≡ t.ended = subst (λ (s : Block g.row.T.Denot). left columns s ≡ s.ended) (sym (flush_leaves columns c.args.self t c.in_ok-flush.ensures.answers.ok)) (left_flushed columns c.args.self) in
     IfOk-weaker c.hand_out.result
     (λ lines. AllZip (ShowsText columns g.T.PartialEq.eq t.padding t.width) lines.items (left columns t))
     (λ lines. (s : Block g.row.T.Denot) × (after_flush columns c.args.self ≡ done s) × AllZip (ShowsText columns g.T.PartialEq.eq c.args.self.padding c.args.self.width) lines.items s.ended)

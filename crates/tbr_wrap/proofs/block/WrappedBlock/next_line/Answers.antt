@@ -5,7 +5,6 @@ use Rattle.tbr_tagged.proofs.Outcomes.{answers_ok}
 use Rattle.tbr_wrap.specs.Block.{Settings, left, HandsOutFirst}
 use Rattle.tbr_wrap.proofs.runs.LinesLeft.{none_of, shows_padded}
 use Rattle.tbr_wrap.proofs.runs.Blocks.{no_line, hands_first}
-use Rattle.tbr_wrap.proofs.block.WrappedBlock.next_line.Goals.{In-Some}
 use Rattle.tbr_wrap.proofs.block.WrappedBlock.next_line.Goals as goal
 
 pub returns-in_default-clause-answers : goal.returns-in_default-clause-answers

@@ -1,10 +1,10 @@
-use Rattle.std.proofs.Common.{◌≡◌, ◌<◌, Ok, Some, true, false, [], length, refl, ap, ◌∙◌, sym, subst, IfSome}
-use Rattle.tbr_tagged.specs.Elements.{items_of, IsMerged}
+use Rattle.std.proofs.Common.{◌≡◌, ◌<◌, Ok, true, false, [], length, refl, ap, ◌∙◌, sym, subst, IfSome}
+use Rattle.tbr_tagged.specs.Elements.{items_of, SameItems, IsMerged}
 use Rattle.tbr_tagged.proofs.SameItems.{same_items_trans}
 use Rattle.tbr_wrap.specs.Block.{Block, left, line_handed_out, settings_of}
 use Rattle.tbr_wrap.specs.Held.{HoldsRun, block_of}
-use Rattle.tbr_wrap.proofs.runs.LinesLeft.{ok_of}
-use Rattle.tbr_wrap.proofs.runs.HeldRuns.{no_lines, holds_handed, first_left, some_left, none_left, none_held, some_held, laid}
+use Rattle.std.proofs.lemmas.Result.{IfOk-at_ok}
+use Rattle.tbr_wrap.proofs.runs.HeldRuns.{no_lines, holds_handed, first_shown, left_shown, some_left, none_left, none_held, some_held, laid}
 use Rattle.tbr_wrap.proofs.runs.Blocks.{led_on, settings_kept}
 use Rattle.tbr_wrap.proofs.block.WrappedBlock.take_line.Goals as goal
 
@@ -24,7 +24,7 @@ invariant_of-self-in_default g c = λ live.
     let k = c.self.invariant (sym c.in_ok-line.ensures.ok.1 ∙ live) in
     let none : c.self.inside.wrapper.lines.ended.items ≡ [] = no_lines c.self.inside.wrapper.lines.ended.items (λ some.
     let f = some_left _ _ _ _ _ k some in
-    ok_of c.take_line-taken.result _ _ (c.in_ok-line.ensures.ok.0 ∙ ap Ok c.in_default.is) (c.take_line-taken.ensures.taken k.before (laid _ _ _ _ _ k) f.0 f.1 k.stands.lays.holds f.2)) in
+    IfOk-at_ok _ (c.in_ok-line.ensures.ok.0 ∙ ap Ok c.in_default.is) (c.take_line-taken.ensures.taken k.before (laid _ _ _ _ _ k) f.0 f.1 k.stands.lays.holds f.2)) in
     let columns = g.W.CharWidth.columns in let r = c.self.inside in
     rw (c.take_line-taken.ensures.none none).1
     (subst (λ f. HoldsRun columns g.T.PartialEq.eq r.wrapper r.begun (record (block_of columns r) { failure = f })) (sym c.in_ok-line.ensures.ok.1) k)
@@ -34,7 +34,7 @@ returns-in_default-clause-some g c = λ text rest e.
     let k = c.self.invariant (ap (λ (s : Block g.row.T.Denot). s.failure) c.self.view_is ∙ c.requires.unfailed) in
     let none : c.self.inside.wrapper.lines.ended.items ≡ [] = no_lines c.self.inside.wrapper.lines.ended.items (λ some.
     let f = some_left _ _ _ _ _ k some in
-    ok_of c.take_line-taken.result _ _ (c.in_ok-line.ensures.ok.0 ∙ ap Ok c.in_default.is) (c.take_line-taken.ensures.taken k.before (laid _ _ _ _ _ k) f.0 f.1 k.stands.lays.holds f.2)) in
+    IfOk-at_ok _ (c.in_ok-line.ensures.ok.0 ∙ ap Ok c.in_default.is) (c.take_line-taken.ensures.taken k.before (laid _ _ _ _ _ k) f.0 f.1 k.stands.lays.holds f.2)) in
     some_held _ _ _ _ _ k none text rest (ap (left g.W.CharWidth.columns) c.self.view_is ∙ e)
 
 pub invariant_of-self-2 : goal.invariant_of-self-2
@@ -44,9 +44,9 @@ invariant_of-self-2 g c = λ live.
     let before = sym c.in_ok-line.ensures.ok.1 ∙ live in
     let k = c.self.invariant before in
     let was = c.in_ok-line.ensures.ok.0 ∙ ap Ok c.in-Some.is in
-    let some = ok_of c.take_line-taken.result (Some c.in-Some.line) (λ o. IfSome o (λ _. 0 < length r.wrapper.lines.ended.items)) was c.take_line-taken.ensures.some in
+    let some = IfOk-at_ok (λ o. IfSome o (λ _. 0 < length r.wrapper.lines.ended.items)) was c.take_line-taken.ensures.some in
     let limits = c.take_line-taken.ensures.limits in let f = some_left _ _ _ _ _ k some in
-    let taken = ok_of c.take_line-taken.result _ _ was (c.take_line-taken.ensures.taken k.before (laid _ _ _ _ _ k) f.0 f.1 k.stands.lays.holds f.2) in
+    let taken = IfOk-at_ok _ was (c.take_line-taken.ensures.taken k.before (laid _ _ _ _ _ k) f.0 f.1 k.stands.lays.holds f.2) in
     subst (HoldsRun columns g.T.PartialEq.eq _ true)
     (sym (led_on columns r t _ limits refl c.appended-self-inside.ensures before live))
     (holds_handed _ _ _ _ _ k c.take_line-taken.new.self limits f.0 f.1 f.2 taken.2 some)
@@ -54,17 +54,17 @@ invariant_of-self-2 g c = λ live.
 pub returns-clause-some : goal.returns-clause-some
 returns-clause-some g c = λ text rest e.
     let k = c.self.invariant (ap (λ (s : Block g.row.T.Denot). s.failure) c.self.view_is ∙ c.requires.unfailed) in
-    let f = first_left _ _ _ _ _ k text rest (ap (left g.W.CharWidth.columns) c.self.view_is ∙ e) in
-    let t = ok_of c.take_line-taken.result _ _ (c.in_ok-line.ensures.ok.0 ∙ ap Ok c.in-Some.is) (c.take_line-taken.ensures.taken k.before (laid _ _ _ _ _ k) f.0 f.1 k.stands.lays.holds f.2) in
+    let f = first_shown (SameItems g.T.PartialEq.eq) _ _ text rest (ap (left g.W.CharWidth.columns) c.self.view_is ∙ e) (left_shown _ _ _ _ _ k) in
+    let t = IfOk-at_ok _ (c.in_ok-line.ensures.ok.0 ∙ ap Ok c.in-Some.is) (c.take_line-taken.ensures.taken k.before (laid _ _ _ _ _ k) f.0 f.1 k.stands.lays.holds f.2) in
     same_items_trans g.T.PartialEq.eq g.met.T.Eq.laws (items_of c.in-Some.line) f.0 text t.0 f.3
 
 pub returns-clause-merged : goal.returns-clause-merged
 returns-clause-merged g c =
     let k = c.self.invariant (ap (λ (s : Block g.row.T.Denot). s.failure) c.self.view_is ∙ c.requires.unfailed) in
     let was = c.in_ok-line.ensures.ok.0 ∙ ap Ok c.in-Some.is in
-    let some = ok_of c.take_line-taken.result (Some c.in-Some.line) (λ o. IfSome o (λ _. 0 < length c.self.inside.wrapper.lines.ended.items)) was c.take_line-taken.ensures.some in
+    let some = IfOk-at_ok (λ o. IfSome o (λ _. 0 < length c.self.inside.wrapper.lines.ended.items)) was c.take_line-taken.ensures.some in
     let f = some_left _ _ _ _ _ k some in
-    let t = ok_of c.take_line-taken.result _ _ was (c.take_line-taken.ensures.taken k.before (laid _ _ _ _ _ k) f.0 f.1 k.stands.lays.holds f.2) in
+    let t = IfOk-at_ok _ was (c.take_line-taken.ensures.taken k.before (laid _ _ _ _ _ k) f.0 f.1 k.stands.lays.holds f.2) in
     λ line e. let same : c.in-Some.line ≡ line = cc in subst (λ l. IsMerged g.T.PartialEq.eq l) same t.1
 
 pub returns-clause-taken : goal.returns-clause-taken
@@ -83,5 +83,5 @@ returns-clause-settings g c =
 pub returns-clause-none : goal.returns-clause-none
 returns-clause-none g c = λ e.
     let k = c.self.invariant (ap (λ (s : Block g.row.T.Denot). s.failure) c.self.view_is ∙ c.requires.unfailed) in
-    let some = ok_of c.take_line-taken.result (Some c.in-Some.line) (λ o. IfSome o (λ _. 0 < length c.self.inside.wrapper.lines.ended.items)) (c.in_ok-line.ensures.ok.0 ∙ ap Ok c.in-Some.is) c.take_line-taken.ensures.some in
+    let some = IfOk-at_ok (λ o. IfSome o (λ _. 0 < length c.self.inside.wrapper.lines.ended.items)) (c.in_ok-line.ensures.ok.0 ∙ ap Ok c.in-Some.is) c.take_line-taken.ensures.some in
     absurd (none_held _ _ _ _ _ k (ap (left g.W.CharWidth.columns) c.self.view_is ∙ e) some)

@@ -1,5 +1,4 @@
 use Rattle.std.proofs.Common.{[], ◌∷◌, ◌++◌, refl, ap, ◌∙◌, arith, append_assoc}
-use Rattle.std.specs.Char.{IsScalar}
 use Rattle.std.specs.Str.{chars}
 use Rattle.std.specs.String.{string_bytes}
 use Rattle.std.proofs.lemmas.Str.{IsUtf8-string_bytes}
@@ -10,9 +9,6 @@ use Rattle.tbr_wrap.specs.EndedLines.{cut}
 use Rattle.tbr_wrap.proofs.lines.CutLines.{none_cut, first_cut}
 use Rattle.tbr_wrap.proofs.ended_lines.EndedLines.append_line.Goals as goal
 
-newline_is_scalar : IsScalar 10
-newline_is_scalar = refl
-
 pub returns-in_default : goal.returns-in_default
 returns-in_default g c = λ is rest e.
     absurd (none_cut c.self.inside.lens.items c.self.inside.flat.placed is c.args.self.now rest (omega (arith, c.self.invariant.0, c.in_default.ensures.cases.0)) c.self.view_is e)
@@ -21,7 +17,7 @@ pub returns : goal.returns
 returns g c = λ is rest e.
     let n = c.in-Some.len in let old = chars_of c.args.text.now in let moved = c.move_text.new.text in
     let f = first_cut n c.pop_front.new.self.items c.self.inside.lens.items c.self.inside.flat.placed is c.args.self.now rest c.in-Some.ensures.items c.self.view_is e in (
-      ap chars c.in_ok-push.ensures.bytes ∙ chars_push (string_bytes moved) 10 (IsUtf8-string_bytes moved) newline_is_scalar
+      ap chars c.in_ok-push.ensures.bytes ∙ chars_push (string_bytes moved) 10 (IsUtf8-string_bytes moved) refl
           ∙ ap (λ cs. cs ++ 10 ∷ []) (c.in_default-move_text.ensures.text ∙ ap (λ js. old ++ item_characters js) f.0) ∙ append_assoc old (item_characters is) (10 ∷ []),
       ap (λ fl. cut c.pop_front.new.self.items fl.placed) c.in_default-move_text.ensures.rest ∙ f.1,
     )

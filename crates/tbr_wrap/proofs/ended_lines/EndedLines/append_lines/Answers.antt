@@ -3,7 +3,7 @@ use Rattle.std.proofs.lemmas.Bool.{eqb-false, eqb-true}
 use Rattle.tbr_tagged.specs.View.{chars_of}
 use Rattle.tbr_wrap.specs.EndedLines.{line_characters, lines_characters}
 use Rattle.tbr_wrap.proofs.runs.LinesLeft.{first_of}
-use Rattle.tbr_flat.proofs.TaggedCharacters.{no_len}
+use Rattle.std.proofs.lemmas.List.{nil_from_length}
 use Rattle.tbr_wrap.proofs.ended_lines.EndedLines.append_lines.Goals as goal
 
 pub loop-self-smaller : goal.loop-self-smaller
@@ -20,6 +20,6 @@ loop-self-preserved g c =
 
 pub returns : goal.returns
 returns g c =
-    let none : c.loop-self.self ≡ [] = no_len c.loop-self.self (eqb-true _ 0 (sym c.is_empty.ensures ∙ c.loop-self-test.false)) in
+    let none : c.loop-self.self ≡ [] = nil_from_length c.loop-self.self (eqb-true _ 0 (sym c.is_empty.ensures ∙ c.loop-self-test.false)) in
     let text = chars_of c.loop-self.text in
     sym (append-nil text) ∙ ap (λ ls. text ++ lines_characters ls) (sym none) ∙ c.loop-self.invariant

@@ -9,7 +9,7 @@ use Rattle.tbr_model.specs.Run.{Entry, character}
 use Rattle.tbr_model.specs.Rule.{enter}
 use Rattle.tbr_model.specs.Fits.{lines_fit}
 use Rattle.tbr_model.proofs.rule.WiderLines.{unfit_entries}
-use Rattle.tbr_wrap.specs.State.{text_entries}
+use Rattle.tbr_wrap.specs.Runs.{text_entries}
 use Rattle.tbr_wrap.proofs.wrapper.Wrapper.add_front.Goals as goal
 
 pub range-requires-clause-end_boundary : goal.range-requires-clause-end_boundary
@@ -59,15 +59,6 @@ returns-in-Some-clause-entered g c = λ before given p s.
     let text = c.args.text.now in let n = c.in-Some.s.bytes in
     let front : c.range-front.result.now ≡ take n text = c.range-front.ensures.value ∙ ap (λ m. take m text) (omega arith) in
     rw (sym front) (c.in_ok-add_stretch.ensures.entered before given p s)
-
-pub returns-in_err-add_char-clause-too_narrow : goal.returns-in_err-add_char-clause-too_narrow
-returns-in_err-add_char-clause-too_narrow g c = λ e before given p s.
-    let rest = c.next.new.self.rest.now in
-    let split = chars_past_char c.args.text.now rest c.in-Some-next.c c.utf8.text (sym c.chars.ensures.rest ∙ c.in-Some-next.ensures.steps.0) in
-    let q = err_from_is_err_and c.from_residual-in_err-add_char.result c.from_residual-in_err-add_char.ensures.1 in
-    let is : c.add_char.result ≡ Err E.TooNarrow = cc (q.1, q.2, e, c.in_err-add_char.was) in
-    let k = c.add_char.ensures.too_narrow is before given p s in
-    (k.0, record { wide = k.1; first = c.in-Some-next.c; rest = chars rest; text_is = split; normal = k.2 })
 
 pub returns-clause-front : goal.returns-clause-front
 returns-clause-front g c =

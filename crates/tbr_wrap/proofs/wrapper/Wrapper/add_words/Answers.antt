@@ -4,7 +4,7 @@ use Rattle.tbr_model.specs.declared.white_space.WhiteSpace.TheVariants.{Normal}
 use Rattle.tbr_model.specs.Rule.{tag_of, pending_width, lay_here, enter, collapse}
 use Rattle.tbr_model.specs.Run.{items_width}
 use Rattle.tbr_model.specs.Width.{width_of_text}
-use Rattle.tbr_wrap.specs.State.{text_entries}
+use Rattle.tbr_wrap.specs.Runs.{text_entries}
 use Rattle.tbr_wrap.specs.Wrapper.{join_all}
 use Rattle.tbr_wrap.proofs.words.PlainWords.{words_laid, words_ascii, words_width, words_front, some_read, all_ascii}
 use Rattle.tbr_wrap.proofs.words.WordsLaid.{same_held_width}

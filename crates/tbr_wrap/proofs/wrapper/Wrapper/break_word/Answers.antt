@@ -12,11 +12,6 @@ returns-clause-laid g c = λ before given p s.
     let some : nat_lt 0 (items_width g.W.CharWidth.columns p.word) ≡ true = lt-ltb _ _ (omega (arith, c.if-self-eq0.false, s.word_width)) in
     rw some (c.lay.ensures.laid before given p s)
 
-pub returns-clause-too_narrow : goal.returns-clause-too_narrow
-returns-clause-too_narrow g c = λ refused before given p s.
-    let n = c.lay.ensures.too_narrow refused before given p s in
-    (n.0, omega (arith, c.if-self-eq0.false, s.word_width), n.1)
-
 pub returns-clause-wider : goal.returns-clause-wider
 returns-clause-wider g c = λ refused before given p s.
     let some : nat_lt 0 (items_width g.W.CharWidth.columns p.word) ≡ true = lt-ltb _ _ (omega (arith, c.if-self-eq0.false, s.word_width)) in

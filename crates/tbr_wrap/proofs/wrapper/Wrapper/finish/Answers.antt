@@ -2,22 +2,17 @@ use Rattle.std.proofs.Common.{◌≡◌, ◌++◌, refl, ap, ◌∙◌, sym, sub
 use Rattle.std.proofs.lemmas.Result.{err_from_is_err_and}
 use Rattle.tbr_model.specs.Laid.{end_if_character}
 use Rattle.tbr_model.specs.Rule.{flush_word}
-use Rattle.tbr_model.proofs.rule.HardLines.{flush_flushes}
+use Rattle.tbr_model.proofs.rule.HardLines.{flush_flushes, no_character_after_end}
+use Rattle.tbr_model.proofs.rule.Markers.{waiting_none}
 use Rattle.tbr_tagged.specs.Elements.{SameItems}
 use Rattle.tbr_tagged.specs.declared.error.Error.TheVariants as E
 use Rattle.tbr_model.specs.Layout.{joined}
 use Rattle.tbr_model.proofs.words.Items.{no_character_no_width}
 use Rattle.tbr_tagged.proofs.SameItems.{same_has}
 use Rattle.tbr_wrap.proofs.lines.HeldLines.{keeps_trans}
-use Rattle.tbr_wrap.proofs.words.RunEnds.{fresh_none, append_none, run_finished}
+use Rattle.tbr_wrap.proofs.words.RunEnds.{run_finished}
 use Rattle.tbr_model.proofs.rule.WiderLines.{unfit_end}
 use Rattle.tbr_wrap.proofs.wrapper.Wrapper.finish.Goals as goal
-
-pub returns-in_err-flush_word-clause-too_narrow : goal.returns-in_err-flush_word-clause-too_narrow
-returns-in_err-flush_word-clause-too_narrow g c = λ e before given p s.
-    let q = err_from_is_err_and c.from_residual.result c.from_residual.ensures.1 in
-    let is : c.flush_word.result ≡ Err E.TooNarrow = cc (q.1, q.2, e, c.in_err-flush_word.was) in
-    c.flush_word.ensures.too_narrow is before given p s
 
 pub returns-clause-finished : goal.returns-clause-finished
 returns-clause-finished g c = λ before given p s.
@@ -26,9 +21,8 @@ returns-clause-finished g c = λ before given p s.
     let k = c.in_ok-flush_word.ensures in let f = c.in_ok-end_if_character.ensures in
     let t = k.laid before given p s in let l = f.ended columns before given q.laid t.lays in
     let word = subst (λ is. SameItems eq is q.word) (sym (ap (λ x. x.word) f.flat)) t.word in
-    let none = append_none (end_if_character q.laid).line q.word (fresh_none q.laid) (flush_flushes columns b.lines.width p) in
-    let u = c.in_ok-unplace.ensures (joined (before ++ l.0.laid.done)) l.0.laid.line l.0.holds.placed (sym l.0.holds.len) (same_has eq l.0.laid.line (end_if_character q.laid).line l.0.shows.last ∙ fresh_none q.laid) in
-    run_finished columns eq g.met.T.Eq.laws b _ d before given p l.0 word none (keeps_trans b.lines c.flush_word.new.self.lines d k.limits f.limits)
+    let u = c.in_ok-unplace.ensures (joined (before ++ l.0.laid.done)) l.0.laid.line l.0.holds.placed (sym l.0.holds.len) (same_has eq l.0.laid.line (end_if_character q.laid).line l.0.shows.last ∙ no_character_after_end q.laid) in
+    run_finished columns eq g.met.T.Eq.laws b _ d before given p l.0 word (waiting_none columns b.lines.width p) (keeps_trans b.lines c.flush_word.new.self.lines d k.limits f.limits)
     (ap (λ x. x.placed) u) (ap (λ x. x.word) u) refl refl refl l.1 (t.word_width ∙ no_character_no_width columns q.word (flush_flushes columns b.lines.width p)) refl refl refl refl
 
 pub returns-in_err-flush_word-clause-wider : goal.returns-in_err-flush_word-clause-wider

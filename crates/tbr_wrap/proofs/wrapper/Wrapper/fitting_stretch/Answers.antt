@@ -2,7 +2,7 @@ use Rattle.std.proofs.Common.{◌≡◌, ◌&&◌, ap, sym, ◌∙◌, subst, ta
 use Rattle.tbr_model.specs.Run.{has_character}
 use Rattle.tbr_model.specs.Rule.{is_pre}
 use Rattle.tbr_wrap.specs.Plain.{JoinWord}
-use Rattle.tbr_wrap.proofs.words.Letters.{plain_stretch, letters_stretch}
+use Rattle.tbr_wrap.proofs.words.Letters.{plain_stretch, unspaced}
 use Rattle.tbr_wrap.proofs.wrapper.Wrapper.fitting_stretch.Goals as goal
 use Rattle.tbr_wrap.proofs.wrapper.Wrapper.fitting_stretch.Goals.{then-is_pre, else-is_pre}
 
@@ -19,4 +19,5 @@ returns-then-count-gt0-clause-stretch g c =
 
 pub returns-then-letters-gt0-clause-stretch : goal.returns-then-letters-gt0-clause-stretch
 returns-then-letters-gt0-clause-stretch g c =
-    letters_stretch g.W.CharWidth.columns (is_pre c.args.mode && has_character c.args.self.now.lines.flat.word) c.args.text.now c.letters_in_front-letters.result c.letters_in_front-letters.ensures.letters
+    let h = c.letters_in_front-letters.ensures.letters in
+    record { front = h.front; width = h.width; join = unspaced g.W.CharWidth.columns (is_pre c.args.mode && has_character c.args.self.now.lines.flat.word) _ h.join }

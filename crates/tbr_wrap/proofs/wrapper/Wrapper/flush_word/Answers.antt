@@ -13,11 +13,6 @@ returns-clause-laid g c = λ before given p s.
     let has : has_character p.word ≡ true = sym (same_has g.T.PartialEq.eq c.args.self.now.lines.flat.word p.word s.word) ∙ sym c.has_word.ensures ∙ c.if-not-has_word.false in
     rw has (c.lay.ensures.laid before given p s)
 
-pub returns-clause-too_narrow : goal.returns-clause-too_narrow
-returns-clause-too_narrow g c = λ refused before given p s.
-    let has : has_character p.word ≡ true = sym (same_has g.T.PartialEq.eq c.args.self.now.lines.flat.word p.word s.word) ∙ sym c.has_word.ensures ∙ c.if-not-has_word.false in
-    let n = c.lay.ensures.too_narrow refused before given p s in (n.0, has, n.1)
-
 pub returns-clause-wider : goal.returns-clause-wider
 returns-clause-wider g c = λ refused before given p s.
     let has : has_character p.word ≡ true = sym (same_has g.T.PartialEq.eq c.args.self.now.lines.flat.word p.word s.word) ∙ sym c.has_word.ensures ∙ c.if-not-has_word.false in

@@ -1,10 +1,10 @@
-use Rattle.std.proofs.Common.{sym, ◌∙◌, subst, rules, []}
+use Rattle.std.proofs.Common.{refl, sym, ◌∙◌, subst, rules, []}
 use Rattle.tbr_model.specs.Run.{items_width}
 use Rattle.tbr_model.specs.Laid.{extended}
 use Rattle.tbr_model.specs.Rule.{space_text, pending_width}
 use Rattle.tbr_tagged.specs.Elements.{SameItems}
 use Rattle.tbr_wrap.specs.LaidLines.{HoldsRule}
-use Rattle.tbr_wrap.proofs.words.WordsLaid.{extended_twice}
+use Rattle.tbr_model.proofs.rule.Walk.{extended_twice}
 use Rattle.tbr_wrap.proofs.wrapper.Wrapper.lay_here.Goals as goal
 
 pub returns-clause-laid : goal.returns-clause-laid
@@ -14,6 +14,6 @@ returns-clause-laid g c = λ before given p s.
     let r = extended p.laid (space_text p.space) (pending_width p.space) in
     let k = c.in_ok-place_word.ensures in
     let laid = k.placed columns p.word t.word (sym t.word_width ∙ sym c.replace-width.ensures.value) before given r t.lays in
-    let lays = subst (λ q. HoldsRule columns eq c.place_word.new.self before given q) (extended_twice p.laid (space_text p.space) p.word (pending_width p.space) (items_width columns p.word)) laid in
+    let lays = subst (λ q. HoldsRule columns eq c.place_word.new.self before given q) (extended_twice p.laid (space_text p.space) p.word (pending_width p.space) (items_width columns p.word) _ refl) laid in
     let word : SameItems eq c.place_word.new.self.flat.word [] = rw k.word tt in
     search (rules, lays, word, c.replace-width.ensures.after)

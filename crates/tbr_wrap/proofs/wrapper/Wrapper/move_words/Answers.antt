@@ -6,7 +6,7 @@ use Rattle.tbr_model.specs.Laid.{end_if_character}
 use Rattle.tbr_model.specs.Rule.{enter}
 use Rattle.tbr_tagged.proofs.SameItems.{same_has}
 use Rattle.tbr_wrap.specs.Plain.{JoinWord}
-use Rattle.tbr_wrap.specs.State.{text_entries}
+use Rattle.tbr_wrap.specs.Runs.{text_entries}
 use Rattle.tbr_wrap.specs.Wrapper.{IsAtProgress}
 use Rattle.tbr_wrap.proofs.words.PlainWords.{words_moved, all_ascii}
 use Rattle.tbr_wrap.proofs.words.WordsLaid.{same_held_width, drops_pending, spaced_stands, stands_laid}

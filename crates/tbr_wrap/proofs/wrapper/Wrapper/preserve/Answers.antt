@@ -1,23 +1,13 @@
 use Rattle.std.proofs.Common.{◌≡◌, ℕ, refl, ◌∙◌, sym, subst, Err}
 use Rattle.std.proofs.lemmas.Result.{err_from_is_err_and}
-use Rattle.tbr_model.specs.Rule.{tag_of, flush_word, tab}
+use Rattle.tbr_model.specs.Rule.{tag_of, flush_word, newline, tab}
 use Rattle.tbr_wrap.specs.Wrapper.{IsAtProgress}
 use Rattle.tbr_tagged.specs.declared.error.Error.TheVariants as E
-use Rattle.tbr_wrap.proofs.words.ModeCases.{preserve_newline, preserve_tab, preserve_space, preserve_kept, preserve_none, none_of}
-use Rattle.tbr_model.proofs.rule.WiderLines.{unfit_newline, unfit_tab}
+use Rattle.tbr_wrap.proofs.words.ModeCases.{preserve_newline, preserve_tab, preserve_space, preserve_kept, preserve_none}
+use Rattle.tbr_wrap.proofs.runs.LinesLeft.{unfailed}
+use Rattle.tbr_model.proofs.rule.WiderLines.{unfit_by}
+use Rattle.tbr_model.proofs.rule.DoneLines.{newline_behind, tab_behind}
 use Rattle.tbr_wrap.proofs.wrapper.Wrapper.preserve.Goals as goal
-
-pub returns-in_err-flush_word-clause-too_narrow : goal.returns-in_err-flush_word-clause-too_narrow
-returns-in_err-flush_word-clause-too_narrow g c = λ e before given p s.
-    let q = err_from_is_err_and c.from_residual.result c.from_residual.ensures.1 in
-    let is : c.flush_word.result ≡ Err E.TooNarrow = cc (q.1, q.2, e, c.in_err-flush_word.was) in
-    let k = c.flush_word.ensures.too_narrow is before given p s in (k.0, k.2)
-
-pub returns-in_err-flush_word-2-clause-too_narrow : goal.returns-in_err-flush_word-2-clause-too_narrow
-returns-in_err-flush_word-2-clause-too_narrow g c = λ e before given p s.
-    let q = err_from_is_err_and c.from_residual-in_err-flush_word-2.result c.from_residual-in_err-flush_word-2.ensures.1 in
-    let is : c.flush_word-then-c-eq9.result ≡ Err E.TooNarrow = cc (q.1, q.2, e, c.in_err-flush_word-2.was) in
-    let k = c.flush_word-then-c-eq9.ensures.too_narrow is before given p s in (k.0, k.2)
 
 pub returns-then-c-eq10-clause-preserved : goal.returns-then-c-eq10-clause-preserved
 returns-then-c-eq10-clause-preserved g c = λ before given p s.
@@ -42,7 +32,7 @@ returns-then-c-eq9-clause-preserved g c = λ before given p s.
 pub returns-in_default-clause-preserved : goal.returns-in_default-clause-preserved
 returns-in_default-clause-preserved g c = λ before given p s.
     let columns = g.W.CharWidth.columns in
-    rw (preserve_none columns c.args.self.now.lines.width c.args.c c.args.main_tag.now c.args.wrap_tag.now c.args.mode p c.if-c-eq-ZERO_WIDTH_SPACE.false c.if-c-eq10.false c.if-c-eq9.false (sym c.width.ensures ∙ none_of c.width.result c.in_default.not-Some)) s
+    rw (preserve_none columns c.args.self.now.lines.width c.args.c c.args.main_tag.now c.args.wrap_tag.now c.args.mode p c.if-c-eq-ZERO_WIDTH_SPACE.false c.if-c-eq10.false c.if-c-eq9.false (sym c.width.ensures ∙ unfailed c.width.result c.in_default.not-Some)) s
 
 pub returns-then-always_takes_space-clause-preserved : goal.returns-then-always_takes_space-clause-preserved
 returns-then-always_takes_space-clause-preserved g c = λ before given p s.
@@ -66,7 +56,7 @@ returns-in_err-flush_word-clause-wider g c = λ e before given p s.
     let q = err_from_is_err_and c.from_residual.result c.from_residual.ensures.1 in
     let is : c.flush_word.result ≡ Err E.TooNarrow = cc (q.1, q.2, e, c.in_err-flush_word.was) in
     let k = c.flush_word.ensures.wider is before given p s in
-    (k.0, rw (preserve_newline columns width c.args.c c.args.main_tag.now c.args.wrap_tag.now c.args.mode p c.if-c-eq10.true) (unfit_newline columns width (flush_word columns width p) k.1))
+    (k.0, rw (preserve_newline columns width c.args.c c.args.main_tag.now c.args.wrap_tag.now c.args.mode p c.if-c-eq10.true) (unfit_by columns width newline newline_behind (flush_word columns width p) k.1))
 
 pub returns-in_err-flush_word-2-clause-wider : goal.returns-in_err-flush_word-2-clause-wider
 returns-in_err-flush_word-2-clause-wider g c = λ e before given p s.
@@ -74,4 +64,4 @@ returns-in_err-flush_word-2-clause-wider g c = λ e before given p s.
     let q = err_from_is_err_and c.from_residual-in_err-flush_word-2.result c.from_residual-in_err-flush_word-2.ensures.1 in
     let is : c.flush_word-then-c-eq9.result ≡ Err E.TooNarrow = cc (q.1, q.2, e, c.in_err-flush_word-2.was) in
     let k = c.flush_word-then-c-eq9.ensures.wider is before given p s in
-    (k.0, rw (preserve_tab columns width c.args.c c.args.main_tag.now c.args.wrap_tag.now c.args.mode p c.if-c-eq9.true) (unfit_tab columns width (tag_of p c.args.main_tag.now c.args.wrap_tag.now) (flush_word columns width p) k.1))
+    (k.0, rw (preserve_tab columns width c.args.c c.args.main_tag.now c.args.wrap_tag.now c.args.mode p c.if-c-eq9.true) (let a = tag_of p c.args.main_tag.now c.args.wrap_tag.now in unfit_by columns width (tab width a) (tab_behind width a) (flush_word columns width p) k.1))
