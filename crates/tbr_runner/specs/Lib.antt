@@ -4,4 +4,3 @@ pub mod Decorations
 pub mod Closing
 pub mod Meaning
 pub mod Normal
-pub mod Overhang
