@@ -693,7 +693,7 @@ static inline tbr_status tbr_is_empty(tbr_renderer *renderer, bool *is_empty) {
     return renderer ? (tbr_status)tbr1_is_empty(tbr_handle_of(renderer), is_empty, &renderer) : TBR_NO_RENDERER;
 }
 
-/* Whether lines of cells that span more rows than came yet still wait in the innermost level. Those that wait when
+/* Whether cells that span more rows than came yet overhang in the innermost level. Lines that they still have when
    it is closed or finished are lost. */
 static inline tbr_status tbr_has_overhang(tbr_renderer *renderer, bool *has_overhang) {
     return renderer ? (tbr_status)tbr1_has_overhang(tbr_handle_of(renderer), has_overhang, &renderer)

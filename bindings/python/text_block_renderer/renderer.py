@@ -336,7 +336,7 @@ class Renderer:
         return self._owned.flag("is_empty")
 
     def has_overhang(self) -> bool:
-        """Whether lines of cells that span more rows than came yet still wait. Those that wait at the end are lost."""
+        """Whether cells that span more rows than came yet overhang. Lines that they have at the end are lost."""
         return self._owned.flag("has_overhang")
 
     def width(self) -> int:

@@ -315,7 +315,7 @@ impl Renderer {
         self.handle.ask(|it, answer, back| unsafe { sys::tbr1_is_empty(it, answer, back) })
     }
 
-    /// Whether lines of cells that span more rows than came yet still wait. Those that wait at the end are lost.
+    /// Whether cells that span more rows than came yet overhang. Lines that they have at the end are lost.
     pub fn has_overhang(&self) -> Result<bool, Error> {
         // SAFETY: as above.
         self.handle.ask(|it, answer, back| unsafe { sys::tbr1_has_overhang(it, answer, back) })

@@ -137,9 +137,9 @@ impl Held {
         self.state.facts()
     }
 
-    /// Whether lines of cells still wait for their rows in the innermost level.
+    /// Whether cells overhang from the rows before in the innermost level.
     pub fn has_overhang(&self) -> Result<bool, Fault> {
-        self.state.has_overhang(self.alloc)
+        self.state.has_overhang()
     }
 
     /// The columns of the innermost level that are left after a prefix of `prefix` columns, but at least `least`.

@@ -111,15 +111,15 @@ impl State {
         }
     }
 
-    /// Whether lines of cells still wait for their rows in the innermost level. It refuses where memory is refused too.
-    pub fn has_overhang(&self, alloc: Global) -> Result<bool, Fault>
+    /// Whether cells overhang from the rows before in the innermost level. It takes no memory.
+    pub fn has_overhang(&self) -> Result<bool, Fault>
         requires { CanGoOn self.now }
         ensures ended { HasEnded self.now result }
     {
         Ok(match self {
-            State::Plain(program) => program.has_overhang(alloc)?,
-            State::Trivial(program) => program.has_overhang(alloc)?,
-            State::Rich(program) => program.has_overhang(alloc)?,
+            State::Plain(program) => program.top().has_overhang(),
+            State::Trivial(program) => program.top().has_overhang(),
+            State::Rich(program) => program.top().has_overhang(),
             State::Finished(_) => return Err(Fault::Finished),
             State::Refused(e) => return Err(Fault::from(*e)),
         })

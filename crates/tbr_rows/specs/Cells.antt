@@ -1,5 +1,5 @@
 -- The cells of a row, and where they are.
-use Rattle.std.specs.Prelude.{◌≡◌, ℕ, ◌+◌, ◌-◌, ◌/◌, ◌≤◌, nat_lt, nat_le, ◌==◌, ◌&&◌, ◌||◌, Bool, true, false, ⊤, if◌then◌else◌, Option, None, Some, is_none, List, [], ◌∷◌, ◌++◌, fold, length, drop, get_or, map, take}
+use Rattle.std.specs.Prelude.{◌≡◌, ℕ, ◌+◌, ◌-◌, ◌/◌, ◌≤◌, nat_lt, nat_le, ◌==◌, ◌&&◌, ◌||◌, not, Bool, true, false, ⊤, if◌then◌else◌, Option, None, Some, is_none, List, [], ◌∷◌, ◌++◌, fold, length, drop, get_or, map, take}
 use Rattle.std.specs.Option.{option_map}
 use Rattle.std.specs.List.{list_all, list_any}
 use Rattle.tbr_border.specs.declared.render_line.RenderLine.{RenderLine}
@@ -20,6 +20,10 @@ place_of c = c.place
 
 abbrev pub lines_of : {A : Type 0} → Cell A → List (RenderLine A)
 lines_of c = c.lines
+
+-- whether a cell has lines that it has still to show
+abbrev pub has_lines : {A : Type 0} → Cell A → Bool
+has_lines c = not (length c.lines == 0)
 
 -- the column after a cell, where a separator is
 abbrev pub end_of : {A : Type 0} → Cell A → ℕ

@@ -1,7 +1,8 @@
 //! The cells that overhang from the rows before.
-ghost use Rattle.std.specs.Prelude.{◌≡◌, ℕ, Bool, List, [], map, true, Some, IfOk};
+ghost use Rattle.std.specs.Prelude.{◌≡◌, ◌==◌, ℕ, Bool, List, [], length, map, true, Some, IfOk};
+ghost use Rattle.std.specs.List.{list_any};
 ghost use Rattle.tbr_rows.specs.Fitting.{fits_with};
-ghost use Rattle.tbr_rows.specs.Cells.{AreSideBySide, AreApart, row_fits, spot_of, spots_from, with_hanging};
+ghost use Rattle.tbr_rows.specs.Cells.{AreSideBySide, AreApart, has_lines, row_fits, spot_of, spots_from, with_hanging};
 
 use crate::columns::Columns;
 use crate::fitting::Fitting;
@@ -51,6 +52,20 @@ impl<T: Drop> Overhang<T> {
         Overhang {
             cells: LinkedList::new(alloc),
         }
+    }
+
+    /// Whether there is no cell. It takes no memory.
+    pub fn is_empty(&self) -> bool
+        ensures { result ≡ (length self.now == 0) }
+    {
+        self.cells.is_empty()
+    }
+
+    /// Whether a cell has lines that it has still to show. They are lost where no row comes any more. It takes no memory.
+    pub fn has_lines(&self) -> bool
+        ensures { result ≡ list_any has_lines self.now }
+    {
+        self.cells.iter().any(|cell| !cell.lines.is_empty())
     }
 
     /// Whether a row has a place for each of these cells, asked cell by cell of the row. It takes no memory.

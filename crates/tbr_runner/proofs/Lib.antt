@@ -9,4 +9,3 @@ pub mod LinesGive
 pub mod OfScript
 pub mod Results
 pub mod once
-pub mod Overhang

@@ -3,4 +3,3 @@ pub mod Progress
 pub mod Decorations
 pub mod Closing
 pub mod Meaning
-pub mod Overhang

@@ -15,7 +15,6 @@ ghost use Rattle.tbr_commands.specs.Command.{command_of, IsSized};
 ghost use Rattle.tbr_runner.specs.Progress.{progress_meant, nothing_pending, IsSpanned, GoesOn};
 ghost use Rattle.tbr_runner.specs.declared.opened.Opener.{Opener as By};
 ghost use Rattle.tbr_runner.specs.Closing.{ClosesIn, ClosingIsTooNarrow};
-ghost use Rattle.tbr_runner.specs.Overhang.{overhangs};
 ghost use Rattle.tbr_runner.specs.Prefixes.{asked_prefix};
 ghost use Rattle.tbr_runner.specs.Meaning.{opener, Closes, RequestDoes, RequestRefuses, LinkDoes, LinkRefuses, EndLinkDoes, EndLinkRefuses, LevelOpens, AppendDoes, AppendRefuses, CellDoes, CellRefuses, VerticalRowDoes, VerticalRowRefuses, RowDoes, RowRefuses, CommandDoes, CommandRefuses, LineDoes, LineRefuses, Ends};
 
@@ -341,21 +340,6 @@ impl<D: TextDecorator, W: CharWidth> Program<D, W> {
     {
         let top = self.renderers.top_mut();
         prefix_of(top, prefix)
-    }
-
-    /// Whether lines of cells still wait for their rows in the innermost level. It asks whether a row of one cell of
-    /// the greatest width, with something in it, would fit. It refuses only where memory is refused.
-    pub fn has_overhang(&self, alloc: Global) -> Result<bool, Error>
-        requires { GoesOn self.now }
-        ensures hangs { IfOk result (λ hangs. OfTop (λ r. hangs ≡ overhangs r) self.now.stack) }
-        ensures memory { IfErr result (λ e. e ≡ Refusal.OutOfMemory) }
-    {
-        let top = self.renderers.top();
-        let mut cell = top.new_sub_renderer(usize::MAX)?;
-        cell.fail(Error::TooNarrow);
-        let mut row = Vec::new(alloc);
-        row.push((cell, 1))?;
-        Ok(!top.row_fits(&row))
     }
 
     /// How many levels are open inside the outermost one.

@@ -1,2 +1,4 @@
 mod NearWords
 mod Statements
+pub mod ShownLines
+pub mod FirstWords

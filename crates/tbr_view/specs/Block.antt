@@ -1,5 +1,5 @@
 -- Blocks with the decorator's own prefixes.
-use Rattle.std.specs.Prelude.{ℕ, Bool, true, false, if◌then◌else◌, Option, List}
+use Rattle.std.specs.Prelude.{ℕ, Bool, true, false, if◌then◌else◌, Option, List, codes}
 use Rattle.tbr_model.specs.Width.{width_of_text}
 use Rattle.tbr_lines.specs.Padding.{spaces}
 use Rattle.tbr_decor.specs.Prefix.{Prefix, header, quote, unordered_item, ordered_item}
@@ -24,3 +24,10 @@ stands_apart (Heading level) = true
 abbrev pub other_prefix : (ℕ → Option ℕ) → Block → List ℕ → List ℕ
 other_prefix columns block prefix =
     if stands_apart block then prefix else spaces (width_of_text columns prefix)
+
+-- what an error calls it
+abbrev pub name_of : Block → List ℕ
+name_of Quote = codes "a quote"
+name_of Item = codes "an item"
+name_of (Ordered number) = codes "an ordered item"
+name_of (Heading level) = codes "a heading"

@@ -4,3 +4,5 @@ pub mod Words
 pub mod Problem
 pub mod Level
 pub mod Script
+pub mod Session
+pub mod Shown

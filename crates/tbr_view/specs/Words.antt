@@ -1,6 +1,6 @@
 -- Words of a script, and which is near another one.
-use Rattle.std.specs.Prelude.{ℕ, ◌<◌, ◌≤◌, ◌==◌, min, nat_eq, List, length, All, Contains, chars}
-use Rattle.std.specs.List.{before_first}
+use Rattle.std.specs.Prelude.{◌≡◌, ◌≢◌, ℕ, ◌<◌, ◌≤◌, ◌==◌, min, nat_eq, List, ◌∷◌, ◌++◌, length, All, Contains, chars}
+use Rattle.std.specs.List.{before_first, AllByRecursion as Each}
 use Rattle.std.specs.Borrow.{Bor}
 use Rattle.strsim.specs.Edits.{levenshtein_row}
 use Rattle.tbr_model.specs.Codes.{space_character}
@@ -8,6 +8,18 @@ use Rattle.tbr_model.specs.Codes.{space_character}
 -- the first word of a line, in front of its first space
 abbrev pub first_word : List ℕ → List ℕ
 first_word line = before_first (λ b. b == space_character) line
+
+-- no text begins with this word
+abbrev pub NoneBegins : List ℕ → List (List ℕ) → Type 0
+NoneBegins word texts = Each (λ text. first_word text ≢ word) texts
+
+-- One of the texts, which begins with this word, and none before it does.
+pub record IsFirstOf (word : List ℕ) (texts : List (List ℕ)) (text : List ℕ) : Type 0 where
+  pub before : List (List ℕ)
+  pub others : List (List ℕ)
+  pub among : texts ≡ before ++ text ∷ others
+  pub begins : first_word text ≡ word
+  pub first : NoneBegins word before
 
 -- the least number of characters put in, taken out or replaced that leads from one text to another
 abbrev pub distance : List ℕ → List ℕ → ℕ

@@ -219,23 +219,24 @@ fn no_column(
     ))
 }
 
-/// A cell takes more rows than come.
-pub fn lost_lines(alloc: Global, line: usize, cell: usize) -> Result<Problem, AllocError>
-    ensures { IfOk result (λ problem. IsOf problem kind_is.LinesLost line (Some cell)) }
+/// Lines of a cell are lost that takes more rows than come. The other line is that of the last cell that takes several.
+pub fn lost_lines(alloc: Global, line: usize, cell: Option<usize>) -> Result<Problem, AllocError>
+    ensures { IfOk result (λ problem. IsOf problem kind_is.LinesLost line cell) }
 {
     let (message, help) = both(
         alloc,
         "a cell takes more rows than come, and what is left of it isn't shown",
         "write a `row` for each row that the cell takes, or give it fewer",
     )?;
+    let related = cell.map(|line| Related {
+        line,
+        note: "this cell takes more rows than one",
+    });
     Ok(Problem {
         kind: Kind::LinesLost,
         line,
         message,
-        related: Some(Related {
-            line: cell,
-            note: "the cell was opened here",
-        }),
+        related,
         help,
     })
 }

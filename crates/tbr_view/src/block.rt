@@ -56,7 +56,9 @@ impl Block {
     }
 
     /// What an error calls it.
-    pub fn name(self) -> &'static str {
+    pub fn name(self) -> &'static str
+        ensures { result.now ≡ model.name_of self }
+    {
         match self {
             Block::Quote => "a quote",
             Block::Item => "an item",

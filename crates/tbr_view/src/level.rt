@@ -1,7 +1,8 @@
 //! What is open in a script, and the lines where it was opened.
-ghost use Rattle.std.specs.Prelude.{◌≡◌, ◌++◌, ◌∷◌, [], None, OnOk, IfSome, IfNone};
+ghost use Rattle.std.specs.Prelude.{◌≡◌, ◌++◌, ◌∷◌, [], None, Some, true, OnOk, IfSome, IfNone};
 ghost use Rattle.std.specs.Option.{option_copied};
 ghost use Rattle.tbr_view.specs.Level as model;
+ghost use Rattle.tbr_view.specs.declared.level.Level.{Level as Meant};
 
 use crate::block::Block;
 use std::alloc::{AllocError, Global};
@@ -57,7 +58,9 @@ pub struct TooWide {
 
 impl Opener {
     /// What an error calls it.
-    pub fn name(&self) -> &'static str {
+    pub fn name(&self) -> &'static str
+        ensures { result.now ≡ model.name_of self.now }
+    {
         match self {
             Opener::Sub => "a block",
             Opener::Cell => "a cell",
@@ -77,7 +80,9 @@ impl Opener {
     }
 
     /// The remark at the line where it was opened.
-    pub fn note(&self) -> &'static str {
+    pub fn note(&self) -> &'static str
+        ensures { result.now ≡ model.note_of self.now }
+    {
         match self {
             Opener::Sub => "the block was opened here",
             Opener::Cell => "the cell was opened here",
@@ -155,9 +160,35 @@ impl Levels {
 
     /// The first text that is known to be too wide. One of the innermost level comes before those of the levels
     /// outside.
-    pub fn too_wide(&self) -> Option<TooWide> {
-        let outside = self.inside.iter().rev();
-        self.notes.too_wide.or_else(|| outside.filter_map(|level| level.outside.too_wide).next())
+    pub fn too_wide(&self) -> Option<TooWide>
+        ensures { result ≡ model.first_of self.now.notes.too_wide (model.outside_too_wide self.now.inside.items) }
+    {
+        let mut found = None;
+        for level in &self.inside {
+            found = level.outside.too_wide.or(found);
+        }
+        self.notes.too_wide.or(found)
+    }
+
+    /// Whether the innermost level is a block with a prefix.
+    pub fn is_in_a_block(&self) -> bool
+        ensures { result ≡ model.is_in_a_block (model.innermost self.now.inside.items) }
+    {
+        match self.innermost() {
+            Some(level) => matches!(level.by, Opener::Block(_, _)),
+            None => false,
+        }
+    }
+
+    /// Whether this command closes the innermost level.
+    pub fn is_closed_by(&self, command: &str) -> bool
+        ensures { result ≡ true → (level : Meant) × (model.innermost self.now.inside.items ≡ Some level)
+            × (model.end_of level.by ≡ command.now) }
+    {
+        match self.innermost() {
+            Some(level) => level.by.end() == command,
+            None => false,
+        }
     }
 
     /// A level opens on a line. Nothing is known of it yet.

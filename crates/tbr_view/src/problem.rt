@@ -22,7 +22,7 @@ pub enum Kind {
     TooNarrow,
     /// The prefix of a block leaves it no column.
     NoRoom,
-    /// A cell takes more rows than come, and lines of it were lost.
+    /// A cell takes more rows than come, and lines of it are in no row.
     LinesLost,
 }
 

@@ -1,6 +1,8 @@
 //! From a script for people to what is shown of it.
-ghost use Rattle.std.specs.Prelude.{◌≢◌, ◌<◌, Some, IfOk, IfErr};
+ghost use Rattle.std.specs.Prelude.{◌≡◌, ◌≢◌, ◌<◌, Some, IfOk, IfErr};
+ghost use Rattle.tbr_lines.specs.View.{chars_of};
 ghost use Rattle.tbr_view.specs.Script.{Begins, BeginsNot};
+ghost use Rattle.tbr_view.specs.Shown.{IsShown, opening_in};
 
 use crate::advice;
 use crate::problem::{Problem, Refusal};
@@ -50,7 +52,9 @@ pub struct Shown {
 }
 
 /// What is shown of a script. It refuses where the script is at fault, and where memory is refused.
-pub fn view<W: CharWidth>(alloc: Global, script: &[u8], view: Settings) -> Result<Shown, Refusal> {
+pub fn view<W: CharWidth>(alloc: Global, script: &[u8], view: Settings) -> Result<Shown, Refusal>
+    ensures { IfOk result (λ shown. IsShown W.columns script.now view (chars_of shown.text)) }
+{
     let (opening, number, rest) = first_command(alloc, script)?;
     let opening = with_width(opening, view.width);
     match view.decorator.unwrap_or(opening.decorator) {
@@ -79,6 +83,7 @@ pub fn view<W: CharWidth>(alloc: Global, script: &[u8], view: Settings) -> Resul
 fn with_width(opening: Opening, width: Option<usize>) -> Opening
     requires width { 0 < opening.width }
     requires wrap_width { opening.options.wrap_width ≢ Some 0 }
+    ensures opening { result ≡ opening_in width opening }
     ensures width { 0 < result.width }
     ensures wrap_width { result.options.wrap_width ≢ Some 0 }
 {
@@ -132,12 +137,7 @@ fn run<D: TextDecorator, W: CharWidth>(
     requires width { 0 < opening.width }
     requires wrap_width { opening.options.wrap_width ≢ Some 0 }
 {
-    let mut session: Session<D, W> = Session::new(
-        alloc,
-        opening.width,
-        opening.options,
-        decorator,
-    )?;
+    let mut session: Session<D, W> = Session::new(alloc, opening, decorator)?;
     let mut rest = script;
     let mut number = number;
     while !rest.is_empty() {

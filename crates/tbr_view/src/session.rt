@@ -1,23 +1,27 @@
 //! A script for people, line after line, on a program.
-ghost use Rattle.std.specs.Prelude.{◌≡◌, ◌≢◌, ◌<◌, None, Some, IfOk, OnOk};
-ghost use Rattle.tbr_commands.specs.Command.{command_of};
+ghost use Rattle.std.specs.Prelude.{◌≡◌, ◌≢◌, ◌<◌, Some, find, chars, IfOk, OnOk};
+ghost use Rattle.tbr_decor.specs.Decoration.{decoration_of};
+ghost use Rattle.tbr_commands.specs.Command.{command_of, ask};
 ghost use Rattle.tbr_commands.specs.Command as asked;
+ghost use Rattle.tbr_commands.specs.Request.{layout as laid};
 ghost use Rattle.tbr_runner.specs.Progress.{GoesOn};
+ghost use Rattle.tbr_view.specs.Level.{takes_two};
+ghost use Rattle.tbr_view.specs.Session as model;
+ghost use Rattle.tbr_view.specs.Statement.{IsSized};
 
 use crate::advice;
 use crate::block::Block;
 use crate::level::{Levels, Opener, TooWide};
 use crate::problem::{Problem, Refusal};
 use crate::statement::{Statement, is_skipped};
-use std::alloc::Global;
+use std::alloc::{AllocError, Global};
 use std::collections::LinkedList;
-use std::mem;
-use tbr_commands::{Command, Layout, Request};
+use tbr_commands::{Command, Layout, Opening, Request};
 use tbr_decor::TextDecorator;
 use tbr_lines::{CharWidth, RenderLine, text_width};
 use tbr_runner::Program;
 use tbr_script::{RunError, TextPair};
-use text_block_renderer::{RenderOptions, Renderer};
+use text_block_renderer::Renderer;
 
 /// A script of which some lines were done.
 #[derive(Drop)]
@@ -30,17 +34,13 @@ pub struct Session<D: TextDecorator, W: CharWidth> {
 }
 
 impl<D: TextDecorator, W: CharWidth> Session<D, W> {
-    /// A script after its first command.
-    pub fn new(
-        alloc: Global,
-        width: usize,
-        options: RenderOptions,
-        decorator: D,
-    ) -> Result<Session<D, W>, Refusal>
-        requires width { 0 < width }
-        requires wrap_width { options.wrap_width ≢ Some 0 }
-        ensures { IfOk result (λ session. GoesOn session.program) }
+    /// A script after its first command. It refuses only where memory is refused.
+    pub fn new(alloc: Global, opening: Opening, decorator: D) -> Result<Session<D, W>, Refusal>
+        requires width { 0 < opening.width }
+        requires wrap_width { opening.options.wrap_width ≢ Some 0 }
+        ensures live { IfOk result (λ session. GoesOn session.program) }
     {
+        let Opening { width, options, .. } = opening;
         let Ok(program) = Program::new(alloc, width, options, decorator) else {
             return Err(Refusal::OutOfMemory);
         };
@@ -55,16 +55,27 @@ impl<D: TextDecorator, W: CharWidth> Session<D, W> {
     /// Does what the line of this number asks for. An empty line and a comment ask for nothing.
     pub fn run_line(&mut self, number: usize, line: &[u8]) -> Result<(), Refusal>
         requires { GoesOn self.old.program }
-        ensures { OnOk result (GoesOn self.new.program) }
+        ensures live { OnOk result (GoesOn self.new.program) }
     {
         if is_skipped(line) {
             return Ok(());
         }
         match Statement::parse(self.alloc, line)? {
-            Some(Statement::Command(command)) => self.run(number, &command),
-            Some(Statement::Open(block)) => self.open(number, block),
-            Some(Statement::Close(by)) => self.close(number, by),
+            Some(statement) => self.run_statement(number, statement),
             None => Err(advice::not_a_command(self.alloc, number, line)),
+        }
+    }
+
+    /// Does what a line of this number asks for.
+    fn run_statement(&mut self, number: usize, statement: Statement) -> Result<(), Refusal>
+        requires live { GoesOn self.old.program }
+        requires sized { IsSized statement }
+        ensures live { OnOk result (GoesOn self.new.program) }
+    {
+        match statement {
+            Statement::Command(command) => self.run(number, &command),
+            Statement::Open(block) => self.open(number, block),
+            Statement::Close(by) => self.close(number, by),
         }
     }
 
@@ -72,9 +83,9 @@ impl<D: TextDecorator, W: CharWidth> Session<D, W> {
     fn run(&mut self, number: usize, command: &Command) -> Result<(), Refusal>
         requires live { GoesOn self.old.program }
         requires sized { asked.IsSized (command_of command.now) }
-        ensures { OnOk result (GoesOn self.new.program) }
+        ensures live { OnOk result (GoesOn self.new.program) }
     {
-        if matches!(command, Command::Append(_)) && self.is_in_a_block() {
+        if self.may_not_append(command) {
             return Err(self.not_open("append", number));
         }
         self.note_texts(number, command);
@@ -82,22 +93,24 @@ impl<D: TextDecorator, W: CharWidth> Session<D, W> {
             self.note_losses(number)?;
         }
         self.command(number, command)?;
-        self.note_levels(number, command)
+        self.note_levels(number, command)?;
+        Ok(())
     }
 
-    /// Whether the innermost level is a block with a prefix.
-    fn is_in_a_block(&self) -> bool {
-        match self.levels.innermost() {
-            Some(level) => matches!(level.by, Opener::Block(_, _)),
-            None => false,
-        }
+    /// Whether a command would close a block with a prefix that it doesn't end.
+    fn may_not_append(&self, command: &Command) -> bool {
+        matches!(command, Command::Append(_)) && self.levels.is_in_a_block()
     }
 
     /// Does what a command asks for, and says why it refuses.
     fn command(&mut self, number: usize, command: &Command) -> Result<(), Refusal>
         requires live { GoesOn self.old.program }
         requires sized { asked.IsSized (command_of command.now) }
-        ensures { OnOk result (GoesOn self.new.program) }
+        ensures leads { OnOk result (model.Leads D.meaning W.columns (decoration_of D.TextDecorator)
+            self.old.program (command_of command.now) self.new.program) }
+        ensures levels { self.new.levels ≡ self.old.levels }
+        ensures lost { self.new.lost ≡ self.old.lost }
+        ensures live { OnOk result (GoesOn self.new.program) }
     {
         let columns = self.program.top().width();
         match self.program.run(self.alloc, number, command) {
@@ -113,7 +126,7 @@ impl<D: TextDecorator, W: CharWidth> Session<D, W> {
     /// Opens a block with a prefix of the decorator, in as many columns as the prefix leaves.
     fn open(&mut self, number: usize, block: Block) -> Result<(), Refusal>
         requires { GoesOn self.old.program }
-        ensures { OnOk result (GoesOn self.new.program) }
+        ensures live { OnOk result (GoesOn self.new.program) }
     {
         let Ok(prefix) = self.program.prefix(block.prefix()) else {
             return Err(Refusal::OutOfMemory);
@@ -124,9 +137,7 @@ impl<D: TextDecorator, W: CharWidth> Session<D, W> {
             return Err(advice::no_room(self.alloc, number, block, columns, width));
         }
         let prefixes = block.prefixes::<W>(self.alloc, prefix)?;
-        if block.stands_apart() {
-            self.lay_out(number, Layout::StartBlock)?;
-        }
+        self.lay_out_if(block.stands_apart(), number, Layout::StartBlock)?;
         self.command(number, &Command::Sub(width - columns))?;
         self.levels.enter(Opener::Block(block, prefixes), number)?;
         Ok(())
@@ -135,13 +146,9 @@ impl<D: TextDecorator, W: CharWidth> Session<D, W> {
     /// Closes the block that this command ends.
     fn close(&mut self, number: usize, by: &'static str) -> Result<(), Refusal>
         requires { GoesOn self.old.program }
-        ensures { OnOk result (GoesOn self.new.program) }
+        ensures live { OnOk result (GoesOn self.new.program) }
     {
-        if !self
-            .levels
-            .innermost()
-            .is_some_and(|level| level.by.end() == by)
-        {
+        if !self.levels.is_closed_by(by) {
             return Err(self.not_open(by, number));
         }
         self.note_losses(number)?;
@@ -159,27 +166,37 @@ impl<D: TextDecorator, W: CharWidth> Session<D, W> {
         prefixes: TextPair,
     ) -> Result<(), Refusal>
         requires { GoesOn self.old.program }
-        ensures { OnOk result (GoesOn self.new.program) }
+        ensures closes { OnOk result (model.BlockCloses D.meaning W.columns (decoration_of D.TextDecorator)
+            self.old.program block prefixes self.new.program) }
+        ensures levels { self.new.levels ≡ self.old.levels }
+        ensures lost { self.new.lost ≡ self.old.lost }
+        ensures live { OnOk result (GoesOn self.new.program) }
     {
         self.command(number, &Command::Append(prefixes))?;
-        if block.stands_apart() {
-            self.lay_out(number, Layout::EndBlock)?;
-        }
-        Ok(())
+        self.lay_out_if(block.stands_apart(), number, Layout::EndBlock)
     }
 
-    /// Begins or ends a block of lines.
-    fn lay_out(&mut self, number: usize, layout: Layout) -> Result<(), Refusal>
+    /// Begins or ends a block of lines, if that is asked for.
+    fn lay_out_if(&mut self, is_asked: bool, number: usize, layout: Layout) -> Result<(), Refusal>
         requires { GoesOn self.old.program }
-        ensures { OnOk result (GoesOn self.new.program) }
+        ensures leads { OnOk result (model.LeadsIf D.meaning W.columns (decoration_of D.TextDecorator)
+            is_asked self.old.program (ask (laid layout)) self.new.program) }
+        ensures levels { self.new.levels ≡ self.old.levels }
+        ensures lost { self.new.lost ≡ self.old.lost }
+        ensures live { OnOk result (GoesOn self.new.program) }
     {
+        if !is_asked {
+            return Ok(());
+        }
         self.command(number, &Command::Ask(Request::Layout(layout)))
     }
 
     /// Notes a text with a character that is wider than its block, if it is the first.
     fn note_texts(&mut self, number: usize, command: &Command)
         requires { GoesOn self.old.program }
-        ensures { GoesOn self.new.program }
+        ensures program { self.new.program ≡ self.old.program }
+        ensures inside { self.new.levels.inside ≡ self.old.levels.inside }
+        ensures lost { self.new.lost ≡ self.old.lost }
     {
         let text = match command {
             Command::Ask(Request::Text(text)) => text.as_str(),
@@ -203,48 +220,58 @@ impl<D: TextDecorator, W: CharWidth> Session<D, W> {
     }
 
     /// Notes what a command opened and closed.
-    fn note_levels(&mut self, number: usize, command: &Command) -> Result<(), Refusal>
-        requires { GoesOn self.old.program }
-        ensures { OnOk result (GoesOn self.new.program) }
+    fn note_levels(&mut self, number: usize, command: &Command) -> Result<(), AllocError>
+        ensures program { self.new.program ≡ self.old.program }
+        ensures lost { self.new.lost ≡ self.old.lost }
     {
         match command {
-            Command::Sub(_) => self.levels.enter(Opener::Sub, number)?,
+            Command::Sub(_) => self.levels.enter(Opener::Sub, number),
             Command::Cell(cell) => {
                 self.levels.notes.add_cell(number, cell.width, cell.span);
-                self.levels.enter(Opener::Cell, number)?;
+                self.levels.enter(Opener::Cell, number)
             }
             Command::Append(_) | Command::EndCell => {
                 let _ = self.levels.leave();
+                Ok(())
             }
-            Command::Row { .. } | Command::VerticalRow => self.levels.notes.take_cells(),
-            _ => {}
+            Command::Row { .. } | Command::VerticalRow => {
+                self.levels.notes.take_cells();
+                Ok(())
+            }
+            _ => Ok(()),
         }
-        Ok(())
     }
 
     /// Notes that lines of a cell which takes several rows are lost in the innermost level, if some are.
     fn note_losses(&mut self, number: usize) -> Result<(), Refusal>
         requires { GoesOn self.old.program }
-        ensures { OnOk result (GoesOn self.new.program) }
+        ensures program { self.new.program ≡ self.old.program }
+        ensures levels { self.new.levels ≡ self.old.levels }
+        ensures lost { OnOk result (model.TellsLoss (model.loses self.old.program) number
+            self.old.levels.notes.spanning self.old.lost.items self.new.lost.items) }
     {
-        let Some(line) = self.levels.notes.spanning else {
+        if !self.loses_lines() {
             return Ok(());
-        };
-        let Ok(hangs) = self.program.has_overhang(self.alloc) else {
-            return Err(Refusal::OutOfMemory);
-        };
-        if hangs {
-            let problem = advice::lost_lines(self.alloc, number, line)?;
-            self.lost.push(problem)?;
         }
+        let problem = advice::lost_lines(self.alloc, number, self.levels.notes.spanning)?;
+        self.lost.push(problem)?;
         Ok(())
     }
 
-    /// What was lost of the script by its end. The number is that of the line after the last. It refuses where a level
-    /// is open or cells wait.
-    fn end(&mut self, number: usize) -> Result<Vec<Problem>, Refusal>
+    /// Whether a cell that overhangs in the innermost level has lines that no row has shown.
+    fn loses_lines(&self) -> bool
+        requires { GoesOn self.now.program }
+        ensures { result ≡ model.loses self.now.program }
+    {
+        self.program.top().has_overhanging_lines()
+    }
+
+    /// Ends the script with the line of this number, which is that after the last. It refuses where a level is open or
+    /// cells wait.
+    fn end(&mut self, number: usize) -> Result<(), Refusal>
         requires { GoesOn self.old.program }
-        ensures live { OnOk result (GoesOn self.new.program) }
+        ensures program { self.new.program ≡ self.old.program }
+        ensures levels { self.new.levels ≡ self.old.levels }
     {
         if let Some(level) = self.levels.innermost() {
             return Err(advice::still_open(self.alloc, number, level));
@@ -253,7 +280,7 @@ impl<D: TextDecorator, W: CharWidth> Session<D, W> {
             return Err(self.cells_wait(number));
         }
         self.note_losses(number)?;
-        Ok(mem::replace(&mut self.lost, Vec::new(self.alloc)))
+        Ok(())
     }
 
     /// The lines of the script, and what was lost of it. The number is that of the line after the last.
@@ -263,12 +290,12 @@ impl<D: TextDecorator, W: CharWidth> Session<D, W> {
     ) -> Result<(LinkedList<RenderLine<Vec<D::Annotation>>>, Vec<Problem>), Refusal>
         requires { GoesOn self.program }
     {
-        let lost = self.end(number)?;
+        self.end(number)?;
         let Session {
             program,
             levels,
             alloc,
-            ..
+            lost,
         } = self;
         if program.open_levels() > 0 || program.waiting_cells() > 0 {
             return Err(Refusal::OutOfMemory);
@@ -304,6 +331,8 @@ impl<D: TextDecorator, W: CharWidth> Session<D, W> {
 }
 
 /// The first character of a text that takes two columns.
-fn first_wide<W: CharWidth>(text: &str) -> Option<char> {
+fn first_wide<W: CharWidth>(text: &str) -> Option<char>
+    ensures { result ≡ find (λ c. takes_two (W.columns c)) (chars text.now) }
+{
     text.chars().find(|c| W::width(*c) == Some(2))
 }

@@ -1,7 +1,7 @@
 //! The commands of a script, and which is near a word.
-ghost use Rattle.std.specs.Prelude.{◌≡◌, IfOk, IfSome, IfNone};
+ghost use Rattle.std.specs.Prelude.{◌≡◌, map, IfOk, IfSome, IfNone};
 ghost use Rattle.tbr_view.specs.Words as model;
-ghost use Rattle.tbr_view.specs.Words.{IsNearest, AreFar};
+ghost use Rattle.tbr_view.specs.Words.{IsNearest, AreFar, IsFirstOf, NoneBegins};
 
 use std::alloc::{AllocError, Global};
 use strsim::levenshtein;
@@ -83,9 +83,25 @@ pub fn first_word(line: &str) -> &str
     }
 }
 
-/// How the command of this word is written, if there is one.
-pub fn form_of(word: &str) -> Option<&'static str> {
-    FORMS.iter().copied().find(|form| first_word(form) == word)
+/// How the command of this word is written, if there is one: the first form that begins with it.
+pub fn form_of(word: &str) -> Option<&'static str>
+    ensures found { IfSome result (λ form. IsFirstOf word.now (map (λ s. s.now) FORMS) form.now) }
+    ensures none { IfNone result (NoneBegins word.now (map (λ s. s.now) FORMS)) }
+{
+    first_of(word, &FORMS)
+}
+
+/// The first of some texts whose first word is this one.
+fn first_of(word: &str, among: &[&'static str]) -> Option<&'static str>
+    ensures found { IfSome result (λ text. IsFirstOf word.now (map (λ s. s.now) among.now) text.now) }
+    ensures none { IfNone result (NoneBegins word.now (map (λ s. s.now) among.now)) }
+{
+    for text in among {
+        if first_word(text) == word {
+            return Some(*text);
+        }
+    }
+    None
 }
 
 /// How many edits are too many for a word: three, or as many as it has bytes if these are fewer.

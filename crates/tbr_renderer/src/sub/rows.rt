@@ -1,12 +1,12 @@
 //! Rows of cells side by side.
-ghost use Rattle.std.specs.Prelude.{◌≡◌, ◌≢◌, ◌≤◌, ◌⊎◌, ◌++◌, ◌∷◌, [], None, Some, Err, true, List, map, fold, OnOk, IfOk, IfSome};
+ghost use Rattle.std.specs.Prelude.{◌≡◌, ◌≢◌, ◌≤◌, ◌==◌, ◌⊎◌, ◌++◌, ◌∷◌, [], None, Some, Err, true, not, List, length, map, fold, OnOk, IfOk, IfSome};
 ghost use Rattle.std.specs.Option.{option_map};
-ghost use Rattle.std.specs.List.{AllZip, AllByRecursion as Each};
+ghost use Rattle.std.specs.List.{AllZip, AllByRecursion as Each, list_any};
 ghost use Rattle.tbr_lines.specs.Copies.{equal_lists};
 ghost use Rattle.tbr_lines.specs.Elements.{items_of, IsMerged};
 ghost use Rattle.tbr_lines.specs.declared.Error.TheVariants as E;
 ghost use Rattle.tbr_lines.specs.declared.RenderLine.TheVariants.{Line as Rule};
-ghost use Rattle.tbr_rows.specs.Cells.{AreSideBySide, row_fits, spot_of};
+ghost use Rattle.tbr_rows.specs.Cells.{AreSideBySide, has_lines, row_fits, spot_of};
 ghost use Rattle.tbr_rows.specs.Meant.{map_border, map_cell, row_meant, MeansRow, SeenRow};
 ghost use Rattle.tbr_renderer.specs.Renderer.{KeepsSettings, with_line, block_width};
 ghost use Rattle.tbr_renderer.specs.Meant.{tag_meant, items_meant, meant};
@@ -36,6 +36,21 @@ impl<D: TextDecorator, W: CharWidth> SubRenderer<D, W> {
             fitting.add(col.width(), col.is_blank());
         }
         fitting.fits()
+    }
+
+    /// Whether cells overhang from the rows before. It takes no memory, and doesn't look at a failure.
+    pub fn has_overhang(&self) -> bool
+        ensures { result ≡ not (length self.now.hanging == 0) }
+    {
+        !self.hanging.is_empty()
+    }
+
+    /// Whether a cell that overhangs has lines which no row has shown. They are lost where no row comes any more. It
+    /// takes no memory, and doesn't look at a failure.
+    pub fn has_overhanging_lines(&self) -> bool
+        ensures { result ≡ list_any has_lines self.now.hanging }
+    {
+        self.hanging.has_lines()
     }
 
     /// Whether nothing is in it: it hasn't failed, it has no line, and its open block, if any, holds no character.

@@ -1,0 +1,129 @@
+-- Lines as they are written in a format, and what is shown of a script.
+use Rattle.std.specs.Prelude.{◌≡◌, ℕ, ◌==◌, Bool, true, false, if◌then◌else◌, Option, None, Some, List, [], ◌∷◌, ◌++◌}
+use Rattle.std.specs.Global.{Vec}
+use Rattle.tbr_model.specs.Codes.{newline_character}
+use Rattle.tbr_lines.specs.Copies.{equal_lists}
+use Rattle.tbr_lines.specs.Elements.{Element, items_of, characters, SameItems}
+use Rattle.tbr_lines.specs.Mapped.{MapsElements}
+use Rattle.tbr_lines.specs.RenderLine.{line_items, IsItself}
+use Rattle.tbr_lines.specs.Walks.{item_characters}
+use Rattle.tbr_lines.specs.declared.RenderLine.{RenderLine}
+use Rattle.tbr_lines.specs.declared.RenderLine.TheVariants.{Text as Words, Line as Rule}
+use Rattle.tbr_decor.specs.declared.annotation.RichAnnotation.{RichAnnotation}
+use Rattle.tbr_decor.specs.contracts.annotation.RichAnnotationPartialEq.TheImpl as rich
+use Rattle.tbr_commands.specs.declared.opening.Decorator.{Decorator}
+use Rattle.tbr_commands.specs.declared.opening.Decorator.TheVariants.{Plain, Trivial, Rich}
+use Rattle.tbr_commands.specs.declared.opening.Opening.{Opening}
+use Rattle.tbr_show.specs.Ansi as ansi
+use Rattle.tbr_show.specs.Ndjson as json
+use Rattle.tbr_show.specs.Html as html
+use Rattle.tbr_view.specs.Script.{Begins}
+use Rattle.tbr_view.specs.declared.script.Format.{Format}
+use Rattle.tbr_view.specs.declared.script.Format.TheVariants.{Text, Bare, Ansi, Ndjson, Html}
+use Rattle.tbr_view.specs.declared.script.Settings.{Settings}
+
+-- ---- lines
+
+-- whether a line is a border
+abbrev pub is_border : {A : Type 0} → RenderLine A → Bool
+is_border (Words line) = false
+is_border (Rule border) = true
+
+abbrev pub is_text : Format → Bool
+is_text Text = true
+is_text Bare = false
+is_text Ansi = false
+is_text Ndjson = false
+is_text Html = false
+
+abbrev pub is_for_terminals : Format → Bool
+is_for_terminals Text = false
+is_for_terminals Bare = true
+is_for_terminals Ansi = true
+is_for_terminals Ndjson = false
+is_for_terminals Html = false
+
+-- a line's characters and a newline
+abbrev pub line_text : {A : Type 0} → RenderLine A → List ℕ
+line_text line = item_characters (line_items line) ++ newline_character ∷ []
+
+-- Elements of a line of text, or of a border as pieces with its cells under its own annotations.
+abbrev pub AreElements : {A : Type 0} → (A → A → Bool) → RenderLine (Vec A) → List (Element (Vec A)) → Type 0
+AreElements eq line es = IsItself line es × SameItems (equal_lists eq) (items_of es) (line_items line)
+
+-- elements under annotations in a format
+abbrev pub elements_in : (ℕ → Option ℕ) → Format → Bool → List (Element (Vec RichAnnotation)) → List ℕ
+elements_in columns Text is_border es = characters es ++ newline_character ∷ []
+elements_in columns Bare is_border es = ansi.bare_line es
+elements_in columns Ansi is_border es = ansi.line es
+elements_in columns Ndjson is_border es = json.line columns is_border es
+elements_in columns Html is_border es = html.line columns es
+
+-- tags without annotations
+abbrev pub Unannotated : Vec (Unit {0}) → Vec RichAnnotation → Type 0
+Unannotated tag bare = bare.items ≡ []
+
+-- the same under no annotations
+abbrev pub ShowsPlain : (ℕ → Option ℕ) → Format → Bool → List (Element (Vec (Unit {0}))) → List ℕ → Type 0
+ShowsPlain columns Bare is_border es cs = cs ≡ ansi.bare_line es
+ShowsPlain columns Ansi is_border es cs = cs ≡ ansi.bare_line es
+ShowsPlain columns format is_border es cs =
+    (bare : List (Element (Vec RichAnnotation))) × MapsElements Unannotated es bare
+    × (cs ≡ elements_in columns format is_border bare)
+
+-- a line in a format, under annotations
+abbrev pub IsShownRich : (ℕ → Option ℕ) → Format → RenderLine (Vec RichAnnotation) → List ℕ → Type 0
+IsShownRich columns Text line cs = cs ≡ line_text line
+IsShownRich columns format line cs =
+    (es : List (Element (Vec RichAnnotation))) × AreElements rich.ghosts.eq line es
+    × (cs ≡ elements_in columns format (is_border line) es)
+
+-- the equality of no annotations
+abbrev pub equal_units : Unit {0} → Unit {0} → Bool
+equal_units _ _ = true
+
+-- and under none
+abbrev pub IsShownPlain : (ℕ → Option ℕ) → Format → RenderLine (Vec (Unit {0})) → List ℕ → Type 0
+IsShownPlain columns Text line cs = cs ≡ line_text line
+IsShownPlain columns format line cs =
+    (es : List (Element (Vec (Unit {0})))) × AreElements equal_units line es
+    × ShowsPlain columns format (is_border line) es cs
+
+-- lines one after another
+abbrev pub AreShown : {L : Type 0} → (L → List ℕ → Type 0) → List L → List ℕ → Type 0
+AreShown Shows [] cs = cs ≡ []
+AreShown Shows (line ∷ lines) cs =
+    (first : List ℕ) × (rest : List ℕ) × Shows line first × AreShown Shows lines rest × (cs ≡ first ++ rest)
+
+-- ---- scripts
+
+-- the columns that are set, or those of the script
+abbrev pub width_in : Option ℕ → ℕ → ℕ
+width_in None own = own
+width_in (Some columns) own = if columns == 0 then own else columns
+
+abbrev pub opening_in : Option ℕ → Opening → Opening
+opening_in width opening = record opening { width = width_in width opening.width }
+
+-- the decorator that is set, or that of the script
+abbrev pub decorator_in : Option Decorator → Decorator → Decorator
+decorator_in None own = own
+decorator_in (Some decorator) own = decorator
+
+-- Characters that are lines of a rendering under a decorator, in a format.
+abbrev pub ShowsUnder : (ℕ → Option ℕ) → Decorator → Format → List ℕ → Type 0
+ShowsUnder columns Plain format cs =
+    (lines : List (RenderLine (Vec (Unit {0})))) × AreShown (IsShownPlain columns format) lines cs
+ShowsUnder columns Trivial format cs =
+    (lines : List (RenderLine (Vec (Unit {0})))) × AreShown (IsShownPlain columns format) lines cs
+ShowsUnder columns Rich format cs =
+    (lines : List (RenderLine (Vec RichAnnotation))) × AreShown (IsShownRich columns format) lines cs
+
+-- These characters are what is shown of a script that begins with a first command: lines in the format that is set,
+-- under the decorator that is set, or that of the script.
+pub record IsShown (columns : ℕ → Option ℕ) (script : List ℕ) (settings : Settings) (cs : List ℕ) : Type 0 where
+  pub opening : Opening
+  pub number : ℕ
+  pub rest : List ℕ
+  pub begins : Begins script opening number rest
+  pub shows : ShowsUnder columns (decorator_in settings.decorator opening.decorator) settings.format cs
