@@ -2,7 +2,6 @@ pub mod NormalTexts
 pub use Rattle.tbr_wrap.proofs.runs.BlockLaws
 pub use Rattle.tbr_wrap.proofs.runs.Blocks
 pub use Rattle.tbr_wrap.proofs.runs.LinesLeft
-pub use Rattle.tbr_wrap.proofs.runs.MappedRuns
 pub use Rattle.tbr_tagged.proofs.SameItems
 pub use Rattle.tbr_tagged.proofs.Copies
 pub use Rattle.tbr_tagged.proofs.Outcomes

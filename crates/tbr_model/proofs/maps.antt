@@ -2,3 +2,4 @@
 pub mod Words
 pub mod Layouts
 pub mod HardLines
+pub mod Rule

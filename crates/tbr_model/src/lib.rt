@@ -14,7 +14,9 @@ pub use laws::{
     words_stand_between_working_breaks,
 };
 pub use layout::{is_legal, is_legal_line, line_width};
-pub use mapped::{annotations_change_no_hard_line, annotations_change_no_layout};
+pub use mapped::{
+    annotations_change_no_hard_line, annotations_change_no_layout, annotations_change_no_progress,
+};
 pub use shown::{
     characters_come_with_the_run, columns_are_shown, lines_end_where_full,
     markers_alone_are_trailing, markers_alone_end_no_line, normal_items_are_kept,

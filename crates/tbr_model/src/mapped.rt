@@ -1,9 +1,10 @@
 //! The laws of runs under other annotations, each as the contract of a function that does nothing.
 ghost use Rattle.std.specs.Prelude.{◌≡◌, ℕ, Bool, true, Option, List, map};
 ghost use Rattle.tbr_model.specs.Run.{Entry, Item, words_of, trailing};
+ghost use Rattle.tbr_model.specs.Rule.{Event, Progress, progress, finished, waiting};
 ghost use Rattle.tbr_model.specs.Layout.{Slot, slots_of, line_text, IsBest};
 ghost use Rattle.tbr_model.specs.Hard.{hard_lines, Parted, ShowsVisible, ShowsHardLine, ShowsPre, ShowsPreWrap, ShowsTabs};
-ghost use Rattle.tbr_model.specs.Mapped.{map_items, map_run, map_word, map_slots, map_layout, map_lines, KeepsEqual};
+ghost use Rattle.tbr_model.specs.Mapped.{map_items, map_run, map_word, map_slots, map_layout, map_lines, map_events, map_laid, map_progress, KeepsEqual};
 
 /// Which annotations a run has doesn't change how it is laid out.
 pub fn annotations_change_no_layout<A, B>()
@@ -17,6 +18,16 @@ pub fn annotations_change_no_layout<A, B>()
         line_text (map_slots f line) ≡ map_items f (line_text line) }
     ensures best { (f : A → B) (width : ℕ) (slots : List (Slot A)) (lines : List (List (Slot A))) →
         IsBest width slots lines → IsBest width (map_slots f slots) (map_layout f lines) }
+{}
+
+/// Where a block is in a run, and what that leaves, is the same under other annotations, each as the function makes it.
+pub fn annotations_change_no_progress<A, B>()
+    ensures progress { (f : A → B) (columns : ℕ → Option ℕ) (width : ℕ) (es : List (Event A)) →
+        progress columns width (map_events f es) ≡ map_progress f (progress columns width es) }
+    ensures finished { (f : A → B) (columns : ℕ → Option ℕ) (width : ℕ) (p : Progress A) →
+        finished columns width (map_progress f p) ≡ map_laid f (finished columns width p) }
+    ensures waiting { (f : A → B) (columns : ℕ → Option ℕ) (width : ℕ) (p : Progress A) →
+        waiting columns width (map_progress f p) ≡ map_items f (waiting columns width p) }
 {}
 
 /// What is shown of a run's hard lines is shown of them under other annotations, if annotations that are equal stay

@@ -3,7 +3,6 @@ pub mod Stages
 pub mod Images
 pub mod Opened
 pub mod Meanings
-pub mod MappedRule
 pub mod MappedBlocks
 pub mod Bordering
 pub mod LineTexts

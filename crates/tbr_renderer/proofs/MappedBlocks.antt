@@ -7,7 +7,7 @@ use Rattle.tbr_model.specs.Run.{Entry, Item, glyph, marker, items_width, has_cha
 use Rattle.tbr_model.specs.Rule.{Event, call, entry, run_of, Progress, finished, waiting}
 use Rattle.tbr_model.specs.Laid.{Laid}
 use Rattle.tbr_model.specs.Fits.{lines_fit}
-use Rattle.tbr_model.specs.Mapped.{map_items, map_entry, map_run, map_lines}
+use Rattle.tbr_model.specs.Mapped.{map_items, map_entry, map_run, map_lines, map_event, map_events, map_laid, map_progress}
 use Rattle.tbr_model.specs.Markers.{names_in_items}
 use Rattle.tbr_model.proofs.maps.Words.{items_width-map, has_character-map}
 use Rattle.tbr_lines.specs.Block.{Block, lines, all_lines, waiting_names, allows, grown, text_events, flushed, after_text, after_flush, any_line, takes_no_columns, has_no_character, progress_of}
@@ -20,10 +20,10 @@ use Rattle.tbr_model.specs.declared.white_space.WhiteSpace.{WhiteSpace}
 use Rattle.tbr_lines.specs.Runs.{is_some_list, text_entries, EndsRun, CharactersFit}
 use Rattle.tbr_lines.specs.declared.Error.{Error}
 use Rattle.tbr_renderer.specs.Renderer.{Open, Renderer, called, with_more, block_width, may_overflow}
-use Rattle.tbr_renderer.specs.Meant.{tag_meant, map_event, map_events, map_open, meant}
+use Rattle.tbr_renderer.specs.Meant.{tag_meant, map_open, meant}
 use Rattle.tbr_renderer.specs.View.{open_seen, block_meant, IsFresh}
 use Rattle.tbr_renderer.specs.Flush.{block_in, fits_grown, lines_at_end, names_at_end, fits_at_end, RunIsTooNarrow}
-use Rattle.tbr_renderer.proofs.MappedRule.{map_laid, map_progress, progress-map, finished-map, waiting-map}
+use Rattle.tbr_model.proofs.maps.Rule.{progress-map, finished-map, waiting-map}
 
 -- ---- what refuses
 

@@ -6,7 +6,7 @@ use Rattle.std.proofs.lemmas.List.{map-append}
 use Rattle.tbr_model.specs.declared.white_space.WhiteSpace.{WhiteSpace}
 use Rattle.tbr_model.specs.Run.{Entry, character, marker_entry}
 use Rattle.tbr_model.specs.Rule.{Event, entry, run_of}
-use Rattle.tbr_model.specs.Mapped.{map_run}
+use Rattle.tbr_model.specs.Mapped.{map_run, map_event, map_events}
 use Rattle.tbr_model.proofs.rule.HardLines.{run_of-append}
 use Rattle.tbr_lines.proofs.BlockLaws.{text_leaves, marker_leaves, sound_new, sound_text, sound_marked}
 use Rattle.tbr_lines.specs.declared.Error.{Error}
@@ -16,7 +16,7 @@ use Rattle.tbr_lines.specs.Block as block
 use Rattle.tbr_lines.specs.Outcome.{done, refused}
 use Rattle.tbr_lines.specs.Runs.{text_entries, CharactersFit}
 use Rattle.tbr_renderer.specs.Renderer.{Open, Renderer, new_block, open_block, open_run, text_annotations, last_mode, struck, entries_under, entries_of, called, with_more, with_events, block_width, may_overflow}
-use Rattle.tbr_renderer.specs.Meant.{tag_meant, map_event, map_events, map_open, meant}
+use Rattle.tbr_renderer.specs.Meant.{tag_meant, map_open, meant}
 use Rattle.tbr_renderer.specs.View.{IsFresh, block_seen, block_meant}
 use Rattle.tbr_renderer.specs.Flush.{block_in, fits_grown}
 use Rattle.tbr_renderer.specs.Steps.{at_line_start, block_is_empty, text_brings, JoinIsTooNarrow}

@@ -3,9 +3,8 @@ use Rattle.std.specs.Prelude.{List, map, false}
 use Rattle.std.specs.Option.{option_map}
 use Rattle.std.specs.Global.{Vec}
 use Rattle.std.specs.Vec.{vec_items}
-use Rattle.tbr_model.specs.Rule.{Event, call, entry}
 use Rattle.tbr_model.specs.Run.{Item}
-use Rattle.tbr_model.specs.Mapped.{map_items, map_entry}
+use Rattle.tbr_model.specs.Mapped.{map_items, map_events}
 use Rattle.tbr_rows.specs.Meant.{map_border, map_cell}
 use Rattle.tbr_renderer.specs.Renderer.{Line, text, border, Open, Renderer}
 
@@ -23,14 +22,6 @@ items_meant meaning is = map_items (tag_meant meaning) is
 abbrev pub map_line : {T U : Type 0} → (T → U) → Line T → Line U
 map_line f (text is) = text (map_items f is)
 map_line f (border b) = border (map_border f b)
-
--- and what comes to a block
-abbrev pub map_event : {T U : Type 0} → (T → U) → Event T → Event U
-map_event f call = call
-map_event f (entry e) = entry (map_entry f e)
-
-abbrev pub map_events : {T U : Type 0} → (T → U) → List (Event T) → List (Event U)
-map_events f es = map (map_event f) es
 
 -- and an open block
 abbrev pub map_open : {T U : Type 0} → (T → U) → Open T → Open U

@@ -5,5 +5,4 @@ pub mod RuleWidths
 pub mod EndedRuns
 pub mod FittingLines
 pub mod LinesLeft
-pub mod MappedRuns
 pub mod ShownMeanings

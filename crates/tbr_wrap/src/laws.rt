@@ -154,13 +154,6 @@ pub fn flushes_are_too_narrow_for_characters<T>()
         (s : Block T) → 2 ≤ s.width → s.failure ≡ None → ¬ (after_flush columns s ≡ refused E.TooNarrow) }
 {}
 
-/// What the end of a run promises, it promises too with each annotation as another one, such as what it means.
-pub fn annotations_change_no_promise<A, B>()
-    ensures { (f : A → B) (columns : ℕ → Option ℕ) (width : ℕ) (may_overflow : Bool) (run : List (Entry A))
-        (texts : List (List (Item A))) (names : List (List ℕ)) → EndsRun columns width may_overflow run texts names →
-        EndsRun columns width may_overflow (map_run f run) (map_lines f texts) names }
-{}
-
 /// A line that is handed out has its text and its padding exactly, with each tag as what it means, where equal tags
 /// mean the same.
 pub fn texts_are_shown_by_meaning<A, B>()

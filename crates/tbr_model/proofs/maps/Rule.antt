@@ -1,38 +1,15 @@
 -- The rule under other annotations.
-use Rattle.std.proofs.Common.{◌≡◌, ℕ, zero, suc, ◌+◌, ◌-◌, ◌%◌, ◌==◌, ◌&&◌, nat_le, nat_lt, Bool, true, false, if◌then◌else◌, is_some, is_none, Option, Some, None, List, [], ◌∷◌, ◌++◌, map, fold, refl, ap, sym, ◌∙◌}
+use Rattle.std.proofs.Common.{◌≡◌, ℕ, zero, suc, ◌+◌, ◌-◌, ◌%◌, ◌==◌, ◌&&◌, nat_le, nat_lt, true, false, if◌then◌else◌, is_some, is_none, Option, Some, None, List, [], ◌∷◌, ◌++◌, fold, refl, ap, sym, ◌∙◌}
 use Rattle.std.specs.Option.{option_map}
 use Rattle.std.proofs.lemmas.List.{map-append}
 use Rattle.tbr_model.specs.declared.white_space.WhiteSpace.{WhiteSpace}
 use Rattle.tbr_model.specs.declared.white_space.WhiteSpace.TheVariants.{Normal, Pre, PreWrap}
 use Rattle.tbr_model.specs.Run.{Entry, character, marker_entry, Item, glyph, marker, item_width, items_width, has_character, is_blank, is_break}
 use Rattle.tbr_model.specs.Laid.{Laid, extended, end_line, end_if_character, end_if_columns, put_item, put_items}
-use Rattle.tbr_model.specs.Rule.{Event, call, entry, run_of, Space, Progress, at_start, spaces, space_text, pending_width, is_space_item, is_white_item, without_leading, without_trailing, trimmed, space_of, wrap_space_by, wrap_space, put_space, put_spaces, put_pending, is_pre, lay_here, lay_fresh, lay, flush_word, break_word, join, collapse, newline, put_tab, tab, keep_space, passes, tag_of, keep_character, preserve, enter, step, progress, finished, waiting}
-use Rattle.tbr_model.specs.Mapped.{map_item, map_items, map_entry, map_run, map_lines}
+use Rattle.tbr_model.specs.Rule.{Event, call, entry, Space, Progress, at_start, spaces, space_text, pending_width, is_space_item, is_white_item, without_leading, without_trailing, trimmed, space_of, wrap_space_by, wrap_space, put_space, put_spaces, put_pending, is_pre, lay_here, lay_fresh, lay, flush_word, break_word, join, collapse, newline, put_tab, tab, keep_space, passes, tag_of, keep_character, preserve, enter, step, progress, finished, waiting}
+use Rattle.tbr_model.specs.Mapped.{map_item, map_items, map_entry, map_lines, map_event, map_events, map_laid, map_space, map_progress}
 use Rattle.tbr_model.proofs.maps.Words.{item_width-map, items_width-map, has_character-map}
 use Rattle.tbr_model.proofs.rule.DoneLines.{if_same}
-use Rattle.tbr_renderer.specs.Meant.{map_event, map_events}
-
--- what is laid, space that waits, and where a block is in a run
-abbrev pub map_laid : {A B : Type 0} → (A → B) → Laid A → Laid B
-map_laid f l = record { done = map_lines f l.done; line = map_items f l.line; width = l.width }
-
-abbrev pub map_space : {A B : Type 0} → (A → B) → Space A → Space B
-map_space f s = record { width = s.width; tag = f s.tag; mode = s.mode }
-
-abbrev pub map_progress : {A B : Type 0} → (A → B) → Progress A → Progress B
-map_progress f p = record {
-  laid = map_laid f p.laid;
-  space = option_map (map_space f) p.space;
-  word = map_items f p.word;
-  mode = p.mode;
-  continuation_flag = p.continuation_flag;
-  in_continuation = p.in_continuation;
-}
-
-pub run_of-map : {A B : Type 0} (f : A → B) (es : List (Event A)) → run_of (map_events f es) ≡ map_run f (run_of es)
-run_of-map f [] = refl
-run_of-map f (call ∷ es) = run_of-map f es
-run_of-map f (entry e ∷ es) = ap (λ run. map_entry f e ∷ run) (run_of-map f es)
 
 module _ {A B : Type 0} (f : A → B) (columns : ℕ → Option ℕ) (width : ℕ) where
   -- ---- what is laid
