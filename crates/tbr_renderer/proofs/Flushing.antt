@@ -4,9 +4,8 @@ use Rattle.std.specs.Global.{Vec}
 use Rattle.std.proofs.lemmas.List.{map-append}
 use Rattle.std.proofs.lemmas.Grind.{fold-append}
 use Rattle.std.specs.Option.{option_map}
-use Rattle.tbr_model.specs.Run.{Entry, Item, items_width}
-use Rattle.tbr_model.specs.Rule.{run_of}
-use Rattle.tbr_model.specs.Mapped.{map_item, map_run, map_lines}
+use Rattle.tbr_model.specs.Run.{Item, items_width}
+use Rattle.tbr_model.specs.Mapped.{map_item, map_lines}
 use Rattle.tbr_model.proofs.maps.Words.{items_width-map}
 use Rattle.tbr_lines.specs.Copies.{equal_lists}
 use Rattle.tbr_lines.specs.Elements.{Element, marker_element, items_of, text_items}

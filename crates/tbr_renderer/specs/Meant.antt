@@ -1,5 +1,5 @@
 -- A renderer by what its annotations mean.
-use Rattle.std.specs.Prelude.{List, map, false}
+use Rattle.std.specs.Prelude.{List, map}
 use Rattle.std.specs.Option.{option_map}
 use Rattle.std.specs.Global.{Vec}
 use Rattle.std.specs.Vec.{vec_items}

@@ -1,5 +1,5 @@
 -- What the fields of a renderer mean.
-use Rattle.std.specs.Prelude.{◌≡◌, ◌<◌, ℕ, Bool, false, not, ◌&&◌, ⊤, Option, Some, None, List, [], ◌∷◌, map, chars}
+use Rattle.std.specs.Prelude.{◌≡◌, ◌<◌, ℕ, Bool, false, ⊤, Option, Some, None, List, [], ◌∷◌, map, chars}
 use Rattle.std.specs.Option.{option_map}
 use Rattle.std.specs.Global.{Box, Vec}
 use Rattle.tbr_lines.specs.View.{element_of}

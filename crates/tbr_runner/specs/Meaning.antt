@@ -1,12 +1,11 @@
 -- The meaning of a script: that of its commands one after another, up to the first line that is faulty or refuses.
 use Rattle.std.specs.Prelude.{◌≡◌, ◌≢◌, ℕ, ◌+◌, ◌⊎◌, Bool, true, false, Option, None, Some, Result, Err, MatchResult, List, [], ◌∷◌, ◌++◌, map, length, chars}
 use Rattle.std.specs.List.{AllZip}
-use Rattle.std.specs.Option.{option_map}
 use Rattle.tbr_lines.specs.declared.CellAlign.{CellAlign}
-use Rattle.tbr_rows.specs.Cells.{spots_from, row_fits}
+use Rattle.tbr_rows.specs.Cells.{row_fits}
 use Rattle.tbr_decor.specs.Start as start
 use Rattle.tbr_decor.specs.Decoration.{Decoration}
-use Rattle.text_block_renderer.specs.Renderer.{Renderer, Line, Open, new_renderer}
+use Rattle.text_block_renderer.specs.Renderer.{Renderer, Line, new_renderer}
 use Rattle.text_block_renderer.specs.Flush.{FlushIsTooNarrow}
 use Rattle.text_block_renderer.specs.Decorated.{sub_renderer}
 use Rattle.text_block_renderer.specs.Appended.{HandsOut, HoldsBack, FirstToRefuse}

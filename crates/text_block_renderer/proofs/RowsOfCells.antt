@@ -1,8 +1,6 @@
 -- Rows of cells side by side.
 use Rattle.std.proofs.Common.{◌≡◌, ℕ, ◌+◌, ◌-◌, suc, Bool, if◌then◌else◌, is_some, Option, Some, None, List, [], ◌∷◌, ◌++◌, fold, take, length, refl, ap, sym, ◌∙◌, subst, append_assoc, append-nil, arith}
-use Rattle.std.specs.List.{AllZip, AllByRecursion as Each}
-use Rattle.tbr_model.specs.declared.white_space.WhiteSpace.TheVariants.{Normal}
-use Rattle.tbr_lines.specs.Runs.{IsNormal}
+use Rattle.std.specs.List.{AllZip}
 use Rattle.tbr_model.specs.Run.{Item}
 use Rattle.tbr_lines.specs.Border.{Border}
 use Rattle.tbr_lines.specs.declared.CellAlign.{CellAlign}
@@ -12,7 +10,7 @@ use Rattle.tbr_rows.specs.Cells.{AreSideBySide}
 use Rattle.tbr_rows.specs.Meant.{SeenRow, MeansRow}
 use Rattle.tbr_rows.specs.declared.LineSet.{LineSet as Cell}
 use Rattle.tbr_rows.proofs.OneRow.{longest_same, one_row}
-use Rattle.tbr_renderer.specs.Renderer.{Line, text, border, Open, Renderer, Settings, settings_of, without_last, with_line, least, overflows, open_run}
+use Rattle.tbr_renderer.specs.Renderer.{Line, text, border, Renderer, settings_of, without_last, with_line}
 use Rattle.tbr_renderer.specs.Calls.{text_of_lines}
 use Rattle.tbr_renderer.specs.Rows.{GivenCell, FillsCell, ComesAs, last_border, before_border, border_lines, style_in, with_next, with_row, PutsRow, AppendsRow}
 use Rattle.text_block_renderer.proofs.Growing.{Grows, lines_grow, moves_grow}

@@ -1,10 +1,10 @@
 -- A level opens and closes in one way.
-use Rattle.std.proofs.Common.{◌≡◌, ℕ, List, [], ◌∷◌, Some, sym, ap, ◌∙◌, subst}
+use Rattle.std.proofs.Common.{◌≡◌, ℕ, List, ◌∷◌, Some, sym, ap, ◌∙◌}
 use Rattle.tbr_lines.specs.declared.CellAlign.{CellAlign}
 use Rattle.tbr_decor.specs.Decoration.{Decoration}
 use Rattle.text_block_renderer.specs.Renderer.{Renderer}
 use Rattle.text_block_renderer.specs.Decorated.{sub_renderer}
-use Rattle.tbr_stack.specs.Stack.{Stack, top_of, pushed}
+use Rattle.tbr_stack.specs.Stack.{Stack, pushed}
 use Rattle.tbr_runner.specs.declared.opened.Opener.{Opener}
 use Rattle.tbr_runner.specs.declared.opened.Opener.TheVariants.{Cell}
 use Rattle.tbr_runner.specs.Progress.{Pending, Opened, Progress}

@@ -1,5 +1,5 @@
 -- A link begins and ends in one way, or is refused.
-use Rattle.std.proofs.Common.{◌≡◌, ℕ, Option, None, Some, List, [], chars, sym, ap, ◌∙◌, subst, inl, inr}
+use Rattle.std.proofs.Common.{◌≡◌, ℕ, Option, None, Some, List, chars, sym, ap, ◌∙◌, subst, inl, inr}
 use Rattle.tbr_decor.specs.Start as start
 use Rattle.tbr_decor.specs.End as end_text
 use Rattle.tbr_decor.specs.Decoration.{Decoration}

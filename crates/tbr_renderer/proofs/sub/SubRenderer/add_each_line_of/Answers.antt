@@ -1,4 +1,4 @@
-use Rattle.std.proofs.Common.{◌≡◌, Some, None, length, drop, ap, ◌∙◌, subst, arith}
+use Rattle.std.proofs.Common.{length, drop, ap, ◌∙◌, subst, arith}
 use Rattle.std.specs.Global.{Vec}
 use Rattle.tbr_lines.specs.Copies.{equal_lists}
 use Rattle.tbr_lines.specs.Block.{Block, left, HandsOutFirst}

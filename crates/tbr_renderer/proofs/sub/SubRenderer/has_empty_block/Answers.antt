@@ -1,4 +1,4 @@
-use Rattle.std.proofs.Common.{◌≡◌, ◌&&◌, not, is_none, refl, ap, sym, ◌∙◌, subst}
+use Rattle.std.proofs.Common.{◌≡◌, ◌&&◌, not, is_none, ap, sym, ◌∙◌, subst}
 use Rattle.std.specs.Global.{Vec}
 use Rattle.tbr_lines.specs.Block.{Block, any_line, takes_no_columns}
 use Rattle.tbr_renderer.specs.Renderer.{Renderer, block_width, may_overflow}

@@ -1,4 +1,4 @@
-use Rattle.std.proofs.Common.{map, ap, ◌∙◌}
+use Rattle.std.proofs.Common.{map, ap}
 use Rattle.tbr_renderer.specs.Meant.{tag_meant, map_line, meant}
 use Rattle.tbr_renderer.proofs.sub.SubRenderer.into_kept.Goals as goal
 

@@ -1,11 +1,9 @@
-use Rattle.std.proofs.Common.{map, subst, ◌∙◌}
-use Rattle.std.specs.List.{AllZip}
+use Rattle.std.proofs.Common.{map, ◌∙◌}
 use Rattle.tbr_lines.specs.Copies.{equal_lists}
 use Rattle.tbr_lines.proofs.Copies.{list_copies_equal}
-use Rattle.tbr_renderer.specs.KeptLines.{SameSeen}
 use Rattle.tbr_renderer.specs.Meant.{tag_meant}
 use Rattle.tbr_renderer.specs.View.{line_seen}
-use Rattle.tbr_renderer.proofs.KeptLines.{same_meant, none_of_none}
+use Rattle.tbr_renderer.proofs.KeptLines.{same_meant}
 use Rattle.tbr_renderer.proofs.Meanings.{tags_mean}
 use Rattle.tbr_renderer.proofs.sub.SubRenderer.into_vec.Goals as goal
 

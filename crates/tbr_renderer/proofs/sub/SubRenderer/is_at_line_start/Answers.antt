@@ -1,4 +1,4 @@
-use Rattle.std.proofs.Common.{refl, ap, sym, ◌∙◌, subst}
+use Rattle.std.proofs.Common.{ap, sym, ◌∙◌, subst}
 use Rattle.std.specs.Global.{Vec}
 use Rattle.tbr_renderer.specs.Renderer.{Renderer, block_width, may_overflow}
 use Rattle.tbr_renderer.specs.View.{unboxed, block_seen, IsOpened}
