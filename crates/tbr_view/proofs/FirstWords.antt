@@ -1,5 +1,5 @@
 -- The first of some texts that begins with a word.
-use Rattle.std.proofs.Common.{◌≡◌, ◌≢◌, ℕ, zero, suc, ◌+◌, ◌<◌, List, [], ◌∷◌, ◌++◌, length, map, take, get_or, refl, sym, ap, ◌∙◌, subst, arith}
+use Rattle.std.proofs.Common.{◌≡◌, ◌≢◌, ℕ, zero, suc, ◌+◌, ◌<◌, List, [], ◌∷◌, length, map, take, get_or, refl, ap, subst, arith}
 use Rattle.std.specs.Borrow.{Bor}
 use Rattle.tbr_view.specs.Words.{first_word, NoneBegins, IsFirstOf}
 

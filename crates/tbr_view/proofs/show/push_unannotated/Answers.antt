@@ -1,4 +1,4 @@
-use Rattle.std.proofs.Common.{ap, sym, ◌∙◌, refl}
+use Rattle.std.proofs.Common.{sym, refl}
 use Rattle.std.proofs.lemmas.Result.{on_ok_weaker}
 use Rattle.tbr_view.specs.Shown.{elements_in}
 use Rattle.tbr_view.proofs.ShownLines.{shown_unannotated, shown_bare}

@@ -1,4 +1,4 @@
-use Rattle.std.proofs.Common.{rules, sym, ap, ◌∙◌}
+use Rattle.std.proofs.Common.{rules}
 use Rattle.tbr_view.proofs.FirstWords.{none_more, is_first}
 use Rattle.tbr_view.proofs.NearWords.{no_text}
 use Rattle.tbr_view.proofs.words.first_of.Goals as goal
