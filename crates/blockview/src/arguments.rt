@@ -44,7 +44,7 @@ Decorators: plain writes `#`, `>`, `*`, numbers, and brackets at links and image
 none. In text em, strong and code leave no mark; rich keeps emphasis, links and colours for ansi, json and html.
 Options: footnotes writes [n] after each link, and the targets at the end; nowraplinks doesn't cut these; wrap=N wraps
 text to N columns; pad fills lines up to W; overflow allows a character wider than its line; nostrike: no strokes;
-noborders: no borders at tables; img=ignore|always|filename: untitled images show nothing, `[]` or their file's name.
+noborders: no borders at tables; img=ignore|always|filename: without title nothing, the empty title, the file's name.
 Formats: text, as blockrender has it; ansi, with colours where --colour allows; json, an object a line; html, a <pre>.
 Exit status: 0 all was shown; 1 a text is too narrow, or memory is refused; 2 a script or the command line is wrong;
 3 a file isn't read, or the output isn't written. Of several files it is the greatest.";
