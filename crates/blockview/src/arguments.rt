@@ -17,27 +17,35 @@ use tbr_view::{Format, Settings};
 
 /// How a script is written, and what the exit status says.
 const AFTER_HELP: &str =
-    "A script begins with `new W DECORATOR OPTIONS`, as `new 60 plain footnotes`. A line is a command:
+    "A script begins with `new W DECORATOR OPTIONS`, as `new 60 plain footnotes`. Each line after it is a command:
 
-  text T                  a text; two of them without a space between make one word
-  block, line, empty      a new block, a new line, an empty line
-  heading N .. endheading a heading of level N
-  quote .. endquote       a quotation
-  item .. enditem         an item of a list; ordered N .. endordered: with its number
+  text T                  a text after one space; further spaces belong to it. Two texts without a space make one word
+  block, line, empty      an empty line between two blocks; a new line alone; an empty line
+  heading N .. endheading, quote .. endquote    a heading of level N, a quotation, with empty lines around them
+  item .. enditem         an item of a list, without empty lines; ordered N .. endordered: with its number
   em, strong, strike, code, super   begin what endem, endstrong, endstrike, endcode, endsuper end
   link TARGET .. endlink  a link; image SOURCE | TITLE: an image; frag NAME: a place to link to
   colour R G B .. endcolour, bg R G B .. endbg   colours of text and of its background
   border [N]              a border
-  cell N SPAN [left|right|centre] .. endcell    a cell of N columns and SPAN rows, which waits
-  row, row collapse, vrow the cells that wait, side by side or one below another
-  sub N .. append P | Q   a block of N columns, whose lines stand after P, and then after Q
+  cell N SPAN [left|right|centre] .. endcell    a cell of N columns, whatever W is, which waits for its row
+  row, vrow               the cells that wait, side by side or one below another
+  row collapse            a row that joins the borders of tables inside its cells with its own
+  sub N .. append P | Q   a block of N columns: its first line comes after P, and the others after Q
   ws pre|prewrap .. endws white space that is kept
   # ..                    a comment
 
-In texts \\n, \\t, \\\\ and \\u{h} are a newline, a tab, a backslash and the character of that code. The options of `new`:
-wrap=N pad overflow footnotes nowraplinks nostrike noborders img=ignore|always|filename. Decorators: plain trivial rich;
-rich keeps emphasis, links and colours for ansi, json and html.
+The text of a heading, quote, item or cell is on `text` lines between the command and its end. There \\n, \\t, \\\\ and
+\\u{h} are a newline, a tab, a backslash and the character of that code.
+A table is `border N` once, then for each row its cells and `row`, which draws the line below. The line between two
+cells takes a column, so that N is the columns of all cells and one for each line between. SPAN is 1, or the rows that
+the cell takes; each further row has an empty cell of the same N there.
 
+Decorators: plain writes `#`, `>`, `*`, numbers, and brackets at links and images; rich all but the brackets; trivial
+none. In text em, strong and code leave no mark; rich keeps emphasis, links and colours for ansi, json and html.
+Options: footnotes writes [n] after each link, and the targets at the end; nowraplinks doesn't cut these; wrap=N wraps
+text to N columns; pad fills lines up to W; overflow allows a character wider than its line; nostrike: no strokes;
+noborders: no borders at tables; img=ignore|always|filename: without title nothing, the empty title, the file's name.
+Formats: text, as blockrender has it; ansi, with colours where --colour allows; json, an object a line; html, a <pre>.
 Exit status: 0 all was shown; 1 a text is too narrow, or memory is refused; 2 a script or the command line is wrong;
 3 a file isn't read, or the output isn't written. Of several files it is the greatest.";
 
@@ -53,7 +61,7 @@ pub fn command<'a>(alloc: Global) -> Result<Command<'a>, Error> {
         .value_name("FORMAT")
         .value_parser(["text", "ansi", "json", "html"].as_slice())
         .default_value("text")
-        .help("text as blockrender writes it; for a terminal; an object of JSON a line; a <pre>");
+        .help("What is written");
     let width = Arg::new(alloc, "width")
         .long("width")
         .value_name("N")
@@ -85,7 +93,7 @@ fn colour<'a>(alloc: Global) -> Arg<'a> {
         .value_name("WHEN")
         .value_parser(["auto", "always", "never"].as_slice())
         .default_value("auto")
-        .help("Control sequences of ansi; auto: on a terminal, and without NO_COLOR")
+        .help("auto: on a terminal without NO_COLOR")
 }
 
 /// `--ambiguous`.
@@ -95,7 +103,7 @@ fn ambiguous<'a>(alloc: Global) -> Arg<'a> {
         .value_name("WIDTH")
         .value_parser(["narrow", "wide"].as_slice())
         .default_value("narrow")
-        .help("Columns of East Asian ambiguous characters: one, or two")
+        .help("Columns of ambiguous East Asian characters")
 }
 
 /// Whether `--colour` was given with another format than `ansi`, where it has no effect.

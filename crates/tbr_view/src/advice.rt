@@ -160,9 +160,9 @@ fn in_the_way(
 ) -> Result<(String, String), AllocError> {
     Ok((
         format!(in alloc;
-            "the row takes {row_columns} of {columns} columns, and text of it stands where a cell hangs down"
+            "the row takes {row_columns} of {columns} columns, and is in the way of a cell above that takes more rows"
         )?,
-        format!(in alloc; "leave the cell empty that stands under the other one")?,
+        format!(in alloc; "this row needs an empty cell of the same width under that cell")?,
     ))
 }
 

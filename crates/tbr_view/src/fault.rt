@@ -32,7 +32,7 @@ pub fn fault_of(alloc: Global, line: &[u8], is_first: bool) -> Result<Fault, All
         ("new", true) => fault_of_opening(alloc, line),
         ("new", false) => fixed(
             alloc,
-            "`new` stands at the beginning, and once",
+            "`new` comes once, at the beginning",
             "take the line away",
         ),
         (word, true) if form_of(word).is_some() => fixed(
@@ -57,7 +57,7 @@ fn fault_of_file(alloc: Global, line: &str) -> Result<Option<Fault>, AllocError>
     if line.starts_with(BYTE_ORDER_MARK) {
         let fault = fixed(
             alloc,
-            "a byte order mark stands in front of the line",
+            "the line begins with a byte order mark",
             "save the file without it",
         )?;
         return Ok(Some(fault));
@@ -78,7 +78,7 @@ fn fault_of_spaces(alloc: Global, line: &str) -> Result<Option<Fault>, AllocErro
     if line.starts_with(' ') || line.starts_with('\t') {
         let fault = fixed(
             alloc,
-            "white space stands in front of the command",
+            "white space is before the command",
             "begin the line with the command",
         )?;
         return Ok(Some(fault));
@@ -86,7 +86,7 @@ fn fault_of_spaces(alloc: Global, line: &str) -> Result<Option<Fault>, AllocErro
     let trimmed = line.trim_end_matches(' ');
     if trimmed.len() < line.len() && form_of(trimmed).is_some() {
         let fault = Fault {
-            message: String::from_str(alloc, "a space stands after the command")?,
+            message: String::from_str(alloc, "a space is after the command")?,
             help: format!(in alloc; "write `{trimmed}`")?,
         };
         return Ok(Some(fault));
@@ -106,10 +106,22 @@ fn fault_of_word(alloc: Global, word: &str, line: &str) -> Result<Fault, AllocEr
             "write `\\\\` for a backslash; there are `\\n`, `\\t`, `\\\\` and `\\u{h}` besides",
         );
     }
+    let besides = besides(word);
     Ok(Fault {
         message: format!(in alloc; "`{word}` isn't written so")?,
-        help: format!(in alloc; "write it as `{form}`")?,
+        help: format!(in alloc; "write it as `{form}`{besides}")?,
     })
+}
+
+/// What is said besides of how the command of a word is written.
+fn besides(word: &str) -> &'static str {
+    match word {
+        "cell" => "; SPAN is 1 for an ordinary cell",
+        "heading" | "quote" | "item" | "ordered" | "block" | "line" | "em" | "strong" | "code" => {
+            ", and its text on a `text` line below"
+        }
+        _ => "",
+    }
 }
 
 /// A word that is no command.
@@ -117,9 +129,19 @@ fn unknown_word(alloc: Global, word: &str) -> Result<Fault, AllocError> {
     let message = format!(in alloc; "`{word}` isn't a command")?;
     let help = match nearest(alloc, word, &FORMS)? {
         Some(form) => format!(in alloc; "write `{form}`")?,
-        None => String::from_str(alloc, "`blockview --help` lists the commands")?,
+        None => help_far_from_all(alloc, word)?,
     };
     Ok(Fault { message, help })
+}
+
+/// The help where no command is near a word.
+fn help_far_from_all(alloc: Global, word: &str) -> Result<String, AllocError> {
+    match word.strip_prefix("end") {
+        Some(begun) if form_of(begun).is_some() => {
+            format!(in alloc; "take the line away: `{begun}` has no end")
+        }
+        _ => String::from_str(alloc, "`blockview --help` lists the commands"),
+    }
 }
 
 /// Whether what is after a word is a text with escapes.
@@ -188,12 +210,11 @@ fn unknown(
 
 /// What may be there.
 fn listed(alloc: Global, among: &[&'static str]) -> Result<String, AllocError> {
-    let mut help = String::from_str(alloc, "there are")?;
+    let mut help = String::from_str(alloc, "one of")?;
     for (place, word) in among.iter().enumerate() {
-        let before = if place == 0 { " `" } else { ", `" };
+        let before = if place == 0 { " " } else { ", " };
         help.push_str(before)?;
         help.push_str(word)?;
-        help.push('`')?;
     }
     Ok(help)
 }

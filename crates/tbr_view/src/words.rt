@@ -26,7 +26,7 @@ pub const FORMS: [&str; 46] = [
     "endheading",
     "sub N",
     "append P | Q",
-    "cell N SPAN",
+    "cell N SPAN [left|right|centre]",
     "endcell",
     "row",
     "vrow",
