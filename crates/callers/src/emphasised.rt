@@ -13,7 +13,7 @@ pub fn emphasised<R: Renderer>(r: &mut R, text: &str) -> Result<(), Error>
         × R.does (call.begin start.emphasis) r.old begun
         × R.does (call.add_inline_text (chars text.now)) begun added
         × R.does (call.finish end.emphasis) added r.new) }
-    ensures kept { KeepsFailure R.kept_refusal r.old result r.new }
+    ensures kept { KeepsFailure R.failure r.old result r.new }
 {
     r.start_emphasis()?;
     r.add_inline_text(text)?;

@@ -1,5 +1,5 @@
 -- Lines of a block that join those of a renderer.
-use Rattle.std.proofs.Common.{◌≡◌, ℕ, ◌-◌, ◌<◌, not, ◌&&◌, Bool, true, false, Option, None, Some, List, [], ◌∷◌, ◌++◌, map, fold, drop, refl, ap, sym, ◌∙◌, subst, append_assoc, append-nil}
+use Rattle.std.proofs.Common.{◌≡◌, ℕ, ◌-◌, ◌<◌, Bool, true, false, Option, None, Some, List, [], ◌∷◌, ◌++◌, map, fold, drop, refl, ap, sym, ◌∙◌, subst, append_assoc, append-nil}
 use Rattle.std.specs.Global.{Vec}
 use Rattle.std.proofs.lemmas.List.{map-append}
 use Rattle.std.proofs.lemmas.Grind.{fold-append}
@@ -10,7 +10,7 @@ use Rattle.tbr_model.proofs.maps.Words.{items_width-map}
 use Rattle.tbr_lines.specs.Copies.{equal_lists}
 use Rattle.tbr_lines.specs.Elements.{Element, marker_element, items_of, text_items}
 use Rattle.tbr_lines.specs.Padding.{spaces}
-use Rattle.tbr_lines.specs.Block.{Block, Settings, all_lines, left, loose, waiting_names, flushed, without_loose, after_flush, after_taking}
+use Rattle.tbr_lines.specs.Block.{Block, Settings, all_lines, left, loose, flushed, without_loose, after_flush, after_taking}
 use Rattle.tbr_lines.specs.Outcome.{done, refused}
 use Rattle.tbr_lines.specs.Wrapped.{padding_of}
 use Rattle.tbr_lines.specs.declared.Error.TheVariants as E

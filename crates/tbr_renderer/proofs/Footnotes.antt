@@ -162,7 +162,7 @@ module _ {A M : Type 0} (f : A → M) where
 module _ {D A M : Type 0} (f : A → M) (columns : ℕ → Option ℕ) (first : Renderer D A (Vec A)) where
   -- the lines of a footnote are decided by what isn't text
   same_lines : (now : Renderer D A (Vec A)) (es : List (Element M)) → KeepsSettings (meant f first) (meant f now) → footnote_lines columns (meant f now) es ≡ footnote_lines columns (meant f first) es
-  same_lines now es kept = ap (λ (s : Settings D M). cut_lines columns (link_width s.options s.width) [] (footnote_items es)) kept
+  same_lines now es kept = ap (λ (s : Settings D M). cut_lines columns (link_width s.kept.options s.kept.width) [] (footnote_items es)) kept
 
   abbrev pub HasFootnotes : List (List (Element A)) → Renderer D A (Vec A) → Type 0
   HasFootnotes links now = HasPut f columns first (flat_map (footnote_lines columns (meant f first)) (map (map (element_meant f)) links)) now

@@ -7,7 +7,7 @@ use Rattle.tbr_model.specs.Run.{Entry, Item, glyph, marker, items_width, has_cha
 use Rattle.tbr_model.specs.Rule.{Event, call, entry, run_of, Progress, finished, waiting}
 use Rattle.tbr_model.specs.Laid.{Laid}
 use Rattle.tbr_model.specs.Fits.{lines_fit}
-use Rattle.tbr_model.specs.Mapped.{map_items, map_entry, map_run, map_lines, map_event, map_events, map_laid, map_progress}
+use Rattle.tbr_model.specs.Mapped.{map_items, map_entry, map_run, map_lines, map_event, map_events}
 use Rattle.tbr_model.specs.Markers.{names_in_items}
 use Rattle.tbr_model.proofs.maps.Words.{items_width-map, has_character-map}
 use Rattle.tbr_lines.specs.Block.{Block, lines, all_lines, waiting_names, allows, grown, text_events, flushed, after_text, after_flush, any_line, takes_no_columns, has_no_character, progress_of}

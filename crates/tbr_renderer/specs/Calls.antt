@@ -1,5 +1,5 @@
 -- The calls that change a renderer.
-use Rattle.std.specs.Prelude.{◌≡◌, ℕ, suc, ◌-◌, true, if◌then◌else◌, Option, None, Some, Result, Err, IfErr, List, [], ◌∷◌, ◌++◌, map, flat_map}
+use Rattle.std.specs.Prelude.{◌≡◌, ◌≢◌, ◌≤◌, ℕ, suc, ◌-◌, true, if◌then◌else◌, Option, None, Some, Result, Err, OnOk, OnErr, IfErr, List, [], ◌∷◌, ◌++◌, map, flat_map}
 use Rattle.std.specs.List.{AllZip}
 use Rattle.tbr_model.specs.Hard.{IsShown, visible_glyphs, visible_entries}
 use Rattle.tbr_model.specs.declared.white_space.WhiteSpace.{WhiteSpace}
@@ -8,17 +8,18 @@ use Rattle.tbr_model.specs.Rule.{entry}
 use Rattle.tbr_model.specs.Run.{Entry, character, marker_entry, Item, glyph, marker}
 use Rattle.tbr_model.specs.Layout.{joined}
 use Rattle.tbr_lines.specs.declared.Error.{Error}
+use Rattle.tbr_lines.specs.declared.Error.TheVariants as E
 use Rattle.tbr_decor.specs.declared.colour.Colour.{Colour}
 use Rattle.tbr_decor.specs.Decoration.{Decoration}
 use Rattle.tbr_decor.specs.Start as start
 use Rattle.tbr_decor.specs.End as end
 use Rattle.tbr_decor.specs.Ground.{Ground}
-use Rattle.tbr_renderer.specs.Renderer.{Line, text, border, Renderer, open_run, with_events, without_last, entries_of, ignores, IsOneOf, settings_of}
+use Rattle.tbr_renderer.specs.Renderer.{Line, text, border, Renderer, Kept, block_columns, open_run, with_events, without_last, entries_of, ignores}
 use Rattle.tbr_renderer.specs.Flush.{Flushes, FlushIsTooNarrow}
 use Rattle.tbr_renderer.specs.Steps.{AddsEmptyLine, StartsBlock, BreaksLine, AddsText, TextIsTooNarrow}
 use Rattle.tbr_renderer.specs.Appended.{as_text, prefixed, AddsBorder, AppendsLines, AppendsCells}
 use Rattle.tbr_renderer.specs.Image.{shown_title}
-use Rattle.tbr_renderer.specs.Decorated.{struck_until, asked_to_open, asked_to_close, asked_for_colour, annotated, coloured, uncoloured, Opens, OpenIsTooNarrow, Closes, CloseIsTooNarrow, OpensStrikeout, ClosesStrikeout, AddsImage, ImageIsTooNarrow}
+use Rattle.tbr_renderer.specs.Decorated.{struck_until, asked_to_close, annotated, coloured, uncoloured, Opens, OpenIsTooNarrow, Closes, CloseIsTooNarrow, OpensStrikeout, ClosesStrikeout, AddsImage, ImageIsTooNarrow}
 
 -- A call with its arguments. Texts are by their characters, markers by their names, and images by source and title.
 -- Another renderer is by the lines that it hands out, which are under a `T`. Strikeouts begin and end by calls of their
@@ -106,33 +107,6 @@ module _ {D A : Type 0} (columns : ℕ → Option ℕ) (decoration : Decoration 
   IsTooNarrow (append_subrender prefixes lines) r = FlushIsTooNarrow columns r
   IsTooNarrow (append_vert_row cells) r = FlushIsTooNarrow columns r
 
-  -- the stages of opening something: at first, with the decorator asked, and with the annotation more
-  abbrev pub open_stages : start.Start → Renderer D A (List A) → List (Renderer D A (List A))
-  open_stages opened r = r ∷ asked_to_open decoration opened r ∷ annotated decoration opened r ∷ []
-
-  -- the stages of closing something: at first, and with the decorator asked
-  abbrev pub close_stages : end.End → Renderer D A (List A) → List (Renderer D A (List A))
-  close_stages closed r = r ∷ asked_to_close decoration closed r ∷ []
-
-  -- the stages of an image: where a title is shown, those of opening it
-  abbrev pub image_stages : List ℕ → Option (List ℕ) → Renderer D A (List A) → List (Renderer D A (List A))
-  image_stages source None r = r ∷ []
-  image_stages source (Some title) r = open_stages (start.image source title) r
-
-  -- the stages of a call: where it refuses, it has stopped at one of them
-  abbrev pub stages : Call (List A) → Renderer D A (List A) → List (Renderer D A (List A))
-  stages (begin opened) r = open_stages opened r
-  stages (finish closed) r = close_stages closed r
-  stages start_strikeout r = open_stages start.strikeout r
-  stages end_strikeout r = close_stages end.strikeout (struck_until r)
-  stages (add_image source title) r = image_stages source (shown_title r.options.img_mode source title) r
-  stages (push_colour g colour) r = r ∷ asked_for_colour decoration g colour r ∷ []
-  stages other r = r ∷ []
-
-  -- A call that refuses leaves a renderer's settings as they are at one of the call's stages.
-  abbrev pub StopsAtStage : Call (List A) → Renderer D A (List A) → Renderer D A (List A) → Type 0
-  StopsAtStage call r s = IsOneOf (settings_of s) (map settings_of (stages call r))
-
   -- what calls leave, one after another
   abbrev pub Steps : List (Call (List A)) → Renderer D A (List A) → Renderer D A (List A) → Type 0
   Steps [] r s = s ≡ r
@@ -190,8 +164,32 @@ pub record Shows {D A : Type 0} (columns : ℕ → Option ℕ) (r : Renderer D A
       (visible_glyphs columns (text_of_lines r.lines)) (visible_entries columns ended)
   pub whole : visible_entries columns (ended ++ open_run r.block) ≡ visible_entries columns es
 
+-- ---- what a call answers
+
 -- A call that refuses leaves a renderer failed with what it answers. One that had failed answers its refusal and stays
 -- as it is.
 abbrev pub KeepsFailure : {S R : Type 0} → (S → Option Error) → S → Result R Error → S → Type 0
 KeepsFailure failure old result new =
     IfErr result (λ e. failure new ≡ Some e) × ((e : Error) → failure old ≡ Some e → (result ≡ Err e) × (new ≡ old))
+
+-- So it does, and that is kept of the renderer which later calls ask for.
+pub record Fails {S R : Type 0} (failure : S → Option Error) (kept_of : S → Kept) (old : S) (result : Result R Error)
+    (new : S) : Type 0 where
+  pub refusal : KeepsFailure failure old result new
+  pub kept : OnErr result (kept_of new ≡ kept_of old)
+
+-- What a call answers and leaves. It is `Ok` only where it leaves what the call does, and `TooNarrow` only where the
+-- renderer is too narrow for it, which one with blocks of two columns never is. Else it is `OutOfMemory`.
+pub record Answers {S T R : Type 0} (does : Call T → S → S → Type 0) (is_too_narrow : Call T → S → Type 0)
+    (failure : S → Option Error) (kept_of : S → Kept) (call : Call T) (old : S) (result : Result R Error) (new : S) :
+    Type 0 where
+  pub ok : OnOk result (does call old new)
+  pub too_narrow : failure old ≡ None → result ≡ Err E.TooNarrow → is_too_narrow call old
+  pub two_columns : failure old ≡ None → 2 ≤ block_columns (kept_of old) → result ≢ Err E.TooNarrow
+  pub fails : Fails failure kept_of old result new
+
+-- what a call leaves that can't refuse: of one that had failed nothing is changed
+pub record Leaves {S T : Type 0} (does : Call T → S → S → Type 0) (failure : S → Option Error) (call : Call T)
+    (old new : S) : Type 0 where
+  pub live : failure old ≡ None → does call old new
+  pub failed : (e : Error) → failure old ≡ Some e → new ≡ old

@@ -1,5 +1,5 @@
 -- What a contract sees of a renderer, and the small steps by which it changes.
-use Rattle.std.specs.Prelude.{◌≡◌, ◌⊎◌, ℕ, ◌-◌, Bool, true, false, ◌&&◌, nat_lt, nat_le, if◌then◌else◌, Option, None, Some, unwrap_or, not, List, [], ◌∷◌, ◌++◌, map, flat_map, replicate, length, take}
+use Rattle.std.specs.Prelude.{◌≡◌, ℕ, ◌-◌, Bool, true, false, ◌&&◌, nat_lt, nat_le, if◌then◌else◌, Option, None, Some, unwrap_or, not, List, [], ◌∷◌, ◌++◌, map, flat_map, replicate, length, take}
 use Rattle.std.specs.List.{list_any, list_all}
 use Rattle.std.specs.Char.{is_whitespace}
 use Rattle.tbr_model.specs.declared.white_space.WhiteSpace.{WhiteSpace}
@@ -67,37 +67,36 @@ new_renderer width options decorator = record {
 
 -- ---- what isn't text
 
--- what a renderer is, but for its text
-pub record Settings (D A : Type 0) : Type 0 where
+-- what is kept of a renderer where a call refuses: what later calls ask for
+pub record Kept : Type 0 where
   pub width : ℕ
   pub options : RenderOptions
-  pub decorator : D
-  pub annotations : List A
   pub modes : List WhiteSpace
   pub strikeouts : ℕ
   pub preformatted : ℕ
 
--- a renderer's settings
-abbrev pub settings_of : {D A T : Type 0} → Renderer D A T → Settings D A
-settings_of r = record {
+abbrev pub kept_of : {D A T : Type 0} → Renderer D A T → Kept
+kept_of r = record {
   width = r.width;
   options = r.options;
-  decorator = r.decorator;
-  annotations = r.annotations;
   modes = r.modes;
   strikeouts = r.strikeouts;
   preformatted = r.preformatted;
 }
 
+-- what a renderer is, but for its text
+pub record Settings (D A : Type 0) : Type 0 where
+  pub kept : Kept
+  pub decorator : D
+  pub annotations : List A
+
+-- a renderer's settings
+abbrev pub settings_of : {D A T : Type 0} → Renderer D A T → Settings D A
+settings_of r = record { kept = kept_of r; decorator = r.decorator; annotations = r.annotations }
+
 -- The settings are as they were.
 abbrev pub KeepsSettings : {D A T : Type 0} → Renderer D A T → Renderer D A T → Type 0
 KeepsSettings r s = settings_of s ≡ settings_of r
-
--- It is one of these.
-abbrev pub IsOneOf : {X : Type 0} → X → List X → Type 0
-IsOneOf x [] = ⊥
-IsOneOf x (y ∷ []) = x ≡ y
-IsOneOf x (y ∷ z ∷ zs) = (x ≡ y) ⊎ IsOneOf x (z ∷ zs)
 
 -- a list without its last item, if there is one
 abbrev pub without_last : {X : Type 0} → List X → List X
@@ -146,6 +145,9 @@ least width None = width
 least width (Some wrap) = if nat_le width wrap then width else wrap
 
 -- how many columns a line of the renderer's blocks has
+abbrev pub block_columns : Kept → ℕ
+block_columns k = least k.width k.options.wrap_width
+
 abbrev pub block_width : {D A T : Type 0} → Renderer D A T → ℕ
 block_width r = least r.width r.options.wrap_width
 

@@ -1,17 +1,17 @@
 //! The calls of a renderer.
-ghost use Rattle.std.specs.Prelude.{◌≡◌, ◌≢◌, ◌≤◌, ◌<◌, ◌⊎◌, ℕ, suc, ◌^◌, Bool, true, List, length, Option, None, Some, Err, OnOk, OnErr, IfOk, IfErr, chars, map, replicate};
+ghost use Rattle.std.specs.Prelude.{◌≡◌, ◌≢◌, ◌≤◌, ◌<◌, ◌⊎◌, ℕ, suc, ◌^◌, Bool, true, List, length, Option, None, Err, OnOk, OnErr, IfOk, IfErr, chars, map, replicate};
 ghost use Rattle.std.specs.List.{AllZip, AllByRecursion as Each};
-ghost use Rattle.tbr_renderer.specs.Renderer.{Line};
+ghost use Rattle.tbr_renderer.specs.Renderer.{Line, Kept, block_columns};
 ghost use Rattle.tbr_renderer.specs.Appended.{GivesFirst, texts_of, FirstToRefuse};
 ghost use Rattle.tbr_renderer.specs.Rows.{GivenCell, GivesCell, align_in};
+ghost use Rattle.tbr_renderer.specs.Calls as call;
+ghost use Rattle.tbr_renderer.specs.Calls.{Call, Answers, Fails, Leaves};
 ghost use Rattle.tbr_lines.specs.declared.CellAlign.TheVariants as A;
 ghost use Rattle.tbr_lines.specs.View.{chars_of};
 ghost use Rattle.tbr_decor.specs.Start as start;
 ghost use Rattle.tbr_decor.specs.End as end;
 ghost use Rattle.tbr_decor.specs.Prefix as prefix;
 ghost use Rattle.tbr_decor.specs.Ground as ground;
-ghost use Rattle.tbr_renderer.specs.Calls as call;
-ghost use Rattle.tbr_renderer.specs.Calls.{Call, KeepsFailure};
 ghost use Rattle.tbr_lines.specs.declared.Error.{Error as Refusal};
 ghost use Rattle.tbr_lines.specs.declared.Error.TheVariants as E;
 
@@ -37,22 +37,10 @@ pub trait Renderer {
 
     ghost is_too_narrow: { Call Self.Tag → Self → Type 0 };
 
-    // At which stages a call that refuses stops.
-    ghost stops_at_stage: { Call Self.Tag → Self → Self → Type 0 };
+    // The kept refusal, and what is kept of it where a call refuses.
+    ghost failure: { Self → Option Refusal };
 
-    // The kept refusal, the columns of the renderer, and those of its blocks.
-    ghost kept_refusal: { Self → Option Refusal };
-
-    ghost columns_of: { Self → ℕ };
-
-    ghost block_columns: { Self → ℕ };
-
-    // How many preformatted stretches and strikeouts are open, and whether struck out text has strokes.
-    ghost open_preformats: { Self → ℕ };
-
-    ghost open_strikeouts: { Self → ℕ };
-
-    ghost strikes: { Self → Bool };
+    ghost kept_of: { Self → Kept };
 
     // The lines that it hands out where its open line is ended, and where that answers `TooNarrow`.
     ghost hands_out: { Self → List (Line Self.Tag) → Type 0 };
@@ -65,300 +53,147 @@ pub trait Renderer {
 
     ghost appends_row: { Bool → List (GivenCell Self.Tag) → Self → Self → Type 0 };
 
-    // Whether it is as another one was, but for this refusal.
-    ghost has_failed_from: { Self → Refusal → Self → Type 0 };
-
-    // The text of a prefix, and a renderer for a block inside.
+    // The text of a prefix, a renderer for a block inside, and whether there is neither a line nor text.
     ghost prefix_text: { Self → prefix.Prefix → List ℕ };
 
     ghost is_sub_renderer: { Self → ℕ → Self → Type 0 };
 
-    // Whether it has neither a line nor text in its open block.
     ghost tells_empty: { Self → Bool → Type 0 };
 
     /// Ends the open line, and adds an empty one.
     fn add_empty_line(&mut self) -> Result<(), Error>
-        ensures ok { OnOk result (does call.add_empty_line self.old self.new) }
-        ensures too_narrow { kept_refusal self.old ≡ None → result ≡ Err E.TooNarrow →
-            is_too_narrow call.add_empty_line self.old }
-        ensures two_columns { kept_refusal self.old ≡ None → 2 ≤ block_columns self.old →
-            result ≢ Err E.TooNarrow }
-        ensures left { kept_refusal self.old ≡ None →
-            OnErr result (stops_at_stage call.add_empty_line self.old self.new) }
-        ensures kept { KeepsFailure kept_refusal self.old result self.new };
+        ensures answers { Answers does is_too_narrow failure kept_of call.add_empty_line self.old result self.new };
 
     /// Ends the open line, if there is one.
     fn new_line(&mut self) -> Result<(), Error>
-        ensures ok { OnOk result (does call.new_line self.old self.new) }
-        ensures too_narrow { kept_refusal self.old ≡ None → result ≡ Err E.TooNarrow →
-            is_too_narrow call.new_line self.old }
-        ensures two_columns { kept_refusal self.old ≡ None → 2 ≤ block_columns self.old →
-            result ≢ Err E.TooNarrow }
-        ensures left { kept_refusal self.old ≡ None →
-            OnErr result (stops_at_stage call.new_line self.old self.new) }
-        ensures kept { KeepsFailure kept_refusal self.old result self.new };
+        ensures answers { Answers does is_too_narrow failure kept_of call.new_line self.old result self.new };
 
     /// Ends the open line. Where no line is open, or it has no columns, an empty line is added.
     fn new_line_hard(&mut self) -> Result<(), Error>
-        ensures ok { OnOk result (does call.new_line_hard self.old self.new) }
-        ensures too_narrow { kept_refusal self.old ≡ None → result ≡ Err E.TooNarrow →
-            is_too_narrow call.new_line_hard self.old }
-        ensures two_columns { kept_refusal self.old ≡ None → 2 ≤ block_columns self.old →
-            result ≢ Err E.TooNarrow }
-        ensures left { kept_refusal self.old ≡ None →
-            OnErr result (stops_at_stage call.new_line_hard self.old self.new) }
-        ensures kept { KeepsFailure kept_refusal self.old result self.new };
+        ensures answers { Answers does is_too_narrow failure kept_of call.new_line_hard self.old result self.new };
 
     /// Begins a block: ends the open line, and adds an empty line if any line has content.
     fn start_block(&mut self) -> Result<(), Error>
-        ensures ok { OnOk result (does call.start_block self.old self.new) }
-        ensures too_narrow { kept_refusal self.old ≡ None → result ≡ Err E.TooNarrow →
-            is_too_narrow call.start_block self.old }
-        ensures two_columns { kept_refusal self.old ≡ None → 2 ≤ block_columns self.old →
-            result ≢ Err E.TooNarrow }
-        ensures left { kept_refusal self.old ≡ None →
-            OnErr result (stops_at_stage call.start_block self.old self.new) }
-        ensures kept { KeepsFailure kept_refusal self.old result self.new };
+        ensures answers { Answers does is_too_narrow failure kept_of call.start_block self.old result self.new };
 
     /// Begins a table, as a block is begun.
     fn start_table(&mut self) -> Result<(), Error>
-        ensures ok { OnOk result (does call.start_table self.old self.new) }
-        ensures too_narrow { kept_refusal self.old ≡ None → result ≡ Err E.TooNarrow →
-            is_too_narrow call.start_table self.old }
-        ensures two_columns { kept_refusal self.old ≡ None → 2 ≤ block_columns self.old →
-            result ≢ Err E.TooNarrow }
-        ensures left { kept_refusal self.old ≡ None →
-            OnErr result (stops_at_stage call.start_table self.old self.new) }
-        ensures kept { KeepsFailure kept_refusal self.old result self.new };
+        ensures answers { Answers does is_too_narrow failure kept_of call.start_table self.old result self.new };
 
     /// Ends a block: text that comes begins a new one, but for white space in `Normal`, which is ignored. It takes no
     /// memory.
     fn end_block(&mut self)
-        ensures live { kept_refusal self.old ≡ None → does call.end_block self.old self.new }
-        ensures failed { (e : Refusal) → kept_refusal self.old ≡ Some e → self.new ≡ self.old };
+        ensures { Leaves does failure call.end_block self.old self.new };
 
     /// Adds text to the open block, or to a new one, in the mode that was pushed last and under the annotations.
     fn add_inline_text(&mut self, text: &str) -> Result<(), Error>
-        ensures ok { OnOk result (does (call.add_inline_text (chars text.now)) self.old self.new) }
-        ensures too_narrow { kept_refusal self.old ≡ None → result ≡ Err E.TooNarrow →
-            is_too_narrow (call.add_inline_text (chars text.now)) self.old }
-        ensures two_columns { kept_refusal self.old ≡ None → 2 ≤ block_columns self.old →
-            result ≢ Err E.TooNarrow }
-        ensures left { kept_refusal self.old ≡ None →
-            OnErr result (stops_at_stage (call.add_inline_text (chars text.now)) self.old self.new) }
-        ensures kept { KeepsFailure kept_refusal self.old result self.new };
+        ensures answers { Answers does is_too_narrow failure kept_of (call.add_inline_text (chars text.now))
+            self.old result self.new };
 
     /// Pushes a mode of white space. It refuses only where memory is refused.
     fn push_ws(&mut self, ws: WhiteSpace) -> Result<(), Error>
-        ensures ok { OnOk result (does (call.push_ws ws) self.old self.new) }
-        ensures memory { kept_refusal self.old ≡ None → result ≢ Err E.TooNarrow }
-        ensures left { kept_refusal self.old ≡ None →
-            OnErr result (stops_at_stage (call.push_ws ws) self.old self.new) }
-        ensures kept { KeepsFailure kept_refusal self.old result self.new };
+        ensures answers { Answers does is_too_narrow failure kept_of (call.push_ws ws) self.old result self.new };
 
     /// Takes the mode that was pushed last, if there is one. It takes no memory.
     fn pop_ws(&mut self)
-        ensures live { kept_refusal self.old ≡ None → does call.pop_ws self.old self.new }
-        ensures failed { (e : Refusal) → kept_refusal self.old ≡ Some e → self.new ≡ self.old };
+        ensures { Leaves does failure call.pop_ws self.old self.new };
 
     /// Begins a preformatted stretch. It refuses only where the depth passes `usize`.
     fn push_preformat(&mut self) -> Result<(), Error>
-        ensures ok { OnOk result (does call.push_preformat self.old self.new) }
-        ensures memory { kept_refusal self.old ≡ None → result ≢ Err E.TooNarrow }
-        ensures left { kept_refusal self.old ≡ None →
-            OnErr result (stops_at_stage call.push_preformat self.old self.new) }
-        ensures passes { kept_refusal self.old ≡ None →
-            OnErr result (2 ^ 64 ≤ suc (open_preformats self.old)) }
-        ensures kept { KeepsFailure kept_refusal self.old result self.new };
+        ensures answers { Answers does is_too_narrow failure kept_of call.push_preformat self.old result self.new }
+        ensures passes { failure self.old ≡ None →
+            OnErr result (2 ^ 64 ≤ suc (kept_of self.old).preformatted) };
 
     /// Ends a preformatted stretch. It asks that one is open, and takes no memory.
     fn pop_preformat(&mut self)
-        requires { 0 < open_preformats self.old }
-        ensures live { kept_refusal self.old ≡ None → does call.pop_preformat self.old self.new }
-        ensures failed { (e : Refusal) → kept_refusal self.old ≡ Some e → self.new ≡ self.old };
+        requires { 0 < (kept_of self.old).preformatted }
+        ensures { Leaves does failure call.pop_preformat self.old self.new };
 
     /// Puts a marker where the text is. It opens a block if there is none, and refuses only where memory is refused.
     fn record_frag_start(&mut self, name: &str) -> Result<(), Error>
-        ensures ok { OnOk result (does (call.record_frag_start name.now) self.old self.new) }
-        ensures memory { kept_refusal self.old ≡ None → result ≢ Err E.TooNarrow }
-        ensures left { kept_refusal self.old ≡ None →
-            OnErr result (stops_at_stage (call.record_frag_start name.now) self.old self.new) }
-        ensures kept { KeepsFailure kept_refusal self.old result self.new };
+        ensures answers { Answers does is_too_narrow failure kept_of (call.record_frag_start name.now)
+            self.old result self.new };
 
     /// Begins a link: its annotation joins the others, and the decorator's text is added under it.
     fn start_link(&mut self, target: &str) -> Result<(), Error>
-        ensures ok { OnOk result (does (call.begin (start.link (chars target.now))) self.old self.new) }
-        ensures too_narrow { kept_refusal self.old ≡ None → result ≡ Err E.TooNarrow →
-            is_too_narrow (call.begin (start.link (chars target.now))) self.old }
-        ensures two_columns { kept_refusal self.old ≡ None → 2 ≤ block_columns self.old →
-            result ≢ Err E.TooNarrow }
-        ensures left { kept_refusal self.old ≡ None →
-            OnErr result (stops_at_stage (call.begin (start.link (chars target.now))) self.old self.new) }
-        ensures kept { KeepsFailure kept_refusal self.old result self.new };
+        ensures answers { Answers does is_too_narrow failure kept_of (call.begin (start.link (chars target.now)))
+            self.old result self.new };
 
     /// Ends a link: the decorator's text is added, and then the last annotation is taken, if there is one.
     fn end_link(&mut self) -> Result<(), Error>
-        ensures ok { OnOk result (does (call.finish end.link) self.old self.new) }
-        ensures too_narrow { kept_refusal self.old ≡ None → result ≡ Err E.TooNarrow →
-            is_too_narrow (call.finish end.link) self.old }
-        ensures two_columns { kept_refusal self.old ≡ None → 2 ≤ block_columns self.old →
-            result ≢ Err E.TooNarrow }
-        ensures left { kept_refusal self.old ≡ None →
-            OnErr result (stops_at_stage (call.finish end.link) self.old self.new) }
-        ensures kept { KeepsFailure kept_refusal self.old result self.new };
+        ensures answers { Answers does is_too_narrow failure kept_of (call.finish end.link) self.old result self.new };
 
     /// Begins emphasised text, as a link is begun.
     fn start_emphasis(&mut self) -> Result<(), Error>
-        ensures ok { OnOk result (does (call.begin start.emphasis) self.old self.new) }
-        ensures too_narrow { kept_refusal self.old ≡ None → result ≡ Err E.TooNarrow →
-            is_too_narrow (call.begin start.emphasis) self.old }
-        ensures two_columns { kept_refusal self.old ≡ None → 2 ≤ block_columns self.old →
-            result ≢ Err E.TooNarrow }
-        ensures left { kept_refusal self.old ≡ None →
-            OnErr result (stops_at_stage (call.begin start.emphasis) self.old self.new) }
-        ensures kept { KeepsFailure kept_refusal self.old result self.new };
+        ensures answers { Answers does is_too_narrow failure kept_of (call.begin start.emphasis)
+            self.old result self.new };
 
     /// Ends emphasised text, as a link is ended.
     fn end_emphasis(&mut self) -> Result<(), Error>
-        ensures ok { OnOk result (does (call.finish end.emphasis) self.old self.new) }
-        ensures too_narrow { kept_refusal self.old ≡ None → result ≡ Err E.TooNarrow →
-            is_too_narrow (call.finish end.emphasis) self.old }
-        ensures two_columns { kept_refusal self.old ≡ None → 2 ≤ block_columns self.old →
-            result ≢ Err E.TooNarrow }
-        ensures left { kept_refusal self.old ≡ None →
-            OnErr result (stops_at_stage (call.finish end.emphasis) self.old self.new) }
-        ensures kept { KeepsFailure kept_refusal self.old result self.new };
+        ensures answers { Answers does is_too_narrow failure kept_of (call.finish end.emphasis)
+            self.old result self.new };
 
     /// Begins strong text, as a link is begun.
     fn start_strong(&mut self) -> Result<(), Error>
-        ensures ok { OnOk result (does (call.begin start.strong) self.old self.new) }
-        ensures too_narrow { kept_refusal self.old ≡ None → result ≡ Err E.TooNarrow →
-            is_too_narrow (call.begin start.strong) self.old }
-        ensures two_columns { kept_refusal self.old ≡ None → 2 ≤ block_columns self.old →
-            result ≢ Err E.TooNarrow }
-        ensures left { kept_refusal self.old ≡ None →
-            OnErr result (stops_at_stage (call.begin start.strong) self.old self.new) }
-        ensures kept { KeepsFailure kept_refusal self.old result self.new };
+        ensures answers { Answers does is_too_narrow failure kept_of (call.begin start.strong)
+            self.old result self.new };
 
     /// Ends strong text, as a link is ended.
     fn end_strong(&mut self) -> Result<(), Error>
-        ensures ok { OnOk result (does (call.finish end.strong) self.old self.new) }
-        ensures too_narrow { kept_refusal self.old ≡ None → result ≡ Err E.TooNarrow →
-            is_too_narrow (call.finish end.strong) self.old }
-        ensures two_columns { kept_refusal self.old ≡ None → 2 ≤ block_columns self.old →
-            result ≢ Err E.TooNarrow }
-        ensures left { kept_refusal self.old ≡ None →
-            OnErr result (stops_at_stage (call.finish end.strong) self.old self.new) }
-        ensures kept { KeepsFailure kept_refusal self.old result self.new };
+        ensures answers { Answers does is_too_narrow failure kept_of (call.finish end.strong)
+            self.old result self.new };
 
     /// Begins code, as a link is begun.
     fn start_code(&mut self) -> Result<(), Error>
-        ensures ok { OnOk result (does (call.begin start.code) self.old self.new) }
-        ensures too_narrow { kept_refusal self.old ≡ None → result ≡ Err E.TooNarrow →
-            is_too_narrow (call.begin start.code) self.old }
-        ensures two_columns { kept_refusal self.old ≡ None → 2 ≤ block_columns self.old →
-            result ≢ Err E.TooNarrow }
-        ensures left { kept_refusal self.old ≡ None →
-            OnErr result (stops_at_stage (call.begin start.code) self.old self.new) }
-        ensures kept { KeepsFailure kept_refusal self.old result self.new };
+        ensures answers { Answers does is_too_narrow failure kept_of (call.begin start.code)
+            self.old result self.new };
 
     /// Ends code, as a link is ended.
     fn end_code(&mut self) -> Result<(), Error>
-        ensures ok { OnOk result (does (call.finish end.code) self.old self.new) }
-        ensures too_narrow { kept_refusal self.old ≡ None → result ≡ Err E.TooNarrow →
-            is_too_narrow (call.finish end.code) self.old }
-        ensures two_columns { kept_refusal self.old ≡ None → 2 ≤ block_columns self.old →
-            result ≢ Err E.TooNarrow }
-        ensures left { kept_refusal self.old ≡ None →
-            OnErr result (stops_at_stage (call.finish end.code) self.old self.new) }
-        ensures kept { KeepsFailure kept_refusal self.old result self.new };
+        ensures answers { Answers does is_too_narrow failure kept_of (call.finish end.code) self.old result self.new };
 
     /// Begins a superscript, as a link is begun.
     fn start_superscript(&mut self) -> Result<(), Error>
-        ensures ok { OnOk result (does (call.begin start.superscript) self.old self.new) }
-        ensures too_narrow { kept_refusal self.old ≡ None → result ≡ Err E.TooNarrow →
-            is_too_narrow (call.begin start.superscript) self.old }
-        ensures two_columns { kept_refusal self.old ≡ None → 2 ≤ block_columns self.old →
-            result ≢ Err E.TooNarrow }
-        ensures left { kept_refusal self.old ≡ None →
-            OnErr result (stops_at_stage (call.begin start.superscript) self.old self.new) }
-        ensures kept { KeepsFailure kept_refusal self.old result self.new };
+        ensures answers { Answers does is_too_narrow failure kept_of (call.begin start.superscript)
+            self.old result self.new };
 
     /// Ends a superscript, as a link is ended.
     fn end_superscript(&mut self) -> Result<(), Error>
-        ensures ok { OnOk result (does (call.finish end.superscript) self.old self.new) }
-        ensures too_narrow { kept_refusal self.old ≡ None → result ≡ Err E.TooNarrow →
-            is_too_narrow (call.finish end.superscript) self.old }
-        ensures two_columns { kept_refusal self.old ≡ None → 2 ≤ block_columns self.old →
-            result ≢ Err E.TooNarrow }
-        ensures left { kept_refusal self.old ≡ None →
-            OnErr result (stops_at_stage (call.finish end.superscript) self.old self.new) }
-        ensures kept { KeepsFailure kept_refusal self.old result self.new };
+        ensures answers { Answers does is_too_narrow failure kept_of (call.finish end.superscript)
+            self.old result self.new };
 
     /// Begins a strikeout, as a link is begun. Text after the decorator's has one stroke more, if the options ask for
     /// strokes. `OutOfMemory` comes too where the depth passes `usize`.
     fn start_strikeout(&mut self) -> Result<(), Error>
-        ensures ok { OnOk result (does call.start_strikeout self.old self.new) }
-        ensures too_narrow { kept_refusal self.old ≡ None → result ≡ Err E.TooNarrow →
-            is_too_narrow call.start_strikeout self.old }
-        ensures two_columns { kept_refusal self.old ≡ None → 2 ≤ block_columns self.old →
-            result ≢ Err E.TooNarrow }
-        ensures left { kept_refusal self.old ≡ None →
-            OnErr result (stops_at_stage call.start_strikeout self.old self.new) }
-        ensures kept { KeepsFailure kept_refusal self.old result self.new };
+        ensures answers { Answers does is_too_narrow failure kept_of call.start_strikeout self.old result self.new };
 
     /// Ends a strikeout, as a link is ended. The decorator's text already has one stroke less, if the options ask for
-    /// strokes. In that case it asks that a strikeout is open.
+    /// strokes. In that case it asks that a strikeout is open. Where it refuses, that one stays open.
     fn end_strikeout(&mut self) -> Result<(), Error>
-        requires { strikes self.old ≡ true → 0 < open_strikeouts self.old }
-        ensures ok { OnOk result (does call.end_strikeout self.old self.new) }
-        ensures too_narrow { kept_refusal self.old ≡ None → result ≡ Err E.TooNarrow →
-            is_too_narrow call.end_strikeout self.old }
-        ensures two_columns { kept_refusal self.old ≡ None → 2 ≤ block_columns self.old →
-            result ≢ Err E.TooNarrow }
-        ensures left { kept_refusal self.old ≡ None →
-            OnErr result (stops_at_stage call.end_strikeout self.old self.new) }
-        ensures kept { KeepsFailure kept_refusal self.old result self.new };
+        requires { let kept = kept_of self.old in
+            kept.options.use_unicode_strikeout ≡ true → 0 < kept.strikeouts }
+        ensures answers { Answers does is_too_narrow failure kept_of call.end_strikeout self.old result self.new };
 
     /// Adds what the decorator shows for an image, under an annotation of its own. The options say what an image
     /// without a title shows.
     fn add_image(&mut self, src: &str, title: &str) -> Result<(), Error>
-        ensures ok { OnOk result (does (call.add_image (chars src.now) (chars title.now)) self.old self.new) }
-        ensures too_narrow { kept_refusal self.old ≡ None → result ≡ Err E.TooNarrow →
-            is_too_narrow (call.add_image (chars src.now) (chars title.now)) self.old }
-        ensures two_columns { kept_refusal self.old ≡ None → 2 ≤ block_columns self.old →
-            result ≢ Err E.TooNarrow }
-        ensures left { kept_refusal self.old ≡ None →
-            OnErr result (stops_at_stage (call.add_image (chars src.now) (chars title.now)) self.old self.new) }
-        ensures kept { KeepsFailure kept_refusal self.old result self.new };
+        ensures answers { Answers does is_too_narrow failure kept_of (call.add_image (chars src.now) (chars title.now))
+            self.old result self.new };
 
     /// Ends the open line, and adds a border of the renderer's width under the annotations. Markers that wait go on
     /// waiting. Where lines are padded the border becomes text.
     fn add_horizontal_border(&mut self) -> Result<(), Error>
-        ensures ok { OnOk result (does (call.add_border (columns_of self.old)) self.old self.new) }
-        ensures too_narrow { kept_refusal self.old ≡ None → result ≡ Err E.TooNarrow →
-            is_too_narrow (call.add_border (columns_of self.old)) self.old }
-        ensures two_columns { kept_refusal self.old ≡ None → 2 ≤ block_columns self.old →
-            result ≢ Err E.TooNarrow }
-        ensures left { kept_refusal self.old ≡ None →
-            OnErr result (stops_at_stage (call.add_border (columns_of self.old)) self.old self.new) }
-        ensures kept { KeepsFailure kept_refusal self.old result self.new };
+        ensures answers { Answers does is_too_narrow failure kept_of (call.add_border (kept_of self.old).width)
+            self.old result self.new };
 
     /// Ends the open line, and adds a border of `width` columns, as `add_horizontal_border` does.
     fn add_horizontal_border_width(&mut self, width: usize) -> Result<(), Error>
-        ensures ok { OnOk result (does (call.add_border width) self.old self.new) }
-        ensures too_narrow { kept_refusal self.old ≡ None → result ≡ Err E.TooNarrow →
-            is_too_narrow (call.add_border width) self.old }
-        ensures two_columns { kept_refusal self.old ≡ None → 2 ≤ block_columns self.old →
-            result ≢ Err E.TooNarrow }
-        ensures left { kept_refusal self.old ≡ None →
-            OnErr result (stops_at_stage (call.add_border width) self.old self.new) }
-        ensures kept { KeepsFailure kept_refusal self.old result self.new };
+        ensures answers { Answers does is_too_narrow failure kept_of (call.add_border width)
+            self.old result self.new };
 
     /// Ends the open line, and then that of another renderer, and adds the lines of that one, each after a prefix and
     /// under the annotations. A border becomes text.
     /// Each line takes one prefix. Where prefixes run out, the lines that are left are dropped. A refusal of the other
-    /// renderer is passed on.
     /// renderer is passed on.
     fn append_subrender<P: AsStr + Drop, I: Iterator<Item = P>>(
         &mut self,
@@ -369,14 +204,11 @@ pub trait Renderer {
         ensures ok { OnOk result ((lines : List (Line Tag)) × (given : List P)
             × hands_out other lines × GivesFirst I.next_gives (length lines) prefixes given
             × does (call.append_subrender (texts_of P.text given) lines) self.old self.new) }
-        ensures too_narrow { kept_refusal self.old ≡ None → result ≡ Err E.TooNarrow →
-            is_too_narrow call.new_line self.old ⊎ ((m : Self) × does call.new_line self.old m
-            × holds_back other × has_failed_from m E.TooNarrow self.new) }
-        ensures two_columns { kept_refusal self.old ≡ None → 2 ≤ block_columns self.old →
-            kept_refusal other ≡ None → 2 ≤ block_columns other → result ≢ Err E.TooNarrow }
-        ensures left { kept_refusal self.old ≡ None →
-            OnErr result (stops_at_stage call.new_line self.old self.new) }
-        ensures kept { KeepsFailure kept_refusal self.old result self.new };
+        ensures too_narrow { failure self.old ≡ None → result ≡ Err E.TooNarrow →
+            is_too_narrow call.new_line self.old ⊎ (((m : Self) × does call.new_line self.old m) × holds_back other) }
+        ensures two_columns { failure self.old ≡ None → 2 ≤ block_columns (kept_of self.old) →
+            failure other ≡ None → 2 ≤ block_columns (kept_of other) → result ≢ Err E.TooNarrow }
+        ensures fails { Fails failure kept_of self.old result self.new };
 
     /// Ends the open line, and adds the lines of other renderers, one below another, as `append_subrender` does without
     /// prefixes. Where borders are drawn, a border of slashes is between each two renderers. A plain one is after all
@@ -385,14 +217,12 @@ pub trait Renderer {
         ensures ok { OnOk result ((cells : List (List (Line Tag)))
             × AllZip (λ col lines. hands_out col lines) cols.items cells
             × does (call.append_vert_row cells) self.old self.new) }
-        ensures too_narrow { kept_refusal self.old ≡ None → result ≡ Err E.TooNarrow →
+        ensures too_narrow { failure self.old ≡ None → result ≡ Err E.TooNarrow →
             is_too_narrow call.new_line self.old
             ⊎ FirstToRefuse (λ col lines. hands_out col lines) (λ col. holds_back col) cols.items }
-        ensures two_columns { kept_refusal self.old ≡ None → 2 ≤ block_columns self.old →
-            Each (λ col. (kept_refusal col ≡ None) × (2 ≤ block_columns col)) cols.items → result ≢ Err E.TooNarrow }
-        ensures left { kept_refusal self.old ≡ None →
-            OnErr result (stops_at_stage call.new_line self.old self.new) }
-        ensures kept { KeepsFailure kept_refusal self.old result self.new };
+        ensures two_columns { failure self.old ≡ None → 2 ≤ block_columns (kept_of self.old) →
+            Each (λ col. (failure col ≡ None) × (2 ≤ block_columns (kept_of col))) cols.items → result ≢ Err E.TooNarrow }
+        ensures fails { Fails failure kept_of self.old result self.new };
 
     /// Ends the open line, and then those of other renderers, in order. It adds a row of their lines, side by side and
     /// parted by `│`, or by spaces where borders aren't drawn. Each comes with the rows that it spans, at least one.
@@ -413,17 +243,14 @@ pub trait Renderer {
         requires aligns { length aligns.now ≡ length cols.items }
         requires fits { has_places_for self.old cols.items }
         ensures ok { OnOk result ((cells : List (GivenCell Tag))
-            × AllZip (GivesCell columns_of hands_out) cols.items cells
+            × AllZip (GivesCell (λ r. (kept_of r).width) hands_out) cols.items cells
             × (map align_in cells ≡ aligns.now) × appends_row collapse cells self.old self.new) }
-        ensures too_narrow { kept_refusal self.old ≡ None → result ≡ Err E.TooNarrow →
+        ensures too_narrow { failure self.old ≡ None → result ≡ Err E.TooNarrow →
             is_too_narrow call.new_line self.old
             ⊎ FirstToRefuse (λ col lines. hands_out col.0 lines) (λ col. holds_back col.0) cols.items }
-        ensures two_columns { kept_refusal self.old ≡ None → 2 ≤ block_columns self.old →
-            Each (λ col. (kept_refusal col.0 ≡ None) × (2 ≤ block_columns col.0)) cols.items →
-            result ≢ Err E.TooNarrow }
-        ensures left { kept_refusal self.old ≡ None →
-            OnErr result (stops_at_stage call.new_line self.old self.new) }
-        ensures kept { KeepsFailure kept_refusal self.old result self.new };
+        ensures two_columns { failure self.old ≡ None → 2 ≤ block_columns (kept_of self.old) →
+            Each (λ col. (failure col.0 ≡ None) × (2 ≤ block_columns (kept_of col.0))) cols.items → result ≢ Err E.TooNarrow }
+        ensures fails { Fails failure kept_of self.old result self.new };
 
     /// Adds a row, as `append_columns_aligned` does, with all texts at the left.
     fn append_columns_with_borders(
@@ -434,45 +261,35 @@ pub trait Renderer {
         requires spans { Each (λ col. 0 < col.1) cols.items }
         requires fits { has_places_for self.old cols.items }
         ensures ok { OnOk result ((cells : List (GivenCell Tag))
-            × AllZip (GivesCell columns_of hands_out) cols.items cells
-            × (map align_in cells ≡ replicate (length cells) A.Left) × appends_row collapse cells self.old self.new) }
-        ensures too_narrow { kept_refusal self.old ≡ None → result ≡ Err E.TooNarrow →
+            × AllZip (GivesCell (λ r. (kept_of r).width) hands_out) cols.items cells
+            × (map align_in cells ≡ replicate (length cells) A.Left)
+            × appends_row collapse cells self.old self.new) }
+        ensures too_narrow { failure self.old ≡ None → result ≡ Err E.TooNarrow →
             is_too_narrow call.new_line self.old
             ⊎ FirstToRefuse (λ col lines. hands_out col.0 lines) (λ col. holds_back col.0) cols.items }
-        ensures two_columns { kept_refusal self.old ≡ None → 2 ≤ block_columns self.old →
-            Each (λ col. (kept_refusal col.0 ≡ None) × (2 ≤ block_columns col.0)) cols.items →
-            result ≢ Err E.TooNarrow }
-        ensures left { kept_refusal self.old ≡ None →
-            OnErr result (stops_at_stage call.new_line self.old self.new) }
-        ensures kept { KeepsFailure kept_refusal self.old result self.new };
+        ensures two_columns { failure self.old ≡ None → 2 ≤ block_columns (kept_of self.old) →
+            Each (λ col. (failure col.0 ≡ None) × (2 ≤ block_columns (kept_of col.0))) cols.items → result ≢ Err E.TooNarrow }
+        ensures fails { Fails failure kept_of self.old result self.new };
 
     /// Begins text in a colour, whose annotation joins the others, if the decorator has one. The only refusal of its
     /// own is `OutOfMemory`.
     fn push_colour(&mut self, colour: Colour) -> Result<(), Error>
-        ensures ok { OnOk result (does (call.push_colour ground.text colour) self.old self.new) }
-        ensures memory { kept_refusal self.old ≡ None → result ≢ Err E.TooNarrow }
-        ensures left { kept_refusal self.old ≡ None →
-            OnErr result (stops_at_stage (call.push_colour ground.text colour) self.old self.new) }
-        ensures kept { KeepsFailure kept_refusal self.old result self.new };
+        ensures answers { Answers does is_too_narrow failure kept_of (call.push_colour ground.text colour)
+            self.old result self.new };
 
     /// Ends text in a colour: the last annotation is taken, if there is one, where the decorator says so. It takes no
     /// memory.
     fn pop_colour(&mut self)
-        ensures live { kept_refusal self.old ≡ None → does (call.pop_colour ground.text) self.old self.new }
-        ensures failed { (e : Refusal) → kept_refusal self.old ≡ Some e → self.new ≡ self.old };
+        ensures { Leaves does failure (call.pop_colour ground.text) self.old self.new };
 
     /// Begins a background in a colour, as text in a colour is begun.
     fn push_bgcolour(&mut self, colour: Colour) -> Result<(), Error>
-        ensures ok { OnOk result (does (call.push_colour ground.background colour) self.old self.new) }
-        ensures memory { kept_refusal self.old ≡ None → result ≢ Err E.TooNarrow }
-        ensures left { kept_refusal self.old ≡ None →
-            OnErr result (stops_at_stage (call.push_colour ground.background colour) self.old self.new) }
-        ensures kept { KeepsFailure kept_refusal self.old result self.new };
+        ensures answers { Answers does is_too_narrow failure kept_of (call.push_colour ground.background colour)
+            self.old result self.new };
 
     /// Ends a background in a colour, as text in a colour is ended.
     fn pop_bgcolour(&mut self)
-        ensures live { kept_refusal self.old ≡ None → does (call.pop_colour ground.background) self.old self.new }
-        ensures failed { (e : Refusal) → kept_refusal self.old ≡ Some e → self.new ≡ self.old };
+        ensures { Leaves does failure (call.pop_colour ground.background) self.old self.new };
 
     /// The text before each line of a header of the given level. Its only refusal is `OutOfMemory`, also on a renderer
     /// that has failed, and it changes nothing. So do the other calls for prefixes.
@@ -509,7 +326,7 @@ pub trait Renderer {
 
     /// The columns of the renderer.
     fn width(&self) -> usize
-        ensures { result ≡ columns_of self.now };
+        ensures { result ≡ (kept_of self.now).width };
 
     /// Whether it has no line, and its open block, if any, is empty. It is false on a renderer that has failed.
     fn empty(&self) -> bool

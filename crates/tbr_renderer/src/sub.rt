@@ -1,7 +1,8 @@
 //! A renderer of blocks of text.
 ghost use Rattle.std.specs.Prelude.{◌≡◌, ◌≢◌, ◌<◌, [], ◌∷◌, ◌++◌, None, Some, false, ◌-◌, map, IsTrue, ◌↔◌, is_err, max, IfOk, IfErr, OnOk, MatchResult};
 ghost use Rattle.tbr_lines.specs.declared.Error.{Error as Refusal};
-ghost use Rattle.tbr_renderer.specs.Renderer.{KeepsSettings, new_renderer, has_content, line_padding, with_filled, with_line, block_width, may_overflow};
+ghost use Rattle.tbr_lines.specs.declared.Error.TheVariants as E;
+ghost use Rattle.tbr_renderer.specs.Renderer.{KeepsSettings, kept_of, new_renderer, has_content, line_padding, with_filled, with_line, block_width, may_overflow};
 ghost use Rattle.tbr_renderer.specs.View.{line_seen, unboxed, block_seen, IsFresh, IsOpened, AreMarkers, names_of};
 ghost use Rattle.tbr_lines.specs.View.{element_of};
 ghost use Rattle.tbr_lines.specs.Copies.{equal_lists};
@@ -117,15 +118,16 @@ impl<D: TextDecorator, W: CharWidth> SubRenderer<D, W> {
         self.failure
     }
 
-    /// Makes the renderer fail, as a call of its own that refuses does. One that has failed keeps its first refusal.
+    /// Makes the renderer fail with `OutOfMemory`, as a call of its own that is refused memory does. One that has failed
+    /// keeps its first refusal.
     ///
-    /// It is for a caller whose own call has refused, and whose renderer is not to go on.
-    pub fn fail(&mut self, refusal: Error)
-        ensures live { self.old.failure ≡ None → self.new ≡ record self.old { failure = Some refusal } }
+    /// It is for a caller who was refused memory, and whose renderer is not to go on.
+    pub fn fail(&mut self, _refusal: OutOfMemory)
+        ensures live { self.old.failure ≡ None → self.new ≡ record self.old { failure = Some E.OutOfMemory } }
         ensures failed { (e : Refusal) → self.old.failure ≡ Some e → self.new ≡ self.old }
     {
         if self.failure.is_none() {
-            self.failure = Some(refusal);
+            self.failure = Some(Error::OutOfMemory);
         }
     }
 
@@ -173,7 +175,7 @@ impl<D: TextDecorator, W: CharWidth> SubRenderer<D, W> {
     fn keep(&mut self, done: Result<(), Error>) -> Result<(), Error>
         ensures result { result ≡ done }
         ensures ok { OnOk result (self.new ≡ self.old) }
-        ensures failed { IfErr result (λ e. self.new.failure ≡ Some e) }
+        ensures failed { IfErr result (λ e. (self.new.failure ≡ Some e) × (kept_of self.new ≡ kept_of self.old)) }
         ensures left { IfErr result (λ e. self.new ≡ record self.old { failure = Some e }) }
         ensures settings { KeepsSettings (meant D.meaning self.old) (meant D.meaning self.new) }
     {

@@ -169,12 +169,12 @@ still_live {D} {A} {M} columns decoration meaning request r s begun next live is
     let call = call_of r.width request in
     let behind = call_beside columns decoration call before (meant meaning s) does in
     let settings : settings_of (meant meaning s) ≡ settings_of (settled decoration call before) = call_changes columns decoration call before (meant meaning s) does in
-    let options = ap (λ (x : Settings D M). x.options) settings ∙ settled_options columns decoration call before in (
+    let options = ap (λ (x : Settings D M). x.kept.options) settings ∙ settled_options columns decoration call before in (
       behind.0 ∙ live.0,
       behind.1 ∙ ap (λ n. preformats_behind columns decoration call n) live.1 ∙ counted_preformats columns decoration r.width request begun ∙ ap (λ (b : Begun). b.preformats) (sym is),
       λ on.
           let before_on = sym (ap (λ (x : RenderOptions). x.use_unicode_strikeout) options) ∙ on in
-          ap (λ (x : Settings D M). x.strikeouts) settings ∙ counted_strikeouts columns decoration before begun request before_on (live.2 before_on) ∙ ap (λ (b : Begun). b.strikeouts) (sym is),
+          ap (λ (x : Settings D M). x.kept.strikeouts) settings ∙ counted_strikeouts columns decoration before begun request before_on (live.2 before_on) ∙ ap (λ (b : Begun). b.strikeouts) (sym is),
     )
 
 -- a call that begins and ends no strikeout and no preformatted stretch
@@ -184,10 +184,10 @@ pub uncounted_live : {D M : Type 0} (columns : ℕ → Option ℕ) (decoration :
 uncounted_live {D} {M} columns decoration call r s begun strikes counts live does =
     let behind = call_beside columns decoration call r s does in
     let settings : settings_of s ≡ settings_of (settled decoration call r) = call_changes columns decoration call r s does in
-    let options = ap (λ (x : Settings D M). x.options) settings ∙ settled_options columns decoration call r in (
+    let options = ap (λ (x : Settings D M). x.kept.options) settings ∙ settled_options columns decoration call r in (
       behind.0 ∙ live.0,
       behind.1 ∙ counts r.preformatted ∙ live.1,
-      λ on. ap (λ (x : Settings D M). x.strikeouts) settings ∙ strikes r ∙ live.2 (sym (ap (λ (x : RenderOptions). x.use_unicode_strikeout) options) ∙ on),
+      λ on. ap (λ (x : Settings D M). x.kept.strikeouts) settings ∙ strikes r ∙ live.2 (sym (ap (λ (x : RenderOptions). x.use_unicode_strikeout) options) ∙ on),
     )
 
 -- lines of other renderers
@@ -203,6 +203,6 @@ pub row_live : {D A M : Type 0} (columns : ℕ → Option ℕ) (meaning : A → 
 row_live {D} {A} {M} columns meaning collapse cells r s begun live appends =
     let same : settings_of (meant meaning s) ≡ settings_of (meant meaning r) = settings_stay columns collapse cells (meant meaning r) (meant meaning s) appends in (
       failure_stays columns collapse cells (meant meaning r) (meant meaning s) appends ∙ live.0,
-      ap (λ (x : Settings D M). x.preformatted) same ∙ live.1,
-      λ on. ap (λ (x : Settings D M). x.strikeouts) same ∙ live.2 (sym (ap (λ (x : Settings D M). x.options.use_unicode_strikeout) same) ∙ on),
+      ap (λ (x : Settings D M). x.kept.preformatted) same ∙ live.1,
+      λ on. ap (λ (x : Settings D M). x.kept.strikeouts) same ∙ live.2 (sym (ap (λ (x : Settings D M). x.kept.options.use_unicode_strikeout) same) ∙ on),
     )

@@ -5,16 +5,16 @@ use Rattle.tbr_decor.specs.Decoration.{Decoration}
 use Rattle.tbr_decor.specs.End as end
 use Rattle.tbr_renderer.specs.Calls.{finish, Does}
 use Rattle.tbr_renderer.specs.Meant.{meant}
-use Rattle.tbr_renderer.specs.Renderer.{Renderer, least, block_width}
+use Rattle.tbr_renderer.specs.Renderer.{Renderer, kept_of}
 use Rattle.tbr_renderer.proofs.Steady.{Steady, closed_alike}
 use Rattle.tbr_stack.specs.Stack.{Level, Stack, top_of}
 use Rattle.tbr_stack.specs.Top.{OfTop, level_meant, stack_meant}
 use Rattle.tbr_stack.specs.Links.{open_in_first, open_links, shown_number}
 
--- neither the kept refusal nor the columns of blocks are changed
+-- neither the kept refusal nor what later calls ask for is changed
 pub record Steadily {D A T : Type 0} (r q : Renderer D A T) : Type 0 where
   pub failure : q.failure ≡ r.failure
-  pub columns : block_width q ≡ block_width r
+  pub kept : kept_of q ≡ kept_of r
 
 module _ {D A M : Type 0} (f : A → M) where
   pub ended : (columns : ℕ → Option ℕ) (decoration : Decoration D M) (r q : Renderer D A (Vec A)) → Does columns decoration (finish end.link) (meant f r) (meant f q) → Steadily r q
@@ -22,7 +22,7 @@ module _ {D A M : Type 0} (f : A → M) where
       let same = closed_alike columns decoration end.link (meant f r) (meant f q) h in
       record {
         failure = ap (λ (x : Steady D M). x.failure) same;
-        columns = ap (λ (x : Steady D M). least x.settings.width x.settings.options.wrap_width) same;
+        kept = ap (λ (x : Steady D M). x.settings.kept) same;
       }
 
   places_meant : (levels : List (Level (Renderer D A (Vec A)))) → open_in_first (map (level_meant f) levels) ≡ open_in_first levels

@@ -5,8 +5,8 @@ use Rattle.tbr_lines.specs.declared.Error.TheVariants.{OutOfMemory}
 use Rattle.tbr_decor.specs.Decoration.{Decoration}
 use Rattle.tbr_decor.specs.Start as start
 use Rattle.tbr_decor.specs.End as end
-use Rattle.tbr_renderer.specs.Renderer.{Renderer}
-use Rattle.tbr_renderer.specs.Calls.{begin, finish, add_inline_text, Does, IsTooNarrow, StopsAtStage}
+use Rattle.tbr_renderer.specs.Renderer.{Renderer, kept_of}
+use Rattle.tbr_renderer.specs.Calls.{begin, finish, add_inline_text, Does, IsTooNarrow}
 use Rattle.tbr_stack.specs.Stack.{Level, Stack, in_first}
 use Rattle.tbr_stack.specs.Top.{ChangesTop, OfTop}
 
@@ -63,12 +63,6 @@ module _ {D A : Type 0} (columns : ℕ → Option ℕ) (decoration : Decoration 
   abbrev pub StartsLink : List ℕ → Stack Top → Stack Top → Type 0
   StartsLink target s t = ChangesTop (Does columns decoration (begin (start.link target))) (with_link target s) t
 
-  -- A start that refuses opens no link where memory is refused, or opens it, and the top stops.
-  abbrev pub StopsToStart : List ℕ → Stack Top → Stack Top → Type 0
-  StopsToStart target s t =
-      ChangesTop (λ r q. q ≡ record r { failure = Some OutOfMemory }) s t
-      ⊎ ChangesTop (StopsAtStage columns decoration (begin (start.link target))) (with_link target s) t
-
   -- A link ends in a renderer, and its number comes after it, where one is shown.
   abbrev pub EndsWith : Option ℕ → Top → Top → Type 0
   EndsWith None r q = Does columns decoration (finish end.link) r q
@@ -84,14 +78,6 @@ module _ {D A : Type 0} (columns : ℕ → Option ℕ) (decoration : Decoration 
       ⊎ ((m : Top) × Does columns decoration (finish end.link) r m
       × IsTooNarrow columns decoration (add_inline_text (link_number k)) m)
 
-  -- An end that refuses stops at the text that ends the link, or after it at the number, where one is shown.
-  abbrev pub StopsToEndWith : Option ℕ → Top → Top → Type 0
-  StopsToEndWith None r q = StopsAtStage columns decoration (finish end.link) r q
-  StopsToEndWith (Some k) r q =
-      StopsAtStage columns decoration (finish end.link) r q
-      ⊎ ((m : Top) × Does columns decoration (finish end.link) r m
-      × StopsAtStage columns decoration (add_inline_text (link_number k)) m q)
-
   -- The link that was opened last in the top ends, with its number, and is closed.
   abbrev pub EndsLink : Stack Top → Stack Top → Type 0
   EndsLink s t =
@@ -102,6 +88,14 @@ module _ {D A : Type 0} (columns : ℕ → Option ℕ) (decoration : Decoration 
   abbrev pub EndIsTooNarrow : Stack Top → Type 0
   EndIsTooNarrow s = OfTop (λ r. EndIsTooNarrowWith (shown_number r (open_links s)) r) s
 
-  -- An end that refuses closes no link.
-  abbrev pub StopsToEnd : Stack Top → Stack Top → Type 0
-  StopsToEnd s t = ChangesTop (λ r q. StopsToEndWith (shown_number r (open_links s)) r q) s t
+-- ---- calls that refuse
+
+-- A start that refuses opens no link where memory is refused, or opens it. What is kept of the top stays.
+abbrev pub StopsToStart : {D A T : Type 0} → List ℕ → Stack (Renderer D A T) → Stack (Renderer D A T) → Type 0
+StopsToStart target s t =
+    ChangesTop (λ r q. q ≡ record r { failure = Some OutOfMemory }) s t
+    ⊎ ChangesTop (λ r q. kept_of q ≡ kept_of r) (with_link target s) t
+
+-- An end that refuses closes no link. What is kept of the top stays.
+abbrev pub StopsToEnd : {D A T : Type 0} → Stack (Renderer D A T) → Stack (Renderer D A T) → Type 0
+StopsToEnd s t = ChangesTop (λ r q. kept_of q ≡ kept_of r) s t

@@ -4,12 +4,12 @@ ghost use Rattle.tbr_lines.specs.View.{chars_of};
 ghost use Rattle.tbr_lines.specs.declared.Error.TheVariants as E;
 ghost use Rattle.tbr_decor.specs.Decoration.{decoration_of};
 ghost use Rattle.tbr_decor.specs.Start as start;
-ghost use Rattle.tbr_renderer.specs.Renderer.{block_width};
-ghost use Rattle.tbr_renderer.specs.Calls.{KeepsFailure, Does, IsTooNarrow, StopsAtStage};
+ghost use Rattle.tbr_renderer.specs.Renderer.{block_width, kept_of};
+ghost use Rattle.tbr_renderer.specs.Calls.{KeepsFailure, Does, IsTooNarrow};
 ghost use Rattle.tbr_renderer.specs.Meant.{meant};
 ghost use Rattle.tbr_renderer.specs.Calls as call;
 ghost use Rattle.tbr_stack.specs.Top.{failure_of, ChangesTop, OfTop, stack_meant};
-ghost use Rattle.tbr_stack.specs.Links.{link_number, open_links, shown_number, StartsLink, StopsToStart, EndsWith, EndIsTooNarrowWith, StopsToEndWith, EndsLink, EndIsTooNarrow, StopsToEnd};
+ghost use Rattle.tbr_stack.specs.Links.{link_number, open_links, shown_number, StartsLink, StopsToStart, EndsWith, EndIsTooNarrowWith, EndsLink, EndIsTooNarrow, StopsToEnd};
 
 use crate::stack::TextRenderer;
 use std::alloc::Global;
@@ -32,9 +32,8 @@ impl<D: TextDecorator, W: CharWidth> TextRenderer<D, W> {
             (stack_meant D.meaning self.old) }
         ensures two_columns { failure_of self.old ≡ None → OfTop (λ r. 2 ≤ block_width r) self.old →
             result ≢ Err E.TooNarrow }
-        ensures left { failure_of self.old ≡ None → OnErr result (StopsToStart W.columns
-            (decoration_of D.TextDecorator) (chars target.now) (stack_meant D.meaning self.old)
-            (stack_meant D.meaning self.new)) }
+        ensures left { failure_of self.old ≡ None → OnErr result
+            (StopsToStart (chars target.now) (stack_meant D.meaning self.old) (stack_meant D.meaning self.new)) }
         ensures kept { KeepsFailure failure_of self.old result self.new }
     {
         self.refusal()?;
@@ -57,8 +56,8 @@ impl<D: TextDecorator, W: CharWidth> TextRenderer<D, W> {
             EndIsTooNarrow W.columns (decoration_of D.TextDecorator) (stack_meant D.meaning self.old) }
         ensures two_columns { failure_of self.old ≡ None → OfTop (λ r. 2 ≤ block_width r) self.old →
             result ≢ Err E.TooNarrow }
-        ensures left { failure_of self.old ≡ None → OnErr result (StopsToEnd W.columns
-            (decoration_of D.TextDecorator) (stack_meant D.meaning self.old) (stack_meant D.meaning self.new)) }
+        ensures left { failure_of self.old ≡ None → OnErr result
+            (StopsToEnd (stack_meant D.meaning self.old) (stack_meant D.meaning self.new)) }
         ensures kept { KeepsFailure failure_of self.old result self.new }
     {
         let number = self.shown_number();
@@ -103,9 +102,8 @@ impl<D: TextDecorator, W: CharWidth> TextRenderer<D, W> {
         let Err(e) = done else {
             return Ok(());
         };
-        let e = Error::from(e);
         self.top_mut().fail(e);
-        Err(e)
+        Err(Error::OutOfMemory)
     }
 }
 
@@ -120,8 +118,7 @@ fn end_with<D: TextDecorator, W: CharWidth>(
     ensures too_narrow { renderer.old.failure ≡ None → result ≡ Err E.TooNarrow →
         EndIsTooNarrowWith W.columns (decoration_of D.TextDecorator) number (meant D.meaning renderer.old) }
     ensures two_columns { renderer.old.failure ≡ None → 2 ≤ block_width renderer.old → result ≢ Err E.TooNarrow }
-    ensures left { renderer.old.failure ≡ None → OnErr result (StopsToEndWith W.columns
-        (decoration_of D.TextDecorator) number (meant D.meaning renderer.old) (meant D.meaning renderer.new)) }
+    ensures left { OnErr result (kept_of renderer.new ≡ kept_of renderer.old) }
     ensures kept { KeepsFailure (λ r. r.failure) renderer.old result renderer.new }
 {
     renderer.end_link()?;
@@ -143,16 +140,14 @@ fn add_number<D: TextDecorator, W: CharWidth>(
     ensures too_narrow { result ≡ Err E.TooNarrow → IsTooNarrow W.columns (decoration_of D.TextDecorator)
         (call.add_inline_text (link_number k)) (meant D.meaning renderer.old) }
     ensures two_columns { 2 ≤ block_width renderer.old → result ≢ Err E.TooNarrow }
-    ensures left { OnErr result (StopsAtStage W.columns (decoration_of D.TextDecorator)
-        (call.add_inline_text (link_number k)) (meant D.meaning renderer.old) (meant D.meaning renderer.new)) }
+    ensures left { OnErr result (kept_of renderer.new ≡ kept_of renderer.old) }
     ensures failed { IfErr result (λ e. renderer.new.failure ≡ Some e) }
 {
     match number_text(alloc, k) {
         Ok(number) => renderer.add_inline_text(number.as_str()),
         Err(e) => {
-            let e = Error::from(e);
             renderer.fail(e);
-            Err(e)
+            Err(Error::OutOfMemory)
         }
     }
 }

@@ -253,17 +253,26 @@ fn footnotes_stand_under_annotations_of_any_decorator(rt: HostRuntime) {
     shows(&rt, marked(rt.alloc()), "a b:[Nothing] \nc:[Marked] \n");
 }
 
+/// A renderer of one column, which a character of two has made fail, or a refusal of memory.
+fn failed(alloc: Global, refusal: Error) -> SubRenderer<RichDecorator> {
+    let mut r: SubRenderer<RichDecorator> =
+        SubRenderer::new(alloc, 1, RenderOptions::default(), RichDecorator::new());
+    match refusal {
+        Error::OutOfMemory => r.fail(OutOfMemory),
+        Error::TooNarrow => {
+            let _ = r.add_inline_text("\u{6f22}");
+            let _ = r.new_line();
+        }
+    }
+    r
+}
+
 #[test]
 fn failed_renderer_adds_no_footnote(rt: HostRuntime) -> Result<(), Fail> {
     let alloc = rt.alloc();
     for refusal in [Error::TooNarrow, Error::OutOfMemory] {
-        let mut r: SubRenderer<RichDecorator> = SubRenderer::new(
-            alloc,
-            9,
-            RenderOptions::default(),
-            RichDecorator::new(),
-        );
-        r.fail(refusal);
+        let mut r = failed(alloc, refusal);
+        assert!(rt; r.failure() == Some(refusal));
         let lines = footnotes_of(alloc, TARGET.footnotes)?;
         assert!(rt; r.fmt_links(lines) == Err(refusal));
         assert!(rt; r.failure() == Some(refusal));

@@ -2,7 +2,7 @@
 use std::alloc::Global;
 use std::test::Fail;
 use tbr_decor::PlainDecorator;
-use tbr_lines::{Error, WhiteSpace};
+use tbr_lines::{Error, OutOfMemory, WhiteSpace};
 use tbr_renderer::SubRenderer;
 use tbr_stack::TextRenderer;
 use test_calls::calls::Call::{Border, Line, Marker, Mode, Text};
@@ -41,11 +41,11 @@ fn lines_of_a_renderer_are_displayed(rt: HostRuntime) -> Result<(), Fail> {
 fn renderers_and_stacks_are_printed_for_debugging(rt: HostRuntime) -> Result<(), Fail> {
     let alloc = rt.alloc();
     let mut r = behind(alloc, &[Mode(WhiteSpace::Pre)])?;
-    r.fail(Error::TooNarrow);
+    r.fail(OutOfMemory);
     let printed = format!(in alloc; "{r:?}")?;
     assert_eq!(rt;
         printed.as_str(),
-        "SubRenderer { width: 4, lines: [], annotations: [], modes: [Pre], failure: Some(TooNarrow), .. }"
+        "SubRenderer { width: 4, lines: [], annotations: [], modes: [Pre], failure: Some(OutOfMemory), .. }"
     );
     let mut stack = TextRenderer::new(alloc, r)?;
     stack.table_depth = 2;
@@ -53,7 +53,7 @@ fn renderers_and_stacks_are_printed_for_debugging(rt: HostRuntime) -> Result<(),
     assert_eq!(rt;
         printed.as_str(),
         "Stack { levels: [Level { renderer: SubRenderer { width: 4, lines: [], annotations: [], modes: [Pre], \
-failure: Some(TooNarrow), .. }, open_links: [] }], links: [], table_depth: 2 }"
+failure: Some(OutOfMemory), .. }, open_links: [] }], links: [], table_depth: 2 }"
     );
     Ok(())
 }

@@ -99,7 +99,7 @@ module _ {D A : Type 0} (columns : ℕ → Option ℕ) where
   next_lines : (r q : Renderer D A (List A)) (o : Option (Border (List A))) → settings_of q ≡ settings_of r → (with_next columns q o).lines ≡ q.lines ++ border_lines_of columns r o
   next_lines r q None e = sym (append-nil q.lines)
   next_lines r q (Some b) e =
-      ap (λ l. q.lines ++ l ∷ []) (border_same r q b (ap (λ (t : Settings D A). t.width) e) (ap (λ (t : Settings D A). t.options) e) (ap (λ (t : Settings D A). t.annotations) e))
+      ap (λ l. q.lines ++ l ∷ []) (border_same r q b (ap (λ (t : Settings D A). t.kept.width) e) (ap (λ (t : Settings D A). t.kept.options) e) (ap (λ (t : Settings D A). t.annotations) e))
 
   row_lines : (m : Renderer D A (List A)) (seen : SeenRow (List A)) →
       (with_row columns m seen).lines ≡ (before_border m.lines ++ border_lines seen.above) ++ (lines_laid columns m seen.lines ++ border_lines_of columns m seen.next)

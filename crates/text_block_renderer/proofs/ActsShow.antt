@@ -48,7 +48,7 @@ module _ {D A : Type 0} (columns : ℕ → Option ℕ) where
   shows_row m seen es unpadded none k =
       let top : Renderer D A (List A) = record m { lines = before_border m.lines ++ border_lines seen.above; hanging = seen.overhang } in
       let full = fold (with_line columns) top seen.lines in
-      let still : full.options.pad_block_width ≡ false = ap (λ (x : Steady D A). x.settings.options.pad_block_width) (lines_added columns seen.lines top) ∙ unpadded in
+      let still : full.options.pad_block_width ≡ false = ap (λ (x : Steady D A). x.settings.kept.options.pad_block_width) (lines_added columns seen.lines top) ∙ unpadded in
       shows_next full seen.next (es ++ laid_entries (joined seen.lines)) still (shows_laid seen.lines top es none (shows_top m seen es k))
 
   module _ (decoration : Decoration D A) where
@@ -57,7 +57,7 @@ module _ {D A : Type 0} (columns : ℕ → Option ℕ) where
     act_shows (row collapses cells) r s before es unpadded h k =
         let (m, flushes, puts, is) = h in
         let first : Shows columns m before = subst (Shows columns m) (append-nil before) (brings_shown_all columns decoration (new_line ∷ []) r m before [] (inl unpadded) (alone columns decoration new_line r m [] flushes refl) k) in
-        let still : m.options.pad_block_width ≡ false = ap (λ (x : Steady D A). x.settings.options.pad_block_width) (flushed_alike columns r m flushes) ∙ unpadded in
+        let still : m.options.pad_block_width ≡ false = ap (λ (x : Steady D A). x.settings.kept.options.pad_block_width) (flushed_alike columns r m flushes) ∙ unpadded in
         let all = shows_row m puts.row before still (flushed_none columns r m flushes) first in
         subst (λ fs. Shows columns s (before ++ fs)) (sym is) (subst (λ (q : Renderer D A (List A)). Shows columns q (before ++ laid_entries (joined puts.row.lines))) (sym puts.is) all)
 

@@ -65,7 +65,7 @@ module _ {D A : Type 0} (columns : ℕ → Option ℕ) where
     struck_alike m r e = is m ∙ ap more e ∙ sym (is r)
       where
         more : Steady D A → Steady D A
-        more x = if x.settings.options.use_unicode_strikeout then record x { settings = record x.settings { strikeouts = suc x.settings.strikeouts } } else x
+        more x = if x.settings.kept.options.use_unicode_strikeout then record x { settings = record x.settings { kept = record x.settings.kept { strikeouts = suc x.settings.kept.strikeouts } } } else x
 
         is : (q : Renderer D A (List A)) → steady (struck_from q) ≡ more (steady q)
         is q = go q.options.use_unicode_strikeout refl
@@ -168,4 +168,4 @@ module _ {D A : Type 0} (columns : ℕ → Option ℕ) where
     call_beside call r s h =
         let e = call_settings call r s h in
         let behind = settled_beside call r in
-        (ap (λ (x : Steady D A). x.failure) e ∙ behind.0, ap (λ (x : Steady D A). x.settings.preformatted) e ∙ behind.1)
+        (ap (λ (x : Steady D A). x.failure) e ∙ behind.0, ap (λ (x : Steady D A). x.settings.kept.preformatted) e ∙ behind.1)

@@ -44,16 +44,16 @@ module _ {D A : Type 0} (columns : ℕ → Option ℕ) where
           let texts = map (as_text q.annotations) lines in record {
             settings = settings_laid texts q ∙ h.settings;
             waiting = none_wait columns q texts h.waiting;
-            lines = plain_lines columns texts q (ap (λ (x : Settings D A). x.options.pad_block_width) h.settings ∙ unpadded) h.waiting ∙ ap (λ ms. ms ++ map text texts) h.lines
+            lines = plain_lines columns texts q (ap (λ (x : Settings D A). x.kept.options.pad_block_width) h.settings ∙ unpadded) h.waiting ∙ ap (λ ms. ms ++ map text texts) h.lines
                 ∙ ap (λ ms. ls ++ ms) (texts_of_cell q.annotations lines (ap (λ (x : Settings D A). x.annotations) h.settings));
           }
 
       divider_so_far : (cell : Cell) (q : Renderer D A (List A)) (ls : List (Line (List A))) → SoFar q ls → SoFar (with_divider columns cell q) (ls ++ border (border_of_cells cell r.width r) ∷ [])
       divider_so_far cell q ls h =
-          let pads : q.options.pad_block_width ≡ false = ap (λ (x : Settings D A). x.options.pad_block_width) h.settings ∙ unpadded in
-          let draws : q.options.draw_borders ≡ true = ap (λ (x : Settings D A). x.options.draw_borders) h.settings ∙ drawn in
+          let pads : q.options.pad_block_width ≡ false = ap (λ (x : Settings D A). x.kept.options.pad_block_width) h.settings ∙ unpadded in
+          let draws : q.options.draw_borders ≡ true = ap (λ (x : Settings D A). x.kept.options.draw_borders) h.settings ∙ drawn in
           let b = border_of_cells cell q.width q in
-          let same : b ≡ border_of_cells cell r.width r = ap (λ (x : Settings D A). without_holes (replicate x.width cell) x.annotations) h.settings in
+          let same : b ≡ border_of_cells cell r.width r = ap (λ (x : Settings D A). without_holes (replicate x.kept.width cell) x.annotations) h.settings in
           subst (λ (p : Renderer D A (List A)). SoFar p (ls ++ border (border_of_cells cell r.width r) ∷ [])) (sym (divider_drawn cell q draws)) (record {
             settings = h.settings;
             waiting = h.waiting;
@@ -100,7 +100,7 @@ module _ {D A : Type 0} (columns : ℕ → Option ℕ) where
       ap (λ p. with_cell columns p lines) (divider_undrawn slash q undrawn) ∙ ap (λ t. fold (with_line columns) q (map (as_text t) lines)) e in
       let after : Renderer D A (List A) = fold (with_line columns) q texts in
       ap (λ p. fold (with_cell_below columns) p cells) one
-      ∙ below_alone tag cells after (ap (λ (x : Settings D A). x.options.draw_borders) (settings_laid texts q) ∙ undrawn) (ap (λ (x : Settings D A). x.annotations) (settings_laid texts q) ∙ e)
+      ∙ below_alone tag cells after (ap (λ (x : Settings D A). x.kept.options.draw_borders) (settings_laid texts q) ∙ undrawn) (ap (λ (x : Settings D A). x.annotations) (settings_laid texts q) ∙ e)
       ∙ sym (fold-append (with_line columns) q texts (flat_map (map (as_text tag)) cells))
 
   cells_alone : (tag : List A) (cells : List (List (Line (List A)))) (q : Renderer D A (List A)) → q.options.draw_borders ≡ false → q.annotations ≡ tag → with_cells columns q cells ≡ fold (with_line columns) q (flat_map (map (as_text tag)) cells)
@@ -113,8 +113,8 @@ module _ {D A : Type 0} (columns : ℕ → Option ℕ) where
   row_undrawn decoration cells r s h undrawn =
       let settings = ap (λ (x : Steady D A). x.settings) (flushed_alike columns r h.0 h.1) in
       let texts = flat_map (map (as_text r.annotations)) cells in
-      let here : h.0.options.draw_borders ≡ false = ap (λ (x : Settings D A). x.options.draw_borders) settings ∙ undrawn in
+      let here : h.0.options.draw_borders ≡ false = ap (λ (x : Settings D A). x.kept.options.draw_borders) settings ∙ undrawn in
       let put = cells_alone r.annotations cells h.0 here (ap (λ (x : Settings D A). x.annotations) settings) in
       let after : Renderer D A (List A) = fold (with_line columns) h.0 texts in
-      let last = divider_undrawn horizontal after (ap (λ (x : Settings D A). x.options.draw_borders) (settings_laid texts h.0) ∙ here) in
+      let last = divider_undrawn horizontal after (ap (λ (x : Settings D A). x.kept.options.draw_borders) (settings_laid texts h.0) ∙ here) in
       (h.0, h.1, ap (λ (q : Renderer D A (List A)). q.lines) (h.2 ∙ ap (with_divider columns horizontal) put ∙ last) ∙ laid_lines columns texts h.0)

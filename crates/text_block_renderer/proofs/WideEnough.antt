@@ -34,7 +34,7 @@ module _ {D A : Type 0} (columns : ℕ → Option ℕ) (two : TakeTwoAtMost colu
   flush_fits r wide h = block_fits r r.block wide h
 
   started_width : (r m : Renderer D A (List A)) → StartsBlock columns r m → block_width m ≡ block_width r
-  started_width r m h = ap (λ (x : Steady D A). least x.settings.width x.settings.options.wrap_width) (started_alike columns r m h)
+  started_width r m h = ap (λ (x : Steady D A). least x.settings.kept.width x.settings.kept.options.wrap_width) (started_alike columns r m h)
 
   text_fits_by : (preformatted : D → Bool → A) (ignored ended : Bool) (cs : List ℕ) (r : Renderer D A (List A)) → 2 ≤ block_width r → TextIsTooNarrowBy columns preformatted ignored ended cs r → ⊥
   text_fits_by preformatted true ended cs r wide h = h

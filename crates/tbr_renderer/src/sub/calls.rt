@@ -1,10 +1,10 @@
 //! The calls of a renderer.
 ghost use Rattle.std.specs.Prelude.{◌≡◌, ◌≢◌, ◌<◌, ◌++◌, ◌∷◌, [], suc, ◌^◌, not, true, None, Some, Err, OnOk, OnErr, IfErr, List, map, length, replicate, ◌⊎◌, ◌≤◌};
 ghost use Rattle.tbr_lines.specs.declared.Error.TheVariants as E;
-ghost use Rattle.tbr_renderer.specs.Renderer.{Line, KeepsSettings, block_width, without_last};
+ghost use Rattle.tbr_renderer.specs.Renderer.{Line, kept_of, block_width, without_last};
 ghost use Rattle.tbr_renderer.specs.Meant.{meant, tag_meant};
 ghost use Rattle.tbr_renderer.specs.Steps.{block_is_empty, is_empty};
-ghost use Rattle.tbr_renderer.specs.Calls.{Does, IsTooNarrow, StopsAtStage, KeepsFailure};
+ghost use Rattle.tbr_renderer.specs.Calls.{Fails};
 ghost use Rattle.tbr_renderer.specs.Calls as call;
 ghost use Rattle.tbr_renderer.specs.Appended.{HandsOut, HoldsBack, FirstToRefuse, AppendsCells};
 ghost use Rattle.tbr_rows.specs.Cells.{row_fits};
@@ -28,7 +28,7 @@ impl<D: TextDecorator, W: CharWidth> SubRenderer<D, W> {
     fn push_mode(&mut self, mode: WhiteSpace) -> Result<(), Error>
         ensures ok { OnOk result (self.new ≡ record self.old { modes = self.old.modes ++ mode ∷ [] }) }
         ensures memory { IfErr result (λ e. e ≡ E.OutOfMemory) }
-        ensures stopped { OnErr result (KeepsSettings (meant D.meaning self.old) (meant D.meaning self.new)) }
+        ensures kept { OnErr result (kept_of self.new ≡ kept_of self.old) }
     {
         self.modes.push(mode)?;
         Ok(())
@@ -71,7 +71,7 @@ impl<D: TextDecorator, W: CharWidth> SubRenderer<D, W> {
     fn deepen(&mut self) -> Result<(), Error>
         ensures ok { OnOk result (self.new ≡ record self.old { preformatted = suc self.old.preformatted }) }
         ensures memory { IfErr result (λ e. e ≡ E.OutOfMemory) }
-        ensures stopped { OnErr result (KeepsSettings (meant D.meaning self.old) (meant D.meaning self.new)) }
+        ensures kept { OnErr result (kept_of self.new ≡ kept_of self.old) }
         ensures passes { OnErr result (2 ^ 64 ≤ suc self.old.preformatted) }
     {
         let Some(depth) = self.preformatted.checked_add(1) else {
@@ -83,17 +83,16 @@ impl<D: TextDecorator, W: CharWidth> SubRenderer<D, W> {
 }
 
 impl<D: TextDecorator, W: CharWidth> Renderer for SubRenderer<D, W> {
-    ghost use Rattle.tbr_renderer.specs.Renderer.{block_width};
+    ghost use Rattle.tbr_renderer.specs.Renderer.{kept_of};
     ghost use Rattle.tbr_renderer.specs.Meant.{meant};
     ghost use Rattle.tbr_renderer.specs.Steps.{is_empty};
     ghost use Rattle.tbr_renderer.specs.Appended.{HandsOut, HoldsBack};
-    ghost use Rattle.std.specs.Prelude.{Some};
     ghost use Rattle.tbr_decor.specs.Decoration.{decoration_of};
     ghost use Rattle.std.specs.Prelude.{◌≡◌, ◌⊎◌, List, true};
     ghost use Rattle.tbr_rows.specs.Cells.{row_fits};
     ghost use Rattle.tbr_renderer.specs.Rows.{spots_of, AppendsRow};
     ghost use Rattle.tbr_renderer.specs.Decorated.{sub_renderer};
-    ghost use Rattle.tbr_renderer.specs.Calls.{Does, IsTooNarrow, StopsAtStage};
+    ghost use Rattle.tbr_renderer.specs.Calls.{Does, IsTooNarrow};
 
     ghost Tag = { List D.Meaning };
 
@@ -106,29 +105,15 @@ impl<D: TextDecorator, W: CharWidth> Renderer for SubRenderer<D, W> {
     ghost appends_row = { λ collapse cells old new.
         AppendsRow W.columns collapse cells (meant D.meaning old) (meant D.meaning new) };
 
-    ghost has_failed_from = { λ old refusal new.
-        meant D.meaning new ≡ record (meant D.meaning old) { failure = Some refusal } };
-
     ghost does = { λ call old new.
         Does W.columns (decoration_of D.TextDecorator) call (meant D.meaning old) (meant D.meaning new) };
 
     ghost is_too_narrow = { λ call old.
         IsTooNarrow W.columns (decoration_of D.TextDecorator) call (meant D.meaning old) };
 
-    ghost stops_at_stage = { λ call old new. StopsAtStage W.columns (decoration_of D.TextDecorator) call
-        (meant D.meaning old) (meant D.meaning new) };
+    ghost failure = { λ r. r.failure };
 
-    ghost kept_refusal = { λ r. r.failure };
-
-    ghost columns_of = { λ r. r.width };
-
-    ghost block_columns = { λ r. block_width r };
-
-    ghost open_preformats = { λ r. r.preformatted };
-
-    ghost open_strikeouts = { λ r. r.strikeouts };
-
-    ghost strikes = { λ r. r.options.use_unicode_strikeout };
+    ghost kept_of = { λ r. kept_of r };
 
     ghost prefix_text = { λ r prefix. D.prefix_text r.decorator prefix };
 
@@ -295,10 +280,7 @@ impl<D: TextDecorator, W: CharWidth> Renderer for SubRenderer<D, W> {
             (λ col. HoldsBack W.columns (meant D.meaning col)) cols.items }
         ensures two_columns { self.old.failure ≡ None → 2 ≤ block_width self.old →
             Each (λ col. (col.failure ≡ None) × (2 ≤ block_width col)) cols.items → result ≢ Err E.TooNarrow }
-        ensures left { self.old.failure ≡ None → OnErr result
-            (StopsAtStage W.columns (decoration_of D.TextDecorator) call.new_line
-            (meant D.meaning self.old) (meant D.meaning self.new)) }
-        ensures kept { KeepsFailure (λ r. r.failure) self.old result self.new }
+        ensures fails { Fails (λ r. r.failure) kept_of self.old result self.new }
     {
         self.refusal()?;
         let done = self.try_append_vert_row(cols);
@@ -325,10 +307,7 @@ impl<D: TextDecorator, W: CharWidth> Renderer for SubRenderer<D, W> {
             (λ col. HoldsBack W.columns (meant D.meaning col.0)) cols.items }
         ensures two_columns { self.old.failure ≡ None → 2 ≤ block_width self.old →
             Each (λ col. (col.0.failure ≡ None) × (2 ≤ block_width col.0)) cols.items → result ≢ Err E.TooNarrow }
-        ensures left { self.old.failure ≡ None → OnErr result
-            (StopsAtStage W.columns (decoration_of D.TextDecorator) call.new_line
-            (meant D.meaning self.old) (meant D.meaning self.new)) }
-        ensures kept { KeepsFailure (λ r. r.failure) self.old result self.new }
+        ensures fails { Fails (λ r. r.failure) kept_of self.old result self.new }
     {
         self.refusal()?;
         let done = self.try_append_columns(cols, aligns, collapse);
@@ -353,10 +332,7 @@ impl<D: TextDecorator, W: CharWidth> Renderer for SubRenderer<D, W> {
             (λ col. HoldsBack W.columns (meant D.meaning col.0)) cols.items }
         ensures two_columns { self.old.failure ≡ None → 2 ≤ block_width self.old →
             Each (λ col. (col.0.failure ≡ None) × (2 ≤ block_width col.0)) cols.items → result ≢ Err E.TooNarrow }
-        ensures left { self.old.failure ≡ None → OnErr result
-            (StopsAtStage W.columns (decoration_of D.TextDecorator) call.new_line
-            (meant D.meaning self.old) (meant D.meaning self.new)) }
-        ensures kept { KeepsFailure (λ r. r.failure) self.old result self.new }
+        ensures fails { Fails (λ r. r.failure) kept_of self.old result self.new }
     {
         self.refusal()?;
         let done = self.try_append_columns(cols, &[], collapse);

@@ -3,11 +3,10 @@ ghost use Rattle.std.specs.Prelude.{◌≡◌, IfOk, IfErr, OnOk, OnErr};
 ghost use Rattle.std.specs.Option.{option_map};
 ghost use Rattle.tbr_lines.specs.declared.Error.TheVariants as E;
 ghost use Rattle.tbr_decor.specs.Decoration.{decoration_of};
+ghost use Rattle.tbr_renderer.specs.Renderer.{kept_of};
 ghost use Rattle.tbr_renderer.specs.Meant.{meant};
 ghost use Rattle.tbr_renderer.specs.View.{ground_of};
 ghost use Rattle.tbr_renderer.specs.Decorated.{asked_for_colour, asked_to_end, coloured, uncoloured};
-ghost use Rattle.tbr_renderer.specs.Calls as call;
-ghost use Rattle.tbr_renderer.specs.Calls.{StopsAtStage};
 
 use crate::sub::SubRenderer;
 use tbr_decor::{Colour, TextDecorator};
@@ -44,8 +43,7 @@ impl<D: TextDecorator, W: CharWidth> SubRenderer<D, W> {
         ensures ok { OnOk result (meant D.meaning self.new
             ≡ coloured (decoration_of D.TextDecorator) (ground_of ground) colour (meant D.meaning self.old)) }
         ensures memory { IfErr result (λ e. e ≡ E.OutOfMemory) }
-        ensures stopped { OnErr result (StopsAtStage W.columns (decoration_of D.TextDecorator)
-            (call.push_colour (ground_of ground) colour) (meant D.meaning self.old) (meant D.meaning self.new)) }
+        ensures kept { kept_of (meant D.meaning self.new) ≡ kept_of (meant D.meaning self.old) }
     {
         if let Some(annotation) = self.ask_for_colour(ground, colour)? {
             self.push_annotation(annotation)?;

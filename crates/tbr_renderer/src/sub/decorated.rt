@@ -3,11 +3,11 @@ ghost use Rattle.std.specs.Prelude.{◌≡◌, ◌≢◌, ◌≤◌, None, Err, 
 ghost use Rattle.tbr_lines.specs.View.{chars_of};
 ghost use Rattle.tbr_lines.specs.declared.Error.TheVariants as E;
 ghost use Rattle.tbr_decor.specs.Decoration.{decoration_of};
-ghost use Rattle.tbr_renderer.specs.Renderer.{KeepsSettings, block_width, with_annotation, without_annotation};
+ghost use Rattle.tbr_renderer.specs.Renderer.{kept_of, block_width, with_annotation, without_annotation};
 ghost use Rattle.tbr_renderer.specs.Meant.{meant};
 ghost use Rattle.tbr_renderer.specs.View.{start_of, end_of};
 ghost use Rattle.tbr_renderer.specs.Calls as call;
-ghost use Rattle.tbr_renderer.specs.Calls.{KeepsFailure, StopsAtStage};
+ghost use Rattle.tbr_renderer.specs.Calls.{Does, IsTooNarrow, Answers};
 ghost use Rattle.tbr_renderer.specs.Decorated.{asked_to_open, annotated, asked_to_close, Opens, OpenIsTooNarrow, Closes, CloseIsTooNarrow};
 
 use crate::sub::SubRenderer;
@@ -109,8 +109,7 @@ impl<D: TextDecorator, W: CharWidth> SubRenderer<D, W> {
             ≡ annotated (decoration_of D.TextDecorator) (start_of start.entry) (meant D.meaning self.old)) }
         ensures failure { self.new.failure ≡ self.old.failure }
         ensures columns { block_width self.new ≡ block_width self.old }
-        ensures stopped { OnErr result (StopsAtStage W.columns (decoration_of D.TextDecorator)
-            (call.begin (start_of start.entry)) (meant D.meaning self.old) (meant D.meaning self.new)) }
+        ensures kept { kept_of (meant D.meaning self.new) ≡ kept_of (meant D.meaning self.old) }
     {
         let (text, annotation) = self.ask_to_open(start)?;
         self.push_annotation(annotation)?;
@@ -125,10 +124,7 @@ impl<D: TextDecorator, W: CharWidth> SubRenderer<D, W> {
         ensures too_narrow { result ≡ Err E.TooNarrow → OpenIsTooNarrow W.columns
             (decoration_of D.TextDecorator) (start_of start.entry) (meant D.meaning self.old) }
         ensures two_columns { 2 ≤ block_width self.old → result ≢ Err E.TooNarrow }
-        ensures settings { OnOk result (KeepsSettings (annotated (decoration_of D.TextDecorator)
-            (start_of start.entry) (meant D.meaning self.old)) (meant D.meaning self.new)) }
-        ensures stopped { OnErr result (StopsAtStage W.columns (decoration_of D.TextDecorator)
-            (call.begin (start_of start.entry)) (meant D.meaning self.old) (meant D.meaning self.new)) }
+        ensures kept { kept_of (meant D.meaning self.new) ≡ kept_of (meant D.meaning self.old) }
     {
         let text = self.annotate(start)?;
         self.try_add_text(text.as_str())
@@ -136,14 +132,10 @@ impl<D: TextDecorator, W: CharWidth> SubRenderer<D, W> {
 
     /// Opens decorated text, and keeps a refusal.
     pub(crate) fn begin(&mut self, start: Start) -> Result<(), Error>
-        ensures ok { OnOk result (Opens W.columns (decoration_of D.TextDecorator) (start_of start.entry)
-            (meant D.meaning self.old) (meant D.meaning self.new)) }
-        ensures too_narrow { self.old.failure ≡ None → result ≡ Err E.TooNarrow → OpenIsTooNarrow W.columns
-            (decoration_of D.TextDecorator) (start_of start.entry) (meant D.meaning self.old) }
-        ensures two_columns { self.old.failure ≡ None → 2 ≤ block_width self.old → result ≢ Err E.TooNarrow }
-        ensures left { self.old.failure ≡ None → OnErr result (StopsAtStage W.columns (decoration_of D.TextDecorator)
-            (call.begin (start_of start.entry)) (meant D.meaning self.old) (meant D.meaning self.new)) }
-        ensures kept { KeepsFailure (λ r. r.failure) self.old result self.new }
+        ensures answers { Answers
+            (λ c old new. Does W.columns (decoration_of D.TextDecorator) c (meant D.meaning old) (meant D.meaning new))
+            (λ c old. IsTooNarrow W.columns (decoration_of D.TextDecorator) c (meant D.meaning old))
+            (λ r. r.failure) kept_of (call.begin (start_of start.entry)) self.old result self.new }
     {
         self.refusal()?;
         let done = self.try_open(start);
@@ -158,8 +150,7 @@ impl<D: TextDecorator, W: CharWidth> SubRenderer<D, W> {
         ensures too_narrow { result ≡ Err E.TooNarrow → CloseIsTooNarrow W.columns
             (decoration_of D.TextDecorator) (end_of end) (meant D.meaning self.old) }
         ensures two_columns { 2 ≤ block_width self.old → result ≢ Err E.TooNarrow }
-        ensures stopped { OnErr result (StopsAtStage W.columns (decoration_of D.TextDecorator)
-            (call.finish (end_of end)) (meant D.meaning self.old) (meant D.meaning self.new)) }
+        ensures kept { kept_of (meant D.meaning self.new) ≡ kept_of (meant D.meaning self.old) }
     {
         let text = self.ask_to_close(end)?;
         self.try_add_text(text.as_str())?;
@@ -169,14 +160,10 @@ impl<D: TextDecorator, W: CharWidth> SubRenderer<D, W> {
 
     /// Closes decorated text, and keeps a refusal.
     pub(crate) fn finish(&mut self, end: End) -> Result<(), Error>
-        ensures ok { OnOk result (Closes W.columns (decoration_of D.TextDecorator) (end_of end)
-            (meant D.meaning self.old) (meant D.meaning self.new)) }
-        ensures too_narrow { self.old.failure ≡ None → result ≡ Err E.TooNarrow → CloseIsTooNarrow W.columns
-            (decoration_of D.TextDecorator) (end_of end) (meant D.meaning self.old) }
-        ensures two_columns { self.old.failure ≡ None → 2 ≤ block_width self.old → result ≢ Err E.TooNarrow }
-        ensures left { self.old.failure ≡ None → OnErr result (StopsAtStage W.columns (decoration_of D.TextDecorator)
-            (call.finish (end_of end)) (meant D.meaning self.old) (meant D.meaning self.new)) }
-        ensures kept { KeepsFailure (λ r. r.failure) self.old result self.new }
+        ensures answers { Answers
+            (λ c old new. Does W.columns (decoration_of D.TextDecorator) c (meant D.meaning old) (meant D.meaning new))
+            (λ c old. IsTooNarrow W.columns (decoration_of D.TextDecorator) c (meant D.meaning old))
+            (λ r. r.failure) kept_of (call.finish (end_of end)) self.old result self.new }
     {
         self.refusal()?;
         let done = self.try_close(end);

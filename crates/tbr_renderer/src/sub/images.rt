@@ -2,11 +2,9 @@
 ghost use Rattle.std.specs.Prelude.{◌≡◌, ◌≢◌, ◌≤◌, None, Err, OnOk, OnErr, chars};
 ghost use Rattle.tbr_lines.specs.declared.Error.TheVariants as E;
 ghost use Rattle.tbr_decor.specs.Decoration.{decoration_of};
-ghost use Rattle.tbr_renderer.specs.Renderer.{block_width};
+ghost use Rattle.tbr_renderer.specs.Renderer.{kept_of, block_width};
 ghost use Rattle.tbr_renderer.specs.Meant.{meant};
 ghost use Rattle.tbr_renderer.specs.Decorated.{AddsImage, ImageIsTooNarrow};
-ghost use Rattle.tbr_renderer.specs.Calls as call;
-ghost use Rattle.tbr_renderer.specs.Calls.{StopsAtStage};
 
 use crate::sub::SubRenderer;
 use crate::sub::decorated::Start;
@@ -22,8 +20,7 @@ impl<D: TextDecorator, W: CharWidth> SubRenderer<D, W> {
         ensures too_narrow { result ≡ Err E.TooNarrow → ImageIsTooNarrow W.columns
             (decoration_of D.TextDecorator) (chars src.now) (chars title.now) (meant D.meaning self.old) }
         ensures two_columns { 2 ≤ block_width self.old → result ≢ Err E.TooNarrow }
-        ensures stopped { OnErr result (StopsAtStage W.columns (decoration_of D.TextDecorator)
-            (call.add_image (chars src.now) (chars title.now)) (meant D.meaning self.old) (meant D.meaning self.new)) }
+        ensures kept { kept_of (meant D.meaning self.new) ≡ kept_of (meant D.meaning self.old) }
     {
         let Some(title) = self.options.img_mode.shown_title(src, title) else {
             return Ok(());

@@ -8,12 +8,12 @@ ghost use Rattle.tbr_lines.specs.declared.Error.TheVariants as E;
 ghost use Rattle.tbr_decor.specs.Change as change;
 ghost use Rattle.tbr_decor.specs.Meant.{lines_meant};
 ghost use Rattle.tbr_decor.specs.Meant as decor;
-ghost use Rattle.tbr_renderer.specs.Calls.{KeepsFailure};
+ghost use Rattle.tbr_renderer.specs.Calls.{Fails};
 ghost use Rattle.tbr_renderer.specs.Cutting.{texts_meant};
 ghost use Rattle.tbr_renderer.specs.Footnotes.{listed, with_footnotes};
 ghost use Rattle.tbr_renderer.specs.Footnotes as model;
 ghost use Rattle.tbr_renderer.specs.Meant.{meant};
-ghost use Rattle.tbr_renderer.specs.Renderer.{KeepsSettings};
+ghost use Rattle.tbr_renderer.specs.Renderer.{KeepsSettings, kept_of};
 
 use crate::footnote::FootnoteLines;
 use crate::sub::SubRenderer;
@@ -35,15 +35,14 @@ impl<D: TextDecorator, W: CharWidth> SubRenderer<D, W> {
             }) }
         ensures memory { self.old.failure ≡ None → result ≢ Err E.TooNarrow }
         ensures left { self.old.failure ≡ None → IfErr result (λ e. self.new ≡ record self.old { failure = Some e }) }
-        ensures kept { KeepsFailure (λ r. r.failure) self.old result self.new }
+        ensures fails { Fails (λ r. r.failure) kept_of self.old result self.new }
     {
         self.refusal()?;
         match self.footnotes(links) {
             Ok(lines) => Ok(lines),
             Err(e) => {
-                let e = Error::from(e);
                 self.fail(e);
-                Err(e)
+                Err(Error::OutOfMemory)
             }
         }
     }
@@ -79,9 +78,7 @@ impl<D: TextDecorator, W: CharWidth> SubRenderer<D, W> {
         ensures ok { OnOk result (meant D.meaning self.new
             ≡ with_footnotes W.columns (meant D.meaning self.old) (lines_meant D.meaning links.items)) }
         ensures memory { self.old.failure ≡ None → result ≢ Err E.TooNarrow }
-        ensures left { self.old.failure ≡ None →
-            OnErr result (KeepsSettings (meant D.meaning self.old) (meant D.meaning self.new)) }
-        ensures kept { KeepsFailure (λ r. r.failure) self.old result self.new }
+        ensures fails { Fails (λ r. r.failure) kept_of self.old result self.new }
     {
         self.refusal()?;
         let done = self.try_fmt_links(links);

@@ -4,11 +4,9 @@ ghost use Rattle.tbr_lines.specs.declared.Error.TheVariants as E;
 ghost use Rattle.tbr_decor.specs.Decoration.{decoration_of};
 ghost use Rattle.tbr_decor.specs.Start as start;
 ghost use Rattle.tbr_decor.specs.End as end;
-ghost use Rattle.tbr_renderer.specs.Renderer.{block_width};
+ghost use Rattle.tbr_renderer.specs.Renderer.{kept_of, block_width};
 ghost use Rattle.tbr_renderer.specs.Meant.{meant};
 ghost use Rattle.tbr_renderer.specs.Decorated.{struck_from, struck_until, OpenIsTooNarrow, CloseIsTooNarrow, OpensStrikeout, ClosesStrikeout};
-ghost use Rattle.tbr_renderer.specs.Calls as call;
-ghost use Rattle.tbr_renderer.specs.Calls.{StopsAtStage};
 
 use crate::sub::SubRenderer;
 use crate::sub::decorated::{End, Start};
@@ -44,6 +42,13 @@ impl<D: TextDecorator, W: CharWidth> SubRenderer<D, W> {
         }
     }
 
+    /// Sets how many strikeouts are open.
+    fn set_strikeouts(&mut self, depth: usize)
+        ensures { self.new ≡ record self.old { strikeouts = depth } }
+    {
+        self.strikeouts = depth;
+    }
+
     /// Opens a strikeout, after whose own text characters have strokes.
     pub(crate) fn try_start_strikeout(&mut self) -> Result<(), Error>
         requires { self.old.failure ≡ None }
@@ -52,14 +57,13 @@ impl<D: TextDecorator, W: CharWidth> SubRenderer<D, W> {
         ensures too_narrow { result ≡ Err E.TooNarrow → OpenIsTooNarrow W.columns
             (decoration_of D.TextDecorator) start.strikeout (meant D.meaning self.old) }
         ensures two_columns { 2 ≤ block_width self.old → result ≢ Err E.TooNarrow }
-        ensures stopped { OnErr result (StopsAtStage W.columns (decoration_of D.TextDecorator)
-            call.start_strikeout (meant D.meaning self.old) (meant D.meaning self.new)) }
+        ensures kept { OnErr result (kept_of (meant D.meaning self.new) ≡ kept_of (meant D.meaning self.old)) }
     {
         self.try_open(Start::Strikeout)?;
         self.strike()
     }
 
-    /// Closes a strikeout, whose own text has no strokes of it.
+    /// Closes a strikeout, whose own text has no strokes of it. Where that is refused, the strikeout stays open.
     pub(crate) fn try_end_strikeout(&mut self) -> Result<(), Error>
         requires unfailed { self.old.failure ≡ None }
         requires open { self.old.options.use_unicode_strikeout ≡ true → 0 < self.old.strikeouts }
@@ -68,10 +72,14 @@ impl<D: TextDecorator, W: CharWidth> SubRenderer<D, W> {
         ensures too_narrow { result ≡ Err E.TooNarrow → CloseIsTooNarrow W.columns
             (decoration_of D.TextDecorator) end.strikeout (struck_until (meant D.meaning self.old)) }
         ensures two_columns { 2 ≤ block_width self.old → result ≢ Err E.TooNarrow }
-        ensures stopped { OnErr result (StopsAtStage W.columns (decoration_of D.TextDecorator)
-            call.end_strikeout (meant D.meaning self.old) (meant D.meaning self.new)) }
+        ensures kept { OnErr result (kept_of (meant D.meaning self.new) ≡ kept_of (meant D.meaning self.old)) }
     {
+        let depth = self.strikeouts;
         self.end_strike();
-        self.try_close(End::Strikeout)
+        let done = self.try_close(End::Strikeout);
+        if done.is_err() {
+            self.set_strikeouts(depth);
+        }
+        done
     }
 }

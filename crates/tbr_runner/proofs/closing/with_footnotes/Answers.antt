@@ -29,7 +29,7 @@ returns-then-is_empty-clause-live g c = ap (λ r. r.failure) c.in_ok-footnotes.e
 pub returns-in_err-fmt_links-clause-too_narrow : goal.returns-in_err-fmt_links-clause-too_narrow
 returns-in_err-fmt_links-clause-too_narrow g c = λ narrow.
     let meaning = g.D.TextDecorator.meaning in
-    let beside = call_beside g.W.CharWidth.columns (decoration_of g.D.TextDecorator) start_block (meant meaning c.finalise.new.self) (meant meaning c.start_block.new.self) c.in_ok-start_block.ensures.ok in
+    let beside = call_beside g.W.CharWidth.columns (decoration_of g.D.TextDecorator) start_block (meant meaning c.finalise.new.self) (meant meaning c.start_block.new.self) c.in_ok-start_block.ensures.answers.ok in
     let live : c.start_block.new.self.failure ≡ None = beside.0 ∙ ap (λ r. r.failure) c.in_ok-footnotes.ensures.asked ∙ c.requires in
     let p = err_from_is_err_and c.from_residual-in_err-fmt_links.result c.from_residual-in_err-fmt_links.ensures.1 in
     let is : c.in_err-fmt_links.field-0.0 ≡ TooNarrow = cc (p.1, p.2, narrow) in
@@ -44,7 +44,7 @@ returns-clause-noted g c =
     let notes = c.in_ok-footnotes.footnotes in
     let begun = meant meaning c.start_block.new.self in
     let some : (length notes.items == 0) ≡ false = ap (λ n. n == 0) (sym notes.ok.0) ∙ sym c.if-is_empty.ensures in
-    let starts = subst (λ q. StartsBlock columns q begun) (ap (λ r. meant meaning r) c.in_ok-footnotes.ensures.asked) c.in_ok-start_block.ensures.ok in
+    let starts = subst (λ q. StartsBlock columns q begun) (ap (λ r. meant meaning r) c.in_ok-footnotes.ensures.asked) c.in_ok-start_block.ensures.answers.ok in
     closed_with columns decoration targets (meant meaning c.args.renderer) meaning notes.items begun (meant meaning c.fmt_links.new.self) starts c.in_ok-fmt_links.ensures.ok c.in_ok-footnotes.ensures.lines some
 
 pub returns-clause-live : goal.returns-clause-live
@@ -55,7 +55,7 @@ returns-clause-live g c =
     let targets = map chars_of c.args.targets.items in
     let notes = c.in_ok-footnotes.footnotes in
     let begun = meant meaning c.start_block.new.self in
-    let starts = subst (λ q. StartsBlock columns q begun) (ap (λ r. meant meaning r) c.in_ok-footnotes.ensures.asked) c.in_ok-start_block.ensures.ok in
-    let beside = call_beside columns decoration start_block (meant meaning c.finalise.new.self) begun c.in_ok-start_block.ensures.ok in
+    let starts = subst (λ q. StartsBlock columns q begun) (ap (λ r. meant meaning r) c.in_ok-footnotes.ensures.asked) c.in_ok-start_block.ensures.answers.ok in
+    let beside = call_beside columns decoration start_block (meant meaning c.finalise.new.self) begun c.in_ok-start_block.ensures.answers.ok in
     let live : c.start_block.new.self.failure ≡ None = beside.0 ∙ ap (λ r. r.failure) c.in_ok-footnotes.ensures.asked ∙ c.requires in
     unfailed columns decoration targets (meant meaning c.args.renderer) meaning notes.items begun (meant meaning c.fmt_links.new.self) starts c.in_ok-fmt_links.ensures.ok live

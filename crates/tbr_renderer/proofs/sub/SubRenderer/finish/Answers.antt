@@ -1,23 +1,21 @@
-use Rattle.std.specs.Prelude.{map}
 use Rattle.std.specs.Global.{Vec}
 use Rattle.tbr_decor.specs.Decoration.{decoration_of}
 use Rattle.tbr_renderer.specs.Meant.{meant}
-use Rattle.tbr_renderer.specs.Renderer.{Renderer, settings_of, IsOneOf}
 use Rattle.tbr_renderer.specs.View.{end_of}
-use Rattle.tbr_renderer.specs.Decorated.{Closes}
-use Rattle.tbr_renderer.specs.Calls.{close_stages}
-use Rattle.tbr_renderer.proofs.Kept.{kept_ok}
-use Rattle.tbr_renderer.proofs.Stages.{kept_left}
+use Rattle.tbr_renderer.specs.Renderer.{Renderer, kept_of}
+use Rattle.tbr_renderer.specs.Calls.{finish, Does, IsTooNarrow}
+use Rattle.tbr_renderer.proofs.Kept.{kept_answers}
+use Rattle.tbr_renderer.proofs.Stages.{on_err}
 use Rattle.tbr_renderer.proofs.sub.SubRenderer.finish.Goals as goal
 
-pub returns-clause-ok : goal.returns-clause-ok
-returns-clause-ok g c =
+pub returns : goal.returns
+returns g c =
     let f = g.D.TextDecorator.meaning in
-    kept_ok (λ (r : Renderer g.row.D.Denot g.row.D-Annotation.Denot (Vec g.row.D-Annotation.Denot)). Closes g.W.CharWidth.columns (decoration_of g.D.TextDecorator) (end_of c.args.end) (meant f c.args.self.now) (meant f r))
-    c.keep.result c.try_close-done.result c.try_close-done.new.self c.keep.new.self c.keep.ensures.result c.keep.ensures.ok c.try_close-done.ensures.ok
-
-pub returns-clause-left : goal.returns-clause-left
-returns-clause-left g c = λ live.
-    let f = g.D.TextDecorator.meaning in
-    let stages = map settings_of (close_stages g.W.CharWidth.columns (decoration_of g.D.TextDecorator) (end_of c.args.end) (meant f c.args.self.now)) in
-    kept_left (λ v. IsOneOf v stages) c.keep.result c.try_close-done.result (settings_of (meant f c.try_close-done.new.self)) (settings_of (meant f c.keep.new.self)) c.keep.ensures.result c.keep.ensures.settings c.try_close-done.ensures.stopped
+    let columns = g.W.CharWidth.columns in
+    let tried = c.try_close-done in
+    record { answers = kept_answers
+    (λ call (r s : Renderer g.row.D.Denot g.row.D-Annotation.Denot (Vec g.row.D-Annotation.Denot)). Does columns (decoration_of g.D.TextDecorator) call (meant f r) (meant f s))
+    (λ call (r : Renderer g.row.D.Denot g.row.D-Annotation.Denot (Vec g.row.D-Annotation.Denot)). IsTooNarrow columns (decoration_of g.D.TextDecorator) call (meant f r))
+    (λ r. r.failure) (λ r. kept_of r) (finish (end_of c.args.end)) c.args.self.now tried.new.self c.keep.new.self c.keep.result tried.result
+    c.in_ok-refusal.ensures c.keep.ensures.result c.keep.ensures.ok c.keep.ensures.failed tried.ensures.ok tried.ensures.too_narrow tried.ensures.two_columns
+    (on_err tried.result tried.ensures.kept) }

@@ -7,8 +7,8 @@ use Rattle.tbr_renderer.specs.Renderer.{Renderer}
 use Rattle.tbr_renderer.specs.Decorated.{Closes}
 use Rattle.tbr_renderer.proofs.sub.SubRenderer.try_end_strikeout.Goals as goal
 
-pub returns-clause-ok : goal.returns-clause-ok
-returns-clause-ok g c =
+pub returns-else-is_err-clause-ok : goal.returns-else-is_err-clause-ok
+returns-else-is_err-clause-ok g c =
     let M = g.D.TextDecorator.Meaning in
-    subst (λ (r : Renderer g.row.D.Denot M (List M)). OnOk c.try_close.result (Closes g.W.CharWidth.columns (decoration_of g.D.TextDecorator) end.strikeout r (meant g.D.TextDecorator.meaning c.try_close.new.self)))
-    c.end_strike.ensures.ended c.try_close.ensures.ok
+    subst (λ (r : Renderer g.row.D.Denot M (List M)). OnOk c.try_close-done.result (Closes g.W.CharWidth.columns (decoration_of g.D.TextDecorator) end.strikeout r (meant g.D.TextDecorator.meaning c.try_close-done.new.self)))
+    c.end_strike.ensures.ended c.try_close-done.ensures.ok

@@ -1,6 +1,7 @@
 use Rattle.std.proofs.Common.{◌≡◌, Some, chars, inl, inr, sym, subst, ap, ◌∙◌}
 use Rattle.std.proofs.lemmas.Result.{on_ok_weaker, on_err_weaker}
 use Rattle.tbr_renderer.specs.Meant.{meant}
+use Rattle.tbr_renderer.specs.Renderer.{kept_of}
 use Rattle.tbr_renderer.proofs.Stages.{on_err}
 use Rattle.tbr_lines.specs.declared.Error.TheVariants.{OutOfMemory}
 use Rattle.tbr_stack.specs.Stack.{top_of}
@@ -17,18 +18,18 @@ returns-in_err-keep-clause-left g c unfailed =
 pub returns-clause-ok : goal.returns-clause-ok
 returns-clause-ok g c =
     let is = (c.in_ok-keep.ensures).ok ∙ if_ok c.open_link-done.result (c.in_ok-keep.ensures).result c.open_link-done.ensures.ok in
-    on_ok_weaker c.start_link.result (λ h. changes_linked g.D.TextDecorator.meaning _ (chars c.args.target.now) c.args.self.now c.keep.new.self c.top_mut.result.now c.start_link.new.self is c.top_mut.ensures.top h) c.start_link.ensures.ok
+    on_ok_weaker c.start_link.result (λ h. changes_linked g.D.TextDecorator.meaning _ (chars c.args.target.now) c.args.self.now c.keep.new.self c.top_mut.result.now c.start_link.new.self is c.top_mut.ensures.top h) c.start_link.ensures.answers.ok
 
 pub returns-clause-too_narrow : goal.returns-clause-too_narrow
 returns-clause-too_narrow g c unfailed refused =
     let is = (c.in_ok-keep.ensures).ok ∙ if_ok c.open_link-done.result (c.in_ok-keep.ensures).result c.open_link-done.ensures.ok in
     let top = sym (top_linked (chars c.args.target.now) c.args.self.now) ∙ sym (ap (λ s. top_of s) is) ∙ c.top_mut.ensures.top in
     let live = sym (failure_of_top c.args.self.now c.top_mut.result.now top) ∙ unfailed in
-    of_top g.D.TextDecorator.meaning _ c.args.self.now c.top_mut.result.now top (c.start_link.ensures.too_narrow live refused)
+    of_top g.D.TextDecorator.meaning _ c.args.self.now c.top_mut.result.now top (c.start_link.ensures.answers.too_narrow live refused)
 
 pub returns-clause-left : goal.returns-clause-left
 returns-clause-left g c unfailed =
     let is = (c.in_ok-keep.ensures).ok ∙ if_ok c.open_link-done.result (c.in_ok-keep.ensures).result c.open_link-done.ensures.ok in
     let top = sym (top_linked (chars c.args.target.now) c.args.self.now) ∙ sym (ap (λ s. top_of s) is) ∙ c.top_mut.ensures.top in
     let live = sym (failure_of_top c.args.self.now c.top_mut.result.now top) ∙ unfailed in
-    on_err_weaker c.start_link.result (λ h. inr (changes_linked g.D.TextDecorator.meaning _ (chars c.args.target.now) c.args.self.now c.keep.new.self c.top_mut.result.now c.start_link.new.self is c.top_mut.ensures.top h)) (c.start_link.ensures.left live)
+    on_err_weaker c.start_link.result (λ h. inr (changes_linked g.D.TextDecorator.meaning (λ r q. kept_of q ≡ kept_of r) (chars c.args.target.now) c.args.self.now c.keep.new.self c.top_mut.result.now c.start_link.new.self is c.top_mut.ensures.top h)) c.start_link.ensures.answers.fails.kept

@@ -1,14 +1,14 @@
-use Rattle.std.proofs.Common.{◌≡◌, List, map, length, ◌∙◌, sym}
+use Rattle.std.proofs.Common.{◌≡◌, List, map, length, ◌∙◌, sym, ap}
 use Rattle.std.specs.Prelude.{replicate}
 use Rattle.std.specs.List.{AllZip}
 use Rattle.std.specs.Global.{Vec}
 use Rattle.std.proofs.lemmas.Result.{on_ok_weaker}
 use Rattle.tbr_lines.specs.declared.CellAlign.TheVariants.{Left}
 use Rattle.tbr_renderer.specs.Meant.{meant}
-use Rattle.tbr_renderer.specs.Renderer.{Renderer}
+use Rattle.tbr_renderer.specs.Renderer.{Renderer, Settings, kept_of}
 use Rattle.tbr_renderer.specs.Rows.{GivenCell, align_in, AppendsRow}
-use Rattle.tbr_renderer.proofs.Kept.{kept_ok}
 use Rattle.tbr_renderer.proofs.Stages.{on_err}
+use Rattle.tbr_renderer.proofs.Kept.{kept_ok, kept_fails, refused_fails}
 use Rattle.tbr_renderer.proofs.Rowing.{Gives, none_aligned}
 use Rattle.tbr_renderer.proofs.sub.calls.SubRendererRenderer.append_columns_with_borders.Goals as goal
 
@@ -25,5 +25,9 @@ returns-clause-ok g c =
 pub returns-clause-too_narrow : goal.returns-clause-too_narrow
 returns-clause-too_narrow g c = λ live is. c.try_append_columns-done.ensures.too_narrow (sym c.keep.ensures.result ∙ is)
 
-pub returns-clause-left : goal.returns-clause-left
-returns-clause-left g c = λ live. on_err c.keep.result (c.keep.ensures.settings ∙ c.try_append_columns-done.ensures.settings)
+pub returns-clause-fails : goal.returns-clause-fails
+returns-clause-fails g c = kept_fails (λ r. r.failure) (λ r. kept_of r) c.args.self.now c.try_append_columns-done.new.self c.keep.new.self c.keep.result c.in_ok-refusal.ensures c.keep.ensures.failed
+    (on_err c.keep.result (ap (λ (k : Settings g.row.D.Denot g.D.TextDecorator.Meaning). k.kept) c.try_append_columns-done.ensures.settings))
+
+pub returns-in_err-refusal-clause-fails : goal.returns-in_err-refusal-clause-fails
+returns-in_err-refusal-clause-fails g c = refused_fails (λ r. r.failure) (λ r. kept_of r) c.args.self.now c.in_err-refusal.field-0.0 c.from_residual.result c.in_err-refusal.ensures c.from_residual.ensures.1

@@ -2,9 +2,10 @@ use Rattle.std.proofs.Common.{◌≡◌, ◌∙◌, inl, inr, ap, sym, length, E
 use Rattle.std.specs.Global.{Vec}
 use Rattle.tbr_lines.specs.declared.Error.TheVariants.{TooNarrow}
 use Rattle.tbr_renderer.specs.Meant.{meant}
-use Rattle.tbr_renderer.specs.Renderer.{Line, Renderer}
+use Rattle.tbr_renderer.specs.Renderer.{Line, Renderer, Settings, kept_of}
 use Rattle.tbr_renderer.specs.Appended.{GivesFirst, texts_of, HandsOut, AppendsLines}
-use Rattle.tbr_renderer.proofs.Kept.{kept_ok, of_refusal}
+use Rattle.tbr_renderer.proofs.Stages.{on_err}
+use Rattle.tbr_renderer.proofs.Kept.{kept_ok, kept_fails}
 use Rattle.tbr_renderer.proofs.sub.calls.SubRendererRenderer.append_subrender.Goals as goal
 
 pub returns-clause-ok : goal.returns-clause-ok
@@ -23,5 +24,9 @@ returns-clause-too_narrow g c = λ live is.
     let e : tried.result ≡ Err TooNarrow = sym c.keep.ensures.result ∙ is in
     elim (tried.ensures.too_narrow e) [
       | inl own ↦ inl own
-      | inr passed ↦ inr (tried.new.self, passed.0, passed.1, ap (meant f) (of_refusal _ c.keep.result TooNarrow is c.keep.ensures.left))
+      | inr passed ↦ inr ((tried.new.self, passed.0), passed.1)
     ]
+
+pub returns-clause-fails : goal.returns-clause-fails
+returns-clause-fails g c = kept_fails (λ r. r.failure) (λ r. kept_of r) c.args.self.now c.try_append_subrender-done.new.self c.keep.new.self c.keep.result c.in_ok-refusal.ensures c.keep.ensures.failed
+    (on_err c.keep.result (ap (λ (k : Settings g.row.D.Denot g.D.TextDecorator.Meaning). k.kept) c.try_append_subrender-done.ensures.settings))

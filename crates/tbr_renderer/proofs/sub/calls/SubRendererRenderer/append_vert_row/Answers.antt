@@ -1,10 +1,11 @@
-use Rattle.std.proofs.Common.{List}
+use Rattle.std.proofs.Common.{List, ap}
 use Rattle.std.specs.List.{AllZip}
 use Rattle.std.specs.Global.{Vec}
 use Rattle.tbr_renderer.specs.Meant.{meant}
-use Rattle.tbr_renderer.specs.Renderer.{Line, Renderer}
+use Rattle.tbr_renderer.specs.Renderer.{Line, Renderer, Settings, kept_of}
 use Rattle.tbr_renderer.specs.Appended.{HandsOut, AppendsCells}
-use Rattle.tbr_renderer.proofs.Kept.{kept_ok}
+use Rattle.tbr_renderer.proofs.Stages.{on_err}
+use Rattle.tbr_renderer.proofs.Kept.{kept_ok, kept_fails}
 use Rattle.tbr_renderer.proofs.sub.calls.SubRendererRenderer.append_vert_row.Goals as goal
 
 pub returns-clause-ok : goal.returns-clause-ok
@@ -15,3 +16,7 @@ returns-clause-ok g c =
     (cells : List (List (Line (List g.D.TextDecorator.Meaning)))) × AllZip (λ col lines. HandsOut columns (meant f col) lines) c.args.cols.items cells
     × AppendsCells columns cells (meant f c.args.self.now) (meant f r))
     c.keep.result c.try_append_vert_row-done.result c.try_append_vert_row-done.new.self c.keep.new.self c.keep.ensures.result c.keep.ensures.ok c.try_append_vert_row-done.ensures.ok
+
+pub returns-clause-fails : goal.returns-clause-fails
+returns-clause-fails g c = kept_fails (λ r. r.failure) (λ r. kept_of r) c.args.self.now c.try_append_vert_row-done.new.self c.keep.new.self c.keep.result c.in_ok-refusal.ensures c.keep.ensures.failed
+    (on_err c.keep.result (ap (λ (k : Settings g.row.D.Denot g.D.TextDecorator.Meaning). k.kept) c.try_append_vert_row-done.ensures.settings))
