@@ -4,10 +4,7 @@ use Rattle.std.specs.Prelude.{chars, ◌==◌, true}
 use Rattle.std.specs.Global.{Vec}
 use Rattle.std.specs.Iterator.{Yields}
 use Rattle.std.specs.Result.{IsErrAnd}
-use Rattle.std.specs.Vec.Iter.{into_iter_items, into_iter_steps}
-use Rattle.std.specs.declared.vec.IntoIter.{IntoIter}
 use Rattle.std.proofs.iter.Next.{Yields-more}
-use Rattle.std.proofs.IntoIterSteps.{All-taken}
 use Rattle.std.proofs.lemmas.Bool.{eqb-true}
 use Rattle.std.proofs.lemmas.Str.{chars-nil}
 use Rattle.std.proofs.lemmas.List.{map-append}
@@ -18,9 +15,10 @@ use Rattle.tbr_lines.specs.declared.Error.TheVariants.{TooNarrow}
 use Rattle.tbr_renderer.specs.Flush.{FlushIsTooNarrow}
 use Rattle.tbr_lines.specs.declared.RenderLine.{RenderLine}
 use Rattle.tbr_lines.specs.Elements.{text_items}
-use Rattle.tbr_renderer.specs.Meant.{tag_meant, map_line, meant}
-use Rattle.tbr_renderer.specs.Renderer.{Line, Renderer, Settings, KeepsSettings, with_line}
-use Rattle.tbr_renderer.specs.View.{line_seen}
+use Rattle.tbr_footnotes.specs.Tags.{tag_meant}
+use Rattle.tbr_renderer.specs.Meant.{map_line, meant}
+use Rattle.tbr_kept_lines.specs.Line.{Line, line_seen}
+use Rattle.tbr_renderer.specs.Renderer.{Renderer, Settings, KeepsSettings, with_line}
 use Rattle.tbr_lines.specs.Cell.{slash}
 use Rattle.tbr_renderer.specs.Appended.{GivesFirst, texts_of, FirstToRefuse, as_text, prefixed, HandsOut, HoldsBack, with_divider, with_cell, with_cell_below}
 use Rattle.std.specs.List.{AllZip, AllByRecursion as Each}
@@ -167,17 +165,6 @@ pub passed_on : {X Y : Type 0} (result : Result X Error) (inner : Result Y Error
 passed_on result inner e f is same came = came ∙ ap Err (sym (subst (λ (r : Result _ Error). IsErrAnd r (λ x. x ≡ e)) is same))
 
 -- ---- cells below one another
-
--- what is left of a vector where the first items were taken
-taken_front : {X Z : Type 0} (xs : List X) (s t : IntoIter X Z) → Yields into_iter_steps s xs t → into_iter_items s ≡ xs ++ into_iter_items t
-taken_front [] s t h = ap into_iter_items h
-taken_front (x ∷ xs) s t h = h.1.0 ∙ ap (λ ys. x ∷ ys) (taken_front xs h.0 t h.2)
-
-pub cols_left : {X Z : Type 0} (first s t u : IntoIter X Z) (xs : List X) (x : X) → s ≡ first → Yields into_iter_steps s xs t → into_iter_items t ≡ x ∷ into_iter_items u → into_iter_items first ≡ xs ++ x ∷ into_iter_items u
-cols_left first s t u xs x is taken next = ap into_iter_items (sym is) ∙ taken_front xs s t taken ∙ ap (λ ys. xs ++ ys) next
-
-pub cols_taken : {X Z : Type 0} (first s t u : IntoIter X Z) (xs : List X) → s ≡ first → Yields into_iter_steps s xs t → into_iter_steps t None u → into_iter_items first ≡ xs
-cols_taken first s t u xs is taken none = ap into_iter_items (sym is) ∙ sym (All-taken s xs (u, (t, taken, none)))
 
 -- all before a place give, and one there refuses
 pub refuses_behind : {S X : Type 0} (gives : S → X → Type 0) (refuses : S → Type 0) (before : List S) (one : S) (after : List S) (xs : List X) → AllZip gives before xs → refuses one → FirstToRefuse gives refuses (before ++ one ∷ after)

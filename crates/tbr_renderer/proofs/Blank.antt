@@ -8,10 +8,12 @@ use Rattle.tbr_lines.specs.Runs.{is_some_list}
 use Rattle.tbr_lines.specs.Block.{Block, lines, any_line, has_no_character}
 use Rattle.tbr_lines.specs.declared.Error.{Error}
 use Rattle.tbr_lines.proofs.BlockLaws.{none_ended}
-use Rattle.tbr_renderer.specs.Renderer.{Line, Open, Renderer, block_width, may_overflow}
+use Rattle.tbr_kept_lines.specs.Line.{Line}
+use Rattle.tbr_renderer.specs.Renderer.{Open, Renderer, block_width, may_overflow}
 use Rattle.tbr_renderer.specs.Appended.{HandsOut}
 use Rattle.tbr_renderer.specs.Flush.{block_in, block_lines, lines_at_end, names_at_end, flushed, FlushesBlock}
-use Rattle.tbr_renderer.specs.Meant.{tag_meant, map_line, map_open, meant}
+use Rattle.tbr_footnotes.specs.Tags.{tag_meant}
+use Rattle.tbr_renderer.specs.Meant.{map_line, map_open, meant}
 use Rattle.tbr_renderer.specs.View.{IsFresh, open_seen, block_seen}
 use Rattle.tbr_renderer.specs.Rows.{block_is_blank, is_blank}
 use Rattle.tbr_renderer.proofs.MappedBlocks.{any_line-map, has_no_character-map}

@@ -7,8 +7,10 @@ use Rattle.tbr_model.specs.Mapped.{map_items}
 use Rattle.tbr_lines.specs.Border.{Border, shown}
 use Rattle.tbr_rows.specs.Meant.{map_border}
 use Rattle.tbr_rows.proofs.MeantTexts as rows
-use Rattle.tbr_renderer.specs.Meant.{map_line, tag_meant, items_meant, meant}
-use Rattle.tbr_renderer.specs.Renderer.{Line, text, Renderer, line_padding}
+use Rattle.tbr_renderer.specs.Meant.{map_line, meant}
+use Rattle.tbr_footnotes.specs.Tags.{tag_meant, items_meant}
+use Rattle.tbr_kept_lines.specs.Line.{Line, text}
+use Rattle.tbr_renderer.specs.Renderer.{Renderer, line_padding}
 use Rattle.tbr_renderer.specs.Appended.{with_border, border_line}
 
 -- a border shows the same under other tags

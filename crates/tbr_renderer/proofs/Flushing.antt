@@ -17,11 +17,12 @@ use Rattle.tbr_lines.specs.declared.Error.TheVariants as E
 use Rattle.tbr_lines.proofs.LinesLeft.{handed_keeps, left_after}
 use Rattle.tbr_lines.proofs.BlockLaws.{HandsOne, flush_allowed, flush_leaves, taking_leaves, left_taken, left_flushed, waiting_loose}
 use Rattle.tbr_renderer.specs.Renderer.{KeepsSettings, settings_of, Open, Renderer, has_content, with_line, block_width, may_overflow}
-use Rattle.tbr_renderer.specs.Meant.{tag_meant, items_meant, map_open, meant}
+use Rattle.tbr_footnotes.specs.Tags.{tag_meant, items_meant}
+use Rattle.tbr_renderer.specs.Meant.{map_open, meant}
 use Rattle.tbr_renderer.specs.View.{block_seen, block_meant, names_of, AreMarkers, IsFresh}
 use Rattle.tbr_renderer.specs.Flush.{line_meant, block_lines, lines_at_end, names_at_end, fits_at_end, EndsBlock, FlushesBlock, Flushes, BlockIsTooNarrow, FlushIsTooNarrow}
 use Rattle.tbr_renderer.specs.Steps.{block_started, StartsBlock}
-use Rattle.tbr_renderer.proofs.Meanings.{text_items-map}
+use Rattle.tbr_footnotes.proofs.Tags.{text_items-map}
 use Rattle.tbr_lines.proofs.MappedTags.{means_same_items}
 use Rattle.tbr_renderer.proofs.MappedBlocks.{lines_meant, names_meant, fits_meant, flush_narrow, end_promised, end_narrow}
 

@@ -8,7 +8,7 @@ pub mod Bordering
 pub mod LineTexts
 pub mod Appending
 pub mod Fields
-pub mod KeptLines
+pub mod SameLines
 pub mod Lines
 pub mod Footnotes
 pub mod LinesAsTheyAre

@@ -5,14 +5,10 @@ use Rattle.tbr_model.specs.Run.{Item, glyph, marker}
 use Rattle.tbr_model.specs.Mapped.{map_items}
 use Rattle.tbr_lines.specs.Border.{shown}
 use Rattle.tbr_renderer.proofs.Bordering.{shown-map}
-use Rattle.tbr_lines.specs.RenderLine.{line_items}
 use Rattle.tbr_lines.specs.Walks.{item_characters}
-use Rattle.tbr_lines.specs.declared.RenderLine.{RenderLine}
-use Rattle.tbr_lines.specs.declared.RenderLine.TheVariants.{Text, Line as Rule}
 use Rattle.tbr_renderer.specs.Meant.{map_line}
-use Rattle.tbr_renderer.specs.Renderer.{Line, text, border}
-use Rattle.tbr_renderer.specs.Text.{items_shown, line_text, lines_text}
-use Rattle.tbr_renderer.specs.View.{line_seen}
+use Rattle.tbr_kept_lines.specs.Line.{Line, text, border}
+use Rattle.tbr_kept_lines.specs.Text.{line_text, lines_text}
 
 module _ {T U : Type 0} (f : T → U) where
   items_same : (is : List (Item T)) → item_characters (map_items f is) ≡ item_characters is
@@ -28,8 +24,3 @@ module _ {T U : Type 0} (f : T → U) where
   pub lines_same : (lines : List (Line T)) → lines_text (map (map_line f) lines) ≡ lines_text lines
   lines_same [] = refl
   lines_same (line ∷ lines) = ap (λ cs. cs ++ lines_text (map (map_line f) lines)) (line_same line) ∙ ap (λ cs. line_text line ++ cs) (lines_same lines)
-
--- a line of memory shows its items
-pub line_seen_shows : {T : Type 0} (line : RenderLine T) → items_shown (line_seen line) ≡ line_items line
-line_seen_shows (Text es) = refl
-line_seen_shows (Rule b) = refl

@@ -9,9 +9,10 @@ use Rattle.tbr_lines.specs.Elements.{SameItems}
 use Rattle.tbr_lines.specs.Block.{Block, left}
 use Rattle.tbr_lines.specs.Wrapped.{padding_of}
 use Rattle.tbr_lines.proofs.MappedTags.{means_same_items}
-use Rattle.tbr_renderer.specs.Renderer.{Line, text, Renderer, with_line}
-use Rattle.tbr_renderer.specs.KeptLines.{text_lines}
-use Rattle.tbr_renderer.specs.Meant.{tag_meant, items_meant, map_line, meant}
+use Rattle.tbr_kept_lines.specs.Line.{Line, text, text_lines}
+use Rattle.tbr_renderer.specs.Renderer.{Renderer, with_line}
+use Rattle.tbr_footnotes.specs.Tags.{tag_meant, items_meant}
+use Rattle.tbr_renderer.specs.Meant.{map_line, meant}
 use Rattle.tbr_renderer.specs.Flush.{line_meant, AddsAsIs}
 use Rattle.tbr_renderer.proofs.Meanings.{line_alone}
 

@@ -19,7 +19,8 @@ use Rattle.tbr_lines.specs.declared.Error.TheVariants as E
 use Rattle.tbr_model.specs.declared.white_space.WhiteSpace.{WhiteSpace}
 use Rattle.tbr_lines.specs.Runs.{is_some_list, text_entries, EndsRun, CharactersFit}
 use Rattle.tbr_renderer.specs.Renderer.{Open, Renderer, called, block_width, may_overflow}
-use Rattle.tbr_renderer.specs.Meant.{tag_meant, meant}
+use Rattle.tbr_footnotes.specs.Tags.{tag_meant}
+use Rattle.tbr_renderer.specs.Meant.{meant}
 use Rattle.tbr_renderer.specs.View.{block_meant, IsFresh}
 use Rattle.tbr_renderer.specs.Flush.{block_in, fits_grown, lines_at_end, names_at_end, fits_at_end, RunIsTooNarrow}
 use Rattle.tbr_model.proofs.maps.Rule.{progress-map, finished-map, waiting-map}

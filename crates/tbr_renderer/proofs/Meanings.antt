@@ -1,48 +1,29 @@
 -- What lines under lists of annotations mean.
-use Rattle.std.proofs.Common.{◌≡◌, arith, ℕ, ◌-◌, ◌↔◌, suc, length, slice_get, Bool, true, false, not, if◌then◌else◌, IsTrue, Option, None, Some, List, [], ◌∷◌, ◌++◌, map, refl, ap, sym, ◌∙◌}
+use Rattle.std.proofs.Common.{◌≡◌, arith, ℕ, ◌-◌, suc, length, slice_get, Bool, true, false, not, if◌then◌else◌, Option, None, Some, List, [], ◌∷◌, ◌++◌, map, refl, ap, sym, ◌∙◌}
 use Rattle.std.specs.Global.{Vec}
 use Rattle.std.specs.Vec.{vec_items}
 use Rattle.std.specs.List.{list_any}
 use Rattle.tbr_lines.specs.Border.{Hole, has_holes}
-use Rattle.std.specs.Cmp.Lexicographic.{pointwise}
-use Rattle.std.proofs.lemmas.Bool.{and_parts}
 use Rattle.std.proofs.lemmas.List.{map-append}
-use Rattle.tbr_model.specs.Run.{Item, glyph, marker, items_width}
+use Rattle.tbr_model.specs.Run.{Item, marker, items_width}
 use Rattle.tbr_model.specs.Mapped.{map_item, map_items}
 use Rattle.tbr_model.proofs.maps.Words.{items_width-map, has_character-map}
-use Rattle.tbr_lines.specs.Copies.{equal_lists}
 use Rattle.tbr_model.specs.Markers.{marker_items}
 use Rattle.tbr_lines.specs.Elements.{Element, marker_element, items_of, text_items}
 use Rattle.tbr_lines.specs.Padding.{spaces}
 use Rattle.tbr_model.specs.declared.white_space.WhiteSpace.{WhiteSpace}
 use Rattle.tbr_lines.specs.Block.{Block}
 use Rattle.tbr_lines.specs.Block as block
-use Rattle.tbr_renderer.specs.Renderer.{Line, text, border, line_has_content, Renderer, has_content, line_padding, with_filled, with_line, new_block, last_mode}
+use Rattle.tbr_kept_lines.specs.Line.{Line, text, border, line_has_content}
+use Rattle.tbr_renderer.specs.Renderer.{Renderer, has_content, line_padding, with_filled, with_line, new_block, last_mode}
 use Rattle.tbr_renderer.specs.Steps.{with_empty_line, block_started}
 use Rattle.tbr_rows.specs.Meant.{map_hole}
-use Rattle.tbr_renderer.specs.Meant.{tag_meant, items_meant, map_line, meant}
+use Rattle.tbr_footnotes.specs.Tags.{tag_meant, items_meant}
+use Rattle.tbr_footnotes.proofs.Tags.{text_items-map}
+use Rattle.tbr_renderer.specs.Meant.{map_line, meant}
 use Rattle.tbr_renderer.specs.View.{names_of, AreMarkers, block_meant}
 
--- equal lists of annotations mean the same
-module _ {A M : Type 0} (eq : A → A → Bool) (meaning : A → M) (by_meaning : (a b : A) → IsTrue (eq a b) ↔ (meaning a ≡ meaning b)) where
-  pub lists_mean : (xs ys : List A) → pointwise eq xs ys ≡ true → map meaning xs ≡ map meaning ys
-  lists_mean [] [] h = refl
-  lists_mean [] (y ∷ ys) h = cc
-  lists_mean (x ∷ xs) [] h = cc
-  lists_mean (x ∷ xs) (y ∷ ys) h =
-      let parts = and_parts (eq x y) (pointwise eq xs ys) h in
-      let first : meaning x ≡ meaning y = (by_meaning x y).0 parts.0 in
-      let rest = lists_mean xs ys parts.1 in
-      cc
-
-  pub tags_mean : (v w : Vec A) → equal_lists eq v w ≡ true → tag_meant meaning v ≡ tag_meant meaning w
-  tags_mean v w h = lists_mean (vec_items v) (vec_items w) h
-
 -- ---- padding
-
-pub text_items-map : {A B : Type 0} (f : A → B) (cs : List ℕ) (a : A) → map_items f (text_items cs a) ≡ text_items cs (f a)
-text_items-map f [] a = refl
-text_items-map {A} {B} f (c ∷ cs) a = ap (λ (is : List (Item B)). glyph c (f a) ∷ is) (text_items-map f cs a)
 
 module _ {D A M : Type 0} (f : A → M) (columns : ℕ → Option ℕ) (r : Renderer D A (Vec A)) where
   -- a line that is filled

@@ -4,7 +4,8 @@ use Rattle.std.specs.Global.{Vec}
 use Rattle.tbr_decor.specs.Decoration.{Decoration}
 use Rattle.tbr_renderer.specs.declared.options.RenderOptions.{RenderOptions}
 use Rattle.tbr_renderer.specs.Renderer.{Renderer, new_renderer}
-use Rattle.tbr_renderer.specs.Meant.{tag_meant, meant}
+use Rattle.tbr_footnotes.specs.Tags.{tag_meant}
+use Rattle.tbr_renderer.specs.Meant.{meant}
 use Rattle.tbr_renderer.specs.Steps.{AddsText}
 use Rattle.tbr_renderer.specs.Decorated.{sub_renderer}
 

@@ -1,14 +1,13 @@
 -- Rows under what their annotations mean.
-use Rattle.std.proofs.Common.{◌≡◌, ℕ, ◌+◌, zero, suc, ◌-◌, ◌<◌, ◌↔◌, IsTrue, Bool, true, false, if◌then◌else◌, is_some, is_none, Option, None, Some, unwrap_or, List, [], ◌∷◌, ◌++◌, map, fold, take, drop, length, get_or, refl, ap, sym, ◌∙◌, subst, arith}
+use Rattle.std.proofs.Common.{◌≡◌, ℕ, ◌+◌, zero, suc, ◌-◌, ◌<◌, ◌↔◌, IsTrue, Bool, true, if◌then◌else◌, is_some, is_none, Option, None, Some, unwrap_or, List, [], ◌∷◌, ◌++◌, map, fold, take, drop, length, get_or, refl, ap, sym, ◌∙◌, subst, arith}
 use Rattle.std.specs.Borrow.{Bor}
-use Rattle.std.specs.Prelude.{IsSome, IfSome, replicate}
+use Rattle.std.specs.Prelude.{replicate}
 use Rattle.std.specs.Option.{MatchOption, option_copied, option_map}
 use Rattle.std.specs.Global.{Vec}
 use Rattle.std.specs.Vec.{vec_items}
 use Rattle.std.specs.List.{AllZip, AllByRecursion as Each}
 use Rattle.std.specs.Cmp.Lexicographic.{pointwise}
 use Rattle.std.proofs.lemmas.List.{map-append, length-map, take-map, length-append, take_more, nil_from_length}
-use Rattle.std.proofs.Math.Seq.{take-append_seam}
 use Rattle.tbr_model.specs.Run.{Item, items_width}
 use Rattle.tbr_model.specs.Mapped.{map_items}
 use Rattle.tbr_lines.specs.Border.{Border}
@@ -31,12 +30,14 @@ use Rattle.tbr_rows.specs.declared.LineSet.{LineSet as Cell}
 use Rattle.tbr_rows.proofs.Fitted.{spots_are, fits_with_fewer_lines}
 use Rattle.tbr_rows.proofs.MeantRows.{filled_means, fits_mean, row_means}
 use Rattle.tbr_rows.proofs.MeantTexts.{items-map, longest_means}
-use Rattle.tbr_renderer.specs.Renderer.{Line, text, border, Open, Renderer, without_last, with_line}
-use Rattle.tbr_renderer.specs.Meant.{tag_meant, map_line, meant}
-use Rattle.tbr_renderer.specs.View.{line_seen}
+use Rattle.tbr_kept_lines.specs.Line.{Line, text, border, line_seen}
+use Rattle.tbr_renderer.specs.Renderer.{Open, Renderer, with_line}
+use Rattle.tbr_kept_lines.specs.LastBorder.{border_in, without_last, last_border, before_border}
+use Rattle.tbr_footnotes.specs.Tags.{tag_meant}
+use Rattle.tbr_renderer.specs.Meant.{map_line, meant}
 use Rattle.tbr_renderer.specs.Flush.{block_lines, lines_at_end, Flushes, FlushesBlock}
 use Rattle.tbr_renderer.specs.Appended.{HandsOut}
-use Rattle.tbr_renderer.specs.Rows.{is_rule, is_border, is_blank, looks, spots_of, LeavesFree, GivenCell, align_in, GivesCell, FillsCell, ComesAs, aligned_as, border_in, last_border, before_border, border_lines, style_in, with_next, with_row_behind, with_row}
+use Rattle.tbr_renderer.specs.Rows.{is_blank, looks, spots_of, LeavesFree, GivenCell, align_in, GivesCell, FillsCell, ComesAs, aligned_as, border_lines, style_in, with_next, with_row_behind, with_row}
 use Rattle.tbr_renderer.proofs.Blank.{blank_hands_none, blank_meant}
 
 -- ---- lists of annotations that mean the same are equal
@@ -82,40 +83,6 @@ module _ {T U : Type 0} (f : T → U) where
   pub border_lines-map : (o : Option (Border T)) → map (map_line f) (border_lines o) ≡ border_lines (option_map (map_border f) o)
   border_lines-map None = refl
   border_lines-map (Some b) = refl
-
--- the last line decides
-last_behind : {T : Type 0} (front : List (Line T)) (l : Line T) → last_border (front ++ l ∷ []) ≡ border_in l
-last_behind [] l = refl
-last_behind (x ∷ []) l = refl
-last_behind (x ∷ y ∷ front) l = last_behind (y ∷ front) l
-
-front_behind : {X : Type 0} (front : List X) (x : X) → without_last (front ++ x ∷ []) ≡ front
-front_behind front x = ap (λ n. take (n - 1) (front ++ x ∷ [])) (length-append front (x ∷ [])) ∙ ap (λ n. take n (front ++ x ∷ [])) (let n : length front + 1 - 1 ≡ length front = omega arith in n) ∙ take-append_seam front (x ∷ [])
-
-module _ {T : Type 0} (ls front : List (Line T)) (b : Border T) (is : ls ≡ front ++ border b ∷ []) where
-  pub border_is : last_border ls ≡ Some b
-  border_is = ap last_border is ∙ last_behind front (border b)
-
-  pub front_is : before_border ls ≡ front
-  front_is = ap before_border is ∙ ap (λ (o : Option (Border T)). if is_some o then without_last (front ++ border b ∷ []) else front ++ border b ∷ []) (last_behind front (border b)) ∙ front_behind front (border b)
-
--- no border where the last line in memory is none
-pub no_last_border : {T : Type 0} (ls : List (RenderLine T)) (x : RenderLine T) → x ≡ get_or ls (length ls - 1) x → last_border (line_seen x ∷ []) ≡ None → last_border (map line_seen ls) ≡ None
-no_last_border [] x is none = refl
-no_last_border (l ∷ []) x is none = let same : x ≡ l = is ∙ ap (λ n. get_or (l ∷ []) n x) (let zeroth : length (l ∷ []) - 1 ≡ 0 = omega arith in zeroth) in ap (λ k. last_border (line_seen k ∷ [])) (sym same) ∙ none
-no_last_border (l ∷ m ∷ ls) x is none =
-    let next : length (l ∷ m ∷ ls) - 1 ≡ suc (length (m ∷ ls) - 1) = omega arith in
-    no_last_border (m ∷ ls) x (is ∙ ap (λ n. get_or (l ∷ m ∷ ls) n x) next) none
-
--- nor where there is none
-pub no_border_there : {T : Type 0} (ls : List (RenderLine T)) (o : Option (Bor (RenderLine T))) → is_border o ≡ false → (0 < length ls → IsSome o) → IfSome o (λ x. x.now ≡ get_or ls (length ls - 1) x.now) → last_border (map line_seen ls) ≡ None
-no_border_there [] o not some found = refl
-no_border_there (l ∷ ls) None not some found = let no = some (let more : 0 < length (l ∷ ls) = omega arith in more) in cc
-no_border_there (l ∷ ls) (Some x) not some found = no_last_border (l ∷ ls) x.now found (no_rule x.now not)
-  where
-    no_rule : {T : Type 0} (x : RenderLine T) → is_rule x ≡ false → border_in (line_seen x) ≡ None
-    no_rule (Text es) h = refl
-    no_rule (Rule b) h = cc
 
 -- ---- a row that is put
 

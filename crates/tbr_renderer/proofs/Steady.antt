@@ -5,7 +5,8 @@ use Rattle.tbr_decor.specs.End.{End}
 use Rattle.tbr_decor.specs.Decoration.{Decoration}
 use Rattle.tbr_lines.specs.declared.Error.{Error}
 use Rattle.tbr_renderer.specs.Decorated.{asked_to_close, Closes}
-use Rattle.tbr_renderer.specs.Renderer.{Open, Renderer, Settings, settings_of, has_content, with_line, without_last, without_annotation, ignores}
+use Rattle.tbr_renderer.specs.Renderer.{Open, Renderer, Settings, settings_of, has_content, with_line, without_annotation, ignores}
+use Rattle.tbr_kept_lines.specs.LastBorder.{without_last}
 use Rattle.tbr_renderer.specs.Flush.{block_lines, lines_at_end, Flushes, FlushesBlock}
 use Rattle.tbr_renderer.specs.Steps.{AddsEmptyLine, block_started, StartsBlock, AddsText, AddsTextBy}
 

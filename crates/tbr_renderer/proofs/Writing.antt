@@ -16,7 +16,8 @@ use Rattle.tbr_lines.specs.Block as block
 use Rattle.tbr_lines.specs.Outcome.{done, refused}
 use Rattle.tbr_lines.specs.Runs.{text_entries, CharactersFit}
 use Rattle.tbr_renderer.specs.Renderer.{Open, Renderer, new_block, open_block, open_run, text_annotations, last_mode, struck, entries_under, entries_of, called, with_more, with_events, block_width, may_overflow}
-use Rattle.tbr_renderer.specs.Meant.{tag_meant, map_open, meant}
+use Rattle.tbr_footnotes.specs.Tags.{tag_meant}
+use Rattle.tbr_renderer.specs.Meant.{map_open, meant}
 use Rattle.tbr_renderer.specs.View.{IsFresh, block_seen, block_meant}
 use Rattle.tbr_renderer.specs.Flush.{block_in, fits_grown}
 use Rattle.tbr_renderer.specs.Steps.{at_line_start, block_is_empty, text_brings, JoinIsTooNarrow}

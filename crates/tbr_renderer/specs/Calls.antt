@@ -14,7 +14,9 @@ use Rattle.tbr_decor.specs.Decoration.{Decoration}
 use Rattle.tbr_decor.specs.Start as start
 use Rattle.tbr_decor.specs.End as end
 use Rattle.tbr_decor.specs.Ground.{Ground}
-use Rattle.tbr_renderer.specs.Renderer.{Line, text, border, Renderer, Kept, block_columns, open_run, with_events, without_last, entries_of, ignores}
+use Rattle.tbr_kept_lines.specs.Line.{Line, text, border}
+use Rattle.tbr_renderer.specs.Renderer.{Renderer, Kept, block_columns, open_run, with_events, entries_of, ignores}
+use Rattle.tbr_kept_lines.specs.LastBorder.{without_last}
 use Rattle.tbr_renderer.specs.Flush.{Flushes, FlushIsTooNarrow}
 use Rattle.tbr_renderer.specs.Steps.{AddsEmptyLine, StartsBlock, BreaksLine, AddsText, TextIsTooNarrow}
 use Rattle.tbr_renderer.specs.Appended.{as_text, prefixed, AddsBorder, AppendsLines, AppendsCells}

@@ -7,7 +7,7 @@ use Rattle.tbr_lines.specs.Block.{Block, lines, all_lines, waiting_names, allows
 use Rattle.tbr_lines.specs.Block as block
 use Rattle.tbr_lines.specs.Runs.{EndsRun, CharactersFit}
 use Rattle.tbr_lines.specs.Wrapped.{padding_of}
-use Rattle.tbr_renderer.specs.Meant.{items_meant}
+use Rattle.tbr_footnotes.specs.Tags.{items_meant}
 use Rattle.tbr_renderer.specs.Renderer.{Open, Renderer, with_line, block_width, may_overflow}
 
 -- ---- the open block by its rule

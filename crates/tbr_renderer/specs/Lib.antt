@@ -1,9 +1,7 @@
 pub mod Options
 pub mod Renderer
-pub mod Text
 pub mod Meant
 pub mod View
-pub mod KeptLines
 pub mod Flush
 pub mod Steps
 pub mod Image
@@ -12,4 +10,3 @@ pub mod Rows
 pub mod Decorated
 pub mod Calls
 pub mod Footnotes
-pub mod Cutting

@@ -2,19 +2,11 @@
 use Rattle.std.specs.Prelude.{List, map}
 use Rattle.std.specs.Option.{option_map}
 use Rattle.std.specs.Global.{Vec}
-use Rattle.std.specs.Vec.{vec_items}
-use Rattle.tbr_model.specs.Run.{Item}
 use Rattle.tbr_model.specs.Mapped.{map_items, map_events}
 use Rattle.tbr_rows.specs.Meant.{map_border, map_cell}
-use Rattle.tbr_renderer.specs.Renderer.{Line, text, border, Open, Renderer}
-
--- what a list of annotations means
-abbrev pub tag_meant : {A M : Type 0} → (A → M) → Vec A → List M
-tag_meant meaning v = map meaning (vec_items v)
-
--- items by what their annotations mean
-abbrev pub items_meant : {A M : Type 0} → (A → M) → List (Item (Vec A)) → List (Item (List M))
-items_meant meaning is = map_items (tag_meant meaning) is
+use Rattle.tbr_footnotes.specs.Tags.{tag_meant}
+use Rattle.tbr_kept_lines.specs.Line.{Line, text, border}
+use Rattle.tbr_renderer.specs.Renderer.{Open, Renderer}
 
 -- ---- lines and blocks under other tags
 

@@ -1,25 +1,21 @@
 -- What a contract sees of a renderer, and the small steps by which it changes.
-use Rattle.std.specs.Prelude.{◌≡◌, ℕ, ◌-◌, Bool, true, false, ◌&&◌, nat_lt, nat_le, if◌then◌else◌, Option, None, Some, unwrap_or, not, List, [], ◌∷◌, ◌++◌, map, flat_map, replicate, length, take}
+use Rattle.std.specs.Prelude.{◌≡◌, ℕ, Bool, true, false, ◌&&◌, nat_lt, nat_le, if◌then◌else◌, Option, None, Some, unwrap_or, not, List, [], ◌∷◌, ◌++◌, map, flat_map, replicate}
 use Rattle.std.specs.List.{list_any, list_all}
 use Rattle.std.specs.Char.{is_whitespace}
 use Rattle.tbr_model.specs.declared.white_space.WhiteSpace.{WhiteSpace}
 use Rattle.tbr_model.specs.declared.white_space.WhiteSpace.TheVariants.{Normal}
 use Rattle.tbr_model.specs.WhiteSpace.{preserves}
 use Rattle.tbr_model.specs.Rule.{Event, call, entry, run_of}
-use Rattle.tbr_model.specs.Run.{Entry, Item, has_character}
+use Rattle.tbr_model.specs.Run.{Entry, Item}
 use Rattle.tbr_model.specs.Markers.{marker_items}
 pub use Rattle.tbr_model.specs.Width.{stroke}
-use Rattle.tbr_lines.specs.Border.{Border, has_holes}
 use Rattle.tbr_lines.specs.Runs.{text_entries}
 use Rattle.tbr_lines.specs.Wrapped.{padding_of}
 use Rattle.tbr_lines.specs.declared.Error.{Error}
 use Rattle.tbr_rows.specs.declared.line_set.LineSet.{LineSet as Cell}
+use Rattle.tbr_kept_lines.specs.Line.{Line, text, line_has_content}
+use Rattle.tbr_kept_lines.specs.LastBorder.{without_last}
 use Rattle.tbr_renderer.specs.declared.options.RenderOptions.{RenderOptions}
-
--- A line: a text, or a border.
-pub data Line (T : Type 0) : Type 0 where
-  text : List (Item T) → Line T
-  border : Border T → Line T
 
 -- The open block: what the padding of its lines is under, where they are padded, and what came.
 pub record Open (T : Type 0) : Type 0 where
@@ -98,9 +94,6 @@ settings_of r = record { kept = kept_of r; decorator = r.decorator; annotations 
 abbrev pub KeepsSettings : {D A T : Type 0} → Renderer D A T → Renderer D A T → Type 0
 KeepsSettings r s = settings_of s ≡ settings_of r
 
--- a list without its last item, if there is one
-abbrev pub without_last : {X : Type 0} → List X → List X
-without_last xs = take (length xs - 1) xs
 
 -- an annotation more, after those that are open
 abbrev pub with_annotation : {D A T : Type 0} → Renderer D A T → A → Renderer D A T
@@ -111,11 +104,6 @@ abbrev pub without_annotation : {D A T : Type 0} → Renderer D A T → Renderer
 without_annotation r = record r { annotations = without_last r.annotations }
 
 -- ---- lines
-
--- a line of text with a character, or a border without holes
-abbrev pub line_has_content : {T : Type 0} → Line T → Bool
-line_has_content (text is) = has_character is
-line_has_content (border b) = not (has_holes b.holes)
 
 -- whether any line of a renderer has content
 abbrev pub has_content : {D A T : Type 0} → Renderer D A T → Bool

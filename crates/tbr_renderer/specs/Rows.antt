@@ -1,7 +1,6 @@
 -- Rows of cells side by side: what comes into them, and what they add to a renderer.
-use Rattle.std.specs.Prelude.{◌≡◌, ℕ, ◌-◌, Bool, true, false, not, ◌&&◌, if◌then◌else◌, is_none, is_some, Option, None, Some, List, [], ◌∷◌, ◌++◌, map, fold}
+use Rattle.std.specs.Prelude.{◌≡◌, ℕ, ◌-◌, Bool, true, not, ◌&&◌, is_none, Option, None, Some, List, [], ◌∷◌, ◌++◌, map, fold}
 use Rattle.std.specs.List.{AllZip}
-use Rattle.std.specs.Borrow.{Bor}
 use Rattle.tbr_model.specs.Run.{items_width}
 use Rattle.tbr_lines.specs.Block.{any_line, has_no_character}
 use Rattle.tbr_lines.specs.Border.{Border, with_cells, stretched}
@@ -16,7 +15,9 @@ use Rattle.tbr_rows.specs.Cells.{AreSideBySide, Spot, spots_from}
 use Rattle.tbr_rows.specs.Meant.{AreLongest, SeenRow, MeansRow}
 use Rattle.tbr_rows.specs.declared.LineSet.{LineSet as Cell}
 use Rattle.tbr_rows.specs.declared.RowStyle.{RowStyle}
-use Rattle.tbr_renderer.specs.Renderer.{Line, text, border, Open, Renderer, without_last, with_line}
+use Rattle.tbr_kept_lines.specs.LastBorder.{last_border, before_border}
+use Rattle.tbr_kept_lines.specs.Line.{Line, text, border}
+use Rattle.tbr_renderer.specs.Renderer.{Open, Renderer, with_line}
 use Rattle.tbr_renderer.specs.Flush.{block_in, Flushes}
 use Rattle.tbr_renderer.specs.Appended.{with_border}
 
@@ -85,30 +86,6 @@ aligned_as [] (x ∷ xs) = Left ∷ aligned_as [] xs
 aligned_as (align ∷ aligns) (x ∷ xs) = align ∷ aligned_as aligns xs
 
 -- ---- the border above
-
--- whether a line is a border
-abbrev pub is_rule : {T : Type 0} → RenderLine T → Bool
-is_rule (Text es) = false
-is_rule (Rule b) = true
-
--- whether there is a line that is a border
-abbrev pub is_border : {T : Type 0} → Option (Bor (RenderLine T)) → Bool
-is_border None = false
-is_border (Some line) = is_rule line.now
-
--- the border that a line is, if it is one
-abbrev pub border_in : {T : Type 0} → Line T → Option (Border T)
-border_in (text is) = None
-border_in (border b) = Some b
-
--- the last line, if it is a border, and the lines without it
-abbrev pub last_border : {T : Type 0} → List (Line T) → Option (Border T)
-last_border [] = None
-last_border (l ∷ []) = border_in l
-last_border (l ∷ m ∷ ls) = last_border (m ∷ ls)
-
-abbrev pub before_border : {T : Type 0} → List (Line T) → List (Line T)
-before_border ls = if is_some (last_border ls) then without_last ls else ls
 
 -- a border as lines, if there is one
 abbrev pub border_lines : {T : Type 0} → Option (Border T) → List (Line T)

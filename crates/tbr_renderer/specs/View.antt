@@ -3,9 +3,10 @@ use Rattle.std.specs.Prelude.{◌≡◌, ◌<◌, ℕ, Bool, false, ⊤, Option,
 use Rattle.std.specs.Option.{option_map}
 use Rattle.std.specs.Global.{Box, Vec}
 use Rattle.tbr_lines.specs.View.{element_of}
-use Rattle.tbr_renderer.specs.Meant.{tag_meant, map_open}
+use Rattle.tbr_footnotes.specs.Tags.{tag_meant}
+use Rattle.tbr_renderer.specs.Meant.{map_open}
 use Rattle.tbr_renderer.specs.declared.sub.SubRenderer.TheInside.{Inside}
-use Rattle.tbr_lines.specs.Elements.{Element, piece, marker_element, items_of}
+use Rattle.tbr_lines.specs.Elements.{Element, piece, marker_element}
 use Rattle.tbr_lines.specs.Block.{Block, IsSound}
 use Rattle.tbr_decor.specs.Start as start
 use Rattle.tbr_decor.specs.End as end
@@ -16,14 +17,7 @@ use Rattle.tbr_renderer.specs.declared.sub.decorated.End.{End as Closed}
 use Rattle.tbr_renderer.specs.declared.sub.decorated.End.TheVariants as closed
 use Rattle.tbr_renderer.specs.declared.sub.decorated.Start.{Start as Opened}
 use Rattle.tbr_renderer.specs.declared.sub.decorated.Start.TheVariants as opened
-use Rattle.tbr_lines.specs.declared.RenderLine.{RenderLine}
-use Rattle.tbr_lines.specs.declared.RenderLine.TheVariants.{Text, Line as Rule}
-use Rattle.tbr_renderer.specs.Renderer.{Line, text, border, Open, Renderer, least, overflows}
-
--- a line as a contract sees it: a text by its items, or a border
-abbrev pub line_seen : {T : Type 0} → RenderLine T → Line T
-line_seen (Text es) = text (items_of es)
-line_seen (Rule b) = border b
+use Rattle.tbr_renderer.specs.Renderer.{Open, Renderer, least, overflows}
 
 -- an open block as a contract sees it
 abbrev pub open_seen : {T : Type 0} → Block T → Open T

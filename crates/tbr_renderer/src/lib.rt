@@ -5,8 +5,6 @@ pub use options::{ImageRenderMode, RenderOptions};
 pub use renderer::Renderer;
 pub use sub::SubRenderer;
 
-mod footnote;
-mod kept_lines;
 mod options;
 mod renderer;
 mod sub;

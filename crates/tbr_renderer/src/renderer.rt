@@ -1,7 +1,8 @@
 //! The calls of a renderer.
 ghost use Rattle.std.specs.Prelude.{◌≡◌, ◌≢◌, ◌≤◌, ◌<◌, ◌⊎◌, ℕ, suc, ◌^◌, Bool, true, List, length, Option, None, Err, OnOk, OnErr, IfOk, IfErr, chars, map, replicate};
 ghost use Rattle.std.specs.List.{AllZip, AllByRecursion as Each};
-ghost use Rattle.tbr_renderer.specs.Renderer.{Line, Kept, block_columns};
+ghost use Rattle.tbr_kept_lines.specs.Line.{Line};
+ghost use Rattle.tbr_renderer.specs.Renderer.{Kept, block_columns};
 ghost use Rattle.tbr_renderer.specs.Appended.{GivesFirst, texts_of, FirstToRefuse};
 ghost use Rattle.tbr_renderer.specs.Rows.{GivenCell, GivesCell, align_in};
 ghost use Rattle.tbr_renderer.specs.Calls as call;

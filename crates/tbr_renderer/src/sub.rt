@@ -3,20 +3,22 @@ ghost use Rattle.std.specs.Prelude.{◌≡◌, ◌≢◌, ◌<◌, [], ◌∷◌
 ghost use Rattle.tbr_lines.specs.declared.Error.{Error as Refusal};
 ghost use Rattle.tbr_lines.specs.declared.Error.TheVariants as E;
 ghost use Rattle.tbr_renderer.specs.Renderer.{KeepsSettings, kept_of, new_renderer, has_content, line_padding, with_filled, with_line, block_width, may_overflow};
-ghost use Rattle.tbr_renderer.specs.View.{line_seen, unboxed, block_seen, IsFresh, IsOpened, AreMarkers, names_of};
+ghost use Rattle.tbr_kept_lines.specs.Line.{line_seen};
+ghost use Rattle.tbr_renderer.specs.View.{unboxed, block_seen, IsFresh, IsOpened, AreMarkers, names_of};
 ghost use Rattle.tbr_lines.specs.View.{element_of};
 ghost use Rattle.tbr_lines.specs.Copies.{equal_lists};
 ghost use Rattle.tbr_lines.specs.Elements.{items_of, SameItems, IsMerged};
 ghost use Rattle.tbr_lines.specs.RenderLine.{IsMergedText};
-ghost use Rattle.tbr_renderer.specs.Meant.{meant, items_meant};
+ghost use Rattle.tbr_renderer.specs.Meant.{meant};
+ghost use Rattle.tbr_footnotes.specs.Tags.{items_meant};
 
-use crate::kept_lines::KeptLines;
 use crate::options::RenderOptions;
 use crate::renderer::Renderer;
 use std::alloc::Global;
 use std::marker::Model;
 use std::mem;
 use tbr_decor::TextDecorator;
+use tbr_kept_lines::KeptLines;
 use tbr_lines::{
     CharWidth, Error, OutOfMemory, RenderLine, TaggedLine, TaggedLineElement, TooNarrow,
     UnicodeColumns, WhiteSpace, WrappedBlock,

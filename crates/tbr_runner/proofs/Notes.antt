@@ -8,7 +8,8 @@ use Rattle.tbr_lines.specs.Elements.{Element}
 use Rattle.tbr_decor.specs.Decoration.{Decoration}
 use Rattle.tbr_decor.specs.Meant.{lines_meant}
 use Rattle.tbr_renderer.specs.Footnotes.{footnote_lines, with_footnotes}
-use Rattle.text_block_renderer.specs.Renderer.{Renderer, Line, Open, has_content, with_line}
+use Rattle.text_block_renderer.specs.Renderer.{Renderer, Open, has_content, with_line}
+use Rattle.text_block_renderer.specs.Line.{Line}
 use Rattle.text_block_renderer.specs.Steps.{block_started, StartsBlock}
 use Rattle.text_block_renderer.specs.Text.{lines_text}
 use Rattle.text_block_renderer.specs.Flush.{Flushes, FlushesBlock, BlockIsTooNarrow, FlushIsTooNarrow}

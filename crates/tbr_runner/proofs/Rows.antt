@@ -9,7 +9,8 @@ use Rattle.tbr_rows.proofs.MeantRows.{fits_mean}
 use Rattle.tbr_decor.specs.Decoration.{Decoration}
 use Rattle.tbr_renderer.proofs.Blank.{blank_meant}
 use Rattle.text_block_renderer.specs.Renderer.{Renderer}
-use Rattle.text_block_renderer.specs.Meant.{tag_meant, meant}
+use Rattle.text_block_renderer.specs.Tags.{tag_meant}
+use Rattle.text_block_renderer.specs.Meant.{meant}
 use Rattle.text_block_renderer.specs.Flush.{FlushIsTooNarrow}
 use Rattle.text_block_renderer.specs.Appended.{HandsOut, HoldsBack, FirstToRefuse}
 use Rattle.text_block_renderer.specs.Rows.{looks, spots_of, GivenCell, align_in, GivesCell, AppendsRow}

@@ -5,7 +5,8 @@ use Rattle.tbr_lines.specs.declared.CellAlign.{CellAlign}
 use Rattle.tbr_rows.specs.Cells.{row_fits}
 use Rattle.tbr_decor.specs.Start as start
 use Rattle.tbr_decor.specs.Decoration.{Decoration}
-use Rattle.text_block_renderer.specs.Renderer.{Renderer, Line, new_renderer}
+use Rattle.text_block_renderer.specs.Renderer.{Renderer, new_renderer}
+use Rattle.text_block_renderer.specs.Line.{Line}
 use Rattle.text_block_renderer.specs.Flush.{FlushIsTooNarrow}
 use Rattle.text_block_renderer.specs.Decorated.{sub_renderer}
 use Rattle.text_block_renderer.specs.Appended.{HandsOut, HoldsBack, FirstToRefuse}

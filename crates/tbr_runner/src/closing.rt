@@ -3,8 +3,9 @@ ghost use Rattle.std.specs.Prelude.{◌≡◌, None, Err, map, IfOk, string_byte
 ghost use Rattle.tbr_lines.specs.View.{chars_of};
 ghost use Rattle.tbr_lines.specs.declared.Error.TheVariants as E;
 ghost use Rattle.tbr_decor.specs.Decoration.{decoration_of};
-ghost use Rattle.text_block_renderer.specs.Meant.{tag_meant, map_line, meant};
-ghost use Rattle.text_block_renderer.specs.View.{line_seen};
+ghost use Rattle.text_block_renderer.specs.Tags.{tag_meant};
+ghost use Rattle.text_block_renderer.specs.Meant.{map_line, meant};
+ghost use Rattle.text_block_renderer.specs.Line.{line_seen};
 ghost use Rattle.tbr_runner.specs.Closing.{ClosesAs, ClosesIn, ClosingIsTooNarrow, FlushesAsClosed};
 
 use std::collections::LinkedList;

@@ -3,7 +3,7 @@ ghost use Rattle.std.specs.Prelude.{◌≡◌, ◌⊎◌, List, length, None, Er
 ghost use Rattle.tbr_lines.specs.View.{chars_of};
 ghost use Rattle.tbr_lines.specs.declared.Error.TheVariants as E;
 ghost use Rattle.tbr_decor.specs.Decoration.{decoration_of};
-ghost use Rattle.text_block_renderer.specs.Renderer.{Line};
+ghost use Rattle.text_block_renderer.specs.Line.{Line};
 ghost use Rattle.text_block_renderer.specs.Meant.{meant};
 ghost use Rattle.text_block_renderer.specs.Flush.{FlushIsTooNarrow};
 ghost use Rattle.text_block_renderer.specs.Appended.{HandsOut, HoldsBack};

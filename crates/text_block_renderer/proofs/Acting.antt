@@ -11,8 +11,10 @@ use Rattle.tbr_rows.specs.Meant.{SeenRow}
 use Rattle.tbr_rows.specs.declared.LineSet.{LineSet as Cell}
 use Rattle.tbr_decor.specs.Decoration.{Decoration}
 use Rattle.tbr_renderer.specs.declared.options.RenderOptions.{RenderOptions}
-use Rattle.tbr_renderer.specs.Renderer.{Line, Open, Renderer, Settings, settings_of, with_line, open_run}
-use Rattle.tbr_renderer.specs.Rows.{GivenCell, before_border, border_lines, with_next, with_row, PutsRow}
+use Rattle.tbr_kept_lines.specs.Line.{Line}
+use Rattle.tbr_renderer.specs.Renderer.{Open, Renderer, Settings, settings_of, with_line, open_run}
+use Rattle.tbr_renderer.specs.Rows.{GivenCell, border_lines, with_next, with_row, PutsRow}
+use Rattle.tbr_kept_lines.specs.LastBorder.{before_border}
 use Rattle.tbr_renderer.specs.Appended.{border_line}
 use Rattle.tbr_renderer.specs.Calls.{Call, new_line, Does, entries_brought, Brings, laid_entries}
 use Rattle.tbr_renderer.proofs.Steady.{Steady, lines_added}

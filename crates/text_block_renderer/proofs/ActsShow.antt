@@ -10,7 +10,8 @@ use Rattle.tbr_rows.specs.Meant.{SeenRow}
 use Rattle.tbr_decor.specs.Decoration.{Decoration}
 use Rattle.tbr_renderer.specs.declared.options.RenderOptions.{RenderOptions}
 use Rattle.tbr_renderer.specs.Renderer.{Renderer, with_line}
-use Rattle.tbr_renderer.specs.Rows.{before_border, border_lines, with_next, with_row}
+use Rattle.tbr_kept_lines.specs.LastBorder.{before_border}
+use Rattle.tbr_renderer.specs.Rows.{border_lines, with_next, with_row}
 use Rattle.tbr_renderer.specs.Calls.{new_line, laid_entry, laid_entries, text_of_lines, Shows}
 use Rattle.tbr_renderer.proofs.Steady.{Steady, lines_added, flushed_alike}
 use Rattle.text_block_renderer.specs.Acts.{Act, call, row, ActBrings, ActsBring}

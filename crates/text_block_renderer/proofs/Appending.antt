@@ -8,7 +8,8 @@ use Rattle.tbr_lines.specs.Border.{without_holes}
 use Rattle.tbr_lines.specs.Cell.{Cell, horizontal, slash}
 use Rattle.tbr_renderer.specs.declared.options.RenderOptions.{RenderOptions}
 use Rattle.text_block_renderer.specs.Drawn.{row_borders}
-use Rattle.tbr_renderer.specs.Renderer.{Line, Open, Renderer, with_line}
+use Rattle.tbr_kept_lines.specs.Line.{Line}
+use Rattle.tbr_renderer.specs.Renderer.{Open, Renderer, with_line}
 use Rattle.tbr_renderer.specs.Flush.{block_lines, FlushesBlock, lines_at_end}
 use Rattle.tbr_renderer.specs.Appended.{with_border, border_of_cells, as_text, prefixed, AddsBorder, AppendsLines, with_divider, with_cell, with_cell_below, with_cells, AppendsCells}
 use Rattle.tbr_renderer.specs.Calls.{laid_entry, laid_entries}

@@ -12,7 +12,8 @@ use Rattle.tbr_decor.specs.End as end
 use Rattle.tbr_decor.specs.End.{End}
 use Rattle.tbr_decor.specs.Ground.{Ground}
 use Rattle.tbr_renderer.specs.declared.options.RenderOptions.{RenderOptions}
-use Rattle.tbr_renderer.specs.Renderer.{Open, Renderer, has_content, with_line, without_last, without_annotation, entries_of, ignores, with_events}
+use Rattle.tbr_renderer.specs.Renderer.{Open, Renderer, has_content, with_line, without_annotation, entries_of, ignores, with_events}
+use Rattle.tbr_kept_lines.specs.LastBorder.{without_last}
 use Rattle.tbr_renderer.specs.Flush.{block_lines, FlushesBlock, lines_at_end}
 use Rattle.tbr_renderer.specs.Steps.{AddsEmptyLine, with_empty_line, block_started, StartsBlock, BreaksLineAt, AddsText, AddsTextBy, text_brings, at_line_start}
 use Rattle.tbr_renderer.specs.Image.{shown_title}

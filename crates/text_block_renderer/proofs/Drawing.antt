@@ -8,7 +8,8 @@ use Rattle.tbr_lines.specs.Border.{Border, shown, without_holes}
 use Rattle.tbr_lines.specs.Cell.{Cell}
 use Rattle.tbr_decor.specs.Decoration.{Decoration}
 use Rattle.tbr_renderer.specs.declared.options.RenderOptions.{RenderOptions}
-use Rattle.tbr_renderer.specs.Renderer.{Line, text, border, Open, Renderer, line_padding, with_line}
+use Rattle.tbr_kept_lines.specs.Line.{Line, text, border}
+use Rattle.tbr_renderer.specs.Renderer.{Open, Renderer, line_padding, with_line}
 use Rattle.tbr_model.specs.Markers.{marker_items}
 use Rattle.tbr_renderer.specs.Flush.{block_lines, flushed, FlushesBlock, lines_at_end, names_at_end}
 use Rattle.tbr_renderer.specs.Appended.{border_line, with_border}

@@ -7,7 +7,8 @@ use Rattle.tbr_model.specs.Markers.{marker_items}
 use Rattle.tbr_model.specs.Hard.{IsSpaces, is_visible, visible_glyphs}
 use Rattle.tbr_lines.specs.Elements.{text_items}
 use Rattle.tbr_decor.specs.Decoration.{Decoration}
-use Rattle.tbr_renderer.specs.Renderer.{Line, text, Renderer, with_line}
+use Rattle.tbr_kept_lines.specs.Line.{Line, text}
+use Rattle.tbr_renderer.specs.Renderer.{Renderer, with_line}
 use Rattle.tbr_renderer.specs.Flush.{Flushes}
 use Rattle.tbr_renderer.specs.Appended.{as_text, prefixed}
 use Rattle.tbr_renderer.specs.Calls.{append_subrender, Does, text_of_lines}

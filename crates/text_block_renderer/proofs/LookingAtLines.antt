@@ -8,7 +8,8 @@ use Rattle.tbr_lines.specs.Border.{Border}
 use Rattle.tbr_lines.specs.Elements.{text_items}
 use Rattle.tbr_lines.specs.Padding.{spaces}
 use Rattle.tbr_lines.specs.Wrapped.{padding_of}
-use Rattle.tbr_renderer.specs.Renderer.{Line, text, border, Open, Renderer, line_padding, with_line, block_width}
+use Rattle.tbr_kept_lines.specs.Line.{Line, text, border}
+use Rattle.tbr_renderer.specs.Renderer.{Open, Renderer, line_padding, with_line, block_width}
 use Rattle.tbr_renderer.specs.Flush.{block_lines, flushed}
 use Rattle.tbr_renderer.specs.Calls.{text_of_lines}
 use Rattle.text_block_renderer.specs.MarkersStand.{items_so_far}

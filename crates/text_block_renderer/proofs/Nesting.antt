@@ -8,7 +8,8 @@ use Rattle.std.proofs.lemmas.Slice.Zip.{length-zip}
 use Rattle.tbr_model.specs.Run.{Item}
 use Rattle.tbr_lines.specs.Elements.{text_items}
 use Rattle.tbr_decor.specs.Decoration.{Decoration}
-use Rattle.tbr_renderer.specs.Renderer.{Line, text, Open, Renderer, with_line}
+use Rattle.tbr_kept_lines.specs.Line.{Line, text}
+use Rattle.tbr_renderer.specs.Renderer.{Open, Renderer, with_line}
 use Rattle.tbr_renderer.specs.Flush.{FlushesBlock}
 use Rattle.tbr_renderer.specs.Appended.{as_text, prefixed}
 use Rattle.text_block_renderer.specs.Nested.{Level, nested, IsFront, shortest, HandsOn, HandOn}

@@ -15,7 +15,7 @@ use Rattle.tbr_rows.specs.Cells.{AreApart}
 use Rattle.tbr_rows.specs.Shown.{DrawsInOne}
 use Rattle.tbr_rows.specs.CellsShown.{Fills, IsFilled, FollowOneAnother, HasFilledCells, ShowsTexts}
 use Rattle.tbr_rows.proofs.CellsOfRows.{aligned_width, all_filled, overhang_apart, overhang_filled, shown_over}
-use Rattle.tbr_renderer.specs.Renderer.{Line, text, border}
+use Rattle.tbr_kept_lines.specs.Line.{Line, text, border}
 use Rattle.tbr_renderer.specs.Rows.{GivenCell, FillsCell, ComesAs}
 use Rattle.text_block_renderer.specs.Acts.{PutRow}
 use Rattle.text_block_renderer.specs.Headline.{FitsCell, LinesFit, CellsFit, made, IsCellOf}

@@ -10,9 +10,11 @@ use Rattle.tbr_rows.specs.Cells.{AreSideBySide}
 use Rattle.tbr_rows.specs.Meant.{SeenRow, MeansRow}
 use Rattle.tbr_rows.specs.declared.LineSet.{LineSet as Cell}
 use Rattle.tbr_rows.proofs.OneRow.{longest_same, one_row}
-use Rattle.tbr_renderer.specs.Renderer.{Line, text, border, Renderer, settings_of, without_last, with_line}
+use Rattle.tbr_kept_lines.specs.Line.{Line, text, border}
+use Rattle.tbr_renderer.specs.Renderer.{Renderer, settings_of, with_line}
+use Rattle.tbr_kept_lines.specs.LastBorder.{without_last, last_border, before_border}
 use Rattle.tbr_renderer.specs.Calls.{text_of_lines}
-use Rattle.tbr_renderer.specs.Rows.{GivenCell, FillsCell, ComesAs, last_border, before_border, border_lines, style_in, with_next, with_row, PutsRow, AppendsRow}
+use Rattle.tbr_renderer.specs.Rows.{GivenCell, FillsCell, ComesAs, border_lines, style_in, with_next, with_row, PutsRow, AppendsRow}
 use Rattle.text_block_renderer.proofs.Growing.{Grows, lines_grow, moves_grow}
 use Rattle.text_block_renderer.proofs.Moves.{flush, no_block, flushed_none}
 use Rattle.text_block_renderer.proofs.OneState.{flush_once}

@@ -8,7 +8,8 @@ use Rattle.tbr_decor.specs.declared.colour.Colour.{Colour}
 use Rattle.tbr_decor.specs.Decoration.{Decoration}
 use Rattle.tbr_renderer.specs.Image.{shown_title}
 use Rattle.tbr_renderer.specs.Decorated.{struck_from, struck_until, annotated, coloured, uncoloured, AddsImageBy}
-use Rattle.tbr_renderer.specs.Renderer.{Line, Renderer, settings_of, with_line, ignores}
+use Rattle.tbr_kept_lines.specs.Line.{Line}
+use Rattle.tbr_renderer.specs.Renderer.{Renderer, settings_of, with_line, ignores}
 use Rattle.tbr_renderer.specs.Flush.{Flushes}
 use Rattle.tbr_renderer.specs.Steps.{at_line_start, BreaksLineAt}
 use Rattle.tbr_renderer.specs.Calls.{Call, add_empty_line, new_line, new_line_hard, start_block, start_table, end_block, add_inline_text, push_ws, pop_ws, push_preformat, pop_preformat, record_frag_start, begin, finish, start_strikeout, end_strikeout, add_image, push_colour, pop_colour, add_border, append_subrender, append_vert_row, Does}

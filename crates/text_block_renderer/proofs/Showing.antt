@@ -14,7 +14,8 @@ use Rattle.tbr_lines.specs.Elements.{text_items}
 use Rattle.tbr_lines.specs.Padding.{spaces}
 use Rattle.tbr_lines.specs.Wrapped.{padding_of}
 use Rattle.tbr_lines.proofs.SameItems.{all_zip_append}
-use Rattle.tbr_renderer.specs.Renderer.{Line, Open, Renderer, new_renderer, with_line, open_run, with_events, block_width}
+use Rattle.tbr_kept_lines.specs.Line.{Line}
+use Rattle.tbr_renderer.specs.Renderer.{Open, Renderer, new_renderer, with_line, open_run, with_events, block_width}
 use Rattle.tbr_renderer.specs.Flush.{block_lines, FlushesBlock, lines_at_end}
 use Rattle.tbr_renderer.specs.Appended.{border_line, with_border, HandsOut}
 use Rattle.tbr_renderer.specs.declared.options.RenderOptions.{RenderOptions}

@@ -19,7 +19,8 @@ use Rattle.tbr_lines.specs.Padding.{spaces}
 use Rattle.tbr_lines.specs.Runs.{IsNormal, AreLastOf, EndsRun}
 use Rattle.tbr_lines.proofs.SameItems.{all_zip_append}
 use Rattle.tbr_decor.specs.Decoration.{Decoration}
-use Rattle.tbr_renderer.specs.Renderer.{Line, Open, Renderer, new_renderer, open_block, open_run, with_line, with_events, block_width, may_overflow}
+use Rattle.tbr_kept_lines.specs.Line.{Line}
+use Rattle.tbr_renderer.specs.Renderer.{Open, Renderer, new_renderer, open_block, open_run, with_line, with_events, block_width, may_overflow}
 use Rattle.tbr_renderer.specs.declared.options.RenderOptions.{RenderOptions}
 use Rattle.tbr_renderer.specs.Flush.{block_lines, flushed, FlushesBlock, lines_at_end, names_at_end}
 use Rattle.tbr_renderer.specs.Appended.{with_border}

@@ -4,8 +4,9 @@ use Rattle.std.specs.List.{AllZip}
 use Rattle.tbr_lines.specs.Border.{Border}
 use Rattle.tbr_rows.specs.declared.LineSet.{LineSet as Cell}
 use Rattle.tbr_rows.specs.Rows.{border_above}
-use Rattle.tbr_renderer.specs.Renderer.{Line, text, border, without_last}
-use Rattle.tbr_renderer.specs.Rows.{last_border, before_border, border_lines}
+use Rattle.tbr_kept_lines.specs.Line.{Line, text, border}
+use Rattle.tbr_kept_lines.specs.LastBorder.{without_last, last_border, before_border}
+use Rattle.tbr_renderer.specs.Rows.{border_lines}
 use Rattle.text_block_renderer.specs.Acts.{StaysLine}
 
 module _ {T : Type 0} where

@@ -17,7 +17,8 @@ use Rattle.tbr_lines.specs.Runs.{EndsRun}
 use Rattle.tbr_lines.specs.Wrapped.{padding_of, HasBestLines}
 use Rattle.tbr_decor.specs.Decoration.{Decoration}
 use Rattle.tbr_renderer.specs.declared.options.RenderOptions.{RenderOptions}
-use Rattle.tbr_renderer.specs.Renderer.{Line, Open, Renderer, new_block, least, overflows, with_line, with_events, with_more, block_width, may_overflow}
+use Rattle.tbr_kept_lines.specs.Line.{Line}
+use Rattle.tbr_renderer.specs.Renderer.{Open, Renderer, new_block, least, overflows, with_line, with_events, with_more, block_width, may_overflow}
 use Rattle.tbr_renderer.specs.Flush.{block_lines, EndsBlock, FlushesBlock, Flushes, lines_at_end, names_at_end}
 use Rattle.tbr_renderer.specs.Calls.{Call, Steps, Brings}
 use Rattle.text_block_renderer.specs.Stretches.{line_of_text, stretch, items_on, NoneIsAhead, StandsAsStretch, StaysOpen, EndsAsStretch}

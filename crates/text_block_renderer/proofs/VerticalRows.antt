@@ -6,7 +6,8 @@ use Rattle.tbr_model.specs.Run.{Item}
 use Rattle.tbr_lines.specs.Border.{without_holes}
 use Rattle.tbr_lines.specs.Cell.{Cell, horizontal, slash}
 use Rattle.tbr_decor.specs.Decoration.{Decoration}
-use Rattle.tbr_renderer.specs.Renderer.{Line, text, border, Renderer, Settings, settings_of, with_line}
+use Rattle.tbr_kept_lines.specs.Line.{Line, text, border}
+use Rattle.tbr_renderer.specs.Renderer.{Renderer, Settings, settings_of, with_line}
 use Rattle.tbr_renderer.specs.Flush.{Flushes}
 use Rattle.tbr_renderer.specs.Appended.{with_border, border_of_cells, as_text, with_divider, with_cell, with_cell_below, with_cells}
 use Rattle.tbr_renderer.specs.Calls.{append_vert_row, Does}

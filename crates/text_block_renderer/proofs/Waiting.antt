@@ -11,7 +11,8 @@ use Rattle.tbr_lines.specs.Border.{Border, without_holes}
 use Rattle.tbr_lines.specs.Runs.{IsNormal}
 use Rattle.tbr_lines.specs.Wrapped.{HasBestLines}
 use Rattle.tbr_decor.specs.Decoration.{Decoration}
-use Rattle.tbr_renderer.specs.Renderer.{Line, text, border, Open, Renderer, with_line, block_width, may_overflow, open_run, line_padding}
+use Rattle.tbr_kept_lines.specs.Line.{Line, text, border}
+use Rattle.tbr_renderer.specs.Renderer.{Open, Renderer, with_line, block_width, may_overflow, open_run, line_padding}
 use Rattle.tbr_renderer.specs.Flush.{block_lines, flushed, FlushesBlock, Flushes, EndsBlock, lines_at_end, names_at_end}
 use Rattle.tbr_renderer.specs.Appended.{with_border}
 use Rattle.tbr_renderer.specs.Calls.{Call, Steps}

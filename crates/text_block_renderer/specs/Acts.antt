@@ -5,7 +5,8 @@ use Rattle.tbr_model.specs.Run.{Entry}
 use Rattle.tbr_model.specs.Layout.{joined}
 use Rattle.tbr_lines.specs.Border.{Border}
 use Rattle.tbr_decor.specs.Decoration.{Decoration}
-use Rattle.tbr_renderer.specs.Renderer.{Line, text, border, Renderer, open_run}
+use Rattle.tbr_kept_lines.specs.Line.{Line, text, border}
+use Rattle.tbr_renderer.specs.Renderer.{Renderer, open_run}
 use Rattle.tbr_renderer.specs.Flush.{Flushes, FlushIsTooNarrow}
 use Rattle.tbr_renderer.specs.Appended.{border_line}
 use Rattle.tbr_renderer.specs.Rows.{GivenCell, PutsRow}

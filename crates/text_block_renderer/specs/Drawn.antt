@@ -6,7 +6,8 @@ use Rattle.tbr_lines.specs.Cell.{Cell, horizontal, slash}
 use Rattle.tbr_lines.specs.Elements.{text_items}
 use Rattle.tbr_lines.specs.Padding.{spaces}
 use Rattle.tbr_renderer.specs.declared.options.RenderOptions.{RenderOptions}
-use Rattle.tbr_renderer.specs.Renderer.{Line, text, Renderer}
+use Rattle.tbr_kept_lines.specs.Line.{Line, text}
+use Rattle.tbr_renderer.specs.Renderer.{Renderer}
 use Rattle.tbr_renderer.specs.Calls.{Call, add_border, append_vert_row}
 
 -- A line as it is, or a border that was drawn as text: cells under a tag, with so many spaces after them.

@@ -10,8 +10,10 @@ use Rattle.tbr_rows.specs.declared.LineSet.{LineSet as Cell}
 use Rattle.tbr_rows.specs.Shown.{DrawsInOne}
 use Rattle.tbr_rows.specs.CellsShown.{MadeRow, StandsAmong, ShowsTexts}
 use Rattle.tbr_decor.specs.Decoration.{Decoration}
-use Rattle.tbr_renderer.specs.Renderer.{Line, text, border, Renderer, block_width, may_overflow}
-use Rattle.tbr_renderer.specs.Rows.{GivenCell, last_border, style_in}
+use Rattle.tbr_kept_lines.specs.Line.{Line, text, border}
+use Rattle.tbr_renderer.specs.Renderer.{Renderer, block_width, may_overflow}
+use Rattle.tbr_renderer.specs.Rows.{GivenCell, style_in}
+use Rattle.tbr_kept_lines.specs.LastBorder.{last_border}
 use Rattle.text_block_renderer.specs.Stretches.{ended, NoneIsAhead}
 use Rattle.text_block_renderer.specs.Acts.{Act, rows_of, ActIsTooNarrow, PutRow, Piece, part, rows_in, ComesInPieces}
 

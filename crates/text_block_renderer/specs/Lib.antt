@@ -1,3 +1,9 @@
+pub use Rattle.tbr_footnotes.specs.Cutting
+pub use Rattle.tbr_footnotes.specs.Footnote
+pub use Rattle.tbr_footnotes.specs.Tags
+pub use Rattle.tbr_kept_lines.specs.LastBorder
+pub use Rattle.tbr_kept_lines.specs.Line
+pub use Rattle.tbr_kept_lines.specs.Text
 pub use Rattle.tbr_renderer.specs.Calls
 pub use Rattle.tbr_renderer.specs.Decorated
 pub use Rattle.tbr_renderer.specs.Flush
@@ -6,10 +12,8 @@ pub use Rattle.tbr_renderer.specs.Meant
 pub use Rattle.tbr_renderer.specs.Options
 pub use Rattle.tbr_renderer.specs.Renderer
 pub use Rattle.tbr_renderer.specs.Steps
-pub use Rattle.tbr_renderer.specs.Text
 pub use Rattle.tbr_renderer.specs.View
 pub use Rattle.tbr_renderer.specs.Appended
-pub use Rattle.tbr_renderer.specs.Cutting
 pub use Rattle.tbr_renderer.specs.Footnotes
 pub use Rattle.tbr_stack.specs.Links
 pub use Rattle.tbr_stack.specs.Stack

@@ -5,7 +5,8 @@ use Rattle.tbr_model.specs.Run.{Item}
 use Rattle.tbr_model.specs.Hard.{visible_glyphs}
 use Rattle.tbr_lines.specs.Elements.{text_items}
 use Rattle.tbr_decor.specs.Decoration.{Decoration}
-use Rattle.tbr_renderer.specs.Renderer.{Line, text, Renderer}
+use Rattle.tbr_kept_lines.specs.Line.{Line, text}
+use Rattle.tbr_renderer.specs.Renderer.{Renderer}
 use Rattle.tbr_renderer.specs.Appended.{as_text, prefixed, HandsOut}
 use Rattle.tbr_renderer.specs.Calls.{append_subrender, Does}
 

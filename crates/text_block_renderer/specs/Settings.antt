@@ -3,7 +3,8 @@ use Rattle.std.specs.Prelude.{ℕ, suc, ◌-◌, Option, None, Some, List, [], �
 use Rattle.tbr_decor.specs.Start as start
 use Rattle.tbr_decor.specs.End as end
 use Rattle.tbr_decor.specs.Decoration.{Decoration}
-use Rattle.tbr_renderer.specs.Renderer.{Renderer, without_last, without_annotation}
+use Rattle.tbr_renderer.specs.Renderer.{Renderer, without_annotation}
+use Rattle.tbr_kept_lines.specs.LastBorder.{without_last}
 use Rattle.tbr_renderer.specs.Image.{shown_title}
 use Rattle.tbr_renderer.specs.Decorated.{struck_from, struck_until, asked_to_close, annotated, coloured, uncoloured}
 use Rattle.tbr_renderer.specs.Calls.{Call, push_ws, pop_ws, push_preformat, pop_preformat, begin, finish, start_strikeout, end_strikeout, add_image, push_colour, pop_colour}

@@ -8,7 +8,8 @@ use Rattle.tbr_model.specs.Markers.{marker_items}
 use Rattle.tbr_model.specs.Shown.{without_spaces}
 use Rattle.tbr_lines.specs.Runs.{IsNormal, EndsRun}
 use Rattle.tbr_lines.specs.Wrapped.{padding_of}
-use Rattle.tbr_renderer.specs.Renderer.{Line, text, Open, Renderer, line_padding, block_width, may_overflow, open_run, with_more}
+use Rattle.tbr_kept_lines.specs.Line.{Line, text}
+use Rattle.tbr_renderer.specs.Renderer.{Open, Renderer, line_padding, block_width, may_overflow, open_run, with_more}
 use Rattle.tbr_renderer.specs.Appended.{border_line}
 use Rattle.tbr_renderer.specs.Calls.{Call, add_border, append_subrender, append_vert_row, laid_entries}
 use Rattle.tbr_lines.specs.Border.{without_holes}

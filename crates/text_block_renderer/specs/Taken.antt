@@ -1,7 +1,8 @@
 -- Lines that renderers hand out and others take.
 use Rattle.std.specs.Prelude.{◌≡◌, ℕ, zero, suc, ◌≤◌, ◌⊎◌, ⊤, Option, List, [], ◌∷◌, ◌++◌, length}
 use Rattle.tbr_decor.specs.Decoration.{Decoration}
-use Rattle.tbr_renderer.specs.Renderer.{Line, Renderer}
+use Rattle.tbr_kept_lines.specs.Line.{Line}
+use Rattle.tbr_renderer.specs.Renderer.{Renderer}
 use Rattle.tbr_renderer.specs.Appended.{HandsOut}
 use Rattle.tbr_renderer.specs.Calls.{Call, append_subrender, append_vert_row, Steps}
 

@@ -2,7 +2,8 @@
 use Rattle.std.specs.Prelude.{List, [], ◌∷◌, ◌++◌, map}
 use Rattle.std.specs.List.{join_by}
 use Rattle.tbr_lines.specs.Cell.{horizontal, slash}
-use Rattle.tbr_renderer.specs.Renderer.{Line, text, border, Renderer}
+use Rattle.tbr_kept_lines.specs.Line.{Line, text, border}
+use Rattle.tbr_renderer.specs.Renderer.{Renderer}
 use Rattle.tbr_renderer.specs.Appended.{border_of_cells, as_text}
 
 -- the lines of a cell, each as text

@@ -6,9 +6,10 @@ ghost use Rattle.tbr_lines.specs.Copies.{equal_lists};
 ghost use Rattle.tbr_lines.specs.Elements.{items_of, text_items, IsMerged};
 ghost use Rattle.tbr_lines.specs.RenderLine.{IsMergedText};
 ghost use Rattle.tbr_lines.specs.declared.Error.TheVariants as E;
-ghost use Rattle.tbr_renderer.specs.Renderer.{Line, KeepsSettings, with_line, block_width};
-ghost use Rattle.tbr_renderer.specs.View.{line_seen};
-ghost use Rattle.tbr_renderer.specs.Meant.{tag_meant, items_meant, map_line, meant};
+ghost use Rattle.tbr_kept_lines.specs.Line.{Line, line_seen};
+ghost use Rattle.tbr_renderer.specs.Renderer.{KeepsSettings, with_line, block_width};
+ghost use Rattle.tbr_footnotes.specs.Tags.{tag_meant, items_meant};
+ghost use Rattle.tbr_renderer.specs.Meant.{map_line, meant};
 ghost use Rattle.tbr_renderer.specs.Flush.{Flushes, FlushIsTooNarrow};
 ghost use Rattle.tbr_renderer.specs.Appended.{GivesFirst, texts_of, as_text, prefixed, with_cell, with_cell_below, with_cells, AppendsLines, AppendsCells, HandsOut, HoldsBack, FirstToRefuse};
 

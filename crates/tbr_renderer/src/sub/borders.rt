@@ -4,7 +4,8 @@ ghost use Rattle.tbr_lines.specs.Cell.{cell_of};
 ghost use Rattle.tbr_lines.specs.declared.Error.TheVariants as E;
 ghost use Rattle.tbr_renderer.specs.Renderer.{KeepsSettings, block_width};
 ghost use Rattle.tbr_rows.specs.Meant.{map_border};
-ghost use Rattle.tbr_renderer.specs.Meant.{tag_meant, meant};
+ghost use Rattle.tbr_footnotes.specs.Tags.{tag_meant};
+ghost use Rattle.tbr_renderer.specs.Meant.{meant};
 ghost use Rattle.tbr_renderer.specs.Flush.{FlushIsTooNarrow};
 ghost use Rattle.tbr_renderer.specs.Appended.{with_border, border_of_cells, with_divider, AddsBorder};
 

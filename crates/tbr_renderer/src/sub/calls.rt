@@ -1,8 +1,11 @@
 //! The calls of a renderer.
 ghost use Rattle.std.specs.Prelude.{◌≡◌, ◌≢◌, ◌<◌, ◌++◌, ◌∷◌, [], suc, ◌^◌, not, true, None, Some, Err, OnOk, OnErr, IfErr, List, map, length, replicate, ◌⊎◌, ◌≤◌};
 ghost use Rattle.tbr_lines.specs.declared.Error.TheVariants as E;
-ghost use Rattle.tbr_renderer.specs.Renderer.{Line, kept_of, block_width, without_last};
-ghost use Rattle.tbr_renderer.specs.Meant.{meant, tag_meant};
+ghost use Rattle.tbr_kept_lines.specs.Line.{Line};
+ghost use Rattle.tbr_renderer.specs.Renderer.{kept_of, block_width};
+ghost use Rattle.tbr_kept_lines.specs.LastBorder.{without_last};
+ghost use Rattle.tbr_renderer.specs.Meant.{meant};
+ghost use Rattle.tbr_footnotes.specs.Tags.{tag_meant};
 ghost use Rattle.tbr_renderer.specs.Steps.{block_is_empty, is_empty};
 ghost use Rattle.tbr_renderer.specs.Calls.{Fails};
 ghost use Rattle.tbr_renderer.specs.Calls as call;

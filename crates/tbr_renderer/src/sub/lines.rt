@@ -6,18 +6,19 @@ ghost use Rattle.tbr_lines.specs.RenderLine.{IsMergedText};
 ghost use Rattle.tbr_lines.specs.declared.Error.{Error as Refusal};
 ghost use Rattle.tbr_lines.specs.declared.Error.TheVariants as E;
 ghost use Rattle.tbr_renderer.specs.Renderer.{Renderer as Seen, block_width};
-ghost use Rattle.tbr_renderer.specs.View.{line_seen};
-ghost use Rattle.tbr_renderer.specs.Text.{line_text, lines_text};
+ghost use Rattle.tbr_kept_lines.specs.Line.{line_seen};
+ghost use Rattle.tbr_kept_lines.specs.Text.{line_text, lines_text};
 ghost use Rattle.tbr_lines.specs.View.{chars_of};
-ghost use Rattle.tbr_renderer.specs.Meant.{tag_meant, map_line, meant};
+ghost use Rattle.tbr_footnotes.specs.Tags.{tag_meant};
+ghost use Rattle.tbr_renderer.specs.Meant.{map_line, meant};
 ghost use Rattle.tbr_renderer.specs.Flush.{Flushes, FlushIsTooNarrow};
 
-use crate::kept_lines::KeptLines;
 use crate::sub::SubRenderer;
 use std::alloc::Global;
 use std::collections::LinkedList;
 use std::mem;
 use tbr_decor::TextDecorator;
+use tbr_kept_lines::KeptLines;
 use tbr_lines::{CharWidth, Error, OutOfMemory, RenderLine};
 
 impl<D: TextDecorator, W: CharWidth> SubRenderer<D, W> {

@@ -9,15 +9,15 @@ ghost use Rattle.tbr_decor.specs.Change as change;
 ghost use Rattle.tbr_decor.specs.Meant.{lines_meant};
 ghost use Rattle.tbr_decor.specs.Meant as decor;
 ghost use Rattle.tbr_renderer.specs.Calls.{Fails};
-ghost use Rattle.tbr_renderer.specs.Cutting.{texts_meant};
+ghost use Rattle.tbr_footnotes.specs.Cutting.{texts_meant};
 ghost use Rattle.tbr_renderer.specs.Footnotes.{listed, with_footnotes};
 ghost use Rattle.tbr_renderer.specs.Footnotes as model;
 ghost use Rattle.tbr_renderer.specs.Meant.{meant};
 ghost use Rattle.tbr_renderer.specs.Renderer.{KeepsSettings, kept_of};
 
-use crate::footnote::FootnoteLines;
 use crate::sub::SubRenderer;
 use tbr_decor::TextDecorator;
+use tbr_footnotes::FootnoteLines;
 use tbr_lines::{CharWidth, Error, OutOfMemory, TaggedLine};
 
 impl<D: TextDecorator, W: CharWidth> SubRenderer<D, W> {

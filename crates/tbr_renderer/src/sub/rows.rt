@@ -9,10 +9,12 @@ ghost use Rattle.tbr_lines.specs.declared.RenderLine.TheVariants.{Line as Rule};
 ghost use Rattle.tbr_rows.specs.Cells.{AreSideBySide, has_lines, row_fits, spot_of};
 ghost use Rattle.tbr_rows.specs.Meant.{map_border, map_cell, row_meant, MeansRow, SeenRow};
 ghost use Rattle.tbr_renderer.specs.Renderer.{KeepsSettings, with_line, block_width};
-ghost use Rattle.tbr_renderer.specs.Meant.{tag_meant, items_meant, meant};
-ghost use Rattle.tbr_renderer.specs.View.{line_seen};
+ghost use Rattle.tbr_footnotes.specs.Tags.{tag_meant, items_meant};
+ghost use Rattle.tbr_renderer.specs.Meant.{meant};
+ghost use Rattle.tbr_kept_lines.specs.Line.{line_seen};
 ghost use Rattle.tbr_renderer.specs.Flush.{FlushIsTooNarrow};
 ghost use Rattle.tbr_renderer.specs.Appended.{HandsOut, HoldsBack, FirstToRefuse};
+ghost use Rattle.tbr_kept_lines.specs.LastBorder.{last_border, before_border};
 ghost use Rattle.tbr_renderer.specs.Rows as model;
 ghost use Rattle.tbr_renderer.specs.Rows.{GivenCell, GivesCell, ComesAs, AppendsRow};
 
@@ -142,7 +144,7 @@ impl<D: TextDecorator, W: CharWidth> SubRenderer<D, W> {
         ensures row { OnOk result ((row : SeenRow (List D.Meaning))
             × MeansRow W.columns (model.style_in self.old collapses) (map D.meaning self.old.annotations)
             (meant D.meaning self.old).hanging (map (map_cell (tag_meant D.meaning)) columns)
-            (model.last_border (meant D.meaning self.old).lines) row
+            (last_border (meant D.meaning self.old).lines) row
             × (meant D.meaning self.new ≡ model.with_row W.columns (meant D.meaning self.old) row)) }
         ensures settings { KeepsSettings (meant D.meaning self.old) (meant D.meaning self.new) }
     {
@@ -168,8 +170,8 @@ impl<D: TextDecorator, W: CharWidth> SubRenderer<D, W> {
     /// Takes the last line, if it is a border.
     fn take_border(&mut self) -> Option<BorderHoriz<Vec<D::Annotation>>>
         requires { self.old.failure ≡ None }
-        ensures border { result ≡ model.last_border self.old.lines }
-        ensures rest { self.new ≡ record self.old { lines = model.before_border self.old.lines } }
+        ensures border { result ≡ last_border self.old.lines }
+        ensures rest { self.new ≡ record self.old { lines = before_border self.old.lines } }
     {
         self.lines.take_border()
     }

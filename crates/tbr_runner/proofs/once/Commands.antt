@@ -2,7 +2,8 @@
 use Rattle.std.proofs.Common.{◌≡◌, ◌⊎◌, ℕ, Option, List, length, sym, ap, ◌∙◌, subst, inl, inr}
 use Rattle.std.proofs.lemmas.Bool.{false≢true}
 use Rattle.tbr_decor.specs.Decoration.{Decoration}
-use Rattle.text_block_renderer.specs.Renderer.{Renderer, Line}
+use Rattle.text_block_renderer.specs.Renderer.{Renderer}
+use Rattle.text_block_renderer.specs.Line.{Line}
 use Rattle.text_block_renderer.specs.Flush.{FlushIsTooNarrow}
 use Rattle.text_block_renderer.specs.Appended.{HandsOut, HoldsBack}
 use Rattle.text_block_renderer.specs.Calls.{Call, append_subrender, append_vert_row, Does, IsTooNarrow}

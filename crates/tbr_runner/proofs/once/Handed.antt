@@ -2,7 +2,8 @@
 use Rattle.std.proofs.Common.{◌≡◌, ℕ, Option, List, [], ◌∷◌, refl, sym, ap, ◌∙◌, inl, inr}
 use Rattle.std.specs.List.{AllZip}
 use Rattle.tbr_decor.specs.Decoration.{Decoration}
-use Rattle.text_block_renderer.specs.Renderer.{Renderer, Line}
+use Rattle.text_block_renderer.specs.Renderer.{Renderer}
+use Rattle.text_block_renderer.specs.Line.{Line}
 use Rattle.text_block_renderer.specs.Appended.{HandsOut, HoldsBack, FirstToRefuse}
 use Rattle.text_block_renderer.specs.Calls.{new_line}
 use Rattle.text_block_renderer.proofs.OneState.{call_once, call_or_not}

@@ -2,10 +2,12 @@ use Rattle.std.proofs.Common.{sym, subst, map}
 use Rattle.std.specs.List.{AllZip, AllByRecursion as Each}
 use Rattle.std.specs.Vec.Iter.{into_iter_items}
 use Rattle.tbr_lines.specs.declared.Error.TheVariants.{TooNarrow}
-use Rattle.tbr_renderer.specs.Meant.{tag_meant, map_line, meant}
-use Rattle.tbr_renderer.specs.View.{line_seen}
+use Rattle.tbr_footnotes.specs.Tags.{tag_meant}
+use Rattle.tbr_renderer.specs.Meant.{map_line, meant}
+use Rattle.tbr_kept_lines.specs.Line.{line_seen}
 use Rattle.tbr_renderer.specs.Appended.{FirstToRefuse, HoldsBack}
-use Rattle.tbr_renderer.proofs.Appending.{Hands, no_cells, cells_go_on, cols_left, cols_taken, refuses_behind, each_at, unfailed, held_back, passed_on}
+use Rattle.tbr_renderer.proofs.Appending.{Hands, no_cells, cells_go_on, refuses_behind, each_at, unfailed, held_back, passed_on}
+use Rattle.tbr_kept_lines.proofs.ItemsLeft.{items_left, items_taken}
 use Rattle.tbr_renderer.proofs.sub.SubRenderer.add_cells_below.Goals as goal
 
 pub loop-col-init : goal.loop-col-init
@@ -16,7 +18,7 @@ returns-in_err-lines-clause-too_narrow g c = λ is.
     let f = g.D.TextDecorator.meaning in
     let columns = g.W.CharWidth.columns in
     let e = passed_on c.from_residual-in_err-lines.result c.into_vec.result c.in_err-lines.field-0.0 TooNarrow is c.from_residual-in_err-lines.ensures.1 c.in_err-lines.was in
-    let whole = cols_left c.args.cols c.into_iter-col-iterator.result c.loop-col.col-iterator c.next.new.self c.loop-col.yielded c.in-Some.col c.into_iter-col-iterator.ensures.into_iter_gives c.loop-col.yielded_by c.in-Some.ensures.steps.0 in
+    let whole = items_left c.args.cols c.into_iter-col-iterator.result c.loop-col.col-iterator c.next.new.self c.loop-col.yielded c.in-Some.col c.into_iter-col-iterator.ensures.into_iter_gives c.loop-col.yielded_by c.in-Some.ensures.steps.0 in
     subst (λ cols. FirstToRefuse (Hands f columns c.args.self.now) (λ col. HoldsBack columns (meant f col)) cols) (sym whole)
     (refuses_behind (Hands f columns c.args.self.now) (λ col. HoldsBack columns (meant f col)) c.loop-col.yielded c.in-Some.col (into_iter_items c.next.new.self) c.loop-col.invariant.cells c.loop-col.invariant.hand
     (held_back columns (meant f c.in-Some.col) c.into_vec.result e c.into_vec.ensures.too_narrow c.into_vec.ensures.kept))
@@ -24,7 +26,7 @@ returns-in_err-lines-clause-too_narrow g c = λ is.
 pub returns-in_err-lines-clause-two_columns : goal.returns-in_err-lines-clause-two_columns
 returns-in_err-lines-clause-two_columns g c = λ wide is.
     let e = passed_on c.from_residual-in_err-lines.result c.into_vec.result c.in_err-lines.field-0.0 TooNarrow is c.from_residual-in_err-lines.ensures.1 c.in_err-lines.was in
-    let whole = cols_left c.args.cols c.into_iter-col-iterator.result c.loop-col.col-iterator c.next.new.self c.loop-col.yielded c.in-Some.col c.into_iter-col-iterator.ensures.into_iter_gives c.loop-col.yielded_by c.in-Some.ensures.steps.0 in
+    let whole = items_left c.args.cols c.into_iter-col-iterator.result c.loop-col.col-iterator c.next.new.self c.loop-col.yielded c.in-Some.col c.into_iter-col-iterator.ensures.into_iter_gives c.loop-col.yielded_by c.in-Some.ensures.steps.0 in
     let here = each_at _ c.loop-col.yielded c.in-Some.col (into_iter_items c.next.new.self) (subst (Each _) whole wide) in
     c.into_vec.ensures.two_columns here.0 here.1 e
 
@@ -40,5 +42,5 @@ pub returns-clause-ok : goal.returns-clause-ok
 returns-clause-ok g c =
     let f = g.D.TextDecorator.meaning in
     let h = c.loop-col.invariant in
-    let whole = cols_taken c.args.cols c.into_iter-col-iterator.result c.loop-col.col-iterator c.next.new.self c.loop-col.yielded c.into_iter-col-iterator.ensures.into_iter_gives c.loop-col.yielded_by c.in-None.ensures.steps in
+    let whole = items_taken c.args.cols c.into_iter-col-iterator.result c.loop-col.col-iterator c.next.new.self c.loop-col.yielded c.into_iter-col-iterator.ensures.into_iter_gives c.loop-col.yielded_by c.in-None.ensures.steps in
     (h.cells, subst (λ cols. AllZip (Hands f g.W.CharWidth.columns c.args.self.now) cols h.cells) (sym whole) h.hand, h.is)

@@ -1,5 +1,5 @@
 use Rattle.tbr_renderer.proofs.LinesAsTheyAre.{added_as_is}
-use Rattle.tbr_renderer.proofs.Meanings.{tags_mean}
+use Rattle.tbr_footnotes.proofs.Tags.{tags_mean}
 use Rattle.tbr_renderer.proofs.sub.SubRenderer.add_lines_of.Goals as goal
 
 pub returns-clause-lines : goal.returns-clause-lines

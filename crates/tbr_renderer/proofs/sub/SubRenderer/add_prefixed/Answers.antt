@@ -2,8 +2,9 @@ use Rattle.std.proofs.Common.{◌∙◌, ◌++◌, ap, sym, subst, map, refl}
 use Rattle.std.specs.Prelude.{chars}
 use Rattle.std.specs.Vec.Iter.{into_iter_items}
 use Rattle.tbr_lines.specs.Elements.{items_of, text_items}
-use Rattle.tbr_renderer.specs.Meant.{items_meant}
-use Rattle.tbr_renderer.proofs.Appending.{Prefixes, cols_left, prefixed_goes_on, ran_out}
+use Rattle.tbr_footnotes.specs.Tags.{items_meant}
+use Rattle.tbr_renderer.proofs.Appending.{Prefixes, prefixed_goes_on, ran_out}
+use Rattle.tbr_kept_lines.proofs.ItemsLeft.{items_left}
 use Rattle.tbr_renderer.proofs.sub.SubRenderer.add_prefixed.Goals as goal
 
 pub returns-in_default-clause-lines : goal.returns-in_default-clause-lines
@@ -11,7 +12,7 @@ returns-in_default-clause-lines g c =
     let f = g.D.TextDecorator.meaning in
     let it = g.I.Iterator in
     let all = c.into_iter-line-iterator.result in
-    let whole = sym c.into_iter-line-iterator.ensures.into_iter_gives.0 ∙ cols_left all all c.loop-line.line-iterator c.next.new.self c.loop-line.yielded c.in-Some.line refl c.loop-line.yielded_by c.in-Some.ensures.steps.0 in
+    let whole = sym c.into_iter-line-iterator.ensures.into_iter_gives.0 ∙ items_left all all c.loop-line.line-iterator c.next.new.self c.loop-line.yielded c.in-Some.line refl c.loop-line.yielded_by c.in-Some.ensures.steps.0 in
     subst (λ lines. Prefixes f g.W.CharWidth.columns c.args.self.now it.can_next it.next_gives g.P.AsStr.text c.args.prefixes lines c.loop-line.self) (sym whole)
     (ran_out f g.W.CharWidth.columns c.args.self.now it.can_next it.next_gives g.P.AsStr.text c.args.prefixes c.loop-line.yielded c.in-Some.line (into_iter_items c.next.new.self) c.loop-line.prefixes c.next-in-loop-line.new.self c.loop-line.self c.loop-line.invariant c.in_default.ensures.steps)
 

@@ -5,7 +5,7 @@ use Rattle.tbr_lines.proofs.Copies.{list_copies_equal}
 use Rattle.tbr_rows.specs.Cells.{row_fits, spot_of}
 use Rattle.tbr_renderer.specs.Renderer.{Renderer}
 use Rattle.tbr_renderer.specs.Rows.{style_in}
-use Rattle.tbr_renderer.proofs.Meanings.{tags_mean}
+use Rattle.tbr_footnotes.proofs.Tags.{tags_mean}
 use Rattle.tbr_renderer.proofs.Rowing.{tags_told, row_laid}
 use Rattle.tbr_renderer.proofs.sub.SubRenderer.add_row.Goals as goal
 

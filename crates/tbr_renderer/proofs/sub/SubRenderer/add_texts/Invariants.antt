@@ -1,6 +1,6 @@
 use Rattle.std.proofs.Common.{map}
 use Rattle.tbr_lines.specs.Elements.{items_of}
-use Rattle.tbr_renderer.specs.Meant.{items_meant}
+use Rattle.tbr_footnotes.specs.Tags.{items_meant}
 use Rattle.tbr_renderer.proofs.Appending.{HasPut}
 use Rattle.tbr_renderer.proofs.sub.SubRenderer.add_texts.Given as goal
 

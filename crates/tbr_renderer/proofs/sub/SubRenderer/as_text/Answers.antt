@@ -6,10 +6,11 @@ use Rattle.tbr_lines.specs.Elements.{items_of}
 use Rattle.tbr_lines.proofs.Copies.{list_copies_equal}
 use Rattle.tbr_lines.proofs.MappedTags.{means_same_items}
 use Rattle.tbr_rows.specs.Meant.{map_border}
-use Rattle.tbr_renderer.specs.Meant.{tag_meant, map_line}
+use Rattle.tbr_footnotes.specs.Tags.{tag_meant}
+use Rattle.tbr_renderer.specs.Meant.{map_line}
 use Rattle.tbr_renderer.specs.Appended.{as_text}
-use Rattle.tbr_renderer.specs.View.{line_seen}
-use Rattle.tbr_renderer.proofs.Meanings.{tags_mean}
+use Rattle.tbr_kept_lines.specs.Line.{line_seen}
+use Rattle.tbr_footnotes.proofs.Tags.{tags_mean}
 use Rattle.tbr_renderer.proofs.Bordering.{shown-map}
 use Rattle.tbr_renderer.proofs.sub.SubRenderer.as_text.Goals as goal
 

@@ -7,12 +7,14 @@ use Rattle.tbr_rows.specs.Filled.{cell_behind}
 use Rattle.tbr_lines.specs.declared.CellAlign.TheVariants.{Left}
 use Rattle.tbr_rows.specs.Cells.{AreSideBySide}
 use Rattle.tbr_rows.specs.Meant.{map_line as map_row_line}
-use Rattle.tbr_renderer.specs.Meant.{tag_meant, map_line, meant}
+use Rattle.tbr_footnotes.specs.Tags.{tag_meant}
+use Rattle.tbr_renderer.specs.Meant.{map_line, meant}
 use Rattle.tbr_renderer.specs.Rows.{LeavesFree, FillsCell, aligned_as}
-use Rattle.tbr_renderer.specs.View.{line_seen}
+use Rattle.tbr_kept_lines.specs.Line.{line_seen}
 use Rattle.tbr_renderer.specs.Appended.{FirstToRefuse, HandsOut, HoldsBack}
-use Rattle.tbr_renderer.proofs.Meanings.{tags_mean}
-use Rattle.tbr_renderer.proofs.Appending.{cols_left, cols_taken, refuses_behind, each_at, unfailed, held_back, passed_on}
+use Rattle.tbr_footnotes.proofs.Tags.{tags_mean}
+use Rattle.tbr_kept_lines.proofs.ItemsLeft.{items_left, items_taken}
+use Rattle.tbr_renderer.proofs.Appending.{refuses_behind, each_at, unfailed, held_back, passed_on}
 use Rattle.tbr_renderer.proofs.Rowing.{Gives, HasColumns, tags_told, no_columns, columns_go_on, next_taken, lines_fill, lines_given}
 use Rattle.tbr_renderer.proofs.sub.SubRenderer.columns_of.Goals as goal
 
@@ -31,7 +33,7 @@ returns-in_err-lines-clause-too_narrow g c = λ is.
     let columns = g.W.CharWidth.columns in
     let e = passed_on c.from_residual-in_err-lines.result c.into_vec.result c.in_err-lines.field-0.0 TooNarrow is c.from_residual-in_err-lines.ensures.1 c.in_err-lines.was in
     let all = c.into_iter-col-iterator.result in
-    let whole = sym c.into_iter-col-iterator.ensures.into_iter_gives.0 ∙ cols_left all all c.loop-col.col-iterator c.next.new.self c.loop-col.yielded (c.in-Some.col, c.in-Some.span) refl c.loop-col.yielded_by c.in-Some.ensures.steps.0 in
+    let whole = sym c.into_iter-col-iterator.ensures.into_iter_gives.0 ∙ items_left all all c.loop-col.col-iterator c.next.new.self c.loop-col.yielded (c.in-Some.col, c.in-Some.span) refl c.loop-col.yielded_by c.in-Some.ensures.steps.0 in
     let inv = c.loop-col.invariant.0 in
     subst (λ cols. FirstToRefuse (λ col lines. HandsOut columns (meant f col.0) lines) (λ col. HoldsBack columns (meant f col.0)) cols) (sym whole)
     (refuses_behind (λ col lines. HandsOut columns (meant f col.0) lines) (λ col. HoldsBack columns (meant f col.0)) c.loop-col.yielded (c.in-Some.col, c.in-Some.span) (into_iter_items c.next.new.self) _ (lines_given f columns c.loop-col.yielded inv.cells inv.give)
@@ -41,7 +43,7 @@ pub returns-in_err-lines-clause-two_columns : goal.returns-in_err-lines-clause-t
 returns-in_err-lines-clause-two_columns g c = λ wide is.
     let e = passed_on c.from_residual-in_err-lines.result c.into_vec.result c.in_err-lines.field-0.0 TooNarrow is c.from_residual-in_err-lines.ensures.1 c.in_err-lines.was in
     let all = c.into_iter-col-iterator.result in
-    let whole = sym c.into_iter-col-iterator.ensures.into_iter_gives.0 ∙ cols_left all all c.loop-col.col-iterator c.next.new.self c.loop-col.yielded (c.in-Some.col, c.in-Some.span) refl c.loop-col.yielded_by c.in-Some.ensures.steps.0 in
+    let whole = sym c.into_iter-col-iterator.ensures.into_iter_gives.0 ∙ items_left all all c.loop-col.col-iterator c.next.new.self c.loop-col.yielded (c.in-Some.col, c.in-Some.span) refl c.loop-col.yielded_by c.in-Some.ensures.steps.0 in
     let here = each_at _ c.loop-col.yielded (c.in-Some.col, c.in-Some.span) (into_iter_items c.next.new.self) (subst (Each _) whole wide) in
     c.into_vec.ensures.two_columns here.0 here.1 e
 
@@ -74,14 +76,14 @@ pub returns-clause-cells : goal.returns-clause-cells
 returns-clause-cells g c =
     let f = g.D.TextDecorator.meaning in
     let all = c.into_iter-col-iterator.result in
-    let whole = sym c.into_iter-col-iterator.ensures.into_iter_gives.0 ∙ cols_taken all all c.loop-col.col-iterator c.next.new.self c.loop-col.yielded refl c.loop-col.yielded_by c.in-None.ensures.steps in
+    let whole = sym c.into_iter-col-iterator.ensures.into_iter_gives.0 ∙ items_taken all all c.loop-col.col-iterator c.next.new.self c.loop-col.yielded refl c.loop-col.yielded_by c.in-None.ensures.steps in
     let h = c.loop-col.invariant.0 in
     (h.cells, subst (λ cols. AllZip (Gives f g.W.CharWidth.columns) cols h.cells) (sym whole) h.give, h.aligned ∙ ap (aligned_as c.args.aligns.now) (sym whole), h.come)
 
 pub returns-clause-free : goal.returns-clause-free
 returns-clause-free g c =
     let all = c.into_iter-col-iterator.result in
-    let whole = sym c.into_iter-col-iterator.ensures.into_iter_gives.0 ∙ cols_taken all all c.loop-col.col-iterator c.next.new.self c.loop-col.yielded refl c.loop-col.yielded_by c.in-None.ensures.steps in
+    let whole = sym c.into_iter-col-iterator.ensures.into_iter_gives.0 ∙ items_taken all all c.loop-col.col-iterator c.next.new.self c.loop-col.yielded refl c.loop-col.yielded_by c.in-None.ensures.steps in
     subst (λ cols. AllZip (LeavesFree g.W.CharWidth.columns) cols c.loop-col.columns) (sym whole) c.loop-col.invariant.0.free
 
 pub returns-clause-side_by_side : goal.returns-clause-side_by_side

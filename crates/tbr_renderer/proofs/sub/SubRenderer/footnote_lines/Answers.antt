@@ -1,9 +1,9 @@
 use Rattle.std.proofs.Common.{map, ap, ◌∙◌}
 use Rattle.std.proofs.lemmas.Result.{IfOk-weaker}
 use Rattle.tbr_decor.specs.Meant as decor
-use Rattle.tbr_renderer.specs.Cutting.{nothing_cut, texts_meant}
+use Rattle.tbr_footnotes.specs.Cutting.{nothing_cut, texts_meant}
 use Rattle.tbr_renderer.specs.Footnotes.{link_width}
-use Rattle.tbr_renderer.proofs.Footnotes.{cut_whole}
+use Rattle.tbr_footnotes.proofs.CutLines.{cut_whole}
 use Rattle.tbr_renderer.proofs.sub.SubRenderer.footnote_lines.Goals as goal
 
 pub returns-clause-lines : goal.returns-clause-lines

@@ -1,5 +1,6 @@
 use Rattle.std.proofs.Common.{map, ap}
-use Rattle.tbr_renderer.specs.Meant.{tag_meant, map_line, meant}
+use Rattle.tbr_footnotes.specs.Tags.{tag_meant}
+use Rattle.tbr_renderer.specs.Meant.{map_line, meant}
 use Rattle.tbr_renderer.proofs.sub.SubRenderer.into_kept.Goals as goal
 
 pub returns-clause-lines : goal.returns-clause-lines

@@ -1,6 +1,7 @@
 use Rattle.std.proofs.Common.{map, ap, ◌∙◌}
-use Rattle.tbr_renderer.specs.Meant.{tag_meant, map_line}
-use Rattle.tbr_renderer.specs.View.{line_seen}
+use Rattle.tbr_footnotes.specs.Tags.{tag_meant}
+use Rattle.tbr_renderer.specs.Meant.{map_line}
+use Rattle.tbr_kept_lines.specs.Line.{line_seen}
 use Rattle.tbr_renderer.proofs.sub.SubRenderer.into_lines.Goals as goal
 
 pub returns-clause-lines : goal.returns-clause-lines

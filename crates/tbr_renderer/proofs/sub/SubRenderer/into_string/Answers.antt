@@ -1,6 +1,6 @@
 use Rattle.std.proofs.Common.{ap, sym, ◌∙◌}
-use Rattle.tbr_renderer.specs.Meant.{tag_meant}
-use Rattle.tbr_renderer.specs.Text.{lines_text}
+use Rattle.tbr_footnotes.specs.Tags.{tag_meant}
+use Rattle.tbr_kept_lines.specs.Text.{lines_text}
 use Rattle.tbr_renderer.proofs.LineTexts.{lines_same}
 use Rattle.tbr_renderer.proofs.sub.SubRenderer.into_string.Goals as goal
 

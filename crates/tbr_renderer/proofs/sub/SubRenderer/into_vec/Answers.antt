@@ -1,10 +1,10 @@
 use Rattle.std.proofs.Common.{map, ◌∙◌}
 use Rattle.tbr_lines.specs.Copies.{equal_lists}
 use Rattle.tbr_lines.proofs.Copies.{list_copies_equal}
-use Rattle.tbr_renderer.specs.Meant.{tag_meant}
-use Rattle.tbr_renderer.specs.View.{line_seen}
-use Rattle.tbr_renderer.proofs.KeptLines.{same_meant}
-use Rattle.tbr_renderer.proofs.Meanings.{tags_mean}
+use Rattle.tbr_footnotes.specs.Tags.{tag_meant}
+use Rattle.tbr_kept_lines.specs.Line.{line_seen}
+use Rattle.tbr_renderer.proofs.SameLines.{same_meant}
+use Rattle.tbr_footnotes.proofs.Tags.{tags_mean}
 use Rattle.tbr_renderer.proofs.sub.SubRenderer.into_vec.Goals as goal
 
 pub into_vec-requires : goal.into_vec-requires

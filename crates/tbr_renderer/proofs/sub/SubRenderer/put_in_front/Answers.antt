@@ -7,8 +7,8 @@ use Rattle.tbr_lines.specs.Copies.{equal_lists}
 use Rattle.tbr_lines.specs.Elements.{items_of, text_items}
 use Rattle.tbr_lines.specs.View.{chars_of}
 use Rattle.tbr_lines.proofs.MappedTags.{means_same_items}
-use Rattle.tbr_renderer.specs.Meant.{tag_meant, items_meant}
-use Rattle.tbr_renderer.proofs.Meanings.{tags_mean, text_items-map}
+use Rattle.tbr_footnotes.specs.Tags.{tag_meant, items_meant}
+use Rattle.tbr_footnotes.proofs.Tags.{tags_mean, text_items-map}
 use Rattle.tbr_renderer.proofs.Appending.{no_prefix}
 use Rattle.tbr_renderer.proofs.sub.SubRenderer.put_in_front.Goals as goal
 

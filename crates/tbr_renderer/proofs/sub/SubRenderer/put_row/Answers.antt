@@ -2,7 +2,7 @@ use Rattle.std.proofs.Common.{map, refl}
 use Rattle.std.proofs.lemmas.Result.{on_ok_weaker}
 use Rattle.tbr_lines.specs.Elements.{items_of}
 use Rattle.tbr_rows.specs.Meant.{row_meant}
-use Rattle.tbr_renderer.specs.Meant.{tag_meant, items_meant}
+use Rattle.tbr_footnotes.specs.Tags.{tag_meant, items_meant}
 use Rattle.tbr_renderer.proofs.Rowing.{row_put}
 use Rattle.tbr_renderer.proofs.sub.SubRenderer.put_row.Goals as goal
 

@@ -1,7 +1,8 @@
 use Rattle.std.proofs.Common.{◌∙◌, ap, sym, subst, map, fold}
-use Rattle.tbr_renderer.specs.Meant.{tag_meant, map_line, meant}
+use Rattle.tbr_footnotes.specs.Tags.{tag_meant}
+use Rattle.tbr_renderer.specs.Meant.{map_line, meant}
 use Rattle.tbr_renderer.specs.Renderer.{Settings, with_line}
-use Rattle.tbr_renderer.specs.View.{line_seen}
+use Rattle.tbr_kept_lines.specs.Line.{line_seen}
 use Rattle.tbr_renderer.specs.Appended.{GivesFirst, texts_of, prefixed}
 use Rattle.tbr_renderer.proofs.Appending.{unfailed, length-seen}
 use Rattle.tbr_renderer.proofs.sub.SubRenderer.try_append_subrender.Goals as goal

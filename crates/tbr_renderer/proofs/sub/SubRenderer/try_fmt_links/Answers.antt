@@ -1,4 +1,4 @@
-use Rattle.tbr_renderer.specs.Cutting.{texts_meant}
+use Rattle.tbr_footnotes.specs.Cutting.{texts_meant}
 use Rattle.tbr_renderer.proofs.Footnotes.{footnotes_go_on}
 use Rattle.tbr_renderer.proofs.sub.SubRenderer.try_fmt_links.Goals as goal
 

@@ -1,7 +1,8 @@
 use Rattle.std.proofs.Common.{◌≡◌, Some, map, sym, ap, ◌∙◌, subst}
 use Rattle.tbr_decor.specs.Decoration.{decoration_of}
-use Rattle.text_block_renderer.specs.Meant.{tag_meant, map_line, meant}
-use Rattle.text_block_renderer.specs.View.{line_seen}
+use Rattle.text_block_renderer.specs.Tags.{tag_meant}
+use Rattle.text_block_renderer.specs.Meant.{map_line, meant}
+use Rattle.text_block_renderer.specs.Line.{line_seen}
 use Rattle.tbr_stack.specs.Stack.{top_of}
 use Rattle.tbr_runner.specs.Progress.{GoesOn}
 use Rattle.tbr_runner.specs.Closing.{ClosesIn, ClosingIsTooNarrow}

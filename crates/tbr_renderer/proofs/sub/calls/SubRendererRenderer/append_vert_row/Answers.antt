@@ -2,7 +2,8 @@ use Rattle.std.proofs.Common.{List, ap}
 use Rattle.std.specs.List.{AllZip}
 use Rattle.std.specs.Global.{Vec}
 use Rattle.tbr_renderer.specs.Meant.{meant}
-use Rattle.tbr_renderer.specs.Renderer.{Line, Renderer, Settings, kept_of}
+use Rattle.tbr_kept_lines.specs.Line.{Line}
+use Rattle.tbr_renderer.specs.Renderer.{Renderer, Settings, kept_of}
 use Rattle.tbr_renderer.specs.Appended.{HandsOut, AppendsCells}
 use Rattle.tbr_renderer.proofs.Stages.{on_err}
 use Rattle.tbr_renderer.proofs.Kept.{kept_ok, kept_fails}

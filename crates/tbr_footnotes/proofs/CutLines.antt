@@ -1,0 +1,155 @@
+-- Footnotes that are cut into lines.
+use Rattle.std.proofs.Common.{◌≡◌, ◌≢◌, ℕ, ◌+◌, ◌≤◌, ◌==◌, Bool, true, false, if◌then◌else◌, Option, Some, None, List, [], ◌∷◌, ◌++◌, map, refl, ap, sym, ◌∙◌, append_assoc, append-nil, arith}
+use Rattle.std.specs.Global.{Vec}
+use Rattle.std.proofs.lemmas.Bool.{cond_both, eqb-true, leb-true, le-leb}
+use Rattle.std.proofs.lemmas.List.{map-append}
+use Rattle.std.proofs.lemmas.Grind.{fold-append}
+use Rattle.tbr_model.specs.Codes.{newline_character, space_character}
+use Rattle.tbr_model.specs.Run.{Item, glyph, item_width, items_width}
+use Rattle.tbr_model.specs.Mapped.{map_item}
+use Rattle.tbr_model.specs.Width.{width_of_text}
+use Rattle.tbr_model.proofs.words.Items.{items_width-append}
+use Rattle.tbr_lines.specs.Copies.{equal_lists}
+use Rattle.tbr_lines.specs.Elements.{Element, piece, marker_element, text_items, items_of, SameItems, IsMerged}
+use Rattle.tbr_lines.specs.Mapped.{MeansEqual}
+use Rattle.tbr_lines.proofs.MappedTags.{means_same_items}
+use Rattle.tbr_lines.proofs.TextColumns.{items_width-text}
+use Rattle.tbr_lines.specs.declared.TaggedLineElement.{TaggedLineElement}
+use Rattle.tbr_lines.specs.View.{element_of}
+use Rattle.tbr_decor.specs.Meant.{meant as element_meant}
+use Rattle.tbr_footnotes.specs.Cutting.{Cutting, nothing_cut, line_ended, appended, extended, with_item, with_items, cut_meant, texts_meant, cutting_of, HoldsCutting}
+use Rattle.tbr_footnotes.specs.Footnote.{unbroken, footnote_items, fits_behind, cut_lines}
+use Rattle.tbr_footnotes.specs.declared.footnote_lines.FootnoteLines.TheInside.{Inside}
+use Rattle.tbr_footnotes.specs.Tags.{tag_meant, items_meant}
+use Rattle.tbr_footnotes.proofs.Tags.{text_items-map}
+
+-- ---- the characters of a footnote
+
+text_items-append : {A : Type 0} (cs ds : List ℕ) (a : A) → text_items (cs ++ ds) a ≡ text_items cs a ++ text_items ds a
+text_items-append cs ds a = map-append (λ c. glyph c a) cs ds
+
+footnote_items-append : {A : Type 0} (es fs : List (Element A)) → footnote_items (es ++ fs) ≡ footnote_items es ++ footnote_items fs
+footnote_items-append [] fs = refl
+footnote_items-append (piece cs a ∷ es) fs =
+    ap (λ is. text_items (map unbroken cs) (a ∷ []) ++ is) (footnote_items-append es fs) ∙ sym (append_assoc (text_items (map unbroken cs) (a ∷ [])) (footnote_items es) (footnote_items fs))
+footnote_items-append (marker_element name ∷ es) fs = footnote_items-append es fs
+
+-- one more that is no newline
+pub unbroken_more : (cs : List ℕ) (c : ℕ) → map unbroken cs ≡ cs → c ≢ newline_character → map unbroken (cs ++ c ∷ []) ≡ cs ++ c ∷ []
+unbroken_more cs c so_far other =
+    map-append unbroken cs (c ∷ []) ∙ ap (λ ds. ds ++ unbroken c ∷ []) so_far
+    ∙ cond_both (c == newline_character) space_character c (λ d. cs ++ d ∷ [] ≡ cs ++ c ∷ []) (λ e. absurd (other (eqb-true c newline_character e))) (λ _. refl)
+
+module _ {T : Type 0} (columns : ℕ → Option ℕ) where
+  -- characters and then characters
+  then_items : (c d e : Cutting T) (is js : List (Item T)) → d ≡ with_items columns c is → e ≡ with_items columns d js → e ≡ with_items columns c (is ++ js)
+  then_items c d e is js first next = next ∙ ap (λ (x : Cutting T). with_items columns x js) first ∙ sym (fold-append (with_item columns) c is js)
+
+  -- one character more of a text
+  pub text_goes_on : (c d e : Cutting T) (tag : T) (cs : List ℕ) (x y : ℕ) → d ≡ with_items columns c (text_items (map unbroken cs) tag) → y ≡ unbroken x → e ≡ with_item columns d (glyph y tag) →
+      e ≡ with_items columns c (text_items (map unbroken (cs ++ x ∷ [])) tag)
+  text_goes_on c d e tag cs x y so_far is next =
+      then_items c d e (text_items (map unbroken cs) tag) (glyph (unbroken x) tag ∷ []) so_far (next ∙ ap (λ z. with_item columns d (glyph z tag)) is)
+      ∙ ap (with_items columns c) (sym (ap (λ zs. text_items zs tag) (map-append unbroken cs (x ∷ [])) ∙ text_items-append (map unbroken cs) (unbroken x ∷ []) tag))
+
+  -- the whole text
+  pub text_ends : (c d : Cutting T) (tag : T) (cs ds : List ℕ) → d ≡ with_items columns c (text_items (map unbroken cs) tag) → cs ≡ ds → d ≡ with_items columns c (text_items (map unbroken ds) tag)
+  text_ends c d tag cs ds so_far all = so_far ∙ ap (λ xs. with_items columns c (text_items (map unbroken xs) tag)) all
+
+  -- what fits after a line, where more does, and after a character of it
+  fits_at_most : (width : Option ℕ) (held : List (Item T)) (more most : ℕ) → more ≤ most → fits_behind columns width held most ≡ true → fits_behind columns width held more ≡ true
+  fits_at_most None held more most h fits = refl
+  fits_at_most (Some width) held more most h fits = le-leb _ _ (omega (arith, h, leb-true _ _ fits))
+
+  fits_after : (width : Option ℕ) (held : List (Item T)) (i : Item T) (more : ℕ) → fits_behind columns width held (item_width columns i + more) ≡ true → fits_behind columns width (held ++ i ∷ []) more ≡ true
+  fits_after None held i more fits = refl
+  fits_after (Some width) held i more fits = le-leb _ _ (omega (arith, items_width-append columns held (i ∷ []), leb-true _ _ fits))
+
+  -- a text that fits as a whole
+  with_text : (c : Cutting T) (tag : T) (cs : List ℕ) → fits_behind columns c.width c.held (width_of_text columns cs) ≡ true → with_items columns c (text_items cs tag) ≡ extended c (text_items cs tag)
+  with_text c tag [] fits = ap (λ (is : List (Item T)). record c { held = is }) (sym (append-nil c.held))
+  with_text c tag (x ∷ cs) fits =
+      let i = glyph x tag in
+      let here = fits_at_most c.width c.held (item_width columns i) (width_of_text columns (x ∷ cs)) (omega arith) fits in
+      ap (λ (b : Bool). with_items columns (appended (if b then c else line_ended c) i) (text_items cs tag)) here
+      ∙ with_text (appended c i) tag cs (fits_after c.width c.held i (width_of_text columns cs) fits) ∙ ap (λ (is : List (Item T)). record c { held = is }) (append_assoc c.held (i ∷ []) (text_items cs tag))
+
+  pub whole_text : (c d : Cutting T) (tag : T) (cs : List ℕ) → map unbroken cs ≡ cs → fits_behind columns c.width c.held (width_of_text columns cs) ≡ true → d ≡ extended c (text_items cs tag) → d ≡ with_items columns c (text_items (map unbroken cs) tag)
+  whole_text c d tag cs unbroken fits is = is ∙ sym (with_text c tag cs fits) ∙ ap (λ ds. with_items columns c (text_items ds tag)) (sym unbroken)
+
+  -- one character, whether it fits or not
+  module _ (c : Cutting T) (i : Item T) (is : List (Item T)) where
+    abbrev cutting_after : Bool → Cutting T
+    cutting_after b = with_items columns (appended (if b then c else line_ended c) i) is
+
+    abbrev lines_after : Bool → List (List (Item T))
+    lines_after b = if b then cut_lines columns c.width (c.held ++ i ∷ []) is else c.held ∷ cut_lines columns c.width (i ∷ []) is
+
+    one_by_one : (b : Bool) → fits_behind columns c.width c.held (item_width columns i) ≡ b → (line_ended (cutting_after b)).ended ≡ c.ended ++ lines_after b →
+        (line_ended (with_items columns c (i ∷ is))).ended ≡ c.ended ++ cut_lines columns c.width c.held (i ∷ is)
+    one_by_one b fits h = ap (λ (x : Bool). (line_ended (cutting_after x)).ended) fits ∙ h ∙ ap (λ (x : Bool). c.ended ++ lines_after x) (sym fits)
+
+  -- the lines of all characters
+  pub cut_by_items : (c : Cutting T) (is : List (Item T)) → (line_ended (with_items columns c is)).ended ≡ c.ended ++ cut_lines columns c.width c.held is
+  cut_by_items c [] = refl
+  cut_by_items c (i ∷ is) = go (fits_behind columns c.width c.held (item_width columns i)) refl (cut_by_items (appended c i) is) (cut_by_items (appended (line_ended c) i) is)
+    where
+      go : (b : Bool) → fits_behind columns c.width c.held (item_width columns i) ≡ b →
+          (line_ended (with_items columns (appended c i) is)).ended ≡ c.ended ++ cut_lines columns c.width (c.held ++ i ∷ []) is →
+          (line_ended (with_items columns (appended (line_ended c) i) is)).ended ≡ (c.ended ++ c.held ∷ []) ++ cut_lines columns c.width (i ∷ []) is →
+          (line_ended (with_items columns c (i ∷ is))).ended ≡ c.ended ++ cut_lines columns c.width c.held (i ∷ is)
+      go true fits here fresh = one_by_one c i is true fits here
+      go false fits here fresh = one_by_one c i is false fits (fresh ∙ append_assoc c.ended (c.held ∷ []) (cut_lines columns c.width (i ∷ []) is))
+
+-- one element more
+module _ {A M : Type 0} (f : A → M) (columns : ℕ → Option ℕ) where
+  pub elements_go_on : (c d e : Cutting (List M)) (es : List (TaggedLineElement A)) (x : TaggedLineElement A) → d ≡ with_items columns c (footnote_items (map (element_meant f) (map element_of es))) →
+      e ≡ with_items columns d (footnote_items (element_meant f (element_of x) ∷ [])) → e ≡ with_items columns c (footnote_items (map (element_meant f) (map element_of (es ++ x ∷ []))))
+  elements_go_on c d e es x so_far next =
+      then_items columns c d e (footnote_items (map (element_meant f) (map element_of es))) (footnote_items (element_meant f (element_of x) ∷ [])) so_far next
+      ∙ ap (with_items columns c) (sym (ap (λ xs. footnote_items (map (element_meant f) xs)) (map-append element_of es (x ∷ [])) ∙ ap footnote_items (map-append (element_meant f) (map element_of es) (element_of x ∷ []))
+      ∙ footnote_items-append (map (element_meant f) (map element_of es)) (element_meant f (element_of x) ∷ [])))
+
+  -- the whole line
+  pub elements_end : (c d : Cutting (List M)) (es : List (TaggedLineElement A)) (line : List (Element A)) → d ≡ with_items columns c (footnote_items (map (element_meant f) (map element_of es))) → map element_of es ≡ line →
+      d ≡ with_items columns c (footnote_items (map (element_meant f) line))
+  elements_end c d es line so_far all = so_far ∙ ap (λ xs. with_items columns c (footnote_items (map (element_meant f) xs))) all
+
+  -- the lines of a footnote, from the first character to the last
+  pub cut_whole : (width : Option ℕ) (c d : Cutting (Vec A)) (es : List (Element M)) (lines : List (List (Item (List M)))) → c ≡ nothing_cut width → cut_meant f d ≡ with_items columns (cut_meant f c) (footnote_items es) →
+      lines ≡ (line_ended (cut_meant f d)).ended → lines ≡ cut_lines columns width [] (footnote_items es)
+  cut_whole width c d es lines begun all last =
+      last ∙ ap (λ (x : Cutting (List M)). (line_ended x).ended) (all ∙ ap (λ (x : Cutting (Vec A)). with_items columns (cut_meant f x) (footnote_items es)) begun)
+      ∙ cut_by_items columns (nothing_cut width) (footnote_items es)
+
+-- ---- what is in the fields
+
+module _ {A M : Type 0} (f : A → M) where
+  pub texts_are : (lines : List (List (Element (Vec A)))) → texts_meant f lines ≡ map (items_meant f) (map items_of lines)
+  texts_are [] = refl
+  texts_are (l ∷ lines) = ap (λ (ls : List (List (Item (List M)))). items_meant f (items_of l) ∷ ls) (texts_are lines)
+
+  -- a text more in the open line
+  module _ (widths : ℕ → Option ℕ) (eq : A → A → Bool) (agree : MeansEqual (tag_meant f) (equal_lists eq)) {D W : Type 0} (c : Inside D W A) (new : List (Element (Vec A))) (cs : List ℕ) (tag : Vec A)
+      (same : SameItems (equal_lists eq) (items_of new) (items_of c.held ++ text_items cs tag)) where
+    held_more : items_meant f (items_of new) ≡ items_meant f (items_of c.held) ++ text_items cs (tag_meant f tag)
+    held_more =
+        means_same_items (tag_meant f) (equal_lists eq) agree (items_of new) (items_of c.held ++ text_items cs tag) same ∙ map-append (map_item (tag_meant f)) (items_of c.held) (text_items cs tag)
+        ∙ ap (λ is. items_meant f (items_of c.held) ++ is) (text_items-map (tag_meant f) cs tag)
+
+    pub line_extended : (p : Cutting (Vec A)) → cutting_of c ≡ p → cut_meant f (record (cutting_of c) { held = items_of new }) ≡ extended (cut_meant f p) (text_items cs (tag_meant f tag))
+    line_extended p is = ap (λ (held : List (Item (List M))). record (cut_meant f (cutting_of c)) { held = held }) held_more ∙ ap (λ (q : Cutting (Vec A)). extended (cut_meant f q) (text_items cs (tag_meant f tag))) is
+
+    pub holds_extended : (columns : ℕ) → HoldsCutting widths eq f c → columns ≡ c.columns + width_of_text widths cs → IsMerged (equal_lists eq) new → HoldsCutting widths eq f (record c { held = new; columns = columns })
+    holds_extended columns h sum merged = record {
+      taken = omega (
+        arith,
+        sum,
+        h.taken,
+        items_width-append widths (items_meant f (items_of c.held)) (text_items cs (tag_meant f tag)),
+        items_width-text widths cs (tag_meant f tag),
+        ap (items_width widths) held_more,
+      );
+      merged = h.merged;
+      merged_held = merged;
+    }

@@ -1,0 +1,278 @@
+-- Lines that are kept by themselves or in texts of blocks.
+use Rattle.std.proofs.Common.{◌≡◌, ℕ, ◌+◌, ◌-◌, ◌≤◌, arith, not, None, if◌then◌else◌, Bool, true, false, ◌||◌, List, [], ◌∷◌, ◌++◌, map, length, refl, ap, sym, ◌∙◌, subst, append_assoc, append-nil, length-append, lt-ltb}
+use mir.Val.{bool_byte}
+use Rattle.std.specs.Prelude.{filter, nat_lt, drop, ◌==◌}
+use Rattle.std.specs.List.{AllZip, AllByRecursion as Each, list_any}
+use Rattle.std.proofs.lemmas.Bool.{eqb-true}
+use Rattle.std.proofs.lemmas.List.{map-append}
+use Rattle.std.proofs.lemmas.List.Elements.{filter-append}
+use Rattle.std.proofs.lemmas.List.Concat.{flat_map-append}
+use Rattle.tbr_model.specs.Run.{Item, has_character}
+use Rattle.tbr_lines.specs.Border.{Border, has_holes}
+use Rattle.tbr_lines.specs.Elements.{Element, SameItems, IsMerged, items_of}
+use Rattle.tbr_lines.proofs.SameItems.{all_zip_append, same_items}
+use Rattle.std.specs.Cmp.{IsEquivalence}
+use Rattle.tbr_lines.specs.EndedLines.{line_characters, lines_characters}
+use Rattle.tbr_lines.specs.RenderLine.{IsMergedText, line_items, has_content as line_holds}
+use Rattle.tbr_lines.specs.Runs.{is_some_list}
+use Rattle.tbr_lines.proofs.MappedTags.{merged_piece_has}
+use Rattle.tbr_lines.specs.declared.RenderLine.{RenderLine}
+use Rattle.tbr_lines.specs.declared.RenderLine.TheVariants.{Text, Line as Rule}
+use Rattle.tbr_kept_lines.specs.Line.{Line, text, border, line_seen, line_has_content, text_lines, SameSeen}
+use Rattle.tbr_kept_lines.specs.KeptLines.{part_seen, parts_seen, HoldsPart}
+use Rattle.tbr_kept_lines.specs.LastBorder.{last_border}
+use Rattle.tbr_kept_lines.specs.Text.{items_shown, line_text, lines_text}
+use Rattle.tbr_kept_lines.specs.declared.kept_lines.Part.{Part}
+
+-- ---- whether there is a line
+
+some_behind : {X : Type 0} (xs ys : List X) → is_some_list ys ≡ true → is_some_list (xs ++ ys) ≡ true
+some_behind [] ys h = h
+some_behind (x ∷ xs) ys h = refl
+
+text_lines_some : {T : Type 0} (texts : List (List (Item T))) → is_some_list texts ≡ true → is_some_list (text_lines texts) ≡ true
+text_lines_some [] h = h
+text_lines_some (is ∷ texts) h = refl
+
+part_some : {T : Type 0} (eq : T → T → Bool) (p : Part T) → HoldsPart eq p → is_some_list (part_seen p) ≡ true
+part_some eq p h = some_behind (map line_seen p.before.items) (text_lines p.ended) (text_lines_some p.ended h.some)
+
+some_in_front : {X : Type 0} (xs ys : List X) → is_some_list xs ≡ true → is_some_list (xs ++ ys) ≡ true
+some_in_front [] ys h = cc
+some_in_front (x ∷ xs) ys h = refl
+
+parts_some : {T : Type 0} (eq : T → T → Bool) (ps : List (Part T)) → Each (HoldsPart eq) ps → is_some_list (parts_seen ps) ≡ is_some_list ps
+parts_some eq [] h = refl
+parts_some eq (p ∷ ps) h = some_in_front (part_seen p) (parts_seen ps) (part_some eq p h.0)
+
+-- none is in a vector of no length
+pub none_there : {X : Type 0} (xs : List X) (n : ℕ) → n ≡ length xs → (n == 0) ≡ not (is_some_list xs)
+none_there [] n is = ap (λ k. k == 0) is
+none_there (x ∷ xs) n is = go (n == 0) refl
+  where
+    go : (zero : Bool) → (n == 0) ≡ zero → (n == 0) ≡ false
+    go true h = let none = eqb-true n 0 h in absurd (omega (arith, is, none))
+    go false h = h
+
+-- where a part is there, so is a line
+pub some_in_parts : {T : Type 0} (eq : T → T → Bool) (ps : List (Part T)) (last : List (RenderLine T)) → Each (HoldsPart eq) ps → false ≡ not (is_some_list ps) → false ≡ not (is_some_list (parts_seen ps ++ map line_seen last))
+some_in_parts eq [] last h some = cc
+some_in_parts eq (p ∷ ps) last h some = ap not (sym (some_in_front (parts_seen (p ∷ ps)) (map line_seen last) (parts_some eq (p ∷ ps) h)))
+
+-- ---- content
+
+any_append : {X : Type 0} (test : X → Bool) (xs ys : List X) → list_any test (xs ++ ys) ≡ list_any test xs || list_any test ys
+any_append test [] ys = refl
+any_append test (x ∷ xs) ys = go (test x) (any_append test xs ys)
+  where
+    go : (b : Bool) → list_any test (xs ++ ys) ≡ list_any test xs || list_any test ys → b || list_any test (xs ++ ys) ≡ (b || list_any test xs) || list_any test ys
+    go true h = refl
+    go false h = h
+
+text_content : {T : Type 0} (texts : List (List (Item T))) → list_any line_has_content (text_lines texts) ≡ list_any has_character texts
+text_content [] = refl
+text_content (is ∷ texts) = ap (λ b. has_character is || b) (text_content texts)
+
+-- the last lines, and a block's after them, are a part more
+pub part_behind : {T : Type 0} (ps : List (Part T)) (p : Part T) → parts_seen (ps ++ p ∷ []) ≡ (parts_seen ps ++ map line_seen p.before.items) ++ text_lines p.ended
+part_behind ps p =
+    flat_map-append part_seen ps (p ∷ []) ∙ ap (λ ls. parts_seen ps ++ ls) (append-nil (part_seen p)) ∙ sym (append_assoc (parts_seen ps) (map line_seen p.before.items) (text_lines p.ended))
+
+pub content_behind : {T : Type 0} (ps : List (Part T)) (p : Part T) (above last : Bool) → above ≡ list_any line_has_content (parts_seen ps ++ map line_seen p.before.items) → last ≡ list_any has_character p.ended →
+    above || last ≡ list_any line_has_content (parts_seen (ps ++ p ∷ []))
+content_behind ps p above last h k =
+    ap (λ b. b || last) h ∙ ap (λ b. list_any line_has_content (parts_seen ps ++ map line_seen p.before.items) || b) (k ∙ sym (text_content p.ended))
+    ∙ sym (any_append line_has_content (parts_seen ps ++ map line_seen p.before.items) (text_lines p.ended)) ∙ ap (list_any line_has_content) (sym (part_behind ps p))
+
+-- ---- the last border
+
+last_behind : {T : Type 0} (xs ys : List (Line T)) → is_some_list ys ≡ true → last_border (xs ++ ys) ≡ last_border ys
+last_behind [] ys h = refl
+last_behind (x ∷ []) [] h = cc
+last_behind (x ∷ []) (y ∷ ys) h = refl
+last_behind (x ∷ w ∷ xs) ys h = last_behind (w ∷ xs) ys h
+
+no_border_in_texts : {T : Type 0} (texts : List (List (Item T))) → last_border (text_lines texts) ≡ None
+no_border_in_texts [] = refl
+no_border_in_texts (is ∷ []) = refl
+no_border_in_texts (is ∷ js ∷ texts) = no_border_in_texts (js ∷ texts)
+
+no_border_in_parts : {T : Type 0} (eq : T → T → Bool) (ps : List (Part T)) → Each (HoldsPart eq) ps → last_border (parts_seen ps) ≡ None
+no_border_in_parts eq [] h = refl
+no_border_in_parts eq (p ∷ []) h =
+    ap last_border (append-nil (part_seen p)) ∙ last_behind (map line_seen p.before.items) (text_lines p.ended) (text_lines_some p.ended h.0.some) ∙ no_border_in_texts p.ended
+no_border_in_parts eq (p ∷ q ∷ ps) h =
+    last_behind (part_seen p) (parts_seen (q ∷ ps)) (parts_some eq (q ∷ ps) h.1) ∙ no_border_in_parts eq (q ∷ ps) h.1
+
+-- where no border ends the last lines, none ends all lines
+pub no_border : {T : Type 0} (eq : T → T → Bool) (ps : List (Part T)) (last : List (RenderLine T)) → Each (HoldsPart eq) ps → last_border (map line_seen last) ≡ None →
+    last_border (parts_seen ps ++ map line_seen last) ≡ None
+no_border eq ps [] h none = ap last_border (append-nil (parts_seen ps)) ∙ no_border_in_parts eq ps h
+no_border eq ps (l ∷ last) h none = last_behind (parts_seen ps) (map line_seen (l ∷ last)) refl ∙ none
+
+-- ---- how many lines have content
+
+pub each_behind : {X : Type 0} (P : X → Type 0) (xs : List X) (x : X) → Each P xs → P x → Each P (xs ++ x ∷ [])
+each_behind P [] x h k = (k, tt)
+each_behind P (y ∷ xs) x h k = (h.0, each_behind P xs x h.1 k)
+
+pub each_front : {X : Type 0} (P : X → Type 0) (xs : List X) (x : X) → Each P (xs ++ x ∷ []) → Each P xs
+each_front P [] x h = tt
+each_front P (y ∷ xs) x h = (h.0, each_front P xs x h.1)
+
+count_behind : {X : Type 0} (test : X → Bool) (xs : List X) (x : X) → length (filter test (xs ++ x ∷ [])) ≡ length (filter test xs) + (if test x then 1 else 0)
+count_behind {X} test xs x = ap length (filter-append test xs (x ∷ [])) ∙ length-append (filter test xs) (filter test (x ∷ [])) ∙ ap (λ n. length (filter test xs) + n) (go (test x))
+  where
+    go : (b : Bool) → length (if b then x ∷ [] else []) ≡ (if b then 1 else 0)
+    go true = refl
+    go false = refl
+
+-- some pass where their count is above zero
+any_counted : {X : Type 0} (test : X → Bool) (xs : List X) → nat_lt 0 (length (filter test xs)) ≡ list_any test xs
+any_counted test [] = refl
+any_counted test (x ∷ xs) = go (test x) (any_counted test xs)
+  where
+    go : (b : Bool) → nat_lt 0 (length (filter test xs)) ≡ list_any test xs → nat_lt 0 (length (if b then x ∷ filter test xs else filter test xs)) ≡ b || list_any test xs
+    go true h = lt-ltb 0 (length (x ∷ filter test xs)) (omega arith)
+    go false h = h
+
+-- content above, or below
+pub content_of_both : {T : Type 0} (ps : List (Part T)) (last : List (RenderLine T)) (above : Bool) (n : ℕ) → above ≡ list_any line_has_content (parts_seen ps) → n ≡ length (filter line_has_content (map line_seen last)) →
+    above || nat_lt 0 n ≡ list_any line_has_content (parts_seen ps ++ map line_seen last)
+content_of_both ps last above n h k =
+    ap (λ b. b || nat_lt 0 n) h ∙ ap (λ b. list_any line_has_content (parts_seen ps) || b) (ap (nat_lt 0) k ∙ any_counted line_has_content (map line_seen last))
+    ∙ sym (any_append line_has_content (parts_seen ps) (map line_seen last))
+
+pub one_or_none : (b : Bool) → bool_byte b ≡ (if b then 1 else 0)
+one_or_none true = refl
+one_or_none false = refl
+
+-- a line has content where it is seen to have it
+content_seen : {T : Type 0} (eq : T → T → Bool) (line : RenderLine T) → IsMergedText eq line → line_holds line ≡ line_has_content (line_seen line)
+content_seen eq (Text line) merged = merged_piece_has eq line merged
+content_seen eq (Rule b) merged = refl
+
+module _ {T : Type 0} (b : Border T) (old new : List (RenderLine T)) (is : old ≡ new ++ Rule b ∷ []) where
+  -- lines with content, and a border after them
+  pub counted : length (filter line_has_content (map line_seen old)) ≡ length (filter line_has_content (map line_seen new)) + (if not (has_holes b.holes) then 1 else 0)
+  counted =
+      ap (λ ls. length (filter line_has_content (map line_seen ls))) is ∙ ap (λ ls. length (filter line_has_content ls)) (map-append line_seen new (Rule b ∷ []))
+      ∙ count_behind line_has_content (map line_seen new) (border b)
+
+  -- a border without holes counts
+  pub some_counted : (n : ℕ) → n ≡ length (filter line_has_content (map line_seen old)) → has_holes b.holes ≡ false → 1 ≤ n
+  some_counted n content bare =
+      let one : ◌≡◌ {A = ℕ} (if not (has_holes b.holes) then 1 else 0) 1 = rw bare refl in
+      omega (arith, content, counted, one)
+
+  pub one_less : (n : ℕ) → n ≡ length (filter line_has_content (map line_seen old)) → has_holes b.holes ≡ false → n - 1 ≡ length (filter line_has_content (map line_seen new))
+  one_less n content bare =
+      let one : ◌≡◌ {A = ℕ} (if not (has_holes b.holes) then 1 else 0) 1 = rw bare refl in
+      omega (arith, content, counted, one)
+
+  pub none_less : (n : ℕ) → n ≡ length (filter line_has_content (map line_seen old)) → has_holes b.holes ≡ true → n ≡ length (filter line_has_content (map line_seen new))
+  none_less n content holed =
+      let none : ◌≡◌ {A = ℕ} (if not (has_holes b.holes) then 1 else 0) 0 = rw holed refl in
+      omega (arith, content, counted, none)
+
+-- one more line
+pub content_more : {T : Type 0} (eq : T → T → Bool) (line : RenderLine T) (lines : List (RenderLine T)) (n : ℕ) → IsMergedText eq line → n ≡ length (filter line_has_content (map line_seen lines)) →
+    n + (if line_holds line then 1 else 0) ≡ length (filter line_has_content (map line_seen (lines ++ line ∷ [])))
+content_more eq line lines n merged content =
+    ap (λ k. k + (if line_holds line then 1 else 0)) content
+    ∙ ap (λ (b : Bool). length (filter line_has_content (map line_seen lines)) + (if b then 1 else 0)) (content_seen eq line merged)
+    ∙ sym (count_behind line_has_content (map line_seen lines) (line_seen line))
+    ∙ ap (λ ls. length (filter line_has_content ls)) (sym (map-append line_seen lines (line ∷ [])))
+
+-- ---- a block's lines, one by one
+
+-- Lines of a block were pushed, and the others are left.
+pub record HasPushed {T : Type 0} (eq : T → T → Bool) (before : List (RenderLine T)) (ended : List (List (Item T))) (now : List (RenderLine T)) (left : List (List (Item T))) : Type 0 where
+  pub more : List (RenderLine T)
+  pub given : List (List (Item T))
+  pub items : now ≡ before ++ more
+  pub parts : ended ≡ given ++ left
+  pub same : AllZip (SameSeen eq) (map line_seen more) (text_lines given)
+  pub merged : Each (IsMergedText eq) more
+
+text_lines_append : {T : Type 0} (xs ys : List (List (Item T))) → text_lines (xs ++ ys) ≡ text_lines xs ++ text_lines ys
+text_lines_append [] ys = refl
+text_lines_append (x ∷ xs) ys = ap (λ ls. text x ∷ ls) (text_lines_append xs ys)
+
+module _ {T : Type 0} (eq : T → T → Bool) (before now : List (RenderLine T)) (ended left : List (List (Item T))) (h : HasPushed eq before ended now left) where
+  -- one line more
+  pub one_pushed : (line : List (Element T)) (is : List (Item T)) (rest after : List (List (Item T))) (lines : List (RenderLine T)) → left ≡ is ∷ rest → SameItems eq (items_of line) is × IsMerged eq line →
+      lines ≡ now ++ Text line ∷ [] → after ≡ drop 1 left → HasPushed eq before ended lines after
+  one_pushed line is rest after lines first shows pushed taken = record {
+    more = h.more ++ Text line ∷ [];
+    given = h.given ++ is ∷ [];
+    items = pushed ∙ ap (λ ls. ls ++ Text line ∷ []) h.items ∙ append_assoc before h.more (Text line ∷ []);
+    parts = h.parts ∙ ap (λ ls. h.given ++ ls) first ∙ sym (append_assoc h.given (is ∷ []) rest) ∙ ap (λ ls. (h.given ++ is ∷ []) ++ ls) (sym (taken ∙ ap (drop 1) first));
+    same =
+        let ends = all_zip_append (SameSeen eq) (map line_seen h.more) (text (items_of line) ∷ []) (text_lines h.given) (text is ∷ []) h.same (shows.0, tt) in
+        subst (λ ls. AllZip (SameSeen eq) ls (text_lines (h.given ++ is ∷ []))) (sym (map-append line_seen h.more (Text line ∷ [])))
+        (subst (λ ls. AllZip (SameSeen eq) (map line_seen h.more ++ text (items_of line) ∷ []) ls) (sym (text_lines_append h.given (is ∷ []))) ends);
+    merged = each_behind (IsMergedText eq) h.more (Text line) h.merged shows.1;
+  }
+
+  -- all of them
+  pub all_pushed : left ≡ [] → (more : List (RenderLine T)) × (now ≡ before ++ more) × AllZip (SameSeen eq) (map line_seen more) (text_lines ended) × Each (IsMergedText eq) more
+  all_pushed none =
+      (h.more, h.items, subst (λ ls. AllZip (SameSeen eq) (map line_seen h.more) (text_lines ls)) (sym (append-nil h.given) ∙ ap (λ ls. h.given ++ ls) (sym none) ∙ sym h.parts) h.same, h.merged)
+
+-- ---- texts
+
+-- a line of memory shows its items
+pub line_seen_shows : {T : Type 0} (line : RenderLine T) → items_shown (line_seen line) ≡ line_items line
+line_seen_shows (Text es) = refl
+line_seen_shows (Rule b) = refl
+
+texts_shown : {T : Type 0} (texts : List (List (Item T))) → lines_text (text_lines texts) ≡ lines_characters texts
+texts_shown [] = refl
+texts_shown (is ∷ texts) = ap (λ cs. line_characters is ++ cs) (texts_shown texts)
+
+-- the text of one part more
+pub part_shown : {T : Type 0} (ps : List (Part T)) (p : Part T) (front : List ℕ) →
+    ((front ++ lines_text (parts_seen ps)) ++ lines_text (map line_seen p.before.items)) ++ lines_characters p.ended ≡ front ++ lines_text (parts_seen (ps ++ p ∷ []))
+part_shown ps p front =
+    ap (λ cs. cs ++ lines_characters p.ended) (append_assoc front (lines_text (parts_seen ps)) (lines_text (map line_seen p.before.items)) ∙ ap (λ cs. front ++ cs) (sym (flat_map-append line_text (parts_seen ps) (map line_seen p.before.items))))
+    ∙ append_assoc front (lines_text (parts_seen ps ++ map line_seen p.before.items)) (lines_characters p.ended)
+    ∙ ap (λ cs. front ++ cs) (ap (λ cs. lines_text (parts_seen ps ++ map line_seen p.before.items) ++ cs) (sym (texts_shown p.ended)) ∙ sym (flat_map-append line_text (parts_seen ps ++ map line_seen p.before.items) (text_lines p.ended)) ∙ ap lines_text (sym (part_behind ps p)))
+
+-- ---- all lines by themselves
+
+module _ {T : Type 0} (eq : T → T → Bool) (laws : IsEquivalence eq) where
+  same_line : (l : Line T) → SameSeen eq l l
+  same_line (text is) = same_items eq laws is
+  same_line (border b) = refl
+
+  pub same_lines : (ls : List (Line T)) → AllZip (SameSeen eq) ls ls
+  same_lines [] = tt
+  same_lines (l ∷ ls) = (same_line l, same_lines ls)
+
+  -- lines, and last ones after them
+  pub lines_behind : (lines last : List (RenderLine T)) (seen : List (Line T)) → AllZip (SameSeen eq) (map line_seen lines) seen → AllZip (SameSeen eq) (map line_seen (lines ++ last)) (seen ++ map line_seen last)
+  lines_behind lines last seen h =
+      subst (λ ls. AllZip (SameSeen eq) ls (seen ++ map line_seen last)) (sym (map-append line_seen lines last))
+      (all_zip_append (SameSeen eq) (map line_seen lines) (map line_seen last) seen (map line_seen last) h (same_lines (map line_seen last)))
+
+  -- the lines of one part more
+  pub part_listed : (ps : List (Part T)) (p : Part T) (lines more all : List (RenderLine T)) → AllZip (SameSeen eq) (map line_seen lines) (parts_seen ps) → AllZip (SameSeen eq) (map line_seen more) (text_lines p.ended) →
+      all ≡ (lines ++ p.before.items) ++ more → AllZip (SameSeen eq) (map line_seen all) (parts_seen (ps ++ p ∷ []))
+  part_listed ps p lines more all h k is =
+      let front = lines ++ p.before.items in
+      let ends = all_zip_append (SameSeen eq) (map line_seen front) (map line_seen more) (parts_seen ps ++ map line_seen p.before.items) (text_lines p.ended) (lines_behind lines p.before.items (parts_seen ps) h) k in
+      subst (λ ls. AllZip (SameSeen eq) (map line_seen all) ls) (sym (part_behind ps p))
+      (subst (λ ls. AllZip (SameSeen eq) ls ((parts_seen ps ++ map line_seen p.before.items) ++ text_lines p.ended)) (sym (ap (map line_seen) is ∙ map-append line_seen front more)) ends)
+
+each_append : {X : Type 0} (P : X → Type 0) (xs ys : List X) → Each P xs → Each P ys → Each P (xs ++ ys)
+each_append P [] ys h k = k
+each_append P (x ∷ xs) ys h k = (h.0, each_append P xs ys h.1 k)
+
+pub all_merged : {T : Type 0} (eq : T → T → Bool) (lines before more all : List (RenderLine T)) → Each (IsMergedText eq) lines → Each (IsMergedText eq) before → Each (IsMergedText eq) more → all ≡ (lines ++ before) ++ more → Each (IsMergedText eq) all
+all_merged eq lines before more all h k m is =
+    subst (λ ls. Each (IsMergedText eq) ls) (sym is) (each_append (IsMergedText eq) (lines ++ before) more (each_append (IsMergedText eq) lines before h k) m)
+
+pub each_at : {X : Type 0} (P : X → Type 0) (xs : List X) (x : X) (ys : List X) → Each P (xs ++ x ∷ ys) → P x
+each_at P [] x ys h = h.0
+each_at P (z ∷ xs) x ys h = each_at P xs x ys h.1

@@ -1,0 +1,3 @@
+pub mod ItemsLeft
+pub mod LastBorder
+pub mod KeptParts

@@ -1,0 +1,83 @@
+use Rattle.std.proofs.Common.{◌≡◌, ◌++◌, ◌∷◌, [], if◌then◌else◌, map, refl, ap, sym, subst, ◌∙◌, append_assoc}
+use Rattle.std.specs.Prelude.{is_some}
+use Rattle.std.specs.List.{AllByRecursion as Each}
+use Rattle.std.proofs.lemmas.List.{map-append}
+use Rattle.tbr_lines.specs.RenderLine.{IsMergedText}
+use Rattle.tbr_lines.specs.declared.RenderLine.TheVariants.{Line as Rule}
+use Rattle.tbr_kept_lines.specs.KeptLines.{parts_seen, HoldsKept}
+use Rattle.tbr_kept_lines.specs.Line.{border, line_seen}
+use Rattle.tbr_kept_lines.specs.LastBorder.{without_last, last_border}
+use Rattle.tbr_kept_lines.proofs.KeptParts.{each_front, some_counted, one_less, none_less, no_border}
+use Rattle.tbr_kept_lines.proofs.LastBorder.{border_is, front_is}
+use Rattle.tbr_kept_lines.proofs.kept_lines.KeptLines.take_border.Goals as goal
+use Rattle.tbr_kept_lines.proofs.kept_lines.KeptLines.take_border.Goals.{then-not-has_holes, else-not-has_holes}
+
+pub returns-in_err-border-clause-border : goal.returns-in_err-border-clause-border
+returns-in_err-border-clause-border g c =
+    let k = c.self.inside in
+    let none = (c.in_err-border.ensures.none refl).1 in
+    c.from_residual.ensures ∙ sym (no_border g.T.PartialEq.eq k.above.items k.last.items c.self.invariant.parts none) ∙ ap last_border c.self.view_is
+
+pub returns-in_err-border-clause-rest : goal.returns-in_err-border-clause-rest
+returns-in_err-border-clause-rest g c =
+    let k = c.self.inside in
+    let kept = c.in_err-border.ensures.none refl in
+    let none = no_border g.T.PartialEq.eq k.above.items k.last.items c.self.invariant.parts kept.1 in
+    ap (λ ls. parts_seen k.above.items ++ map line_seen ls) (ap (λ v. v.items) kept.0) ∙ c.self.view_is
+    ∙ ap (λ o. if is_some o then without_last c.args.self.now else c.args.self.now) (sym none ∙ ap last_border c.self.view_is)
+
+pub overflow_sub-self : goal.overflow_sub-self
+overflow_sub-self g c =
+    some_counted c.in_ok-border.border c.self.inside.last.items c.take_last_border.new.lines.items c.in_ok-border.ensures.some c.self.inside.with_content c.self.invariant.content (sym c.has_holes.ensures ∙ c.if-not-has_holes.true)
+
+pub invariant_of-self : goal.invariant_of-self
+invariant_of-self g c = subst (λ lines. HoldsKept g.T.PartialEq.eq (record c.self.inside { last = lines })) (sym (c.in_err-border.ensures.none refl).0) c.self.invariant
+
+pub invariant_of-self-then-not-has_holes : goal.invariant_of-self-then-not-has_holes
+invariant_of-self-then-not-has_holes g c =
+    let eq = g.T.PartialEq.eq in
+    let h = c.self.invariant in
+    let is = c.in_ok-border.ensures.some in
+    let last = c.take_last_border.new.lines.items in
+    record {
+      parts = h.parts;
+      content_above = h.content_above;
+      merged = each_front (IsMergedText eq) last (Rule c.in_ok-border.border) (subst (λ ls. Each (IsMergedText eq) ls) is h.merged);
+      content = one_less c.in_ok-border.border c.self.inside.last.items last is c.self.inside.with_content h.content (sym c.has_holes.ensures ∙ c.if-not-has_holes.true);
+    }
+
+pub invariant_of-self-else-not-has_holes : goal.invariant_of-self-else-not-has_holes
+invariant_of-self-else-not-has_holes g c =
+    let eq = g.T.PartialEq.eq in
+    let h = c.self.invariant in
+    let is = c.in_ok-border.ensures.some in
+    let last = c.take_last_border.new.lines.items in
+    record {
+      parts = h.parts;
+      content_above = h.content_above;
+      merged = each_front (IsMergedText eq) last (Rule c.in_ok-border.border) (subst (λ ls. Each (IsMergedText eq) ls) is h.merged);
+      content = none_less c.in_ok-border.border c.self.inside.last.items last is c.self.inside.with_content h.content (sym c.has_holes.ensures ∙ c.if-not-has_holes.false);
+    }
+
+pub returns-clause-border : goal.returns-clause-border
+returns-clause-border g c =
+    let k = c.self.inside in
+    let b = c.in_ok-border.border in
+    let front = parts_seen k.above.items ++ map line_seen c.take_last_border.new.lines.items in
+    let seen : c.args.self.now ≡ front ++ border b ∷ [] =
+    sym c.self.view_is ∙ ap (λ ls. parts_seen k.above.items ++ map line_seen ls) c.in_ok-border.ensures.some
+    ∙ ap (λ ls. parts_seen k.above.items ++ ls) (map-append line_seen c.take_last_border.new.lines.items (Rule b ∷ []))
+    ∙ sym (append_assoc (parts_seen k.above.items) (map line_seen c.take_last_border.new.lines.items) (border b ∷ [])) in
+    sym (border_is c.args.self.now front b seen)
+
+pub returns-clause-rest : goal.returns-clause-rest
+returns-clause-rest g c =
+    let k = c.self.inside in
+    let b = c.in_ok-border.border in
+    let front = parts_seen k.above.items ++ map line_seen c.take_last_border.new.lines.items in
+    let seen : c.args.self.now ≡ front ++ border b ∷ [] =
+    sym c.self.view_is ∙ ap (λ ls. parts_seen k.above.items ++ map line_seen ls) c.in_ok-border.ensures.some
+    ∙ ap (λ ls. parts_seen k.above.items ++ ls) (map-append line_seen c.take_last_border.new.lines.items (Rule b ∷ []))
+    ∙ sym (append_assoc (parts_seen k.above.items) (map line_seen c.take_last_border.new.lines.items) (border b ∷ [])) in
+    let cut = sym (front_is c.args.self.now front b seen) in
+    elim c.if-not-has_holes.branch [ then-not-has_holes w ↦ w.self-is ∙ cut | else-not-has_holes w ↦ w.self-is ∙ cut ]

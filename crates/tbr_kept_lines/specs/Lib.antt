@@ -1,0 +1,4 @@
+pub mod Line
+pub mod LastBorder
+pub mod Text
+pub mod KeptLines

@@ -1,0 +1,284 @@
+//! Lines as a renderer keeps them.
+ghost use Rattle.std.specs.Prelude.{◌≡◌, ◌≢◌, ◌++◌, ◌∷◌, [], List, None, Some, true, not, map, IfOk, IfSome, OnOk};
+ghost use Rattle.std.specs.List.{AllZip, AllByRecursion as Each, list_any};
+ghost use Rattle.tbr_lines.specs.Copies.{CopiesAreEqual};
+ghost use Rattle.tbr_lines.specs.RenderLine.{IsMergedText};
+ghost use Rattle.tbr_lines.specs.Runs.{is_some_list};
+ghost use Rattle.tbr_lines.specs.View.{chars_of};
+ghost use Rattle.tbr_lines.specs.declared.RenderLine.TheVariants.{Line as Rule};
+ghost use Rattle.tbr_kept_lines.specs.Line.{line_seen, line_has_content, text_lines, SameSeen};
+ghost use Rattle.tbr_kept_lines.specs.KeptLines.{parts_seen, HoldsPart};
+ghost use Rattle.tbr_kept_lines.specs.LastBorder as model;
+ghost use Rattle.tbr_kept_lines.specs.Text.{line_text, lines_text};
+
+use std::alloc::Global;
+use std::marker::Model;
+use std::{fmt, mem};
+use tbr_lines::{BorderHoriz, EndedLines, OutOfMemory, RenderLine};
+
+/// Lines, each kept by itself or, where a block has ended many, in the block's one text. A contract sees their list.
+#[derive(Drop)]
+pub struct KeptLines<T: Eq> {
+    alloc: Global,
+    above: Vec<Part<T>>,
+    /// Whether a line of these has content.
+    content_above: bool,
+    /// The lines after them.
+    last: Vec<RenderLine<T>>,
+    /// How many of the last lines have content.
+    with_content: usize,
+}
+
+/// Lines, and after them those that a block has ended.
+#[derive(Drop)]
+pub struct Part<T> {
+    before: Vec<RenderLine<T>>,
+    ended: EndedLines<T>,
+}
+
+impl<T: Eq> Model for KeptLines<T> {
+    ghost use Rattle.std.specs.Prelude.{List};
+    ghost use Rattle.tbr_kept_lines.specs.Line.{Line};
+
+    ghost Value = { List (Line T) };
+
+    ghost use Rattle.tbr_kept_lines.specs.KeptLines.{kept_seen, HoldsKept};
+
+    ghost view = { λ k. kept_seen k };
+
+    ghost invariant = { λ k. HoldsKept T.eq k };
+}
+
+impl<T: Eq> KeptLines<T> {
+    /// No lines. It takes no memory.
+    pub fn new(alloc: Global) -> KeptLines<T>
+        ensures { result ≡ [] }
+    {
+        KeptLines {
+            alloc,
+            above: Vec::new(alloc),
+            content_above: false,
+            last: Vec::new(alloc),
+            with_content: 0,
+        }
+    }
+
+    /// Whether there is no line.
+    pub fn is_empty(&self) -> bool
+        ensures { result ≡ not (is_some_list self.now) }
+    {
+        self.above.is_empty() && self.last.is_empty()
+    }
+
+    /// Whether a line has content: a text with a character, or a border without holes.
+    pub fn has_content(&self) -> bool
+        ensures { result ≡ list_any line_has_content self.now }
+    {
+        self.content_above || self.with_content > 0
+    }
+}
+
+impl<T: Eq + Drop> KeptLines<T> {
+    /// Adds a line after the others, of pieces that are the longest stretches under equal tags. Where memory is refused
+    /// it is lost.
+    pub fn push(&mut self, line: RenderLine<T>) -> Result<(), OutOfMemory>
+        requires { IsMergedText T.eq line }
+        ensures { OnOk result (self.new ≡ self.old ++ line_seen line ∷ []) }
+    {
+        let more = usize::from(line.has_content());
+        let Some(with_content) = self.with_content.checked_add(more) else {
+            return Err(OutOfMemory);
+        };
+        self.last.push(line)?;
+        self.with_content = with_content;
+        Ok(())
+    }
+
+    /// Adds the lines that a block has ended, at least one, after the others. They stay in the block's text. Where memory
+    /// is refused lines are lost.
+    pub fn push_ended(&mut self, ended: EndedLines<T>) -> Result<(), OutOfMemory>
+        requires { is_some_list ended ≡ true }
+        ensures { OnOk result (self.new ≡ self.old ++ text_lines ended) }
+    {
+        let has_content = self.has_content() || ended.has_character();
+        let before = mem::replace(&mut self.last, Vec::new(self.alloc));
+        self.with_content = 0;
+        self.above.push(Part { before, ended })?;
+        self.content_above = has_content;
+        Ok(())
+    }
+
+    /// Takes the last line, if it is a border. Any other stays.
+    pub fn take_border(&mut self) -> Option<BorderHoriz<T>>
+        ensures border { result ≡ model.last_border self.old }
+        ensures rest { self.new ≡ model.before_border self.old }
+    {
+        let border = take_last_border(&mut self.last)?;
+        if !border.has_holes() {
+            self.with_content -= 1;
+        }
+        Some(border)
+    }
+
+    /// The text of all lines, each with a newline. A border shows its holes too. Where memory is refused all are lost.
+    pub fn into_text(self) -> Result<String, OutOfMemory>
+        ensures { IfOk result (λ text. chars_of text ≡ lines_text self) }
+    {
+        let mut text = String::new(self.alloc);
+        append_parts(&mut text, self.above)?;
+        append_lines(&mut text, self.last)?;
+        Ok(text)
+    }
+}
+
+impl<T: Eq + Clone + Drop> KeptLines<T> {
+    /// All lines, each by itself, of pieces that are the longest stretches under equal tags. Where memory is refused all
+    /// are lost.
+    pub fn into_vec(self) -> Result<Vec<RenderLine<T>>, OutOfMemory>
+        requires { CopiesAreEqual T.is_clone T.eq }
+        ensures lines { IfOk result (λ lines. AllZip (SameSeen T.eq) (map line_seen lines.items) self) }
+        ensures merged { IfOk result (λ lines. Each (IsMergedText T.eq) lines.items) }
+    {
+        if self.above.is_empty() {
+            return Ok(self.last);
+        }
+        let mut lines = lines_of(self.alloc, self.above)?;
+        let mut last = self.last;
+        lines.append(&mut last)?;
+        Ok(lines)
+    }
+}
+
+/// Takes the last line, if it is a border.
+fn take_last_border<T: Drop>(lines: &mut Vec<RenderLine<T>>) -> Option<BorderHoriz<T>>
+    ensures some { IfSome result (λ border. lines.old.items ≡ lines.new.items ++ Rule border ∷ []) }
+    ensures none { result ≡ None →
+        (lines.new ≡ lines.old) × (model.last_border (map line_seen lines.old.items) ≡ None) }
+{
+    if !is_border(lines.last()) {
+        return None;
+    }
+    border_in(lines.pop())
+}
+
+/// The border that a line is, if it is one.
+fn border_in<T: Drop>(line: Option<RenderLine<T>>) -> Option<BorderHoriz<T>>
+    ensures some { IfSome result (λ border. line ≡ Some (Rule border)) }
+    ensures none { result ≡ None → (border : _) → line ≢ Some (Rule border) }
+{
+    match line {
+        Some(RenderLine::Line(border)) => Some(border),
+        Some(RenderLine::Text(_)) | None => None,
+    }
+}
+
+/// Whether a line is a border.
+fn is_border<T>(line: Option<&RenderLine<T>>) -> bool
+    ensures { result ≡ model.is_border line.entry }
+{
+    matches!(line, Some(RenderLine::Line(_)))
+}
+
+/// The lines of parts, each by itself.
+fn lines_of<T: Eq + Clone + Drop>(
+    alloc: Global,
+    parts: Vec<Part<T>>,
+) -> Result<Vec<RenderLine<T>>, OutOfMemory>
+    requires faithful { CopiesAreEqual T.is_clone T.eq }
+    requires parts { Each (HoldsPart T.eq) parts.items }
+    ensures lines { IfOk result (λ lines.
+        AllZip (SameSeen T.eq) (map line_seen lines.items) (parts_seen parts.items)) }
+    ensures merged { IfOk result (λ lines. Each (IsMergedText T.eq) lines.items) }
+{
+    let mut lines = Vec::new(alloc);
+    for mut part in parts {
+        lines.append(&mut part.before)?;
+        push_lines(&mut lines, part.ended)?;
+    }
+    Ok(lines)
+}
+
+/// Adds the lines that a block has ended, each by itself.
+fn push_lines<T: Eq + Clone + Drop>(
+    lines: &mut Vec<RenderLine<T>>,
+    mut ended: EndedLines<T>,
+) -> Result<(), OutOfMemory>
+    requires faithful { CopiesAreEqual T.is_clone T.eq }
+    ensures { OnOk result ((more : List (RenderLine T)) × (lines.new.items ≡ lines.old.items ++ more)
+        × AllZip (SameSeen T.eq) (map line_seen more) (text_lines ended) × Each (IsMergedText T.eq) more) }
+{
+    while let Some(line) = ended.next_line()? {
+        lines.push(RenderLine::Text(line))?;
+    }
+    Ok(())
+}
+
+/// Appends the text of each line of parts, and a newline to each.
+fn append_parts<T: Drop>(text: &mut String, parts: Vec<Part<T>>) -> Result<(), OutOfMemory>
+    ensures { OnOk result (chars_of text.new ≡ chars_of text.old ++ lines_text (parts_seen parts.items)) }
+{
+    for part in parts {
+        append_lines(text, part.before)?;
+        part.ended.append_to(text)?;
+    }
+    Ok(())
+}
+
+/// Appends the text of each line, and a newline to each.
+fn append_lines<T: Drop>(text: &mut String, lines: Vec<RenderLine<T>>) -> Result<(), OutOfMemory>
+    ensures { OnOk result (chars_of text.new ≡ chars_of text.old ++ lines_text (map line_seen lines.items)) }
+{
+    for line in lines {
+        append_line(text, &line)?;
+    }
+    Ok(())
+}
+
+/// Appends a line's text and a newline.
+fn append_line<T>(text: &mut String, line: &RenderLine<T>) -> Result<(), OutOfMemory>
+    ensures { OnOk result (chars_of text.new ≡ chars_of text.old ++ line_text (line_seen line.now)) }
+{
+    line.append_to(text)?;
+    text.push('\n')?;
+    Ok(())
+}
+
+/// Each line on a line of its own: a text between `<` and `>`, a border between `[` and `]`.
+impl<T: Eq> fmt::Display for KeptLines<T> {
+    fn fmt<F: fmt::Write>(&self, f: &mut fmt::Formatter<F>) -> fmt::Result {
+        for part in &self.above {
+            print_lines(f, &part.before)?;
+            write!(f, "{}", part.ended)?;
+        }
+        print_lines(f, &self.last)
+    }
+}
+
+/// As they are displayed, in brackets.
+impl<T: Eq> fmt::Debug for KeptLines<T> {
+    fn fmt<F: fmt::Write>(&self, f: &mut fmt::Formatter<F>) -> fmt::Result {
+        write!(f, "[{self}]")
+    }
+}
+
+/// Prints each line and a newline.
+fn print_lines<T, F: fmt::Write>(
+    f: &mut fmt::Formatter<F>,
+    lines: &Vec<RenderLine<T>>,
+) -> fmt::Result {
+    for line in lines {
+        print_line(f, line)?;
+    }
+    Ok(())
+}
+
+/// Prints a line and a newline.
+fn print_line<T, F: fmt::Write>(f: &mut fmt::Formatter<F>, line: &RenderLine<T>) -> fmt::Result {
+    let Ok(text) = line.to_text() else {
+        return Err(fmt::Error);
+    };
+    match line {
+        RenderLine::Text(_) => writeln!(f, "<{}>", text.as_str()),
+        RenderLine::Line(_) => writeln!(f, "[{}]", text.as_str()),
+    }
+}

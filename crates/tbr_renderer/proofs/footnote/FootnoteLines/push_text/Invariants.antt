@@ -1,9 +1,0 @@
-use Rattle.std.proofs.Common.{◌≡◌, map}
-use Rattle.tbr_lines.specs.Elements.{text_items}
-use Rattle.tbr_renderer.specs.Cutting.{with_items, cut_meant}
-use Rattle.tbr_renderer.specs.Footnotes.{unbroken}
-use Rattle.tbr_renderer.specs.Meant.{tag_meant}
-use Rattle.tbr_renderer.proofs.footnote.FootnoteLines.push_text.Given as goal
-
-abbrev pub invariant-loop-c : goal.invariant-loop-c
-invariant-loop-c g l = cut_meant g.D.TextDecorator.meaning l.self ≡ with_items g.W.CharWidth.columns (cut_meant g.D.TextDecorator.meaning l.fn.self) (text_items (map unbroken l.yielded) (tag_meant g.D.TextDecorator.meaning l.fn.tag))

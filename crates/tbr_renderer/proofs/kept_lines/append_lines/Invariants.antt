@@ -1,8 +1,0 @@
-use Rattle.std.proofs.Common.{◌≡◌, ◌++◌, map}
-use Rattle.tbr_lines.specs.View.{chars_of}
-use Rattle.tbr_renderer.specs.Text.{lines_text}
-use Rattle.tbr_renderer.specs.View.{line_seen}
-use Rattle.tbr_renderer.proofs.kept_lines.append_lines.Given as goal
-
-abbrev pub invariant-loop-line : goal.invariant-loop-line
-invariant-loop-line g l = chars_of l.text ≡ chars_of l.initial.text ++ lines_text (map line_seen l.yielded)

@@ -1,8 +1,0 @@
-use Rattle.std.proofs.Common.{◌≡◌, ◌++◌}
-use Rattle.tbr_lines.specs.View.{chars_of}
-use Rattle.tbr_renderer.specs.KeptLines.{parts_seen}
-use Rattle.tbr_renderer.specs.Text.{lines_text}
-use Rattle.tbr_renderer.proofs.kept_lines.append_parts.Given as goal
-
-abbrev pub invariant-loop-part : goal.invariant-loop-part
-invariant-loop-part g l = chars_of l.text ≡ chars_of l.initial.text ++ lines_text (parts_seen l.yielded)
