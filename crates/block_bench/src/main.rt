@@ -5,8 +5,8 @@
 #![tactic(auto)]
 
 ghost use Rattle.std.specs.Prelude.{◌≡◌, ℕ, List, IfOk};
-ghost use Rattle.tbr_lines.specs.Elements.{marker_element};
-ghost use Rattle.tbr_lines.specs.View.{element_of};
+ghost use Rattle.tbr_tagged.specs.Elements.{marker_element};
+ghost use Rattle.tbr_tagged.specs.View.{element_of};
 
 use std::alloc::Global;
 use std::io;

@@ -6,17 +6,17 @@ use Rattle.tbr_model.specs.Fits.{lines_fit}
 use Rattle.tbr_model.specs.Run.{Item, marker_entry}
 use Rattle.tbr_model.specs.Rule.{Event, entry, progress, finished}
 use Rattle.tbr_model.proofs.rule.DoneLines.{finished_adds}
-use Rattle.tbr_lines.specs.Elements.{Element, marker_element}
-use Rattle.tbr_lines.specs.Block.{Block, Settings, settings_of, progress_of, lines, all_lines, left, allows, grown, after_marker, flushed, after_flush, line_handed_out, lines_handed_out}
-use Rattle.tbr_lines.specs.Outcome.{done}
-use Rattle.tbr_lines.proofs.Outcomes.{live_done, live_goes}
-use Rattle.tbr_lines.specs.Wrapped.{ShowsText}
-use Rattle.tbr_lines.proofs.Blocks.{if_allowed}
-use Rattle.tbr_lines.proofs.BlockLaws.{HandsOne, flush_leaves, flush_allowed}
-use Rattle.tbr_lines.proofs.LinesLeft.{many_keep, handed_one_more}
-use Rattle.tbr_lines.proofs.SameItems.{all_zip_append}
-use Rattle.tbr_lines.specs.View.{element_of}
-use Rattle.tbr_lines.specs.declared.TaggedLineElement.{TaggedLineElement}
+use Rattle.tbr_tagged.specs.Elements.{Element, marker_element}
+use Rattle.tbr_wrap.specs.Block.{Block, Settings, settings_of, progress_of, lines, all_lines, left, allows, grown, after_marker, flushed, after_flush, line_handed_out, lines_handed_out}
+use Rattle.tbr_tagged.specs.Outcome.{done}
+use Rattle.tbr_tagged.proofs.Outcomes.{live_done, live_goes}
+use Rattle.tbr_wrap.specs.Wrapped.{ShowsText}
+use Rattle.tbr_wrap.proofs.runs.Blocks.{if_allowed}
+use Rattle.tbr_wrap.proofs.runs.BlockLaws.{HandsOne, flush_leaves, flush_allowed}
+use Rattle.tbr_wrap.proofs.runs.LinesLeft.{many_keep, handed_one_more}
+use Rattle.tbr_tagged.proofs.SameItems.{all_zip_append}
+use Rattle.tbr_tagged.specs.View.{element_of}
+use Rattle.tbr_tagged.specs.declared.TaggedLineElement.{TaggedLineElement}
 
 -- what is at a place is a marker
 pub marker_at : {T : Type 0} (all : List (TaggedLineElement T)) (names : List (List ℕ)) (k : ℕ) (x : TaggedLineElement T) → map element_of all ≡ map marker_element names → k < length all → x ≡ get_or all k x → (name : List ℕ) × (element_of x ≡ marker_element name)

@@ -2,10 +2,10 @@ ghost use Rattle.std.specs.Prelude.{◌≡◌, ◌≤◌, true, None, IfOk, IfEr
 ghost use Rattle.std.specs.List.{AllZip};
 ghost use Rattle.tbr_model.specs.Run.{Item};
 ghost use Rattle.tbr_model.specs.declared.white_space.WhiteSpace.TheVariants.{Normal};
-ghost use Rattle.tbr_lines.specs.Runs.{text_entries};
-ghost use Rattle.tbr_lines.specs.UnicodeColumns.{unicode_columns};
-ghost use Rattle.tbr_lines.specs.Wrapped.{HasBestLines, ShowsText};
-ghost use Rattle.tbr_lines.specs.declared.Error.TheVariants as E;
+ghost use Rattle.tbr_wrap.specs.Runs.{text_entries};
+ghost use Rattle.tbr_tagged.specs.UnicodeColumns.{unicode_columns};
+ghost use Rattle.tbr_wrap.specs.Wrapped.{HasBestLines, ShowsText};
+ghost use Rattle.tbr_tagged.specs.declared.Error.TheVariants as E;
 
 use std::alloc::Global;
 use tbr_lines::{Error, TaggedLine, WhiteSpace, WrappedBlock};

@@ -1,6 +1,6 @@
 //! Counting what a line has, and copies of it.
 ghost use Rattle.std.specs.Prelude.{◌≡◌, true, length, IfOk};
-ghost use Rattle.tbr_lines.specs.Walks.{pieces_of};
+ghost use Rattle.tbr_tagged.specs.Walks.{pieces_of};
 
 use tbr_lines::{OutOfMemory, TaggedLine, TaggedLineElement};
 

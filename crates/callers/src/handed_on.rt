@@ -2,8 +2,8 @@
 ghost use Rattle.std.specs.Prelude.{◌≡◌, OnOk, map};
 ghost use Rattle.tbr_model.specs.Run.{marker_entry};
 ghost use Rattle.tbr_model.specs.Rule.{entry};
-ghost use Rattle.tbr_lines.specs.Block.{after_taking, grown, loose};
-ghost use Rattle.tbr_lines.specs.Outcome.{done};
+ghost use Rattle.tbr_wrap.specs.Block.{after_taking, grown, loose};
+ghost use Rattle.tbr_tagged.specs.Outcome.{done};
 
 use tbr_lines::{CharWidth, Error, WrappedBlock};
 

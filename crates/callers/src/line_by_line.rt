@@ -1,10 +1,10 @@
 //! Lines that are taken one by one, and then the rest.
 ghost use Rattle.std.specs.Prelude.{◌≡◌, IfOk};
 ghost use Rattle.std.specs.List.{AllZip};
-ghost use Rattle.tbr_lines.specs.Copies.{CopiesAreEqual};
-ghost use Rattle.tbr_lines.specs.Block.{Block, after_flush};
-ghost use Rattle.tbr_lines.specs.Outcome.{done};
-ghost use Rattle.tbr_lines.specs.Wrapped.{ShowsText};
+ghost use Rattle.tbr_tagged.specs.Copies.{CopiesAreEqual};
+ghost use Rattle.tbr_wrap.specs.Block.{Block, after_flush};
+ghost use Rattle.tbr_tagged.specs.Outcome.{done};
+ghost use Rattle.tbr_wrap.specs.Wrapped.{ShowsText};
 
 use std::alloc::Global;
 use tbr_lines::{CharWidth, Error, TaggedLine, WrappedBlock};

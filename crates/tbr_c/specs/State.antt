@@ -1,6 +1,6 @@
 -- How far a renderer is that C holds.
 use Rattle.std.specs.Prelude.{◌≡◌, ◌≢◌, ℕ, Option, None, Some, Result, Err, List, [], chars}
-use Rattle.tbr_lines.specs.UnicodeColumns.{unicode_columns}
+use Rattle.tbr_tagged.specs.UnicodeColumns.{unicode_columns}
 use Rattle.tbr_decor.specs.Style.{style_of}
 use Rattle.tbr_script.specs.declared.error.RunError.{RunError}
 use Rattle.tbr_commands.specs.Command.{Command}

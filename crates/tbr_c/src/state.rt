@@ -1,7 +1,7 @@
 //! How far a renderer is that C holds: filled, finished or refused.
 ghost use Rattle.std.specs.Prelude.{◌≡◌, ◌≢◌, ◌<◌, [], Some, Ok, Err, IfOk, IfErr, OnOk, MatchResult, string_bytes};
-ghost use Rattle.tbr_lines.specs.declared.Error.TheVariants as Refusal;
-ghost use Rattle.tbr_lines.specs.UnicodeColumns.{unicode_columns};
+ghost use Rattle.tbr_tagged.specs.declared.Error.TheVariants as Refusal;
+ghost use Rattle.tbr_tagged.specs.UnicodeColumns.{unicode_columns};
 ghost use Rattle.tbr_decor.specs.Decoration.{decoration_of};
 ghost use Rattle.tbr_script.specs.declared.error.RunError.{RunError as Unrun};
 ghost use Rattle.tbr_script.specs.declared.error.RunError.TheVariants as script;

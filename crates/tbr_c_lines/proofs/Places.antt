@@ -4,9 +4,9 @@ use Rattle.std.specs.Global.{Vec}
 use Rattle.std.proofs.lemmas.List.{length-append}
 use Rattle.std.proofs.lemmas.List.Concat.{flat_map-append}
 use Rattle.std.proofs.lemmas.Str.{encodes-chars, encodes-append, IsUtf8-string_bytes}
-use Rattle.tbr_lines.specs.Elements.{Element, piece, marker_element, element_characters, characters, line_width}
-use Rattle.tbr_lines.specs.UnicodeColumns.{unicode_columns}
-use Rattle.tbr_lines.specs.View.{chars_of}
+use Rattle.tbr_tagged.specs.Elements.{Element, piece, marker_element, element_characters, characters, line_width}
+use Rattle.tbr_tagged.specs.UnicodeColumns.{unicode_columns}
+use Rattle.tbr_tagged.specs.View.{chars_of}
 use Rattle.tbr_decor.specs.declared.annotation.RichAnnotation.{RichAnnotation}
 use Rattle.tbr_c_lines.specs.Line.{Piece, under, piece_at, pieces_at, line_of}
 

@@ -1,7 +1,7 @@
 -- How wide texts are.
 use Rattle.std.specs.Prelude.{ℕ, List, chars}
 use Rattle.tbr_model.specs.Width.{width_of_text}
-use Rattle.tbr_lines.specs.UnicodeColumns.{unicode_columns}
+use Rattle.tbr_tagged.specs.UnicodeColumns.{unicode_columns}
 
 -- the columns of a text by its bytes
 abbrev pub columns_of : List ℕ → ℕ

@@ -1,12 +1,12 @@
 -- A line as C sees it.
 use Rattle.std.specs.Prelude.{◌≡◌, ℕ, ◌+◌, Bool, true, false, Option, None, Some, Result, Ok, Err, List, [], ◌∷◌, length, map, string_bytes, encode_utf8_all}
 use Rattle.std.specs.Global.{Vec}
-use Rattle.tbr_lines.specs.declared.RenderLine.{RenderLine}
-use Rattle.tbr_lines.specs.declared.RenderLine.TheVariants.{Text, Line as Rule}
-use Rattle.tbr_lines.specs.Copies.{equal_lists}
-use Rattle.tbr_lines.specs.Elements.{Element, piece, marker_element, element_characters, characters, items_of, line_width, SameItems}
-use Rattle.tbr_lines.specs.RenderLine.{line_items, IsItself}
-use Rattle.tbr_lines.specs.UnicodeColumns.{unicode_columns}
+use Rattle.tbr_border.specs.declared.RenderLine.{RenderLine}
+use Rattle.tbr_border.specs.declared.RenderLine.TheVariants.{Text, Line as Rule}
+use Rattle.tbr_tagged.specs.Copies.{equal_lists}
+use Rattle.tbr_tagged.specs.Elements.{Element, piece, marker_element, element_characters, characters, items_of, line_width, SameItems}
+use Rattle.tbr_border.specs.RenderLine.{line_items, IsItself}
+use Rattle.tbr_tagged.specs.UnicodeColumns.{unicode_columns}
 use Rattle.tbr_decor.specs.declared.annotation.RichAnnotation.{RichAnnotation}
 use Rattle.tbr_decor.specs.declared.annotation.RichAnnotation.TheVariants as rich
 use Rattle.tbr_decor.specs.declared.colour.Colour.{Colour}

@@ -2,10 +2,10 @@
 use Rattle.std.specs.Prelude.{◌≡◌, ℕ, Bool, true, Option, List, [], ◌∷◌, ◌++◌, flat_map}
 use Rattle.std.specs.Global.{Vec}
 use Rattle.tbr_model.specs.Codes.{newline_character}
-use Rattle.tbr_lines.specs.declared.RenderLine.{RenderLine}
-use Rattle.tbr_lines.specs.RenderLine.{line_items}
-use Rattle.tbr_lines.specs.Walks.{item_characters}
-use Rattle.tbr_lines.specs.View.{chars_of}
+use Rattle.tbr_border.specs.declared.RenderLine.{RenderLine}
+use Rattle.tbr_border.specs.RenderLine.{line_items}
+use Rattle.tbr_tagged.specs.Walks.{item_characters}
+use Rattle.tbr_tagged.specs.View.{chars_of}
 use Rattle.tbr_decor.specs.declared.annotation.RichAnnotation.{RichAnnotation}
 use Rattle.tbr_decor.specs.declared.annotation.RichAnnotation.TheVariants.{Default}
 use Rattle.tbr_decor.specs.contracts.annotation.RichAnnotationPartialEq.TheImpl as rich

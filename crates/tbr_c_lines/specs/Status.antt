@@ -1,7 +1,7 @@
 -- The numbers of the statuses of `text_block_renderer.h`.
 use Rattle.std.specs.Prelude.{ℕ, Result, Ok, Err}
-use Rattle.tbr_lines.specs.declared.Error.{Error}
-use Rattle.tbr_lines.specs.declared.Error.TheVariants as block
+use Rattle.tbr_tagged.specs.declared.Error.{Error}
+use Rattle.tbr_tagged.specs.declared.Error.TheVariants as block
 use Rattle.tbr_script.specs.declared.error.RunError.{RunError}
 use Rattle.tbr_script.specs.declared.error.RunError.TheVariants as script
 use Rattle.tbr_c_lines.specs.declared.fault.Fault.{Fault}

@@ -1,6 +1,6 @@
 //! A line as C sees it.
 ghost use Rattle.std.specs.Prelude.{◌≡◌, ◌+◌, None, Some, IfOk, MatchResult, length, slice_get, string_bytes};
-ghost use Rattle.tbr_lines.specs.View.{element_of, elements_of};
+ghost use Rattle.tbr_tagged.specs.View.{element_of, elements_of};
 ghost use Rattle.tbr_c_lines.specs.Line as seen;
 ghost use Rattle.tbr_c_lines.specs.declared.fault.Fault.TheVariants as F;
 

@@ -1,6 +1,6 @@
 //! The lines of a renderer that is finished.
 ghost use Rattle.std.specs.Prelude.{◌≡◌, ◌≢◌, ◌++◌, ℕ, List, [], None, Some, Ok, Err, chars, flat_map, IfOk, IfErr, IfSome, OnOk, MatchResult};
-ghost use Rattle.tbr_lines.specs.View.{chars_of};
+ghost use Rattle.tbr_tagged.specs.View.{chars_of};
 ghost use Rattle.tbr_c_lines.specs.Copied.{IsCopied};
 ghost use Rattle.tbr_c_lines.specs.Status.{status_of};
 ghost use Rattle.tbr_c_lines.specs.Line as seen;
@@ -27,15 +27,14 @@ pub struct Lines {
 }
 
 impl Model for Lines {
-    ghost use Rattle.tbr_c_lines.specs.Lines.{Lines};
+    ghost use Rattle.tbr_c_lines.specs.Lines.{Lines, text_of};
 
     ghost Value = { Lines };
 
     ghost view = { λ l. record { rest = l.rest; current = l.current } };
 
     ghost use Rattle.std.specs.Prelude.{◌≡◌, IfSome};
-    ghost use Rattle.tbr_lines.specs.View.{chars_of};
-    ghost use Rattle.tbr_c_lines.specs.Lines.{text_of};
+    ghost use Rattle.tbr_tagged.specs.View.{chars_of};
 
     ghost invariant = { λ l. IfSome l.text (λ text. chars_of text ≡ text_of l.rest) };
 }

@@ -1,8 +1,8 @@
 -- A cell is written by one.
 use Rattle.std.proofs.Common.{◌≡◌, inl, inr, ℕ, List, refl, sym, ap, ◌∙◌, subst}
 use Rattle.std.specs.Str.Parse.{digits_value}
-use Rattle.tbr_lines.specs.declared.CellAlign.{CellAlign}
-use Rattle.tbr_lines.specs.declared.CellAlign.TheVariants.{Left, Right, Centre}
+use Rattle.tbr_tagged.specs.declared.CellAlign.{CellAlign}
+use Rattle.tbr_tagged.specs.declared.CellAlign.TheVariants.{Left, Right, Centre}
 use Rattle.tbr_script.specs.Script.{IsSize}
 use Rattle.tbr_commands.specs.Syntax.{IsAlignment, IsNewCell}
 

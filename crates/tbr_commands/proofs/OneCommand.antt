@@ -3,7 +3,7 @@ use Rattle.std.proofs.Common.{◌≡◌, ℕ, ◌==◌, ◌&&◌, Bool, true, fa
 use Rattle.std.specs.Prelude.{encode_utf8}
 use Rattle.std.specs.List.{AllByRecursion as Each}
 use Rattle.std.proofs.lemmas.List.{append_cancel_left}
-use Rattle.tbr_lines.specs.declared.CellAlign.{CellAlign}
+use Rattle.tbr_tagged.specs.declared.CellAlign.{CellAlign}
 use Rattle.tbr_decor.specs.Ground as ground
 use Rattle.tbr_decor.specs.declared.colour.Colour.{Colour}
 use Rattle.tbr_model.specs.declared.white_space.WhiteSpace.TheVariants.{Normal, Pre, PreWrap}

@@ -1,6 +1,6 @@
 -- What a line of a script asks for.
 use Rattle.std.specs.Prelude.{ℕ, ◌<◌, Bool, List, string_bytes}
-use Rattle.tbr_lines.specs.declared.CellAlign.{CellAlign}
+use Rattle.tbr_tagged.specs.declared.CellAlign.{CellAlign}
 use Rattle.tbr_commands.specs.Request.{Request, request_of}
 use Rattle.tbr_commands.specs.declared.command.Command as declared
 use Rattle.tbr_commands.specs.declared.command.Command.TheVariants as variant

@@ -4,8 +4,8 @@ use Rattle.std.specs.Str.{IsUtf8}
 use Rattle.std.specs.Str.Parse.{digits_value}
 use Rattle.tbr_model.specs.declared.white_space.WhiteSpace.{WhiteSpace}
 use Rattle.tbr_model.specs.declared.white_space.WhiteSpace.TheVariants.{Normal, Pre, PreWrap}
-use Rattle.tbr_lines.specs.declared.CellAlign.{CellAlign}
-use Rattle.tbr_lines.specs.declared.CellAlign.TheVariants.{Left, Right, Centre}
+use Rattle.tbr_tagged.specs.declared.CellAlign.{CellAlign}
+use Rattle.tbr_tagged.specs.declared.CellAlign.TheVariants.{Left, Right, Centre}
 use Rattle.tbr_decor.specs.declared.colour.Colour.{Colour}
 use Rattle.tbr_decor.specs.Ground as ground
 use Rattle.tbr_script.specs.Script.{IsNumber, IsSize, IsByte, IsText, AreSplitTexts, words_of}

@@ -9,13 +9,13 @@ use Rattle.tbr_model.specs.Run.{Item, glyph, item_width, items_width}
 use Rattle.tbr_model.specs.Mapped.{map_item}
 use Rattle.tbr_model.specs.Width.{width_of_text}
 use Rattle.tbr_model.proofs.words.Items.{items_width-append}
-use Rattle.tbr_lines.specs.Copies.{equal_lists}
-use Rattle.tbr_lines.specs.Elements.{Element, piece, marker_element, text_items, items_of, SameItems, IsMerged}
-use Rattle.tbr_lines.specs.Mapped.{MeansEqual}
-use Rattle.tbr_lines.proofs.MappedTags.{means_same_items}
-use Rattle.tbr_lines.proofs.TextColumns.{items_width-text}
-use Rattle.tbr_lines.specs.declared.TaggedLineElement.{TaggedLineElement}
-use Rattle.tbr_lines.specs.View.{element_of}
+use Rattle.tbr_tagged.specs.Copies.{equal_lists}
+use Rattle.tbr_tagged.specs.Elements.{Element, piece, marker_element, text_items, items_of, SameItems, IsMerged}
+use Rattle.tbr_tagged.specs.Mapped.{MeansEqual}
+use Rattle.tbr_tagged.proofs.MappedTags.{means_same_items}
+use Rattle.tbr_tagged.proofs.TextColumns.{items_width-text}
+use Rattle.tbr_tagged.specs.declared.TaggedLineElement.{TaggedLineElement}
+use Rattle.tbr_tagged.specs.View.{element_of}
 use Rattle.tbr_decor.specs.Meant.{meant as element_meant}
 use Rattle.tbr_footnotes.specs.Cutting.{Cutting, nothing_cut, line_ended, appended, extended, with_item, with_items, cut_meant, texts_meant, cutting_of, HoldsCutting}
 use Rattle.tbr_footnotes.specs.Footnote.{unbroken, footnote_items, fits_behind, cut_lines}

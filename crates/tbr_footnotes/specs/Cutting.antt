@@ -3,8 +3,8 @@ use Rattle.std.specs.Prelude.{◌≡◌, ℕ, Bool, Option, if◌then◌else◌,
 use Rattle.std.specs.List.{AllByRecursion as Each}
 use Rattle.std.specs.Global.{Vec}
 use Rattle.tbr_model.specs.Run.{Item, item_width, items_width}
-use Rattle.tbr_lines.specs.Copies.{equal_lists}
-use Rattle.tbr_lines.specs.Elements.{Element, items_of, IsMerged}
+use Rattle.tbr_tagged.specs.Copies.{equal_lists}
+use Rattle.tbr_tagged.specs.Elements.{Element, items_of, IsMerged}
 use Rattle.tbr_footnotes.specs.Footnote.{fits_behind}
 use Rattle.tbr_footnotes.specs.Tags.{items_meant}
 use Rattle.tbr_footnotes.specs.declared.footnote_lines.FootnoteLines.TheInside.{Inside}

@@ -2,7 +2,7 @@
 use Rattle.std.specs.Prelude.{ℕ, Bool, true, Option, Some, None, ◌+◌, nat_le, ◌==◌, if◌then◌else◌, List, [], ◌∷◌, ◌++◌, map}
 use Rattle.tbr_model.specs.Codes.{newline_character, space_character}
 use Rattle.tbr_model.specs.Run.{Item, item_width, items_width}
-use Rattle.tbr_lines.specs.Elements.{Element, piece, marker_element, text_items}
+use Rattle.tbr_tagged.specs.Elements.{Element, piece, marker_element, text_items}
 
 -- a newline as a space
 abbrev pub unbroken : ℕ → ℕ

@@ -3,10 +3,10 @@ ghost use Rattle.std.specs.Prelude.{◌≡◌, ◌+◌, ◌∷◌, [], true, unw
 ghost use Rattle.std.specs.List.{AllByRecursion as Each};
 ghost use Rattle.tbr_model.specs.Run.{glyph, items_width};
 ghost use Rattle.tbr_model.specs.Width.{width_of_text};
-ghost use Rattle.tbr_lines.specs.Copies.{equal_lists};
-ghost use Rattle.tbr_lines.specs.Elements.{text_items, IsMerged};
-ghost use Rattle.tbr_lines.specs.View.{chars_of, element_of};
-ghost use Rattle.tbr_lines.specs.Walks.{piece_of};
+ghost use Rattle.tbr_tagged.specs.Copies.{equal_lists};
+ghost use Rattle.tbr_tagged.specs.Elements.{text_items, IsMerged};
+ghost use Rattle.tbr_tagged.specs.View.{chars_of, element_of};
+ghost use Rattle.tbr_tagged.specs.Walks.{piece_of};
 ghost use Rattle.tbr_decor.specs.Meant.{meant};
 ghost use Rattle.tbr_footnotes.specs.Cutting.{nothing_cut, line_ended, appended, extended, with_item, with_items, cut_meant, texts_meant};
 ghost use Rattle.tbr_footnotes.specs.Footnote as model;
@@ -36,11 +36,10 @@ pub struct FootnoteLines<D: TextDecorator, W: CharWidth> {
 
 impl<D: TextDecorator, W: CharWidth> Model for FootnoteLines<D, W> {
     ghost use Rattle.std.specs.Global.{Vec};
-    ghost use Rattle.tbr_footnotes.specs.Cutting.{Cutting};
+    ghost use Rattle.tbr_footnotes.specs.Cutting.{Cutting, cutting_of, HoldsCutting};
 
     ghost Value = { Cutting (Vec D.Annotation) };
 
-    ghost use Rattle.tbr_footnotes.specs.Cutting.{cutting_of, HoldsCutting};
 
     ghost view = { λ c. cutting_of c };
 

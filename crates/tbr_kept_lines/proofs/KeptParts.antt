@@ -8,16 +8,16 @@ use Rattle.std.proofs.lemmas.List.{map-append}
 use Rattle.std.proofs.lemmas.List.Elements.{filter-append}
 use Rattle.std.proofs.lemmas.List.Concat.{flat_map-append}
 use Rattle.tbr_model.specs.Run.{Item, has_character}
-use Rattle.tbr_lines.specs.Border.{Border, has_holes}
-use Rattle.tbr_lines.specs.Elements.{Element, SameItems, IsMerged, items_of}
-use Rattle.tbr_lines.proofs.SameItems.{all_zip_append, same_items}
+use Rattle.tbr_border.specs.Border.{Border, has_holes}
+use Rattle.tbr_tagged.specs.Elements.{Element, SameItems, IsMerged, items_of}
+use Rattle.tbr_tagged.proofs.SameItems.{all_zip_append, same_items}
 use Rattle.std.specs.Cmp.{IsEquivalence}
-use Rattle.tbr_lines.specs.EndedLines.{line_characters, lines_characters}
-use Rattle.tbr_lines.specs.RenderLine.{IsMergedText, line_items, has_content as line_holds}
-use Rattle.tbr_lines.specs.Runs.{is_some_list}
-use Rattle.tbr_lines.proofs.MappedTags.{merged_piece_has}
-use Rattle.tbr_lines.specs.declared.RenderLine.{RenderLine}
-use Rattle.tbr_lines.specs.declared.RenderLine.TheVariants.{Text, Line as Rule}
+use Rattle.tbr_wrap.specs.EndedLines.{line_characters, lines_characters}
+use Rattle.tbr_border.specs.RenderLine.{IsMergedText, line_items, has_content as line_holds}
+use Rattle.tbr_wrap.specs.Runs.{is_some_list}
+use Rattle.tbr_tagged.proofs.MappedTags.{merged_piece_has}
+use Rattle.tbr_border.specs.declared.RenderLine.{RenderLine}
+use Rattle.tbr_border.specs.declared.RenderLine.TheVariants.{Text, Line as Rule}
 use Rattle.tbr_kept_lines.specs.Line.{Line, text, border, line_seen, line_has_content, text_lines, SameSeen}
 use Rattle.tbr_kept_lines.specs.KeptLines.{part_seen, parts_seen, HoldsPart}
 use Rattle.tbr_kept_lines.specs.LastBorder.{last_border}

@@ -1,8 +1,8 @@
 -- What the fields of kept lines mean.
 use Rattle.std.specs.Prelude.{◌≡◌, Bool, true, List, ◌++◌, map, filter, flat_map, length}
 use Rattle.std.specs.List.{AllByRecursion as Each, list_any}
-use Rattle.tbr_lines.specs.RenderLine.{IsMergedText}
-use Rattle.tbr_lines.specs.Runs.{is_some_list}
+use Rattle.tbr_border.specs.RenderLine.{IsMergedText}
+use Rattle.tbr_wrap.specs.Runs.{is_some_list}
 use Rattle.tbr_kept_lines.specs.Line.{Line, line_seen, line_has_content, text_lines}
 use Rattle.tbr_kept_lines.specs.declared.kept_lines.Part.{Part}
 use Rattle.tbr_kept_lines.specs.declared.kept_lines.KeptLines.TheInside.{Inside}

@@ -1,9 +1,9 @@
 -- The last line, where it is a border.
 use Rattle.std.specs.Prelude.{Bool, true, false, ◌-◌, if◌then◌else◌, is_some, Option, None, Some, List, [], ◌∷◌, length, take}
 use Rattle.std.specs.Borrow.{Bor}
-use Rattle.tbr_lines.specs.Border.{Border}
-use Rattle.tbr_lines.specs.declared.RenderLine.{RenderLine}
-use Rattle.tbr_lines.specs.declared.RenderLine.TheVariants.{Text, Line as Rule}
+use Rattle.tbr_border.specs.Border.{Border}
+use Rattle.tbr_border.specs.declared.RenderLine.{RenderLine}
+use Rattle.tbr_border.specs.declared.RenderLine.TheVariants.{Text, Line as Rule}
 use Rattle.tbr_kept_lines.specs.Line.{Line, text, border}
 
 -- whether a line is a border

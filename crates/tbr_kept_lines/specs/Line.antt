@@ -1,10 +1,10 @@
 -- Lines as a contract sees them.
 use Rattle.std.specs.Prelude.{◌≡◌, Bool, not, List, [], ◌∷◌}
 use Rattle.tbr_model.specs.Run.{Item, has_character}
-use Rattle.tbr_lines.specs.Border.{Border, has_holes}
-use Rattle.tbr_lines.specs.Elements.{SameItems, items_of}
-use Rattle.tbr_lines.specs.declared.RenderLine.{RenderLine}
-use Rattle.tbr_lines.specs.declared.RenderLine.TheVariants.{Text, Line as Rule}
+use Rattle.tbr_border.specs.Border.{Border, has_holes}
+use Rattle.tbr_tagged.specs.Elements.{SameItems, items_of}
+use Rattle.tbr_border.specs.declared.RenderLine.{RenderLine}
+use Rattle.tbr_border.specs.declared.RenderLine.TheVariants.{Text, Line as Rule}
 
 -- A line: a text, or a border.
 pub data Line (T : Type 0) : Type 0 where

@@ -2,8 +2,8 @@
 use Rattle.std.specs.Prelude.{ℕ, List, [], ◌∷◌, ◌++◌, flat_map}
 use Rattle.tbr_model.specs.Codes.{newline_character}
 use Rattle.tbr_model.specs.Run.{Item}
-use Rattle.tbr_lines.specs.Border.{shown}
-use Rattle.tbr_lines.specs.Walks.{item_characters}
+use Rattle.tbr_border.specs.Border.{shown}
+use Rattle.tbr_tagged.specs.Walks.{item_characters}
 use Rattle.tbr_kept_lines.specs.Line.{Line, text, border}
 
 -- what a line shows; a border shows its holes too

@@ -1,11 +1,11 @@
 //! Lines as a renderer keeps them.
 ghost use Rattle.std.specs.Prelude.{◌≡◌, ◌≢◌, ◌++◌, ◌∷◌, [], List, None, Some, true, not, map, IfOk, IfSome, OnOk};
 ghost use Rattle.std.specs.List.{AllZip, AllByRecursion as Each, list_any};
-ghost use Rattle.tbr_lines.specs.Copies.{CopiesAreEqual};
-ghost use Rattle.tbr_lines.specs.RenderLine.{IsMergedText};
-ghost use Rattle.tbr_lines.specs.Runs.{is_some_list};
-ghost use Rattle.tbr_lines.specs.View.{chars_of};
-ghost use Rattle.tbr_lines.specs.declared.RenderLine.TheVariants.{Line as Rule};
+ghost use Rattle.tbr_tagged.specs.Copies.{CopiesAreEqual};
+ghost use Rattle.tbr_border.specs.RenderLine.{IsMergedText};
+ghost use Rattle.tbr_wrap.specs.Runs.{is_some_list};
+ghost use Rattle.tbr_tagged.specs.View.{chars_of};
+ghost use Rattle.tbr_border.specs.declared.RenderLine.TheVariants.{Line as Rule};
 ghost use Rattle.tbr_kept_lines.specs.Line.{line_seen, line_has_content, text_lines, SameSeen};
 ghost use Rattle.tbr_kept_lines.specs.KeptLines.{parts_seen, HoldsPart};
 ghost use Rattle.tbr_kept_lines.specs.LastBorder as model;

@@ -2,9 +2,9 @@
 use Rattle.std.proofs.Common.{◌≡◌, ℕ, Option, List, [], ◌∷◌, ◌++◌, map, refl, ap, sym, ◌∙◌, subst}
 use Rattle.std.specs.Global.{Vec}
 use Rattle.std.proofs.lemmas.List.{map-append}
-use Rattle.tbr_lines.specs.Elements.{Element, piece, marker_element}
-use Rattle.tbr_lines.specs.View.{element_of}
-use Rattle.tbr_lines.specs.declared.TaggedLineElement.{TaggedLineElement}
+use Rattle.tbr_tagged.specs.Elements.{Element, piece, marker_element}
+use Rattle.tbr_tagged.specs.View.{element_of}
+use Rattle.tbr_tagged.specs.declared.TaggedLineElement.{TaggedLineElement}
 use Rattle.tbr_renderer.specs.declared.sub.SubRenderer.TheInside.{Inside}
 use Rattle.tbr_renderer.specs.Renderer.{Renderer}
 use Rattle.tbr_renderer.specs.View.{names_of, AreMarkers, renderer_of, HoldsRenderer}

@@ -5,13 +5,13 @@ use Rattle.std.proofs.lemmas.List.{map-append}
 use Rattle.std.proofs.lemmas.List.Concat.{flat_map-append}
 use Rattle.std.proofs.lemmas.Grind.{fold-append}
 use Rattle.tbr_model.specs.Run.{Item}
-use Rattle.tbr_lines.specs.Elements.{Element}
+use Rattle.tbr_tagged.specs.Elements.{Element}
 use Rattle.tbr_decor.specs.Meant.{meant as element_meant}
 use Rattle.tbr_footnotes.specs.Footnote.{footnote_items, cut_lines}
 use Rattle.tbr_renderer.specs.Footnotes.{link_width, footnote_lines}
 use Rattle.tbr_renderer.specs.Meant.{meant}
 use Rattle.tbr_renderer.specs.Renderer.{Renderer, Settings, KeepsSettings, with_line}
-use Rattle.tbr_renderer.proofs.Appending.{HasPut}
+use Rattle.tbr_renderer.proofs.AppendedLines.{HasPut}
 
 module _ {D A M : Type 0} (f : A → M) (columns : ℕ → Option ℕ) (first : Renderer D A (Vec A)) where
   -- the lines of a footnote are decided by what isn't text

@@ -3,9 +3,9 @@ use Rattle.std.proofs.Common.{◌≡◌, List, [], ◌∷◌, ◌++◌, map, ref
 use Rattle.tbr_model.specs.Codes.{newline_character}
 use Rattle.tbr_model.specs.Run.{Item, glyph, marker}
 use Rattle.tbr_model.specs.Mapped.{map_items}
-use Rattle.tbr_lines.specs.Border.{shown}
-use Rattle.tbr_renderer.proofs.Bordering.{shown-map}
-use Rattle.tbr_lines.specs.Walks.{item_characters}
+use Rattle.tbr_border.specs.Border.{shown}
+use Rattle.tbr_renderer.proofs.MeantBorders.{shown-map}
+use Rattle.tbr_tagged.specs.Walks.{item_characters}
 use Rattle.tbr_renderer.specs.Meant.{map_line}
 use Rattle.tbr_kept_lines.specs.Line.{Line, text, border}
 use Rattle.tbr_kept_lines.specs.Text.{line_text, lines_text}

@@ -4,10 +4,10 @@ use Rattle.std.specs.Cmp.{IsEquivalence}
 use Rattle.std.proofs.lemmas.List.{map-append}
 use Rattle.std.proofs.lemmas.List.Concat.{flat_map-append}
 use Rattle.tbr_model.specs.Run.{Item}
-use Rattle.tbr_lines.specs.declared.TaggedLineElement.{TaggedLineElement}
-use Rattle.tbr_lines.specs.Elements.{Element, element_items, items_of, SameItems}
-use Rattle.tbr_lines.specs.View.{element_of}
-use Rattle.tbr_lines.proofs.SameItems.{same_items, same_items_trans, same_items_append}
+use Rattle.tbr_tagged.specs.declared.TaggedLineElement.{TaggedLineElement}
+use Rattle.tbr_tagged.specs.Elements.{Element, element_items, items_of, SameItems}
+use Rattle.tbr_tagged.specs.View.{element_of}
+use Rattle.tbr_tagged.proofs.SameItems.{same_items, same_items_trans, same_items_append}
 
 module _ {A : Type 0} (eq : A → A → Bool) (laws : IsEquivalence eq) where
   -- one more element

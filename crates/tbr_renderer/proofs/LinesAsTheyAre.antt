@@ -4,17 +4,17 @@ use Rattle.std.specs.Global.{Vec}
 use Rattle.std.specs.List.{AllZip}
 use Rattle.std.proofs.lemmas.List.{map-append}
 use Rattle.tbr_model.specs.Run.{Item}
-use Rattle.tbr_lines.specs.Copies.{equal_lists}
-use Rattle.tbr_lines.specs.Elements.{SameItems}
-use Rattle.tbr_lines.specs.Block.{Block, left}
-use Rattle.tbr_lines.specs.Wrapped.{padding_of}
-use Rattle.tbr_lines.proofs.MappedTags.{means_same_items}
+use Rattle.tbr_tagged.specs.Copies.{equal_lists}
+use Rattle.tbr_tagged.specs.Elements.{SameItems}
+use Rattle.tbr_wrap.specs.Block.{Block, left}
+use Rattle.tbr_wrap.specs.Wrapped.{padding_of}
+use Rattle.tbr_tagged.proofs.MappedTags.{means_same_items}
 use Rattle.tbr_kept_lines.specs.Line.{Line, text, text_lines}
 use Rattle.tbr_renderer.specs.Renderer.{Renderer, with_line}
 use Rattle.tbr_footnotes.specs.Tags.{tag_meant, items_meant}
 use Rattle.tbr_renderer.specs.Meant.{map_line, meant}
 use Rattle.tbr_renderer.specs.Flush.{line_meant, AddsAsIs}
-use Rattle.tbr_renderer.proofs.Meanings.{line_alone}
+use Rattle.tbr_renderer.proofs.MeantLines.{line_alone}
 
 module _ {D M : Type 0} (columns : ℕ → Option ℕ) where
   -- a line without padding

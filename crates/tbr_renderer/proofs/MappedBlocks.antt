@@ -10,14 +10,14 @@ use Rattle.tbr_model.specs.Fits.{lines_fit}
 use Rattle.tbr_model.specs.Mapped.{map_items, map_entry, map_run, map_lines, map_event, map_events}
 use Rattle.tbr_model.specs.Markers.{names_in_items}
 use Rattle.tbr_model.proofs.maps.Words.{items_width-map, has_character-map}
-use Rattle.tbr_lines.specs.Block.{Block, lines, all_lines, waiting_names, allows, grown, text_events, flushed, after_text, after_flush, any_line, takes_no_columns, has_no_character, progress_of}
-use Rattle.tbr_lines.specs.Outcome.{done, refused}
-use Rattle.tbr_lines.proofs.Outcomes.{live_refused}
-use Rattle.tbr_lines.proofs.Blocks.{if_allowed, if_not_allowed}
-use Rattle.tbr_lines.proofs.BlockLaws.{flush_ends, flush_wide, text_wide}
-use Rattle.tbr_lines.specs.declared.Error.TheVariants as E
+use Rattle.tbr_wrap.specs.Block.{Block, lines, all_lines, waiting_names, allows, grown, text_events, flushed, after_text, after_flush, any_line, takes_no_columns, has_no_character, progress_of}
+use Rattle.tbr_tagged.specs.Outcome.{done, refused}
+use Rattle.tbr_tagged.proofs.Outcomes.{live_refused}
+use Rattle.tbr_wrap.proofs.runs.Blocks.{if_allowed, if_not_allowed}
+use Rattle.tbr_wrap.proofs.runs.BlockLaws.{flush_ends, flush_wide, text_wide}
+use Rattle.tbr_tagged.specs.declared.Error.TheVariants as E
 use Rattle.tbr_model.specs.declared.white_space.WhiteSpace.{WhiteSpace}
-use Rattle.tbr_lines.specs.Runs.{is_some_list, text_entries, EndsRun, CharactersFit}
+use Rattle.tbr_wrap.specs.Runs.{is_some_list, text_entries, EndsRun, CharactersFit}
 use Rattle.tbr_renderer.specs.Renderer.{Open, Renderer, called, block_width, may_overflow}
 use Rattle.tbr_footnotes.specs.Tags.{tag_meant}
 use Rattle.tbr_renderer.specs.Meant.{meant}

@@ -1,7 +1,7 @@
 -- The same lines under equal tags mean the same.
 use Rattle.std.proofs.Common.{◌≡◌, Bool, true, List, [], ◌∷◌, map, refl, ap, ◌∙◌}
 use Rattle.std.specs.List.{AllZip}
-use Rattle.tbr_lines.proofs.MappedTags.{means_same_items}
+use Rattle.tbr_tagged.proofs.MappedTags.{means_same_items}
 use Rattle.tbr_rows.specs.Meant.{map_border}
 use Rattle.tbr_renderer.specs.Meant.{map_line}
 use Rattle.tbr_kept_lines.specs.Line.{Line, text, border, SameSeen}

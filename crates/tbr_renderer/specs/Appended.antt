@@ -2,12 +2,12 @@
 use Rattle.std.specs.Prelude.{◌≡◌, ℕ, ◌<◌, ◌⊎◌, Option, Some, None, if◌then◌else◌, List, [], ◌∷◌, ◌++◌, map, fold, length, replicate, chars}
 use Rattle.std.specs.Iterator.{Yields}
 use Rattle.tbr_model.specs.Run.{Item}
-use Rattle.tbr_lines.specs.Border.{Border, shown, without_holes}
-use Rattle.tbr_lines.specs.Cell.{Cell, horizontal, slash}
-use Rattle.tbr_lines.specs.Elements.{text_items}
+use Rattle.tbr_border.specs.Border.{Border, shown, without_holes}
+use Rattle.tbr_border.specs.Cell.{Cell, horizontal, slash}
+use Rattle.tbr_tagged.specs.Elements.{text_items}
 use Rattle.tbr_kept_lines.specs.Line.{Line, text, border}
 use Rattle.tbr_renderer.specs.Renderer.{Renderer, line_padding, with_line}
-use Rattle.tbr_lines.specs.declared.Error.TheVariants.{TooNarrow}
+use Rattle.tbr_tagged.specs.declared.Error.TheVariants.{TooNarrow}
 use Rattle.tbr_renderer.specs.Flush.{Flushes, FlushIsTooNarrow}
 
 -- ---- borders

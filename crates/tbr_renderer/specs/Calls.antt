@@ -7,8 +7,8 @@ use Rattle.tbr_model.specs.declared.white_space.WhiteSpace.TheVariants.{Pre}
 use Rattle.tbr_model.specs.Rule.{entry}
 use Rattle.tbr_model.specs.Run.{Entry, character, marker_entry, Item, glyph, marker}
 use Rattle.tbr_model.specs.Layout.{joined}
-use Rattle.tbr_lines.specs.declared.Error.{Error}
-use Rattle.tbr_lines.specs.declared.Error.TheVariants as E
+use Rattle.tbr_tagged.specs.declared.Error.{Error}
+use Rattle.tbr_tagged.specs.declared.Error.TheVariants as E
 use Rattle.tbr_decor.specs.declared.colour.Colour.{Colour}
 use Rattle.tbr_decor.specs.Decoration.{Decoration}
 use Rattle.tbr_decor.specs.Start as start

@@ -3,10 +3,10 @@ use Rattle.std.specs.Prelude.{◌≡◌, ℕ, Bool, true, false, Option, None, S
 use Rattle.std.specs.Global.{Vec}
 use Rattle.tbr_model.specs.Rule.{Event, run_of}
 use Rattle.tbr_model.specs.Run.{Item}
-use Rattle.tbr_lines.specs.Block.{Block, lines, all_lines, waiting_names, allows, grown}
-use Rattle.tbr_lines.specs.Block as block
-use Rattle.tbr_lines.specs.Runs.{EndsRun, CharactersFit}
-use Rattle.tbr_lines.specs.Wrapped.{padding_of}
+use Rattle.tbr_wrap.specs.Block.{Block, lines, all_lines, waiting_names, allows, grown}
+use Rattle.tbr_wrap.specs.Block as block
+use Rattle.tbr_wrap.specs.Runs.{EndsRun, CharactersFit}
+use Rattle.tbr_wrap.specs.Wrapped.{padding_of}
 use Rattle.tbr_footnotes.specs.Tags.{items_meant}
 use Rattle.tbr_renderer.specs.Renderer.{Open, Renderer, with_line, block_width, may_overflow}
 

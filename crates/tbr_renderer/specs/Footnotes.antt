@@ -1,7 +1,7 @@
 -- The targets of links, which are after a document.
 use Rattle.std.specs.Prelude.{ℕ, Option, Some, None, if◌then◌else◌, List, [], flat_map, fold}
 use Rattle.tbr_model.specs.Run.{Item}
-use Rattle.tbr_lines.specs.Elements.{Element}
+use Rattle.tbr_tagged.specs.Elements.{Element}
 use Rattle.tbr_footnotes.specs.Footnote.{footnote_items, cut_lines}
 use Rattle.tbr_renderer.specs.Renderer.{Renderer, with_line}
 use Rattle.tbr_renderer.specs.declared.options.RenderOptions.{RenderOptions}

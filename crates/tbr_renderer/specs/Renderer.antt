@@ -9,9 +9,9 @@ use Rattle.tbr_model.specs.Rule.{Event, call, entry, run_of}
 use Rattle.tbr_model.specs.Run.{Entry, Item}
 use Rattle.tbr_model.specs.Markers.{marker_items}
 pub use Rattle.tbr_model.specs.Width.{stroke}
-use Rattle.tbr_lines.specs.Runs.{text_entries}
-use Rattle.tbr_lines.specs.Wrapped.{padding_of}
-use Rattle.tbr_lines.specs.declared.Error.{Error}
+use Rattle.tbr_wrap.specs.Runs.{text_entries}
+use Rattle.tbr_wrap.specs.Wrapped.{padding_of}
+use Rattle.tbr_tagged.specs.declared.Error.{Error}
 use Rattle.tbr_rows.specs.declared.line_set.LineSet.{LineSet as Cell}
 use Rattle.tbr_kept_lines.specs.Line.{Line, text, line_has_content}
 use Rattle.tbr_kept_lines.specs.LastBorder.{without_last}

@@ -2,15 +2,15 @@
 use Rattle.std.specs.Prelude.{◌≡◌, ℕ, ◌-◌, Bool, true, not, ◌&&◌, is_none, Option, None, Some, List, [], ◌∷◌, ◌++◌, map, fold}
 use Rattle.std.specs.List.{AllZip}
 use Rattle.tbr_model.specs.Run.{items_width}
-use Rattle.tbr_lines.specs.Block.{any_line, has_no_character}
-use Rattle.tbr_lines.specs.Border.{Border, with_cells, stretched}
-use Rattle.tbr_lines.specs.Elements.{items_of}
-use Rattle.tbr_lines.specs.Padding.{aligned_items}
-use Rattle.tbr_lines.specs.Runs.{is_some_list}
-use Rattle.tbr_lines.specs.declared.CellAlign.{CellAlign}
-use Rattle.tbr_lines.specs.declared.CellAlign.TheVariants.{Left}
-use Rattle.tbr_lines.specs.declared.RenderLine.{RenderLine}
-use Rattle.tbr_lines.specs.declared.RenderLine.TheVariants.{Text, Line as Rule}
+use Rattle.tbr_wrap.specs.Block.{any_line, has_no_character}
+use Rattle.tbr_border.specs.Border.{Border, with_cells, stretched}
+use Rattle.tbr_tagged.specs.Elements.{items_of}
+use Rattle.tbr_tagged.specs.Padding.{aligned_items}
+use Rattle.tbr_wrap.specs.Runs.{is_some_list}
+use Rattle.tbr_tagged.specs.declared.CellAlign.{CellAlign}
+use Rattle.tbr_tagged.specs.declared.CellAlign.TheVariants.{Left}
+use Rattle.tbr_border.specs.declared.RenderLine.{RenderLine}
+use Rattle.tbr_border.specs.declared.RenderLine.TheVariants.{Text, Line as Rule}
 use Rattle.tbr_rows.specs.Cells.{AreSideBySide, Spot, spots_from}
 use Rattle.tbr_rows.specs.Meant.{AreLongest, SeenRow, MeansRow}
 use Rattle.tbr_rows.specs.declared.LineSet.{LineSet as Cell}

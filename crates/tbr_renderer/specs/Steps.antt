@@ -1,8 +1,8 @@
 -- What each call makes of a renderer.
 use Rattle.std.specs.Prelude.{◌≡◌, ℕ, Bool, true, false, not, ◌&&◌, if◌then◌else◌, is_none, Option, None, Some, List, [], ◌++◌, ◌⊎◌}
 use Rattle.tbr_model.specs.Rule.{Event}
-use Rattle.tbr_lines.specs.Block.{any_line, takes_no_columns}
-use Rattle.tbr_lines.specs.Runs.{is_some_list, CharactersFit}
+use Rattle.tbr_wrap.specs.Block.{any_line, takes_no_columns}
+use Rattle.tbr_wrap.specs.Runs.{is_some_list, CharactersFit}
 use Rattle.tbr_renderer.specs.Renderer.{Open, Renderer, has_content, with_line, block_width, open_block, open_run, called, with_events, entries_of, ignores}
 use Rattle.tbr_renderer.specs.Flush.{block_in, fits_grown, Flushes, FlushIsTooNarrow}
 

@@ -2,12 +2,12 @@
 use Rattle.std.specs.Prelude.{◌≡◌, ◌<◌, ℕ, Bool, false, ⊤, Option, Some, None, List, [], ◌∷◌, map, chars}
 use Rattle.std.specs.Option.{option_map}
 use Rattle.std.specs.Global.{Box, Vec}
-use Rattle.tbr_lines.specs.View.{element_of}
+use Rattle.tbr_tagged.specs.View.{element_of}
 use Rattle.tbr_footnotes.specs.Tags.{tag_meant}
 use Rattle.tbr_renderer.specs.Meant.{map_open}
 use Rattle.tbr_renderer.specs.declared.sub.SubRenderer.TheInside.{Inside}
-use Rattle.tbr_lines.specs.Elements.{Element, piece, marker_element}
-use Rattle.tbr_lines.specs.Block.{Block, IsSound}
+use Rattle.tbr_tagged.specs.Elements.{Element, piece, marker_element}
+use Rattle.tbr_wrap.specs.Block.{Block, IsSound}
 use Rattle.tbr_decor.specs.Start as start
 use Rattle.tbr_decor.specs.End as end
 use Rattle.tbr_decor.specs.Ground as ground

@@ -7,14 +7,14 @@ ghost use Rattle.tbr_renderer.specs.Appended.{GivesFirst, texts_of, FirstToRefus
 ghost use Rattle.tbr_renderer.specs.Rows.{GivenCell, GivesCell, align_in};
 ghost use Rattle.tbr_renderer.specs.Calls as call;
 ghost use Rattle.tbr_renderer.specs.Calls.{Call, Answers, Fails, Leaves};
-ghost use Rattle.tbr_lines.specs.declared.CellAlign.TheVariants as A;
-ghost use Rattle.tbr_lines.specs.View.{chars_of};
+ghost use Rattle.tbr_tagged.specs.declared.CellAlign.TheVariants as A;
+ghost use Rattle.tbr_tagged.specs.View.{chars_of};
 ghost use Rattle.tbr_decor.specs.Start as start;
 ghost use Rattle.tbr_decor.specs.End as end;
 ghost use Rattle.tbr_decor.specs.Prefix as prefix;
 ghost use Rattle.tbr_decor.specs.Ground as ground;
-ghost use Rattle.tbr_lines.specs.declared.Error.{Error as Refusal};
-ghost use Rattle.tbr_lines.specs.declared.Error.TheVariants as E;
+ghost use Rattle.tbr_tagged.specs.declared.Error.{Error as Refusal};
+ghost use Rattle.tbr_tagged.specs.declared.Error.TheVariants as E;
 
 use std::convert::AsStr;
 use tbr_decor::Colour;

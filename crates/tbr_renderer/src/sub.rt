@@ -1,14 +1,14 @@
 //! A renderer of blocks of text.
 ghost use Rattle.std.specs.Prelude.{◌≡◌, ◌≢◌, ◌<◌, [], ◌∷◌, ◌++◌, None, Some, false, ◌-◌, map, IsTrue, ◌↔◌, is_err, max, IfOk, IfErr, OnOk, MatchResult};
-ghost use Rattle.tbr_lines.specs.declared.Error.{Error as Refusal};
-ghost use Rattle.tbr_lines.specs.declared.Error.TheVariants as E;
+ghost use Rattle.tbr_tagged.specs.declared.Error.{Error as Refusal};
+ghost use Rattle.tbr_tagged.specs.declared.Error.TheVariants as E;
 ghost use Rattle.tbr_renderer.specs.Renderer.{KeepsSettings, kept_of, new_renderer, has_content, line_padding, with_filled, with_line, block_width, may_overflow};
 ghost use Rattle.tbr_kept_lines.specs.Line.{line_seen};
 ghost use Rattle.tbr_renderer.specs.View.{unboxed, block_seen, IsFresh, IsOpened, AreMarkers, names_of};
-ghost use Rattle.tbr_lines.specs.View.{element_of};
-ghost use Rattle.tbr_lines.specs.Copies.{equal_lists};
-ghost use Rattle.tbr_lines.specs.Elements.{items_of, SameItems, IsMerged};
-ghost use Rattle.tbr_lines.specs.RenderLine.{IsMergedText};
+ghost use Rattle.tbr_tagged.specs.View.{element_of};
+ghost use Rattle.tbr_tagged.specs.Copies.{equal_lists};
+ghost use Rattle.tbr_tagged.specs.Elements.{items_of, SameItems, IsMerged};
+ghost use Rattle.tbr_border.specs.RenderLine.{IsMergedText};
 ghost use Rattle.tbr_renderer.specs.Meant.{meant};
 ghost use Rattle.tbr_footnotes.specs.Tags.{items_meant};
 

@@ -21,8 +21,8 @@ use Rattle.tbr_rows.specs.Gaps.{has_gap, with_element, with_elements}
 use Rattle.tbr_rows.specs.Meant.{IsGapOf, HasGapIf, HasGaps}
 use Rattle.tbr_rows.specs.Rows.{next_under, next_merged}
 use Rattle.tbr_rows.specs.Shown.{DrawsInOne}
-use Rattle.tbr_rows.proofs.Standing.{width_append}
-use Rattle.tbr_rows.proofs.Filling.{text_columns, drawn_narrow, spaces_narrow}
+use Rattle.tbr_rows.proofs.CellColumns.{width_append}
+use Rattle.tbr_rows.proofs.FilledCells.{text_columns, drawn_narrow, spaces_narrow}
 use Rattle.tbr_rows.proofs.ColumnsOfRows.{takes}
 
 -- ---- a border that changes is no shorter

@@ -27,8 +27,8 @@ use Rattle.tbr_rows.specs.Meant.{IsGapOf, HasGaps}
 use Rattle.tbr_rows.specs.Shown.{met, behind, goes_on, later_of, AreItsRows, DrawsInOne}
 use Rattle.tbr_rows.proofs.Seats.{stand_side_by_side}
 use Rattle.tbr_rows.proofs.Left.{left_of_row, rest_apart}
-use Rattle.tbr_rows.proofs.Standing.{width_append, stands_at}
-use Rattle.tbr_rows.proofs.Filling.{text_columns, spaces_narrow}
+use Rattle.tbr_rows.proofs.CellColumns.{width_append, stands_at}
+use Rattle.tbr_rows.proofs.FilledCells.{text_columns, spaces_narrow}
 use Rattle.tbr_rows.proofs.AllLines.{row_is_high_enough, all_texts, rows_go_on}
 use Rattle.tbr_rows.specs.CellsShown.{MadeRow, StandsAmong, Fills, IsFilled, meeting_in, ShowsAt, ShowsBelow, StandsInItsColumns, StandsInAll, FollowOneAnother, HasFilledCells, IsOfFirst, ShowsTexts}
 use Rattle.tbr_rows.proofs.Among.{among_map, each_among, each_drop}

@@ -14,7 +14,7 @@ use Rattle.tbr_rows.specs.Gaps.{cell_in}
 use Rattle.tbr_rows.specs.Rows.{cells_under, columns_shown}
 use Rattle.tbr_rows.specs.Borders.{first_mergeable, last_mergeable, behind_mergeable, before_mergeable, without_first_border, with_last_border_apart, whole_column}
 use Rattle.tbr_rows.specs.Shown.{meeting, met, DrawsInOne, TakesColumns, FillsBelow, TakesCellColumns}
-use Rattle.tbr_rows.proofs.Filling.{filled_line, cell_fills}
+use Rattle.tbr_rows.proofs.FilledCells.{filled_line, cell_fills}
 use Rattle.tbr_rows.specs.CellsShown.{Fills, IsFilled}
 use Rattle.tbr_rows.proofs.Among.{each_drop, each_gives, each_take}
 

@@ -8,8 +8,8 @@ pub mod Left
 pub mod WholeRow
 pub mod Fitted
 pub mod AllLines
-pub mod Standing
-pub mod Filling
+pub mod CellColumns
+pub mod FilledCells
 pub mod MeantCells
 pub mod MeantTexts
 pub mod MeantRows

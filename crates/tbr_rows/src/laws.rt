@@ -100,7 +100,7 @@ pub fn a_row_hands_on_what_it_leaves<T>()
 {}
 
 /// In each line of a row a cell's text begins at the cell's place, where the texts before it fill their cells.
-#[tactic(auto, using(crate::proofs::Standing::stands_at))]
+#[tactic(auto, using(crate::proofs::CellColumns::stands_at))]
 pub fn cells_stand_in_their_columns<T>()
     ensures { (columns : ℕ → Option ℕ) (separator : Item T) (tag : T) (i : ℕ)
         (front : List (Column T)) (column : Column T) (rest : List (Column T)) → item_width columns separator ≡ 1 →
@@ -112,7 +112,7 @@ pub fn cells_stand_in_their_columns<T>()
 
 /// A line that fits its cell takes the cell's columns once it is filled. So do the lines of a row of what such a cell
 /// shows, and what is below them.
-#[tactic(auto, using(crate::proofs::Filling::filled_line, crate::proofs::Filling::cell_fills))]
+#[tactic(auto, using(crate::proofs::FilledCells::filled_line, crate::proofs::FilledCells::cell_fills))]
 pub fn lines_that_fit_take_their_columns<T>()
     ensures line { (columns : ℕ → Option ℕ) (eq : T → T → Bool) (align : CellAlign) (width : ℕ) (padding tag : T)
         (line done : RenderLine T) → DrawsInOne columns → LineFits columns width line →

@@ -1,11 +1,11 @@
-pub mod Given
+pub mod GivenPrefixes
 pub mod Levels
-pub mod Meant
-pub mod Live
+pub mod MeantCommands
+pub mod LivePrograms
 pub mod Links
 pub mod Notes
 pub mod Rows
 pub mod LinesGive
-pub mod OfScript
+pub mod ScriptRefusals
 pub mod Results
 pub mod once

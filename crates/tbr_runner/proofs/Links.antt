@@ -14,7 +14,7 @@ use Rattle.tbr_commands.specs.declared.begun.Begun.{Begun}
 use Rattle.tbr_runner.specs.Progress.{Pending, Opened, Progress, IsLive, AreLive, begun_on_each, progress_meant}
 use Rattle.tbr_runner.specs.Meaning.{LinkDoes, LinkRefuses, EndLinkDoes, EndLinkRefuses}
 use Rattle.tbr_runner.proofs.Levels.{Zipped, first_live, with_first_live}
-use Rattle.tbr_runner.proofs.Live.{uncounted_live}
+use Rattle.tbr_runner.proofs.LivePrograms.{uncounted_live}
 
 -- ---- what goes on
 

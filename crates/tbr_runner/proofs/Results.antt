@@ -1,8 +1,8 @@
 -- What results say.
 use Rattle.std.proofs.Common.{◌≡◌, ◌≢◌, Result, Ok, Err, IfOk, IfErr, refl, sym, subst}
 use Rattle.std.specs.Result.{IsErrAnd}
-use Rattle.tbr_lines.specs.declared.Error.{Error}
-use Rattle.tbr_lines.specs.declared.Error.TheVariants as block
+use Rattle.tbr_tagged.specs.declared.Error.{Error}
+use Rattle.tbr_tagged.specs.declared.Error.TheVariants as block
 use Rattle.tbr_script.specs.Refusal.{refusal_of}
 use Rattle.tbr_script.specs.declared.error.RunError.{RunError}
 use Rattle.tbr_script.specs.declared.error.RunError.TheVariants.{TooNarrow, OutOfMemory}

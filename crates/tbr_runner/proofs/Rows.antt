@@ -2,12 +2,12 @@
 use Rattle.std.proofs.Common.{◌≡◌, ◌⊎◌, ℕ, Bool, true, false, Option, Some, List, [], ◌∷◌, map, refl, ap, sym, ◌∙◌, subst, inl, inr}
 use Rattle.std.specs.Global.{Vec}
 use Rattle.std.specs.List.{AllZip}
-use Rattle.tbr_lines.specs.declared.CellAlign.{CellAlign}
+use Rattle.tbr_tagged.specs.declared.CellAlign.{CellAlign}
 use Rattle.tbr_rows.specs.Cells.{row_fits, spots_from}
 use Rattle.tbr_rows.specs.Meant.{map_cell}
 use Rattle.tbr_rows.proofs.MeantRows.{fits_mean}
 use Rattle.tbr_decor.specs.Decoration.{Decoration}
-use Rattle.tbr_renderer.proofs.Blank.{blank_meant}
+use Rattle.tbr_renderer.proofs.BlankRenderers.{blank_meant}
 use Rattle.text_block_renderer.specs.Renderer.{Renderer}
 use Rattle.text_block_renderer.specs.Tags.{tag_meant}
 use Rattle.text_block_renderer.specs.Meant.{meant}
@@ -19,7 +19,7 @@ use Rattle.tbr_stack.specs.Stack.{top_of, with_top}
 use Rattle.tbr_stack.specs.Top.{OfTop, stack_meant}
 use Rattle.tbr_runner.specs.Progress.{Pending, Progress, cell_meant, pending_meant, progress_meant}
 use Rattle.tbr_runner.specs.Meaning.{renderers_of, without_cells, CellsFit, CellsAreTooNarrow, RowDoes, RowRefuses}
-use Rattle.tbr_runner.proofs.Meant.{on_top_meant, top_is_meant}
+use Rattle.tbr_runner.proofs.MeantCommands.{on_top_meant, top_is_meant}
 
 pub same_some : {X : Type 0} {x y : X} → Some x ≡ Some y → x ≡ y
 same_some e = cc e

@@ -1,6 +1,6 @@
 -- What comes at the end of a script.
 use Rattle.std.specs.Prelude.{◌≡◌, ℕ, Option, List, [], ◌∷◌, encode_utf8_all}
-use Rattle.tbr_lines.specs.Elements.{Element}
+use Rattle.tbr_tagged.specs.Elements.{Element}
 use Rattle.tbr_decor.specs.Change as change
 use Rattle.tbr_decor.specs.Decoration.{Decoration}
 use Rattle.tbr_renderer.specs.Footnotes.{listed, with_footnotes}

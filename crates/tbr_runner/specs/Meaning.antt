@@ -1,7 +1,7 @@
 -- The meaning of a script: that of its commands one after another, up to the first line that is faulty or refuses.
 use Rattle.std.specs.Prelude.{◌≡◌, ◌≢◌, ℕ, ◌+◌, ◌⊎◌, Bool, true, false, Option, None, Some, Result, Err, MatchResult, List, [], ◌∷◌, ◌++◌, map, length, chars}
 use Rattle.std.specs.List.{AllZip}
-use Rattle.tbr_lines.specs.declared.CellAlign.{CellAlign}
+use Rattle.tbr_tagged.specs.declared.CellAlign.{CellAlign}
 use Rattle.tbr_rows.specs.Cells.{row_fits}
 use Rattle.tbr_decor.specs.Start as start
 use Rattle.tbr_decor.specs.Decoration.{Decoration}

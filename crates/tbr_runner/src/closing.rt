@@ -1,7 +1,7 @@
 //! What comes at the end of a script.
 ghost use Rattle.std.specs.Prelude.{◌≡◌, None, Err, map, IfOk, string_bytes};
-ghost use Rattle.tbr_lines.specs.View.{chars_of};
-ghost use Rattle.tbr_lines.specs.declared.Error.TheVariants as E;
+ghost use Rattle.tbr_tagged.specs.View.{chars_of};
+ghost use Rattle.tbr_tagged.specs.declared.Error.TheVariants as E;
 ghost use Rattle.tbr_decor.specs.Decoration.{decoration_of};
 ghost use Rattle.text_block_renderer.specs.Tags.{tag_meant};
 ghost use Rattle.text_block_renderer.specs.Meant.{map_line, meant};

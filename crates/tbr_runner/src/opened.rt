@@ -1,6 +1,6 @@
 //! Levels that are open.
 ghost use Rattle.std.specs.Prelude.{◌≡◌, ◌≢◌, ◌↔◌, ◌<◌, ℕ, true, None, Some, [], ◌∷◌, length, OnOk, IfSome, IfNone};
-ghost use Rattle.tbr_lines.specs.declared.CellAlign.{CellAlign as Align};
+ghost use Rattle.tbr_tagged.specs.declared.CellAlign.{CellAlign as Align};
 ghost use Rattle.tbr_runner.specs.Progress.{IsSpanned};
 ghost use Rattle.tbr_runner.specs.declared.opened.Opener.{Opener as By};
 ghost use Rattle.tbr_runner.specs.Meaning.{opener};
@@ -52,12 +52,11 @@ pub struct OpenLevels<D: TextDecorator, W: CharWidth> {
 impl<D: TextDecorator, W: CharWidth> Model for OpenLevels<D, W> {
     ghost use Rattle.std.specs.Prelude.{List, reverse};
     ghost use Rattle.std.specs.Global.{Vec};
-    ghost use Rattle.tbr_runner.specs.Progress.{Opened};
+    ghost use Rattle.tbr_runner.specs.Progress.{Opened, IsSpanned};
 
     ghost Value = { List (Opened D D.Annotation (Vec D.Annotation)) };
 
     ghost use Rattle.std.specs.List.{AllByRecursion as Each};
-    ghost use Rattle.tbr_runner.specs.Progress.{IsSpanned};
 
     ghost view = { λ o. reverse o.levels.items };
 

@@ -1,7 +1,7 @@
 //! Lines that are appended after prefixes.
 ghost use Rattle.std.specs.Prelude.{◌≡◌, ◌⊎◌, List, length, None, Err, OnOk, IfOk, IfErr, string_bytes};
-ghost use Rattle.tbr_lines.specs.View.{chars_of};
-ghost use Rattle.tbr_lines.specs.declared.Error.TheVariants as E;
+ghost use Rattle.tbr_tagged.specs.View.{chars_of};
+ghost use Rattle.tbr_tagged.specs.declared.Error.TheVariants as E;
 ghost use Rattle.tbr_decor.specs.Decoration.{decoration_of};
 ghost use Rattle.text_block_renderer.specs.Line.{Line};
 ghost use Rattle.text_block_renderer.specs.Meant.{meant};

@@ -7,7 +7,7 @@ use Rattle.std.proofs.lemmas.List.{take_more, map_push}
 use Rattle.std.proofs.lemmas.List.Concat.{flat_map-append}
 use Rattle.std.proofs.lemmas.List.Elements.{filter-append}
 use Rattle.std.proofs.lemmas.Bool.{false≢true}
-use Rattle.tbr_lines.specs.Elements.{Element, element_characters, characters}
+use Rattle.tbr_tagged.specs.Elements.{Element, element_characters, characters}
 use Rattle.tbr_show.specs.Written.{printable}
 use Rattle.tbr_show.specs.Html.{escaped, between, is_wide_after, shown_from, shown}
 

@@ -3,7 +3,7 @@ use Rattle.std.proofs.Common.{◌≡◌, ◌≢◌, ℕ, zero, suc, ◌+◌, ◌
 use Rattle.std.proofs.Math.Nat.{mod-lt}
 use Rattle.std.proofs.lemmas.Bool.{lt-ltb, false≢true}
 use Rattle.std.proofs.lemmas.Bool.Decides.{nat_tests}
-use Rattle.std.specs.List.{range_with_len}
+use Rattle.std.specs.List.{range_with_len, AllByRecursion as Each}
 use Rattle.std.proofs.lemmas.List.FromFn.{get_or-range_with_len, length-range_with_len}
 use Rattle.std.proofs.lemmas.List.Sums.{AllPass-from_list_all}
 use Rattle.percent_encoding.specs.AsciiSet.{contains, should_percent_encode}
@@ -13,11 +13,10 @@ use Rattle.std.specs.Prelude.{All, flat_map, codes, string_bytes, Vec}
 use Rattle.std.specs.Char.{is_control}
 use Rattle.std.specs.Int.{is_in_range}
 use Rattle.std.specs.Fmt.{decimal, digits, digits_onto, digit_glyph}
-use Rattle.std.specs.List.{AllByRecursion as Each}
 use Rattle.std.specs.declared.alloc.Global.{Global}
 use Rattle.std.proofs.lemmas.List.Elements.{filter-append, All-head, All-tail}
 use Rattle.tbr_model.specs.Codes.{newline_character}
-use Rattle.tbr_lines.specs.Elements.{Element, piece, marker_element, characters}
+use Rattle.tbr_tagged.specs.Elements.{Element, piece, marker_element, characters}
 use Rattle.tbr_decor.specs.declared.colour.Colour.{Colour}
 use Rattle.tbr_decor.specs.declared.annotation.RichAnnotation.{RichAnnotation}
 use Rattle.tbr_decor.specs.declared.annotation.RichAnnotation.TheVariants as rich

@@ -1,6 +1,6 @@
 //! Lines for a terminal, by the control sequences of ECMA-48 and the hyperlinks that most terminals know.
 ghost use Rattle.std.specs.Prelude.{◌≡◌, ◌++◌, flat_map, OnOk};
-ghost use Rattle.tbr_lines.specs.View.{chars_of, element_of};
+ghost use Rattle.tbr_tagged.specs.View.{chars_of, element_of};
 ghost use Rattle.tbr_show.specs.Ansi as model;
 
 use crate::target::push_target;

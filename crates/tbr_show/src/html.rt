@@ -1,6 +1,6 @@
 //! Lines as HTML: what is in a `<pre>`, with links, emphasis and colours as elements.
 ghost use Rattle.std.specs.Prelude.{◌≡◌, ◌++◌, IsTrue, flat_map, chars, reverse, OnOk};
-ghost use Rattle.tbr_lines.specs.View.{chars_of, element_of};
+ghost use Rattle.tbr_tagged.specs.View.{chars_of, element_of};
 ghost use Rattle.std.specs.List.{list_all};
 ghost use Rattle.std.specs.Char.{is_ascii};
 ghost use Rattle.tbr_show.specs.Written.{printable};

@@ -4,7 +4,7 @@ ghost use Rattle.std.specs.declared.alloc.Global.{Global as Heap};
 ghost use Rattle.std.specs.Char.{is_control};
 ghost use Rattle.std.specs.List.{AllByRecursion as Each};
 ghost use Rattle.tbr_model.specs.Codes.{newline_character};
-ghost use Rattle.tbr_lines.specs.Elements.{Element, characters};
+ghost use Rattle.tbr_tagged.specs.Elements.{Element, characters};
 ghost use Rattle.tbr_decor.specs.declared.annotation.RichAnnotation.{RichAnnotation};
 ghost use Rattle.tbr_show.specs.Written.{printable};
 ghost use Rattle.tbr_show.specs.Ansi.{line, escape_character};

@@ -1,8 +1,8 @@
 //! Lines as JSON, an object a line.
 ghost use Rattle.std.specs.Prelude.{◌≡◌, ◌++◌, ◌<◌, chars, flat_map, OnOk};
 ghost use Rattle.std.specs.Char.{digit_char};
-ghost use Rattle.tbr_lines.specs.View.{chars_of, element_of};
-ghost use Rattle.tbr_lines.specs.Walks.{piece_of};
+ghost use Rattle.tbr_tagged.specs.View.{chars_of, element_of};
+ghost use Rattle.tbr_tagged.specs.Walks.{piece_of};
 ghost use Rattle.tbr_show.specs.Ndjson as model;
 
 use crate::text::{push_ascii, push_char};

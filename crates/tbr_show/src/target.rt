@@ -1,6 +1,6 @@
 //! Targets of links.
 ghost use Rattle.std.specs.Prelude.{◌≡◌, ◌++◌, OnOk};
-ghost use Rattle.tbr_lines.specs.View.{chars_of};
+ghost use Rattle.tbr_tagged.specs.View.{chars_of};
 ghost use Rattle.tbr_show.specs.Target.{encoded, is_followed};
 
 use percent_encoding::{AsciiSet, CONTROLS, ascii_set, utf8_percent_encode};

@@ -6,7 +6,7 @@ use Rattle.tbr_decor.specs.End as end
 use Rattle.tbr_renderer.specs.Calls.{finish, Does}
 use Rattle.tbr_renderer.specs.Meant.{meant}
 use Rattle.tbr_renderer.specs.Renderer.{Renderer, kept_of}
-use Rattle.tbr_renderer.proofs.Steady.{Steady, closed_alike}
+use Rattle.tbr_renderer.proofs.SettingsStay.{Steady, closed_alike}
 use Rattle.tbr_stack.specs.Stack.{Level, Stack, top_of}
 use Rattle.tbr_stack.specs.Top.{OfTop, level_meant, stack_meant}
 use Rattle.tbr_stack.specs.Links.{open_in_first, open_links, shown_number}

@@ -1,7 +1,7 @@
 -- What the calls on the top make of a stack.
 use Rattle.std.specs.Prelude.{◌≡◌, Option, Some, None, List, [], ◌∷◌, map}
 use Rattle.std.specs.Global.{Vec}
-use Rattle.tbr_lines.specs.declared.Error.{Error}
+use Rattle.tbr_tagged.specs.declared.Error.{Error}
 use Rattle.tbr_renderer.specs.Renderer.{Renderer}
 use Rattle.tbr_renderer.specs.Meant.{meant}
 use Rattle.tbr_stack.specs.Stack.{Level, Stack, top_of, with_top}

@@ -1,6 +1,6 @@
 -- What the fields of a stack mean.
 use Rattle.std.specs.Prelude.{map, reverse}
-use Rattle.tbr_lines.specs.View.{chars_of}
+use Rattle.tbr_tagged.specs.View.{chars_of}
 use Rattle.tbr_stack.specs.declared.stack.Stack.TheInside.{Inside}
 use Rattle.tbr_stack.specs.Stack.{Stack}
 

@@ -1,7 +1,7 @@
 //! Links that start and end in the top of a stack.
 ghost use Rattle.std.specs.Prelude.{◌≡◌, ◌≢◌, ◌<◌, ◌≤◌, None, Some, Err, length, chars, IfOk, IfErr, OnOk, OnErr, MatchResult, is_ok};
-ghost use Rattle.tbr_lines.specs.View.{chars_of};
-ghost use Rattle.tbr_lines.specs.declared.Error.TheVariants as E;
+ghost use Rattle.tbr_tagged.specs.View.{chars_of};
+ghost use Rattle.tbr_tagged.specs.declared.Error.TheVariants as E;
 ghost use Rattle.tbr_decor.specs.Decoration.{decoration_of};
 ghost use Rattle.tbr_decor.specs.Start as start;
 ghost use Rattle.tbr_renderer.specs.Renderer.{block_width, kept_of};

@@ -1,8 +1,8 @@
 //! A stack of renderers.
 ghost use Rattle.std.specs.Prelude.{◌≡◌, ◌<◌, Some, length, map, chars, OnOk, OnErr, IfOk, IfErr};
 ghost use Rattle.std.specs.Borrow.{Lends, sem};
-ghost use Rattle.tbr_lines.specs.View.{chars_of};
-ghost use Rattle.tbr_lines.specs.declared.Error.TheVariants as E;
+ghost use Rattle.tbr_tagged.specs.View.{chars_of};
+ghost use Rattle.tbr_tagged.specs.declared.Error.TheVariants as E;
 ghost use Rattle.tbr_stack.specs.contracts.stack.Stack.{the_row};
 ghost use Rattle.tbr_stack.specs.Links.{first_open, open_links, with_link, without_open_link};
 ghost use Rattle.tbr_stack.specs.Stack.{new_stack, top_of, below, with_top, pushed};

@@ -3,9 +3,9 @@ use Rattle.std.proofs.Common.{◌≡◌, ℕ, Bool, List, [], ◌∷◌, ◌++�
 use Rattle.std.specs.Prelude.{Option, true, false}
 use Rattle.std.proofs.lemmas.Bool.{false≢true}
 use Rattle.std.specs.Global.{Vec}
-use Rattle.tbr_lines.specs.Elements.{Element}
-use Rattle.tbr_lines.specs.Mapped.{MapsElements}
-use Rattle.tbr_lines.specs.declared.RenderLine.{RenderLine}
+use Rattle.tbr_tagged.specs.Elements.{Element}
+use Rattle.tbr_tagged.specs.Mapped.{MapsElements}
+use Rattle.tbr_border.specs.declared.RenderLine.{RenderLine}
 use Rattle.tbr_decor.specs.declared.annotation.RichAnnotation.{RichAnnotation}
 use Rattle.tbr_decor.specs.contracts.annotation.RichAnnotationPartialEq.TheImpl as rich
 use Rattle.tbr_show.specs.Ansi.{bare_line}

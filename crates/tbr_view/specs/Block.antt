@@ -1,7 +1,7 @@
 -- Blocks with the decorator's own prefixes.
 use Rattle.std.specs.Prelude.{ℕ, Bool, true, false, if◌then◌else◌, Option, List, codes}
 use Rattle.tbr_model.specs.Width.{width_of_text}
-use Rattle.tbr_lines.specs.Padding.{spaces}
+use Rattle.tbr_tagged.specs.Padding.{spaces}
 use Rattle.tbr_decor.specs.Prefix.{Prefix, header, quote, unordered_item, ordered_item}
 use Rattle.tbr_view.specs.declared.block.Block.{Block}
 use Rattle.tbr_view.specs.declared.block.Block.TheVariants.{Quote, Item, Ordered, Heading}

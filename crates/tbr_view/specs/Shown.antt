@@ -2,13 +2,13 @@
 use Rattle.std.specs.Prelude.{◌≡◌, ℕ, ◌==◌, Bool, true, false, if◌then◌else◌, Option, None, Some, List, [], ◌∷◌, ◌++◌}
 use Rattle.std.specs.Global.{Vec}
 use Rattle.tbr_model.specs.Codes.{newline_character}
-use Rattle.tbr_lines.specs.Copies.{equal_lists}
-use Rattle.tbr_lines.specs.Elements.{Element, items_of, characters, SameItems}
-use Rattle.tbr_lines.specs.Mapped.{MapsElements}
-use Rattle.tbr_lines.specs.RenderLine.{line_items, IsItself}
-use Rattle.tbr_lines.specs.Walks.{item_characters}
-use Rattle.tbr_lines.specs.declared.RenderLine.{RenderLine}
-use Rattle.tbr_lines.specs.declared.RenderLine.TheVariants.{Text as Words, Line as Rule}
+use Rattle.tbr_tagged.specs.Copies.{equal_lists}
+use Rattle.tbr_tagged.specs.Elements.{Element, items_of, characters, SameItems}
+use Rattle.tbr_tagged.specs.Mapped.{MapsElements}
+use Rattle.tbr_border.specs.RenderLine.{line_items, IsItself}
+use Rattle.tbr_tagged.specs.Walks.{item_characters}
+use Rattle.tbr_border.specs.declared.RenderLine.{RenderLine}
+use Rattle.tbr_border.specs.declared.RenderLine.TheVariants.{Text as Words, Line as Rule}
 use Rattle.tbr_decor.specs.declared.annotation.RichAnnotation.{RichAnnotation}
 use Rattle.tbr_decor.specs.contracts.annotation.RichAnnotationPartialEq.TheImpl as rich
 use Rattle.tbr_commands.specs.declared.opening.Decorator.{Decorator}

@@ -1,6 +1,6 @@
 //! Blocks with the decorator's own prefixes.
 ghost use Rattle.std.specs.Prelude.{◌≡◌, IfOk, chars, string_bytes};
-ghost use Rattle.tbr_lines.specs.View.{chars_of};
+ghost use Rattle.tbr_tagged.specs.View.{chars_of};
 ghost use Rattle.tbr_runner.specs.Prefixes.{asked_prefix};
 ghost use Rattle.tbr_view.specs.Statement.{end_of};
 ghost use Rattle.tbr_view.specs.Block as model;

@@ -1,6 +1,6 @@
 //! From a script for people to what is shown of it.
 ghost use Rattle.std.specs.Prelude.{◌≡◌, ◌≢◌, ◌<◌, Some, IfOk, IfErr};
-ghost use Rattle.tbr_lines.specs.View.{chars_of};
+ghost use Rattle.tbr_tagged.specs.View.{chars_of};
 ghost use Rattle.tbr_view.specs.Script.{Begins, BeginsNot};
 ghost use Rattle.tbr_view.specs.Shown.{IsShown, opening_in};
 

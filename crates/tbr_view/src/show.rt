@@ -1,8 +1,8 @@
 //! Lines in a format.
 ghost use Rattle.std.specs.Prelude.{◌≡◌, ◌++◌, ◌∷◌, [], List, ℕ, IfOk, OnOk};
 ghost use Rattle.tbr_model.specs.Codes.{newline_character};
-ghost use Rattle.tbr_lines.specs.View.{chars_of};
-ghost use Rattle.tbr_lines.specs.Mapped.{MapsElements};
+ghost use Rattle.tbr_tagged.specs.View.{chars_of};
+ghost use Rattle.tbr_tagged.specs.Mapped.{MapsElements};
 ghost use Rattle.tbr_view.specs.Shown as model;
 
 use crate::script::Format;

@@ -1,7 +1,7 @@
 //! Blocks that are called step by step, and what they tell.
 ghost use Rattle.std.specs.Prelude.{◌<◌, ◌≡◌, ℕ, List, IfOk};
-ghost use Rattle.tbr_lines.specs.Elements.{marker_element};
-ghost use Rattle.tbr_lines.specs.View.{element_of};
+ghost use Rattle.tbr_tagged.specs.Elements.{marker_element};
+ghost use Rattle.tbr_tagged.specs.View.{element_of};
 
 use std::alloc::Global;
 use tbr_lines::{

@@ -4,8 +4,8 @@ use Rattle.std.specs.Prelude.{⊤}
 use Rattle.std.specs.List.{AllByRecursion as Each}
 use Rattle.tbr_model.specs.Rule.{Event, run_of}
 use Rattle.tbr_model.specs.Run.{Entry, Item}
-use Rattle.tbr_lines.specs.Border.{without_holes}
-use Rattle.tbr_lines.specs.Cell.{Cell}
+use Rattle.tbr_border.specs.Border.{without_holes}
+use Rattle.tbr_border.specs.Cell.{Cell}
 use Rattle.tbr_rows.specs.declared.LineSet.{LineSet as Overhanging}
 use Rattle.tbr_renderer.specs.declared.options.RenderOptions.{RenderOptions}
 use Rattle.tbr_renderer.specs.Renderer.{Open, Renderer, with_line, with_events}

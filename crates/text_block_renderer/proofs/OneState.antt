@@ -12,7 +12,7 @@ use Rattle.tbr_renderer.specs.Flush.{Flushes, FlushesBlock, BlockIsTooNarrow, Fl
 use Rattle.tbr_renderer.specs.Steps.{with_empty_line, AddsEmptyLine, block_started, StartsBlock, at_line_start, text_brings, BreaksLineAt, JoinsText, AddsText, AddsTextBy, JoinIsTooNarrow, TextIsTooNarrow, TextIsTooNarrowBy}
 use Rattle.tbr_renderer.specs.Calls.{Call, add_empty_line, new_line, new_line_hard, start_block, start_table, end_block, add_inline_text, push_ws, pop_ws, push_preformat, pop_preformat, record_frag_start, begin, finish, start_strikeout, end_strikeout, add_image, push_colour, pop_colour, add_border, append_subrender, append_vert_row, Does, IsTooNarrow}
 use Rattle.tbr_renderer.specs.Appended.{with_border, border_of_cells, prefixed, with_divider, with_cells}
-use Rattle.tbr_lines.specs.Cell.{horizontal}
+use Rattle.tbr_border.specs.Cell.{horizontal}
 
 not_both : (b : Bool) → b ≡ true → b ≡ false → ⊥
 not_both true h k = cc

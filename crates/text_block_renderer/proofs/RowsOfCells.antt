@@ -2,10 +2,10 @@
 use Rattle.std.proofs.Common.{◌≡◌, ℕ, ◌+◌, ◌-◌, suc, Bool, if◌then◌else◌, is_some, Option, Some, None, List, [], ◌∷◌, ◌++◌, fold, take, length, refl, ap, sym, ◌∙◌, subst, append_assoc, append-nil, arith}
 use Rattle.std.specs.List.{AllZip}
 use Rattle.tbr_model.specs.Run.{Item}
-use Rattle.tbr_lines.specs.Border.{Border}
-use Rattle.tbr_lines.specs.declared.CellAlign.{CellAlign}
-use Rattle.tbr_lines.specs.declared.RenderLine.{RenderLine}
-use Rattle.tbr_lines.specs.declared.RenderLine.TheVariants.{Text, Line as Rule}
+use Rattle.tbr_border.specs.Border.{Border}
+use Rattle.tbr_tagged.specs.declared.CellAlign.{CellAlign}
+use Rattle.tbr_border.specs.declared.RenderLine.{RenderLine}
+use Rattle.tbr_border.specs.declared.RenderLine.TheVariants.{Text, Line as Rule}
 use Rattle.tbr_rows.specs.Cells.{AreSideBySide}
 use Rattle.tbr_rows.specs.Meant.{SeenRow, MeansRow}
 use Rattle.tbr_rows.specs.declared.LineSet.{LineSet as Cell}
@@ -15,10 +15,10 @@ use Rattle.tbr_renderer.specs.Renderer.{Renderer, settings_of, with_line}
 use Rattle.tbr_kept_lines.specs.LastBorder.{without_last, last_border, before_border}
 use Rattle.tbr_renderer.specs.Calls.{text_of_lines}
 use Rattle.tbr_renderer.specs.Rows.{GivenCell, FillsCell, ComesAs, border_lines, style_in, with_next, with_row, PutsRow, AppendsRow}
-use Rattle.text_block_renderer.proofs.Growing.{Grows, lines_grow, moves_grow}
+use Rattle.text_block_renderer.proofs.AddedLines.{Grows, lines_grow, moves_grow}
 use Rattle.text_block_renderer.proofs.Moves.{flush, no_block, flushed_none}
 use Rattle.text_block_renderer.proofs.OneState.{flush_once}
-use Rattle.tbr_renderer.proofs.Steady.{Steady, flushed_alike}
+use Rattle.tbr_renderer.proofs.SettingsStay.{Steady, flushed_alike}
 
 -- ---- texts only come
 

@@ -14,10 +14,10 @@ use Rattle.tbr_renderer.specs.Flush.{Flushes}
 use Rattle.tbr_renderer.specs.Steps.{at_line_start, BreaksLineAt}
 use Rattle.tbr_renderer.specs.Calls.{Call, add_empty_line, new_line, new_line_hard, start_block, start_table, end_block, add_inline_text, push_ws, pop_ws, push_preformat, pop_preformat, record_frag_start, begin, finish, start_strikeout, end_strikeout, add_image, push_colour, pop_colour, add_border, append_subrender, append_vert_row, Does}
 use Rattle.tbr_renderer.specs.Appended.{with_border, border_of_cells, as_text, prefixed, with_divider, with_cell, with_cell_below, with_cells, AppendsCells}
-use Rattle.tbr_lines.specs.Border.{Border}
-use Rattle.tbr_lines.specs.Cell.{Cell, horizontal, slash}
+use Rattle.tbr_border.specs.Border.{Border}
+use Rattle.tbr_border.specs.Cell.{Cell, horizontal, slash}
 use Rattle.text_block_renderer.specs.Settings.{settled, settled_by_image}
-use Rattle.tbr_renderer.proofs.Steady.{Steady, steady, lines_added, flushed_alike, empty_added, started_alike, text_added, added, taken, closed_alike}
+use Rattle.tbr_renderer.proofs.SettingsStay.{Steady, steady, lines_added, flushed_alike, empty_added, started_alike, text_added, added, taken, closed_alike}
 
 module _ {D A : Type 0} (columns : ℕ → Option ℕ) where
   border_added : (r m s : Renderer D A (List A)) (b : Border (List A)) → Flushes columns r m → s ≡ with_border columns m b → steady s ≡ steady r

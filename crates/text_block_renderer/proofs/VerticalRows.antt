@@ -3,8 +3,8 @@ use Rattle.std.proofs.Common.{◌≡◌, ℕ, Bool, true, false, if◌then◌els
 use Rattle.std.specs.List.{join_by}
 use Rattle.std.proofs.lemmas.Grind.{fold-append}
 use Rattle.tbr_model.specs.Run.{Item}
-use Rattle.tbr_lines.specs.Border.{without_holes}
-use Rattle.tbr_lines.specs.Cell.{Cell, horizontal, slash}
+use Rattle.tbr_border.specs.Border.{without_holes}
+use Rattle.tbr_border.specs.Cell.{Cell, horizontal, slash}
 use Rattle.tbr_decor.specs.Decoration.{Decoration}
 use Rattle.tbr_kept_lines.specs.Line.{Line, text, border}
 use Rattle.tbr_renderer.specs.Renderer.{Renderer, Settings, settings_of, with_line}
@@ -13,10 +13,10 @@ use Rattle.tbr_renderer.specs.Appended.{with_border, border_of_cells, as_text, w
 use Rattle.tbr_renderer.specs.Calls.{append_vert_row, Does}
 use Rattle.text_block_renderer.specs.Stretches.{lines_laid}
 use Rattle.text_block_renderer.specs.VerticalRows.{cell_lines, row_lines}
-use Rattle.tbr_renderer.proofs.Steady.{Steady, lines_added, flushed_alike}
-use Rattle.text_block_renderer.proofs.Drawing.{border_stays}
-use Rattle.text_block_renderer.proofs.Waiting.{none_wait}
-use Rattle.text_block_renderer.proofs.Laying.{laid_lines, plain_lines}
+use Rattle.tbr_renderer.proofs.SettingsStay.{Steady, lines_added, flushed_alike}
+use Rattle.text_block_renderer.proofs.DrawnBorders.{border_stays}
+use Rattle.text_block_renderer.proofs.WaitingMarkers.{none_wait}
+use Rattle.text_block_renderer.proofs.LaidTexts.{laid_lines, plain_lines}
 
 module _ {D A : Type 0} (columns : ℕ → Option ℕ) where
   divider_drawn : (cell : Cell) (q : Renderer D A (List A)) → q.options.draw_borders ≡ true → with_divider columns cell q ≡ with_border columns q (border_of_cells cell q.width q)

@@ -3,7 +3,7 @@ use Rattle.std.specs.Prelude.{◌≡◌, ℕ, Bool, ⊤, Option, None, Some, Lis
 use Rattle.std.specs.List.{AllZip, AllByRecursion as Each}
 use Rattle.tbr_model.specs.Run.{Entry}
 use Rattle.tbr_model.specs.Layout.{joined}
-use Rattle.tbr_lines.specs.Border.{Border}
+use Rattle.tbr_border.specs.Border.{Border}
 use Rattle.tbr_decor.specs.Decoration.{Decoration}
 use Rattle.tbr_kept_lines.specs.Line.{Line, text, border}
 use Rattle.tbr_renderer.specs.Renderer.{Renderer, open_run}

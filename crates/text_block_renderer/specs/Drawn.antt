@@ -1,10 +1,10 @@
 -- Lines less the borders that padding made text.
 use Rattle.std.specs.Prelude.{◌≡◌, ℕ, ◌-◌, false, ⊤, ◌⊎◌, if◌then◌else◌, List, [], ◌∷◌, ◌++◌, map, flat_map, length, replicate}
 use Rattle.std.specs.List.{AllByRecursion as Each}
-use Rattle.tbr_lines.specs.Border.{shown, without_holes}
-use Rattle.tbr_lines.specs.Cell.{Cell, horizontal, slash}
-use Rattle.tbr_lines.specs.Elements.{text_items}
-use Rattle.tbr_lines.specs.Padding.{spaces}
+use Rattle.tbr_border.specs.Border.{shown, without_holes}
+use Rattle.tbr_border.specs.Cell.{Cell, horizontal, slash}
+use Rattle.tbr_tagged.specs.Elements.{text_items}
+use Rattle.tbr_tagged.specs.Padding.{spaces}
 use Rattle.tbr_renderer.specs.declared.options.RenderOptions.{RenderOptions}
 use Rattle.tbr_kept_lines.specs.Line.{Line, text}
 use Rattle.tbr_renderer.specs.Renderer.{Renderer}

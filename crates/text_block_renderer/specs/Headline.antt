@@ -5,7 +5,7 @@ use Rattle.tbr_model.specs.Rule.{run_of}
 use Rattle.tbr_model.specs.Run.{Entry, items_width}
 use Rattle.tbr_model.specs.Hard.{ShowsVisible}
 use Rattle.tbr_model.specs.Shown.{ShowsOwn}
-use Rattle.tbr_lines.specs.Runs.{IsNormal}
+use Rattle.tbr_wrap.specs.Runs.{IsNormal}
 use Rattle.tbr_rows.specs.declared.LineSet.{LineSet as Cell}
 use Rattle.tbr_rows.specs.Shown.{DrawsInOne}
 use Rattle.tbr_rows.specs.CellsShown.{MadeRow, StandsAmong, ShowsTexts}

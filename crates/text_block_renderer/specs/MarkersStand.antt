@@ -5,7 +5,7 @@ use Rattle.tbr_model.specs.Run.{Entry, Item, is_kept, kept_items, has_character,
 use Rattle.tbr_model.specs.Markers.{names_in_items, names_in_run, marker_items, marker_run, names_behind}
 use Rattle.tbr_model.specs.Hard.{is_visible}
 use Rattle.tbr_model.specs.Shown.{without_spaces, is_visible_or_marker, is_entry_to_show, ShowsEntry}
-use Rattle.tbr_lines.specs.Runs.{IsNormal, AreLastOf}
+use Rattle.tbr_wrap.specs.Runs.{IsNormal, AreLastOf}
 use Rattle.tbr_kept_lines.specs.Line.{Line, text, border}
 use Rattle.tbr_renderer.specs.Renderer.{Renderer, may_overflow, open_run}
 use Rattle.tbr_renderer.specs.Calls.{text_of_lines}

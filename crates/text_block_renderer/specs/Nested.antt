@@ -3,7 +3,7 @@ use Rattle.std.specs.Prelude.{◌≡◌, ℕ, min, false, Option, None, Some, Li
 use Rattle.std.specs.List.{slice_get}
 use Rattle.tbr_model.specs.Run.{Item}
 use Rattle.tbr_model.specs.Hard.{visible_glyphs}
-use Rattle.tbr_lines.specs.Elements.{text_items}
+use Rattle.tbr_tagged.specs.Elements.{text_items}
 use Rattle.tbr_decor.specs.Decoration.{Decoration}
 use Rattle.tbr_kept_lines.specs.Line.{Line, text}
 use Rattle.tbr_renderer.specs.Renderer.{Renderer}

@@ -6,14 +6,14 @@ use Rattle.tbr_model.specs.Run.{Entry, Item}
 use Rattle.tbr_model.specs.Layout.{Slot, slots_of, joined, IsLegal, placed}
 use Rattle.tbr_model.specs.Markers.{marker_items}
 use Rattle.tbr_model.specs.Shown.{without_spaces}
-use Rattle.tbr_lines.specs.Runs.{IsNormal, EndsRun}
-use Rattle.tbr_lines.specs.Wrapped.{padding_of}
+use Rattle.tbr_wrap.specs.Runs.{IsNormal, EndsRun}
+use Rattle.tbr_wrap.specs.Wrapped.{padding_of}
 use Rattle.tbr_kept_lines.specs.Line.{Line, text}
 use Rattle.tbr_renderer.specs.Renderer.{Open, Renderer, line_padding, block_width, may_overflow, open_run, with_more}
 use Rattle.tbr_renderer.specs.Appended.{border_line}
 use Rattle.tbr_renderer.specs.Calls.{Call, add_border, append_subrender, append_vert_row, laid_entries}
-use Rattle.tbr_lines.specs.Border.{without_holes}
-use Rattle.tbr_lines.specs.Cell.{Cell}
+use Rattle.tbr_border.specs.Border.{without_holes}
+use Rattle.tbr_border.specs.Cell.{Cell}
 
 -- a text of a block as a line: after markers, and padded to the block's width and to the renderer's
 abbrev pub line_of_text : {D A : Type 0} → (ℕ → Option ℕ) → Renderer D A (List A) → Open (List A) → List (List ℕ)

@@ -1,7 +1,7 @@
 -- Cells below one another, as lines that aren't padded.
 use Rattle.std.specs.Prelude.{List, [], ◌∷◌, ◌++◌, map}
 use Rattle.std.specs.List.{join_by}
-use Rattle.tbr_lines.specs.Cell.{horizontal, slash}
+use Rattle.tbr_border.specs.Cell.{horizontal, slash}
 use Rattle.tbr_kept_lines.specs.Line.{Line, text, border}
 use Rattle.tbr_renderer.specs.Renderer.{Renderer}
 use Rattle.tbr_renderer.specs.Appended.{border_of_cells, as_text}

@@ -1,6 +1,6 @@
 //! Cells that a script opens.
 ghost use Rattle.std.specs.Prelude.{ℕ, IfSome, IfNone};
-ghost use Rattle.tbr_lines.specs.declared.CellAlign.{CellAlign as Meant};
+ghost use Rattle.tbr_tagged.specs.declared.CellAlign.{CellAlign as Meant};
 ghost use Rattle.tbr_commands.specs.Syntax.{IsAlignment, IsNewCell};
 
 use tbr_lines::CellAlign;

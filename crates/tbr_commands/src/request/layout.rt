@@ -1,6 +1,6 @@
 //! Commands that end lines.
 ghost use Rattle.std.specs.Prelude.{◌≡◌, ◌≢◌, true, None, Err, OnOk, IsOk, IfSome, IfNone};
-ghost use Rattle.tbr_lines.specs.declared.Error.TheVariants as E;
+ghost use Rattle.tbr_tagged.specs.declared.Error.TheVariants as E;
 ghost use Rattle.tbr_decor.specs.Decoration.{decoration_of};
 ghost use Rattle.tbr_renderer.specs.Calls.{Does, IsTooNarrow};
 ghost use Rattle.tbr_renderer.specs.Meant.{meant};

@@ -2,10 +2,10 @@
 ghost use Rattle.std.specs.Prelude.{◌≡◌, ◌≢◌, ◌≤◌, ◌++◌, ◌⊎◌, None, Err, List, length, map, fold, chars, string_bytes, string_len, OnOk, IfOk};
 ghost use Rattle.std.specs.List.{AllZip, AllByRecursion as Each};
 ghost use Rattle.std.specs.Vec.Iter.{into_iter_items};
-ghost use Rattle.tbr_lines.specs.Copies.{equal_lists};
-ghost use Rattle.tbr_lines.specs.Elements.{items_of, text_items, IsMerged};
-ghost use Rattle.tbr_lines.specs.RenderLine.{IsMergedText};
-ghost use Rattle.tbr_lines.specs.declared.Error.TheVariants as E;
+ghost use Rattle.tbr_tagged.specs.Copies.{equal_lists};
+ghost use Rattle.tbr_tagged.specs.Elements.{items_of, text_items, IsMerged};
+ghost use Rattle.tbr_border.specs.RenderLine.{IsMergedText};
+ghost use Rattle.tbr_tagged.specs.declared.Error.TheVariants as E;
 ghost use Rattle.tbr_kept_lines.specs.Line.{Line, line_seen};
 ghost use Rattle.tbr_renderer.specs.Renderer.{KeepsSettings, with_line, block_width};
 ghost use Rattle.tbr_footnotes.specs.Tags.{tag_meant, items_meant};

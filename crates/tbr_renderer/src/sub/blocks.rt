@@ -1,9 +1,9 @@
 //! The end of runs, and the beginning of blocks.
 ghost use Rattle.std.specs.Prelude.{◌≡◌, ◌≢◌, ◌≤◌, ◌++◌, None, Err, true, map, fold, IfErr, OnOk};
-ghost use Rattle.tbr_lines.specs.Runs.{is_some_list};
-ghost use Rattle.tbr_lines.specs.Block.{has_no_character, left};
+ghost use Rattle.tbr_wrap.specs.Runs.{is_some_list};
+ghost use Rattle.tbr_wrap.specs.Block.{has_no_character, left};
 ghost use Rattle.tbr_kept_lines.specs.Line.{text_lines};
-ghost use Rattle.tbr_lines.specs.declared.Error.TheVariants as E;
+ghost use Rattle.tbr_tagged.specs.declared.Error.TheVariants as E;
 ghost use Rattle.tbr_renderer.specs.Renderer.{KeepsSettings, with_line, block_width};
 ghost use Rattle.tbr_renderer.specs.Meant.{meant};
 ghost use Rattle.tbr_renderer.specs.Flush.{line_meant, AddsAsIs, Flushes, FlushIsTooNarrow};

@@ -1,7 +1,7 @@
 //! Borders, and what becomes of them where lines are padded.
 ghost use Rattle.std.specs.Prelude.{◌≡◌, ◌≢◌, ◌≤◌, None, Err, OnOk, IfOk};
-ghost use Rattle.tbr_lines.specs.Cell.{cell_of};
-ghost use Rattle.tbr_lines.specs.declared.Error.TheVariants as E;
+ghost use Rattle.tbr_border.specs.Cell.{cell_of};
+ghost use Rattle.tbr_tagged.specs.declared.Error.TheVariants as E;
 ghost use Rattle.tbr_renderer.specs.Renderer.{KeepsSettings, block_width};
 ghost use Rattle.tbr_rows.specs.Meant.{map_border};
 ghost use Rattle.tbr_footnotes.specs.Tags.{tag_meant};

@@ -1,6 +1,6 @@
 //! The calls of a renderer.
 ghost use Rattle.std.specs.Prelude.{◌≡◌, ◌≢◌, ◌<◌, ◌++◌, ◌∷◌, [], suc, ◌^◌, not, true, None, Some, Err, OnOk, OnErr, IfErr, List, map, length, replicate, ◌⊎◌, ◌≤◌};
-ghost use Rattle.tbr_lines.specs.declared.Error.TheVariants as E;
+ghost use Rattle.tbr_tagged.specs.declared.Error.TheVariants as E;
 ghost use Rattle.tbr_kept_lines.specs.Line.{Line};
 ghost use Rattle.tbr_renderer.specs.Renderer.{kept_of, block_width};
 ghost use Rattle.tbr_kept_lines.specs.LastBorder.{without_last};
@@ -12,11 +12,11 @@ ghost use Rattle.tbr_renderer.specs.Calls as call;
 ghost use Rattle.tbr_renderer.specs.Appended.{HandsOut, HoldsBack, FirstToRefuse, AppendsCells};
 ghost use Rattle.tbr_rows.specs.Cells.{row_fits};
 ghost use Rattle.tbr_renderer.specs.Rows.{GivenCell, GivesCell, align_in, spots_of, AppendsRow};
-ghost use Rattle.tbr_lines.specs.declared.CellAlign.TheVariants as A;
+ghost use Rattle.tbr_tagged.specs.declared.CellAlign.TheVariants as A;
 ghost use Rattle.tbr_renderer.specs.Flush.{FlushIsTooNarrow};
 ghost use Rattle.tbr_decor.specs.Decoration.{decoration_of};
 ghost use Rattle.std.specs.List.{AllZip, AllByRecursion as Each};
-ghost use Rattle.tbr_lines.specs.Runs.{is_some_list};
+ghost use Rattle.tbr_wrap.specs.Runs.{is_some_list};
 
 use crate::renderer::Renderer;
 use crate::sub::SubRenderer;

@@ -1,6 +1,6 @@
 //! Images.
 ghost use Rattle.std.specs.Prelude.{◌≡◌, ◌≢◌, ◌≤◌, None, Err, OnOk, OnErr, chars};
-ghost use Rattle.tbr_lines.specs.declared.Error.TheVariants as E;
+ghost use Rattle.tbr_tagged.specs.declared.Error.TheVariants as E;
 ghost use Rattle.tbr_decor.specs.Decoration.{decoration_of};
 ghost use Rattle.tbr_renderer.specs.Renderer.{kept_of, block_width};
 ghost use Rattle.tbr_renderer.specs.Meant.{meant};

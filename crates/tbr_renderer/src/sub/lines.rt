@@ -1,14 +1,14 @@
 //! Lines that are handed out.
 ghost use Rattle.std.specs.Prelude.{◌≡◌, ◌≢◌, ◌≤◌, None, Some, Err, true, [], ◌++◌, map, IfOk, OnOk, List};
 ghost use Rattle.std.specs.List.{AllByRecursion as Each};
-ghost use Rattle.tbr_lines.specs.Copies.{equal_lists};
-ghost use Rattle.tbr_lines.specs.RenderLine.{IsMergedText};
-ghost use Rattle.tbr_lines.specs.declared.Error.{Error as Refusal};
-ghost use Rattle.tbr_lines.specs.declared.Error.TheVariants as E;
+ghost use Rattle.tbr_tagged.specs.Copies.{equal_lists};
+ghost use Rattle.tbr_border.specs.RenderLine.{IsMergedText};
+ghost use Rattle.tbr_tagged.specs.declared.Error.{Error as Refusal};
+ghost use Rattle.tbr_tagged.specs.declared.Error.TheVariants as E;
 ghost use Rattle.tbr_renderer.specs.Renderer.{Renderer as Seen, block_width};
 ghost use Rattle.tbr_kept_lines.specs.Line.{line_seen};
 ghost use Rattle.tbr_kept_lines.specs.Text.{line_text, lines_text};
-ghost use Rattle.tbr_lines.specs.View.{chars_of};
+ghost use Rattle.tbr_tagged.specs.View.{chars_of};
 ghost use Rattle.tbr_footnotes.specs.Tags.{tag_meant};
 ghost use Rattle.tbr_renderer.specs.Meant.{map_line, meant};
 ghost use Rattle.tbr_renderer.specs.Flush.{Flushes, FlushIsTooNarrow};

@@ -2,10 +2,10 @@
 ghost use Rattle.std.specs.Prelude.{◌≡◌, ◌≢◌, ◌≤◌, ◌==◌, ◌⊎◌, ◌++◌, ◌∷◌, [], None, Some, Err, true, not, List, length, map, fold, OnOk, IfOk, IfSome};
 ghost use Rattle.std.specs.Option.{option_map};
 ghost use Rattle.std.specs.List.{AllZip, AllByRecursion as Each, list_any};
-ghost use Rattle.tbr_lines.specs.Copies.{equal_lists};
-ghost use Rattle.tbr_lines.specs.Elements.{items_of, IsMerged};
-ghost use Rattle.tbr_lines.specs.declared.Error.TheVariants as E;
-ghost use Rattle.tbr_lines.specs.declared.RenderLine.TheVariants.{Line as Rule};
+ghost use Rattle.tbr_tagged.specs.Copies.{equal_lists};
+ghost use Rattle.tbr_tagged.specs.Elements.{items_of, IsMerged};
+ghost use Rattle.tbr_tagged.specs.declared.Error.TheVariants as E;
+ghost use Rattle.tbr_border.specs.declared.RenderLine.TheVariants.{Line as Rule};
 ghost use Rattle.tbr_rows.specs.Cells.{AreSideBySide, has_lines, row_fits, spot_of};
 ghost use Rattle.tbr_rows.specs.Meant.{map_border, map_cell, row_meant, MeansRow, SeenRow};
 ghost use Rattle.tbr_renderer.specs.Renderer.{KeepsSettings, with_line, block_width};

@@ -1,6 +1,6 @@
 //! Struck out text.
 ghost use Rattle.std.specs.Prelude.{◌≡◌, ◌≢◌, ◌<◌, ◌≤◌, true, None, Err, IfErr, OnOk, OnErr};
-ghost use Rattle.tbr_lines.specs.declared.Error.TheVariants as E;
+ghost use Rattle.tbr_tagged.specs.declared.Error.TheVariants as E;
 ghost use Rattle.tbr_decor.specs.Decoration.{decoration_of};
 ghost use Rattle.tbr_decor.specs.Start as start;
 ghost use Rattle.tbr_decor.specs.End as end;

@@ -4,7 +4,7 @@ ghost use Rattle.std.specs.List.{AllZip, AllByRecursion as Each, slice_get, zip}
 ghost use Rattle.tbr_model.specs.Run.{Entry, Item};
 ghost use Rattle.tbr_model.specs.Layout.{joined};
 ghost use Rattle.tbr_model.specs.Hard.{IsShown, IsSpaces, visible_glyphs, visible_entries};
-ghost use Rattle.tbr_lines.specs.Cell.{Cell};
+ghost use Rattle.tbr_border.specs.Cell.{Cell};
 ghost use Rattle.tbr_decor.specs.Decoration.{Decoration};
 ghost use Rattle.tbr_kept_lines.specs.Line.{Line, text};
 ghost use Rattle.tbr_renderer.specs.Renderer.{Renderer};

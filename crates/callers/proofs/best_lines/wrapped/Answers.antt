@@ -4,15 +4,15 @@ use Rattle.std.specs.Result.{IsErrAnd}
 use Rattle.std.proofs.lemmas.Result.{IfOk-weaker}
 use Rattle.tbr_model.specs.Run.{Item}
 use Rattle.tbr_model.specs.declared.white_space.WhiteSpace.TheVariants.{Normal}
-use Rattle.tbr_lines.specs.Block.{Block, new_block, after_text, after_flush}
-use Rattle.tbr_lines.specs.Outcome.{done, refused}
-use Rattle.tbr_lines.specs.Runs.{text_entries}
-use Rattle.tbr_lines.specs.UnicodeColumns.{unicode_columns, unicode_columns_drawn, unicode_columns_at_most_two}
-use Rattle.tbr_lines.specs.Wrapped.{HasBestLines, ShowsText}
-use Rattle.tbr_lines.specs.declared.Error.{Error}
-use Rattle.tbr_lines.specs.declared.Error.TheVariants.{TooNarrow, OutOfMemory}
-use Rattle.tbr_lines.proofs.NormalTexts.{best_lines}
-use Rattle.tbr_lines.proofs.BlockLaws.{text_leaves, text_in_two, flush_in_two}
+use Rattle.tbr_wrap.specs.Block.{Block, new_block, after_text, after_flush}
+use Rattle.tbr_tagged.specs.Outcome.{done, refused}
+use Rattle.tbr_wrap.specs.Runs.{text_entries}
+use Rattle.tbr_tagged.specs.UnicodeColumns.{unicode_columns, unicode_columns_drawn, unicode_columns_at_most_two}
+use Rattle.tbr_wrap.specs.Wrapped.{HasBestLines, ShowsText}
+use Rattle.tbr_tagged.specs.declared.Error.{Error}
+use Rattle.tbr_tagged.specs.declared.Error.TheVariants.{TooNarrow, OutOfMemory}
+use Rattle.callers.proofs.NormalTexts.{best_lines}
+use Rattle.tbr_wrap.proofs.runs.BlockLaws.{text_leaves, text_in_two, flush_in_two}
 use Rattle.callers.proofs.best_lines.wrapped.Goals as goal
 
 -- a refusal that isn't `TooNarrow` is `OutOfMemory`

@@ -4,9 +4,9 @@ use Rattle.std.proofs.lemmas.Iterator.Consumers.{YieldsList-end, YieldsList-turn
 use Rattle.std.proofs.lemmas.List.{map-append}
 use Rattle.tbr_model.specs.Run.{marker_entry}
 use Rattle.tbr_model.specs.Rule.{entry}
-use Rattle.tbr_lines.specs.Block.{grown, loose}
-use Rattle.tbr_lines.specs.Elements.{Element, marker_element}
-use Rattle.tbr_lines.specs.View.{element_of}
+use Rattle.tbr_wrap.specs.Block.{grown, loose}
+use Rattle.tbr_tagged.specs.Elements.{Element, marker_element}
+use Rattle.tbr_tagged.specs.View.{element_of}
 use Rattle.callers.proofs.Walks.{marker_at, same_names, no_marker_yet, one_marker_more}
 use Rattle.callers.proofs.handed_on.hand_on.Goals as goal
 

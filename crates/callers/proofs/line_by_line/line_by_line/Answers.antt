@@ -1,9 +1,9 @@
 use Rattle.std.proofs.Common.{◌≡◌, ◌++◌, drop, length, map-id, ap, ◌∙◌, sym, subst, arith}
 use Rattle.std.proofs.lemmas.Iterator.Adapters.{YieldsList-from_vec}
 use Rattle.std.proofs.lemmas.Iterator.Consumers.{YieldsList-end}
-use Rattle.tbr_lines.specs.Block.{Block, left, HandsOutFirst}
-use Rattle.tbr_lines.proofs.LinesLeft.{left_after}
-use Rattle.tbr_lines.proofs.BlockLaws.{HandsOne, one_handed, none_handed}
+use Rattle.tbr_wrap.specs.Block.{Block, left, HandsOutFirst}
+use Rattle.tbr_wrap.proofs.runs.LinesLeft.{left_after}
+use Rattle.tbr_wrap.proofs.runs.BlockLaws.{HandsOne, one_handed, none_handed}
 use Rattle.callers.proofs.Walks.{HasTaken, none_taken, one_taken, all_taken}
 use Rattle.callers.proofs.line_by_line.line_by_line.Given.{Over}
 use Rattle.callers.proofs.line_by_line.line_by_line.Goals.{In-Some}

@@ -1,9 +1,9 @@
 use Rattle.std.proofs.Common.{◌≡◌, [], ◌∷◌, ◌++◌, map, map-id, ap, subst, refl, sym, ◌∙◌}
 use Rattle.std.proofs.lemmas.Iterator.Consumers.{YieldsList-from_first, YieldsList-end}
 use Rattle.std.proofs.lemmas.List.{map_push}
-use Rattle.tbr_lines.specs.Elements.{characters}
-use Rattle.tbr_lines.specs.View.{element_of, elements_of}
-use Rattle.tbr_lines.specs.Walks.{elements_to_come}
+use Rattle.tbr_tagged.specs.Elements.{characters}
+use Rattle.tbr_tagged.specs.View.{element_of, elements_of}
+use Rattle.tbr_tagged.specs.Walks.{elements_to_come}
 use Rattle.tbr_c_lines.specs.Line.{piece_at, pieces_at}
 use Rattle.tbr_c_lines.proofs.Places.{one_behind, end_at, bytes_of, bytes_one_more}
 use Rattle.tbr_c_lines.proofs.line.placed.Goals as goal

@@ -1,6 +1,6 @@
 use Rattle.std.proofs.Common.{◌≡◌, length, encode_utf8_all}
-use Rattle.tbr_lines.specs.Elements.{characters}
-use Rattle.tbr_lines.specs.View.{elements_of}
+use Rattle.tbr_tagged.specs.Elements.{characters}
+use Rattle.tbr_tagged.specs.View.{elements_of}
 use Rattle.tbr_c_lines.specs.Line as seen
 use Rattle.tbr_c_lines.proofs.line.placed.Given as goal
 

@@ -2,9 +2,9 @@ use Rattle.std.proofs.Common.{rules, [], ◌∷◌, ◌++◌, chars, ap, ◌∙�
 use Rattle.std.specs.String.{string_bytes}
 use Rattle.std.proofs.lemmas.Str.{IsUtf8-string_bytes}
 use Rattle.tbr_model.specs.Codes.{newline_character}
-use Rattle.tbr_lines.specs.RenderLine.{line_items}
-use Rattle.tbr_lines.specs.Walks.{item_characters}
-use Rattle.tbr_lines.proofs.TextBehind.{chars_push}
+use Rattle.tbr_border.specs.RenderLine.{line_items}
+use Rattle.tbr_tagged.specs.Walks.{item_characters}
+use Rattle.tbr_tagged.proofs.TextBehind.{chars_push}
 use Rattle.tbr_c_lines.proofs.lines.append_line.Goals as goal
 
 pub returns : goal.returns

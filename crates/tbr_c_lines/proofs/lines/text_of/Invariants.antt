@@ -1,5 +1,5 @@
 use Rattle.std.proofs.Common.{◌≡◌, flat_map, map}
-use Rattle.tbr_lines.specs.View.{chars_of}
+use Rattle.tbr_tagged.specs.View.{chars_of}
 use Rattle.tbr_c_lines.specs.Lines as left
 use Rattle.tbr_c_lines.proofs.lines.text_of.Given as goal
 

@@ -2,7 +2,7 @@ use Rattle.std.proofs.Common.{◌≡◌, ◌+◌, ◌∷◌, [], unwrap_or, map,
 use Rattle.std.proofs.lemmas.Iterator.{YieldsList-from_chars}
 use Rattle.std.proofs.lemmas.Iterator.Consumers.{YieldsList-end}
 use Rattle.tbr_model.specs.Width.{width_of_text}
-use Rattle.tbr_lines.proofs.TextColumns.{width_of_text-append}
+use Rattle.tbr_tagged.proofs.TextColumns.{width_of_text-append}
 use Rattle.tbr_footnotes.proofs.CutLines.{unbroken_more}
 use Rattle.tbr_footnotes.specs.Footnote.{unbroken}
 use Rattle.tbr_footnotes.proofs.footnote_lines.columns_behind.Goals as goal

@@ -2,8 +2,8 @@ use Rattle.std.proofs.Common.{rules, [], ◌∷◌, ◌++◌, chars, ap, sym, �
 use Rattle.std.specs.String.{string_bytes}
 use Rattle.std.proofs.lemmas.Str.{IsUtf8-string_bytes}
 use Rattle.tbr_model.specs.Codes.{newline_character}
-use Rattle.tbr_lines.specs.Walks.{item_characters}
-use Rattle.tbr_lines.proofs.TextBehind.{chars_push}
+use Rattle.tbr_tagged.specs.Walks.{item_characters}
+use Rattle.tbr_tagged.proofs.TextBehind.{chars_push}
 use Rattle.tbr_kept_lines.specs.Text.{items_shown}
 use Rattle.tbr_kept_lines.specs.Line.{line_seen}
 use Rattle.tbr_kept_lines.proofs.KeptParts.{line_seen_shows}

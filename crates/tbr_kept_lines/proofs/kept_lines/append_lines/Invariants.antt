@@ -1,5 +1,5 @@
 use Rattle.std.proofs.Common.{◌≡◌, ◌++◌, map}
-use Rattle.tbr_lines.specs.View.{chars_of}
+use Rattle.tbr_tagged.specs.View.{chars_of}
 use Rattle.tbr_kept_lines.specs.Text.{lines_text}
 use Rattle.tbr_kept_lines.specs.Line.{line_seen}
 use Rattle.tbr_kept_lines.proofs.kept_lines.append_lines.Given as goal

@@ -1,6 +1,6 @@
 use Rattle.std.proofs.Common.{◌++◌, ap, ◌∙◌, map}
-use Rattle.tbr_lines.specs.View.{chars_of}
-use Rattle.tbr_lines.specs.EndedLines.{lines_characters}
+use Rattle.tbr_tagged.specs.View.{chars_of}
+use Rattle.tbr_wrap.specs.EndedLines.{lines_characters}
 use Rattle.tbr_kept_lines.specs.Text.{lines_text}
 use Rattle.tbr_kept_lines.specs.Line.{line_seen}
 use Rattle.tbr_kept_lines.proofs.KeptParts.{part_shown}

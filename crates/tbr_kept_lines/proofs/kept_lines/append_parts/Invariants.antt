@@ -1,5 +1,5 @@
 use Rattle.std.proofs.Common.{◌≡◌, ◌++◌}
-use Rattle.tbr_lines.specs.View.{chars_of}
+use Rattle.tbr_tagged.specs.View.{chars_of}
 use Rattle.tbr_kept_lines.specs.KeptLines.{parts_seen}
 use Rattle.tbr_kept_lines.specs.Text.{lines_text}
 use Rattle.tbr_kept_lines.proofs.kept_lines.append_parts.Given as goal

@@ -1,6 +1,6 @@
 use Rattle.std.proofs.Common.{[], refl, sym, subst, append-nil, IsSomeAnd}
-use Rattle.tbr_lines.specs.Elements.{SameItems, IsMerged, items_of}
-use Rattle.tbr_lines.proofs.LinesLeft.{first_of, none_of}
+use Rattle.tbr_tagged.specs.Elements.{SameItems, IsMerged, items_of}
+use Rattle.tbr_wrap.proofs.runs.LinesLeft.{first_of, none_of}
 use Rattle.tbr_kept_lines.proofs.KeptParts.{one_pushed, all_pushed}
 use Rattle.tbr_kept_lines.proofs.kept_lines.push_lines.Goals as goal
 

@@ -1,8 +1,8 @@
 use Rattle.std.proofs.Common.{[], ◌++◌, map, map-id, ap, subst, refl, sym, ◌∙◌}
 use Rattle.std.proofs.lemmas.Iterator.Consumers.{YieldsList-from_first, YieldsList-end}
-use Rattle.tbr_lines.specs.Elements.{items_of, SameItems}
-use Rattle.tbr_lines.specs.View.{element_of}
-use Rattle.tbr_lines.specs.Walks.{elements_to_come}
+use Rattle.tbr_tagged.specs.Elements.{items_of, SameItems}
+use Rattle.tbr_tagged.specs.View.{element_of}
+use Rattle.tbr_tagged.specs.Walks.{elements_to_come}
 use Rattle.tbr_renderer.proofs.Lines.{one_more}
 use Rattle.tbr_renderer.proofs.sub.behind_markers.Goals as goal
 

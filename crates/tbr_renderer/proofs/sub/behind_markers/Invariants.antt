@@ -1,6 +1,6 @@
 use Rattle.std.proofs.Common.{◌++◌, map}
-use Rattle.tbr_lines.specs.Elements.{items_of, SameItems, IsMerged}
-use Rattle.tbr_lines.specs.View.{element_of}
+use Rattle.tbr_tagged.specs.Elements.{items_of, SameItems, IsMerged}
+use Rattle.tbr_tagged.specs.View.{element_of}
 use Rattle.tbr_renderer.proofs.sub.behind_markers.Given as goal
 
 abbrev pub invariant-loop-marker : goal.invariant-loop-marker

@@ -1,5 +1,5 @@
 use Rattle.tbr_rows.specs.Filled.{FillsLine}
-use Rattle.tbr_rows.proofs.Filling.{one_more_filled}
+use Rattle.tbr_rows.proofs.FilledCells.{one_more_filled}
 use Rattle.tbr_rows.proofs.columns.fill_all.Goals as goal
 
 pub loop-line-preserved : goal.loop-line-preserved

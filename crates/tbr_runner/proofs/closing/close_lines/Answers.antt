@@ -1,5 +1,5 @@
 use Rattle.std.proofs.Common.{map, sym, subst}
-use Rattle.tbr_lines.specs.View.{chars_of}
+use Rattle.tbr_tagged.specs.View.{chars_of}
 use Rattle.tbr_decor.specs.Decoration.{decoration_of}
 use Rattle.text_block_renderer.specs.Meant.{meant}
 use Rattle.tbr_runner.specs.Closing.{ClosesIn}

@@ -1,7 +1,7 @@
 use Rattle.std.proofs.Common.{◌≡◌, ◌==◌, true, false, None, Err, map, length, sym, ap, ◌∙◌, subst}
 use Rattle.std.proofs.lemmas.Result.{err_from_is_err_and}
-use Rattle.tbr_lines.specs.View.{chars_of}
-use Rattle.tbr_lines.specs.declared.Error.TheVariants.{TooNarrow}
+use Rattle.tbr_tagged.specs.View.{chars_of}
+use Rattle.tbr_tagged.specs.declared.Error.TheVariants.{TooNarrow}
 use Rattle.tbr_decor.specs.Decoration.{decoration_of}
 use Rattle.text_block_renderer.specs.Meant.{meant}
 use Rattle.text_block_renderer.specs.Steps.{StartsBlock}

@@ -6,7 +6,7 @@ use Rattle.tbr_decor.specs.Decoration.{decoration_of}
 use Rattle.text_block_renderer.specs.Meant.{meant}
 use Rattle.text_block_renderer.specs.Calls.{append_subrender, Does}
 use Rattle.tbr_runner.specs.Prefixes.{prefixes}
-use Rattle.tbr_runner.proofs.Given.{is_others, prefixes_given}
+use Rattle.tbr_runner.proofs.GivenPrefixes.{is_others, prefixes_given}
 use Rattle.tbr_runner.proofs.prefixes.append_behind.Goals as goal
 
 pub returns-clause-ok : goal.returns-clause-ok

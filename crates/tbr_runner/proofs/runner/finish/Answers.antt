@@ -1,6 +1,6 @@
 use Rattle.tbr_decor.specs.Decoration.{decoration_of}
 use Rattle.tbr_runner.specs.Progress.{progress_meant}
-use Rattle.tbr_runner.proofs.OfScript.{end_of_script}
+use Rattle.tbr_runner.proofs.ScriptRefusals.{end_of_script}
 use Rattle.tbr_runner.proofs.Results.{if_err_then}
 use Rattle.tbr_runner.proofs.runner.finish.Goals as goal
 

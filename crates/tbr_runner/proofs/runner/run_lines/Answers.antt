@@ -3,7 +3,7 @@ use Rattle.std.proofs.lemmas.Result.{err_from_is_err_and}
 use Rattle.tbr_decor.specs.Decoration.{decoration_of}
 use Rattle.tbr_runner.specs.Progress.{progress_meant}
 use Rattle.tbr_runner.proofs.LinesGive.{at_end, line_done, line_refused}
-use Rattle.tbr_runner.proofs.OfScript.{line_of_script}
+use Rattle.tbr_runner.proofs.ScriptRefusals.{line_of_script}
 use Rattle.tbr_runner.proofs.Results.{if_err_is}
 use Rattle.tbr_runner.proofs.runner.run_lines.Goals as goal
 

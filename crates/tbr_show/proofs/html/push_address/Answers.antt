@@ -1,7 +1,7 @@
 use Rattle.std.proofs.Common.{chars, ap, ◌∙◌, ◌++◌}
 use Rattle.std.specs.Prelude.{flat_map}
 use Rattle.std.proofs.lemmas.Str.{chars-nil}
-use Rattle.tbr_lines.specs.View.{chars_of}
+use Rattle.tbr_tagged.specs.View.{chars_of}
 use Rattle.tbr_show.specs.Written.{printable}
 use Rattle.tbr_show.specs.Target as target
 use Rattle.tbr_show.specs.Html.{escaped}

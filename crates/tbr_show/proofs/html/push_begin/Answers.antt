@@ -1,6 +1,6 @@
 use Rattle.std.proofs.Common.{ap, ◌∙◌, ◌++◌, sym, string_bytes}
 use Rattle.std.specs.Prelude.{codes}
-use Rattle.tbr_lines.specs.View.{chars_of}
+use Rattle.tbr_tagged.specs.View.{chars_of}
 use Rattle.tbr_show.specs.Html.{begins, address}
 use Rattle.tbr_show.proofs.Appended.{one_behind, on_ok_then}
 use Rattle.tbr_show.proofs.html.push_begin.Goals as goal

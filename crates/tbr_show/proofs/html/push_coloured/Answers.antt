@@ -1,6 +1,6 @@
 use Rattle.std.proofs.Common.{◌++◌}
 use Rattle.std.specs.Prelude.{codes}
-use Rattle.tbr_lines.specs.View.{chars_of}
+use Rattle.tbr_tagged.specs.View.{chars_of}
 use Rattle.tbr_show.specs.Written.{colour_parts}
 use Rattle.tbr_show.proofs.Appended.{one_behind, on_ok_then}
 use Rattle.tbr_show.proofs.html.push_coloured.Goals as goal

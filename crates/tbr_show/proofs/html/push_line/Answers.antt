@@ -2,8 +2,8 @@ use Rattle.std.proofs.Common.{ap, refl, ◌∙◌, ◌∷◌, [], ◌++◌, map,
 use Rattle.std.specs.Prelude.{flat_map}
 use Rattle.std.proofs.lemmas.Iterator.Consumers.{YieldsList-from_first, YieldsList-end}
 use Rattle.tbr_model.specs.Codes.{newline_character}
-use Rattle.tbr_lines.specs.View.{chars_of, element_of}
-use Rattle.tbr_lines.specs.Walks.{elements_left}
+use Rattle.tbr_tagged.specs.View.{chars_of, element_of}
+use Rattle.tbr_tagged.specs.Walks.{elements_left}
 use Rattle.tbr_show.specs.Html as model
 use Rattle.tbr_show.proofs.Appended.{one_behind, flat_map-map_push, map_both, on_ok_then}
 use Rattle.tbr_show.proofs.html.push_line.Goals as goal

@@ -1,5 +1,5 @@
 use Rattle.std.proofs.Common.{◌≡◌, ◌++◌, false}
-use Rattle.tbr_lines.specs.View.{chars_of}
+use Rattle.tbr_tagged.specs.View.{chars_of}
 use Rattle.tbr_show.specs.Written.{printable}
 use Rattle.tbr_show.proofs.Appended.{shown_open, wide_behind}
 use Rattle.tbr_show.proofs.html.push_shown.Given as goal

@@ -1,7 +1,7 @@
 use Rattle.std.proofs.Common.{map-id, ap, sym, ◌∙◌, ◌++◌}
 use Rattle.std.proofs.lemmas.Iterator.{YieldsList-from_chars}
 use Rattle.std.proofs.lemmas.Iterator.Consumers.{YieldsList-end}
-use Rattle.tbr_lines.specs.View.{chars_of}
+use Rattle.tbr_tagged.specs.View.{chars_of}
 use Rattle.std.specs.Prelude.{flat_map}
 use Rattle.tbr_show.specs.Ndjson.{escaped}
 use Rattle.tbr_show.proofs.ndjson.push_escaped.Goals as goal

@@ -4,7 +4,7 @@ use Rattle.std.specs.Str.{IsUtf8}
 use Rattle.json.specs.Print.{print}
 use Rattle.json.specs.Token.{Token}
 use Rattle.tbr_model.specs.Codes.{newline_character}
-use Rattle.tbr_lines.specs.View.{chars_of}
+use Rattle.tbr_tagged.specs.View.{chars_of}
 use Rattle.tbr_show.specs.Ndjson.{escaped, line_tokens}
 use Rattle.tbr_show.proofs.Appended.{one_behind, on_ok_then}
 use Rattle.tbr_show.proofs.ndjson.push_line.Goals as goal

@@ -1,8 +1,8 @@
 use Rattle.std.proofs.Common.{ap, refl, ◌∙◌, ◌++◌, map, sym}
 use Rattle.std.specs.Prelude.{flat_map}
 use Rattle.std.proofs.lemmas.Iterator.Consumers.{YieldsList-from_first, YieldsList-end}
-use Rattle.tbr_lines.specs.View.{element_of}
-use Rattle.tbr_lines.specs.Walks.{elements_left}
+use Rattle.tbr_tagged.specs.View.{element_of}
+use Rattle.tbr_tagged.specs.Walks.{elements_left}
 use Rattle.tbr_show.specs.Ndjson.{element_tokens}
 use Rattle.tbr_show.proofs.Appended.{one_behind, flat_map-map_push, map_both}
 use Rattle.tbr_show.proofs.ndjson.write_elements.Goals as goal

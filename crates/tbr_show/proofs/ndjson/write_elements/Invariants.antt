@@ -1,6 +1,6 @@
 use Rattle.std.proofs.Common.{◌≡◌, ◌++◌, map}
 use Rattle.std.specs.Prelude.{flat_map}
-use Rattle.tbr_lines.specs.View.{element_of}
+use Rattle.tbr_tagged.specs.View.{element_of}
 use Rattle.tbr_show.specs.Ndjson.{element_tokens}
 use Rattle.tbr_show.proofs.ndjson.write_elements.Given as goal
 

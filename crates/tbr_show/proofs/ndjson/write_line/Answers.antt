@@ -1,7 +1,7 @@
 use Rattle.std.proofs.Common.{ap, ◌∙◌, ◌++◌}
 use Rattle.std.specs.Prelude.{codes, flat_map}
 use Rattle.json.specs.Token.{begin_object, end_object, begin_array, end_array, key, boolean}
-use Rattle.tbr_lines.specs.Elements.{line_width}
+use Rattle.tbr_tagged.specs.Elements.{line_width}
 use Rattle.tbr_show.specs.Ndjson.{element_tokens, columns_tokens}
 use Rattle.tbr_show.proofs.Appended.{object_written}
 use Rattle.tbr_show.proofs.ndjson.write_line.Goals as goal

@@ -2,9 +2,9 @@ use Rattle.std.proofs.Common.{ap, ◌∙◌, ◌++◌, sym, string_bytes, [], �
 use Rattle.std.specs.Prelude.{codes, encode_utf8_all, flat_map}
 use Rattle.std.proofs.lemmas.Str.{encodes-chars, IsUtf8-string_bytes}
 use Rattle.json.specs.Token.{begin_object, end_object, begin_array, end_array, key, string}
-use Rattle.tbr_lines.specs.View.{chars_of}
-use Rattle.tbr_lines.specs.Elements.{piece, element_width}
-use Rattle.tbr_lines.proofs.TextColumns.{items_width-text}
+use Rattle.tbr_tagged.specs.View.{chars_of}
+use Rattle.tbr_tagged.specs.Elements.{piece, element_width}
+use Rattle.tbr_tagged.proofs.TextColumns.{items_width-text}
 use Rattle.tbr_show.specs.Ndjson.{annotation_tokens, columns_tokens}
 use Rattle.tbr_show.proofs.Appended.{object_written}
 use Rattle.tbr_show.proofs.ndjson.write_piece.Goals as goal

@@ -1,5 +1,5 @@
 use Rattle.std.proofs.Common.{◌≡◌, ◌++◌}
-use Rattle.tbr_lines.specs.View.{chars_of}
+use Rattle.tbr_tagged.specs.View.{chars_of}
 use Rattle.tbr_show.specs.Written.{printable}
 use Rattle.tbr_show.proofs.text.push_each_printable.Given as goal
 

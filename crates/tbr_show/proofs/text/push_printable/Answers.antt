@@ -1,5 +1,5 @@
 use Rattle.std.proofs.Common.{ap, sym, ◌∙◌, ◌++◌, chars}
-use Rattle.tbr_lines.specs.View.{chars_of}
+use Rattle.tbr_tagged.specs.View.{chars_of}
 use Rattle.tbr_show.proofs.Appended.{printable_all, on_ok_then}
 use Rattle.tbr_show.proofs.text.push_printable.Goals as goal
 

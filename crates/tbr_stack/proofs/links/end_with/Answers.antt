@@ -2,7 +2,7 @@ use Rattle.std.proofs.Common.{◌≤◌, inr, sym, subst, ◌∙◌}
 use Rattle.std.proofs.lemmas.Result.{on_ok_weaker, on_err_weaker}
 use Rattle.tbr_decor.specs.Decoration.{decoration_of}
 use Rattle.tbr_renderer.specs.Renderer.{block_columns}
-use Rattle.tbr_renderer.proofs.Appending.{unfailed}
+use Rattle.tbr_renderer.proofs.AppendedLines.{unfailed}
 use Rattle.tbr_stack.proofs.Ends.{ended}
 use Rattle.tbr_stack.proofs.links.end_with.Goals as goal
 

@@ -1,6 +1,6 @@
 use Rattle.std.proofs.Common.{sym, refl, subst}
 use Rattle.std.proofs.lemmas.Result.{on_ok_weaker}
-use Rattle.tbr_lines.proofs.Copies.{list_copies_equal}
+use Rattle.tbr_tagged.proofs.Copies.{list_copies_equal}
 use Rattle.tbr_view.specs.Shown.{ShowsPlain}
 use Rattle.tbr_view.proofs.ShownLines.{shown_plain}
 use Rattle.tbr_view.proofs.show.push_plain.Goals as goal

@@ -2,7 +2,7 @@ use Rattle.std.proofs.Common.{◌++◌, chars, ap, sym, ◌∙◌, [], ◌∷◌
 use Rattle.std.proofs.lemmas.Str.{chars-nil}
 use Rattle.tbr_view.specs.Shown.{AreShown, IsShownPlain}
 use Rattle.tbr_view.proofs.ShownLines.{one_more_shown}
-use Rattle.tbr_lines.specs.View.{chars_of}
+use Rattle.tbr_tagged.specs.View.{chars_of}
 use Rattle.tbr_view.proofs.show.show_plain.Goals as goal
 
 pub loop-line-init : goal.loop-line-init

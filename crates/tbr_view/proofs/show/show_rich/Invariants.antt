@@ -1,4 +1,4 @@
-use Rattle.tbr_lines.specs.View.{chars_of}
+use Rattle.tbr_tagged.specs.View.{chars_of}
 use Rattle.tbr_view.specs.Shown.{AreShown, IsShownRich}
 use Rattle.tbr_view.proofs.show.show_rich.Given as goal
 

@@ -1,4 +1,4 @@
-use Rattle.tbr_lines.proofs.BlockLaws.{none_open}
+use Rattle.tbr_wrap.proofs.runs.BlockLaws.{none_open}
 use Rattle.test_parts.proofs.ended.ended.Goals as goal
 
 pub into_ended-requires-clause-ended : goal.into_ended-requires-clause-ended

@@ -1,4 +1,4 @@
-use Rattle.text_block_renderer.proofs.Stretching.{stands_for_good}
+use Rattle.text_block_renderer.proofs.RunStretches.{stands_for_good}
 use Rattle.text_block_renderer.proofs.laws.a_run_is_one_stretch.Goals as goal
 
 pub returns : goal.returns

@@ -1,4 +1,4 @@
-use Rattle.text_block_renderer.proofs.Parting.{brings_parts, brings_own_parts}
+use Rattle.text_block_renderer.proofs.LineParts.{brings_parts, brings_own_parts}
 use Rattle.text_block_renderer.proofs.laws.lines_are_stretches_laid_texts_and_borders.Goals as goal
 
 pub returns : goal.returns

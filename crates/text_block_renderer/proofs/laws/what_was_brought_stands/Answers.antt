@@ -1,4 +1,4 @@
-use Rattle.text_block_renderer.proofs.Standing.{brings_stands, new_brings_stands, brings_stands_all, new_stands}
+use Rattle.text_block_renderer.proofs.BroughtEntries.{brings_stands, new_brings_stands, brings_stands_all, new_stands}
 use Rattle.text_block_renderer.proofs.laws.what_was_brought_stands.Goals as goal
 
 pub returns : goal.returns

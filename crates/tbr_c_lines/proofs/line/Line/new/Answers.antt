@@ -1,5 +1,5 @@
 use Rattle.std.proofs.Common.{◌∙◌, ap}
-use Rattle.tbr_lines.proofs.Copies.{list_copies_equal}
+use Rattle.tbr_tagged.proofs.Copies.{list_copies_equal}
 use Rattle.tbr_c_lines.specs.Line.{line_of}
 use Rattle.tbr_c_lines.proofs.Places.{whole_line}
 use Rattle.tbr_c_lines.proofs.line.Line.new.Goals as goal

@@ -1,5 +1,5 @@
 use Rattle.std.proofs.Common.{◌+◌, ◌∙◌, ap, sym, length}
-use Rattle.tbr_lines.specs.View.{element_of}
+use Rattle.tbr_tagged.specs.View.{element_of}
 use Rattle.tbr_c_lines.specs.Line.{piece_at}
 use Rattle.tbr_c_lines.proofs.Places.{text_piece}
 use Rattle.tbr_c_lines.proofs.line.Piece.new.Goals as goal

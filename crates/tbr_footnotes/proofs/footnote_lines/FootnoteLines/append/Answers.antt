@@ -1,6 +1,6 @@
 use Rattle.std.proofs.Common.{◌≡◌, ◌+◌, ◌∷◌, [], ◌∙◌, ap, unwrap_or, arith}
 use Rattle.tbr_model.specs.Width.{width_of_text}
-use Rattle.tbr_lines.proofs.Copies.{list_copies_equal}
+use Rattle.tbr_tagged.proofs.Copies.{list_copies_equal}
 use Rattle.tbr_footnotes.proofs.CutLines.{line_extended, holds_extended}
 use Rattle.tbr_footnotes.proofs.Tags.{tags_mean}
 use Rattle.tbr_footnotes.proofs.footnote_lines.FootnoteLines.append.Goals as goal

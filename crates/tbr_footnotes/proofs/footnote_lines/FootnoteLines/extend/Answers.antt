@@ -1,7 +1,7 @@
 use Rattle.std.proofs.Common.{◌≡◌, ◌+◌, ap, arith}
 use Rattle.tbr_model.specs.Run.{items_width}
 use Rattle.tbr_model.specs.Width.{width_of_text}
-use Rattle.tbr_lines.specs.View.{chars_of}
+use Rattle.tbr_tagged.specs.View.{chars_of}
 use Rattle.tbr_footnotes.specs.Cutting.{cut_meant}
 use Rattle.tbr_footnotes.proofs.CutLines.{line_extended, holds_extended}
 use Rattle.tbr_footnotes.proofs.Tags.{tags_mean}

@@ -1,7 +1,7 @@
 use Rattle.std.proofs.Common.{map, map-id, ap, sym, ◌∙◌, refl}
 use Rattle.std.proofs.lemmas.Iterator.Consumers.{YieldsList-from_first, YieldsList-end}
-use Rattle.tbr_lines.specs.View.{element_of}
-use Rattle.tbr_lines.specs.Walks.{elements_to_come}
+use Rattle.tbr_tagged.specs.View.{element_of}
+use Rattle.tbr_tagged.specs.Walks.{elements_to_come}
 use Rattle.tbr_footnotes.specs.Cutting.{cut_meant}
 use Rattle.tbr_footnotes.proofs.CutLines.{elements_go_on, elements_end}
 use Rattle.tbr_footnotes.proofs.footnote_lines.FootnoteLines.push_line.Goals as goal

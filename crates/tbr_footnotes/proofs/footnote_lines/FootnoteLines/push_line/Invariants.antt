@@ -1,5 +1,5 @@
 use Rattle.std.proofs.Common.{◌≡◌, map}
-use Rattle.tbr_lines.specs.View.{element_of}
+use Rattle.tbr_tagged.specs.View.{element_of}
 use Rattle.tbr_decor.specs.Meant.{meant}
 use Rattle.tbr_footnotes.specs.Cutting.{with_items, cut_meant}
 use Rattle.tbr_footnotes.specs.Footnote.{footnote_items}

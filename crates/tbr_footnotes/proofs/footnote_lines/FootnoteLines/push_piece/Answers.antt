@@ -1,8 +1,8 @@
 use Rattle.std.proofs.Common.{◌≡◌, ◌∷◌, [], ◌++◌, true, map, chars, ap, sym, subst, ◌∙◌, append-nil}
 use Rattle.std.proofs.lemmas.Result.{on_ok_weaker}
 use Rattle.tbr_model.specs.Width.{width_of_text}
-use Rattle.tbr_lines.specs.Elements.{text_items}
-use Rattle.tbr_lines.specs.View.{chars_of}
+use Rattle.tbr_tagged.specs.Elements.{text_items}
+use Rattle.tbr_tagged.specs.View.{chars_of}
 use Rattle.tbr_footnotes.specs.Cutting.{extended, with_items, cut_meant}
 use Rattle.tbr_footnotes.specs.Footnote.{unbroken, fits_behind}
 use Rattle.tbr_footnotes.specs.Tags.{tag_meant}

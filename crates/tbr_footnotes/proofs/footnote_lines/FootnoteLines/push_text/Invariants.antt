@@ -1,5 +1,5 @@
 use Rattle.std.proofs.Common.{◌≡◌, map}
-use Rattle.tbr_lines.specs.Elements.{text_items}
+use Rattle.tbr_tagged.specs.Elements.{text_items}
 use Rattle.tbr_footnotes.specs.Cutting.{with_items, cut_meant}
 use Rattle.tbr_footnotes.specs.Footnote.{unbroken}
 use Rattle.tbr_footnotes.specs.Tags.{tag_meant}

@@ -2,7 +2,7 @@ use Rattle.std.proofs.Common.{◌≡◌, true, false, ◌++◌, [], map, refl, a
 use Rattle.std.specs.Prelude.{length, filter}
 use Rattle.std.specs.List.{AllByRecursion as Each, list_any}
 use Rattle.tbr_model.specs.Run.{has_character}
-use Rattle.tbr_lines.specs.RenderLine.{IsMergedText}
+use Rattle.tbr_border.specs.RenderLine.{IsMergedText}
 use Rattle.tbr_kept_lines.specs.KeptLines.{parts_seen, HoldsPart}
 use Rattle.tbr_kept_lines.specs.Line.{line_seen, line_has_content, text_lines}
 use Rattle.tbr_kept_lines.specs.declared.kept_lines.Part.{Part}

@@ -2,8 +2,8 @@ use Rattle.std.proofs.Common.{◌≡◌, ◌++◌, ◌∷◌, [], if◌then◌el
 use Rattle.std.specs.Prelude.{is_some}
 use Rattle.std.specs.List.{AllByRecursion as Each}
 use Rattle.std.proofs.lemmas.List.{map-append}
-use Rattle.tbr_lines.specs.RenderLine.{IsMergedText}
-use Rattle.tbr_lines.specs.declared.RenderLine.TheVariants.{Line as Rule}
+use Rattle.tbr_border.specs.RenderLine.{IsMergedText}
+use Rattle.tbr_border.specs.declared.RenderLine.TheVariants.{Line as Rule}
 use Rattle.tbr_kept_lines.specs.KeptLines.{parts_seen, HoldsKept}
 use Rattle.tbr_kept_lines.specs.Line.{border, line_seen}
 use Rattle.tbr_kept_lines.specs.LastBorder.{without_last, last_border}

@@ -1,15 +1,15 @@
 use Rattle.std.proofs.Common.{◌≡◌, ◌∙◌, true, ap, sym}
 use Rattle.std.specs.Global.{Vec}
 use Rattle.std.proofs.lemmas.Result.{on_ok_weaker}
-use Rattle.tbr_lines.specs.Border.{shown}
-use Rattle.tbr_lines.specs.Copies.{equal_lists}
-use Rattle.tbr_lines.specs.Elements.{items_of}
-use Rattle.tbr_lines.proofs.Copies.{list_copies_equal}
-use Rattle.tbr_lines.proofs.MappedTags.{means_same_items}
+use Rattle.tbr_border.specs.Border.{shown}
+use Rattle.tbr_tagged.specs.Copies.{equal_lists}
+use Rattle.tbr_tagged.specs.Elements.{items_of}
+use Rattle.tbr_tagged.proofs.Copies.{list_copies_equal}
+use Rattle.tbr_tagged.proofs.MappedTags.{means_same_items}
 use Rattle.tbr_footnotes.specs.Tags.{tag_meant}
 use Rattle.tbr_renderer.specs.Renderer.{Renderer}
 use Rattle.tbr_footnotes.proofs.Tags.{tags_mean}
-use Rattle.tbr_renderer.proofs.Bordering.{border_drawn}
+use Rattle.tbr_renderer.proofs.MeantBorders.{border_drawn}
 use Rattle.tbr_renderer.proofs.sub.SubRenderer.add_border.Goals as goal
 
 pub into_tagged_line-requires : goal.into_tagged_line-requires

@@ -1,4 +1,4 @@
-use Rattle.tbr_renderer.proofs.Appending.{HasCell}
+use Rattle.tbr_renderer.proofs.AppendedLines.{HasCell}
 use Rattle.tbr_renderer.proofs.sub.SubRenderer.add_cell.Given as goal
 
 abbrev pub invariant-loop-line : goal.invariant-loop-line

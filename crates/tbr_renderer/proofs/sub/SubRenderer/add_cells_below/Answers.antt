@@ -1,12 +1,12 @@
 use Rattle.std.proofs.Common.{sym, subst, map}
 use Rattle.std.specs.List.{AllZip, AllByRecursion as Each}
 use Rattle.std.specs.Vec.Iter.{into_iter_items}
-use Rattle.tbr_lines.specs.declared.Error.TheVariants.{TooNarrow}
+use Rattle.tbr_tagged.specs.declared.Error.TheVariants.{TooNarrow}
 use Rattle.tbr_footnotes.specs.Tags.{tag_meant}
 use Rattle.tbr_renderer.specs.Meant.{map_line, meant}
 use Rattle.tbr_kept_lines.specs.Line.{line_seen}
 use Rattle.tbr_renderer.specs.Appended.{FirstToRefuse, HoldsBack}
-use Rattle.tbr_renderer.proofs.Appending.{Hands, no_cells, cells_go_on, refuses_behind, each_at, unfailed, held_back, passed_on}
+use Rattle.tbr_renderer.proofs.AppendedLines.{Hands, no_cells, cells_go_on, refuses_behind, each_at, unfailed, held_back, passed_on}
 use Rattle.tbr_kept_lines.proofs.ItemsLeft.{items_left, items_taken}
 use Rattle.tbr_renderer.proofs.sub.SubRenderer.add_cells_below.Goals as goal
 

@@ -1,4 +1,4 @@
-use Rattle.tbr_renderer.proofs.Appending.{HasCells}
+use Rattle.tbr_renderer.proofs.AppendedLines.{HasCells}
 use Rattle.tbr_renderer.proofs.sub.SubRenderer.add_cells_below.Given as goal
 
 abbrev pub invariant-loop-col : goal.invariant-loop-col

@@ -1,12 +1,12 @@
 use Rattle.std.proofs.Common.{length, drop, ap, ◌∙◌, subst, arith}
 use Rattle.std.specs.Global.{Vec}
-use Rattle.tbr_lines.specs.Copies.{equal_lists}
-use Rattle.tbr_lines.specs.Block.{Block, left, HandsOutFirst}
-use Rattle.tbr_lines.proofs.Copies.{list_copies_equal}
-use Rattle.tbr_lines.proofs.LinesLeft.{left_after}
-use Rattle.tbr_lines.proofs.BlockLaws.{HandsOne, one_handed, none_handed}
+use Rattle.tbr_tagged.specs.Copies.{equal_lists}
+use Rattle.tbr_wrap.specs.Block.{Block, left, HandsOutFirst}
+use Rattle.tbr_tagged.proofs.Copies.{list_copies_equal}
+use Rattle.tbr_wrap.proofs.runs.LinesLeft.{left_after}
+use Rattle.tbr_wrap.proofs.runs.BlockLaws.{HandsOne, one_handed, none_handed}
 use Rattle.tbr_footnotes.proofs.Tags.{tags_mean}
-use Rattle.tbr_renderer.proofs.Flushing.{one_line_more, no_more_lines}
+use Rattle.tbr_renderer.proofs.BlockEnds.{one_line_more, no_more_lines}
 use Rattle.tbr_renderer.proofs.sub.SubRenderer.add_each_line_of.Given.{Over}
 use Rattle.tbr_renderer.proofs.sub.SubRenderer.add_each_line_of.Goals.{In-Some}
 use Rattle.tbr_renderer.proofs.sub.SubRenderer.add_each_line_of.Goals as goal

@@ -1,6 +1,6 @@
 use Rattle.std.proofs.Common.{length}
-use Rattle.tbr_lines.specs.Block.{left}
-use Rattle.tbr_renderer.proofs.Flushing.{HasLines}
+use Rattle.tbr_wrap.specs.Block.{left}
+use Rattle.tbr_renderer.proofs.BlockEnds.{HasLines}
 use Rattle.tbr_renderer.proofs.sub.SubRenderer.add_each_line_of.Given as goal
 
 abbrev pub invariant-loop-block : goal.invariant-loop-block

@@ -1,6 +1,6 @@
 use Rattle.std.proofs.lemmas.Result.{on_ok_weaker}
-use Rattle.tbr_lines.specs.Elements.{items_of}
-use Rattle.tbr_renderer.proofs.Meanings.{filled_added}
+use Rattle.tbr_tagged.specs.Elements.{items_of}
+use Rattle.tbr_renderer.proofs.MeantLines.{filled_added}
 use Rattle.tbr_renderer.proofs.sub.SubRenderer.add_filled.Goals as goal
 
 pub returns-clause-line : goal.returns-clause-line

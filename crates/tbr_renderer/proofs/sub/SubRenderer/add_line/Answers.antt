@@ -3,16 +3,16 @@ use Rattle.std.proofs.lemmas.Bool.{eqb-true}
 use Rattle.std.proofs.lemmas.List.{nil_from_length}
 use Rattle.std.proofs.lemmas.Result.{on_ok_weaker}
 use Rattle.std.specs.Global.{Vec}
-use Rattle.tbr_lines.specs.Copies.{equal_lists}
-use Rattle.tbr_lines.specs.Elements.{items_of}
-use Rattle.tbr_lines.specs.View.{element_of}
+use Rattle.tbr_tagged.specs.Copies.{equal_lists}
+use Rattle.tbr_tagged.specs.Elements.{items_of}
+use Rattle.tbr_tagged.specs.View.{element_of}
 use Rattle.tbr_footnotes.specs.Tags.{tag_meant, items_meant}
 use Rattle.tbr_renderer.specs.Meant.{meant}
 use Rattle.tbr_renderer.specs.Renderer.{Renderer}
 use Rattle.tbr_renderer.specs.View.{names_of}
-use Rattle.tbr_lines.proofs.MappedTags.{means_same_items}
+use Rattle.tbr_tagged.proofs.MappedTags.{means_same_items}
 use Rattle.tbr_footnotes.proofs.Tags.{tags_mean}
-use Rattle.tbr_renderer.proofs.Meanings.{line_alone, line_behind}
+use Rattle.tbr_renderer.proofs.MeantLines.{line_alone, line_behind}
 use Rattle.tbr_renderer.proofs.sub.SubRenderer.add_line.Goals as goal
 
 pub returns-then-is_empty-clause-line : goal.returns-then-is_empty-clause-line

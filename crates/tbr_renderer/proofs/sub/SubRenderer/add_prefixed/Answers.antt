@@ -1,9 +1,9 @@
 use Rattle.std.proofs.Common.{◌∙◌, ◌++◌, ap, sym, subst, map, refl}
 use Rattle.std.specs.Prelude.{chars}
 use Rattle.std.specs.Vec.Iter.{into_iter_items}
-use Rattle.tbr_lines.specs.Elements.{items_of, text_items}
+use Rattle.tbr_tagged.specs.Elements.{items_of, text_items}
 use Rattle.tbr_footnotes.specs.Tags.{items_meant}
-use Rattle.tbr_renderer.proofs.Appending.{Prefixes, prefixed_goes_on, ran_out}
+use Rattle.tbr_renderer.proofs.AppendedLines.{Prefixes, prefixed_goes_on, ran_out}
 use Rattle.tbr_kept_lines.proofs.ItemsLeft.{items_left}
 use Rattle.tbr_renderer.proofs.sub.SubRenderer.add_prefixed.Goals as goal
 

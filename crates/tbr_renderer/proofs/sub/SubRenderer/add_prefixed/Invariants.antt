@@ -1,4 +1,4 @@
-use Rattle.tbr_renderer.proofs.Appending.{HasPrefixed}
+use Rattle.tbr_renderer.proofs.AppendedLines.{HasPrefixed}
 use Rattle.tbr_renderer.proofs.sub.SubRenderer.add_prefixed.Given as goal
 
 abbrev pub invariant-loop-line : goal.invariant-loop-line

@@ -1,12 +1,12 @@
 use Rattle.std.proofs.Common.{map, ap, ◌∙◌}
 use Rattle.std.specs.Global.{Vec}
 use Rattle.std.proofs.lemmas.Result.{on_ok_weaker}
-use Rattle.tbr_lines.proofs.Copies.{list_copies_equal}
+use Rattle.tbr_tagged.proofs.Copies.{list_copies_equal}
 use Rattle.tbr_rows.specs.Cells.{row_fits, spot_of}
 use Rattle.tbr_renderer.specs.Renderer.{Renderer}
 use Rattle.tbr_renderer.specs.Rows.{style_in}
 use Rattle.tbr_footnotes.proofs.Tags.{tags_mean}
-use Rattle.tbr_renderer.proofs.Rowing.{tags_told, row_laid}
+use Rattle.tbr_renderer.proofs.MeantRows.{tags_told, row_laid}
 use Rattle.tbr_renderer.proofs.sub.SubRenderer.add_row.Goals as goal
 
 pub lay_out-requires-clause-copies : goal.lay_out-requires-clause-copies

@@ -1,7 +1,7 @@
 use Rattle.std.proofs.Common.{map}
-use Rattle.tbr_lines.specs.Elements.{items_of}
+use Rattle.tbr_tagged.specs.Elements.{items_of}
 use Rattle.tbr_footnotes.specs.Tags.{items_meant}
-use Rattle.tbr_renderer.proofs.Appending.{HasPut}
+use Rattle.tbr_renderer.proofs.AppendedLines.{HasPut}
 use Rattle.tbr_renderer.proofs.sub.SubRenderer.add_texts.Given as goal
 
 abbrev pub invariant-loop-text : goal.invariant-loop-text

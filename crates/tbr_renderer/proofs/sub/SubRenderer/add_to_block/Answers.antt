@@ -1,15 +1,15 @@
 use Rattle.std.proofs.Common.{◌≡◌, ℕ, ◌<◌, false, refl, Result, Err, List, ap, sym, ◌∙◌, subst, chars}
 use Rattle.std.specs.Global.{Vec}
 use Rattle.std.specs.Result.{IsErrAnd}
-use Rattle.tbr_lines.specs.Block.{Block}
-use Rattle.tbr_lines.specs.declared.Error.{Error}
-use Rattle.tbr_lines.specs.declared.Error.TheVariants as E
+use Rattle.tbr_wrap.specs.Block.{Block}
+use Rattle.tbr_tagged.specs.declared.Error.{Error}
+use Rattle.tbr_tagged.specs.declared.Error.TheVariants as E
 use Rattle.tbr_renderer.specs.Meant.{meant}
 use Rattle.tbr_renderer.specs.Renderer.{Open, Renderer}
 use Rattle.tbr_renderer.specs.View.{block_meant}
 use Rattle.tbr_renderer.specs.Flush.{fits_grown}
 use Rattle.tbr_renderer.specs.Steps.{text_brings}
-use Rattle.tbr_renderer.proofs.Writing.{join_narrow}
+use Rattle.tbr_renderer.proofs.JoinedTexts.{join_narrow}
 use Rattle.tbr_renderer.proofs.sub.SubRenderer.add_to_block.Goals as goal
 
 pub returns-in_err-write-clause-too_narrow : goal.returns-in_err-write-clause-too_narrow

@@ -1,17 +1,17 @@
 use Rattle.std.proofs.Common.{◌∙◌, ap, sym, map}
 use Rattle.std.proofs.lemmas.Result.{IfOk-weaker}
-use Rattle.tbr_lines.specs.Border.{shown}
-use Rattle.tbr_lines.specs.Copies.{equal_lists}
-use Rattle.tbr_lines.specs.Elements.{items_of}
-use Rattle.tbr_lines.proofs.Copies.{list_copies_equal}
-use Rattle.tbr_lines.proofs.MappedTags.{means_same_items}
+use Rattle.tbr_border.specs.Border.{shown}
+use Rattle.tbr_tagged.specs.Copies.{equal_lists}
+use Rattle.tbr_tagged.specs.Elements.{items_of}
+use Rattle.tbr_tagged.proofs.Copies.{list_copies_equal}
+use Rattle.tbr_tagged.proofs.MappedTags.{means_same_items}
 use Rattle.tbr_rows.specs.Meant.{map_border}
 use Rattle.tbr_footnotes.specs.Tags.{tag_meant}
 use Rattle.tbr_renderer.specs.Meant.{map_line}
 use Rattle.tbr_renderer.specs.Appended.{as_text}
 use Rattle.tbr_kept_lines.specs.Line.{line_seen}
 use Rattle.tbr_footnotes.proofs.Tags.{tags_mean}
-use Rattle.tbr_renderer.proofs.Bordering.{shown-map}
+use Rattle.tbr_renderer.proofs.MeantBorders.{shown-map}
 use Rattle.tbr_renderer.proofs.sub.SubRenderer.as_text.Goals as goal
 
 pub into_tagged_line_with-requires : goal.into_tagged_line_with-requires

@@ -1,7 +1,7 @@
 use Rattle.std.proofs.Common.{true, false, ap, sym, ◌∙◌}
 use Rattle.std.proofs.lemmas.Result.{on_ok_weaker}
 use Rattle.tbr_renderer.specs.Meant.{meant}
-use Rattle.tbr_renderer.proofs.Meanings.{block_begun}
+use Rattle.tbr_renderer.proofs.MeantLines.{block_begun}
 use Rattle.tbr_renderer.proofs.sub.SubRenderer.begin_block.Goals as goal
 
 pub returns-then-has_content-clause-begun : goal.returns-then-has_content-clause-begun

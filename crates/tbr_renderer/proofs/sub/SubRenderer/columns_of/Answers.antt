@@ -1,10 +1,10 @@
 use Rattle.std.proofs.Common.{ℕ, unwrap_or, ◌++◌, ◌∷◌, [], refl, sym, subst, ap, ◌∙◌, map}
 use Rattle.std.specs.List.{AllZip, AllByRecursion as Each}
 use Rattle.std.specs.Vec.Iter.{into_iter_items}
-use Rattle.tbr_lines.proofs.Copies.{list_copies_equal}
-use Rattle.tbr_lines.specs.declared.Error.TheVariants.{TooNarrow}
+use Rattle.tbr_tagged.proofs.Copies.{list_copies_equal}
+use Rattle.tbr_tagged.specs.declared.Error.TheVariants.{TooNarrow}
 use Rattle.tbr_rows.specs.Filled.{cell_behind}
-use Rattle.tbr_lines.specs.declared.CellAlign.TheVariants.{Left}
+use Rattle.tbr_tagged.specs.declared.CellAlign.TheVariants.{Left}
 use Rattle.tbr_rows.specs.Cells.{AreSideBySide}
 use Rattle.tbr_rows.specs.Meant.{map_line as map_row_line}
 use Rattle.tbr_footnotes.specs.Tags.{tag_meant}
@@ -14,8 +14,8 @@ use Rattle.tbr_kept_lines.specs.Line.{line_seen}
 use Rattle.tbr_renderer.specs.Appended.{FirstToRefuse, HandsOut, HoldsBack}
 use Rattle.tbr_footnotes.proofs.Tags.{tags_mean}
 use Rattle.tbr_kept_lines.proofs.ItemsLeft.{items_left, items_taken}
-use Rattle.tbr_renderer.proofs.Appending.{refuses_behind, each_at, unfailed, held_back, passed_on}
-use Rattle.tbr_renderer.proofs.Rowing.{Gives, HasColumns, tags_told, no_columns, columns_go_on, next_taken, lines_fill, lines_given}
+use Rattle.tbr_renderer.proofs.AppendedLines.{refuses_behind, each_at, unfailed, held_back, passed_on}
+use Rattle.tbr_renderer.proofs.MeantRows.{Gives, HasColumns, tags_told, no_columns, columns_go_on, next_taken, lines_fill, lines_given}
 use Rattle.tbr_renderer.proofs.sub.SubRenderer.columns_of.Goals as goal
 
 pub loop-col-init : goal.loop-col-init

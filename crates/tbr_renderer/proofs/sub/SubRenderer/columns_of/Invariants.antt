@@ -1,6 +1,6 @@
 use Rattle.std.proofs.Common.{map}
 use Rattle.tbr_rows.specs.Cells.{AreSideBySide}
-use Rattle.tbr_renderer.proofs.Rowing.{HasColumns}
+use Rattle.tbr_renderer.proofs.MeantRows.{HasColumns}
 use Rattle.tbr_renderer.proofs.sub.SubRenderer.columns_of.Given as goal
 
 abbrev pub invariant-loop-col : goal.invariant-loop-col

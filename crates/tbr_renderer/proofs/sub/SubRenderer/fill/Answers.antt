@@ -1,14 +1,14 @@
 use Rattle.std.proofs.Common.{◌∙◌, ◌≡◌, true, ap, sym}
 use Rattle.std.proofs.lemmas.Result.{on_ok_weaker}
-use Rattle.tbr_lines.proofs.Copies.{list_copies_equal}
+use Rattle.tbr_tagged.proofs.Copies.{list_copies_equal}
 use Rattle.std.specs.Global.{Vec}
-use Rattle.tbr_lines.specs.Copies.{equal_lists}
-use Rattle.tbr_lines.specs.Elements.{items_of}
+use Rattle.tbr_tagged.specs.Copies.{equal_lists}
+use Rattle.tbr_tagged.specs.Elements.{items_of}
 use Rattle.tbr_footnotes.specs.Tags.{tag_meant}
 use Rattle.tbr_renderer.specs.Renderer.{Renderer}
-use Rattle.tbr_lines.proofs.MappedTags.{means_same_items}
+use Rattle.tbr_tagged.proofs.MappedTags.{means_same_items}
 use Rattle.tbr_footnotes.proofs.Tags.{tags_mean}
-use Rattle.tbr_renderer.proofs.Meanings.{filled}
+use Rattle.tbr_renderer.proofs.MeantLines.{filled}
 use Rattle.tbr_renderer.proofs.sub.SubRenderer.fill.Goals as goal
 
 pub pad_to-requires : goal.pad_to-requires

@@ -1,9 +1,9 @@
 use Rattle.std.proofs.Common.{◌≡◌, ◌&&◌, not, is_none, Some, ap, sym, ◌∙◌, subst}
 use Rattle.std.specs.Global.{Vec}
-use Rattle.tbr_lines.specs.Block.{Block, any_line, has_no_character}
+use Rattle.tbr_wrap.specs.Block.{Block, any_line, has_no_character}
 use Rattle.tbr_renderer.specs.Renderer.{Renderer, block_width, may_overflow}
 use Rattle.tbr_renderer.specs.View.{unboxed, block_seen, IsOpened, IsFresh}
-use Rattle.tbr_renderer.proofs.Blank.{block_asked}
+use Rattle.tbr_renderer.proofs.BlankRenderers.{block_asked}
 use Rattle.tbr_renderer.proofs.sub.SubRenderer.has_blank_block.Given.{Over}
 use Rattle.tbr_renderer.proofs.sub.SubRenderer.has_blank_block.Goals.{In-Some}
 use Rattle.tbr_renderer.proofs.sub.SubRenderer.has_blank_block.Goals as goal

@@ -1,9 +1,9 @@
 use Rattle.std.proofs.Common.{◌≡◌, ◌&&◌, not, is_none, ap, sym, ◌∙◌, subst}
 use Rattle.std.specs.Global.{Vec}
-use Rattle.tbr_lines.specs.Block.{Block, any_line, takes_no_columns}
+use Rattle.tbr_wrap.specs.Block.{Block, any_line, takes_no_columns}
 use Rattle.tbr_renderer.specs.Renderer.{Renderer, block_width, may_overflow}
 use Rattle.tbr_renderer.specs.View.{unboxed, block_seen, IsOpened}
-use Rattle.tbr_renderer.proofs.Writing.{block_empty}
+use Rattle.tbr_renderer.proofs.JoinedTexts.{block_empty}
 use Rattle.tbr_renderer.proofs.sub.SubRenderer.has_empty_block.Goals as goal
 
 pub returns-in-Some : goal.returns-in-Some

@@ -2,7 +2,7 @@ use Rattle.std.proofs.Common.{ap, sym, ◌∙◌, subst}
 use Rattle.std.specs.Global.{Vec}
 use Rattle.tbr_renderer.specs.Renderer.{Renderer, block_width, may_overflow}
 use Rattle.tbr_renderer.specs.View.{unboxed, block_seen, IsOpened}
-use Rattle.tbr_renderer.proofs.Writing.{line_start}
+use Rattle.tbr_renderer.proofs.JoinedTexts.{line_start}
 use Rattle.tbr_renderer.proofs.sub.SubRenderer.is_at_line_start.Goals as goal
 
 pub returns-in-Some : goal.returns-in-Some

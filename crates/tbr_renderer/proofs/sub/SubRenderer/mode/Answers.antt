@@ -1,7 +1,7 @@
 use Rattle.std.proofs.Common.{ap, ◌∙◌}
 use Rattle.std.specs.Global.{Vec}
 use Rattle.tbr_renderer.specs.Renderer.{Renderer, last_mode}
-use Rattle.tbr_renderer.proofs.Meanings.{last_mode_is}
+use Rattle.tbr_renderer.proofs.MeantLines.{last_mode_is}
 use Rattle.tbr_renderer.proofs.sub.SubRenderer.mode.Goals as goal
 
 pub returns-in-Some : goal.returns-in-Some

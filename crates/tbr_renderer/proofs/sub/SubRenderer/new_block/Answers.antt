@@ -1,10 +1,10 @@
 use Rattle.std.proofs.Common.{◌<◌, ◌&&◌, nat_lt, ap, ◌∙◌, subst}
 use Rattle.std.specs.Global.{Vec}
-use Rattle.tbr_lines.specs.Block.{Block}
+use Rattle.tbr_wrap.specs.Block.{Block}
 use Rattle.tbr_renderer.specs.Renderer.{Renderer, block_width, may_overflow}
 use Rattle.tbr_renderer.specs.View.{block_meant}
-use Rattle.tbr_renderer.proofs.Meanings.{opened_new}
-use Rattle.tbr_renderer.proofs.Writing.{fresh_new}
+use Rattle.tbr_renderer.proofs.MeantLines.{opened_new}
+use Rattle.tbr_renderer.proofs.JoinedTexts.{fresh_new}
 use Rattle.tbr_renderer.proofs.sub.SubRenderer.new_block.Goals as goal
 
 pub returns-clause-fresh : goal.returns-clause-fresh

@@ -3,13 +3,13 @@ use Rattle.std.specs.Prelude.{chars}
 use Rattle.std.proofs.lemmas.List.{map-append}
 use Rattle.std.proofs.lemmas.Result.{on_ok_weaker}
 use Rattle.tbr_model.specs.Mapped.{map_item}
-use Rattle.tbr_lines.specs.Copies.{equal_lists}
-use Rattle.tbr_lines.specs.Elements.{items_of, text_items}
-use Rattle.tbr_lines.specs.View.{chars_of}
-use Rattle.tbr_lines.proofs.MappedTags.{means_same_items}
+use Rattle.tbr_tagged.specs.Copies.{equal_lists}
+use Rattle.tbr_tagged.specs.Elements.{items_of, text_items}
+use Rattle.tbr_tagged.specs.View.{chars_of}
+use Rattle.tbr_tagged.proofs.MappedTags.{means_same_items}
 use Rattle.tbr_footnotes.specs.Tags.{tag_meant, items_meant}
 use Rattle.tbr_footnotes.proofs.Tags.{tags_mean, text_items-map}
-use Rattle.tbr_renderer.proofs.Appending.{no_prefix}
+use Rattle.tbr_renderer.proofs.AppendedLines.{no_prefix}
 use Rattle.tbr_renderer.proofs.sub.SubRenderer.put_in_front.Goals as goal
 
 pub returns-then-is_empty-clause-items : goal.returns-then-is_empty-clause-items

@@ -1,9 +1,9 @@
 use Rattle.std.proofs.Common.{map, refl}
 use Rattle.std.proofs.lemmas.Result.{on_ok_weaker}
-use Rattle.tbr_lines.specs.Elements.{items_of}
+use Rattle.tbr_tagged.specs.Elements.{items_of}
 use Rattle.tbr_rows.specs.Meant.{row_meant}
 use Rattle.tbr_footnotes.specs.Tags.{tag_meant, items_meant}
-use Rattle.tbr_renderer.proofs.Rowing.{row_put}
+use Rattle.tbr_renderer.proofs.MeantRows.{row_put}
 use Rattle.tbr_renderer.proofs.sub.SubRenderer.put_row.Goals as goal
 
 pub returns-clause-row : goal.returns-clause-row

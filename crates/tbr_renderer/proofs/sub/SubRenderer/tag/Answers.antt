@@ -1,6 +1,6 @@
 use Rattle.std.proofs.Common.{ap, sym, ◌∙◌, map}
 use Rattle.std.specs.Global.{Vec}
-use Rattle.tbr_lines.proofs.Copies.{list_copies_equal}
+use Rattle.tbr_tagged.proofs.Copies.{list_copies_equal}
 use Rattle.tbr_renderer.specs.Renderer.{Renderer}
 use Rattle.tbr_footnotes.proofs.Tags.{lists_mean}
 use Rattle.tbr_renderer.proofs.sub.SubRenderer.tag.Goals as goal

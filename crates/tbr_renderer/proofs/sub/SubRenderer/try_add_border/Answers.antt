@@ -1,6 +1,6 @@
 use Rattle.std.proofs.Common.{◌∙◌, ap, replicate}
-use Rattle.tbr_lines.specs.Border.{without_holes}
-use Rattle.tbr_lines.specs.Cell.{horizontal}
+use Rattle.tbr_border.specs.Border.{without_holes}
+use Rattle.tbr_border.specs.Cell.{horizontal}
 use Rattle.tbr_renderer.specs.Meant.{meant}
 use Rattle.tbr_renderer.specs.Renderer.{Settings}
 use Rattle.tbr_renderer.specs.Appended.{with_border}

@@ -3,12 +3,12 @@ use Rattle.std.specs.Global.{Vec}
 use Rattle.std.specs.String.{string_bytes}
 use Rattle.tbr_model.specs.Rule.{entry}
 use Rattle.tbr_model.specs.Run.{marker_entry}
-use Rattle.tbr_lines.specs.Block.{Block, after_marker}
-use Rattle.tbr_lines.specs.Outcome.{done}
+use Rattle.tbr_wrap.specs.Block.{Block, after_marker}
+use Rattle.tbr_tagged.specs.Outcome.{done}
 use Rattle.tbr_renderer.specs.Meant.{meant}
 use Rattle.tbr_renderer.specs.Renderer.{Renderer, with_events, block_width, may_overflow}
 use Rattle.tbr_renderer.specs.View.{IsFresh}
-use Rattle.tbr_renderer.proofs.Writing.{fresh_marked, marked, marker_added}
+use Rattle.tbr_renderer.proofs.JoinedTexts.{fresh_marked, marked, marker_added}
 use Rattle.tbr_renderer.proofs.sub.SubRenderer.try_add_marker.Goals as goal
 
 pub put_block-requires : goal.put_block-requires

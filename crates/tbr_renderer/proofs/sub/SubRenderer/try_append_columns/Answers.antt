@@ -2,7 +2,7 @@ use Rattle.std.proofs.Common.{map}
 use Rattle.tbr_rows.specs.Meant.{map_cell}
 use Rattle.tbr_footnotes.specs.Tags.{tag_meant}
 use Rattle.tbr_renderer.specs.Meant.{meant}
-use Rattle.tbr_renderer.proofs.Rowing.{still_fits, stand_meant}
+use Rattle.tbr_renderer.proofs.MeantRows.{still_fits, stand_meant}
 use Rattle.tbr_renderer.proofs.sub.SubRenderer.try_append_columns.Goals as goal
 
 pub add_row-requires-clause-fits : goal.add_row-requires-clause-fits

@@ -4,7 +4,7 @@ use Rattle.tbr_renderer.specs.Meant.{map_line, meant}
 use Rattle.tbr_renderer.specs.Renderer.{Settings, with_line}
 use Rattle.tbr_kept_lines.specs.Line.{line_seen}
 use Rattle.tbr_renderer.specs.Appended.{GivesFirst, texts_of, prefixed}
-use Rattle.tbr_renderer.proofs.Appending.{unfailed, length-seen}
+use Rattle.tbr_renderer.proofs.AppendedLines.{unfailed, length-seen}
 use Rattle.tbr_renderer.proofs.sub.SubRenderer.try_append_subrender.Goals as goal
 
 pub returns-clause-ok : goal.returns-clause-ok

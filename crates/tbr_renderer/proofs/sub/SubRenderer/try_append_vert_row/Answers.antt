@@ -2,7 +2,7 @@ use Rattle.tbr_renderer.specs.Meant.{meant}
 use Rattle.tbr_renderer.specs.Appended.{with_divider}
 use Rattle.tbr_renderer.proofs.sub.SubRenderer.try_append_vert_row.Goals as goal
 use Rattle.std.proofs.Common.{◌∙◌, ap}
-use Rattle.tbr_lines.specs.Cell.{horizontal}
+use Rattle.tbr_border.specs.Cell.{horizontal}
 
 pub returns-clause-ok : goal.returns-clause-ok
 returns-clause-ok g c =

@@ -1,6 +1,6 @@
 use Rattle.std.proofs.Common.{◌∙◌, ap, chars}
 use Rattle.tbr_renderer.specs.Meant.{meant}
-use Rattle.tbr_renderer.proofs.Opened.{text_as}
+use Rattle.tbr_renderer.proofs.DecoratedText.{text_as}
 use Rattle.tbr_renderer.proofs.sub.SubRenderer.try_close.Goals as goal
 
 pub returns-clause-ok : goal.returns-clause-ok

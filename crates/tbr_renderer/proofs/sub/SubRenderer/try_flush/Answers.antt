@@ -1,15 +1,15 @@
 use Rattle.std.proofs.Common.{◌≡◌, Some, Result, Err, map, refl, arith, ap, sym, ◌∙◌, subst}
 use Rattle.std.specs.Result.{IsErrAnd}
 use Rattle.std.specs.Global.{Vec}
-use Rattle.tbr_lines.specs.Block.{Block, loose}
-use Rattle.tbr_lines.specs.View.{element_of}
-use Rattle.tbr_lines.specs.declared.Error.{Error}
-use Rattle.tbr_lines.specs.declared.Error.TheVariants as E
-use Rattle.tbr_lines.proofs.BlockLaws.{flush_in_two, flush_leaves, none_open_taken}
-use Rattle.tbr_lines.proofs.Copies.{list_copies_equal}
+use Rattle.tbr_wrap.specs.Block.{Block, loose}
+use Rattle.tbr_tagged.specs.View.{element_of}
+use Rattle.tbr_tagged.specs.declared.Error.{Error}
+use Rattle.tbr_tagged.specs.declared.Error.TheVariants as E
+use Rattle.tbr_wrap.proofs.runs.BlockLaws.{flush_in_two, flush_leaves, none_open_taken}
+use Rattle.tbr_tagged.proofs.Copies.{list_copies_equal}
 use Rattle.tbr_renderer.specs.Renderer.{block_width, may_overflow}
 use Rattle.tbr_renderer.specs.View.{block_seen, names_of, IsFresh}
-use Rattle.tbr_renderer.proofs.Flushing.{markers_named, are_markers, block_flushed, block_refused}
+use Rattle.tbr_renderer.proofs.BlockEnds.{markers_named, are_markers, block_flushed, block_refused}
 use Rattle.tbr_renderer.proofs.sub.SubRenderer.try_flush.Goals as goal
 
 pub flush-requires : goal.flush-requires

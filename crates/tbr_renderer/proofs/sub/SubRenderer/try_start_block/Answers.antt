@@ -1,5 +1,5 @@
 use Rattle.tbr_renderer.specs.Meant.{meant}
-use Rattle.tbr_renderer.proofs.Flushing.{start_width}
+use Rattle.tbr_renderer.proofs.BlockEnds.{start_width}
 use Rattle.tbr_renderer.proofs.sub.SubRenderer.try_start_block.Goals as goal
 
 pub returns-clause-columns : goal.returns-clause-columns

@@ -1,12 +1,12 @@
 use Rattle.std.proofs.Common.{◌≡◌, true, false, ap, sym, ◌∙◌, subst, chars, ℕ, List, Err}
 use Rattle.std.specs.Prelude.{OnOk}
 use Rattle.std.specs.Global.{Vec}
-use Rattle.tbr_lines.specs.declared.Error.TheVariants as E
+use Rattle.tbr_tagged.specs.declared.Error.TheVariants as E
 use Rattle.tbr_renderer.specs.Meant.{meant}
 use Rattle.tbr_renderer.specs.Renderer.{Renderer, struck, entries_under, called, with_more}
 use Rattle.tbr_renderer.specs.View.{block_meant}
 use Rattle.tbr_renderer.specs.Flush.{fits_grown}
-use Rattle.tbr_renderer.proofs.Texts.{struck_none}
+use Rattle.tbr_renderer.proofs.StruckTexts.{struck_none}
 use Rattle.tbr_renderer.proofs.sub.SubRenderer.write.Goals as goal
 
 pub returns-then-self-eq0-clause-written : goal.returns-then-self-eq0-clause-written

@@ -1,8 +1,8 @@
 use Rattle.std.proofs.Common.{chars, refl, arith}
 use Rattle.std.proofs.lemmas.Result.{on_ok_weaker}
-use Rattle.tbr_lines.proofs.BlockLaws.{text_in_two}
-use Rattle.tbr_lines.proofs.Copies.{list_copies_equal}
-use Rattle.tbr_renderer.proofs.Writing.{fresh_written, written, goes_on, stops}
+use Rattle.tbr_wrap.proofs.runs.BlockLaws.{text_in_two}
+use Rattle.tbr_tagged.proofs.Copies.{list_copies_equal}
+use Rattle.tbr_renderer.proofs.JoinedTexts.{fresh_written, written, goes_on, stops}
 use Rattle.tbr_renderer.proofs.sub.SubRenderer.write_under.Goals as goal
 
 pub add_text-requires : goal.add_text-requires

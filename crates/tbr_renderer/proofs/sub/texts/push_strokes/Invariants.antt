@@ -1,5 +1,5 @@
 use Rattle.std.proofs.Common.{◌≡◌, ◌++◌, replicate}
-use Rattle.tbr_lines.specs.View.{chars_of}
+use Rattle.tbr_tagged.specs.View.{chars_of}
 use Rattle.tbr_renderer.specs.Renderer.{stroke}
 use Rattle.tbr_renderer.proofs.sub.texts.push_strokes.Given as goal
 

@@ -3,7 +3,7 @@ use Rattle.std.proofs.lemmas.Iterator.{YieldsList-from_chars}
 use Rattle.std.proofs.lemmas.Iterator.Consumers.{YieldsList-end}
 use Rattle.std.proofs.lemmas.Str.{chars-nil}
 use Rattle.tbr_renderer.specs.Renderer.{struck, struck_character}
-use Rattle.tbr_renderer.proofs.Texts.{struck_more}
+use Rattle.tbr_renderer.proofs.StruckTexts.{struck_more}
 use Rattle.tbr_renderer.proofs.sub.texts.struck_text.Goals as goal
 
 pub loop-c-init : goal.loop-c-init

@@ -1,5 +1,5 @@
 use Rattle.std.proofs.Common.{◌≡◌}
-use Rattle.tbr_lines.specs.View.{chars_of}
+use Rattle.tbr_tagged.specs.View.{chars_of}
 use Rattle.tbr_renderer.specs.Renderer.{struck}
 use Rattle.tbr_renderer.proofs.sub.texts.struck_text.Given as goal
 

@@ -1,6 +1,6 @@
 use Rattle.std.proofs.Common.{◌≡◌, ◌<◌, ◌+◌, ℕ, List, [], ◌∷◌, ◌++◌, length, length-append, sym, ap, ◌∙◌, subst}
 use Rattle.std.specs.List.{AllByRecursion as Each}
-use Rattle.tbr_lines.specs.declared.CellAlign.{CellAlign}
+use Rattle.tbr_tagged.specs.declared.CellAlign.{CellAlign}
 use Rattle.tbr_model.proofs.lists.Each.{each_append}
 use Rattle.text_block_renderer.specs.Renderer.{Renderer}
 use Rattle.tbr_runner.specs.Progress.{Pending}

@@ -3,7 +3,7 @@ use Rattle.tbr_decor.specs.Decoration.{decoration_of}
 use Rattle.tbr_runner.specs.Progress.{progress_meant, IsLive, GoesOn}
 use Rattle.tbr_runner.specs.Meaning.{RowRefuses}
 use Rattle.tbr_runner.proofs.Levels.{with_top_live, top_live}
-use Rattle.tbr_runner.proofs.Live.{row_live}
+use Rattle.tbr_runner.proofs.LivePrograms.{row_live}
 use Rattle.tbr_runner.proofs.Rows.{same_some, fits_there, row_unfit, row_refused, row_done}
 use Rattle.tbr_runner.proofs.Results.{refused_by}
 use Rattle.tbr_runner.proofs.program.Program.add_row.Goals as goal

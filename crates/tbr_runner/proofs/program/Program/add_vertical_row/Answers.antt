@@ -4,8 +4,8 @@ use Rattle.text_block_renderer.specs.Calls.{append_vert_row}
 use Rattle.tbr_runner.specs.Progress.{progress_meant, IsLive, GoesOn}
 use Rattle.tbr_runner.specs.Meaning.{VerticalRowRefuses}
 use Rattle.tbr_runner.proofs.Levels.{with_top_live, top_live}
-use Rattle.tbr_runner.proofs.Live.{steady_live}
-use Rattle.tbr_runner.proofs.Meant.{vertical_done, vertical_refused}
+use Rattle.tbr_runner.proofs.LivePrograms.{steady_live}
+use Rattle.tbr_runner.proofs.MeantCommands.{vertical_done, vertical_refused}
 use Rattle.tbr_runner.proofs.Results.{refused_by}
 use Rattle.tbr_runner.proofs.program.Program.add_vertical_row.Goals as goal
 

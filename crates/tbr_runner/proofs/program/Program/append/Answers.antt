@@ -4,8 +4,8 @@ use Rattle.text_block_renderer.specs.Calls.{append_subrender}
 use Rattle.tbr_runner.specs.Progress.{progress_meant, GoesOn}
 use Rattle.tbr_runner.specs.Meaning.{AppendRefuses}
 use Rattle.tbr_runner.proofs.Levels.{with_top_live, top_live}
-use Rattle.tbr_runner.proofs.Live.{steady_live}
-use Rattle.tbr_runner.proofs.Meant.{no_sub, cells_in_sub, some_opened, none_waits, lines_appended, lines_refused}
+use Rattle.tbr_runner.proofs.LivePrograms.{steady_live}
+use Rattle.tbr_runner.proofs.MeantCommands.{no_sub, cells_in_sub, some_opened, none_waits, lines_appended, lines_refused}
 use Rattle.tbr_runner.proofs.Results.{refused_by}
 use Rattle.tbr_runner.proofs.program.Program.append.Goals as goal
 

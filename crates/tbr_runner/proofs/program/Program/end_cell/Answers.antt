@@ -1,5 +1,5 @@
 use Rattle.std.proofs.Common.{◌≡◌, false}
-use Rattle.tbr_runner.proofs.Meant.{no_cell, cells_in_cell, some_opened, none_waits, cell_waits}
+use Rattle.tbr_runner.proofs.MeantCommands.{no_cell, cells_in_cell, some_opened, none_waits, cell_waits}
 use Rattle.tbr_runner.proofs.program.Program.end_cell.Goals as goal
 
 pub returns-in_default-clause-refused : goal.returns-in_default-clause-refused

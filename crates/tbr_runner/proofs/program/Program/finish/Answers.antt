@@ -3,7 +3,7 @@ use Rattle.tbr_decor.specs.Decoration.{decoration_of}
 use Rattle.tbr_runner.specs.Progress.{progress_meant, GoesOn}
 use Rattle.tbr_runner.specs.Meaning.{Ends}
 use Rattle.tbr_runner.proofs.Levels.{only_level, top_live}
-use Rattle.tbr_runner.proofs.Meant.{still_open, end_refused, end_text}
+use Rattle.tbr_runner.proofs.MeantCommands.{still_open, end_refused, end_text}
 use Rattle.tbr_runner.proofs.Results.{refused_by}
 use Rattle.tbr_runner.proofs.program.Program.finish.Goals.{then-not-is_empty-via-then-not-is_empty, then-not-is_empty-via-else-not-is_empty+then-has_cells}
 use Rattle.tbr_runner.proofs.program.Program.finish.Goals as goal

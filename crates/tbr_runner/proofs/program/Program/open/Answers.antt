@@ -1,6 +1,6 @@
 use Rattle.std.proofs.Common.{◌∷◌, ap, ◌∙◌}
 use Rattle.tbr_decor.specs.Decoration.{decoration_of}
-use Rattle.tbr_runner.proofs.Meant.{opens_meant}
+use Rattle.tbr_runner.proofs.MeantCommands.{opens_meant}
 use Rattle.tbr_runner.proofs.program.Program.open.Goals as goal
 
 pub returns-clause-done : goal.returns-clause-done

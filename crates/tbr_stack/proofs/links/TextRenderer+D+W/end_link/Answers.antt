@@ -1,10 +1,10 @@
 use Rattle.std.proofs.Common.{◌≡◌, sym, subst, ap, ◌∙◌}
 use Rattle.tbr_decor.specs.Decoration.{decoration_of}
-use Rattle.tbr_lines.specs.declared.Error.TheVariants.{TooNarrow}
+use Rattle.tbr_tagged.specs.declared.Error.TheVariants.{TooNarrow}
 use Rattle.tbr_renderer.specs.Meant.{meant}
 use Rattle.tbr_renderer.specs.Renderer.{kept_of}
-use Rattle.tbr_renderer.proofs.Appending.{passed_on}
-use Rattle.tbr_renderer.proofs.Stages.{on_err}
+use Rattle.tbr_renderer.proofs.AppendedLines.{passed_on}
+use Rattle.tbr_renderer.proofs.Refusals.{on_err}
 use Rattle.tbr_stack.specs.Links.{EndsWith, EndIsTooNarrowWith}
 use Rattle.tbr_stack.specs.Stack.{with_top}
 use Rattle.tbr_stack.specs.Top.{stack_meant}

@@ -2,8 +2,8 @@ use Rattle.std.proofs.Common.{◌≡◌, Some, chars, inl, inr, sym, subst, ap, 
 use Rattle.std.proofs.lemmas.Result.{on_ok_weaker, on_err_weaker}
 use Rattle.tbr_renderer.specs.Meant.{meant}
 use Rattle.tbr_renderer.specs.Renderer.{kept_of}
-use Rattle.tbr_renderer.proofs.Stages.{on_err}
-use Rattle.tbr_lines.specs.declared.Error.TheVariants.{OutOfMemory}
+use Rattle.tbr_renderer.proofs.Refusals.{on_err}
+use Rattle.tbr_tagged.specs.declared.Error.TheVariants.{OutOfMemory}
 use Rattle.tbr_stack.specs.Stack.{top_of}
 use Rattle.tbr_stack.specs.Top.{ChangesTop, stack_meant}
 use Rattle.tbr_stack.proofs.Tops.{failure_of_top, top_linked, changes_linked, step_meant, of_top, if_ok, if_err}

@@ -1,6 +1,6 @@
 use Rattle.std.proofs.Common.{◌<◌, ◌-◌, length, map, refl, ap, ◌∙◌}
 use Rattle.std.proofs.lemmas.List.{length-reverse}
-use Rattle.tbr_lines.specs.View.{chars_of}
+use Rattle.tbr_tagged.specs.View.{chars_of}
 use Rattle.tbr_stack.specs.Links.{closed, without_open_link}
 use Rattle.tbr_stack.proofs.Levels.{IsLast, last_at, changed_by}
 use Rattle.tbr_stack.proofs.stack.Stack.close_link.Goals as goal

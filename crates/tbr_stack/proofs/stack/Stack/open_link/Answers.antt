@@ -1,6 +1,6 @@
 use Rattle.std.proofs.Common.{◌≡◌, ◌<◌, ◌-◌, ◌+◌, ◌++◌, ◌∷◌, [], length, map, reverse, chars, refl, sym, ap, ◌∙◌}
 use Rattle.std.proofs.lemmas.List.{length-reverse, length-map, map-append}
-use Rattle.tbr_lines.specs.View.{chars_of}
+use Rattle.tbr_tagged.specs.View.{chars_of}
 use Rattle.tbr_stack.specs.Stack.{in_first}
 use Rattle.tbr_stack.specs.Links.{opened, with_link}
 use Rattle.tbr_stack.proofs.Levels.{IsLast, last_at, changed_by}

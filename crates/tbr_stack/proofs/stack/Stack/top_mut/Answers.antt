@@ -1,6 +1,6 @@
 use Rattle.std.proofs.Common.{◌<◌, ◌-◌, length, map, Some, refl, sym, ap, ◌∙◌}
 use Rattle.std.proofs.lemmas.List.{length-reverse}
-use Rattle.tbr_lines.specs.View.{chars_of}
+use Rattle.tbr_tagged.specs.View.{chars_of}
 use Rattle.tbr_stack.specs.Stack.{with_top, top_of, first_renderer}
 use Rattle.tbr_stack.proofs.Levels.{IsLast, last_at, changed_by}
 use Rattle.tbr_stack.proofs.stack.Stack.top_mut.Goals as goal

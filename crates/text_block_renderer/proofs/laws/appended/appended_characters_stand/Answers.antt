@@ -1,4 +1,4 @@
-use Rattle.text_block_renderer.proofs.Laying.{characters_behind, characters_indented}
+use Rattle.text_block_renderer.proofs.LaidTexts.{characters_behind, characters_indented}
 use Rattle.text_block_renderer.proofs.laws.appended.appended_characters_stand.Goals as goal
 
 pub returns : goal.returns

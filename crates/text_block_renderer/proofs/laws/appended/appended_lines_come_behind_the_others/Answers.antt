@@ -1,4 +1,4 @@
-use Rattle.text_block_renderer.proofs.Laying.{appended_behind}
+use Rattle.text_block_renderer.proofs.LaidTexts.{appended_behind}
 use Rattle.text_block_renderer.proofs.laws.appended.appended_lines_come_behind_the_others.Goals as goal
 
 pub returns : goal.returns

@@ -1,4 +1,4 @@
-use Rattle.text_block_renderer.proofs.Nesting.{nested_line, nested_count, hand_on}
+use Rattle.text_block_renderer.proofs.NestedLines.{nested_line, nested_count, hand_on}
 use Rattle.text_block_renderer.proofs.laws.appended.nested_blocks_are_their_prefixes_and_lines.Goals as goal
 
 pub returns : goal.returns

@@ -1,4 +1,4 @@
-use Rattle.text_block_renderer.proofs.Taking.{all_within, brought_within}
+use Rattle.text_block_renderer.proofs.TakenLines.{all_within, brought_within}
 use Rattle.text_block_renderer.proofs.laws.appended.nothing_visible_is_lost_to_any_depth.Goals as goal
 
 pub returns : goal.returns

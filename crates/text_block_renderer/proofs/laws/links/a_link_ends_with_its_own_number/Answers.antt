@@ -1,4 +1,4 @@
-use Rattle.text_block_renderer.proofs.Linking.{own_number, number_of_one}
+use Rattle.text_block_renderer.proofs.LinkNumbers.{own_number, number_of_one}
 use Rattle.text_block_renderer.proofs.laws.links.a_link_ends_with_its_own_number.Goals as goal
 
 pub returns : goal.returns

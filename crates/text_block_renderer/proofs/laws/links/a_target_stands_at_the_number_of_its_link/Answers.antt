@@ -1,4 +1,4 @@
-use Rattle.text_block_renderer.proofs.Linking.{targets_come, own_place, footnote_at}
+use Rattle.text_block_renderer.proofs.LinkNumbers.{targets_come, own_place, footnote_at}
 use Rattle.text_block_renderer.proofs.laws.links.a_target_stands_at_the_number_of_its_link.Goals as goal
 
 pub returns : goal.returns

@@ -5,9 +5,9 @@ use Rattle.std.proofs.lemmas.Result.{on_ok_weaker}
 use Rattle.tbr_renderer.specs.Meant.{meant}
 use Rattle.tbr_renderer.specs.Renderer.{Renderer, Settings, kept_of}
 use Rattle.tbr_renderer.specs.Rows.{GivenCell, align_in, AppendsRow}
-use Rattle.tbr_renderer.proofs.Stages.{on_err}
-use Rattle.tbr_renderer.proofs.Kept.{kept_ok, kept_fails, refused_fails}
-use Rattle.tbr_renderer.proofs.Rowing.{Gives, all_aligned}
+use Rattle.tbr_renderer.proofs.Refusals.{on_err}
+use Rattle.tbr_renderer.proofs.KeptRefusals.{kept_ok, kept_fails, refused_fails}
+use Rattle.tbr_renderer.proofs.MeantRows.{Gives, all_aligned}
 use Rattle.tbr_renderer.proofs.sub.calls.SubRendererRenderer.append_columns_aligned.Goals as goal
 
 pub returns-clause-ok : goal.returns-clause-ok

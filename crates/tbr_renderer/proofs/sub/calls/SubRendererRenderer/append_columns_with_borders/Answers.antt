@@ -3,13 +3,13 @@ use Rattle.std.specs.Prelude.{replicate}
 use Rattle.std.specs.List.{AllZip}
 use Rattle.std.specs.Global.{Vec}
 use Rattle.std.proofs.lemmas.Result.{on_ok_weaker}
-use Rattle.tbr_lines.specs.declared.CellAlign.TheVariants.{Left}
+use Rattle.tbr_tagged.specs.declared.CellAlign.TheVariants.{Left}
 use Rattle.tbr_renderer.specs.Meant.{meant}
 use Rattle.tbr_renderer.specs.Renderer.{Renderer, Settings, kept_of}
 use Rattle.tbr_renderer.specs.Rows.{GivenCell, align_in, AppendsRow}
-use Rattle.tbr_renderer.proofs.Stages.{on_err}
-use Rattle.tbr_renderer.proofs.Kept.{kept_ok, kept_fails, refused_fails}
-use Rattle.tbr_renderer.proofs.Rowing.{Gives, none_aligned}
+use Rattle.tbr_renderer.proofs.Refusals.{on_err}
+use Rattle.tbr_renderer.proofs.KeptRefusals.{kept_ok, kept_fails, refused_fails}
+use Rattle.tbr_renderer.proofs.MeantRows.{Gives, none_aligned}
 use Rattle.tbr_renderer.proofs.sub.calls.SubRendererRenderer.append_columns_with_borders.Goals as goal
 
 pub returns-clause-ok : goal.returns-clause-ok

@@ -3,7 +3,7 @@ use Rattle.tbr_decor.specs.Decoration.{decoration_of}
 use Rattle.tbr_renderer.specs.Meant.{meant}
 use Rattle.tbr_renderer.specs.Renderer.{Renderer, kept_of}
 use Rattle.tbr_renderer.specs.Calls.{end_strikeout, Does, IsTooNarrow}
-use Rattle.tbr_renderer.proofs.Kept.{kept_answers}
+use Rattle.tbr_renderer.proofs.KeptRefusals.{kept_answers}
 use Rattle.tbr_renderer.proofs.sub.calls.SubRendererRenderer.end_strikeout.Goals as goal
 
 pub returns : goal.returns

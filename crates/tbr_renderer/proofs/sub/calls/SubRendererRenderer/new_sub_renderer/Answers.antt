@@ -2,7 +2,7 @@ use Rattle.std.proofs.Common.{ap, ◌∙◌}
 use Rattle.std.specs.Global.{Vec}
 use Rattle.tbr_decor.specs.Decoration.{decoration_of}
 use Rattle.tbr_renderer.specs.Renderer.{Renderer}
-use Rattle.tbr_renderer.proofs.Opened.{sub_made}
+use Rattle.tbr_renderer.proofs.DecoratedText.{sub_made}
 use Rattle.tbr_renderer.proofs.sub.calls.SubRendererRenderer.new_sub_renderer.Goals as goal
 
 pub returns-clause-sub : goal.returns-clause-sub

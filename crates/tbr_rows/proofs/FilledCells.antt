@@ -19,7 +19,7 @@ use Rattle.tbr_rows.specs.declared.column.Column.{Column}
 use Rattle.tbr_rows.specs.Filled.{FillsLine}
 use Rattle.tbr_rows.specs.Texts.{text_of_lines, filler_above}
 use Rattle.tbr_rows.specs.Shown.{DrawsInOne, LineFits, TakesColumns, FillsBelow, LinesFillCell, TakesCellColumns}
-use Rattle.tbr_rows.proofs.Standing.{width_append}
+use Rattle.tbr_rows.proofs.CellColumns.{width_append}
 
 -- characters of one column
 pub text_columns : {A : Type 0} (columns : ℕ → Option ℕ) (cs : List ℕ) (a : A) → DrawsInOne columns → Each (λ c. IsTrue (takes_one_column c)) cs → items_width columns (text_items cs a) ≡ length cs

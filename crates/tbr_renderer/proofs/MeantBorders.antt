@@ -4,7 +4,7 @@ use Rattle.std.specs.Global.{Vec}
 use Rattle.std.proofs.lemmas.List.{map-append}
 use Rattle.tbr_model.specs.Run.{Item}
 use Rattle.tbr_model.specs.Mapped.{map_items}
-use Rattle.tbr_lines.specs.Border.{Border, shown}
+use Rattle.tbr_border.specs.Border.{Border, shown}
 use Rattle.tbr_rows.specs.Meant.{map_border}
 use Rattle.tbr_rows.proofs.MeantTexts as rows
 use Rattle.tbr_renderer.specs.Meant.{map_line, meant}

@@ -12,12 +12,12 @@ use Rattle.tbr_model.specs.declared.white_space.WhiteSpace.TheVariants.{Normal, 
 use Rattle.tbr_model.specs.Shown.{without_spaces, is_visible_or_marker, is_entry_to_show, ShowsEntry}
 use Rattle.tbr_model.specs.Rule.{is_space_item, run_of, Event}
 use Rattle.tbr_model.proofs.lists.Each.{each_front, each_back}
-use Rattle.tbr_lines.specs.Border.{Border, without_holes}
-use Rattle.tbr_lines.specs.Cell.{Cell}
-use Rattle.tbr_lines.specs.Elements.{text_items}
-use Rattle.tbr_lines.specs.Padding.{spaces}
-use Rattle.tbr_lines.specs.Runs.{IsNormal, AreLastOf, EndsRun}
-use Rattle.tbr_lines.proofs.SameItems.{all_zip_append}
+use Rattle.tbr_border.specs.Border.{Border, without_holes}
+use Rattle.tbr_border.specs.Cell.{Cell}
+use Rattle.tbr_tagged.specs.Elements.{text_items}
+use Rattle.tbr_tagged.specs.Padding.{spaces}
+use Rattle.tbr_wrap.specs.Runs.{IsNormal, AreLastOf, EndsRun}
+use Rattle.tbr_tagged.proofs.SameItems.{all_zip_append}
 use Rattle.tbr_decor.specs.Decoration.{Decoration}
 use Rattle.tbr_kept_lines.specs.Line.{Line}
 use Rattle.tbr_renderer.specs.Renderer.{Open, Renderer, new_renderer, open_block, open_run, with_line, with_events, block_width, may_overflow}
@@ -28,10 +28,10 @@ use Rattle.tbr_renderer.specs.Calls.{Call, laid_entries, Brings, text_of_lines}
 use Rattle.text_block_renderer.specs.Drawn.{WithoutDrawnBorders, borders_drawn, DrawNone}
 use Rattle.text_block_renderer.specs.MarkersStand.{items_so_far, Stands}
 use Rattle.text_block_renderer.proofs.Moves.{Move, flush, line, rule, join, turn, SameText, brought_by, Makes, no_block, undrawn}
-use Rattle.text_block_renderer.proofs.Drawing.{brings_on, brings_on_all, border_stays}
-use Rattle.tbr_renderer.proofs.Writing.{run_joined}
-use Rattle.text_block_renderer.proofs.LookingAtLines.{Looks, seen_line, seen_flushed, no_text_behind}
-use Rattle.text_block_renderer.proofs.Showing.{space_unseen}
+use Rattle.text_block_renderer.proofs.DrawnBorders.{brings_on, brings_on_all, border_stays}
+use Rattle.tbr_renderer.proofs.JoinedTexts.{run_joined}
+use Rattle.text_block_renderer.proofs.LineContents.{Looks, seen_line, seen_flushed, no_text_behind}
+use Rattle.text_block_renderer.proofs.VisibleCharacters.{space_unseen}
 
 -- ---- three ways to look at items
 

@@ -3,7 +3,7 @@ use Rattle.std.proofs.Common.{◌≡◌, ℕ, Bool, true, false, Option, Some, N
 use Rattle.tbr_model.specs.Run.{Item}
 use Rattle.tbr_decor.specs.End.{End}
 use Rattle.tbr_decor.specs.Decoration.{Decoration}
-use Rattle.tbr_lines.specs.declared.Error.{Error}
+use Rattle.tbr_tagged.specs.declared.Error.{Error}
 use Rattle.tbr_renderer.specs.Decorated.{asked_to_close, Closes}
 use Rattle.tbr_renderer.specs.Renderer.{Open, Renderer, Settings, settings_of, has_content, with_line, without_annotation, ignores}
 use Rattle.tbr_kept_lines.specs.LastBorder.{without_last}

@@ -4,10 +4,10 @@ use Rattle.std.proofs.lemmas.List.{map-append}
 use Rattle.tbr_model.specs.Run.{Item, marker, items_width}
 use Rattle.tbr_model.specs.Layout.{joined}
 use Rattle.tbr_model.specs.Markers.{marker_items}
-use Rattle.tbr_lines.specs.Border.{Border}
-use Rattle.tbr_lines.specs.Elements.{text_items}
-use Rattle.tbr_lines.specs.Padding.{spaces}
-use Rattle.tbr_lines.specs.Wrapped.{padding_of}
+use Rattle.tbr_border.specs.Border.{Border}
+use Rattle.tbr_tagged.specs.Elements.{text_items}
+use Rattle.tbr_tagged.specs.Padding.{spaces}
+use Rattle.tbr_wrap.specs.Wrapped.{padding_of}
 use Rattle.tbr_kept_lines.specs.Line.{Line, text, border}
 use Rattle.tbr_renderer.specs.Renderer.{Open, Renderer, line_padding, with_line, block_width}
 use Rattle.tbr_renderer.specs.Flush.{block_lines, flushed}

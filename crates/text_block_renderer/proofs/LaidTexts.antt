@@ -5,7 +5,7 @@ use Rattle.tbr_model.specs.Run.{Item}
 use Rattle.tbr_model.specs.Layout.{joined}
 use Rattle.tbr_model.specs.Markers.{marker_items}
 use Rattle.tbr_model.specs.Hard.{IsSpaces, is_visible, visible_glyphs}
-use Rattle.tbr_lines.specs.Elements.{text_items}
+use Rattle.tbr_tagged.specs.Elements.{text_items}
 use Rattle.tbr_decor.specs.Decoration.{Decoration}
 use Rattle.tbr_kept_lines.specs.Line.{Line, text}
 use Rattle.tbr_renderer.specs.Renderer.{Renderer, with_line}
@@ -14,7 +14,7 @@ use Rattle.tbr_renderer.specs.Appended.{as_text, prefixed}
 use Rattle.tbr_renderer.specs.Calls.{append_subrender, Does, text_of_lines}
 use Rattle.text_block_renderer.specs.Stretches.{padded_line, lines_laid}
 use Rattle.text_block_renderer.specs.Nested.{visible_behind}
-use Rattle.text_block_renderer.proofs.Showing.{space_unseen, glyphs-append, shown_line}
+use Rattle.text_block_renderer.proofs.VisibleCharacters.{space_unseen, glyphs-append, shown_line}
 
 -- ---- after prefixes
 

@@ -2,7 +2,7 @@
 use Rattle.std.proofs.Common.{unwrap_or, IfSome, ◌≡◌, ℕ, ◌≤◌, inl, inr, Bool, true, false, Option, Some, None, List, [], ◌∷◌, refl, ap, sym, subst, arith}
 use Rattle.tbr_model.specs.Rule.{run_of}
 use Rattle.tbr_model.specs.Run.{Entry, character, marker_entry}
-use Rattle.tbr_lines.specs.Runs.{CharactersFit}
+use Rattle.tbr_wrap.specs.Runs.{CharactersFit}
 use Rattle.tbr_decor.specs.Start as start
 use Rattle.tbr_decor.specs.End as end
 use Rattle.tbr_decor.specs.Decoration.{Decoration}
@@ -12,7 +12,7 @@ use Rattle.tbr_renderer.specs.Renderer.{Open, Renderer, least, block_width, igno
 use Rattle.tbr_renderer.specs.Flush.{BlockIsTooNarrow, FlushIsTooNarrow}
 use Rattle.tbr_renderer.specs.Steps.{StartsBlock, TextIsTooNarrowBy, TextIsTooNarrow}
 use Rattle.tbr_renderer.specs.Calls.{Call, add_empty_line, new_line, new_line_hard, start_block, start_table, end_block, add_inline_text, push_ws, pop_ws, push_preformat, pop_preformat, record_frag_start, begin, finish, start_strikeout, end_strikeout, add_image, push_colour, pop_colour, add_border, append_subrender, append_vert_row, IsTooNarrow}
-use Rattle.tbr_renderer.proofs.Steady.{Steady, started_alike}
+use Rattle.tbr_renderer.proofs.SettingsStay.{Steady, started_alike}
 use Rattle.text_block_renderer.specs.Acts.{Act, call, row, ActIsTooNarrow}
 use Rattle.text_block_renderer.specs.Headline.{TakeTwoAtMost}
 

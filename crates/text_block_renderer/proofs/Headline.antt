@@ -14,11 +14,11 @@ use Rattle.tbr_renderer.specs.Renderer.{Renderer, least, block_width}
 use Rattle.text_block_renderer.specs.Stretches.{ended, laid, ruled}
 use Rattle.text_block_renderer.specs.Acts.{Act, ActsBring, Piece, part, put, cells_in, rows_in, IsPiece}
 use Rattle.text_block_renderer.specs.Headline.{NoLayoutIsAhead, StandsOnce, CellsFit, made, Headline}
-use Rattle.text_block_renderer.proofs.Stretching.{none_ahead}
-use Rattle.text_block_renderer.proofs.WideEnough.{act_fits}
+use Rattle.text_block_renderer.proofs.RunStretches.{none_ahead}
+use Rattle.text_block_renderer.proofs.TwoColumns.{act_fits}
 use Rattle.text_block_renderer.proofs.Lists.{each_unmap, each_gives}
-use Rattle.text_block_renderer.proofs.Overhanging.{Chain, cells_filled, cells_shown}
-use Rattle.text_block_renderer.proofs.Acting.{acts_along}
+use Rattle.text_block_renderer.proofs.OverhangingCells.{Chain, cells_filled, cells_shown}
+use Rattle.text_block_renderer.proofs.ActParts.{acts_along}
 
 module _ {D A : Type 0} (columns : ℕ → Option ℕ) where
   module _ (decoration : Decoration D A) where

@@ -3,17 +3,17 @@ use Rattle.std.proofs.Common.{◌≡◌, arith, ℕ, ◌-◌, suc, length, slice
 use Rattle.std.specs.Global.{Vec}
 use Rattle.std.specs.Vec.{vec_items}
 use Rattle.std.specs.List.{list_any}
-use Rattle.tbr_lines.specs.Border.{Hole, has_holes}
+use Rattle.tbr_border.specs.Border.{Hole, has_holes}
 use Rattle.std.proofs.lemmas.List.{map-append}
 use Rattle.tbr_model.specs.Run.{Item, marker, items_width}
 use Rattle.tbr_model.specs.Mapped.{map_item, map_items}
 use Rattle.tbr_model.proofs.maps.Words.{items_width-map, has_character-map}
 use Rattle.tbr_model.specs.Markers.{marker_items}
-use Rattle.tbr_lines.specs.Elements.{Element, marker_element, items_of, text_items}
-use Rattle.tbr_lines.specs.Padding.{spaces}
+use Rattle.tbr_tagged.specs.Elements.{Element, marker_element, items_of, text_items}
+use Rattle.tbr_tagged.specs.Padding.{spaces}
 use Rattle.tbr_model.specs.declared.white_space.WhiteSpace.{WhiteSpace}
-use Rattle.tbr_lines.specs.Block.{Block}
-use Rattle.tbr_lines.specs.Block as block
+use Rattle.tbr_wrap.specs.Block.{Block}
+use Rattle.tbr_wrap.specs.Block as block
 use Rattle.tbr_kept_lines.specs.Line.{Line, text, border, line_has_content}
 use Rattle.tbr_renderer.specs.Renderer.{Renderer, has_content, line_padding, with_filled, with_line, new_block, last_mode}
 use Rattle.tbr_renderer.specs.Steps.{with_empty_line, block_started}

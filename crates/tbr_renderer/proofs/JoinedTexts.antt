@@ -8,13 +8,13 @@ use Rattle.tbr_model.specs.Run.{Entry, character, marker_entry}
 use Rattle.tbr_model.specs.Rule.{Event, entry, run_of}
 use Rattle.tbr_model.specs.Mapped.{map_run, map_event, map_events}
 use Rattle.tbr_model.proofs.rule.HardLines.{run_of-append}
-use Rattle.tbr_lines.proofs.BlockLaws.{text_leaves, marker_leaves, sound_new, sound_text, sound_marked}
-use Rattle.tbr_lines.specs.declared.Error.{Error}
-use Rattle.tbr_lines.specs.declared.Error.TheVariants as E
-use Rattle.tbr_lines.specs.Block.{Block, any_line, lines, takes_no_columns, allows, text_events, grown, after_text, after_marker, IsSound}
-use Rattle.tbr_lines.specs.Block as block
-use Rattle.tbr_lines.specs.Outcome.{done, refused}
-use Rattle.tbr_lines.specs.Runs.{text_entries, CharactersFit}
+use Rattle.tbr_wrap.proofs.runs.BlockLaws.{text_leaves, marker_leaves, sound_new, sound_text, sound_marked}
+use Rattle.tbr_tagged.specs.declared.Error.{Error}
+use Rattle.tbr_tagged.specs.declared.Error.TheVariants as E
+use Rattle.tbr_wrap.specs.Block.{Block, any_line, lines, takes_no_columns, allows, text_events, grown, after_text, after_marker, IsSound}
+use Rattle.tbr_wrap.specs.Block as block
+use Rattle.tbr_tagged.specs.Outcome.{done, refused}
+use Rattle.tbr_wrap.specs.Runs.{text_entries, CharactersFit}
 use Rattle.tbr_renderer.specs.Renderer.{Open, Renderer, new_block, open_block, open_run, text_annotations, last_mode, struck, entries_under, entries_of, called, with_more, with_events, block_width, may_overflow}
 use Rattle.tbr_footnotes.specs.Tags.{tag_meant}
 use Rattle.tbr_renderer.specs.Meant.{map_open, meant}

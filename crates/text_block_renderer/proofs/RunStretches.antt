@@ -13,8 +13,8 @@ use Rattle.tbr_model.proofs.lists.Each.{each_front, each_back, each_append}
 use Rattle.tbr_model.proofs.lists.Joined.{joined-append}
 use Rattle.tbr_model.proofs.words.Items.{break_lost}
 use Rattle.tbr_model.proofs.words.KeptItems.{words_hold}
-use Rattle.tbr_lines.specs.Runs.{EndsRun}
-use Rattle.tbr_lines.specs.Wrapped.{padding_of, HasBestLines}
+use Rattle.tbr_wrap.specs.Runs.{EndsRun}
+use Rattle.tbr_wrap.specs.Wrapped.{padding_of, HasBestLines}
 use Rattle.tbr_decor.specs.Decoration.{Decoration}
 use Rattle.tbr_renderer.specs.declared.options.RenderOptions.{RenderOptions}
 use Rattle.tbr_kept_lines.specs.Line.{Line}
@@ -23,8 +23,8 @@ use Rattle.tbr_renderer.specs.Flush.{block_lines, EndsBlock, FlushesBlock, Flush
 use Rattle.tbr_renderer.specs.Calls.{Call, Steps, Brings}
 use Rattle.text_block_renderer.specs.Stretches.{line_of_text, stretch, items_on, NoneIsAhead, StandsAsStretch, StaysOpen, EndsAsStretch}
 use Rattle.text_block_renderer.proofs.Moves.{Move, flush, line, rule, join, turn, SameText, brought, MakesAll, any}
-use Rattle.text_block_renderer.proofs.Calling.{calls_move}
-use Rattle.text_block_renderer.proofs.Growing.{moves_grow, steps_grow}
+use Rattle.text_block_renderer.proofs.CallMoves.{calls_move}
+use Rattle.text_block_renderer.proofs.AddedLines.{moves_grow, steps_grow}
 
 -- ---- items of lines
 

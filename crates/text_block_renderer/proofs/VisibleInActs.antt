@@ -5,7 +5,7 @@ use Rattle.std.proofs.lemmas.List.{map-append}
 use Rattle.tbr_model.specs.Run.{Entry, Item}
 use Rattle.tbr_model.specs.Layout.{joined}
 use Rattle.tbr_model.specs.Hard.{IsShown, visible_glyphs, visible_entries}
-use Rattle.tbr_lines.specs.Border.{Border}
+use Rattle.tbr_border.specs.Border.{Border}
 use Rattle.tbr_rows.specs.Meant.{SeenRow}
 use Rattle.tbr_decor.specs.Decoration.{Decoration}
 use Rattle.tbr_renderer.specs.declared.options.RenderOptions.{RenderOptions}
@@ -13,12 +13,12 @@ use Rattle.tbr_renderer.specs.Renderer.{Renderer, with_line}
 use Rattle.tbr_kept_lines.specs.LastBorder.{before_border}
 use Rattle.tbr_renderer.specs.Rows.{border_lines, with_next, with_row}
 use Rattle.tbr_renderer.specs.Calls.{new_line, laid_entry, laid_entries, text_of_lines, Shows}
-use Rattle.tbr_renderer.proofs.Steady.{Steady, lines_added, flushed_alike}
+use Rattle.tbr_renderer.proofs.SettingsStay.{Steady, lines_added, flushed_alike}
 use Rattle.text_block_renderer.specs.Acts.{Act, call, row, ActBrings, ActsBring}
 use Rattle.text_block_renderer.proofs.Moves.{flushed_none}
 use Rattle.text_block_renderer.proofs.RowsOfCells.{text_append, cut_texts, no_texts}
-use Rattle.text_block_renderer.proofs.Showing.{shows_put, shows_rule, brings_shown_all}
-use Rattle.text_block_renderer.proofs.Acting.{alone, act_options}
+use Rattle.text_block_renderer.proofs.VisibleCharacters.{shows_put, shows_rule, brings_shown_all}
+use Rattle.text_block_renderer.proofs.ActParts.{alone, act_options}
 
 module _ {D A : Type 0} (columns : ℕ → Option ℕ) where
   -- the border above a row has no text

@@ -6,7 +6,7 @@ use Rattle.std.proofs.lemmas.List.Concat.{flat_map-append}
 use Rattle.tbr_model.specs.Run.{Entry, Item}
 use Rattle.tbr_model.specs.Layout.{joined}
 use Rattle.tbr_model.proofs.lists.Each.{each_append}
-use Rattle.tbr_lines.specs.Border.{Border}
+use Rattle.tbr_border.specs.Border.{Border}
 use Rattle.tbr_rows.specs.Meant.{SeenRow}
 use Rattle.tbr_rows.specs.declared.LineSet.{LineSet as Cell}
 use Rattle.tbr_decor.specs.Decoration.{Decoration}
@@ -17,17 +17,17 @@ use Rattle.tbr_renderer.specs.Rows.{GivenCell, border_lines, with_next, with_row
 use Rattle.tbr_kept_lines.specs.LastBorder.{before_border}
 use Rattle.tbr_renderer.specs.Appended.{border_line}
 use Rattle.tbr_renderer.specs.Calls.{Call, new_line, Does, entries_brought, Brings, laid_entries}
-use Rattle.tbr_renderer.proofs.Steady.{Steady, lines_added}
+use Rattle.tbr_renderer.proofs.SettingsStay.{Steady, lines_added}
 use Rattle.text_block_renderer.specs.Stretches.{Part, ended, laid, ruled, lines_laid, IsPart, ComesInParts}
 use Rattle.text_block_renderer.specs.Acts.{Act, call, row, rows_of, ActBrings, ActsBring, Piece, part, put, cells_in, rows_in, border_lines_of, lines_of_piece, entries_of_piece, IsPiece, StaysLine, ComesInPieces}
 use Rattle.text_block_renderer.proofs.Moves.{any, Frame, frame, frame_of_lines, flushed_none, path_width, path_options, path_hanging}
-use Rattle.text_block_renderer.proofs.Calling.{calls_move}
-use Rattle.text_block_renderer.proofs.Parting.{brings_parts}
-use Rattle.text_block_renderer.proofs.Laying.{laid_lines}
+use Rattle.text_block_renderer.proofs.CallMoves.{calls_move}
+use Rattle.text_block_renderer.proofs.LineParts.{brings_parts}
+use Rattle.text_block_renderer.proofs.LaidTexts.{laid_lines}
 use Rattle.text_block_renderer.proofs.RowsOfCells.{row_closed}
-use Rattle.text_block_renderer.proofs.Staying.{all_stay, stay_on, stay_append, top_put_back}
+use Rattle.text_block_renderer.proofs.LastingLines.{all_stay, stay_on, stay_append, top_put_back}
 use Rattle.text_block_renderer.proofs.Lists.{flat_map_map, each_map, each_gives}
-use Rattle.text_block_renderer.proofs.Overhanging.{Chain, chain_append}
+use Rattle.text_block_renderer.proofs.OverhangingCells.{Chain, chain_append}
 
 module _ {D A : Type 0} (columns : ℕ → Option ℕ) where
   rows_append : (ps qs : List (Piece D A columns)) → rows_in (ps ++ qs) ≡ rows_in ps ++ rows_in qs

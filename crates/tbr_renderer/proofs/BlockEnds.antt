@@ -7,15 +7,15 @@ use Rattle.std.specs.Option.{option_map}
 use Rattle.tbr_model.specs.Run.{Item, items_width}
 use Rattle.tbr_model.specs.Mapped.{map_item, map_lines}
 use Rattle.tbr_model.proofs.maps.Words.{items_width-map}
-use Rattle.tbr_lines.specs.Copies.{equal_lists}
-use Rattle.tbr_lines.specs.Elements.{Element, marker_element, items_of, text_items}
-use Rattle.tbr_lines.specs.Padding.{spaces}
-use Rattle.tbr_lines.specs.Block.{Block, Settings, all_lines, left, loose, flushed, without_loose, after_flush, after_taking}
-use Rattle.tbr_lines.specs.Outcome.{done, refused}
-use Rattle.tbr_lines.specs.Wrapped.{padding_of}
-use Rattle.tbr_lines.specs.declared.Error.TheVariants as E
-use Rattle.tbr_lines.proofs.LinesLeft.{handed_keeps, left_after}
-use Rattle.tbr_lines.proofs.BlockLaws.{HandsOne, flush_allowed, flush_leaves, taking_leaves, left_taken, left_flushed, waiting_loose}
+use Rattle.tbr_tagged.specs.Copies.{equal_lists}
+use Rattle.tbr_tagged.specs.Elements.{Element, marker_element, items_of, text_items}
+use Rattle.tbr_tagged.specs.Padding.{spaces}
+use Rattle.tbr_wrap.specs.Block.{Block, Settings, all_lines, left, loose, flushed, without_loose, after_flush, after_taking}
+use Rattle.tbr_tagged.specs.Outcome.{done, refused}
+use Rattle.tbr_wrap.specs.Wrapped.{padding_of}
+use Rattle.tbr_tagged.specs.declared.Error.TheVariants as E
+use Rattle.tbr_wrap.proofs.runs.LinesLeft.{handed_keeps, left_after}
+use Rattle.tbr_wrap.proofs.runs.BlockLaws.{HandsOne, flush_allowed, flush_leaves, taking_leaves, left_taken, left_flushed, waiting_loose}
 use Rattle.tbr_renderer.specs.Renderer.{KeepsSettings, settings_of, Open, Renderer, has_content, with_line, block_width, may_overflow}
 use Rattle.tbr_footnotes.specs.Tags.{tag_meant, items_meant}
 use Rattle.tbr_renderer.specs.Meant.{map_open, meant}
@@ -23,7 +23,7 @@ use Rattle.tbr_renderer.specs.View.{block_seen, block_meant, names_of, AreMarker
 use Rattle.tbr_renderer.specs.Flush.{line_meant, block_lines, lines_at_end, names_at_end, fits_at_end, EndsBlock, FlushesBlock, Flushes, BlockIsTooNarrow, FlushIsTooNarrow}
 use Rattle.tbr_renderer.specs.Steps.{block_started, StartsBlock}
 use Rattle.tbr_footnotes.proofs.Tags.{text_items-map}
-use Rattle.tbr_lines.proofs.MappedTags.{means_same_items}
+use Rattle.tbr_tagged.proofs.MappedTags.{means_same_items}
 use Rattle.tbr_renderer.proofs.MappedBlocks.{lines_meant, names_meant, fits_meant, flush_narrow, end_promised, end_narrow}
 
 -- The lines of a block that a renderer has: given ones, and the block has the others left.

@@ -5,11 +5,11 @@ use Rattle.std.specs.Prelude.{replicate}
 use Rattle.std.proofs.lemmas.List.{length-append, length-map, length-replicate}
 use Rattle.tbr_model.specs.Run.{items_width}
 use Rattle.tbr_model.proofs.lists.Each.{each_front}
-use Rattle.tbr_lines.specs.Border.{Border}
-use Rattle.tbr_lines.specs.Cell.{horizontal}
-use Rattle.tbr_lines.specs.declared.CellAlign.{CellAlign}
-use Rattle.tbr_lines.specs.declared.RenderLine.{RenderLine}
-use Rattle.tbr_lines.specs.declared.RenderLine.TheVariants.{Text, Line as Rule}
+use Rattle.tbr_border.specs.Border.{Border}
+use Rattle.tbr_border.specs.Cell.{horizontal}
+use Rattle.tbr_tagged.specs.declared.CellAlign.{CellAlign}
+use Rattle.tbr_border.specs.declared.RenderLine.{RenderLine}
+use Rattle.tbr_border.specs.declared.RenderLine.TheVariants.{Text, Line as Rule}
 use Rattle.tbr_rows.specs.declared.LineSet.{LineSet as Cell}
 use Rattle.tbr_rows.specs.Cells.{AreApart}
 use Rattle.tbr_rows.specs.Shown.{DrawsInOne}

@@ -8,12 +8,12 @@ use Rattle.tbr_model.specs.Run.{Entry, character, marker_entry, Item, glyph, mar
 use Rattle.tbr_model.specs.Layout.{joined}
 use Rattle.tbr_model.specs.Markers.{marker_items}
 use Rattle.tbr_model.specs.Hard.{is_visible, IsShown, visible_glyphs, visible_entries}
-use Rattle.tbr_lines.specs.Border.{Border, without_holes}
-use Rattle.tbr_lines.specs.Cell.{Cell}
-use Rattle.tbr_lines.specs.Elements.{text_items}
-use Rattle.tbr_lines.specs.Padding.{spaces}
-use Rattle.tbr_lines.specs.Wrapped.{padding_of}
-use Rattle.tbr_lines.proofs.SameItems.{all_zip_append}
+use Rattle.tbr_border.specs.Border.{Border, without_holes}
+use Rattle.tbr_border.specs.Cell.{Cell}
+use Rattle.tbr_tagged.specs.Elements.{text_items}
+use Rattle.tbr_tagged.specs.Padding.{spaces}
+use Rattle.tbr_wrap.specs.Wrapped.{padding_of}
+use Rattle.tbr_tagged.proofs.SameItems.{all_zip_append}
 use Rattle.tbr_kept_lines.specs.Line.{Line}
 use Rattle.tbr_renderer.specs.Renderer.{Open, Renderer, new_renderer, with_line, open_run, with_events, block_width}
 use Rattle.tbr_renderer.specs.Flush.{block_lines, FlushesBlock, lines_at_end}
@@ -23,9 +23,9 @@ use Rattle.tbr_decor.specs.Decoration.{Decoration}
 use Rattle.tbr_renderer.specs.Calls.{Call, laid_entries, Brings, text_of_lines, Shows}
 use Rattle.text_block_renderer.specs.Drawn.{AreDrawnAmong, WithoutDrawnBorders, borders_drawn, DrawNone}
 use Rattle.text_block_renderer.proofs.Moves.{Move, flush, line, rule, join, turn, brought_by, Makes, no_block, flushed_none, undrawn}
-use Rattle.text_block_renderer.proofs.Drawing.{if_drawn, if_none_drawn, moves_on, brings_on, brings_on_all, border_stays}
-use Rattle.tbr_renderer.proofs.Writing.{run_joined}
-use Rattle.text_block_renderer.proofs.LookingAtLines.{Looks, seen_line, seen_lines, no_text_behind}
+use Rattle.text_block_renderer.proofs.DrawnBorders.{if_drawn, if_none_drawn, moves_on, brings_on, brings_on_all, border_stays}
+use Rattle.tbr_renderer.proofs.JoinedTexts.{run_joined}
+use Rattle.text_block_renderer.proofs.LineContents.{Looks, seen_line, seen_lines, no_text_behind}
 use Rattle.text_block_renderer.specs.MarkersStand.{items_so_far}
 
 -- ---- items and entries

@@ -7,7 +7,7 @@ use Rattle.tbr_renderer.specs.Flush.{block_lines, FlushesBlock, lines_at_end}
 use Rattle.tbr_decor.specs.Decoration.{Decoration}
 use Rattle.tbr_renderer.specs.Calls.{Call, Steps}
 use Rattle.text_block_renderer.proofs.Moves.{Move, flush, line, rule, join, turn, Makes, MakesAll, through, any}
-use Rattle.text_block_renderer.proofs.Calling.{calls_move, steps_bring}
+use Rattle.text_block_renderer.proofs.CallMoves.{calls_move, steps_bring}
 
 abbrev pub Grows : {D A : Type 0} → Renderer D A (List A) → Renderer D A (List A) → Type 0
 Grows {D} {A} r s = (more : List (Line (List A))) × (s.lines ≡ r.lines ++ more)

@@ -4,10 +4,10 @@ use Rattle.std.specs.Global.{Vec}
 use Rattle.std.specs.Option.{option_map}
 use Rattle.std.proofs.lemmas.Bool.{and_parts}
 use Rattle.tbr_model.specs.Run.{Item}
-use Rattle.tbr_lines.specs.Runs.{is_some_list}
-use Rattle.tbr_lines.specs.Block.{Block, lines, any_line, has_no_character}
-use Rattle.tbr_lines.specs.declared.Error.{Error}
-use Rattle.tbr_lines.proofs.BlockLaws.{none_ended}
+use Rattle.tbr_wrap.specs.Runs.{is_some_list}
+use Rattle.tbr_wrap.specs.Block.{Block, lines, any_line, has_no_character}
+use Rattle.tbr_tagged.specs.declared.Error.{Error}
+use Rattle.tbr_wrap.proofs.runs.BlockLaws.{none_ended}
 use Rattle.tbr_kept_lines.specs.Line.{Line}
 use Rattle.tbr_renderer.specs.Renderer.{Open, Renderer, block_width, may_overflow}
 use Rattle.tbr_renderer.specs.Appended.{HandsOut}

@@ -6,7 +6,7 @@ use Rattle.std.proofs.lemmas.List.{length-map}
 use Rattle.std.proofs.lemmas.Option.{slice_get-map}
 use Rattle.std.proofs.lemmas.Slice.Zip.{length-zip}
 use Rattle.tbr_model.specs.Run.{Item}
-use Rattle.tbr_lines.specs.Elements.{text_items}
+use Rattle.tbr_tagged.specs.Elements.{text_items}
 use Rattle.tbr_decor.specs.Decoration.{Decoration}
 use Rattle.tbr_kept_lines.specs.Line.{Line, text}
 use Rattle.tbr_renderer.specs.Renderer.{Open, Renderer, with_line}
@@ -14,7 +14,7 @@ use Rattle.tbr_renderer.specs.Flush.{FlushesBlock}
 use Rattle.tbr_renderer.specs.Appended.{as_text, prefixed}
 use Rattle.text_block_renderer.specs.Nested.{Level, nested, IsFront, shortest, HandsOn, HandOn}
 use Rattle.text_block_renderer.proofs.Moves.{no_block}
-use Rattle.text_block_renderer.proofs.Laying.{plain_lines}
+use Rattle.text_block_renderer.proofs.LaidTexts.{plain_lines}
 
 module _ {T : Type 0} where
   prefixed_get : (tag : T) (prefixes : List (List ℕ)) (lines : List (Line T)) (i : ℕ) (prefix : List ℕ) (line : Line T) → slice_get prefixes i ≡ Some prefix → slice_get lines i ≡ Some line →

@@ -10,16 +10,16 @@ use Rattle.std.proofs.lemmas.Str.{chars-nil}
 use Rattle.std.proofs.lemmas.List.{map-append}
 use Rattle.std.proofs.lemmas.Grind.{fold-append}
 use Rattle.tbr_model.specs.Run.{Item}
-use Rattle.tbr_lines.specs.declared.Error.{Error}
-use Rattle.tbr_lines.specs.declared.Error.TheVariants.{TooNarrow}
+use Rattle.tbr_tagged.specs.declared.Error.{Error}
+use Rattle.tbr_tagged.specs.declared.Error.TheVariants.{TooNarrow}
 use Rattle.tbr_renderer.specs.Flush.{FlushIsTooNarrow}
-use Rattle.tbr_lines.specs.declared.RenderLine.{RenderLine}
-use Rattle.tbr_lines.specs.Elements.{text_items}
+use Rattle.tbr_border.specs.declared.RenderLine.{RenderLine}
+use Rattle.tbr_tagged.specs.Elements.{text_items}
 use Rattle.tbr_footnotes.specs.Tags.{tag_meant}
 use Rattle.tbr_renderer.specs.Meant.{map_line, meant}
 use Rattle.tbr_kept_lines.specs.Line.{Line, line_seen}
 use Rattle.tbr_renderer.specs.Renderer.{Renderer, Settings, KeepsSettings, with_line}
-use Rattle.tbr_lines.specs.Cell.{slash}
+use Rattle.tbr_border.specs.Cell.{slash}
 use Rattle.tbr_renderer.specs.Appended.{GivesFirst, texts_of, FirstToRefuse, as_text, prefixed, HandsOut, HoldsBack, with_divider, with_cell, with_cell_below}
 use Rattle.std.specs.List.{AllZip, AllByRecursion as Each}
 

@@ -4,8 +4,8 @@ use Rattle.std.proofs.lemmas.List.Concat.{flat_map-append}
 use Rattle.tbr_model.specs.Rule.{run_of, Event}
 use Rattle.tbr_model.specs.Run.{Entry, Item}
 use Rattle.tbr_model.proofs.lists.Each.{each_append}
-use Rattle.tbr_lines.specs.Border.{without_holes}
-use Rattle.tbr_lines.specs.Cell.{Cell}
+use Rattle.tbr_border.specs.Border.{without_holes}
+use Rattle.tbr_border.specs.Cell.{Cell}
 use Rattle.tbr_decor.specs.Decoration.{Decoration}
 use Rattle.tbr_renderer.specs.Renderer.{Open, Renderer, with_line, with_events, open_run}
 use Rattle.tbr_renderer.specs.Flush.{block_lines, EndsBlock, FlushesBlock, lines_at_end, names_at_end}
@@ -17,9 +17,9 @@ use Rattle.std.specs.Prelude.{⊤}
 use Rattle.std.specs.List.{AllByRecursion as Each}
 use Rattle.text_block_renderer.proofs.Moves as moves
 use Rattle.text_block_renderer.proofs.Moves.{Move, flush, line, rule, join, turn, brought_by, brought, ruled_by, Kind, any, undrawn, own, Fits, MayLay, MayRule, Makes, MakesAll, Frame, no_block, flush_frame}
-use Rattle.text_block_renderer.proofs.Calling.{calls_move}
-use Rattle.tbr_renderer.proofs.Writing.{run_joined}
-use Rattle.text_block_renderer.proofs.Stretching.{flush_adds}
+use Rattle.text_block_renderer.proofs.CallMoves.{calls_move}
+use Rattle.tbr_renderer.proofs.JoinedTexts.{run_joined}
+use Rattle.text_block_renderer.proofs.RunStretches.{flush_adds}
 
 flat_map_one : {X Y : Type 0} (f : X → List Y) (xs : List X) (x : X) → flat_map f (xs ++ x ∷ []) ≡ flat_map f xs ++ f x
 flat_map_one f xs x = flat_map-append f xs (x ∷ []) ∙ ap (λ ys. flat_map f xs ++ ys) (append-nil (f x))

@@ -10,16 +10,16 @@ use Rattle.std.specs.Cmp.Lexicographic.{pointwise}
 use Rattle.std.proofs.lemmas.List.{map-append, length-map, take-map, length-append, take_more, nil_from_length}
 use Rattle.tbr_model.specs.Run.{Item, items_width}
 use Rattle.tbr_model.specs.Mapped.{map_items}
-use Rattle.tbr_lines.specs.Border.{Border}
-use Rattle.tbr_lines.specs.Copies.{equal_lists}
-use Rattle.tbr_lines.specs.Elements.{items_of}
-use Rattle.tbr_lines.specs.Mapped.{MeansEqual}
-use Rattle.tbr_lines.specs.Padding.{aligned_items}
-use Rattle.tbr_lines.specs.RenderLine.{IsMergedText}
-use Rattle.tbr_lines.specs.declared.CellAlign.{CellAlign}
-use Rattle.tbr_lines.specs.declared.CellAlign.TheVariants.{Left}
-use Rattle.tbr_lines.specs.declared.RenderLine.{RenderLine}
-use Rattle.tbr_lines.specs.declared.RenderLine.TheVariants.{Text, Line as Rule}
+use Rattle.tbr_border.specs.Border.{Border}
+use Rattle.tbr_tagged.specs.Copies.{equal_lists}
+use Rattle.tbr_tagged.specs.Elements.{items_of}
+use Rattle.tbr_tagged.specs.Mapped.{MeansEqual}
+use Rattle.tbr_tagged.specs.Padding.{aligned_items}
+use Rattle.tbr_border.specs.RenderLine.{IsMergedText}
+use Rattle.tbr_tagged.specs.declared.CellAlign.{CellAlign}
+use Rattle.tbr_tagged.specs.declared.CellAlign.TheVariants.{Left}
+use Rattle.tbr_border.specs.declared.RenderLine.{RenderLine}
+use Rattle.tbr_border.specs.declared.RenderLine.TheVariants.{Text, Line as Rule}
 use Rattle.tbr_rows.specs.Cells.{AreSideBySide, IsAsFree, first_line, look, spot_of, spots_from, row_fits}
 use Rattle.tbr_rows.specs.Filled.{FillsLine, cell_behind}
 use Rattle.tbr_rows.specs.Meant.{map_border, map_cell, map_element, map_line as map_row_line, EqualIfMeant, SeenRow, row_meant, MeansRow}
@@ -38,7 +38,7 @@ use Rattle.tbr_renderer.specs.Meant.{map_line, meant}
 use Rattle.tbr_renderer.specs.Flush.{block_lines, lines_at_end, Flushes, FlushesBlock}
 use Rattle.tbr_renderer.specs.Appended.{HandsOut}
 use Rattle.tbr_renderer.specs.Rows.{is_blank, looks, spots_of, LeavesFree, GivenCell, align_in, GivesCell, FillsCell, ComesAs, aligned_as, border_lines, style_in, with_next, with_row_behind, with_row}
-use Rattle.tbr_renderer.proofs.Blank.{blank_hands_none, blank_meant}
+use Rattle.tbr_renderer.proofs.BlankRenderers.{blank_hands_none, blank_meant}
 
 -- ---- lists of annotations that mean the same are equal
 

@@ -5,10 +5,10 @@ use Rattle.std.proofs.lemmas.Grind.{fold-append}
 use Rattle.tbr_model.specs.Run.{Entry, Item}
 use Rattle.tbr_model.specs.Layout.{joined}
 use Rattle.tbr_model.specs.Hard.{IsShown, visible_glyphs, visible_entries}
-use Rattle.tbr_lines.specs.Border.{shown, without_holes}
-use Rattle.tbr_lines.specs.Padding.{spaces}
-use Rattle.tbr_lines.specs.Elements.{text_items}
-use Rattle.tbr_lines.specs.Cell.{Cell, horizontal, slash}
+use Rattle.tbr_border.specs.Border.{shown, without_holes}
+use Rattle.tbr_tagged.specs.Padding.{spaces}
+use Rattle.tbr_tagged.specs.Elements.{text_items}
+use Rattle.tbr_border.specs.Cell.{Cell, horizontal, slash}
 use Rattle.tbr_decor.specs.Decoration.{Decoration}
 use Rattle.tbr_kept_lines.specs.Line.{Line, text, border}
 use Rattle.tbr_renderer.specs.Renderer.{Renderer}
@@ -16,10 +16,10 @@ use Rattle.tbr_renderer.specs.Appended.{border_of_cells, with_border, as_text, p
 use Rattle.tbr_renderer.specs.Calls.{Call, add_empty_line, new_line, new_line_hard, start_block, start_table, end_block, add_inline_text, push_ws, pop_ws, push_preformat, pop_preformat, record_frag_start, begin, finish, start_strikeout, end_strikeout, add_image, push_colour, pop_colour, add_border, append_subrender, append_vert_row, Does, Steps, text_of_lines, Shows}
 use Rattle.text_block_renderer.specs.Drawn.{Put, as_it_is, drawn, line_put, not_drawn, WithoutDrawnBorders}
 use Rattle.text_block_renderer.specs.Taken.{StandWithin, Takes, AreTakenIn}
-use Rattle.text_block_renderer.proofs.Growing.{Grows, steps_grow}
-use Rattle.text_block_renderer.proofs.LookingAtLines.{text_of_lines-append}
-use Rattle.text_block_renderer.proofs.Showing.{glyphs-append, handed_out_less}
-use Rattle.text_block_renderer.proofs.Laying.{shown_texts, characters_appended}
+use Rattle.text_block_renderer.proofs.AddedLines.{Grows, steps_grow}
+use Rattle.text_block_renderer.proofs.LineContents.{text_of_lines-append}
+use Rattle.text_block_renderer.proofs.VisibleCharacters.{glyphs-append, handed_out_less}
+use Rattle.text_block_renderer.proofs.LaidTexts.{shown_texts, characters_appended}
 
 -- ---- lists within lists
 

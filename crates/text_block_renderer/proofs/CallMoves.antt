@@ -1,9 +1,9 @@
 -- Calls as the moves of which they consist.
 use Rattle.std.proofs.Common.{◌≡◌, ℕ, ◌-◌, inl, inr, suc, Bool, true, false, if◌then◌else◌, Option, Some, None, List, [], ◌∷◌, ◌++◌, flat_map, fold, refl, ap, sym, ◌∙◌, subst, append-nil}
-use Rattle.tbr_lines.proofs.BlockLaws.{entries_run}
+use Rattle.tbr_wrap.proofs.runs.BlockLaws.{entries_run}
 use Rattle.tbr_model.specs.Rule.{entry}
 use Rattle.tbr_model.specs.Run.{Entry, marker_entry, Item}
-use Rattle.tbr_lines.specs.Cell.{Cell}
+use Rattle.tbr_border.specs.Cell.{Cell}
 use Rattle.tbr_decor.specs.Decoration.{Decoration}
 use Rattle.tbr_decor.specs.declared.colour.Colour.{Colour}
 use Rattle.tbr_decor.specs.Start as start
@@ -22,7 +22,7 @@ use Rattle.tbr_renderer.specs.Calls.{Call, add_empty_line, new_line, new_line_ha
 use Rattle.text_block_renderer.specs.Drawn.{borders_added, AddsNoBorder}
 use Rattle.text_block_renderer.specs.Stretches.{AppendsNothing}
 use Rattle.text_block_renderer.proofs.Moves.{flush, line, join, SameText, Kind, any, undrawn, own, Fits, MayLay, MayRule, Course, Path, onward, one, stays, turned, turned_by, path_width, path_options, flushed_none}
-use Rattle.text_block_renderer.proofs.Appending.{lines_appended, border_added, cells_appended}
+use Rattle.text_block_renderer.proofs.AppendedMoves.{lines_appended, border_added, cells_appended}
 
 -- ---- kinds
 

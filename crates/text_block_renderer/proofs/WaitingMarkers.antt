@@ -7,9 +7,9 @@ use Rattle.tbr_model.specs.Markers.{names_in_items, names_in_run, marker_items, 
 use Rattle.tbr_model.specs.Hard.{is_visible}
 use Rattle.tbr_model.specs.Shown.{without_spaces}
 use Rattle.tbr_model.proofs.words.Items.{no_character_no_width, has_character-append}
-use Rattle.tbr_lines.specs.Border.{Border, without_holes}
-use Rattle.tbr_lines.specs.Runs.{IsNormal}
-use Rattle.tbr_lines.specs.Wrapped.{HasBestLines}
+use Rattle.tbr_border.specs.Border.{Border, without_holes}
+use Rattle.tbr_wrap.specs.Runs.{IsNormal}
+use Rattle.tbr_wrap.specs.Wrapped.{HasBestLines}
 use Rattle.tbr_decor.specs.Decoration.{Decoration}
 use Rattle.tbr_kept_lines.specs.Line.{Line, text, border}
 use Rattle.tbr_renderer.specs.Renderer.{Open, Renderer, with_line, block_width, may_overflow, open_run, line_padding}
@@ -19,9 +19,9 @@ use Rattle.tbr_renderer.specs.Calls.{Call, Steps}
 use Rattle.text_block_renderer.specs.Drawn.{CameWithoutDrawnBorders, borders_drawn, DrawNone}
 use Rattle.text_block_renderer.specs.MarkersStand.{items_so_far, FlushStands, first_text, WaitForText}
 use Rattle.text_block_renderer.proofs.Moves.{Move, flush, line, rule, join, turn, Makes, undrawn}
-use Rattle.text_block_renderer.proofs.Drawing.{steps_on, steps_on_all, border_stays}
-use Rattle.text_block_renderer.proofs.LookingAtLines.{marker_items-append, seen_flushed}
-use Rattle.text_block_renderer.proofs.Standing.{StandFor, at_unspaced, stand_behind, markers_stand, run_stands, waits_behind, waits_behind_kept}
+use Rattle.text_block_renderer.proofs.DrawnBorders.{steps_on, steps_on_all, border_stays}
+use Rattle.text_block_renderer.proofs.LineContents.{marker_items-append, seen_flushed}
+use Rattle.text_block_renderer.proofs.BroughtEntries.{StandFor, at_unspaced, stand_behind, markers_stand, run_stands, waits_behind, waits_behind_kept}
 
 -- ---- a run without a kept character
 

@@ -3,7 +3,7 @@ use Rattle.std.proofs.Common.{Bool, true, false, Ok, Err, ◌≡◌, ◌≢◌, 
 use Rattle.std.specs.Global.{Vec}
 use Rattle.std.specs.List.{AllZip}
 use Rattle.std.proofs.lemmas.List.{map-append}
-use Rattle.tbr_lines.specs.declared.CellAlign.{CellAlign}
+use Rattle.tbr_tagged.specs.declared.CellAlign.{CellAlign}
 use Rattle.tbr_decor.specs.Decoration.{Decoration}
 use Rattle.text_block_renderer.specs.Renderer.{Renderer}
 use Rattle.text_block_renderer.specs.Line.{Line}

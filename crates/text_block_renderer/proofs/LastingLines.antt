@@ -1,7 +1,7 @@
 -- Lines that stay where rows come: texts as they are, and borders as borders.
 use Rattle.std.proofs.Common.{◌≡◌, ℕ, ◌-◌, Bool, if◌then◌else◌, is_some, Option, Some, None, List, [], ◌∷◌, ◌++◌, take, length, suc, refl, sym, ◌∙◌, subst, arith, append-nil}
 use Rattle.std.specs.List.{AllZip}
-use Rattle.tbr_lines.specs.Border.{Border}
+use Rattle.tbr_border.specs.Border.{Border}
 use Rattle.tbr_rows.specs.declared.LineSet.{LineSet as Cell}
 use Rattle.tbr_rows.specs.Rows.{border_above}
 use Rattle.tbr_kept_lines.specs.Line.{Line, text, border}

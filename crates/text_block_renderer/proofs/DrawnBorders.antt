@@ -4,8 +4,8 @@ use Rattle.std.proofs.lemmas.List.{map-append}
 use Rattle.std.proofs.lemmas.List.Concat.{flat_map-append}
 use Rattle.tbr_model.specs.Rule.{run_of}
 use Rattle.tbr_model.specs.Run.{Entry, Item, items_width}
-use Rattle.tbr_lines.specs.Border.{Border, shown, without_holes}
-use Rattle.tbr_lines.specs.Cell.{Cell}
+use Rattle.tbr_border.specs.Border.{Border, shown, without_holes}
+use Rattle.tbr_border.specs.Cell.{Cell}
 use Rattle.tbr_decor.specs.Decoration.{Decoration}
 use Rattle.tbr_renderer.specs.declared.options.RenderOptions.{RenderOptions}
 use Rattle.tbr_kept_lines.specs.Line.{Line, text, border}
@@ -16,7 +16,7 @@ use Rattle.tbr_renderer.specs.Appended.{border_line, with_border}
 use Rattle.tbr_renderer.specs.Calls.{Call, Steps, Brings}
 use Rattle.text_block_renderer.specs.Drawn.{as_it_is, drawn, line_put, not_drawn, cells_drawn, AreDrawnAmong, WithoutDrawnBorders, CameWithoutDrawnBorders, borders_drawn, DrawNone}
 use Rattle.text_block_renderer.proofs.Moves.{Move, flush, line, rule, join, turn, brought_by, brought, brought-append, ruled_by, ruled, Makes, MakesAll, makes-append, move_options, along, through, any, undrawn}
-use Rattle.text_block_renderer.proofs.Calling.{calls_move, steps_bring}
+use Rattle.text_block_renderer.proofs.CallMoves.{calls_move, steps_bring}
 
 module _ {T : Type 0} where
   put_as_they_are : (ls : List (Line T)) → ls ≡ map line_put (map as_it_is ls)

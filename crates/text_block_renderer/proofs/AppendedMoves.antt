@@ -4,8 +4,8 @@ use Rattle.std.proofs.lemmas.List.{map-append}
 use Rattle.tbr_model.specs.Run.{Entry, Item}
 use Rattle.tbr_model.specs.Layout.{joined}
 use Rattle.tbr_model.proofs.lists.Joined.{joined-append}
-use Rattle.tbr_lines.specs.Border.{without_holes}
-use Rattle.tbr_lines.specs.Cell.{Cell, horizontal, slash}
+use Rattle.tbr_border.specs.Border.{without_holes}
+use Rattle.tbr_border.specs.Cell.{Cell, horizontal, slash}
 use Rattle.tbr_renderer.specs.declared.options.RenderOptions.{RenderOptions}
 use Rattle.text_block_renderer.specs.Drawn.{row_borders}
 use Rattle.tbr_kept_lines.specs.Line.{Line}
