@@ -1,7 +1,11 @@
 -- How a line begins.
-use Rattle.std.proofs.Common.{◌≡◌, ◌≢◌, ℕ, zero, suc, ◌<◌, ◌==◌, true, false, if◌then◌else◌, List, [], ◌∷◌, ◌++◌, length, get_or, Option, Some, None, MatchOption, codes, lit<, arith, refl, sym, ap, ◌∙◌, subst}
+use Rattle.std.proofs.Common.{◌≡◌, ◌≢◌, ℕ, zero, suc, ◌<◌, ◌==◌, true, false, if◌then◌else◌, List, [], ◌∷◌, ◌++◌, length, get_or, Option, Some, None, MatchOption, MatchResult, Result, Ok, Err, IfSome, codes, lit<, arith, rules, refl, sym, ap, ◌∙◌, subst, inr}
 use Rattle.std.specs.List.{AllByRecursion as Each}
 use Rattle.std.specs.Borrow.{Bor}
+use Rattle.std.specs.Result.{result_ok}
+use Rattle.std.specs.Str.{IsUtf8}
+use Rattle.std.proofs.lemmas.Str.{IsUtf8-append, IsUtf8-from_ascii}
+use Rattle.tbr_script.proofs.Texts.{plain_all}
 use Rattle.std.proofs.lemmas.Str.Pattern.{IsSplitOnceResult, split_after, split_parts}
 use Rattle.tbr_tagged.specs.declared.CellAlign.{CellAlign}
 use Rattle.tbr_decor.specs.Ground as ground
@@ -12,7 +16,7 @@ use Rattle.tbr_commands.specs.declared.request.beginning.Beginning.{Beginning}
 use Rattle.tbr_commands.specs.declared.request.kind.Kind.{Kind}
 use Rattle.tbr_commands.specs.Request.{Request, layout, begin, end, text, fragment, image, colour, border}
 use Rattle.tbr_commands.specs.Command.{Command, ask, link, end_link, sub, append, cell, end_cell, row, vertical_row, IsSized}
-use Rattle.tbr_commands.specs.Syntax.{layout_name, beginning_name, ending_name, IsAlone, Behind, HasArgument, IsColour, AreColumns, IsNewCell, IsRequest, IsOfLevels, IsWritten}
+use Rattle.tbr_commands.specs.Syntax.{layout_name, beginning_name, ending_name, IsAlone, Behind, HasArgument, IsColour, AreColumns, IsNewCell, IsRequest, IsOfLevels, IsWritten, IsCommand}
 
 -- ---- a name alone
 
@@ -27,6 +31,20 @@ no_name line a b c d (text t) k = k
 no_name line a b c d (fragment t) k = k
 no_name line a b c d (image s t) k = k
 no_name line a b c d (colour g c2) k = k
+
+-- ---- a text as it is written
+
+-- without a backslash a text means itself
+pub plain_command : (line bytes : List ℕ) → line ≡ codes "text " ++ bytes → IsUtf8 bytes → ((i : ℕ) → i < length bytes → get_or bytes i 0 ≢ 92) → IsCommand line (ask (text bytes))
+plain_command line bytes is utf8 none = record {
+  utf8 = subst IsUtf8 (sym is) (IsUtf8-append (codes "text ") bytes (IsUtf8-from_ascii (codes "text ") (search rules)) utf8);
+  writes = inr (bytes, is, plain_all bytes none);
+}
+
+pub plain_text : {E : Type 0} (Q : E → Type 0) (line bytes : List ℕ) (r : Result (Bor (List ℕ)) E) → line ≡ codes "text " ++ bytes → ((i : ℕ) → i < length bytes → get_or bytes i 0 ≢ 92) →
+    MatchResult r (λ s. (s.now ≡ bytes) × IsUtf8 bytes) Q → IfSome (result_ok r) (λ s. IsCommand line (ask (text s.now)))
+plain_text Q line bytes (Ok s) is none h = subst (λ bs. IsCommand line (ask (text bs))) (sym h.0) (plain_command line bytes is h.1 none)
+plain_text Q line bytes (Err e) is none h = tt
 
 -- ---- a word, a space and an argument
 

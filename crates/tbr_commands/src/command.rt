@@ -2,10 +2,12 @@
 ghost use Rattle.std.specs.Prelude.{◌≢◌, IfOk, IfSome, IfNone, codes};
 ghost use Rattle.tbr_commands.specs.Command as asked;
 ghost use Rattle.tbr_commands.specs.Command.{command_of, IsSized};
+ghost use Rattle.tbr_commands.specs.Request as requests;
 ghost use Rattle.tbr_commands.specs.Syntax.{IsOfLevels, IsCommand};
 
 use crate::command::new_cell::NewCell;
 use crate::request::Request;
+use memchr::memchr;
 use std::alloc::{AllocError, Global};
 use tbr_script::{TextPair, parse_size, unescape};
 
@@ -39,6 +41,18 @@ pub enum Command {
 }
 
 impl Command {
+    /// The text that a line asks for, where it is written without a backslash: what comes after the word and a space.
+    /// `None` of any other line. It takes no memory.
+    pub fn plain_text(line: &[u8]) -> Option<&str>
+        ensures { IfSome result (λ text. IsCommand line.now (asked.ask (requests.text text.now))) }
+    {
+        let writing = line.strip_prefix(b"text ")?;
+        match memchr(b'\\', writing) {
+            Some(_) => None,
+            None => str::from_utf8(writing).ok(),
+        }
+    }
+
     /// What a line asks for, without its newline. `Ok(None)` where it is no command. It refuses only where memory is
     /// refused.
     pub fn parse(alloc: Global, line: &[u8]) -> Result<Option<Command>, AllocError>

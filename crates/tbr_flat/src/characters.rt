@@ -96,6 +96,13 @@ impl<T> Characters<T> {
         let _ = &self.tags;
     }
 
+    /// Makes room ahead of time for placed characters of so many more bytes, if there is memory for them.
+    pub fn make_room(&mut self, bytes: usize)
+        ensures { self.new ≡ self.old }
+    {
+        self.placed.make_room(bytes);
+    }
+
     /// Places the word. It takes the time of moving its text. Where memory is refused the characters stay as they were.
     pub fn place_word(&mut self) -> Result<(), OutOfMemory>
         ensures ok { OnOk result (self.new ≡ record { placed = self.old.placed ++ self.old.word; word = [] }) }

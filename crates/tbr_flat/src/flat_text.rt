@@ -118,6 +118,13 @@ impl<T> FlatText<T> {
         Some(W::width(c).unwrap_or(0))
     }
 
+    /// Makes room ahead of time for placed characters of so many more bytes, if there is memory for them.
+    pub fn make_room(&mut self, bytes: usize)
+        ensures { self.new ≡ self.old }
+    {
+        self.text.make_room(bytes);
+    }
+
     /// Adds a marker to the word. Where memory is refused the items stay as they were.
     pub fn push_marker(&mut self, name: String) -> Result<(), OutOfMemory>
         ensures { OnOk result (self.new ≡ record self.old { word = self.old.word ++ marker (string_bytes name) ∷ [] }) }

@@ -93,6 +93,13 @@ impl TextQueue {
         text_width::<W>(self.as_str())
     }
 
+    /// Makes room for so many more bytes ahead of time, if there is memory for them.
+    pub fn make_room(&mut self, bytes: usize)
+        ensures { self.new ≡ self.old }
+    {
+        let _ = self.text.reserve(bytes);
+    }
+
     /// Adds a character. Where memory is refused the text stays as it was.
     pub fn push(&mut self, c: char) -> Result<(), OutOfMemory>
         ensures ok { OnOk result (self.new ≡ self.old ++ c ∷ []) }

@@ -1,7 +1,7 @@
 //! A script's commands, one after another.
-ghost use Rattle.std.specs.Prelude.{◌≡◌, [], ◌≢◌, ◌<◌, None, Some, Ok, Err, IfOk, IfErr, OnOk, length, map, string_bytes};
-ghost use Rattle.tbr_tagged.specs.View.{chars_of};
-ghost use Rattle.tbr_tagged.specs.declared.Error.TheVariants as Refusal;
+ghost use Rattle.std.specs.Prelude.{◌≡◌, ℕ, [], ◌≢◌, ◌<◌, None, Some, Ok, Err, IfOk, IfErr, OnOk, length, map, string_bytes};
+ghost use Rattle.tbr_lines.specs.View.{chars_of};
+ghost use Rattle.tbr_lines.specs.declared.Error.TheVariants as Refusal;
 ghost use Rattle.tbr_decor.specs.Decoration.{decoration_of};
 ghost use Rattle.text_block_renderer.specs.Renderer.{new_renderer};
 ghost use Rattle.text_block_renderer.specs.Tags.{tag_meant};
@@ -12,6 +12,7 @@ ghost use Rattle.tbr_stack.specs.Stack.{new_stack, top_of};
 ghost use Rattle.tbr_stack.specs.Top.{OfTop};
 ghost use Rattle.tbr_stack.specs.Links.{open_links};
 ghost use Rattle.tbr_commands.specs.Request.{request_of};
+ghost use Rattle.tbr_commands.specs.Request as requests;
 ghost use Rattle.tbr_commands.specs.Command.{command_of, IsSized};
 ghost use Rattle.tbr_runner.specs.Progress.{progress_meant, nothing_pending, IsSpanned, GoesOn};
 ghost use Rattle.tbr_runner.specs.declared.opened.Opener.{Opener as By};
@@ -95,6 +96,10 @@ impl<D: TextDecorator, W: CharWidth> Program<D, W> {
         if line.is_empty() {
             return Ok(());
         }
+        // A text without escapes needs no copy.
+        if let Some(text) = Command::plain_text(line) {
+            return self.add_text(text);
+        }
         match Command::parse(alloc, line)? {
             Some(command) => self.run(alloc, number, &command),
             None => Err(RunError::NotACommand(number)),
@@ -130,6 +135,20 @@ impl<D: TextDecorator, W: CharWidth> Program<D, W> {
             Command::Row { collapse } => self.add_row(alloc, number, *collapse),
             Command::VerticalRow => self.add_vertical_row(alloc),
         }
+    }
+
+    /// Adds a text to the renderer on top, as a line asks for it.
+    fn add_text(&mut self, text: &str) -> Result<(), RunError>
+        requires { GoesOn self.old }
+        ensures done { OnOk result (RequestDoes W.columns (decoration_of D.TextDecorator)
+            (progress_meant D.meaning self.old) (requests.text text.now) (progress_meant D.meaning self.new)) }
+        ensures live { OnOk result (GoesOn self.new) }
+        ensures refused { IfErr result (λ e. e ≢ RunError.OutOfMemory → (number : ℕ) →
+            RequestRefuses W.columns (decoration_of D.TextDecorator) (progress_meant D.meaning self.old) number
+            (requests.text text.now) e) }
+    {
+        self.renderers.top_mut().add_inline_text(text)?;
+        Ok(())
     }
 
     /// Does what a request asks for, on the line of this number.

@@ -9,3 +9,4 @@ pub mod SameItems
 pub mod TextBehind
 pub mod TextColumns
 pub mod TextInFront
+pub mod WideBlocks

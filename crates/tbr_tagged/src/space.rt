@@ -7,6 +7,9 @@ ghost use Rattle.tbr_tagged.specs.View.{chars_of};
 use crate::error::OutOfMemory;
 use std::alloc::Global;
 
+/// The last character that is white space.
+const LAST_SPACE: char = '\u{3000}';
+
 /// Whether a character takes space wherever it is: it is no white space, or U+00A0.
 pub fn always_takes_space(c: char) -> bool
     ensures { result ≡ model.always_takes_space c }
@@ -18,7 +21,7 @@ pub fn always_takes_space(c: char) -> bool
 pub fn is_wordbreak_point(c: char) -> bool
     ensures { result ≡ model.is_break c }
 {
-    c == '\u{200b}' || (c.is_whitespace() && c != '\u{a0}')
+    c <= LAST_SPACE && (c == '\u{200b}' || (c.is_whitespace() && c != '\u{a0}'))
 }
 
 /// A text of `count` spaces. It refuses only where memory is refused.

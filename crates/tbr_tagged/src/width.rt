@@ -3,7 +3,7 @@ ghost use Rattle.std.specs.Int.{is_in_range};
 ghost use Rattle.std.specs.Prelude.{◌≡◌, chars};
 ghost use Rattle.tbr_model.specs.Width as fixed;
 ghost use Rattle.tbr_tagged.specs.Sums.{GivesSum};
-ghost use Rattle.tbr_tagged.specs.UnicodeColumns.{unicode_columns, unicode_columns_at_most_two, unicode_columns_drawn};
+ghost use Rattle.tbr_tagged.specs.UnicodeColumns.{is_in_wide_block, unicode_columns, unicode_columns_at_most_two, unicode_columns_drawn};
 
 use crate::error::OutOfMemory;
 use tbr_model::CharWidth;
@@ -35,6 +35,9 @@ impl CharWidth for UnicodeColumns {
         if is_printable_ascii(c) {
             return Some(1);
         }
+        if is_in_wide_block(c) {
+            return Some(2);
+        }
         looked_up(c)
     }
 }
@@ -61,6 +64,20 @@ fn is_printable_ascii(c: char) -> bool
     ensures { result ≡ is_in_range 0x20 0x7E c }
 {
     c >= ' ' && c <= '~'
+}
+
+/// Whether the character is in a block whose characters all take two columns, so that they needn't be looked up. These
+/// are Han and Yi, Hangul, hiragana and katakana, their punctuation, and full-width forms.
+#[inline]
+fn is_in_wide_block(c: char) -> bool
+    ensures { result ≡ is_in_wide_block c }
+{
+    (c >= '\u{3400}' && c <= '\u{a48c}')
+        || (c >= '\u{ac00}' && c <= '\u{d7a3}')
+        || (c >= '\u{3041}' && c <= '\u{3096}')
+        || (c >= '\u{309b}' && c <= '\u{30ff}')
+        || (c >= '\u{3001}' && c <= '\u{3029}')
+        || (c >= '\u{ff01}' && c <= '\u{ff60}')
 }
 
 /// Whether the character is the space, the slash, or one that borders are drawn with.

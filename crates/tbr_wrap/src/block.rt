@@ -166,15 +166,15 @@ impl<T: Eq + Clone, W: CharWidth> WrappedBlock<T, W> {
         }
     }
 
-    /// Begins a call.
-    fn begin_call(&mut self)
+    /// Begins a call with a text of so many bytes.
+    fn begin_call(&mut self, bytes: usize)
     where
         T: Drop,
         requires { self.old.failure ≡ None }
         ensures begun { self.new ≡ grown self.old (call ∷ []) }
         ensures allowed { allows W.columns self.new (lines W.columns self.new) ≡ true }
     {
-        self.wrapper.begin_call();
+        self.wrapper.begin_call(bytes);
         self.changes = self
             .changes
             .appended(&RunChange::Called, &self.default_tag, &self.default_tag);
@@ -230,7 +230,7 @@ impl<T: Eq + Clone, W: CharWidth> WrappedBlock<T, W> {
             Answers failure_of settings_of (after self.old) self.old result self.new }
     {
         self.refusal()?;
-        self.begin_call();
+        self.begin_call(text.len());
         let mut rest = text;
         while !rest.is_empty() {
             rest = self.add_front(rest, ws_mode, main_tag, wrap_tag)?;

@@ -378,13 +378,14 @@ impl<T: Eq + Clone + Drop> Wrapper<T> {
         Ok(())
     }
 
-    /// Begins a call. It has the continuation tag where the flag is on.
-    pub fn begin_call(&mut self)
+    /// Begins a call with a text of so many bytes. It has the continuation tag where the flag is on.
+    pub fn begin_call(&mut self, bytes: usize)
         ensures begun { (columns : ℕ → Option ℕ) (before given : List (List (Item T))) (p : Progress T) →
             IsAtProgress columns T.eq self.old before given p →
             IsAtProgress columns T.eq self.new before given (step columns self.old.lines.width p call) }
         ensures limits { KeepsLimits self.old.lines self.new.lines }
     {
+        self.lines.flat.make_room(bytes);
         self.in_continuation = self.continuation_flag;
     }
 
