@@ -10,7 +10,7 @@ use Rattle.tbr_lines.specs.Walks.{item_characters}
 use Rattle.tbr_lines.specs.declared.RenderLine.{RenderLine}
 use Rattle.tbr_lines.specs.declared.RenderLine.TheVariants.{Text as Words, Line as Rule}
 use Rattle.tbr_decor.specs.declared.annotation.RichAnnotation.{RichAnnotation}
-use Rattle.tbr_decor.specs.contracts.annotation.RichAnnotationPartialEq.TheImpl as rich
+use Rattle.tbr_decor.specs.contracts.annotation.RichAnnotationPartialEq.TheImpl as annotation
 use Rattle.tbr_commands.specs.declared.opening.Decorator.{Decorator}
 use Rattle.tbr_commands.specs.declared.opening.Decorator.TheVariants.{Plain, Trivial, Rich}
 use Rattle.tbr_commands.specs.declared.opening.Opening.{Opening}
@@ -31,17 +31,7 @@ is_border (Rule border) = true
 
 abbrev pub is_text : Format → Bool
 is_text Text = true
-is_text Bare = false
-is_text Ansi = false
-is_text Ndjson = false
-is_text Html = false
-
-abbrev pub is_for_terminals : Format → Bool
-is_for_terminals Text = false
-is_for_terminals Bare = true
-is_for_terminals Ansi = true
-is_for_terminals Ndjson = false
-is_for_terminals Html = false
+is_text other = false
 
 -- a line's characters and a newline
 abbrev pub line_text : {A : Type 0} → RenderLine A → List ℕ
@@ -59,41 +49,34 @@ elements_in columns Ansi is_border es = ansi.line es
 elements_in columns Ndjson is_border es = json.line columns is_border es
 elements_in columns Html is_border es = html.line columns es
 
--- tags without annotations
-abbrev pub Unannotated : Vec (Unit {0}) → Vec RichAnnotation → Type 0
-Unannotated tag bare = bare.items ≡ []
+-- what is shown of annotations: nothing, or all
+abbrev pub none : List (Unit {0}) → List RichAnnotation
+none annotations = []
 
--- the same under no annotations
-abbrev pub ShowsPlain : (ℕ → Option ℕ) → Format → Bool → List (Element (Vec (Unit {0}))) → List ℕ → Type 0
-ShowsPlain columns Bare is_border es cs = cs ≡ ansi.bare_line es
-ShowsPlain columns Ansi is_border es cs = cs ≡ ansi.bare_line es
-ShowsPlain columns format is_border es cs =
-    (bare : List (Element (Vec RichAnnotation))) × MapsElements Unannotated es bare
-    × (cs ≡ elements_in columns format is_border bare)
+abbrev pub themselves : List RichAnnotation → List RichAnnotation
+themselves annotations = annotations
 
--- a line in a format, under annotations
-abbrev pub IsShownRich : (ℕ → Option ℕ) → Format → RenderLine (Vec RichAnnotation) → List ℕ → Type 0
-IsShownRich columns Text line cs = cs ≡ line_text line
-IsShownRich columns format line cs =
-    (es : List (Element (Vec RichAnnotation))) × AreElements rich.ghosts.eq line es
-    × (cs ≡ elements_in columns format (is_border line) es)
+-- a list of annotations as what is shown of it
+abbrev pub IsRich : {A : Type 0} → (List A → List RichAnnotation) → Vec A → Vec RichAnnotation → Type 0
+IsRich rich tag shown = shown.items ≡ rich tag.items
 
--- the equality of no annotations
-abbrev pub equal_units : Unit {0} → Unit {0} → Bool
-equal_units _ _ = true
-
--- and under none
-abbrev pub IsShownPlain : (ℕ → Option ℕ) → Format → RenderLine (Vec (Unit {0})) → List ℕ → Type 0
-IsShownPlain columns Text line cs = cs ≡ line_text line
-IsShownPlain columns format line cs =
-    (es : List (Element (Vec (Unit {0})))) × AreElements equal_units line es
-    × ShowsPlain columns format (is_border line) es cs
+-- A line in a format, under annotations of this equality, of which this is shown.
+abbrev pub ShowsLine : {A : Type 0} → (A → A → Bool) → (List A → List RichAnnotation) → (ℕ → Option ℕ) → Format →
+    RenderLine (Vec A) → List ℕ → Type 0
+ShowsLine eq rich columns Text line cs = cs ≡ line_text line
+ShowsLine {A} eq rich columns format line cs =
+    (es : List (Element (Vec A))) × (shown : List (Element (Vec RichAnnotation))) × AreElements eq line es
+    × MapsElements (IsRich rich) es shown × (cs ≡ elements_in columns format (is_border line) shown)
 
 -- lines one after another
 abbrev pub AreShown : {L : Type 0} → (L → List ℕ → Type 0) → List L → List ℕ → Type 0
 AreShown Shows [] cs = cs ≡ []
 AreShown Shows (line ∷ lines) cs =
     (first : List ℕ) × (rest : List ℕ) × Shows line first × AreShown Shows lines rest × (cs ≡ first ++ rest)
+
+-- the equality of no annotations
+abbrev pub equal_units : Unit {0} → Unit {0} → Bool
+equal_units _ _ = true
 
 -- ---- scripts
 
@@ -110,14 +93,17 @@ abbrev pub decorator_in : Option Decorator → Decorator → Decorator
 decorator_in None own = own
 decorator_in (Some decorator) own = decorator
 
+-- characters that are lines in a format
+abbrev pub AreLines : {A : Type 0} →
+    (A → A → Bool) → (List A → List RichAnnotation) → (ℕ → Option ℕ) → Format → List ℕ → Type 0
+AreLines {A} eq rich columns format cs =
+    (lines : List (RenderLine (Vec A))) × AreShown (ShowsLine eq rich columns format) lines cs
+
 -- Characters that are lines of a rendering under a decorator, in a format.
 abbrev pub ShowsUnder : (ℕ → Option ℕ) → Decorator → Format → List ℕ → Type 0
-ShowsUnder columns Plain format cs =
-    (lines : List (RenderLine (Vec (Unit {0})))) × AreShown (IsShownPlain columns format) lines cs
-ShowsUnder columns Trivial format cs =
-    (lines : List (RenderLine (Vec (Unit {0})))) × AreShown (IsShownPlain columns format) lines cs
-ShowsUnder columns Rich format cs =
-    (lines : List (RenderLine (Vec RichAnnotation))) × AreShown (IsShownRich columns format) lines cs
+ShowsUnder columns Plain format cs = AreLines equal_units none columns format cs
+ShowsUnder columns Trivial format cs = AreLines equal_units none columns format cs
+ShowsUnder columns Rich format cs = AreLines annotation.ghosts.eq themselves columns format cs
 
 -- These characters are what is shown of a script that begins with a first command: lines in the format that is set,
 -- under the decorator that is set, or that of the script.

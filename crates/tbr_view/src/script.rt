@@ -7,7 +7,7 @@ ghost use Rattle.tbr_view.specs.Shown.{IsShown, opening_in};
 use crate::advice;
 use crate::problem::{Problem, Refusal};
 use crate::session::Session;
-use crate::show::{show_plain, show_rich};
+use crate::show::show;
 use crate::statement::is_skipped;
 use std::alloc::Global;
 use std::collections::LinkedList;
@@ -61,19 +61,19 @@ pub fn view<W: CharWidth>(alloc: Global, script: &[u8], view: Settings) -> Resul
         Decorator::Plain => {
             let decorator = PlainDecorator::new();
             let (lines, lost) = run::<_, W>(alloc, opening, decorator, number, rest)?;
-            let text = show_plain::<W>(alloc, lines, view.format)?;
+            let text = show::<_, W>(alloc, lines, view.format)?;
             Ok(Shown { text, lost })
         }
         Decorator::Trivial => {
             let decorator = TrivialDecorator::new();
             let (lines, lost) = run::<_, W>(alloc, opening, decorator, number, rest)?;
-            let text = show_plain::<W>(alloc, lines, view.format)?;
+            let text = show::<_, W>(alloc, lines, view.format)?;
             Ok(Shown { text, lost })
         }
         Decorator::Rich => {
             let decorator = RichDecorator::new();
             let (lines, lost) = run::<_, W>(alloc, opening, decorator, number, rest)?;
-            let text = show_rich::<W>(alloc, lines, view.format)?;
+            let text = show::<_, W>(alloc, lines, view.format)?;
             Ok(Shown { text, lost })
         }
     }

@@ -1,0 +1,13 @@
+use Rattle.std.proofs.Common.{[], ◌∷◌, ◌++◌, chars, ap, ◌∙◌, append_assoc}
+use Rattle.std.specs.String.{string_bytes}
+use Rattle.std.proofs.lemmas.Result.{on_ok_weaker}
+use Rattle.tbr_model.specs.Codes.{newline_character}
+use Rattle.tbr_lines.specs.RenderLine.{line_items}
+use Rattle.tbr_lines.specs.Walks.{item_characters}
+use Rattle.tbr_view.proofs.show.push_characters.Goals as goal
+
+pub returns : goal.returns
+returns g c =
+    let old = chars (string_bytes c.args.text.now) in
+    on_ok_weaker c.end_line.result (λ h. h ∙ ap (λ cs. cs ++ newline_character ∷ []) c.in_ok-append_to.ensures
+    ∙ append_assoc old (item_characters (line_items c.args.line.now)) (newline_character ∷ [])) c.end_line.ensures
