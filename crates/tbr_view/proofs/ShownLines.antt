@@ -1,15 +1,21 @@
 -- Lines that are shown one after another.
-use Rattle.std.proofs.Common.{◌≡◌, ℕ, Bool, List, [], ◌∷◌, ◌++◌, refl, sym, ap, ◌∙◌, append_assoc, append-nil}
-use Rattle.std.specs.Prelude.{Option, true, false}
+use Rattle.std.proofs.Common.{◌≡◌, ℕ, Bool, List, [], ◌∷◌, ◌++◌, refl, sym, ap, subst, ◌∙◌, append_assoc, append-nil}
+use Rattle.std.specs.Prelude.{Option, false}
 use Rattle.std.proofs.lemmas.Bool.{false≢true}
 use Rattle.std.specs.Global.{Vec}
+use Rattle.std.specs.Option.{unwrap_or}
 use Rattle.tbr_lines.specs.Elements.{Element}
 use Rattle.tbr_lines.specs.Mapped.{MapsElements}
 use Rattle.tbr_lines.specs.declared.RenderLine.{RenderLine}
 use Rattle.tbr_decor.specs.declared.annotation.RichAnnotation.{RichAnnotation}
+use Rattle.tbr_script.specs.Script.{lines_of}
+use Rattle.tbr_commands.specs.declared.opening.Decorator.{Decorator}
+use Rattle.tbr_commands.specs.declared.opening.Opening.{Opening}
+use Rattle.tbr_view.specs.declared.script.Settings.{Settings}
 use Rattle.tbr_view.specs.declared.script.Format.{Format}
 use Rattle.tbr_view.specs.declared.script.Format.TheVariants.{Text, Bare, Ansi, Ndjson, Html}
-use Rattle.tbr_view.specs.Shown.{AreShown, AreElements, ShowsLine, IsRich, elements_in, is_border, is_text}
+use Rattle.tbr_view.specs.Script.{Begins}
+use Rattle.tbr_view.specs.Shown.{AreShown, AreElements, ShowsLine, ShowsUnder, IsShown, opening_in, IsRich, elements_in, is_border, is_text}
 
 -- one line more
 pub one_more_shown : {L : Type 0} (Shows : L → List ℕ → Type 0) (lines : List L) (line : L) (cs more : List ℕ) → AreShown Shows lines cs → Shows line more →
@@ -27,3 +33,18 @@ module _ {A : Type 0} (eq : A → A → Bool) (rich : List A → List RichAnnota
   shown_in Ansi line es shown cs other are maps is = (es, shown, are, maps, is)
   shown_in Ndjson line es shown cs other are maps is = (es, shown, are, maps, is)
   shown_in Html line es shown cs other are maps is = (es, shown, are, maps, is)
+
+-- under the decorator that is set, or that of the script
+pub shown_script : (columns : ℕ → Option ℕ) (script : List ℕ) (settings : Settings) (cs : List ℕ) (opening placed : Opening) (number : ℕ) (rest : List ℕ) (decorator : Decorator) →
+    Begins script opening number rest → placed ≡ opening_in settings.width opening → unwrap_or settings.decorator placed.decorator ≡ decorator →
+    ShowsUnder columns decorator placed (lines_of rest) settings.format cs → IsShown columns script settings cs
+shown_script columns script settings cs opening placed number rest decorator begins is under shows =
+    let same = ap (λ (o : Opening). unwrap_or settings.decorator o.decorator) (sym is) ∙ under in
+    record {
+      opening = opening;
+      number = number;
+      rest = rest;
+      begins = begins;
+      shows = subst (λ (o : Opening). ShowsUnder columns (unwrap_or settings.decorator opening.decorator) o (lines_of rest) settings.format cs) is
+          (subst (λ (d : Decorator). ShowsUnder columns d placed (lines_of rest) settings.format cs) (sym same) shows);
+    }

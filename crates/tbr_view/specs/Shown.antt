@@ -1,6 +1,7 @@
 -- Lines as they are written in a format, and what is shown of a script.
-use Rattle.std.specs.Prelude.{◌≡◌, ℕ, ◌==◌, Bool, true, false, if◌then◌else◌, Option, None, Some, List, [], ◌∷◌, ◌++◌}
+use Rattle.std.specs.Prelude.{◌≡◌, ℕ, ◌==◌, Bool, true, false, if◌then◌else◌, Option, None, Some, List, [], ◌∷◌, ◌++◌, map}
 use Rattle.std.specs.Global.{Vec}
+use Rattle.std.specs.Option.{unwrap_or}
 use Rattle.tbr_model.specs.Codes.{newline_character}
 use Rattle.tbr_lines.specs.Copies.{equal_lists}
 use Rattle.tbr_lines.specs.Elements.{Element, items_of, characters, SameItems}
@@ -11,6 +12,12 @@ use Rattle.tbr_lines.specs.declared.RenderLine.{RenderLine}
 use Rattle.tbr_lines.specs.declared.RenderLine.TheVariants.{Text as Words, Line as Rule}
 use Rattle.tbr_decor.specs.declared.annotation.RichAnnotation.{RichAnnotation}
 use Rattle.tbr_decor.specs.contracts.annotation.RichAnnotationPartialEq.TheImpl as annotation
+use Rattle.tbr_decor.specs.Decoration.{Decoration}
+use Rattle.tbr_decor.specs.Style.{style_of}
+use Rattle.text_block_renderer.specs.Meant.{tag_meant, map_line}
+use Rattle.text_block_renderer.specs.View.{line_seen}
+use Rattle.tbr_script.specs.Script.{lines_of}
+use Rattle.tbr_runner.specs.Decorations.{plain_decoration, trivial_decoration, rich_decoration}
 use Rattle.tbr_commands.specs.declared.opening.Decorator.{Decorator}
 use Rattle.tbr_commands.specs.declared.opening.Decorator.TheVariants.{Plain, Trivial, Rich}
 use Rattle.tbr_commands.specs.declared.opening.Opening.{Opening}
@@ -18,6 +25,7 @@ use Rattle.tbr_show.specs.Ansi as ansi
 use Rattle.tbr_show.specs.Ndjson as json
 use Rattle.tbr_show.specs.Html as html
 use Rattle.tbr_view.specs.Script.{Begins}
+use Rattle.tbr_view.specs.Session.{State, LinesGive, begun}
 use Rattle.tbr_view.specs.declared.script.Format.{Format}
 use Rattle.tbr_view.specs.declared.script.Format.TheVariants.{Text, Bare, Ansi, Ndjson, Html}
 use Rattle.tbr_view.specs.declared.script.Settings.{Settings}
@@ -88,28 +96,32 @@ width_in (Some columns) own = if columns == 0 then own else columns
 abbrev pub opening_in : Option ℕ → Opening → Opening
 opening_in width opening = record opening { width = width_in width opening.width }
 
--- the decorator that is set, or that of the script
-abbrev pub decorator_in : Option Decorator → Decorator → Decorator
-decorator_in None own = own
-decorator_in (Some decorator) own = decorator
+-- Characters that are the lines of a script in a format, under a decorator with annotations of this equality and
+-- meaning, of which this is shown.
+abbrev pub ShowsScript : {D A M : Type 0} → (A → A → Bool) → (List A → List RichAnnotation) → (A → M) → (ℕ → Option ℕ) →
+    Decoration D M → State D M → List (List ℕ) → Format → List ℕ → Type 0
+ShowsScript {D} {A} eq rich meaning columns decoration start script format cs =
+    (lines : List (RenderLine (Vec A)))
+    × LinesGive columns decoration start script (map (map_line (tag_meant meaning)) (map line_seen lines))
+    × AreShown (ShowsLine eq rich columns format) lines cs
 
--- characters that are lines in a format
-abbrev pub AreLines : {A : Type 0} →
-    (A → A → Bool) → (List A → List RichAnnotation) → (ℕ → Option ℕ) → Format → List ℕ → Type 0
-AreLines {A} eq rich columns format cs =
-    (lines : List (RenderLine (Vec A))) × AreShown (ShowsLine eq rich columns format) lines cs
+-- the same under the decorator of this name, after this first command
+abbrev pub ShowsUnder :
+    (ℕ → Option ℕ) → Decorator → Opening → List (List ℕ) → Format → List ℕ → Type 0
+ShowsUnder columns Plain opening script format cs =
+    ShowsScript equal_units none (λ a. a) columns plain_decoration (begun opening (record {})) script format cs
+ShowsUnder columns Trivial opening script format cs =
+    ShowsScript equal_units none (λ a. a) columns trivial_decoration (begun opening (record {})) script format cs
+ShowsUnder columns Rich opening script format cs =
+    ShowsScript annotation.ghosts.eq themselves style_of columns rich_decoration (begun opening (record {})) script
+    format cs
 
--- Characters that are lines of a rendering under a decorator, in a format.
-abbrev pub ShowsUnder : (ℕ → Option ℕ) → Decorator → Format → List ℕ → Type 0
-ShowsUnder columns Plain format cs = AreLines equal_units none columns format cs
-ShowsUnder columns Trivial format cs = AreLines equal_units none columns format cs
-ShowsUnder columns Rich format cs = AreLines annotation.ghosts.eq themselves columns format cs
-
--- These characters are what is shown of a script that begins with a first command: lines in the format that is set,
--- under the decorator that is set, or that of the script.
+-- These characters are what is shown of a script that begins with a first command: the lines that the others give, in
+-- the format that is set, in the columns and under the decorator that are set, or those of the script.
 pub record IsShown (columns : ℕ → Option ℕ) (script : List ℕ) (settings : Settings) (cs : List ℕ) : Type 0 where
   pub opening : Opening
   pub number : ℕ
   pub rest : List ℕ
   pub begins : Begins script opening number rest
-  pub shows : ShowsUnder columns (decorator_in settings.decorator opening.decorator) settings.format cs
+  pub shows : ShowsUnder columns (unwrap_or settings.decorator opening.decorator)
+      (opening_in settings.width opening) (lines_of rest) settings.format cs

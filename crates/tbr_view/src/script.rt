@@ -1,7 +1,12 @@
 //! From a script for people to what is shown of it.
-ghost use Rattle.std.specs.Prelude.{◌≡◌, ◌≢◌, ◌<◌, Some, IfOk, IfErr};
+ghost use Rattle.std.specs.Prelude.{◌≡◌, ◌≢◌, ◌<◌, Some, map, IfOk, IfErr};
 ghost use Rattle.tbr_lines.specs.View.{chars_of};
+ghost use Rattle.tbr_decor.specs.Decoration.{decoration_of};
+ghost use Rattle.tbr_script.specs.Script.{lines_of};
+ghost use Rattle.text_block_renderer.specs.Meant.{tag_meant, map_line};
+ghost use Rattle.text_block_renderer.specs.View.{line_seen};
 ghost use Rattle.tbr_view.specs.Script.{Begins, BeginsNot};
+ghost use Rattle.tbr_view.specs.Session.{LinesGive, begun};
 ghost use Rattle.tbr_view.specs.Shown.{IsShown, opening_in};
 
 use crate::advice;
@@ -136,6 +141,8 @@ fn run<D: TextDecorator, W: CharWidth>(
 ) -> Result<(LinkedList<RenderLine<Vec<D::Annotation>>>, Vec<Problem>), Refusal>
     requires width { 0 < opening.width }
     requires wrap_width { opening.options.wrap_width ≢ Some 0 }
+    ensures { IfOk result (λ r. LinesGive W.columns (decoration_of D.TextDecorator) (begun opening decorator)
+        (lines_of script.now) (map (map_line (tag_meant D.meaning)) (map line_seen r.0))) }
 {
     let mut session: Session<D, W> = Session::new(alloc, opening, decorator)?;
     let mut rest = script;
