@@ -7,15 +7,14 @@ use Rattle.tbr_tagged.specs.declared.Error.TheVariants as E
 use Rattle.tbr_renderer.specs.Renderer.{Kept, block_columns}
 use Rattle.tbr_renderer.specs.Calls.{Call, Answers, Fails}
 
+pub on_err : {X E P : Type 0} (r : Result X E) → P → OnErr r P
+on_err (Ok x) p = tt
+on_err (Err e) p = p
+
 pub kept_ok : {X E S : Type 0} (P : S → Type 0) (r done : Result X E) (old new : S) → r ≡ done → OnOk r (new ≡ old) → OnOk done (P old) → OnOk r (P new)
 kept_ok P (Ok x) (Ok y) old new e h k = subst P (sym h) k
 kept_ok P (Ok x) (Err y) old new e h k = cc
 kept_ok P (Err x) done old new e h k = tt
-
--- what is said of a refusal, said of the one that came
-pub of_refusal : {X E : Type 0} (P : E → Type 0) (r : Result X E) (e : E) → r ≡ Err e → IfErr r P → P e
-of_refusal P (Ok x) e is h = cc
-of_refusal P (Err f) e is h = let same : f ≡ e = cc in subst P same h
 
 -- what a live renderer that refuses leaves, once the refusal is kept
 pub kept_fails : {S R : Type 0} (failure : S → Option Error) (kept_of : S → Kept) (old mid new : S) (result : Result R Error) →

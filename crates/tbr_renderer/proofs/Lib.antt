@@ -1,5 +1,4 @@
 pub mod KeptRefusals
-pub mod Refusals
 pub mod Images
 pub mod DecoratedText
 pub mod MeantLines

@@ -1,7 +1,7 @@
 //! A script's commands, one after another.
 ghost use Rattle.std.specs.Prelude.{◌≡◌, ℕ, [], ◌≢◌, ◌<◌, None, Some, Ok, Err, IfOk, IfErr, OnOk, length, map, string_bytes};
-ghost use Rattle.tbr_lines.specs.View.{chars_of};
-ghost use Rattle.tbr_lines.specs.declared.Error.TheVariants as Refusal;
+ghost use Rattle.tbr_tagged.specs.View.{chars_of};
+ghost use Rattle.tbr_tagged.specs.declared.Error.TheVariants as Refusal;
 ghost use Rattle.tbr_decor.specs.Decoration.{decoration_of};
 ghost use Rattle.text_block_renderer.specs.Renderer.{new_renderer};
 ghost use Rattle.text_block_renderer.specs.Tags.{tag_meant};

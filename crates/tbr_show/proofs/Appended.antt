@@ -1,12 +1,15 @@
 -- What loops append, one part after another.
-use Rattle.std.proofs.Common.{◌≡◌, ℕ, ◌+◌, ◌<◌, Bool, true, false, not, Option, Some, Result, Ok, Err, List, [], ◌∷◌, ◌++◌, length, get_or, take, refl, ap, sym, ◌∙◌, map, append_assoc, append-nil}
+use Rattle.std.proofs.Common.{◌≡◌, ℕ, Bool, true, false, not, Option, None, Some, Result, Ok, Err, List, [], ◌∷◌, ◌++◌, refl, ap, sym, ◌∙◌, map, append_assoc, append-nil}
 use Rattle.std.specs.Prelude.{flat_map, OnOk, ◌&&◌, if◌then◌else◌}
+use Rattle.std.specs.Borrow.{Bor}
+use Rattle.std.specs.Iterator.{Yields, YieldsFirstRef}
 use Rattle.std.specs.List.{list_all}
 use Rattle.std.specs.Char.{is_control}
-use Rattle.std.proofs.lemmas.List.{take_more, map_push}
+use Rattle.std.proofs.lemmas.List.{map_push}
 use Rattle.std.proofs.lemmas.List.Concat.{flat_map-append}
 use Rattle.std.proofs.lemmas.List.Elements.{filter-append}
 use Rattle.std.proofs.lemmas.Bool.{false≢true}
+use Rattle.std.proofs.lemmas.Iterator.Consumers.{YieldsList-from_first, YieldsList-end}
 use Rattle.tbr_tagged.specs.Elements.{Element, element_characters, characters}
 use Rattle.tbr_show.specs.Written.{printable}
 use Rattle.tbr_show.specs.Html.{escaped, between, is_wide_after, shown_from, shown}
@@ -18,10 +21,6 @@ one_behind {X} start so_far more text new is e = e ∙ ap (λ (ys : List X). ys 
 module _ {X Y : Type 0} (f : X → List Y) where
   pub flat_map_push : (xs : List X) (x : X) → flat_map f (xs ++ x ∷ []) ≡ flat_map f xs ++ f x
   flat_map_push xs x = flat_map-append f xs (x ∷ []) ∙ ap (λ (ys : List Y). flat_map f xs ++ ys) (append-nil (f x))
-
-  pub flat_map_more : (xs : List X) (i : ℕ) (x : X) → i < length xs → x ≡ get_or xs i x → flat_map f (take (i + 1) xs) ≡ flat_map f (take i xs) ++ f x
-  flat_map_more xs i x below is =
-      ap (flat_map f) (take_more xs i x below ∙ ap (λ (y : X). take i xs ++ y ∷ []) (sym is)) ∙ flat_map_push (take i xs) x
 
 pub printable_control : (cs : List ℕ) (c : ℕ) → is_control c ≡ true → printable (cs ++ c ∷ []) ≡ printable cs
 printable_control cs c h = filter-append (λ (d : ℕ). not (is_control d)) cs (c ∷ []) ∙ rw h (append-nil (printable cs))
@@ -95,6 +94,14 @@ on_ok_then (Err e) f h = h
 pub map_both : {X Y Z : Type 0} (g : Y → Z) (h : X → Y) (xs : List X) → map (λ x. g (h x)) xs ≡ map g (map h xs)
 map_both g h [] = refl
 map_both g h (x ∷ xs) = ap (λ ys. g (h x) ∷ ys) (map_both g h xs)
+
+-- what a walk over elements has given at its end
+pub walked : {S E X : Type 0} (elements : S → List E) (view : E → X) (walk : S) (yielded : List (Bor E)) (left : S) → Yields (YieldsFirstRef elements) walk yielded left →
+    (r : Option (Bor E)) (last : S) → r ≡ None → YieldsFirstRef elements left r last → map (λ e. view e.now) yielded ≡ map view (elements walk)
+walked elements view walk yielded left so_far r last none steps =
+    let list = YieldsList-from_first (λ e. e.now) elements {s = walk} (elements walk) refl in
+    let end = YieldsList-end list yielded left so_far r last none steps in
+    map_both view (λ e. e.now) yielded ∙ ap (map view) end.0
 
 module _ (columns : ℕ → Option ℕ) (start cs : List ℕ) (text : List ℕ) (is_wide : Bool)
     (is : text ≡ start ++ shown_open columns false (printable cs)) (wide : is_wide ≡ wide_behind columns false (printable cs)) where

@@ -34,6 +34,10 @@ each_both : {X : Type 0} (P : X → Type 0) (xs ys : List X) → Each P xs → E
 each_both P [] ys h k = k
 each_both P (x ∷ xs) ys h k = (h.0, each_both P xs ys h.1 k)
 
+each_more : {P Q : ℕ → Type 0} (cs : List ℕ) → ((c : ℕ) → P c → Q c) → Each P cs → Each Q cs
+each_more [] f h = tt
+each_more (c ∷ cs) f h = (f c h.0, each_more cs f h.1)
+
 -- ---- parameters
 
 a_digit : (d : ℕ) → d < 10 → IsParameter (48 + d)
@@ -68,38 +72,50 @@ parts_are c =
     (each_both IsParameter (decimal c.r ++ codes ";") (decimal c.g) (each_both IsParameter (decimal c.r) (codes ";") (decimal_is c.r) semicolon_is) (decimal_is c.g)) semicolon_is)
     (decimal_is c.b)
 
--- ---- what a terminal shows nothing of
+-- ---- what a terminal shows nothing of, and which control characters it has
+
+-- a control character is an escape or the newline
+abbrev pub IsOwn : ℕ → Type 0
+IsOwn c = is_control c ≡ true → c ≢ newline_character → c ≡ escape_character
 
 pub Hidden : List ℕ → Type 0
 Hidden mark = (rest : List ℕ) → seen among (mark ++ rest) ≡ seen among rest
 
-hidden_both : (one other : List ℕ) → Hidden one → Hidden other → Hidden (one ++ other)
-unfolding Hidden
-hidden_both one other h k rest = ap (seen among) (append_assoc one other rest) ∙ h (other ++ rest) ∙ k rest
+-- a mark: it is hidden, and its control characters are its own
+IsMark : List ℕ → Type 0
+IsMark mark = Hidden mark × Each IsOwn mark
+
+no_mark : IsMark []
+unfolding Hidden IsMark
+no_mark = ((λ rest. refl), tt)
+
+both_marks : (one other : List ℕ) → IsMark one → IsMark other → IsMark (one ++ other)
+unfolding Hidden IsMark
+both_marks one other h k =
+    ((λ rest. ap (seen among) (append_assoc one other rest) ∙ h.0 (other ++ rest) ∙ k.0 rest), each_both IsOwn one other h.1 k.1)
 
 in_sequence : (parameters rest : List ℕ) → Each IsParameter parameters → seen sequence (parameters ++ rest) ≡ seen sequence rest
 unfolding IsParameter
 in_sequence [] rest h = refl
 in_sequence (c ∷ cs) rest h = rw h.0.0 (in_sequence cs rest h.1)
 
-hidden_selects : (parameters : List ℕ) → Each IsParameter parameters → Hidden (selects parameters)
-unfolding Hidden
-hidden_selects ps h rest = ap (seen sequence) (append_assoc ps (109 ∷ []) rest) ∙ in_sequence ps (109 ∷ rest) h
+parameter_is_own : (c : ℕ) → IsParameter c → IsOwn c
+unfolding IsParameter
+parameter_is_own c h = λ control _. absurd (false≢true (sym h.1 ∙ control))
+
+escape_is_own : IsOwn escape_character
+escape_is_own = λ _ _. refl
+
+selects_marks : (parameters : List ℕ) → Each IsParameter parameters → IsMark (selects parameters)
+unfolding Hidden IsMark
+selects_marks ps h = (
+  (λ rest. ap (seen sequence) (append_assoc ps (109 ∷ []) rest) ∙ in_sequence ps (109 ∷ rest) h),
+  (escape_is_own, (λ control. cc, each_both IsOwn ps (109 ∷ []) (each_more ps parameter_is_own h) (λ control. cc, tt))),
+)
 
 -- no escape
 IsPlain : ℕ → Type 0
 IsPlain c = (c == escape_character) ≡ false
-
-in_command : (cs rest : List ℕ) → Each IsPlain cs → seen command (cs ++ rest) ≡ seen command rest
-unfolding IsPlain
-in_command [] rest h = refl
-in_command (c ∷ cs) rest h = rw h.0 (in_command cs rest h.1)
-
-hidden_links : (target : List ℕ) → Each IsPlain target → Hidden (links target)
-unfolding Hidden
-hidden_links target h rest = ap (seen command) (append_assoc target (27 ∷ 92 ∷ []) rest) ∙ in_command target (27 ∷ 92 ∷ rest) h
-
--- ---- targets
 
 -- no control character
 IsShown : ℕ → Type 0
@@ -109,9 +125,23 @@ shown_is_plain : (c : ℕ) → IsShown c → IsPlain c
 unfolding IsShown IsPlain
 shown_is_plain c h = grind (arith, nat_tests)
 
-each_more : {P Q : ℕ → Type 0} (cs : List ℕ) → ((c : ℕ) → P c → Q c) → Each P cs → Each Q cs
-each_more [] f h = tt
-each_more (c ∷ cs) f h = (f c h.0, each_more cs f h.1)
+in_command : (cs rest : List ℕ) → Each IsPlain cs → seen command (cs ++ rest) ≡ seen command rest
+unfolding IsPlain
+in_command [] rest h = refl
+in_command (c ∷ cs) rest h = rw h.0 (in_command cs rest h.1)
+
+shown_is_own : (c : ℕ) → IsShown c → IsOwn c
+unfolding IsShown
+shown_is_own c h = λ control _. absurd (false≢true (sym h ∙ control))
+
+links_marks : (target : List ℕ) → Each IsShown target → IsMark (links target)
+unfolding Hidden IsMark
+links_marks target h = (
+  (λ rest. ap (seen command) (append_assoc target (27 ∷ 92 ∷ []) rest) ∙ in_command target (27 ∷ 92 ∷ rest) (each_more target shown_is_plain h)),
+  (escape_is_own, (λ control. cc, (λ control. cc, (λ control. cc, (λ control. cc, each_both IsOwn target (27 ∷ 92 ∷ []) (each_more target shown_is_own h) (escape_is_own, (λ control. cc, tt))))))),
+)
+
+-- ---- targets
 
 controls_are_escaped : (b : ℕ) → b < 32 → contains NOT_OF_URLS b ≡ true
 controls_are_escaped b h =
@@ -141,48 +171,40 @@ encoded_is_shown target = each_from_all IsShown (encoded target) (All-percent_en
 
 -- ---- annotations
 
-hidden_link : (target : List ℕ) → Hidden (links (encoded target))
-hidden_link target = hidden_links (encoded target) (each_more (encoded target) shown_is_plain (encoded_is_shown target))
+colour_marks : (ground : List ℕ) → Each IsParameter ground → (c : Colour) → IsMark (selects (ground ++ colour_parts (codes ";") c))
+colour_marks ground h c = selects_marks (ground ++ colour_parts (codes ";") c) (each_both IsParameter ground (colour_parts (codes ";") c) h (parts_are c))
 
-hidden_none : Hidden []
-unfolding Hidden
-hidden_none rest = refl
-
-hidden_begins : (a : RichAnnotation) → Hidden (begins a)
+begins_marks : (a : RichAnnotation) → IsMark (begins a)
 unfolding IsParameter
-hidden_begins rich.Default = hidden_none
-hidden_begins (rich.Link target) = hidden_both (selects (codes "4")) (links (encoded (string_bytes target))) (hidden_selects (codes "4") ((refl, refl), tt)) (hidden_link (string_bytes target))
-hidden_begins (rich.Image source) = hidden_selects (codes "2") ((refl, refl), tt)
-hidden_begins rich.Emphasis = hidden_selects (codes "3") ((refl, refl), tt)
-hidden_begins rich.Strong = hidden_selects (codes "1") ((refl, refl), tt)
-hidden_begins rich.Strikeout = hidden_selects (codes "9") ((refl, refl), tt)
-hidden_begins rich.Code = hidden_selects (codes "36") ((refl, refl), ((refl, refl), tt))
-hidden_begins (rich.Preformat continued) = hidden_none
-hidden_begins (rich.Colour colour) = hidden_selects (codes "38;2;" ++ colour_parts (codes ";") colour) (each_both IsParameter (codes "38;2;") (colour_parts (codes ";") colour) five (parts_are colour))
-  where
-    five : Each IsParameter (codes "38;2;")
-    five = ((refl, refl), ((refl, refl), ((refl, refl), ((refl, refl), ((refl, refl), tt)))))
-hidden_begins (rich.BgColour colour) = hidden_selects (codes "48;2;" ++ colour_parts (codes ";") colour) (each_both IsParameter (codes "48;2;") (colour_parts (codes ";") colour) five (parts_are colour))
-  where
-    five : Each IsParameter (codes "48;2;")
-    five = ((refl, refl), ((refl, refl), ((refl, refl), ((refl, refl), ((refl, refl), tt)))))
+begins_marks rich.Default = no_mark
+begins_marks (rich.Link target) =
+    let shown = encoded_is_shown (string_bytes target) in
+    both_marks (selects (codes "4")) (links (encoded (string_bytes target))) (selects_marks (codes "4") ((refl, refl), tt)) (links_marks (encoded (string_bytes target)) shown)
+begins_marks (rich.Image source) = selects_marks (codes "2") ((refl, refl), tt)
+begins_marks rich.Emphasis = selects_marks (codes "3") ((refl, refl), tt)
+begins_marks rich.Strong = selects_marks (codes "1") ((refl, refl), tt)
+begins_marks rich.Strikeout = selects_marks (codes "9") ((refl, refl), tt)
+begins_marks rich.Code = selects_marks (codes "36") ((refl, refl), ((refl, refl), tt))
+begins_marks (rich.Preformat continued) = no_mark
+begins_marks (rich.Colour colour) = colour_marks (codes "38;2;") ((refl, refl), ((refl, refl), ((refl, refl), ((refl, refl), ((refl, refl), tt))))) colour
+begins_marks (rich.BgColour colour) = colour_marks (codes "48;2;") ((refl, refl), ((refl, refl), ((refl, refl), ((refl, refl), ((refl, refl), tt))))) colour
 
-hidden_ends : (a : RichAnnotation) → Hidden (ends a)
+ends_marks : (a : RichAnnotation) → IsMark (ends a)
 unfolding IsParameter
-hidden_ends rich.Default = hidden_none
-hidden_ends (rich.Link target) = hidden_both (links []) (selects (codes "24")) (hidden_links [] tt) (hidden_selects (codes "24") ((refl, refl), ((refl, refl), tt)))
-hidden_ends (rich.Image source) = hidden_selects (codes "22") ((refl, refl), ((refl, refl), tt))
-hidden_ends rich.Emphasis = hidden_selects (codes "23") ((refl, refl), ((refl, refl), tt))
-hidden_ends rich.Strong = hidden_selects (codes "22") ((refl, refl), ((refl, refl), tt))
-hidden_ends rich.Strikeout = hidden_selects (codes "29") ((refl, refl), ((refl, refl), tt))
-hidden_ends rich.Code = hidden_selects (codes "39") ((refl, refl), ((refl, refl), tt))
-hidden_ends (rich.Preformat continued) = hidden_none
-hidden_ends (rich.Colour colour) = hidden_selects (codes "39") ((refl, refl), ((refl, refl), tt))
-hidden_ends (rich.BgColour colour) = hidden_selects (codes "49") ((refl, refl), ((refl, refl), tt))
+ends_marks rich.Default = no_mark
+ends_marks (rich.Link target) = both_marks (links []) (selects (codes "24")) (links_marks [] tt) (selects_marks (codes "24") ((refl, refl), ((refl, refl), tt)))
+ends_marks (rich.Image source) = selects_marks (codes "22") ((refl, refl), ((refl, refl), tt))
+ends_marks rich.Emphasis = selects_marks (codes "23") ((refl, refl), ((refl, refl), tt))
+ends_marks rich.Strong = selects_marks (codes "22") ((refl, refl), ((refl, refl), tt))
+ends_marks rich.Strikeout = selects_marks (codes "29") ((refl, refl), ((refl, refl), tt))
+ends_marks rich.Code = selects_marks (codes "39") ((refl, refl), ((refl, refl), tt))
+ends_marks (rich.Preformat continued) = no_mark
+ends_marks (rich.Colour colour) = selects_marks (codes "39") ((refl, refl), ((refl, refl), tt))
+ends_marks (rich.BgColour colour) = selects_marks (codes "49") ((refl, refl), ((refl, refl), tt))
 
-hidden_all : (f : RichAnnotation → List ℕ) → ((a : RichAnnotation) → Hidden (f a)) → (xs : List RichAnnotation) → Hidden (flat_map f xs)
-hidden_all f h [] = hidden_none
-hidden_all f h (a ∷ xs) = hidden_both (f a) (flat_map f xs) (h a) (hidden_all f h xs)
+all_marks : (f : RichAnnotation → List ℕ) → ((a : RichAnnotation) → IsMark (f a)) → (xs : List RichAnnotation) → IsMark (flat_map f xs)
+all_marks f h [] = no_mark
+all_marks f h (a ∷ xs) = both_marks (f a) (flat_map f xs) (h a) (all_marks f h xs)
 
 -- ---- characters
 
@@ -202,99 +224,39 @@ among_characters (c ∷ cs) rest h = rw h.0 (ap (λ ds. c ∷ ds) (among_charact
 
 -- ---- lines
 
-seen_piece : (before cs behind more rest : List ℕ) → Hidden before → Hidden behind →
+seen_piece : (before cs behind more rest : List ℕ) → IsMark before → IsMark behind →
     seen among ((((before ++ printable cs) ++ behind) ++ more) ++ rest) ≡ printable cs ++ seen among (more ++ rest)
-unfolding Hidden
+unfolding Hidden IsMark
 seen_piece before cs behind more rest h k =
     ap (seen among) (append_assoc ((before ++ printable cs) ++ behind) more rest ∙ append_assoc (before ++ printable cs) behind (more ++ rest) ∙ append_assoc before (printable cs) (behind ++ (more ++ rest)))
-    ∙ h (printable cs ++ (behind ++ (more ++ rest)))
+    ∙ h.0 (printable cs ++ (behind ++ (more ++ rest)))
     ∙ among_characters (printable cs) (behind ++ (more ++ rest)) (each_more (printable cs) shown_is_plain (printable_is_shown cs))
-    ∙ ap (λ ds. printable cs ++ ds) (k (more ++ rest))
+    ∙ ap (λ ds. printable cs ++ ds) (k.0 (more ++ rest))
 
-pub seen_elements : (es : List (Element (Vec RichAnnotation Global))) (rest : List ℕ) → seen among (flat_map element es ++ rest) ≡ printable (characters es) ++ seen among rest
+seen_elements : (es : List (Element (Vec RichAnnotation Global))) (rest : List ℕ) → seen among (flat_map element es ++ rest) ≡ printable (characters es) ++ seen among rest
 seen_elements [] rest = refl
 seen_elements (piece cs tag ∷ es) rest =
-    seen_piece (flat_map begins tag.items) cs (flat_map ends tag.items) (flat_map element es) rest (hidden_all begins hidden_begins tag.items) (hidden_all ends hidden_ends tag.items)
+    seen_piece (flat_map begins tag.items) cs (flat_map ends tag.items) (flat_map element es) rest (all_marks begins begins_marks tag.items) (all_marks ends ends_marks tag.items)
     ∙ ap (λ ds. printable cs ++ ds) (seen_elements es rest)
     ∙ sym (append_assoc (printable cs) (printable (characters es)) (seen among rest))
     ∙ ap (λ ds. ds ++ seen among rest) (sym (filter-append (λ (c : ℕ). not (is_control c)) cs (characters es)))
 seen_elements (marker_element name ∷ es) rest = seen_elements es rest
 
--- ---- control characters that are written
-
--- a control character is an escape or the newline
-abbrev pub IsOwn : ℕ → Type 0
-IsOwn c = is_control c ≡ true → c ≢ newline_character → c ≡ escape_character
-
-shown_is_own : (c : ℕ) → IsShown c → IsOwn c
-unfolding IsShown
-shown_is_own c h = λ control _. absurd (false≢true (sym h ∙ control))
-
-parameter_is_own : (c : ℕ) → IsParameter c → IsOwn c
-unfolding IsParameter
-parameter_is_own c h = λ control _. absurd (false≢true (sym h.1 ∙ control))
-
-escape_is_own : IsOwn escape_character
-escape_is_own = λ _ _. refl
-
-newline_is_own : IsOwn newline_character
-newline_is_own = λ _ other. absurd (other refl)
-
-selects_is_own : (parameters : List ℕ) → Each IsParameter parameters → Each IsOwn (selects parameters)
-selects_is_own ps h = (escape_is_own, (λ control. cc, each_both IsOwn ps (109 ∷ []) (each_more ps parameter_is_own h) (λ control. cc, tt)))
-
-links_is_own : (target : List ℕ) → Each IsShown target → Each IsOwn (links target)
-links_is_own target h =
-    (escape_is_own, (λ control. cc, (λ control. cc, (λ control. cc, (λ control. cc, each_both IsOwn target (27 ∷ 92 ∷ []) (each_more target shown_is_own h) (escape_is_own, (λ control. cc, tt)))))))
-
-begins_is_own : (a : RichAnnotation) → Each IsOwn (begins a)
-unfolding IsParameter
-begins_is_own rich.Default = tt
-begins_is_own (rich.Link target) =
-    each_both IsOwn (selects (codes "4")) (links (encoded (string_bytes target))) (selects_is_own (codes "4") ((refl, refl), tt)) (links_is_own (encoded (string_bytes target)) (encoded_is_shown (string_bytes target)))
-begins_is_own (rich.Image source) = selects_is_own (codes "2") ((refl, refl), tt)
-begins_is_own rich.Emphasis = selects_is_own (codes "3") ((refl, refl), tt)
-begins_is_own rich.Strong = selects_is_own (codes "1") ((refl, refl), tt)
-begins_is_own rich.Strikeout = selects_is_own (codes "9") ((refl, refl), tt)
-begins_is_own rich.Code = selects_is_own (codes "36") ((refl, refl), ((refl, refl), tt))
-begins_is_own (rich.Preformat continued) = tt
-begins_is_own (rich.Colour colour) = selects_is_own (codes "38;2;" ++ colour_parts (codes ";") colour) (each_both IsParameter (codes "38;2;") (colour_parts (codes ";") colour) five (parts_are colour))
-  where
-    five : Each IsParameter (codes "38;2;")
-    five = ((refl, refl), ((refl, refl), ((refl, refl), ((refl, refl), ((refl, refl), tt)))))
-begins_is_own (rich.BgColour colour) = selects_is_own (codes "48;2;" ++ colour_parts (codes ";") colour) (each_both IsParameter (codes "48;2;") (colour_parts (codes ";") colour) five (parts_are colour))
-  where
-    five : Each IsParameter (codes "48;2;")
-    five = ((refl, refl), ((refl, refl), ((refl, refl), ((refl, refl), ((refl, refl), tt)))))
-
-ends_is_own : (a : RichAnnotation) → Each IsOwn (ends a)
-unfolding IsParameter
-ends_is_own rich.Default = tt
-ends_is_own (rich.Link target) = each_both IsOwn (links []) (selects (codes "24")) (links_is_own [] tt) (selects_is_own (codes "24") ((refl, refl), ((refl, refl), tt)))
-ends_is_own (rich.Image source) = selects_is_own (codes "22") ((refl, refl), ((refl, refl), tt))
-ends_is_own rich.Emphasis = selects_is_own (codes "23") ((refl, refl), ((refl, refl), tt))
-ends_is_own rich.Strong = selects_is_own (codes "22") ((refl, refl), ((refl, refl), tt))
-ends_is_own rich.Strikeout = selects_is_own (codes "29") ((refl, refl), ((refl, refl), tt))
-ends_is_own rich.Code = selects_is_own (codes "39") ((refl, refl), ((refl, refl), tt))
-ends_is_own (rich.Preformat continued) = tt
-ends_is_own (rich.Colour colour) = selects_is_own (codes "39") ((refl, refl), ((refl, refl), tt))
-ends_is_own (rich.BgColour colour) = selects_is_own (codes "49") ((refl, refl), ((refl, refl), tt))
-
-all_are_own : (f : RichAnnotation → List ℕ) → ((a : RichAnnotation) → Each IsOwn (f a)) → (xs : List RichAnnotation) → Each IsOwn (flat_map f xs)
-all_are_own f h [] = tt
-all_are_own f h (a ∷ xs) = each_both IsOwn (f a) (flat_map f xs) (h a) (all_are_own f h xs)
-
 elements_are_own : (es : List (Element (Vec RichAnnotation Global))) → Each IsOwn (flat_map element es)
+unfolding IsMark
 elements_are_own [] = tt
 elements_are_own (piece cs tag ∷ es) =
     let before = flat_map begins tag.items in
     let behind = flat_map ends tag.items in
     each_both IsOwn ((before ++ printable cs) ++ behind) (flat_map element es)
     (each_both IsOwn (before ++ printable cs) behind
-    (each_both IsOwn before (printable cs) (all_are_own begins begins_is_own tag.items) (each_more (printable cs) shown_is_own (printable_is_shown cs)))
-    (all_are_own ends ends_is_own tag.items))
+    (each_both IsOwn before (printable cs) (all_marks begins begins_marks tag.items).1 (each_more (printable cs) shown_is_own (printable_is_shown cs)))
+    (all_marks ends ends_marks tag.items).1)
     (elements_are_own es)
 elements_are_own (marker_element name ∷ es) = elements_are_own es
 
 pub line_is_own : (es : List (Element (Vec RichAnnotation Global))) → Each IsOwn (line es)
-line_is_own es = each_both IsOwn (flat_map element es) (newline_character ∷ []) (elements_are_own es) (newline_is_own, tt)
+line_is_own es = each_both IsOwn (flat_map element es) (newline_character ∷ []) (elements_are_own es) ((λ _ other. absurd (other refl)), tt)
+
+pub line_is_seen : (es : List (Element (Vec RichAnnotation Global))) → seen among (line es) ≡ printable (characters es) ++ newline_character ∷ []
+line_is_seen es = seen_elements es (newline_character ∷ [])

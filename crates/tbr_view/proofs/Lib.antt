@@ -1,4 +1,5 @@
 mod NearWords
 mod Statements
 pub mod ShownLines
+mod States
 pub mod FirstWords

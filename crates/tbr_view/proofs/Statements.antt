@@ -7,7 +7,8 @@ use Rattle.tbr_view.specs.declared.block.Block.{Block}
 use Rattle.tbr_view.specs.declared.block.Block.TheVariants.{Quote, Item, Ordered, Heading}
 use Rattle.tbr_view.specs.declared.statement.Statement.{Statement}
 use Rattle.tbr_view.specs.declared.statement.Statement.TheVariants.{Command, Open, Close}
-use Rattle.tbr_view.specs.Statement.{IsOfBlocks, IsNumbered, IsStatement, end_of}
+use Rattle.tbr_view.specs.Block.{end_of}
+use Rattle.tbr_view.specs.Statement.{IsOfBlocks, IsNumbered, IsStatement}
 
 module _ (line : List ℕ) where
   -- it ends no block

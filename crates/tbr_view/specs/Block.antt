@@ -31,3 +31,10 @@ name_of Quote = codes "a quote"
 name_of Item = codes "an item"
 name_of (Ordered number) = codes "an ordered item"
 name_of (Heading level) = codes "a heading"
+
+-- the command that ends it
+abbrev pub end_of : Block → List ℕ
+end_of Quote = codes "endquote"
+end_of Item = codes "enditem"
+end_of (Ordered number) = codes "endordered"
+end_of (Heading level) = codes "endheading"

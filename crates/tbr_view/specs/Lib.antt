@@ -1,6 +1,7 @@
-pub mod Statement
 pub mod Block
+pub mod Statement
 pub mod Words
+pub mod Fault
 pub mod Problem
 pub mod Level
 pub mod Script

@@ -2,7 +2,7 @@
 use Rattle.std.specs.Prelude.{◌≡◌, ℕ, Option}
 use Rattle.std.specs.Option.{option_map}
 use Rattle.tbr_view.specs.declared.problem.Kind.{Kind}
-use Rattle.tbr_view.specs.declared.problem.Kind.TheVariants.{NotACommand, NothingToEnd, StillOpen, CellsWait, RowDoesNotFit, TooNarrow, NoRoom, LinesLost}
+use Rattle.tbr_view.specs.declared.problem.Kind.TheVariants.{TooNarrow, LinesLost}
 use Rattle.tbr_view.specs.declared.problem.Related.{Related}
 use Rattle.tbr_view.specs.declared.problem.Problem.{Problem}
 use Rattle.tbr_view.specs.declared.problem.Refusal.{Refusal}
@@ -10,14 +10,9 @@ use Rattle.tbr_view.specs.declared.problem.Refusal.TheVariants.{OutOfMemory, Scr
 
 -- the status with which a program ends that finds a problem of a kind
 abbrev pub status_of : Kind → ℕ
-status_of NotACommand = 2
-status_of NothingToEnd = 2
-status_of StillOpen = 2
-status_of CellsWait = 2
-status_of RowDoesNotFit = 2
-status_of TooNarrow = 1
-status_of NoRoom = 2
 status_of LinesLost = 0
+status_of TooNarrow = 1
+status_of other = 2
 
 -- the number of the other line
 abbrev pub other_line : Related → ℕ

@@ -1,22 +1,37 @@
--- What a step of a script for people does.
-use Rattle.std.specs.Prelude.{◌≡◌, ℕ, Bool, true, false, Option, None, Some, List, [], ◌∷◌, ◌++◌, string_bytes}
+-- What a script for people does, line after line.
+use Rattle.std.specs.Prelude.{◌≡◌, ◌⊎◌, ℕ, ◌-◌, ◌<◌, Bool, true, false, Option, None, Some, List, [], ◌∷◌, ◌++◌, map, take, length, string_bytes}
 use Rattle.std.specs.Global.{Vec}
 use Rattle.std.specs.List.{list_any}
+use Rattle.tbr_model.specs.Width.{width_of_text}
+use Rattle.tbr_tagged.specs.View.{chars_of}
 use Rattle.tbr_rows.specs.Cells.{has_lines}
 use Rattle.tbr_decor.specs.Decoration.{Decoration}
 use Rattle.text_block_renderer.specs.Renderer.{Renderer}
+use Rattle.text_block_renderer.specs.Line.{Line}
 use Rattle.text_block_renderer.specs.Stack.{top_of}
+use Rattle.text_block_renderer.specs.Top.{OfTop}
 use Rattle.tbr_script.specs.declared.text_pair.TextPair.{TextPair}
-use Rattle.tbr_commands.specs.declared.request.layout.Layout.TheVariants.{EndBlock}
+use Rattle.tbr_commands.specs.declared.command.Command as declared
+use Rattle.tbr_commands.specs.declared.command.Command.TheVariants as asked
+use Rattle.tbr_commands.specs.declared.opening.Opening.{Opening}
+use Rattle.tbr_commands.specs.declared.request.layout.Layout.TheVariants.{StartBlock, EndBlock}
 use Rattle.tbr_commands.specs.Request.{layout}
-use Rattle.tbr_commands.specs.Command.{Command, ask, append}
+use Rattle.tbr_commands.specs.Command.{Command, ask, sub, append, command_of}
 use Rattle.tbr_runner.specs.Progress.{Progress, progress_meant}
-use Rattle.tbr_runner.specs.Meaning.{CommandDoes}
-use Rattle.tbr_view.specs.declared.block.Block as prefixed
+use Rattle.tbr_runner.specs.Closing.{ClosesIn}
+use Rattle.tbr_runner.specs.Meaning.{CommandDoes, started}
+use Rattle.tbr_view.specs.declared.block.Block.{Block}
+use Rattle.tbr_view.specs.declared.level.Level.{Level}
+use Rattle.tbr_view.specs.declared.level.Opener.{Opener}
+use Rattle.tbr_view.specs.declared.level.Opener.TheVariants.{Sub, Cell, Block as OfBlock}
 use Rattle.tbr_view.specs.declared.problem.Problem.{Problem}
 use Rattle.tbr_view.specs.declared.problem.Kind.TheVariants.{LinesLost}
+use Rattle.tbr_view.specs.declared.statement.Statement.{Statement}
+use Rattle.tbr_view.specs.declared.statement.Statement.TheVariants as statement
 use Rattle.tbr_view.specs.Problem.{IsOf}
-use Rattle.tbr_view.specs.Block.{stands_apart}
+use Rattle.tbr_view.specs.Block.{prefix_of, other_prefix, stands_apart, end_of}
+use Rattle.tbr_view.specs.Statement.{IsStatement, is_skipped}
+use Rattle.tbr_view.specs.Level.{innermost, may_not_append}
 
 -- ---- lines that are lost
 
@@ -34,20 +49,96 @@ TellsLoss false number cell lost more = more ≡ lost
 TellsLoss true number cell lost more =
     (problem : Problem) × IsOf problem LinesLost number cell × (more ≡ lost ++ problem ∷ [])
 
--- ---- steps
+-- ---- where a script is
 
-module _ {D A M : Type 0} (meaning : A → M) (columns : ℕ → Option ℕ) (decoration : Decoration D M) where
-  -- A command of `blockrender` leads from one program to another, or isn't asked for.
-  abbrev pub Leads : Progress D A (Vec A) → Command → Progress D A (Vec A) → Type 0
-  Leads p command q = CommandDoes columns decoration (progress_meant meaning p) command (progress_meant meaning q)
+-- where the program is, and what opened each level that is open, the innermost last
+pub record State (D M : Type 0) : Type 0 where
+  pub program : Progress D M (List M)
+  pub levels : List Opener
 
-  abbrev pub LeadsIf : Bool → Progress D A (Vec A) → Command → Progress D A (Vec A) → Type 0
-  LeadsIf true p command q = Leads p command q
-  LeadsIf false p command q = q ≡ p
+abbrev pub openers : List Level → List Opener
+openers levels = map (λ level. level.by) levels
 
-  -- The lines of a block go after its prefixes.
-  pub record BlockCloses (p : Progress D A (Vec A)) (block : prefixed.Block) (prefixes : TextPair)
-      (q : Progress D A (Vec A)) : Type 0 where
-    pub appended : Progress D A (Vec A)
-    pub appends : Leads p (append (string_bytes prefixes.first) (string_bytes prefixes.second)) appended
-    pub ends : LeadsIf (stands_apart block) appended (ask (layout EndBlock)) q
+abbrev pub state_of : {D A M : Type 0} → (A → M) → Progress D A (Vec A) → List Level → State D M
+state_of meaning program levels = record { program = progress_meant meaning program; levels = openers levels }
+
+-- after the first command
+abbrev pub begun : {D M : Type 0} → Opening → D → State D M
+begun opening decorator = record { program = started opening decorator; levels = [] }
+
+-- ---- what lines do
+
+-- what a command leaves open
+abbrev pub opened_by : declared.Command → List Opener → List Opener
+opened_by (asked.Sub width) levels = levels ++ Sub ∷ []
+opened_by (asked.Cell cell) levels = levels ++ Cell ∷ []
+opened_by (asked.Append prefixes) levels = take (length levels - 1) levels
+opened_by asked.EndCell levels = take (length levels - 1) levels
+opened_by other levels = levels
+
+module _ {D M : Type 0} (columns : ℕ → Option ℕ) (decoration : Decoration D M) where
+  -- A command leads from one program to another, or isn't asked for.
+  abbrev pub DoesIf : Bool → Progress D M (List M) → Command → Progress D M (List M) → Type 0
+  DoesIf true p command q = CommandDoes columns decoration p command q
+  DoesIf false p command q = q ≡ p
+
+  -- A command of `blockrender`. An `append` closes no block with a prefix.
+  pub record Commands (s : State D M) (command : declared.Command) (t : State D M) : Type 0 where
+    pub may : may_not_append command (innermost s.levels) ≡ false
+    pub does : CommandDoes columns decoration s.program (command_of command) t.program
+    pub levels : t.levels ≡ opened_by command s.levels
+
+  -- A block opens in the columns that its prefix leaves, after an empty line if it stands apart.
+  pub record BlockOpens (s : State D M) (block : Block) (t : State D M) : Type 0 where
+    pub top : Renderer D M (List M)
+    pub is_top : top_of s.program.stack ≡ Some top
+    pub texts : TextPair
+    pub first : chars_of texts.first ≡ decoration.prefix_text top.decorator (prefix_of block)
+    pub others : chars_of texts.second ≡ other_prefix columns block (chars_of texts.first)
+    pub fits : width_of_text columns (chars_of texts.first) < top.width
+    pub apart : Progress D M (List M)
+    pub begins : DoesIf (stands_apart block) s.program (ask (layout StartBlock)) apart
+    pub opens : CommandDoes columns decoration apart
+        (sub (top.width - width_of_text columns (chars_of texts.first))) t.program
+    pub levels : t.levels ≡ s.levels ++ OfBlock block texts ∷ []
+
+  -- The lines of a block go after its prefixes, and an empty line after them if it stands apart.
+  pub record BlockAppends (p : Progress D M (List M)) (block : Block) (texts : TextPair)
+      (q : Progress D M (List M)) : Type 0 where
+    pub appended : Progress D M (List M)
+    pub appends :
+        CommandDoes columns decoration p (append (string_bytes texts.first) (string_bytes texts.second)) appended
+    pub ends : DoesIf (stands_apart block) appended (ask (layout EndBlock)) q
+
+  -- The innermost level is a block that this command ends.
+  pub record BlockCloses (s : State D M) (by : List ℕ) (t : State D M) : Type 0 where
+    pub block : Block
+    pub texts : TextPair
+    pub levels : s.levels ≡ t.levels ++ OfBlock block texts ∷ []
+    pub ends : end_of block ≡ by
+    pub appends : BlockAppends s.program block texts t.program
+
+  abbrev pub Does : State D M → Statement → State D M → Type 0
+  Does s (statement.Command command) t = Commands s command t
+  Does s (statement.Open block) t = BlockOpens s block t
+  Does s (statement.Close by) t = BlockCloses s by.now t
+
+  -- A line leads from where a script is to where it is next. An empty line and a comment ask for nothing.
+  abbrev pub LineDoes : State D M → List ℕ → State D M → Type 0
+  LineDoes s line t =
+      ((is_skipped line ≡ true) × (t ≡ s))
+      ⊎ ((is_skipped line ≡ false) × ((statement : Statement) × IsStatement line statement × Does s statement t))
+
+  abbrev pub LinesDo : State D M → List (List ℕ) → State D M → Type 0
+  LinesDo s [] t = t ≡ s
+  LinesDo s (line ∷ lines) t = (next : State D M) × LineDoes s line next × LinesDo next lines t
+
+  -- A script ends here with these lines: no level is open, and no cell waits.
+  pub record EndsIn (s : State D M) (lines : List (Line (List M))) : Type 0 where
+    pub levels : s.levels ≡ []
+    pub cells : s.program.pending.cells ≡ []
+    pub closes : OfTop (λ r. ClosesIn columns decoration s.program.stack.links r lines) s.program.stack
+
+  -- the lines that a script gives from here
+  abbrev pub LinesGive : State D M → List (List ℕ) → List (Line (List M)) → Type 0
+  LinesGive s script lines = (last : State D M) × LinesDo s script last × EndsIn last lines

@@ -1,6 +1,7 @@
 -- Lines as they are written in a format, and what is shown of a script.
-use Rattle.std.specs.Prelude.{◌≡◌, ℕ, ◌==◌, Bool, true, false, if◌then◌else◌, Option, None, Some, List, [], ◌∷◌, ◌++◌}
+use Rattle.std.specs.Prelude.{◌≡◌, ℕ, ◌==◌, Bool, true, false, if◌then◌else◌, Option, None, Some, List, [], ◌∷◌, ◌++◌, map}
 use Rattle.std.specs.Global.{Vec}
+use Rattle.std.specs.Option.{unwrap_or}
 use Rattle.tbr_model.specs.Codes.{newline_character}
 use Rattle.tbr_tagged.specs.Copies.{equal_lists}
 use Rattle.tbr_tagged.specs.Elements.{Element, items_of, characters, SameItems}
@@ -10,7 +11,14 @@ use Rattle.tbr_tagged.specs.Walks.{item_characters}
 use Rattle.tbr_border.specs.declared.RenderLine.{RenderLine}
 use Rattle.tbr_border.specs.declared.RenderLine.TheVariants.{Text as Words, Line as Rule}
 use Rattle.tbr_decor.specs.declared.annotation.RichAnnotation.{RichAnnotation}
-use Rattle.tbr_decor.specs.contracts.annotation.RichAnnotationPartialEq.TheImpl as rich
+use Rattle.tbr_decor.specs.contracts.annotation.RichAnnotationPartialEq.TheImpl as annotation
+use Rattle.tbr_decor.specs.Decoration.{Decoration}
+use Rattle.tbr_decor.specs.Style.{style_of}
+use Rattle.text_block_renderer.specs.Tags.{tag_meant}
+use Rattle.text_block_renderer.specs.Meant.{map_line}
+use Rattle.text_block_renderer.specs.Line.{line_seen}
+use Rattle.tbr_script.specs.Script.{lines_of}
+use Rattle.tbr_runner.specs.Decorations.{plain_decoration, trivial_decoration, rich_decoration}
 use Rattle.tbr_commands.specs.declared.opening.Decorator.{Decorator}
 use Rattle.tbr_commands.specs.declared.opening.Decorator.TheVariants.{Plain, Trivial, Rich}
 use Rattle.tbr_commands.specs.declared.opening.Opening.{Opening}
@@ -18,6 +26,7 @@ use Rattle.tbr_show.specs.Ansi as ansi
 use Rattle.tbr_show.specs.Ndjson as json
 use Rattle.tbr_show.specs.Html as html
 use Rattle.tbr_view.specs.Script.{Begins}
+use Rattle.tbr_view.specs.Session.{State, LinesGive, begun}
 use Rattle.tbr_view.specs.declared.script.Format.{Format}
 use Rattle.tbr_view.specs.declared.script.Format.TheVariants.{Text, Bare, Ansi, Ndjson, Html}
 use Rattle.tbr_view.specs.declared.script.Settings.{Settings}
@@ -31,17 +40,7 @@ is_border (Rule border) = true
 
 abbrev pub is_text : Format → Bool
 is_text Text = true
-is_text Bare = false
-is_text Ansi = false
-is_text Ndjson = false
-is_text Html = false
-
-abbrev pub is_for_terminals : Format → Bool
-is_for_terminals Text = false
-is_for_terminals Bare = true
-is_for_terminals Ansi = true
-is_for_terminals Ndjson = false
-is_for_terminals Html = false
+is_text other = false
 
 -- a line's characters and a newline
 abbrev pub line_text : {A : Type 0} → RenderLine A → List ℕ
@@ -59,41 +58,34 @@ elements_in columns Ansi is_border es = ansi.line es
 elements_in columns Ndjson is_border es = json.line columns is_border es
 elements_in columns Html is_border es = html.line columns es
 
--- tags without annotations
-abbrev pub Unannotated : Vec (Unit {0}) → Vec RichAnnotation → Type 0
-Unannotated tag bare = bare.items ≡ []
+-- what is shown of annotations: nothing, or all
+abbrev pub none : List (Unit {0}) → List RichAnnotation
+none annotations = []
 
--- the same under no annotations
-abbrev pub ShowsPlain : (ℕ → Option ℕ) → Format → Bool → List (Element (Vec (Unit {0}))) → List ℕ → Type 0
-ShowsPlain columns Bare is_border es cs = cs ≡ ansi.bare_line es
-ShowsPlain columns Ansi is_border es cs = cs ≡ ansi.bare_line es
-ShowsPlain columns format is_border es cs =
-    (bare : List (Element (Vec RichAnnotation))) × MapsElements Unannotated es bare
-    × (cs ≡ elements_in columns format is_border bare)
+abbrev pub themselves : List RichAnnotation → List RichAnnotation
+themselves annotations = annotations
 
--- a line in a format, under annotations
-abbrev pub IsShownRich : (ℕ → Option ℕ) → Format → RenderLine (Vec RichAnnotation) → List ℕ → Type 0
-IsShownRich columns Text line cs = cs ≡ line_text line
-IsShownRich columns format line cs =
-    (es : List (Element (Vec RichAnnotation))) × AreElements rich.ghosts.eq line es
-    × (cs ≡ elements_in columns format (is_border line) es)
+-- a list of annotations as what is shown of it
+abbrev pub IsRich : {A : Type 0} → (List A → List RichAnnotation) → Vec A → Vec RichAnnotation → Type 0
+IsRich rich tag shown = shown.items ≡ rich tag.items
 
--- the equality of no annotations
-abbrev pub equal_units : Unit {0} → Unit {0} → Bool
-equal_units _ _ = true
-
--- and under none
-abbrev pub IsShownPlain : (ℕ → Option ℕ) → Format → RenderLine (Vec (Unit {0})) → List ℕ → Type 0
-IsShownPlain columns Text line cs = cs ≡ line_text line
-IsShownPlain columns format line cs =
-    (es : List (Element (Vec (Unit {0})))) × AreElements equal_units line es
-    × ShowsPlain columns format (is_border line) es cs
+-- A line in a format, under annotations of this equality, of which this is shown.
+abbrev pub ShowsLine : {A : Type 0} → (A → A → Bool) → (List A → List RichAnnotation) → (ℕ → Option ℕ) → Format →
+    RenderLine (Vec A) → List ℕ → Type 0
+ShowsLine eq rich columns Text line cs = cs ≡ line_text line
+ShowsLine {A} eq rich columns format line cs =
+    (es : List (Element (Vec A))) × (shown : List (Element (Vec RichAnnotation))) × AreElements eq line es
+    × MapsElements (IsRich rich) es shown × (cs ≡ elements_in columns format (is_border line) shown)
 
 -- lines one after another
 abbrev pub AreShown : {L : Type 0} → (L → List ℕ → Type 0) → List L → List ℕ → Type 0
 AreShown Shows [] cs = cs ≡ []
 AreShown Shows (line ∷ lines) cs =
     (first : List ℕ) × (rest : List ℕ) × Shows line first × AreShown Shows lines rest × (cs ≡ first ++ rest)
+
+-- the equality of no annotations
+abbrev pub equal_units : Unit {0} → Unit {0} → Bool
+equal_units _ _ = true
 
 -- ---- scripts
 
@@ -105,25 +97,32 @@ width_in (Some columns) own = if columns == 0 then own else columns
 abbrev pub opening_in : Option ℕ → Opening → Opening
 opening_in width opening = record opening { width = width_in width opening.width }
 
--- the decorator that is set, or that of the script
-abbrev pub decorator_in : Option Decorator → Decorator → Decorator
-decorator_in None own = own
-decorator_in (Some decorator) own = decorator
+-- Characters that are the lines of a script in a format, under a decorator with annotations of this equality and
+-- meaning, of which this is shown.
+abbrev pub ShowsScript : {D A M : Type 0} → (A → A → Bool) → (List A → List RichAnnotation) → (A → M) → (ℕ → Option ℕ) →
+    Decoration D M → State D M → List (List ℕ) → Format → List ℕ → Type 0
+ShowsScript {D} {A} eq rich meaning columns decoration start script format cs =
+    (lines : List (RenderLine (Vec A)))
+    × LinesGive columns decoration start script (map (map_line (tag_meant meaning)) (map line_seen lines))
+    × AreShown (ShowsLine eq rich columns format) lines cs
 
--- Characters that are lines of a rendering under a decorator, in a format.
-abbrev pub ShowsUnder : (ℕ → Option ℕ) → Decorator → Format → List ℕ → Type 0
-ShowsUnder columns Plain format cs =
-    (lines : List (RenderLine (Vec (Unit {0})))) × AreShown (IsShownPlain columns format) lines cs
-ShowsUnder columns Trivial format cs =
-    (lines : List (RenderLine (Vec (Unit {0})))) × AreShown (IsShownPlain columns format) lines cs
-ShowsUnder columns Rich format cs =
-    (lines : List (RenderLine (Vec RichAnnotation))) × AreShown (IsShownRich columns format) lines cs
+-- the same under the decorator of this name, after this first command
+abbrev pub ShowsUnder :
+    (ℕ → Option ℕ) → Decorator → Opening → List (List ℕ) → Format → List ℕ → Type 0
+ShowsUnder columns Plain opening script format cs =
+    ShowsScript equal_units none (λ a. a) columns plain_decoration (begun opening (record {})) script format cs
+ShowsUnder columns Trivial opening script format cs =
+    ShowsScript equal_units none (λ a. a) columns trivial_decoration (begun opening (record {})) script format cs
+ShowsUnder columns Rich opening script format cs =
+    ShowsScript annotation.ghosts.eq themselves style_of columns rich_decoration (begun opening (record {})) script
+    format cs
 
--- These characters are what is shown of a script that begins with a first command: lines in the format that is set,
--- under the decorator that is set, or that of the script.
+-- These characters are what is shown of a script that begins with a first command: the lines that the others give, in
+-- the format that is set, in the columns and under the decorator that are set, or those of the script.
 pub record IsShown (columns : ℕ → Option ℕ) (script : List ℕ) (settings : Settings) (cs : List ℕ) : Type 0 where
   pub opening : Opening
   pub number : ℕ
   pub rest : List ℕ
   pub begins : Begins script opening number rest
-  pub shows : ShowsUnder columns (decorator_in settings.decorator opening.decorator) settings.format cs
+  pub shows : ShowsUnder columns (unwrap_or settings.decorator opening.decorator)
+      (opening_in settings.width opening) (lines_of rest) settings.format cs

@@ -10,6 +10,7 @@ use Rattle.tbr_commands.specs.Syntax.{IsCommand, Behind, ending_name}
 use Rattle.tbr_commands.specs.declared.command.Command as line
 use Rattle.tbr_commands.specs.declared.command.Command.TheVariants as command
 use Rattle.tbr_commands.specs.declared.request.Request.TheVariants as request
+use Rattle.tbr_view.specs.Block.{end_of}
 use Rattle.tbr_view.specs.declared.block.Block.{Block}
 use Rattle.tbr_view.specs.declared.block.Block.TheVariants.{Quote, Item, Ordered, Heading}
 use Rattle.tbr_view.specs.declared.statement.Statement.{Statement}
@@ -36,13 +37,6 @@ Opens line Quote = line ≡ codes "quote"
 Opens line Item = line ≡ codes "item"
 Opens line (Ordered number) = Behind (codes "ordered") line (λ digits. IsItemNumber digits number)
 Opens line (Heading level) = Behind (codes "heading") line (λ digits. IsSize digits level)
-
--- the command that ends a block
-abbrev pub end_of : Block → List ℕ
-end_of Quote = codes "endquote"
-end_of Item = codes "enditem"
-end_of (Ordered number) = codes "endordered"
-end_of (Heading level) = codes "endheading"
 
 -- a line that opens a block, or is the end of one
 abbrev pub IsOfBlocks : List ℕ → Statement → Type 0

@@ -2,7 +2,6 @@
 ghost use Rattle.std.specs.Prelude.{◌≡◌, IfOk, chars, string_bytes};
 ghost use Rattle.tbr_tagged.specs.View.{chars_of};
 ghost use Rattle.tbr_runner.specs.Prefixes.{asked_prefix};
-ghost use Rattle.tbr_view.specs.Statement.{end_of};
 ghost use Rattle.tbr_view.specs.Block as model;
 
 use std::alloc::Global;
@@ -45,7 +44,7 @@ impl Block {
 
     /// The command that ends it.
     pub fn end(self) -> &'static str
-        ensures { result.now ≡ end_of self }
+        ensures { result.now ≡ model.end_of self }
     {
         match self {
             Block::Quote => "endquote",

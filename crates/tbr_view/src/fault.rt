@@ -1,4 +1,6 @@
 //! Why a line is no command.
+ghost use Rattle.std.specs.Prelude.{◌≡◌};
+ghost use Rattle.tbr_view.specs.Fault as model;
 
 use crate::words::{DECORATORS, FORMS, OPTIONS, first_word, form_of, nearest};
 use std::alloc::{AllocError, Global};
@@ -7,6 +9,11 @@ use tbr_script::{Words, parse_size, unescape};
 
 /// U+FEFF, which some editors put in front of a file.
 const BYTE_ORDER_MARK: char = '\u{feff}';
+
+/// The words of commands whose text is on a line below.
+const TEXT_BELOW: [&str; 9] = [
+    "heading", "quote", "item", "ordered", "block", "line", "em", "strong", "code",
+];
 
 /// What is wrong with a line, and one way to put it right.
 #[derive(Debug, Drop)]
@@ -114,13 +121,15 @@ fn fault_of_word(alloc: Global, word: &str, line: &str) -> Result<Fault, AllocEr
 }
 
 /// What is said besides of how the command of a word is written.
-fn besides(word: &str) -> &'static str {
-    match word {
-        "cell" => "; SPAN is 1 for an ordinary cell",
-        "heading" | "quote" | "item" | "ordered" | "block" | "line" | "em" | "strong" | "code" => {
-            ", and its text on a `text` line below"
-        }
-        _ => "",
+fn besides(word: &str) -> &'static str
+    ensures { result.now ≡ model.besides word.now }
+{
+    if word == "cell" {
+        "; SPAN is 1 for an ordinary cell"
+    } else if TEXT_BELOW.contains(&word) {
+        ", and its text on a `text` line below"
+    } else {
+        ""
     }
 }
 

@@ -1,8 +1,7 @@
 //! What is open in a script, and the lines where it was opened.
-ghost use Rattle.std.specs.Prelude.{◌≡◌, ◌++◌, ◌∷◌, [], None, Some, true, OnOk, IfSome, IfNone};
-ghost use Rattle.std.specs.Option.{option_copied};
+ghost use Rattle.std.specs.Prelude.{◌≡◌, [], OnOk, IfSome, IfNone};
+ghost use Rattle.std.specs.Option.{option_copied, option_or};
 ghost use Rattle.tbr_view.specs.Level as model;
-ghost use Rattle.tbr_view.specs.declared.level.Level.{Level as Meant};
 
 use crate::block::Block;
 use std::alloc::{AllocError, Global};
@@ -59,7 +58,7 @@ pub struct TooWide {
 impl Opener {
     /// What an error calls it.
     pub fn name(&self) -> &'static str
-        ensures { result.now ≡ model.name_of self.now }
+        ensures { result.now ≡ model.called self.now }
     {
         match self {
             Opener::Sub => "a block",
@@ -70,7 +69,7 @@ impl Opener {
 
     /// The command that closes it.
     pub fn end(&self) -> &'static str
-        ensures { result.now ≡ model.end_of self.now }
+        ensures { result.now ≡ model.closing self.now }
     {
         match self {
             Opener::Sub => "append >  | > ",
@@ -123,7 +122,7 @@ impl Notes {
 
     /// No cell waits any more.
     pub fn take_cells(&mut self)
-        ensures { self.new ≡ record self.old { first_cell = None; row_columns = 0 } }
+        ensures { self.new ≡ model.without_cells self.old }
     {
         self.first_cell = None;
         self.row_columns = 0;
@@ -161,7 +160,7 @@ impl Levels {
     /// The first text that is known to be too wide. One of the innermost level comes before those of the levels
     /// outside.
     pub fn too_wide(&self) -> Option<TooWide>
-        ensures { result ≡ model.first_of self.now.notes.too_wide (model.outside_too_wide self.now.inside.items) }
+        ensures { result ≡ option_or self.now.notes.too_wide (model.outside_too_wide self.now.inside.items) }
     {
         let mut found = None;
         for level in &self.inside {
@@ -172,7 +171,7 @@ impl Levels {
 
     /// Whether the innermost level is a block with a prefix.
     pub fn is_in_a_block(&self) -> bool
-        ensures { result ≡ model.is_in_a_block (model.innermost self.now.inside.items) }
+        ensures { result ≡ model.is_in_a_block (model.opener_of (model.innermost self.now.inside.items)) }
     {
         match self.innermost() {
             Some(level) => matches!(level.by, Opener::Block(_, _)),
@@ -182,8 +181,7 @@ impl Levels {
 
     /// Whether this command closes the innermost level.
     pub fn is_closed_by(&self, command: &str) -> bool
-        ensures { result ≡ true → (level : Meant) × (model.innermost self.now.inside.items ≡ Some level)
-            × (model.end_of level.by ≡ command.now) }
+        ensures { result ≡ model.is_closed_by command.now (model.innermost self.now.inside.items) }
     {
         match self.innermost() {
             Some(level) => level.by.end() == command,
@@ -193,9 +191,7 @@ impl Levels {
 
     /// A level opens on a line. Nothing is known of it yet.
     pub fn enter(&mut self, by: Opener, line: usize) -> Result<(), AllocError>
-        ensures inside { OnOk result (self.new.inside.items
-            ≡ self.old.inside.items ++ record { by = by; line = line; outside = self.old.notes } ∷ []) }
-        ensures notes { OnOk result (self.new.notes ≡ model.nothing) }
+        ensures { OnOk result (model.known_in self.new ≡ model.entered (model.known_in self.old) by line) }
     {
         let outside = mem::replace(&mut self.notes, Notes::nothing());
         self.inside.push(Level { by, line, outside })?;

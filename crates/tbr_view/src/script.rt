@@ -1,13 +1,19 @@
 //! From a script for people to what is shown of it.
-ghost use Rattle.std.specs.Prelude.{◌≡◌, ◌≢◌, ◌<◌, Some, IfOk, IfErr};
+ghost use Rattle.std.specs.Prelude.{◌≡◌, ◌≢◌, ◌<◌, Some, map, IfOk, IfErr};
 ghost use Rattle.tbr_tagged.specs.View.{chars_of};
+ghost use Rattle.tbr_decor.specs.Decoration.{decoration_of};
+ghost use Rattle.tbr_script.specs.Script.{lines_of};
+ghost use Rattle.text_block_renderer.specs.Tags.{tag_meant};
+ghost use Rattle.text_block_renderer.specs.Meant.{map_line};
+ghost use Rattle.text_block_renderer.specs.Line.{line_seen};
 ghost use Rattle.tbr_view.specs.Script.{Begins, BeginsNot};
+ghost use Rattle.tbr_view.specs.Session.{LinesGive, begun};
 ghost use Rattle.tbr_view.specs.Shown.{IsShown, opening_in};
 
 use crate::advice;
 use crate::problem::{Problem, Refusal};
 use crate::session::Session;
-use crate::show::{show_plain, show_rich};
+use crate::show::show;
 use crate::statement::is_skipped;
 use std::alloc::Global;
 use std::collections::LinkedList;
@@ -61,19 +67,19 @@ pub fn view<W: CharWidth>(alloc: Global, script: &[u8], view: Settings) -> Resul
         Decorator::Plain => {
             let decorator = PlainDecorator::new();
             let (lines, lost) = run::<_, W>(alloc, opening, decorator, number, rest)?;
-            let text = show_plain::<W>(alloc, lines, view.format)?;
+            let text = show::<_, W>(alloc, lines, view.format)?;
             Ok(Shown { text, lost })
         }
         Decorator::Trivial => {
             let decorator = TrivialDecorator::new();
             let (lines, lost) = run::<_, W>(alloc, opening, decorator, number, rest)?;
-            let text = show_plain::<W>(alloc, lines, view.format)?;
+            let text = show::<_, W>(alloc, lines, view.format)?;
             Ok(Shown { text, lost })
         }
         Decorator::Rich => {
             let decorator = RichDecorator::new();
             let (lines, lost) = run::<_, W>(alloc, opening, decorator, number, rest)?;
-            let text = show_rich::<W>(alloc, lines, view.format)?;
+            let text = show::<_, W>(alloc, lines, view.format)?;
             Ok(Shown { text, lost })
         }
     }
@@ -136,6 +142,8 @@ fn run<D: TextDecorator, W: CharWidth>(
 ) -> Result<(LinkedList<RenderLine<Vec<D::Annotation>>>, Vec<Problem>), Refusal>
     requires width { 0 < opening.width }
     requires wrap_width { opening.options.wrap_width ≢ Some 0 }
+    ensures { IfOk result (λ r. LinesGive W.columns (decoration_of D.TextDecorator) (begun opening decorator)
+        (lines_of script.now) (map (map_line (tag_meant D.meaning)) (map line_seen r.0))) }
 {
     let mut session: Session<D, W> = Session::new(alloc, opening, decorator)?;
     let mut rest = script;

@@ -1,11 +1,15 @@
 //! A script for people, line after line, on a program.
-ghost use Rattle.std.specs.Prelude.{◌≡◌, ◌≢◌, ◌<◌, Some, find, chars, IfOk, OnOk};
+ghost use Rattle.std.specs.Prelude.{◌≡◌, ◌≢◌, ◌<◌, [], Some, map, find, chars, IfOk, OnOk};
 ghost use Rattle.tbr_decor.specs.Decoration.{decoration_of};
 ghost use Rattle.tbr_commands.specs.Command.{command_of, ask};
 ghost use Rattle.tbr_commands.specs.Command as asked;
 ghost use Rattle.tbr_commands.specs.Request.{layout as laid};
-ghost use Rattle.tbr_runner.specs.Progress.{GoesOn};
-ghost use Rattle.tbr_view.specs.Level.{takes_two};
+ghost use Rattle.tbr_runner.specs.Meaning.{CommandDoes};
+ghost use Rattle.tbr_runner.specs.Progress.{GoesOn, progress_meant};
+ghost use Rattle.text_block_renderer.specs.Tags.{tag_meant};
+ghost use Rattle.text_block_renderer.specs.Meant.{map_line};
+ghost use Rattle.text_block_renderer.specs.Line.{line_seen};
+ghost use Rattle.tbr_view.specs.Level.{innermost, opener_of, may_not_append, known_in, noted, takes_two};
 ghost use Rattle.tbr_view.specs.Session as model;
 ghost use Rattle.tbr_view.specs.Statement.{IsSized};
 
@@ -38,6 +42,8 @@ impl<D: TextDecorator, W: CharWidth> Session<D, W> {
     pub fn new(alloc: Global, opening: Opening, decorator: D) -> Result<Session<D, W>, Refusal>
         requires width { 0 < opening.width }
         requires wrap_width { opening.options.wrap_width ≢ Some 0 }
+        ensures begins { IfOk result (λ session.
+            model.state_of D.meaning session.program session.levels.inside.items ≡ model.begun opening decorator) }
         ensures live { IfOk result (λ session. GoesOn session.program) }
     {
         let Opening { width, options, .. } = opening;
@@ -55,6 +61,9 @@ impl<D: TextDecorator, W: CharWidth> Session<D, W> {
     /// Does what the line of this number asks for. An empty line and a comment ask for nothing.
     pub fn run_line(&mut self, number: usize, line: &[u8]) -> Result<(), Refusal>
         requires { GoesOn self.old.program }
+        ensures does { OnOk result (model.LineDoes W.columns (decoration_of D.TextDecorator)
+            (model.state_of D.meaning self.old.program self.old.levels.inside.items) line.now
+            (model.state_of D.meaning self.new.program self.new.levels.inside.items)) }
         ensures live { OnOk result (GoesOn self.new.program) }
     {
         if is_skipped(line) {
@@ -70,6 +79,9 @@ impl<D: TextDecorator, W: CharWidth> Session<D, W> {
     fn run_statement(&mut self, number: usize, statement: Statement) -> Result<(), Refusal>
         requires live { GoesOn self.old.program }
         requires sized { IsSized statement }
+        ensures does { OnOk result (model.Does W.columns (decoration_of D.TextDecorator)
+            (model.state_of D.meaning self.old.program self.old.levels.inside.items) statement
+            (model.state_of D.meaning self.new.program self.new.levels.inside.items)) }
         ensures live { OnOk result (GoesOn self.new.program) }
     {
         match statement {
@@ -83,22 +95,25 @@ impl<D: TextDecorator, W: CharWidth> Session<D, W> {
     fn run(&mut self, number: usize, command: &Command) -> Result<(), Refusal>
         requires live { GoesOn self.old.program }
         requires sized { asked.IsSized (command_of command.now) }
+        ensures does { OnOk result (model.Commands W.columns (decoration_of D.TextDecorator)
+            (model.state_of D.meaning self.old.program self.old.levels.inside.items) command.now
+            (model.state_of D.meaning self.new.program self.new.levels.inside.items)) }
         ensures live { OnOk result (GoesOn self.new.program) }
     {
         if self.may_not_append(command) {
             return Err(self.not_open("append", number));
         }
         self.note_texts(number, command);
-        if matches!(command, Command::Append(_) | Command::EndCell) {
-            self.note_losses(number)?;
-        }
+        self.note_losses_of(number, command)?;
         self.command(number, command)?;
         self.note_levels(number, command)?;
         Ok(())
     }
 
     /// Whether a command would close a block with a prefix that it doesn't end.
-    fn may_not_append(&self, command: &Command) -> bool {
+    fn may_not_append(&self, command: &Command) -> bool
+        ensures { result ≡ may_not_append command.now (opener_of (innermost self.now.levels.inside.items)) }
+    {
         matches!(command, Command::Append(_)) && self.levels.is_in_a_block()
     }
 
@@ -106,8 +121,9 @@ impl<D: TextDecorator, W: CharWidth> Session<D, W> {
     fn command(&mut self, number: usize, command: &Command) -> Result<(), Refusal>
         requires live { GoesOn self.old.program }
         requires sized { asked.IsSized (command_of command.now) }
-        ensures leads { OnOk result (model.Leads D.meaning W.columns (decoration_of D.TextDecorator)
-            self.old.program (command_of command.now) self.new.program) }
+        ensures does { OnOk result (CommandDoes W.columns (decoration_of D.TextDecorator)
+            (progress_meant D.meaning self.old.program) (command_of command.now)
+            (progress_meant D.meaning self.new.program)) }
         ensures levels { self.new.levels ≡ self.old.levels }
         ensures lost { self.new.lost ≡ self.old.lost }
         ensures live { OnOk result (GoesOn self.new.program) }
@@ -126,6 +142,9 @@ impl<D: TextDecorator, W: CharWidth> Session<D, W> {
     /// Opens a block with a prefix of the decorator, in as many columns as the prefix leaves.
     fn open(&mut self, number: usize, block: Block) -> Result<(), Refusal>
         requires { GoesOn self.old.program }
+        ensures opens { OnOk result (model.BlockOpens W.columns (decoration_of D.TextDecorator)
+            (model.state_of D.meaning self.old.program self.old.levels.inside.items) block
+            (model.state_of D.meaning self.new.program self.new.levels.inside.items)) }
         ensures live { OnOk result (GoesOn self.new.program) }
     {
         let Ok(prefix) = self.program.prefix(block.prefix()) else {
@@ -146,6 +165,9 @@ impl<D: TextDecorator, W: CharWidth> Session<D, W> {
     /// Closes the block that this command ends.
     fn close(&mut self, number: usize, by: &'static str) -> Result<(), Refusal>
         requires { GoesOn self.old.program }
+        ensures closes { OnOk result (model.BlockCloses W.columns (decoration_of D.TextDecorator)
+            (model.state_of D.meaning self.old.program self.old.levels.inside.items) by.now
+            (model.state_of D.meaning self.new.program self.new.levels.inside.items)) }
         ensures live { OnOk result (GoesOn self.new.program) }
     {
         if !self.levels.is_closed_by(by) {
@@ -166,8 +188,9 @@ impl<D: TextDecorator, W: CharWidth> Session<D, W> {
         prefixes: TextPair,
     ) -> Result<(), Refusal>
         requires { GoesOn self.old.program }
-        ensures closes { OnOk result (model.BlockCloses D.meaning W.columns (decoration_of D.TextDecorator)
-            self.old.program block prefixes self.new.program) }
+        ensures appends { OnOk result (model.BlockAppends W.columns (decoration_of D.TextDecorator)
+            (progress_meant D.meaning self.old.program) block prefixes
+            (progress_meant D.meaning self.new.program)) }
         ensures levels { self.new.levels ≡ self.old.levels }
         ensures lost { self.new.lost ≡ self.old.lost }
         ensures live { OnOk result (GoesOn self.new.program) }
@@ -179,8 +202,9 @@ impl<D: TextDecorator, W: CharWidth> Session<D, W> {
     /// Begins or ends a block of lines, if that is asked for.
     fn lay_out_if(&mut self, is_asked: bool, number: usize, layout: Layout) -> Result<(), Refusal>
         requires { GoesOn self.old.program }
-        ensures leads { OnOk result (model.LeadsIf D.meaning W.columns (decoration_of D.TextDecorator)
-            is_asked self.old.program (ask (laid layout)) self.new.program) }
+        ensures does { OnOk result (model.DoesIf W.columns (decoration_of D.TextDecorator) is_asked
+            (progress_meant D.meaning self.old.program) (ask (laid layout))
+            (progress_meant D.meaning self.new.program)) }
         ensures levels { self.new.levels ≡ self.old.levels }
         ensures lost { self.new.lost ≡ self.old.lost }
         ensures live { OnOk result (GoesOn self.new.program) }
@@ -221,6 +245,8 @@ impl<D: TextDecorator, W: CharWidth> Session<D, W> {
 
     /// Notes what a command opened and closed.
     fn note_levels(&mut self, number: usize, command: &Command) -> Result<(), AllocError>
+        ensures levels { OnOk result
+            (known_in self.new.levels ≡ noted (known_in self.old.levels) number command.now) }
         ensures program { self.new.program ≡ self.old.program }
         ensures lost { self.new.lost ≡ self.old.lost }
     {
@@ -258,6 +284,18 @@ impl<D: TextDecorator, W: CharWidth> Session<D, W> {
         Ok(())
     }
 
+    /// The same, if a command closes the innermost level.
+    fn note_losses_of(&mut self, number: usize, command: &Command) -> Result<(), Refusal>
+        requires { GoesOn self.old.program }
+        ensures program { self.new.program ≡ self.old.program }
+        ensures levels { self.new.levels ≡ self.old.levels }
+    {
+        match command {
+            Command::Append(_) | Command::EndCell => self.note_losses(number),
+            _ => Ok(()),
+        }
+    }
+
     /// Whether a cell that overhangs in the innermost level has lines that no row has shown.
     fn loses_lines(&self) -> bool
         requires { GoesOn self.now.program }
@@ -270,8 +308,12 @@ impl<D: TextDecorator, W: CharWidth> Session<D, W> {
     /// cells wait.
     fn end(&mut self, number: usize) -> Result<(), Refusal>
         requires { GoesOn self.old.program }
+        ensures inside { OnOk result (self.old.levels.inside.items ≡ []) }
+        ensures cells { OnOk result (self.old.program.pending.cells ≡ []) }
         ensures program { self.new.program ≡ self.old.program }
         ensures levels { self.new.levels ≡ self.old.levels }
+        ensures lost { OnOk result (model.TellsLoss (model.loses self.old.program) number
+            self.old.levels.notes.spanning self.old.lost.items self.new.lost.items) }
     {
         if let Some(level) = self.levels.innermost() {
             return Err(advice::still_open(self.alloc, number, level));
@@ -289,6 +331,11 @@ impl<D: TextDecorator, W: CharWidth> Session<D, W> {
         number: usize,
     ) -> Result<(LinkedList<RenderLine<Vec<D::Annotation>>>, Vec<Problem>), Refusal>
         requires { GoesOn self.program }
+        ensures lines { IfOk result (λ r. model.EndsIn W.columns (decoration_of D.TextDecorator)
+            (model.state_of D.meaning self.program self.levels.inside.items)
+            (map (map_line (tag_meant D.meaning)) (map line_seen r.0))) }
+        ensures lost { IfOk result (λ r. model.TellsLoss (model.loses self.program) number
+            self.levels.notes.spanning self.lost.items r.1.items) }
     {
         self.end(number)?;
         let Session {

@@ -1,8 +1,10 @@
 //! Lines in a format.
-ghost use Rattle.std.specs.Prelude.{◌≡◌, ◌++◌, ◌∷◌, [], List, ℕ, IfOk, OnOk};
+ghost use Rattle.std.specs.Prelude.{◌≡◌, ◌++◌, ◌∷◌, [], List, ℕ, true, refl, IfOk, OnOk};
 ghost use Rattle.tbr_model.specs.Codes.{newline_character};
 ghost use Rattle.tbr_tagged.specs.View.{chars_of};
 ghost use Rattle.tbr_tagged.specs.Mapped.{MapsElements};
+ghost use Rattle.tbr_decor.specs.RichLaws.{copies_equal as rich_copies_equal};
+ghost use Rattle.tbr_decor.specs.declared.annotation.RichAnnotation.{RichAnnotation as Rich};
 ghost use Rattle.tbr_view.specs.Shown as model;
 
 use crate::script::Format;
@@ -12,69 +14,75 @@ use tbr_decor::RichAnnotation;
 use tbr_lines::{CharWidth, OutOfMemory, RenderLine, TaggedLine};
 use tbr_show::{ansi, html, ndjson};
 
-/// The lines under rich annotations. It refuses where memory is refused, and where a line's columns pass `usize`.
-pub fn show_rich<W: CharWidth>(
+/// What lines may be annotated with, to be shown.
+pub trait Annotation: Eq + Clone + Drop {
+    // What is shown of a list of them.
+    ghost rich: { List Self → List Rich };
+
+    /// The same as rich annotations.
+    fn into_rich(alloc: Global, annotations: Vec<Self>) -> Vec<RichAnnotation>
+        ensures { result.items ≡ Self.rich annotations.items };
+
+    ghost copies_equal: { (a b : Self) → Self.is_clone a b → Self.eq a b ≡ true };
+}
+
+impl Annotation for () {
+    ghost rich = { model.none };
+
+    ghost copies_equal = { λ _ _ _. refl };
+
+    fn into_rich(alloc: Global, _annotations: Vec<()>) -> Vec<RichAnnotation>
+        ensures { result.items ≡ model.none _annotations.items }
+    {
+        Vec::new(alloc)
+    }
+}
+
+impl Annotation for RichAnnotation {
+    ghost rich = { model.themselves };
+
+    ghost copies_equal = { rich_copies_equal };
+
+    fn into_rich(_alloc: Global, annotations: Vec<RichAnnotation>) -> Vec<RichAnnotation>
+        ensures { result.items ≡ annotations.items }
+    {
+        annotations
+    }
+}
+
+/// The lines in a format. It refuses where memory is refused, and where a line's columns pass `usize`.
+pub fn show<T: Annotation, W: CharWidth>(
     alloc: Global,
-    lines: LinkedList<RenderLine<Vec<RichAnnotation>>>,
+    lines: LinkedList<RenderLine<Vec<T>>>,
     format: Format,
 ) -> Result<String, OutOfMemory>
-    ensures { IfOk result (λ text. model.AreShown (model.IsShownRich W.columns format) lines (chars_of text)) }
+    ensures { IfOk result (λ text.
+        model.AreShown (model.ShowsLine T.eq T.rich W.columns format) lines (chars_of text)) }
 {
     let mut text = String::new(alloc);
     for line in lines {
-        push_rich::<W>(&mut text, line, format)?;
+        push_line::<T, W>(alloc, &mut text, line, format)?;
     }
     Ok(text)
 }
 
-/// The lines under no annotations. It refuses as [`show_rich`] does.
-pub fn show_plain<W: CharWidth>(
+/// Appends a line in a format.
+fn push_line<T: Annotation, W: CharWidth>(
     alloc: Global,
-    lines: LinkedList<RenderLine<Vec<()>>>,
-    format: Format,
-) -> Result<String, OutOfMemory>
-    ensures { IfOk result (λ text. model.AreShown (model.IsShownPlain W.columns format) lines (chars_of text)) }
-{
-    let mut text = String::new(alloc);
-    for line in lines {
-        push_plain::<W>(alloc, &mut text, line, format)?;
-    }
-    Ok(text)
-}
-
-/// Appends a line under rich annotations.
-fn push_rich<W: CharWidth>(
     text: &mut String,
-    line: RenderLine<Vec<RichAnnotation>>,
+    line: RenderLine<Vec<T>>,
     format: Format,
 ) -> Result<(), OutOfMemory>
-    ensures { OnOk result ((cs : List ℕ) × model.IsShownRich W.columns format line cs
+    ensures { OnOk result ((cs : List ℕ) × model.ShowsLine T.eq T.rich W.columns format line cs
         × (chars_of text.new ≡ chars_of text.old ++ cs)) }
 {
     if is_text(format) {
         return push_characters(text, &line);
     }
     let is_border = is_border(&line);
-    let line = line.into_tagged_line()?;
-    push_elements::<W>(text, &line, is_border, format)
-}
-
-/// Appends a line under no annotations.
-fn push_plain<W: CharWidth>(
-    alloc: Global,
-    text: &mut String,
-    line: RenderLine<Vec<()>>,
-    format: Format,
-) -> Result<(), OutOfMemory>
-    ensures { OnOk result ((cs : List ℕ) × model.IsShownPlain W.columns format line cs
-        × (chars_of text.new ≡ chars_of text.old ++ cs)) }
-{
-    if is_text(format) {
-        return push_characters(text, &line);
-    }
-    let is_border = is_border(&line);
-    let line = line.into_tagged_line()?;
-    push_unannotated::<W>(alloc, text, line, is_border, format)
+    let tagged = line.into_tagged_line()?;
+    let rich = rich_line(alloc, tagged)?;
+    push_elements::<W>(text, &rich, is_border, format)
 }
 
 /// Whether it is the characters of lines.
@@ -82,13 +90,6 @@ fn is_text(format: Format) -> bool
     ensures { result ≡ model.is_text format }
 {
     matches!(format, Format::Text)
-}
-
-/// Whether it is for terminals.
-fn is_for_terminals(format: Format) -> bool
-    ensures { result ≡ model.is_for_terminals format }
-{
-    matches!(format, Format::Ansi | Format::Bare)
 }
 
 /// Whether a line is a border.
@@ -114,35 +115,17 @@ fn end_line(text: &mut String) -> Result<(), OutOfMemory>
     Ok(())
 }
 
-/// Appends elements under no annotations, for which a terminal needs no control sequences.
-fn push_unannotated<W: CharWidth>(
+/// The same elements under rich annotations.
+fn rich_line<T: Annotation>(
     alloc: Global,
-    text: &mut String,
-    line: TaggedLine<Vec<()>>,
-    is_border: bool,
-    format: Format,
-) -> Result<(), OutOfMemory>
-    ensures { OnOk result ((cs : List ℕ) × model.ShowsPlain W.columns format is_border line cs
-        × (chars_of text.new ≡ chars_of text.old ++ cs)) }
-{
-    if is_for_terminals(format) {
-        return ansi::push_bare_line(text, &line);
-    }
-    let line = bare(alloc, line)?;
-    push_elements::<W>(text, &line, is_border, format)
-}
-
-/// The same elements under lists of no annotations.
-fn bare(
-    alloc: Global,
-    line: TaggedLine<Vec<()>>,
+    line: TaggedLine<Vec<T>>,
 ) -> Result<TaggedLine<Vec<RichAnnotation>>, OutOfMemory>
-    ensures { IfOk result (λ bare. MapsElements model.Unannotated line bare) }
+    ensures { IfOk result (λ rich. MapsElements (model.IsRich T.rich) line rich) }
 {
     line.map_tag(
-        &|_tag: Vec<()>| -> Vec<RichAnnotation>
-            ensures { result.items ≡ [] }
-        { Vec::new(alloc) },
+        &|tag: Vec<T>| -> Vec<RichAnnotation>
+            ensures { result.items ≡ T.rich tag.items }
+        { T::into_rich(alloc, tag) },
     )
 }
 

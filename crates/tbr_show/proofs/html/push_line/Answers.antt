@@ -1,11 +1,10 @@
-use Rattle.std.proofs.Common.{ap, refl, ◌∙◌, ◌∷◌, [], ◌++◌, map, sym}
+use Rattle.std.proofs.Common.{ap, ◌∙◌, ◌∷◌, [], ◌++◌, map, sym}
 use Rattle.std.specs.Prelude.{flat_map}
-use Rattle.std.proofs.lemmas.Iterator.Consumers.{YieldsList-from_first, YieldsList-end}
 use Rattle.tbr_model.specs.Codes.{newline_character}
 use Rattle.tbr_tagged.specs.View.{chars_of, element_of}
 use Rattle.tbr_tagged.specs.Walks.{elements_left}
 use Rattle.tbr_show.specs.Html as model
-use Rattle.tbr_show.proofs.Appended.{one_behind, flat_map-map_push, map_both, on_ok_then}
+use Rattle.tbr_show.proofs.Appended.{one_behind, flat_map-map_push, walked, on_ok_then}
 use Rattle.tbr_show.proofs.html.push_line.Goals as goal
 
 pub loop-element-preserved : goal.loop-element-preserved
@@ -15,10 +14,7 @@ loop-element-preserved g c =
 
 pub returns : goal.returns
 returns g c =
-    let walk = c.into_iter-element-iterator.result in
-    let list = YieldsList-from_first (λ y. y.now) elements_left {s = walk} (elements_left walk) refl in
-    let end = YieldsList-end list c.loop-element.yielded c.loop-element.element-iterator c.loop-element.yielded_by c.next.result c.next.new.self c.in-None.is c.next.ensures.steps in
-    let all = map_both element_of (λ y. y.now) c.loop-element.yielded ∙ ap (map element_of) end.0
+    let all = walked elements_left element_of _ c.loop-element.yielded c.loop-element.element-iterator c.loop-element.yielded_by c.next.result c.next.new.self c.in-None.is c.next.ensures.steps
     ∙ ap (λ w. map element_of (elements_left w)) c.into_iter-element-iterator.ensures.into_iter_gives ∙ c.iter-element-items.ensures.elements in
     on_ok_then c.push_ascii.result
     (λ h. one_behind _ _ _ _ _ c.loop-element.invariant h ∙ ap (λ es. chars_of c.args.text.now ++ (flat_map (model.element g.W.CharWidth.columns) es ++ newline_character ∷ [])) all)

@@ -4,8 +4,7 @@ use Rattle.tbr_renderer.specs.Meant.{meant}
 use Rattle.tbr_renderer.specs.View.{end_of}
 use Rattle.tbr_renderer.specs.Renderer.{Renderer, kept_of}
 use Rattle.tbr_renderer.specs.Calls.{finish, Does, IsTooNarrow}
-use Rattle.tbr_renderer.proofs.KeptRefusals.{kept_answers}
-use Rattle.tbr_renderer.proofs.Refusals.{on_err}
+use Rattle.tbr_renderer.proofs.KeptRefusals.{on_err, kept_answers}
 use Rattle.tbr_renderer.proofs.sub.SubRenderer.finish.Goals as goal
 
 pub returns : goal.returns

@@ -4,8 +4,8 @@ use Rattle.tbr_commands.specs.Request.{text}
 use Rattle.tbr_runner.specs.Progress.{progress_meant, GoesOn}
 use Rattle.tbr_runner.specs.Meaning.{RequestRefuses}
 use Rattle.tbr_runner.proofs.Levels.{with_top_live, top_live}
-use Rattle.tbr_runner.proofs.Live.{still_live}
-use Rattle.tbr_runner.proofs.Meant.{request_refused, request_done}
+use Rattle.tbr_runner.proofs.LivePrograms.{still_live}
+use Rattle.tbr_runner.proofs.MeantCommands.{request_refused, request_done}
 use Rattle.tbr_runner.proofs.Results.{refused_by}
 use Rattle.tbr_runner.proofs.program.Program.add_text.Goals as goal
 

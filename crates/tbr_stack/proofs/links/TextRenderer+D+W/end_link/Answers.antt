@@ -4,7 +4,7 @@ use Rattle.tbr_tagged.specs.declared.Error.TheVariants.{TooNarrow}
 use Rattle.tbr_renderer.specs.Meant.{meant}
 use Rattle.tbr_renderer.specs.Renderer.{kept_of}
 use Rattle.tbr_renderer.proofs.AppendedLines.{passed_on}
-use Rattle.tbr_renderer.proofs.Refusals.{on_err}
+use Rattle.tbr_renderer.proofs.KeptRefusals.{on_err}
 use Rattle.tbr_stack.specs.Links.{EndsWith, EndIsTooNarrowWith}
 use Rattle.tbr_stack.specs.Stack.{with_top}
 use Rattle.tbr_stack.specs.Top.{stack_meant}

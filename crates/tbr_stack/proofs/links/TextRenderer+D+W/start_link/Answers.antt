@@ -2,7 +2,7 @@ use Rattle.std.proofs.Common.{◌≡◌, Some, chars, inl, inr, sym, subst, ap, 
 use Rattle.std.proofs.lemmas.Result.{on_ok_weaker, on_err_weaker}
 use Rattle.tbr_renderer.specs.Meant.{meant}
 use Rattle.tbr_renderer.specs.Renderer.{kept_of}
-use Rattle.tbr_renderer.proofs.Refusals.{on_err}
+use Rattle.tbr_renderer.proofs.KeptRefusals.{on_err}
 use Rattle.tbr_tagged.specs.declared.Error.TheVariants.{OutOfMemory}
 use Rattle.tbr_stack.specs.Stack.{top_of}
 use Rattle.tbr_stack.specs.Top.{ChangesTop, stack_meant}

@@ -4,8 +4,7 @@ use Rattle.tbr_decor.specs.Decoration.{decoration_of}
 use Rattle.tbr_renderer.specs.Meant.{meant}
 use Rattle.tbr_renderer.specs.Renderer.{Renderer, Settings, kept_of}
 use Rattle.tbr_renderer.specs.Calls.{add_border, Does, IsTooNarrow}
-use Rattle.tbr_renderer.proofs.KeptRefusals.{kept_answers}
-use Rattle.tbr_renderer.proofs.Refusals.{on_err}
+use Rattle.tbr_renderer.proofs.KeptRefusals.{on_err, kept_answers}
 use Rattle.tbr_renderer.proofs.sub.calls.SubRendererRenderer.add_horizontal_border_width.Goals as goal
 
 pub returns : goal.returns

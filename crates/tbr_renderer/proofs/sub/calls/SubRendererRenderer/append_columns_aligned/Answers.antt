@@ -5,8 +5,7 @@ use Rattle.std.proofs.lemmas.Result.{on_ok_weaker}
 use Rattle.tbr_renderer.specs.Meant.{meant}
 use Rattle.tbr_renderer.specs.Renderer.{Renderer, Settings, kept_of}
 use Rattle.tbr_renderer.specs.Rows.{GivenCell, align_in, AppendsRow}
-use Rattle.tbr_renderer.proofs.Refusals.{on_err}
-use Rattle.tbr_renderer.proofs.KeptRefusals.{kept_ok, kept_fails, refused_fails}
+use Rattle.tbr_renderer.proofs.KeptRefusals.{on_err, kept_ok, kept_fails, refused_fails}
 use Rattle.tbr_renderer.proofs.MeantRows.{Gives, all_aligned}
 use Rattle.tbr_renderer.proofs.sub.calls.SubRendererRenderer.append_columns_aligned.Goals as goal
 

@@ -7,8 +7,7 @@ use Rattle.tbr_tagged.specs.declared.CellAlign.TheVariants.{Left}
 use Rattle.tbr_renderer.specs.Meant.{meant}
 use Rattle.tbr_renderer.specs.Renderer.{Renderer, Settings, kept_of}
 use Rattle.tbr_renderer.specs.Rows.{GivenCell, align_in, AppendsRow}
-use Rattle.tbr_renderer.proofs.Refusals.{on_err}
-use Rattle.tbr_renderer.proofs.KeptRefusals.{kept_ok, kept_fails, refused_fails}
+use Rattle.tbr_renderer.proofs.KeptRefusals.{on_err, kept_ok, kept_fails, refused_fails}
 use Rattle.tbr_renderer.proofs.MeantRows.{Gives, none_aligned}
 use Rattle.tbr_renderer.proofs.sub.calls.SubRendererRenderer.append_columns_with_borders.Goals as goal
 

@@ -5,8 +5,7 @@ use Rattle.tbr_renderer.specs.Meant.{meant}
 use Rattle.tbr_kept_lines.specs.Line.{Line}
 use Rattle.tbr_renderer.specs.Renderer.{Renderer, Settings, kept_of}
 use Rattle.tbr_renderer.specs.Appended.{GivesFirst, texts_of, HandsOut, AppendsLines}
-use Rattle.tbr_renderer.proofs.Refusals.{on_err}
-use Rattle.tbr_renderer.proofs.KeptRefusals.{kept_ok, kept_fails}
+use Rattle.tbr_renderer.proofs.KeptRefusals.{on_err, kept_ok, kept_fails}
 use Rattle.tbr_renderer.proofs.sub.calls.SubRendererRenderer.append_subrender.Goals as goal
 
 pub returns-clause-ok : goal.returns-clause-ok

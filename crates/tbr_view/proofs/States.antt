@@ -1,0 +1,154 @@
+-- Where a script for people is, by where its program is and its levels.
+use Rattle.std.proofs.Common.{◌≡◌, ℕ, ◌-◌, ◌<◌, ◌==◌, true, false, Option, None, Some, List, [], ◌∷◌, ◌++◌, suc, slice_get, take, length, refl, ap, sym, subst, ◌∙◌, arith}
+use Rattle.std.specs.Global.{Vec}
+use Rattle.std.specs.Prelude.{IfSome, IfNone}
+use Rattle.std.proofs.lemmas.Bool.{eqb-true}
+use Rattle.std.proofs.lemmas.List.{map-append, take-map, length-map, length_push, get_or_push, take_at}
+use Rattle.std.proofs.lemmas.Option.{slice_get-map, slice_get-get_or}
+use Rattle.std.proofs.lemmas.Slice.Eq.{bytes_eq-Decides}
+use Rattle.tbr_model.specs.Width.{width_of_text}
+use Rattle.tbr_tagged.specs.View.{chars_of}
+use Rattle.tbr_decor.specs.Decoration.{Decoration}
+use Rattle.text_block_renderer.specs.Renderer.{Renderer}
+use Rattle.text_block_renderer.specs.Meant.{meant}
+use Rattle.text_block_renderer.specs.Stack.{top_of}
+use Rattle.tbr_script.specs.Script.{lines_of}
+use Rattle.tbr_script.specs.declared.text_pair.TextPair.{TextPair}
+use Rattle.tbr_commands.specs.declared.command.Command as declared
+use Rattle.tbr_commands.specs.declared.command.Command.TheVariants as asked
+use Rattle.tbr_commands.specs.declared.request.layout.Layout.TheVariants.{StartBlock}
+use Rattle.tbr_commands.specs.Request.{layout}
+use Rattle.tbr_commands.specs.Command.{ask, sub, command_of}
+use Rattle.tbr_runner.specs.Progress.{Progress, progress_meant}
+use Rattle.tbr_runner.specs.Meaning.{CommandDoes}
+use Rattle.tbr_runner.proofs.MeantCommands.{top_is_meant}
+use Rattle.tbr_view.specs.declared.block.Block.{Block}
+use Rattle.tbr_view.specs.declared.level.Level.{Level}
+use Rattle.tbr_view.specs.declared.level.Notes.{Notes}
+use Rattle.tbr_view.specs.declared.level.Opener.{Opener}
+use Rattle.tbr_view.specs.declared.level.Opener.TheVariants.{Block as OfBlock}
+use Rattle.tbr_view.specs.Block.{prefix_of, other_prefix, stands_apart, end_of}
+use Rattle.tbr_view.specs.Level.{Known, Leaves, innermost, opener_of, may_not_append, is_closed_by, known_outside, left, noted}
+use Rattle.tbr_view.specs.Session.{State, openers, state_of, opened_by, DoesIf, Commands, BlockOpens, BlockAppends, BlockCloses, LineDoes, LinesDo}
+
+-- ---- lists of levels
+
+abbrev opener : Level → Opener
+opener level = level.by
+
+pub innermost_opener : (levels : List Level) → innermost (openers levels) ≡ opener_of (innermost levels)
+innermost_opener levels =
+    ap (λ n. innermost_at (n - 1)) (length-map levels opener) ∙ slice_get-map opener levels (length levels - 1)
+  where
+    innermost_at : ℕ → Option Opener
+    innermost_at n = slice_get (openers levels) n
+
+pub innermost_last : {X : Type 0} (xs : List X) (x : X) → innermost (xs ++ x ∷ []) ≡ Some x
+innermost_last xs x =
+    let below : length (xs ++ x ∷ []) - 1 < length (xs ++ x ∷ []) = omega (arith, length_push xs x) in
+    slice_get-get_or (xs ++ x ∷ []) (length (xs ++ x ∷ []) - 1) x below
+    ∙ ap Some (get_or_push xs x x (length (xs ++ x ∷ []) - 1) (omega (arith, length_push xs x)))
+
+pub none_inside : {X : Type 0} (xs : List X) → innermost xs ≡ None → xs ≡ []
+none_inside [] none = refl
+none_inside (x ∷ xs) none =
+    let some = slice_get-get_or (x ∷ xs) (length (x ∷ xs) - 1) x (omega arith) in
+    absurd cc
+
+pub openers_push : (levels : List Level) (level : Level) → openers (levels ++ level ∷ []) ≡ openers levels ++ level.by ∷ []
+openers_push levels level = map-append opener levels (level ∷ [])
+
+openers_left : (levels : List Level) → openers (take (length levels - 1) levels) ≡ take (length (openers levels) - 1) (openers levels)
+openers_left levels =
+    sym (take-map opener (length levels - 1) levels) ∙ ap (λ n. take (n - 1) (openers levels)) (sym (length-map levels opener))
+
+pub openers_noted : (known : Known) (line : ℕ) (command : declared.Command) → (let next = noted known line command in openers next.inside) ≡ opened_by command (openers known.inside)
+openers_noted known line (asked.Ask request) = refl
+openers_noted known line (asked.Link target) = refl
+openers_noted known line asked.EndLink = refl
+openers_noted known line (asked.Sub width) = openers_push known.inside _
+openers_noted known line (asked.Append prefixes) = openers_left known.inside
+openers_noted known line (asked.Cell cell) = openers_push known.inside _
+openers_noted known line asked.EndCell = openers_left known.inside
+openers_noted known line (asked.Row collapse) = refl
+openers_noted known line asked.VerticalRow = refl
+
+same_known : (old new : Known) → new.inside ≡ take (length old.inside - 1) old.inside → new.notes ≡ known_outside (innermost old.inside) old.notes → new ≡ left old
+same_known old new inside notes =
+    let With : List Level → Notes → Known = λ levels known. record { inside = levels; notes = known } in
+    ap (λ levels. With levels new.notes) inside ∙ ap (With (take (length old.inside - 1) old.inside)) notes
+
+-- a level that closed, if one was open
+pub is_left : (old new : Known) (by : Option Opener) → IfSome by (λ b. Leaves old.inside old.notes b new.inside new.notes) → IfNone by ((old.inside ≡ []) × (new.inside ≡ []) × (new.notes ≡ old.notes)) → new ≡ left old
+is_left old new None leaves none =
+    same_known old new (rw none.0 none.1) (rw none.0 none.2)
+is_left old new (Some by) leaves none =
+    let level : Level = record { by = by; line = leaves.line; outside = leaves.outside } in
+    let one_less : length new.inside ≡ length old.inside - 1 = omega (arith, ap length leaves.last, length_push new.inside level) in
+    let inside = sym (take_at new.inside (level ∷ []) (length old.inside - 1) one_less) ∙ ap (take (length old.inside - 1)) (sym leaves.last) in
+    let last : Some level ≡ innermost old.inside = sym (innermost_last new.inside level) ∙ ap innermost (sym leaves.last) in
+    same_known old new inside (leaves.keeps ∙ ap (λ l. known_outside l old.notes) last)
+
+-- ---- steps
+
+module _ {D A M : Type 0} (meaning : A → M) (columns : ℕ → Option ℕ) (decoration : Decoration D M) where
+  module _ (p q : Progress D A (Vec A)) (old new : List Level) where
+    pub commanded : (command : declared.Command) (here there : Progress D A (Vec A)) → here ≡ p → q ≡ there → may_not_append command (opener_of (innermost old)) ≡ false →
+        CommandDoes columns decoration (progress_meant meaning here) (command_of command) (progress_meant meaning there) → openers new ≡ opened_by command (openers old) →
+        Commands columns decoration (state_of meaning p old) command (state_of meaning q new)
+    commanded command here there is_here is_there may does levels =
+        let Leads : Progress D A (Vec A) → Progress D A (Vec A) → Type 0 = λ x y. CommandDoes columns decoration (progress_meant meaning x) (command_of command) (progress_meant meaning y) in
+        record {
+          may = ap (may_not_append command) (innermost_opener old) ∙ may;
+          does = subst (λ x. Leads x q) is_here (subst (λ y. Leads here y) (sym is_there) does);
+          levels = levels;
+        }
+
+    pub block_opens : (block : Block) (texts : TextPair) (r top : Renderer D A (Vec A)) (apart : Progress D A (Vec A)) (n : ℕ) → top_of p.stack ≡ Some r → top_of p.stack ≡ Some top →
+        chars_of texts.first ≡ decoration.prefix_text r.decorator (prefix_of block) → chars_of texts.second ≡ other_prefix columns block (chars_of texts.first) →
+        width_of_text columns (chars_of texts.first) < top.width → n ≡ top.width - width_of_text columns (chars_of texts.first) →
+        DoesIf columns decoration (stands_apart block) (progress_meant meaning p) (ask (layout StartBlock)) (progress_meant meaning apart) →
+        CommandDoes columns decoration (progress_meant meaning apart) (sub n) (progress_meant meaning q) → openers new ≡ openers old ++ OfBlock block texts ∷ [] →
+        BlockOpens columns decoration (state_of meaning p old) block (state_of meaning q new)
+    block_opens block texts r top apart n is_r is_top first others fits columns_are begins opens levels =
+        let same : r ≡ top = cc in
+        let above = top_is_meant meaning (λ x. x ≡ meant meaning top) p.stack top is_top refl in
+        record {
+          top = meant meaning top;
+          is_top = above.1 ∙ ap Some above.2;
+          texts = texts;
+          first = subst (λ (x : Renderer D A (Vec A)). chars_of texts.first ≡ decoration.prefix_text x.decorator (prefix_of block)) same first;
+          others = others;
+          fits = fits;
+          apart = progress_meant meaning apart;
+          begins = begins;
+          opens = subst (λ (m : ℕ). CommandDoes columns decoration (progress_meant meaning apart) (sub m) (progress_meant meaning q)) columns_are opens;
+          levels = levels;
+        }
+
+    pub block_closes : (block : Block) (texts : TextPair) (by : List ℕ) (notes known : Notes) → is_closed_by by (innermost old) ≡ true → Leaves old notes (OfBlock block texts) new known →
+        BlockAppends columns decoration (progress_meant meaning p) block texts (progress_meant meaning q) → BlockCloses columns decoration (state_of meaning p old) by (state_of meaning q new)
+    block_closes block texts by notes known closed leaves appends =
+        let level : Level = record { by = OfBlock block texts; line = leaves.line; outside = leaves.outside } in
+        let is : innermost old ≡ Some level = ap innermost leaves.last ∙ innermost_last new level in
+        record {
+          block = block;
+          texts = texts;
+          levels = ap openers leaves.last ∙ openers_push new level;
+          ends = (bytes_eq-Decides (end_of block) by).0 (ap (is_closed_by by) (sym is) ∙ closed);
+          appends = appends;
+        }
+
+-- ---- lines
+
+module _ {D M : Type 0} (columns : ℕ → Option ℕ) (decoration : Decoration D M) where
+  no_length : (n : ℕ) → true ≡ (suc n == 0) → ⊥
+  no_length n e = let none : suc n ≡ 0 = eqb-true (suc n) 0 (sym e) in omega (arith, none)
+
+  pub no_line_left : (s : State D M) (rest : List ℕ) → true ≡ (length rest == 0) → LinesDo columns decoration s (lines_of rest) s
+  no_line_left s [] none = refl
+  no_line_left s (b ∷ bs) none = absurd (no_length (length bs) none)
+
+  pub line_done : (s next last : State D M) (rest line after : List ℕ) → lines_of rest ≡ line ∷ lines_of after → LineDoes columns decoration s line next →
+      LinesDo columns decoration next (lines_of after) last → LinesDo columns decoration s (lines_of rest) last
+  line_done s next last rest line after is does more = subst (λ ls. LinesDo columns decoration s ls last) (sym is) (next, does, more)

@@ -1,0 +1,17 @@
+use Rattle.std.proofs.Common.{ap, sym, ◌∙◌}
+use Rattle.tbr_decor.specs.Decoration.{decoration_of}
+use Rattle.tbr_view.specs.Level.{known_in}
+use Rattle.tbr_view.specs.Session.{openers, opened_by}
+use Rattle.tbr_view.proofs.States.{commanded, openers_noted}
+use Rattle.tbr_view.proofs.session.Session.run.Goals as goal
+
+pub returns-clause-does : goal.returns-clause-does
+returns-clause-does g c =
+    let self = c.args.self.now in
+    let command = c.args.command.now in
+    let next = c.note_levels.new.self in
+    let may = sym c.may_not_append.ensures ∙ c.if-may_not_append.false in
+    let inside = ap (λ l. l.inside) (c.in_ok-command.ensures.levels ∙ c.in_ok-note_losses_of.ensures.levels) ∙ c.note_texts.ensures.inside in
+    let levels = ap (λ k. openers k.inside) c.in_ok-note_levels.ensures.levels ∙ openers_noted (known_in c.command.new.self.levels) c.args.number command ∙ ap (λ v. opened_by command (openers v.items)) inside in
+    commanded g.D.TextDecorator.meaning g.W.CharWidth.columns (decoration_of g.D.TextDecorator) self.program next.program self.levels.inside.items next.levels.inside.items
+    command c.note_losses_of.new.self.program c.command.new.self.program (c.in_ok-note_losses_of.ensures.program ∙ c.note_texts.ensures.program) c.in_ok-note_levels.ensures.program may c.in_ok-command.ensures.does levels
