@@ -194,6 +194,7 @@ pub trait Renderer {
 
     /// Ends the open line, and then that of another renderer, and adds the lines of that one, each after a prefix and
     /// under the annotations. A border becomes text.
+    ///
     /// Each line takes one prefix. Where prefixes run out, the lines that are left are dropped. A refusal of the other
     /// renderer is passed on.
     fn append_subrender<P: AsStr + Drop, I: Iterator<Item = P>>(
@@ -222,7 +223,8 @@ pub trait Renderer {
             is_too_narrow call.new_line self.old
             ⊎ FirstToRefuse (λ col lines. hands_out col lines) (λ col. holds_back col) cols.items }
         ensures two_columns { failure self.old ≡ None → 2 ≤ block_columns (kept_of self.old) →
-            Each (λ col. (failure col ≡ None) × (2 ≤ block_columns (kept_of col))) cols.items → result ≢ Err E.TooNarrow }
+            Each (λ col. (failure col ≡ None) × (2 ≤ block_columns (kept_of col))) cols.items →
+            result ≢ Err E.TooNarrow }
         ensures fails { Fails failure kept_of self.old result self.new };
 
     /// Ends the open line, and then those of other renderers, in order. It adds a row of their lines, side by side and
@@ -250,7 +252,8 @@ pub trait Renderer {
             is_too_narrow call.new_line self.old
             ⊎ FirstToRefuse (λ col lines. hands_out col.0 lines) (λ col. holds_back col.0) cols.items }
         ensures two_columns { failure self.old ≡ None → 2 ≤ block_columns (kept_of self.old) →
-            Each (λ col. (failure col.0 ≡ None) × (2 ≤ block_columns (kept_of col.0))) cols.items → result ≢ Err E.TooNarrow }
+            Each (λ col. (failure col.0 ≡ None) × (2 ≤ block_columns (kept_of col.0))) cols.items →
+            result ≢ Err E.TooNarrow }
         ensures fails { Fails failure kept_of self.old result self.new };
 
     /// Adds a row, as `append_columns_aligned` does, with all texts at the left.
@@ -269,7 +272,8 @@ pub trait Renderer {
             is_too_narrow call.new_line self.old
             ⊎ FirstToRefuse (λ col lines. hands_out col.0 lines) (λ col. holds_back col.0) cols.items }
         ensures two_columns { failure self.old ≡ None → 2 ≤ block_columns (kept_of self.old) →
-            Each (λ col. (failure col.0 ≡ None) × (2 ≤ block_columns (kept_of col.0))) cols.items → result ≢ Err E.TooNarrow }
+            Each (λ col. (failure col.0 ≡ None) × (2 ≤ block_columns (kept_of col.0))) cols.items →
+            result ≢ Err E.TooNarrow }
         ensures fails { Fails failure kept_of self.old result self.new };
 
     /// Begins text in a colour, whose annotation joins the others, if the decorator has one. The only refusal of its

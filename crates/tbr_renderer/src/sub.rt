@@ -120,8 +120,8 @@ impl<D: TextDecorator, W: CharWidth> SubRenderer<D, W> {
         self.failure
     }
 
-    /// Makes the renderer fail with `OutOfMemory`, as a call of its own that is refused memory does. One that has failed
-    /// keeps its first refusal.
+    /// Makes the renderer fail with `OutOfMemory`, as a call of its own that is refused memory does. One that has
+    /// failed keeps its first refusal.
     ///
     /// It is for a caller who was refused memory, and whose renderer is not to go on.
     pub fn fail(&mut self, _refusal: OutOfMemory)
