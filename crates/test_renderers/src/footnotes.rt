@@ -7,7 +7,7 @@ use std::process::Abort;
 use std::test::Fail;
 use tbr_decor::{RichAnnotation, RichDecorator};
 use tbr_lines::{Error, OutOfMemory, TaggedLine, TaggedLineElement, TaggedString};
-use tbr_renderer::{RenderOptions, SubRenderer};
+use tbr_renderer::{RenderOptions, Renderer, SubRenderer};
 use test_calls::calls::Call::{Line, Marker, Text};
 use test_calls::calls::{Call, Shown, handed_out, make_all};
 use test_support::marked::{Mark, MarkedDecorator};
