@@ -40,7 +40,6 @@ impl<D: TextDecorator, W: CharWidth> Model for FootnoteLines<D, W> {
 
     ghost Value = { Cutting (Vec D.Annotation) };
 
-
     ghost view = { λ c. cutting_of c };
 
     ghost invariant = { λ c. HoldsCutting W.columns D.Annotation.eq D.meaning c };

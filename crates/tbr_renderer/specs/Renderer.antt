@@ -94,7 +94,6 @@ settings_of r = record { kept = kept_of r; decorator = r.decorator; annotations 
 abbrev pub KeepsSettings : {D A T : Type 0} → Renderer D A T → Renderer D A T → Type 0
 KeepsSettings r s = settings_of s ≡ settings_of r
 
-
 -- an annotation more, after those that are open
 abbrev pub with_annotation : {D A T : Type 0} → Renderer D A T → A → Renderer D A T
 with_annotation r annotation = record r { annotations = r.annotations ++ annotation ∷ [] }

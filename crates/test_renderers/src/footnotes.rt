@@ -255,8 +255,12 @@ fn footnotes_stand_under_annotations_of_any_decorator(rt: HostRuntime) {
 
 /// A renderer of one column, which a character of two has made fail, or a refusal of memory.
 fn failed(alloc: Global, refusal: Error) -> SubRenderer<RichDecorator> {
-    let mut r: SubRenderer<RichDecorator> =
-        SubRenderer::new(alloc, 1, RenderOptions::default(), RichDecorator::new());
+    let mut r: SubRenderer<RichDecorator> = SubRenderer::new(
+        alloc,
+        1,
+        RenderOptions::default(),
+        RichDecorator::new(),
+    );
     match refusal {
         Error::OutOfMemory => r.fail(OutOfMemory),
         Error::TooNarrow => {

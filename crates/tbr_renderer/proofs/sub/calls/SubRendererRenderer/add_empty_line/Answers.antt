@@ -12,9 +12,11 @@ returns g c =
     let f = g.D.TextDecorator.meaning in
     let columns = g.W.CharWidth.columns in
     let tried = c.try_add_empty_line-done in
-    record { answers = kept_answers
-    (λ call (r s : Renderer g.row.D.Denot g.row.D-Annotation.Denot (Vec g.row.D-Annotation.Denot)). Does columns (decoration_of g.D.TextDecorator) call (meant f r) (meant f s))
-    (λ call (r : Renderer g.row.D.Denot g.row.D-Annotation.Denot (Vec g.row.D-Annotation.Denot)). IsTooNarrow columns (decoration_of g.D.TextDecorator) call (meant f r))
-    (λ r. r.failure) (λ r. kept_of r) add_empty_line c.args.self.now tried.new.self c.keep.new.self c.keep.result tried.result
-    c.in_ok-refusal.ensures c.keep.ensures.result c.keep.ensures.ok c.keep.ensures.failed tried.ensures.ok tried.ensures.too_narrow tried.ensures.two_columns
-    (on_err tried.result (ap (λ (k : Settings g.row.D.Denot g.D.TextDecorator.Meaning). k.kept) tried.ensures.settings)) }
+    record {
+      answers = kept_answers
+          (λ call (r s : Renderer g.row.D.Denot g.row.D-Annotation.Denot (Vec g.row.D-Annotation.Denot)). Does columns (decoration_of g.D.TextDecorator) call (meant f r) (meant f s))
+          (λ call (r : Renderer g.row.D.Denot g.row.D-Annotation.Denot (Vec g.row.D-Annotation.Denot)). IsTooNarrow columns (decoration_of g.D.TextDecorator) call (meant f r))
+          (λ r. r.failure) (λ r. kept_of r) add_empty_line c.args.self.now tried.new.self c.keep.new.self c.keep.result tried.result
+          c.in_ok-refusal.ensures c.keep.ensures.result c.keep.ensures.ok c.keep.ensures.failed tried.ensures.ok tried.ensures.too_narrow tried.ensures.two_columns
+          (on_err tried.result (ap (λ (k : Settings g.row.D.Denot g.D.TextDecorator.Meaning). k.kept) tried.ensures.settings));
+    }

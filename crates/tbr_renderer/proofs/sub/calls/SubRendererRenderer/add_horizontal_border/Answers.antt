@@ -11,9 +11,11 @@ returns g c =
     let f = g.D.TextDecorator.meaning in
     let columns = g.W.CharWidth.columns in
     let call = c.add_horizontal_border_width-2 in
-    record { answers = subst
-    (λ width. Answers
-    (λ call (r s : Renderer g.row.D.Denot g.row.D-Annotation.Denot (Vec g.row.D-Annotation.Denot)). Does columns (decoration_of g.D.TextDecorator) call (meant f r) (meant f s))
-    (λ call (r : Renderer g.row.D.Denot g.row.D-Annotation.Denot (Vec g.row.D-Annotation.Denot)). IsTooNarrow columns (decoration_of g.D.TextDecorator) call (meant f r))
-    (λ r. r.failure) (λ r. kept_of r) (add_border width) c.args.self.now call.result call.new.self)
-    (ap (λ (r : Renderer g.row.D.Denot g.row.D-Annotation.Denot (Vec g.row.D-Annotation.Denot)). r.width) c.add_horizontal_border_width.view_is) call.ensures.answers }
+    record {
+      answers = subst
+          (λ width. Answers
+          (λ call (r s : Renderer g.row.D.Denot g.row.D-Annotation.Denot (Vec g.row.D-Annotation.Denot)). Does columns (decoration_of g.D.TextDecorator) call (meant f r) (meant f s))
+          (λ call (r : Renderer g.row.D.Denot g.row.D-Annotation.Denot (Vec g.row.D-Annotation.Denot)). IsTooNarrow columns (decoration_of g.D.TextDecorator) call (meant f r))
+          (λ r. r.failure) (λ r. kept_of r) (add_border width) c.args.self.now call.result call.new.self)
+          (ap (λ (r : Renderer g.row.D.Denot g.row.D-Annotation.Denot (Vec g.row.D-Annotation.Denot)). r.width) c.add_horizontal_border_width.view_is) call.ensures.answers;
+    }
