@@ -1,5 +1,5 @@
 -- Lines of other renderers, one after another.
-use Rattle.std.proofs.Common.{◌≡◌, inl, inr, ℕ, arith, suc, ◌<◌, Option, None, Some, Result, Ok, Err, List, [], ◌∷◌, ◌++◌, map, fold, length, refl, ap, sym, ◌∙◌, subst}
+use Rattle.std.proofs.Common.{◌≡◌, inr, ℕ, arith, suc, ◌<◌, Option, None, Some, Result, Err, List, [], ◌∷◌, ◌++◌, map, fold, length, refl, ap, sym, ◌∙◌, subst}
 use Rattle.std.specs.Prelude.{chars, ◌==◌, true}
 use Rattle.std.specs.Global.{Vec}
 use Rattle.std.specs.Iterator.{Yields}
@@ -11,8 +11,9 @@ use Rattle.std.proofs.lemmas.List.{map-append}
 use Rattle.std.proofs.lemmas.Grind.{fold-append}
 use Rattle.tbr_model.specs.Run.{Item}
 use Rattle.tbr_tagged.specs.declared.Error.{Error}
-use Rattle.tbr_tagged.specs.declared.Error.TheVariants.{TooNarrow}
-use Rattle.tbr_renderer.specs.Flush.{FlushIsTooNarrow}
+use Rattle.tbr_tagged.specs.Outcome.{Outcome, done}
+use Rattle.tbr_renderer.specs.Outcomes.{gathered}
+use Rattle.tbr_renderer.proofs.OutcomeParts.{gathered_last}
 use Rattle.tbr_border.specs.declared.RenderLine.{RenderLine}
 use Rattle.tbr_tagged.specs.Elements.{text_items}
 use Rattle.tbr_footnotes.specs.Tags.{tag_meant}
@@ -20,8 +21,8 @@ use Rattle.tbr_renderer.specs.Meant.{map_line, meant}
 use Rattle.tbr_kept_lines.specs.Line.{Line, line_seen}
 use Rattle.tbr_renderer.specs.Renderer.{Renderer, Settings, KeepsSettings, with_line}
 use Rattle.tbr_border.specs.Cell.{slash}
-use Rattle.tbr_renderer.specs.Appended.{GivesFirst, texts_of, FirstToRefuse, as_text, prefixed, HandsOut, HoldsBack, with_divider, with_cell, with_cell_below}
-use Rattle.std.specs.List.{AllZip, AllByRecursion as Each}
+use Rattle.tbr_renderer.specs.Appended.{GivesFirst, texts_of, as_text, prefixed, handed_out, with_divider, with_cell, with_cell_below}
+use Rattle.std.specs.List.{AllByRecursion as Each}
 
 -- ---- prefixes
 
@@ -146,62 +147,36 @@ module _ {D A M : Type 0} (f : A → M) (columns : ℕ → Option ℕ) (first : 
 
 -- ---- what a renderer hands out
 
--- one that hands lines out hasn't failed
-pub unfailed : {X : Type 0} (failure : Option Error) (result : Result X Error) (x : X) → result ≡ Ok x → ((e : Error) → failure ≡ Some e → result ≡ Err e) → failure ≡ None
-unfailed None result x is kept = refl
-unfailed (Some e) result x is kept = let refused = kept e refl in cc
-
--- one that is too narrow has failed with that, or its flush is too narrow
-pub held_back : {D M : Type 0} {X : Type 0} (columns : ℕ → Option ℕ) (r : Renderer D M (List M)) (result : Result X Error) → result ≡ Err TooNarrow → (r.failure ≡ None → result ≡ Err TooNarrow → FlushIsTooNarrow columns r) →
-    ((e : Error) → r.failure ≡ Some e → result ≡ Err e) → HoldsBack columns r
-held_back columns r result is flush kept = go r.failure refl
-  where
-    go : (o : Option Error) → r.failure ≡ o → HoldsBack columns r
-    go None none = inr (none, flush none is)
-    go (Some e) some = let refused = kept e some in let same : e ≡ TooNarrow = cc in inl (some ∙ ap (λ x. Some x) same)
-
 -- a refusal that is passed on is the one that came
 pub passed_on : {X Y : Type 0} (result : Result X Error) (inner : Result Y Error) (e f : Error) → result ≡ Err f → IsErrAnd result (λ x. x ≡ e) → inner ≡ Err e → inner ≡ Err f
 passed_on result inner e f is same came = came ∙ ap Err (sym (subst (λ (r : Result _ Error). IsErrAnd r (λ x. x ≡ e)) is same))
 
 -- ---- cells below one another
 
--- all before a place give, and one there refuses
-pub refuses_behind : {S X : Type 0} (gives : S → X → Type 0) (refuses : S → Type 0) (before : List S) (one : S) (after : List S) (xs : List X) → AllZip gives before xs → refuses one → FirstToRefuse gives refuses (before ++ one ∷ after)
-refuses_behind gives refuses [] one after xs h r = inl r
-refuses_behind gives refuses (s ∷ before) one after [] h r = absurd h
-refuses_behind gives refuses (s ∷ before) one after (x ∷ xs) h r = inr (x, h.0, refuses_behind gives refuses before one after xs h.1 r)
-
 pub each_at : {S : Type 0} (P : S → Type 0) (before : List S) (one : S) (after : List S) → Each P (before ++ one ∷ after) → P one
 each_at P [] one after h = h.0
 each_at P (s ∷ before) one after h = each_at P before one after h.1
 
-zip_last : {S X : Type 0} (R : S → X → Type 0) (ss : List S) (xs : List X) (s : S) (x : X) → AllZip R ss xs → R s x → AllZip R (ss ++ s ∷ []) (xs ++ x ∷ [])
-zip_last R [] [] s x h r = (r, tt)
-zip_last R [] (y ∷ xs) s x h r = absurd h
-zip_last R (t ∷ ss) [] s x h r = absurd h
-zip_last R (t ∷ ss) (y ∷ xs) s x h r = (h.0, zip_last R ss xs s x h.1 r)
-
 module _ {D A M : Type 0} (f : A → M) (columns : ℕ → Option ℕ) (first : Renderer D A (Vec A)) where
-  abbrev pub Hands : Renderer D A (Vec A) → List (Line (List M)) → Type 0
-  Hands col lines = HandsOut columns (meant f col) lines
+  abbrev pub hands : Renderer D A (Vec A) → Outcome (List (Line (List M)))
+  hands col = handed_out columns (meant f col)
 
   pub record HasCells (cols : List (Renderer D A (Vec A))) (now : Renderer D A (Vec A)) : Type 0 where
     pub cells : List (List (Line (List M)))
-    pub hand : AllZip Hands cols cells
+    pub hand : gathered hands cols ≡ done cells
     pub unfailed : now.failure ≡ None
     pub settings : KeepsSettings (meant f first) (meant f now)
     pub is : meant f now ≡ fold (with_cell_below columns) (meant f first) cells
 
   pub no_cells : first.failure ≡ None → HasCells [] first
-  no_cells live = record { cells = []; hand = tt; unfailed = live; settings = refl; is = refl }
+  no_cells live = record { cells = []; hand = refl; unfailed = live; settings = refl; is = refl }
 
-  pub cells_go_on : (cols : List (Renderer D A (Vec A))) (col : Renderer D A (Vec A)) (lines : List (Line (List M))) (now divided next : Renderer D A (Vec A)) → (h : HasCells cols now) → Hands col lines →
+  pub cells_go_on : (cols : List (Renderer D A (Vec A))) (col : Renderer D A (Vec A)) (lines : List (Line (List M))) (now divided next : Renderer D A (Vec A)) → (h : HasCells cols now) → hands col ≡ done lines →
       meant f divided ≡ with_divider columns slash (meant f now) → meant f next ≡ with_cell columns (meant f divided) lines → KeepsSettings (meant f now) (meant f divided) → KeepsSettings (meant f divided) (meant f next) → next.failure ≡ None →
       HasCells (cols ++ col ∷ []) next
-  cells_go_on cols col lines now divided next h hands divides puts kept still live = record {
+  cells_go_on cols col lines now divided next h given divides puts kept still live = record {
     cells = h.cells ++ lines ∷ [];
-    hand = zip_last Hands cols h.cells col lines h.hand hands;
+    hand = gathered_last hands cols h.cells col lines h.hand given;
     unfailed = live;
     settings = still ∙ kept ∙ h.settings;
     is = puts ∙ ap (λ (r : Renderer D M (List M)). with_cell columns r lines) (divides ∙ ap (with_divider columns slash) h.is) ∙ sym (fold-append (with_cell_below columns) (meant f first) h.cells (lines ∷ []));

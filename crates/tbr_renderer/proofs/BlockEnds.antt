@@ -1,5 +1,5 @@
 -- Lines of a block that join those of a renderer.
-use Rattle.std.proofs.Common.{◌≡◌, ℕ, ◌-◌, ◌<◌, Bool, true, false, Option, None, Some, List, [], ◌∷◌, ◌++◌, map, fold, drop, refl, ap, sym, ◌∙◌, subst, append_assoc, append-nil}
+use Rattle.std.proofs.Common.{◌≡◌, ℕ, ◌-◌, Bool, true, Option, None, Some, List, [], ◌∷◌, ◌++◌, map, fold, drop, refl, ap, sym, ◌∙◌, subst, append_assoc, append-nil}
 use Rattle.std.specs.Global.{Vec}
 use Rattle.std.proofs.lemmas.List.{map-append}
 use Rattle.std.proofs.lemmas.Grind.{fold-append}
@@ -16,15 +16,16 @@ use Rattle.tbr_wrap.specs.Wrapped.{padding_of}
 use Rattle.tbr_tagged.specs.declared.Error.TheVariants as E
 use Rattle.tbr_wrap.proofs.runs.LinesLeft.{handed_keeps, left_after}
 use Rattle.tbr_wrap.proofs.runs.BlockLaws.{HandsOne, flush_allowed, flush_leaves, taking_leaves, left_taken, left_flushed, waiting_loose}
-use Rattle.tbr_renderer.specs.Renderer.{KeepsSettings, settings_of, Open, Renderer, has_content, with_line, block_width, may_overflow}
+use Rattle.tbr_renderer.specs.Renderer.{KeepsSettings, settings_of, Open, Renderer, with_line, block_width, may_overflow}
 use Rattle.tbr_footnotes.specs.Tags.{tag_meant, items_meant}
 use Rattle.tbr_renderer.specs.Meant.{map_open, meant}
 use Rattle.tbr_renderer.specs.View.{block_seen, block_meant, names_of, AreMarkers, IsFresh}
-use Rattle.tbr_renderer.specs.Flush.{line_meant, block_lines, lines_at_end, names_at_end, fits_at_end, EndsBlock, FlushesBlock, Flushes, BlockIsTooNarrow, FlushIsTooNarrow}
-use Rattle.tbr_renderer.specs.Steps.{block_started, StartsBlock}
+use Rattle.tbr_renderer.specs.Flush.{line_meant, block_lines, lines_at_end, names_at_end, fits_at_end, after_block}
+use Rattle.tbr_renderer.specs.Flush as flush
 use Rattle.tbr_footnotes.proofs.Tags.{text_items-map}
 use Rattle.tbr_tagged.proofs.MappedTags.{means_same_items}
-use Rattle.tbr_renderer.proofs.MappedBlocks.{lines_meant, names_meant, fits_meant, flush_narrow, end_promised, end_narrow}
+use Rattle.tbr_renderer.proofs.MappedBlocks.{lines_meant, names_meant, fits_meant, flush_narrow}
+use Rattle.tbr_renderer.proofs.OutcomeParts.{fitting, not_fitting}
 
 -- The lines of a block that a renderer has: given ones, and the block has the others left.
 pub record HasLines {D A M : Type 0} (f : A → M) (columns : ℕ → Option ℕ) (first old : Block (Vec A)) (r q : Renderer D A (Vec A)) : Type 0 where
@@ -92,7 +93,7 @@ markers_named {T} es names e = ap names_of e ∙ names_of_markers T names
 pub are_markers : {T : Type 0} (es : List (Element T)) (names : List (List ℕ)) → es ≡ map marker_element names → AreMarkers es
 are_markers {T} es names e = ap (map (λ n. let x : Element T = marker_element n in x)) (markers_named es names e) ∙ sym e
 
-module _ {D A M : Type 0} (f : A → M) (columns : ℕ → Option ℕ) (one : columns 32 ≡ Some 1) (r : Renderer D A (Vec A)) (b : Block (Vec A)) (seen : block_seen (Some b) ≡ r.block) (fresh : IsFresh columns (block_width r) (may_overflow r) b) where
+module _ {D A M : Type 0} (f : A → M) (columns : ℕ → Option ℕ) (r : Renderer D A (Vec A)) (b : Block (Vec A)) (seen : block_seen (Some b) ≡ r.block) (fresh : IsFresh columns (block_width r) (may_overflow r) b) where
   -- what a block that was flushed, and that handed its markers out, has left
   module _ (after behind : Block (Vec A)) (e : after_flush columns b ≡ done after) (taken : after_taking columns after ≡ done behind) where
     behind_is : behind ≡ without_loose columns (flushed columns b)
@@ -105,10 +106,9 @@ module _ {D A M : Type 0} (f : A → M) (columns : ℕ → Option ℕ) (one : co
 
     -- a flush where a block is open
     pub block_flushed : (waiting : List (List ℕ)) (s0 s1 s2 : Renderer D A (Vec A)) → s0 ≡ record r { block = None } →
-        meant f s1 ≡ fold (with_line columns) (meant f s0) (map (line_meant columns f behind) (left columns behind)) → waiting ≡ loose columns after → s2 ≡ record s1 { waiting = s1.waiting ++ waiting } → Flushes columns (meant f r) (meant f s2)
+        meant f s1 ≡ fold (with_line columns) (meant f s0) (map (line_meant columns f behind) (left columns behind)) → waiting ≡ loose columns after → s2 ≡ record s1 { waiting = s1.waiting ++ waiting } → flush.after_flush columns (meant f r) ≡ done (meant f s2)
     block_flushed waiting s0 s1 s2 emptied lines names_are waits =
         let opened : Open (List M) = block_meant f b in
-        let wide_enough : 0 < block_width r = subst (λ (n : ℕ). 0 < n) fresh.width_is fresh.sound.wide in
         let fits : fits_at_end columns (meant f r) opened ≡ true = fits_meant f columns r b fresh ∙ flush_allowed columns b after e in
         let padding : behind.padding ≡ b.padding = ap (λ (s : Block (Vec A)). s.padding) behind_is in
         let wide : behind.width ≡ block_width r = ap (λ (s : Block (Vec A)). s.width) behind_is ∙ fresh.width_is in
@@ -117,34 +117,14 @@ module _ {D A M : Type 0} (f : A → M) (columns : ℕ → Option ℕ) (one : co
         ∙ ap (block_lines columns (meant f r) opened) (sym (lines_meant f columns r b fresh)) in
         let after_lines : meant f s1 ≡ fold (with_line columns) (record (meant f r) { block = None }) (block_lines columns (meant f r) opened (lines_at_end columns (meant f r) opened)) =
         lines ∙ ap (λ (q : Renderer D A (Vec A)). fold (with_line columns) (meant f q) (map (line_meant columns f behind) (left columns behind))) emptied ∙ ap (fold (with_line columns) (record (meant f r) { block = None })) here in
-        let ended : EndsBlock columns (meant f r) opened (meant f s2) = record {
-          fits = fits;
-          ends = end_promised columns one (meant f r) opened wide_enough fits;
-          is = ap (meant f) waits ∙ ap (λ ns. record (meant f s1) { waiting = s1.waiting ++ ns }) (names_are ∙ waiting_loose columns b after e ∙ sym (names_meant f columns r b fresh))
-              ∙ ap (λ (m : Renderer D M (List M)). record m { waiting = m.waiting ++ names_at_end columns (meant f r) opened }) after_lines;
-        } in
-        subst (λ (o : Option (Open (Vec A))). FlushesBlock columns (meant f r) (option_map (map_open (tag_meant f)) o) (meant f s2)) seen ended
+        let is : meant f s2 ≡ flush.flushed columns (meant f r) (block_lines columns (meant f r) opened (lines_at_end columns (meant f r) opened)) (names_at_end columns (meant f r) opened) =
+        ap (meant f) waits ∙ ap (λ ns. record (meant f s1) { waiting = s1.waiting ++ ns }) (names_are ∙ waiting_loose columns b after e ∙ sym (names_meant f columns r b fresh))
+        ∙ ap (λ (m : Renderer D M (List M)). record m { waiting = m.waiting ++ names_at_end columns (meant f r) opened }) after_lines in
+        let ended : after_block columns (meant f r) (Some opened) ≡ done (meant f s2) = fitting (fits_at_end columns (meant f r) opened) _ fits ∙ ap (λ m. done m) (sym is) in
+        subst (λ (o : Option (Open (Vec A))). after_block columns (meant f r) (option_map (map_open (tag_meant f)) o) ≡ done (meant f s2)) seen ended
 
   -- and where it is refused
-  pub block_refused : after_flush columns b ≡ refused E.TooNarrow → FlushIsTooNarrow columns (meant f r)
+  pub block_refused : after_flush columns b ≡ refused E.TooNarrow → flush.after_flush columns (meant f r) ≡ refused E.TooNarrow
   block_refused e =
-      subst (λ (o : Option (Open (Vec A))). BlockIsTooNarrow columns (meant f r) (option_map (map_open (tag_meant f)) o)) seen
-      (end_narrow columns one (meant f r) (block_meant f b) (subst (λ (n : ℕ). 0 < n) fresh.width_is fresh.sound.wide) (fits_meant f columns r b fresh ∙ flush_narrow columns b fresh.unfailed e))
-
--- ---- the columns of blocks stay
-
-module _ {D A : Type 0} (columns : ℕ → Option ℕ) where
-  lines_width : (lines : List (List (Item (List A)))) (r : Renderer D A (List A)) → block_width (fold (with_line columns) r lines) ≡ block_width r
-  lines_width [] r = refl
-  lines_width (l ∷ ls) r = lines_width ls (with_line columns r l)
-
-  flush_width : (r s : Renderer D A (List A)) (o : Option (Open (List A))) → FlushesBlock columns r o s → block_width s ≡ block_width r
-  flush_width r s None h = ap block_width h
-  flush_width r s (Some b) h = ap block_width h.is ∙ lines_width (block_lines columns r b (lines_at_end columns r b)) (record r { block = None })
-
-  pub start_width : (r s : Renderer D A (List A)) → StartsBlock columns r s → block_width s ≡ block_width r
-  start_width r s h = ap block_width h.2 ∙ go (has_content h.0) refl ∙ flush_width r h.0 r.block h.1
-    where
-      go : (b : Bool) → has_content h.0 ≡ b → block_width (block_started columns h.0) ≡ block_width h.0
-      go true e = rw e refl
-      go false e = rw e refl
+      subst (λ (o : Option (Open (Vec A))). after_block columns (meant f r) (option_map (map_open (tag_meant f)) o) ≡ refused E.TooNarrow) seen
+      (not_fitting (fits_at_end columns (meant f r) (block_meant f b)) _ (fits_meant f columns r b fresh ∙ flush_narrow columns b fresh.unfailed e))

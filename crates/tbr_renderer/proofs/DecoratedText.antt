@@ -1,17 +1,17 @@
 -- Decorated text.
-use Rattle.std.proofs.Common.{◌≡◌, ℕ, Bool, Option, List, map, ap, ◌∙◌, subst}
+use Rattle.std.proofs.Common.{◌≡◌, ℕ, Bool, Option, List, map, ap, sym, ◌∙◌}
 use Rattle.std.specs.Global.{Vec}
 use Rattle.tbr_decor.specs.Decoration.{Decoration}
 use Rattle.tbr_renderer.specs.declared.options.RenderOptions.{RenderOptions}
 use Rattle.tbr_renderer.specs.Renderer.{Renderer, new_renderer}
 use Rattle.tbr_footnotes.specs.Tags.{tag_meant}
 use Rattle.tbr_renderer.specs.Meant.{meant}
-use Rattle.tbr_renderer.specs.Steps.{AddsText}
+use Rattle.tbr_renderer.specs.Steps.{after_text}
 use Rattle.tbr_renderer.specs.Decorated.{sub_renderer}
 
 -- the same text, added to the same renderer
-pub text_as : {D A : Type 0} (columns : ℕ → Option ℕ) (preformatted : D → Bool → A) (cs ds : List ℕ) (q r s : Renderer D A (List A)) → q ≡ r → cs ≡ ds → AddsText columns preformatted cs q s → AddsText columns preformatted ds r s
-text_as {D} {A} columns preformatted cs ds q r s e f h = subst (λ (p : Renderer D A (List A)). AddsText columns preformatted ds p s) e (subst (λ (es : List ℕ). AddsText columns preformatted es q s) f h)
+pub text_as : {D A : Type 0} (columns : ℕ → Option ℕ) (preformatted : D → Bool → A) (cs ds : List ℕ) (q r : Renderer D A (List A)) → q ≡ r → cs ≡ ds → after_text columns preformatted ds r ≡ after_text columns preformatted cs q
+text_as {D} {A} columns preformatted cs ds q r e f = ap (λ (p : Renderer D A (List A)). after_text columns preformatted ds p) (sym e) ∙ ap (λ (es : List ℕ). after_text columns preformatted es q) (sym f)
 
 -- a renderer for a block inside, from a new one
 pub sub_made : {D A M : Type 0} (f : A → M) (decoration : Decoration D M) (r made sub : Renderer D A (Vec A)) (width : ℕ) (options : RenderOptions) (d : D) (tag : Vec A) →

@@ -14,14 +14,14 @@ use Rattle.tbr_tagged.specs.declared.Error.TheVariants as E
 use Rattle.tbr_wrap.specs.Block.{Block, any_line, lines, takes_no_columns, allows, text_events, grown, after_text, after_marker, IsSound}
 use Rattle.tbr_wrap.specs.Block as block
 use Rattle.tbr_tagged.specs.Outcome.{done, refused}
-use Rattle.tbr_wrap.specs.Runs.{text_entries, CharactersFit}
-use Rattle.tbr_renderer.specs.Renderer.{Open, Renderer, new_block, open_block, open_run, text_annotations, last_mode, struck, entries_under, entries_of, called, with_more, with_events, block_width, may_overflow}
+use Rattle.tbr_wrap.specs.Runs.{text_entries}
+use Rattle.tbr_renderer.specs.Renderer.{Open, Renderer, new_block, open_block, open_run, text_annotations, last_mode, entries_under, called, with_more, with_events, block_width, may_overflow}
 use Rattle.tbr_footnotes.specs.Tags.{tag_meant}
 use Rattle.tbr_renderer.specs.Meant.{map_open, meant}
 use Rattle.tbr_renderer.specs.View.{IsFresh, block_seen, block_meant}
 use Rattle.tbr_renderer.specs.Flush.{block_in, fits_grown}
-use Rattle.tbr_renderer.specs.Steps.{at_line_start, block_is_empty, text_brings, JoinIsTooNarrow}
-use Rattle.tbr_renderer.proofs.MappedBlocks.{called-map, fits_grown_meant, line_start_meant, any_line_meant, text_narrow, join_wide}
+use Rattle.tbr_renderer.specs.Steps.{at_line_start, block_is_empty}
+use Rattle.tbr_renderer.proofs.MappedBlocks.{called-map, fits_grown_meant, line_start_meant, any_line_meant, text_narrow}
 
 pub text_entries-map : {A B : Type 0} (f : A → B) (cs : List ℕ) (a b : A) (mode : WhiteSpace) → map_run f (text_entries cs a b mode) ≡ text_entries cs (f a) (f b) mode
 text_entries-map f [] a b mode = refl
@@ -100,15 +100,6 @@ open_run_is {D} {A} r = go r.block
 pub run_joined : {D A : Type 0} (r : Renderer D A (List A)) (es : List (Event (List A))) → run_of ((open_block r).events ++ es) ≡ open_run r.block ++ run_of es
 run_joined {D} {A} r es = run_of-append (open_block r).events es ∙ ap (λ (run : List (Entry (List A))). run ++ run_of es) (open_run_is r)
 
--- where a text joins no run
-pub join_narrow : {D A : Type 0} (columns : ℕ → Option ℕ) (one : columns 32 ≡ Some 1) (preformatted : D → Bool → A) (cs : List ℕ) (r : Renderer D A (List A)) → 0 < block_width r → fits_grown columns r (open_block r) (text_brings columns preformatted cs r) ≡ false →
-    JoinIsTooNarrow columns preformatted cs r
-join_narrow {D} {A} columns one preformatted cs r wide narrow = record {
-  narrow = narrow;
-  wide = subst (λ (run : List (Entry (List A))). ¬ (CharactersFit columns (block_width r) (run ++ entries_of columns preformatted r cs))) (open_run_is r)
-      (join_wide columns one r (open_block r) wide (struck columns r.strikeouts cs) (text_annotations preformatted false r) (text_annotations preformatted true r) (last_mode r.modes) narrow);
-}
-
 -- ---- markers
 
 module _ {A M : Type 0} (f : A → M) (columns : ℕ → Option ℕ) (width : ℕ) (overflows : Bool) (old new : Block (Vec A)) (name : List ℕ) (e : after_marker name old ≡ done new) where
@@ -118,12 +109,12 @@ module _ {A M : Type 0} (f : A → M) (columns : ℕ → Option ℕ) (width : �
   pub marked : block_meant f new ≡ with_more (block_meant f old) (entry (marker_entry name) ∷ [])
   marked = grown_means f columns old new (entry (marker_entry name) ∷ []) (entry (marker_entry name) ∷ []) (marker_leaves columns old new name e) refl
 
--- a renderer whose block has a marker more
-pub marker_added : {D A M : Type 0} (f : A → M) (columns : ℕ → Option ℕ) (r taken put : Renderer D A (Vec A)) (old new : Block (Vec A)) (name : List ℕ) → taken ≡ record r { block = None } → block_meant f old ≡ open_block (meant f r) →
-    block_meant f new ≡ with_more (block_meant f old) (entry (marker_entry name) ∷ []) → put ≡ record taken { block = block_seen (Some new) } → meant f put ≡ with_events (meant f r) (entry (marker_entry name) ∷ [])
-marker_added {D} {A} {M} f columns r taken put old new name emptied before is put_is =
+-- a renderer to whose block more has come
+pub block_grown : {D A M : Type 0} (f : A → M) (r taken put : Renderer D A (Vec A)) (old new : Block (Vec A)) (es : List (Event (List M))) → taken ≡ record r { block = None } → block_meant f old ≡ open_block (meant f r) →
+    block_meant f new ≡ with_more (block_meant f old) es → put ≡ record taken { block = block_seen (Some new) } → meant f put ≡ with_events (meant f r) es
+block_grown {D} {A} {M} f r taken put old new es emptied before is put_is =
     ap (meant f) put_is ∙ ap (λ (q : Renderer D A (Vec A)). meant f (record q { block = block_seen (Some new) })) emptied
-    ∙ ap (λ (b : Open (List M)). record (meant f r) { block = Some b }) (is ∙ ap (λ b. with_more b (entry (marker_entry name) ∷ [])) before)
+    ∙ ap (λ (b : Open (List M)). record (meant f r) { block = Some b }) (is ∙ ap (λ b. with_more b es) before)
 
 -- ---- the beginning of a line, and empty blocks
 

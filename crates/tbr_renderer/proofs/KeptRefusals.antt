@@ -1,43 +1,63 @@
 -- What a call ensures once its refusal is kept.
-use Rattle.std.proofs.Common.{◌≡◌, ◌≢◌, ◌≤◌, Option, None, Some, Result, Ok, Err, refl, ap, ◌∙◌, sym, subst}
+use Rattle.std.proofs.Common.{◌≡◌, ◌≢◌, ◌≤◌, ℕ, Option, None, Some, Result, Ok, Err, List, refl, ap, ◌∙◌, sym, subst}
 use Rattle.std.specs.Prelude.{OnOk, OnErr, IfErr}
 use Rattle.std.specs.Result.{IsErrAnd}
+use Rattle.std.specs.Global.{Vec}
 use Rattle.tbr_tagged.specs.declared.Error.{Error}
 use Rattle.tbr_tagged.specs.declared.Error.TheVariants as E
-use Rattle.tbr_renderer.specs.Renderer.{Kept, block_columns}
-use Rattle.tbr_renderer.specs.Calls.{Call, Answers, Fails}
+use Rattle.tbr_tagged.specs.Outcome.{Outcome, done, refused}
+use Rattle.tbr_tagged.proofs.Outcomes.{live_goes}
+use Rattle.tbr_decor.specs.Decoration.{Decoration}
+use Rattle.tbr_renderer.specs.Meant.{meant}
+use Rattle.tbr_renderer.specs.Renderer.{Renderer, kept_of, block_columns, block_width}
+use Rattle.tbr_renderer.specs.Outcomes.{Tries}
+use Rattle.tbr_renderer.specs.Calls.{Call, made, CallsOf, calls_by, failure_in, kept_in, Answers, Fails}
 
 pub on_err : {X E P : Type 0} (r : Result X E) → P → OnErr r P
 on_err (Ok x) p = tt
 on_err (Err e) p = p
 
-pub kept_ok : {X E S : Type 0} (P : S → Type 0) (r done : Result X E) (old new : S) → r ≡ done → OnOk r (new ≡ old) → OnOk done (P old) → OnOk r (P new)
+pub kept_ok : {X E S : Type 0} (P : S → Type 0) (r tried : Result X E) (old new : S) → r ≡ tried → OnOk r (new ≡ old) → OnOk tried (P old) → OnOk r (P new)
 kept_ok P (Ok x) (Ok y) old new e h k = subst P (sym h) k
 kept_ok P (Ok x) (Err y) old new e h k = cc
-kept_ok P (Err x) done old new e h k = tt
+kept_ok P (Err x) tried old new e h k = tt
 
--- what a live renderer that refuses leaves, once the refusal is kept
-pub kept_fails : {S R : Type 0} (failure : S → Option Error) (kept_of : S → Kept) (old mid new : S) (result : Result R Error) →
-    failure old ≡ None → IfErr result (λ e. (failure new ≡ Some e) × (kept_of new ≡ kept_of mid)) → OnErr result (kept_of mid ≡ kept_of old) → Fails failure kept_of old result new
-kept_fails failure kept_of old mid new (Ok x) live failed kept = record { refusal = (tt, λ e was. absurd (let n : None ≡ Some e = sym live ∙ was in cc)); kept = tt }
-kept_fails failure kept_of old mid new (Err x) live failed kept = record { refusal = (failed.0, λ e was. absurd (let n : None ≡ Some e = sym live ∙ was in cc)); kept = failed.1 ∙ kept }
+module _ {T S V R : Type 0} (calls : CallsOf T S V) where
+  -- what a live renderer that refuses leaves, once the refusal is kept
+  pub kept_fails : (old mid new : S) (result : Result R Error) →
+      failure_in calls old ≡ None → IfErr result (λ e. (failure_in calls new ≡ Some e) × (kept_in calls new ≡ kept_in calls mid)) → OnErr result (kept_in calls mid ≡ kept_in calls old) → Fails calls old result new
+  kept_fails old mid new (Ok x) live failed same = record { refusal = (tt, λ e was. absurd (let n : None ≡ Some e = sym live ∙ was in cc)); kept = tt }
+  kept_fails old mid new (Err x) live failed same = record { refusal = (failed.0, λ e was. absurd (let n : None ≡ Some e = sym live ∙ was in cc)); kept = failed.1 ∙ same }
 
--- and what it answers
-pub kept_answers : {S T R : Type 0} (does : Call T → S → S → Type 0) (narrow : Call T → S → Type 0) (failure : S → Option Error) (kept_of : S → Kept) (call : Call T) (old mid new : S) (result tried : Result R Error) →
-    failure old ≡ None → result ≡ tried → OnOk result (new ≡ mid) → IfErr result (λ e. (failure new ≡ Some e) × (kept_of new ≡ kept_of mid)) →
-    OnOk tried (does call old mid) → (tried ≡ Err E.TooNarrow → narrow call old) → (2 ≤ block_columns (kept_of old) → tried ≢ Err E.TooNarrow) → OnErr tried (kept_of mid ≡ kept_of old) →
-    Answers does narrow failure kept_of call old result new
-kept_answers does narrow failure kept_of call old mid new result tried live same is failed ok too_narrow two kept = record {
-  ok = kept_ok (λ s. does call old s) result tried mid new same is ok;
-  too_narrow = λ _ e. too_narrow (sym same ∙ e);
-  two_columns = λ _ wide e. two wide (sym same ∙ e);
-  fails = kept_fails failure kept_of old mid new result live failed (subst (λ r. OnErr r (kept_of mid ≡ kept_of old)) (sym same) kept);
-}
+  -- what one that had failed leaves
+  pub refused_fails : (old : S) (e : Error) (result : Result R Error) → failure_in calls old ≡ Some e → IsErrAnd result (λ x. x ≡ e) → Fails calls old result old
+  refused_fails old e (Ok x) was same = absurd same
+  refused_fails old e (Err x) was same = record {
+    refusal = (was ∙ ap Some (sym same), λ d is. (let other : Some e ≡ Some d = sym was ∙ is in let alike : x ≡ e = same in cc, refl));
+    kept = refl;
+  }
 
--- what one that had failed leaves
-pub refused_fails : {S R : Type 0} (failure : S → Option Error) (kept_of : S → Kept) (old : S) (e : Error) (result : Result R Error) → failure old ≡ Some e → IsErrAnd result (λ x. x ≡ e) → Fails failure kept_of old result old
-refused_fails failure kept_of old e (Ok x) was same = absurd same
-refused_fails failure kept_of old e (Err x) was same = record {
-  refusal = (was ∙ ap Some (sym same), λ d is. (let other : Some e ≡ Some d = sym was ∙ is in let alike : x ≡ e = same in cc, refl));
-  kept = refl;
-}
+  -- and what it answers
+  pub answers_of : (call : Call T) (outcome : Outcome V) (old mid new : S) (result tried : Result R Error) →
+      calls.after call (calls.state old) ≡ outcome → failure_in calls old ≡ None → result ≡ tried → OnOk result (new ≡ mid) → IfErr result (λ e. (failure_in calls new ≡ Some e) × (kept_in calls new ≡ kept_in calls mid)) →
+      OnOk tried (outcome ≡ done (calls.state mid)) → (tried ≡ Err E.TooNarrow → outcome ≡ refused E.TooNarrow) → (2 ≤ block_columns (kept_in calls old) → tried ≢ Err E.TooNarrow) → OnErr tried (kept_in calls mid ≡ kept_in calls old) →
+      Answers calls call old result new
+  answers_of call outcome old mid new result tried makes live same is failed ok narrow two stay = record {
+    ok = kept_ok (λ s. calls.after call (calls.state old) ≡ done (calls.state s)) result tried mid new same is (made_ok tried ok);
+    too_narrow = λ e. makes ∙ narrow (sym same ∙ e);
+    two_columns = λ wide e. two wide.1 (sym same ∙ e);
+    fails = kept_fails old mid new result live failed (subst (λ r. OnErr r (kept_in calls mid ≡ kept_in calls old)) (sym same) stay);
+  }
+    where
+      made_ok : (t : Result R Error) → OnOk t (outcome ≡ done (calls.state mid)) → OnOk t (calls.after call (calls.state old) ≡ done (calls.state mid))
+      made_ok (Ok x) e = makes ∙ e
+      made_ok (Err x) e = tt
+
+module _ {D A M : Type 0} (f : A → M) (columns : ℕ → Option ℕ) (decoration : Decoration D M) where
+  pub kept_answers : {R : Type 0} (call : Call (List M)) (old mid new : Renderer D A (Vec A)) (result tried : Result R Error) →
+      old.failure ≡ None → result ≡ tried → OnOk result (new ≡ mid) → IfErr result (λ e. (new.failure ≡ Some e) × (kept_of new ≡ kept_of mid)) →
+      Tries (meant f) (made columns decoration call) old tried mid → (2 ≤ block_width old → tried ≢ Err E.TooNarrow) → OnErr tried (kept_of mid ≡ kept_of old) →
+      Answers (calls_by columns decoration f) call old result new
+  kept_answers call old mid new result tried live same is failed tries two kept =
+      answers_of (calls_by columns decoration f) call (made columns decoration call (meant f old)) old mid new result tried
+      (live_goes old.failure (made columns decoration call (meant f old)) live) live same is failed tries.ok tries.too_narrow two kept

@@ -1,8 +1,11 @@
 pub mod KeptRefusals
+pub mod OutcomeParts
 pub mod Images
 pub mod DecoratedText
 pub mod MeantLines
 pub mod MappedBlocks
+pub mod FlushedBlocks
+pub mod CallParts
 pub mod MeantBorders
 pub mod LineTexts
 pub mod AppendedLines

@@ -1,5 +1,5 @@
 -- Blocks under other annotations.
-use Rattle.std.proofs.Common.{◌≡◌, ℕ, ◌<◌, ◌&&◌, ◌||◌, ◌==◌, not, nat_le, if◌then◌else◌, Bool, true, false, Option, None, Some, List, [], ◌∷◌, ◌++◌, map, refl, ap, sym, ◌∙◌}
+use Rattle.std.proofs.Common.{◌≡◌, ℕ, ◌<◌, ◌&&◌, ◌||◌, ◌==◌, not, nat_le, true, false, Option, None, Some, List, [], ◌∷◌, ◌++◌, map, refl, ap, sym, ◌∙◌}
 use Rattle.std.specs.Global.{Vec}
 use Rattle.std.specs.Option.{option_map}
 use Rattle.std.proofs.lemmas.List.{map-append}
@@ -11,7 +11,7 @@ use Rattle.tbr_model.specs.Mapped.{map_items, map_entry, map_run, map_lines, map
 use Rattle.tbr_model.specs.Markers.{names_in_items}
 use Rattle.tbr_model.proofs.maps.Words.{items_width-map, has_character-map}
 use Rattle.tbr_wrap.specs.Block.{Block, lines, all_lines, waiting_names, allows, grown, text_events, flushed, after_text, after_flush, any_line, takes_no_columns, has_no_character, progress_of}
-use Rattle.tbr_tagged.specs.Outcome.{done, refused}
+use Rattle.tbr_tagged.specs.Outcome.{refused}
 use Rattle.tbr_tagged.proofs.Outcomes.{live_refused}
 use Rattle.tbr_wrap.proofs.runs.Blocks.{if_allowed, if_not_allowed}
 use Rattle.tbr_wrap.proofs.runs.BlockLaws.{flush_ends, flush_wide, text_wide}
@@ -22,14 +22,11 @@ use Rattle.tbr_renderer.specs.Renderer.{Open, Renderer, called, block_width, may
 use Rattle.tbr_footnotes.specs.Tags.{tag_meant}
 use Rattle.tbr_renderer.specs.Meant.{meant}
 use Rattle.tbr_renderer.specs.View.{block_meant, IsFresh}
-use Rattle.tbr_renderer.specs.Flush.{block_in, fits_grown, lines_at_end, names_at_end, fits_at_end, RunIsTooNarrow}
+use Rattle.tbr_renderer.specs.Flush.{block_in, fits_grown, lines_at_end, names_at_end, fits_at_end}
+use Rattle.tbr_renderer.proofs.OutcomeParts.{refused_if_not}
 use Rattle.tbr_model.proofs.maps.Rule.{progress-map, finished-map, waiting-map}
 
 -- ---- what refuses
-
-refused_if_not : {S : Type 0} (b : Bool) (t : S) → (if b then done t else refused E.TooNarrow) ≡ refused E.TooNarrow → b ≡ false
-refused_if_not true t e = cc
-refused_if_not false t e = refl
 
 module _ {A : Type 0} (columns : ℕ → Option ℕ) (s : Block A) (live : s.failure ≡ None) where
   pub flush_narrow : after_flush columns s ≡ refused E.TooNarrow → allows columns s (all_lines columns s) ≡ false
@@ -48,8 +45,8 @@ module _ {D A T : Type 0} (columns : ℕ → Option ℕ) (one : columns 32 ≡ S
   pub end_promised : fits_at_end columns r b ≡ true → EndsRun columns (block_width r) (may_overflow r) (run_of b.events) (lines_at_end columns r b) (names_at_end columns r b)
   end_promised fits = flush_ends columns one s wide (flushed columns s) (if_allowed columns (fits_at_end columns r b) (flushed columns s) fits)
 
-  pub end_narrow : fits_at_end columns r b ≡ false → RunIsTooNarrow columns r b
-  end_narrow narrow = record { narrow = narrow; wide = flush_wide columns one s wide refl (if_not_allowed columns (fits_at_end columns r b) (flushed columns s) narrow) }
+  pub end_wide : fits_at_end columns r b ≡ false → ¬ (CharactersFit columns (block_width r) (run_of b.events))
+  end_wide narrow = flush_wide columns one s wide refl (if_not_allowed columns (fits_at_end columns r b) (flushed columns s) narrow)
 
   pub join_wide : (cs : List ℕ) (v w : T) (mode : WhiteSpace) → fits_grown columns r b (text_events cs v w mode) ≡ false → ¬ (CharactersFit columns (block_width r) (run_of b.events ++ text_entries cs v w mode))
   join_wide cs v w mode narrow = text_wide columns s cs v w mode one wide refl (if_not_allowed columns (fits_grown columns r b (text_events cs v w mode)) (grown s (text_events cs v w mode)) narrow)

@@ -31,12 +31,14 @@ use Rattle.tbr_rows.proofs.Fitted.{spots_are, fits_with_fewer_lines}
 use Rattle.tbr_rows.proofs.MeantRows.{filled_means, fits_mean, row_means}
 use Rattle.tbr_rows.proofs.MeantTexts.{items-map, longest_means}
 use Rattle.tbr_kept_lines.specs.Line.{Line, text, border, line_seen}
-use Rattle.tbr_renderer.specs.Renderer.{Open, Renderer, with_line}
+use Rattle.tbr_renderer.specs.Renderer.{Renderer, with_line}
 use Rattle.tbr_kept_lines.specs.LastBorder.{border_in, without_last, last_border, before_border}
 use Rattle.tbr_footnotes.specs.Tags.{tag_meant}
 use Rattle.tbr_renderer.specs.Meant.{map_line, meant}
-use Rattle.tbr_renderer.specs.Flush.{block_lines, lines_at_end, Flushes, FlushesBlock}
-use Rattle.tbr_renderer.specs.Appended.{HandsOut}
+use Rattle.tbr_tagged.specs.Outcome.{done}
+use Rattle.tbr_renderer.specs.Flush.{after_flush}
+use Rattle.tbr_renderer.specs.Appended.{handed_out}
+use Rattle.tbr_renderer.proofs.FlushedBlocks.{flush_keeps}
 use Rattle.tbr_renderer.specs.Rows.{is_blank, looks, spots_of, LeavesFree, GivenCell, align_in, GivesCell, FillsCell, ComesAs, aligned_as, border_lines, style_in, with_next, with_row_behind, with_row}
 use Rattle.tbr_renderer.proofs.BlankRenderers.{blank_hands_none, blank_meant}
 
@@ -136,12 +138,8 @@ module _ {D A : Type 0} (columns : ℕ → Option ℕ) where
   lines_hang [] q = refl
   lines_hang (t ∷ ts) q = lines_hang ts (with_line columns q t)
 
-  block_hangs : (r s : Renderer D A (List A)) (o : Option (Open (List A))) → FlushesBlock columns r o s → s.hanging ≡ r.hanging
-  block_hangs r s None h = ap (λ (q : Renderer D A (List A)). q.hanging) h
-  block_hangs r s (Some b) h = ap (λ (q : Renderer D A (List A)). q.hanging) h.is ∙ lines_hang (block_lines columns r b (lines_at_end columns r b)) (record r { block = None })
-
-  pub flush_hangs : (r s : Renderer D A (List A)) → Flushes columns r s → s.hanging ≡ r.hanging
-  flush_hangs r s h = block_hangs r s r.block h
+  pub flush_hangs : (r s : Renderer D A (List A)) → after_flush columns r ≡ done s → s.hanging ≡ r.hanging
+  flush_hangs r s h = flush_keeps columns r s (λ (q : Renderer D A (List A)). q.hanging) (λ texts names. lines_hang texts (record r { block = None })) h
 
 -- ---- whether the row fits
 
@@ -173,7 +171,7 @@ freed {D} {A} {T} columns at (d ∷ ds) (c ∷ cs) h =
     )
 
 -- the row of the cells fits where that of the renderers does
-pub still_fits : {D A M : Type 0} (f : A → M) (columns : ℕ → Option ℕ) (r s : Renderer D A (Vec A)) (cols : List (Renderer D A (Vec A) × ℕ)) (cells : List (Cell (Vec A))) → Flushes columns (meant f r) (meant f s) → AreSideBySide 0 cells → AllZip (LeavesFree columns) cols cells →
+pub still_fits : {D A M : Type 0} (f : A → M) (columns : ℕ → Option ℕ) (r s : Renderer D A (Vec A)) (cols : List (Renderer D A (Vec A) × ℕ)) (cells : List (Cell (Vec A))) → after_flush columns (meant f r) ≡ done (meant f s) → AreSideBySide 0 cells → AllZip (LeavesFree columns) cols cells →
     row_fits r.hanging (spots_of columns cols) ≡ true → row_fits s.hanging (map spot_of cells) ≡ true
 still_fits f columns r s cols cells flushes stand free fits =
     let same : row_fits s.hanging (spots_of columns cols) ≡ row_fits r.hanging (spots_of columns cols) =
@@ -184,20 +182,20 @@ still_fits f columns r s cols cells flushes stand free fits =
 
 -- a line of a cell is filled, by what its annotations mean
 module _ {A M : Type 0} (f : A → M) (eq : A → A → Bool) (means : MeansEqual (tag_meant f) (equal_lists eq)) (told : EqualIfMeant (tag_meant f) (equal_lists eq)) (columns : ℕ → Option ℕ) (align : CellAlign) (width : ℕ) (tag : Vec A) where
-  line_fills : (l done : RenderLine (Vec A)) → IsMergedText (equal_lists eq) l → FillsLine columns (equal_lists eq) align width tag l done →
-      FillsCell columns align width (tag_meant f tag) (map_line (tag_meant f) (line_seen l)) (map_row_line (tag_meant f) done)
-  line_fills (Text es) (Text done) merged h =
+  line_fills : (l filled : RenderLine (Vec A)) → IsMergedText (equal_lists eq) l → FillsLine columns (equal_lists eq) align width tag l filled →
+      FillsCell columns align width (tag_meant f tag) (map_line (tag_meant f) (line_seen l)) (map_row_line (tag_meant f) filled)
+  line_fills (Text es) (Text filled) merged h =
       let g = tag_meant f in
       let same : items_of (map (map_element g) es) ≡ map_items g (items_of es) = items-map g es in (
-        filled_means g (equal_lists eq) means columns align width tag (Text es) (Text done) h ∙ ap (λ (is : List (Item (List M))). aligned_items align is (width - items_width columns is) (g tag)) same,
-        longest_means g (equal_lists eq) means told done (h.1 merged),
+        filled_means g (equal_lists eq) means columns align width tag (Text es) (Text filled) h ∙ ap (λ (is : List (Item (List M))). aligned_items align is (width - items_width columns is) (g tag)) same,
+        longest_means g (equal_lists eq) means told filled (h.1 merged),
       )
-  line_fills (Rule b) (Rule done) merged h = filled_means (tag_meant f) (equal_lists eq) means columns align width tag (Rule b) (Rule done) h
-  line_fills (Text es) (Rule done) merged h = absurd h
-  line_fills (Rule b) (Text done) merged h = absurd h
+  line_fills (Rule b) (Rule filled) merged h = filled_means (tag_meant f) (equal_lists eq) means columns align width tag (Rule b) (Rule filled) h
+  line_fills (Text es) (Rule filled) merged h = absurd h
+  line_fills (Rule b) (Text filled) merged h = absurd h
 
-  pub lines_fill : (ls done : List (RenderLine (Vec A))) → Each (IsMergedText (equal_lists eq)) ls → AllZip (FillsLine columns (equal_lists eq) align width tag) ls done →
-      AllZip (FillsCell columns align width (tag_meant f tag)) (map (map_line (tag_meant f)) (map line_seen ls)) (map (map_row_line (tag_meant f)) done)
+  pub lines_fill : (ls filled : List (RenderLine (Vec A))) → Each (IsMergedText (equal_lists eq)) ls → AllZip (FillsLine columns (equal_lists eq) align width tag) ls filled →
+      AllZip (FillsCell columns align width (tag_meant f tag)) (map (map_line (tag_meant f)) (map line_seen ls)) (map (map_row_line (tag_meant f)) filled)
   lines_fill [] [] merged h = tt
   lines_fill [] (d ∷ ds) merged h = absurd h
   lines_fill (l ∷ ls) [] merged h = absurd h
@@ -234,7 +232,7 @@ aligned_more [] (y ∷ xs) x = ap (λ bs. Left ∷ bs) (aligned_more [] xs x ∙
 aligned_more (a ∷ more) (y ∷ xs) x = ap (λ bs. a ∷ bs) (aligned_more more xs x)
 
 abbrev pub Gives : {D A M : Type 0} → (A → M) → (ℕ → Option ℕ) → Renderer D A (Vec A) × ℕ → GivenCell (List M) → Type 0
-Gives {D} {A} {M} f columns col cell = GivesCell (λ (r : Renderer D A (Vec A)). r.width) (λ (r : Renderer D A (Vec A)) lines. HandsOut columns (meant f r) lines) col cell
+Gives {D} {A} {M} f columns col cell = GivesCell (λ (r : Renderer D A (Vec A)). r.width) (λ (r : Renderer D A (Vec A)) lines. handed_out columns (meant f r) ≡ done lines) col cell
 
 module _ {D A M : Type 0} (f : A → M) (columns : ℕ → Option ℕ) (aligns : List CellAlign) (tag : List M) where
   -- the cells of some renderers, and the alignments that are left
@@ -250,7 +248,7 @@ module _ {D A M : Type 0} (f : A → M) (columns : ℕ → Option ℕ) (aligns :
   no_columns = record { cells = []; give = tt; aligned = refl; left_is = refl; come = tt; free = tt }
 
   pub columns_go_on : (cols : List (Renderer D A (Vec A) × ℕ)) (own next : List (Cell (Vec A))) (left rest : List CellAlign) (col : Renderer D A (Vec A)) (span : ℕ) (align : CellAlign) (seen : List (Line (List M))) (filled : List (RenderLine (Vec A))) → (h : HasColumns cols own left) →
-      HandsOut columns (meant f col) seen → align ≡ next_align left → rest ≡ drop 1 left →
+      handed_out columns (meant f col) ≡ done seen → align ≡ next_align left → rest ≡ drop 1 left →
       AllZip (FillsCell columns align col.width tag) seen (map (map_row_line (tag_meant f)) filled) →
       next ≡ own ++ cell_behind own col.width span filled ∷ [] → HasColumns (cols ++ (col, span) ∷ []) next rest
   columns_go_on cols own next left rest col span align seen filled h hands aligned_by rest_is fills is =
@@ -274,7 +272,7 @@ module _ {D A M : Type 0} (f : A → M) (columns : ℕ → Option ℕ) (aligns :
 
 -- the lines that renderers hand out
 pub lines_given : {D A M : Type 0} (f : A → M) (columns : ℕ → Option ℕ) (cols : List (Renderer D A (Vec A) × ℕ)) (cells : List (GivenCell (List M))) → AllZip (Gives f columns) cols cells →
-    AllZip (λ col lines. HandsOut columns (meant f col.0) lines) cols (map (λ (cell : GivenCell (List M)). cell.lines) cells)
+    AllZip (λ col lines. handed_out columns (meant f col.0) ≡ done lines) cols (map (λ (cell : GivenCell (List M)). cell.lines) cells)
 lines_given f columns [] [] h = tt
 lines_given f columns [] (c ∷ cs) h = absurd h
 lines_given f columns (d ∷ ds) [] h = absurd h

@@ -1,14 +1,17 @@
 -- What text and the end of a block leave of the settings and of the kept refusal.
-use Rattle.std.proofs.Common.{◌≡◌, ℕ, Bool, true, false, Option, Some, None, List, [], ◌∷◌, fold, refl, ap, ◌∙◌}
+use Rattle.std.proofs.Common.{◌≡◌, ℕ, Bool, true, false, if◌then◌else◌, Option, None, List, [], ◌∷◌, fold, refl, ap, ◌∙◌}
 use Rattle.tbr_model.specs.Run.{Item}
 use Rattle.tbr_decor.specs.End.{End}
 use Rattle.tbr_decor.specs.Decoration.{Decoration}
 use Rattle.tbr_tagged.specs.declared.Error.{Error}
-use Rattle.tbr_renderer.specs.Decorated.{asked_to_close, Closes}
-use Rattle.tbr_renderer.specs.Renderer.{Open, Renderer, Settings, settings_of, has_content, with_line, without_annotation, ignores}
+use Rattle.tbr_tagged.specs.Outcome.{done}
+use Rattle.tbr_renderer.specs.Decorated.{asked_to_close, after_end}
+use Rattle.tbr_renderer.specs.Renderer.{Renderer, Settings, settings_of, has_content, with_line, without_annotation, open_block, with_events, ignores}
 use Rattle.tbr_kept_lines.specs.LastBorder.{without_last}
-use Rattle.tbr_renderer.specs.Flush.{block_lines, lines_at_end, Flushes, FlushesBlock}
-use Rattle.tbr_renderer.specs.Steps.{AddsEmptyLine, block_started, StartsBlock, AddsText, AddsTextBy}
+use Rattle.tbr_renderer.specs.Flush.{fits_grown, after_flush}
+use Rattle.tbr_renderer.specs.Steps.{with_empty_line, after_empty_line, block_started, after_block_start, text_brings, after_joining, after_first_text, after_text}
+use Rattle.tbr_renderer.proofs.OutcomeParts.{one_done, done_first, done_before, if_fits}
+use Rattle.tbr_renderer.proofs.FlushedBlocks.{flush_keeps}
 
 -- the settings, and the kept refusal
 pub record Steady (D A : Type 0) : Type 0 where
@@ -23,15 +26,13 @@ module _ {D A : Type 0} (columns : ℕ → Option ℕ) where
   lines_added [] r = refl
   lines_added (t ∷ ts) r = lines_added ts (with_line columns r t)
 
-  block_flushed : (r s : Renderer D A (List A)) (o : Option (Open (List A))) → FlushesBlock columns r o s → steady s ≡ steady r
-  block_flushed r s None h = ap (λ (q : Renderer D A (List A)). steady q) h
-  block_flushed r s (Some b) h = ap (λ (q : Renderer D A (List A)). steady q) h.is ∙ lines_added (block_lines columns r b (lines_at_end columns r b)) (record r { block = None })
+  pub flushed_alike : (r s : Renderer D A (List A)) → after_flush columns r ≡ done s → steady s ≡ steady r
+  flushed_alike r s h = flush_keeps columns r s (λ (q : Renderer D A (List A)). steady q) (λ texts names. lines_added texts (record r { block = None })) h
 
-  pub flushed_alike : (r s : Renderer D A (List A)) → Flushes columns r s → steady s ≡ steady r
-  flushed_alike r s h = block_flushed r s r.block h
-
-  pub empty_added : (r s : Renderer D A (List A)) → AddsEmptyLine columns r s → steady s ≡ steady r
-  empty_added r s h = ap (λ (q : Renderer D A (List A)). steady q) h.2 ∙ flushed_alike r h.0 h.1
+  pub empty_added : (r s : Renderer D A (List A)) → after_empty_line columns r ≡ done s → steady s ≡ steady r
+  empty_added r s h =
+      let (m, flushes, is) = done_before (with_empty_line columns) (after_flush columns r) s h in
+      ap (λ (q : Renderer D A (List A)). steady q) is ∙ flushed_alike r m flushes
 
   begun : (r : Renderer D A (List A)) → steady (block_started columns r) ≡ steady r
   begun r = go (has_content r) refl
@@ -40,23 +41,34 @@ module _ {D A : Type 0} (columns : ℕ → Option ℕ) where
       go true e = rw e refl
       go false e = rw e refl
 
-  pub started_alike : (r s : Renderer D A (List A)) → StartsBlock columns r s → steady s ≡ steady r
-  started_alike r s h = ap (λ (q : Renderer D A (List A)). steady q) h.2 ∙ begun h.0 ∙ flushed_alike r h.0 h.1
+  pub started_alike : (r s : Renderer D A (List A)) → after_block_start columns r ≡ done s → steady s ≡ steady r
+  started_alike r s h =
+      let (m, flushes, is) = done_before (block_started columns) (after_flush columns r) s h in
+      ap (λ (q : Renderer D A (List A)). steady q) is ∙ begun m ∙ flushed_alike r m flushes
 
-  pub text_added : (preformatted : D → Bool → A) (ignored ended : Bool) (cs : List ℕ) (r s : Renderer D A (List A)) → AddsTextBy columns preformatted ignored ended cs r s → steady s ≡ steady r
-  text_added preformatted true ended cs r s h = ap (λ (q : Renderer D A (List A)). steady q) h
-  text_added preformatted false false cs r s h = ap (λ (q : Renderer D A (List A)). steady q) h.1
-  text_added preformatted false true cs r s h = ap (λ (q : Renderer D A (List A)). steady q) h.2.1 ∙ started_alike r h.0 h.1
+  module _ (preformatted : D → Bool → A) where
+    joined : (cs : List ℕ) (r s : Renderer D A (List A)) → after_joining columns preformatted cs r ≡ done s → steady s ≡ steady r
+    joined cs r s h =
+        let more = text_brings columns preformatted cs r in
+        ap (λ (q : Renderer D A (List A)). steady q) (if_fits (fits_grown columns r (open_block r) more) (with_events r more) s h).1
+
+    pub text_added : (cs : List ℕ) (r s : Renderer D A (List A)) → after_text columns preformatted cs r ≡ done s → steady s ≡ steady r
+    text_added cs r s h = go (ignores r cs) r.block_ended h
+      where
+        go : (ignored ended : Bool) → (if ignored then done r else if ended then after_first_text columns preformatted cs r else after_joining columns preformatted cs r) ≡ done s → steady s ≡ steady r
+        go true ended e = ap (λ (q : Renderer D A (List A)). steady q) (one_done r s e)
+        go false false e = joined cs r s e
+        go false true e =
+            let (m, starts, joins) = done_first (after_block_start columns r) (after_joining columns preformatted cs) s e in
+            joined cs m s joins ∙ started_alike r m starts
 
   module _ (decoration : Decoration D A) where
-    -- a text, and then a turn of the settings that it leaves
-    pub added : (cs : List ℕ) (r s : Renderer D A (List A)) → AddsText columns decoration.preformatted cs r s → steady s ≡ steady r
-    added cs r s h = text_added decoration.preformatted (ignores r cs) r.block_ended cs r s h
-
     pub taken : (m r : Renderer D A (List A)) → steady m ≡ steady r → steady (without_annotation m) ≡ steady (without_annotation r)
     taken m r e = ap (λ (x : Steady D A). record x { settings = record x.settings { annotations = without_last x.settings.annotations } }) e
 
-    pub closed_alike : (closed : End) (r s : Renderer D A (List A)) → Closes columns decoration closed r s → steady s ≡ steady (without_annotation (asked_to_close decoration closed r))
+    pub closed_alike : (closed : End) (r s : Renderer D A (List A)) → after_end columns decoration closed r ≡ done s → steady s ≡ steady (without_annotation (asked_to_close decoration closed r))
     closed_alike closed r s h =
         let q = asked_to_close decoration closed r in
-        ap (λ (p : Renderer D A (List A)). steady p) h.2 ∙ taken h.0 q (added (decoration.end_text r.decorator closed) q h.0 h.1)
+        let cs = decoration.end_text r.decorator closed in
+        let (m, adds, is) = done_before (λ (p : Renderer D A (List A)). without_annotation p) (after_text columns decoration.preformatted cs q) s h in
+        ap (λ (p : Renderer D A (List A)). steady p) is ∙ taken m q (text_added decoration.preformatted cs q m adds)

@@ -1,5 +1,5 @@
 -- Borders, and the lines of other renderers: prefixed, or one renderer's below another's.
-use Rattle.std.specs.Prelude.{◌≡◌, ℕ, ◌<◌, ◌⊎◌, Option, Some, None, if◌then◌else◌, List, [], ◌∷◌, ◌++◌, map, fold, length, replicate, chars}
+use Rattle.std.specs.Prelude.{◌≡◌, ℕ, ◌<◌, ◌⊎◌, Option, None, if◌then◌else◌, List, [], ◌∷◌, ◌++◌, map, fold, length, replicate, chars}
 use Rattle.std.specs.Iterator.{Yields}
 use Rattle.tbr_model.specs.Run.{Item}
 use Rattle.tbr_border.specs.Border.{Border, shown, without_holes}
@@ -7,8 +7,9 @@ use Rattle.tbr_border.specs.Cell.{Cell, horizontal, slash}
 use Rattle.tbr_tagged.specs.Elements.{text_items}
 use Rattle.tbr_kept_lines.specs.Line.{Line, text, border}
 use Rattle.tbr_renderer.specs.Renderer.{Renderer, line_padding, with_line}
-use Rattle.tbr_tagged.specs.declared.Error.TheVariants.{TooNarrow}
-use Rattle.tbr_renderer.specs.Flush.{Flushes, FlushIsTooNarrow}
+use Rattle.tbr_renderer.specs.Outcomes.{changed}
+use Rattle.tbr_renderer.specs.Flush.{after_flush}
+use Rattle.tbr_tagged.specs.Outcome.{Outcome, if_live}
 
 -- ---- borders
 
@@ -60,26 +61,20 @@ prefixed tag (prefix ∷ prefixes) (line ∷ lines) =
     (text_items prefix tag ++ as_text tag line) ∷ prefixed tag prefixes lines
 
 module _ {D A : Type 0} (columns : ℕ → Option ℕ) where
-  -- what a renderer that hasn't failed hands out where its open line is ended
-  abbrev pub HandsOut : Renderer D A (List A) → List (Line (List A)) → Type 0
-  HandsOut r lines = (r.failure ≡ None) × ((s : Renderer D A (List A)) × Flushes columns r s × (lines ≡ s.lines))
-
-  -- where it answers that it is too narrow
-  abbrev pub HoldsBack : Renderer D A (List A) → Type 0
-  HoldsBack r = (r.failure ≡ Some TooNarrow) ⊎ ((r.failure ≡ None) × FlushIsTooNarrow columns r)
+  -- the lines that a renderer hands out where its open line is ended
+  abbrev pub handed_out : Renderer D A (List A) → Outcome (List (Line (List A)))
+  handed_out r = if_live r.failure (changed (λ s. s.lines) (after_flush columns r))
 
   -- A border of so many `─` comes after a flush.
-  abbrev pub AddsBorder : ℕ → Renderer D A (List A) → Renderer D A (List A) → Type 0
-  AddsBorder width r s =
-      (m : Renderer D A (List A)) × Flushes columns r m
-      × (s ≡ with_border columns m (border_of_cells horizontal width r))
+  abbrev pub after_border : ℕ → Renderer D A (List A) → Outcome (Renderer D A (List A))
+  after_border width r =
+      changed (λ m. with_border columns m (border_of_cells horizontal width r)) (after_flush columns r)
 
   -- After a flush each line comes after its prefix as a line of text, as long as there are both.
-  abbrev pub AppendsLines :
-      List (List ℕ) → List (Line (List A)) → Renderer D A (List A) → Renderer D A (List A) → Type 0
-  AppendsLines prefixes lines r s =
-      (m : Renderer D A (List A)) × Flushes columns r m
-      × (s ≡ fold (with_line columns) m (prefixed r.annotations prefixes lines))
+  abbrev pub after_lines :
+      List (List ℕ) → List (Line (List A)) → Renderer D A (List A) → Outcome (Renderer D A (List A))
+  after_lines prefixes lines r =
+      changed (λ m. fold (with_line columns) m (prefixed r.annotations prefixes lines)) (after_flush columns r)
 
   -- ---- cells below one another
 
@@ -103,7 +98,5 @@ module _ {D A : Type 0} (columns : ℕ → Option ℕ) where
 
   -- After a flush cells come one below another. Where borders are drawn, one is between each two and one after
   -- all.
-  abbrev pub AppendsCells :
-      List (List (Line (List A))) → Renderer D A (List A) → Renderer D A (List A) → Type 0
-  AppendsCells cells r s =
-      (m : Renderer D A (List A)) × Flushes columns r m × (s ≡ with_divider horizontal (with_cells m cells))
+  abbrev pub after_cells : List (List (Line (List A))) → Renderer D A (List A) → Outcome (Renderer D A (List A))
+  after_cells cells r = changed (λ m. with_divider horizontal (with_cells m cells)) (after_flush columns r)

@@ -15,13 +15,17 @@ use Rattle.tbr_decor.specs.Start as start
 use Rattle.tbr_decor.specs.End as end
 use Rattle.tbr_decor.specs.Ground.{Ground}
 use Rattle.tbr_kept_lines.specs.Line.{Line, text, border}
-use Rattle.tbr_renderer.specs.Renderer.{Renderer, Kept, block_columns, open_run, with_events, entries_of, ignores}
+use Rattle.tbr_renderer.specs.Renderer.{Renderer, Kept, kept_of, block_columns, open_run, with_events, entries_of, ignores}
 use Rattle.tbr_kept_lines.specs.LastBorder.{without_last}
-use Rattle.tbr_renderer.specs.Flush.{Flushes, FlushIsTooNarrow}
-use Rattle.tbr_renderer.specs.Steps.{AddsEmptyLine, StartsBlock, BreaksLine, AddsText, TextIsTooNarrow}
-use Rattle.tbr_renderer.specs.Appended.{as_text, prefixed, AddsBorder, AppendsLines, AppendsCells}
+use Rattle.tbr_tagged.specs.Outcome.{Outcome, done, refused, if_live}
+use Rattle.std.specs.Global.{Vec}
+use Rattle.tbr_renderer.specs.Meant.{meant}
+use Rattle.tbr_renderer.specs.Outcomes.{and_then, run, told}
+use Rattle.tbr_renderer.specs.Flush.{after_flush}
+use Rattle.tbr_renderer.specs.Steps.{after_empty_line, after_block_start, after_break, after_text}
+use Rattle.tbr_renderer.specs.Appended.{as_text, prefixed, after_border, after_lines, after_cells}
 use Rattle.tbr_renderer.specs.Image.{shown_title}
-use Rattle.tbr_renderer.specs.Decorated.{struck_until, asked_to_close, annotated, coloured, uncoloured, Opens, OpenIsTooNarrow, Closes, CloseIsTooNarrow, OpensStrikeout, ClosesStrikeout, AddsImage, ImageIsTooNarrow}
+use Rattle.tbr_renderer.specs.Decorated.{struck_until, asked_to_close, annotated, coloured, uncoloured, after_start, after_end, after_strikeout_start, after_strikeout_end, after_image}
 
 -- A call with its arguments. Texts are by their characters, markers by their names, and images by source and title.
 -- Another renderer is by the lines that it hands out, which are under a `T`. Strikeouts begin and end by calls of their
@@ -59,60 +63,46 @@ abbrev pub laid_entries : {T : Type 0} → List (Item T) → List (Entry T)
 laid_entries is = map laid_entry is
 
 module _ {D A : Type 0} (columns : ℕ → Option ℕ) (decoration : Decoration D A) where
-  -- what a call that succeeds leaves
+  -- what a call makes of a renderer that hasn't failed
+  abbrev pub made : Call (List A) → Renderer D A (List A) → Outcome (Renderer D A (List A))
+  made add_empty_line r = after_empty_line columns r
+  made new_line r = after_flush columns r
+  made new_line_hard r = after_break columns r
+  made start_block r = after_block_start columns r
+  made start_table r = after_block_start columns r
+  made end_block r = done (record r { block_ended = true })
+  made (add_inline_text cs) r = after_text columns decoration.preformatted cs r
+  made (push_ws mode) r = done (record r { modes = r.modes ++ mode ∷ [] })
+  made pop_ws r = done (record r { modes = without_last r.modes })
+  made push_preformat r = done (record r { preformatted = suc r.preformatted })
+  made pop_preformat r = done (record r { preformatted = r.preformatted - 1 })
+  made (record_frag_start name) r = done (with_events r (entry (marker_entry name) ∷ []))
+  made (begin opened) r = after_start columns decoration opened r
+  made (finish closed) r = after_end columns decoration closed r
+  made start_strikeout r = after_strikeout_start columns decoration r
+  made end_strikeout r = after_strikeout_end columns decoration r
+  made (add_image source title) r = after_image columns decoration source title r
+  made (push_colour g colour) r = done (coloured decoration g colour r)
+  made (pop_colour g) r = done (uncoloured decoration g r)
+  made (add_border width) r = after_border columns width r
+  made (append_subrender prefixes lines) r = after_lines columns prefixes lines r
+  made (append_vert_row cells) r = after_cells columns cells r
+
+  -- and of any: one that has failed gives its refusal again
+  abbrev pub after : Call (List A) → Renderer D A (List A) → Outcome (Renderer D A (List A))
+  after call r = if_live r.failure (made call r)
+
+  -- What a call that succeeds leaves.
   abbrev pub Does : Call (List A) → Renderer D A (List A) → Renderer D A (List A) → Type 0
-  Does add_empty_line r s = AddsEmptyLine columns r s
-  Does new_line r s = Flushes columns r s
-  Does new_line_hard r s = BreaksLine columns r s
-  Does start_block r s = StartsBlock columns r s
-  Does start_table r s = StartsBlock columns r s
-  Does end_block r s = s ≡ record r { block_ended = true }
-  Does (add_inline_text cs) r s = AddsText columns decoration.preformatted cs r s
-  Does (push_ws mode) r s = s ≡ record r { modes = r.modes ++ mode ∷ [] }
-  Does pop_ws r s = s ≡ record r { modes = without_last r.modes }
-  Does push_preformat r s = s ≡ record r { preformatted = suc r.preformatted }
-  Does pop_preformat r s = s ≡ record r { preformatted = r.preformatted - 1 }
-  Does (record_frag_start name) r s = s ≡ with_events r (entry (marker_entry name) ∷ [])
-  Does (begin opened) r s = Opens columns decoration opened r s
-  Does (finish closed) r s = Closes columns decoration closed r s
-  Does start_strikeout r s = OpensStrikeout columns decoration r s
-  Does end_strikeout r s = ClosesStrikeout columns decoration r s
-  Does (add_image source title) r s = AddsImage columns decoration source title r s
-  Does (push_colour g colour) r s = s ≡ coloured decoration g colour r
-  Does (pop_colour g) r s = s ≡ uncoloured decoration g r
-  Does (add_border width) r s = AddsBorder columns width r s
-  Does (append_subrender prefixes lines) r s = AppendsLines columns prefixes lines r s
-  Does (append_vert_row cells) r s = AppendsCells columns cells r s
+  Does call r s = after call r ≡ done s
 
-  -- where a call answers `TooNarrow`
+  -- Where a call answers `TooNarrow`.
   abbrev pub IsTooNarrow : Call (List A) → Renderer D A (List A) → Type 0
-  IsTooNarrow add_empty_line r = FlushIsTooNarrow columns r
-  IsTooNarrow new_line r = FlushIsTooNarrow columns r
-  IsTooNarrow new_line_hard r = FlushIsTooNarrow columns r
-  IsTooNarrow start_block r = FlushIsTooNarrow columns r
-  IsTooNarrow start_table r = FlushIsTooNarrow columns r
-  IsTooNarrow end_block r = ⊥
-  IsTooNarrow (add_inline_text cs) r = TextIsTooNarrow columns decoration.preformatted cs r
-  IsTooNarrow (push_ws mode) r = ⊥
-  IsTooNarrow pop_ws r = ⊥
-  IsTooNarrow push_preformat r = ⊥
-  IsTooNarrow pop_preformat r = ⊥
-  IsTooNarrow (record_frag_start name) r = ⊥
-  IsTooNarrow (begin opened) r = OpenIsTooNarrow columns decoration opened r
-  IsTooNarrow (finish closed) r = CloseIsTooNarrow columns decoration closed r
-  IsTooNarrow start_strikeout r = OpenIsTooNarrow columns decoration start.strikeout r
-  IsTooNarrow end_strikeout r = CloseIsTooNarrow columns decoration end.strikeout (struck_until r)
-  IsTooNarrow (add_image source title) r = ImageIsTooNarrow columns decoration source title r
-  IsTooNarrow (push_colour g colour) r = ⊥
-  IsTooNarrow (pop_colour g) r = ⊥
-  IsTooNarrow (add_border width) r = FlushIsTooNarrow columns r
-  IsTooNarrow (append_subrender prefixes lines) r = FlushIsTooNarrow columns r
-  IsTooNarrow (append_vert_row cells) r = FlushIsTooNarrow columns r
+  IsTooNarrow call r = after call r ≡ refused E.TooNarrow
 
-  -- what calls leave, one after another
+  -- What calls leave, one after another.
   abbrev pub Steps : List (Call (List A)) → Renderer D A (List A) → Renderer D A (List A) → Type 0
-  Steps [] r s = s ≡ r
-  Steps (call ∷ calls) r s = (m : Renderer D A (List A)) × Does call r m × Steps calls m s
+  Steps calls r s = run after calls r ≡ done s
 
   -- the entries that a text brings to the open run
   abbrev pub text_brought : List ℕ → Renderer D A (List A) → List (Entry (List A))
@@ -143,13 +133,14 @@ module _ {D A : Type 0} (columns : ℕ → Option ℕ) (decoration : Decoration 
   entries_brought (append_vert_row cells) r = laid_entries (joined (flat_map (map (as_text r.annotations)) cells))
   entries_brought other r = []
 
-  -- Calls one after another, and the entries that they bring.
+  -- the entries that calls bring, one after another
+  abbrev pub brought : List (Call (List A)) → Renderer D A (List A) → List (Entry (List A))
+  brought calls r = told entries_brought after calls r
+
+  -- What calls leave, and the entries that they bring.
   abbrev pub Brings :
       List (Call (List A)) → Renderer D A (List A) → List (Entry (List A)) → Renderer D A (List A) → Type 0
-  Brings [] r es s = (s ≡ r) × (es ≡ [])
-  Brings (call ∷ calls) r es s =
-      (m : Renderer D A (List A)) × (rest : List (Entry (List A))) × Does call r m × Brings calls m rest s
-      × (es ≡ entries_brought call r ++ rest)
+  Brings calls r es s = Steps calls r s × (es ≡ brought calls r)
 
 -- the items of the lines of text
 abbrev pub text_of_lines : {T : Type 0} → List (Line T) → List (Item T)
@@ -168,6 +159,48 @@ pub record Shows {D A : Type 0} (columns : ℕ → Option ℕ) (r : Renderer D A
 
 -- ---- what a call answers
 
+-- What a contract sees of a renderer, what calls make of that, and what of it stays: the kept refusal, and what is kept
+-- where a call refuses.
+pub record CallsOf (T S V : Type 0) : Type 0 where
+  pub state : S → V
+  pub after : Call T → V → Outcome V
+  pub failure : V → Option Error
+  pub kept_of : V → Kept
+
+-- its kept refusal
+abbrev pub failure_in : {T S V : Type 0} → CallsOf T S V → S → Option Error
+failure_in calls r = calls.failure (calls.state r)
+
+-- It hasn't failed.
+abbrev pub IsLive : {T S V : Type 0} → CallsOf T S V → S → Type 0
+IsLive calls r = failure_in calls r ≡ None
+
+-- what is kept of it where a call refuses
+abbrev pub kept_in : {T S V : Type 0} → CallsOf T S V → S → Kept
+kept_in calls r = calls.kept_of (calls.state r)
+
+-- It hasn't failed, and its blocks have two columns or more.
+abbrev pub IsWide : {T S V : Type 0} → CallsOf T S V → S → Type 0
+IsWide calls r = IsLive calls r × (2 ≤ block_columns (kept_in calls r))
+
+-- A call leads from one renderer to another.
+abbrev pub Leads : {T S V : Type 0} → CallsOf T S V → Call T → S → S → Type 0
+Leads calls call r s = calls.after call (calls.state r) ≡ done (calls.state s)
+
+-- It is too narrow for a flush, or others are for what they give after that.
+abbrev pub TakesNone : {T S V X : Type 0} → CallsOf T S V → Outcome X → S → Type 0
+TakesNone calls given r = and_then (calls.after new_line (calls.state r)) (λ _. given) ≡ refused E.TooNarrow
+
+-- the calls of a renderer, by what its annotations mean
+abbrev pub calls_by : {D A M : Type 0} → (ℕ → Option ℕ) → Decoration D M → (A → M) →
+    CallsOf (List M) (Renderer D A (Vec A)) (Renderer D M (List M))
+calls_by columns decoration meaning = record {
+  state = meant meaning;
+  after = after columns decoration;
+  failure = λ r. r.failure;
+  kept_of = λ r. kept_of r;
+}
+
 -- A call that refuses leaves a renderer failed with what it answers. One that had failed answers its refusal and stays
 -- as it is.
 abbrev pub KeepsFailure : {S R : Type 0} → (S → Option Error) → S → Result R Error → S → Type 0
@@ -175,23 +208,21 @@ KeepsFailure failure old result new =
     IfErr result (λ e. failure new ≡ Some e) × ((e : Error) → failure old ≡ Some e → (result ≡ Err e) × (new ≡ old))
 
 -- So it does, and that is kept of the renderer which later calls ask for.
-pub record Fails {S R : Type 0} (failure : S → Option Error) (kept_of : S → Kept) (old : S) (result : Result R Error)
-    (new : S) : Type 0 where
-  pub refusal : KeepsFailure failure old result new
-  pub kept : OnErr result (kept_of new ≡ kept_of old)
-
--- What a call answers and leaves. It is `Ok` only where it leaves what the call does, and `TooNarrow` only where the
--- renderer is too narrow for it, which one with blocks of two columns never is. Else it is `OutOfMemory`.
-pub record Answers {S T R : Type 0} (does : Call T → S → S → Type 0) (is_too_narrow : Call T → S → Type 0)
-    (failure : S → Option Error) (kept_of : S → Kept) (call : Call T) (old : S) (result : Result R Error) (new : S) :
+pub record Fails {T S V R : Type 0} (calls : CallsOf T S V) (old : S) (result : Result R Error) (new : S) :
     Type 0 where
-  pub ok : OnOk result (does call old new)
-  pub too_narrow : failure old ≡ None → result ≡ Err E.TooNarrow → is_too_narrow call old
-  pub two_columns : failure old ≡ None → 2 ≤ block_columns (kept_of old) → result ≢ Err E.TooNarrow
-  pub fails : Fails failure kept_of old result new
+  pub refusal : KeepsFailure (failure_in calls) old result new
+  pub kept : OnErr result (kept_in calls new ≡ kept_in calls old)
 
--- what a call leaves that can't refuse: of one that had failed nothing is changed
-pub record Leaves {S T : Type 0} (does : Call T → S → S → Type 0) (failure : S → Option Error) (call : Call T)
-    (old new : S) : Type 0 where
-  pub live : failure old ≡ None → does call old new
-  pub failed : (e : Error) → failure old ≡ Some e → new ≡ old
+-- What a call answers and leaves. It is `Ok` only where it leaves what the call makes of the renderer, and `TooNarrow`
+-- only where the call makes that of it, which it never does where blocks have two columns. Else it is `OutOfMemory`.
+pub record Answers {T S V R : Type 0} (calls : CallsOf T S V) (call : Call T) (old : S) (result : Result R Error)
+    (new : S) : Type 0 where
+  pub ok : OnOk result (Leads calls call old new)
+  pub too_narrow : result ≡ Err E.TooNarrow → calls.after call (calls.state old) ≡ refused E.TooNarrow
+  pub two_columns : IsWide calls old → result ≢ Err E.TooNarrow
+  pub fails : Fails calls old result new
+
+-- What a call leaves that can't refuse: of one that had failed nothing is changed.
+pub record Leaves {T S V : Type 0} (calls : CallsOf T S V) (call : Call T) (old new : S) : Type 0 where
+  pub live : IsLive calls old → Leads calls call old new
+  pub failed : (e : Error) → failure_in calls old ≡ Some e → new ≡ old

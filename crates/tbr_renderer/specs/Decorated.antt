@@ -1,5 +1,6 @@
 -- What the start and the end of decorated text make of a renderer.
-use Rattle.std.specs.Prelude.{◌≡◌, ℕ, suc, ◌-◌, if◌then◌else◌, Option, None, Some, List}
+use Rattle.std.specs.Prelude.{ℕ, suc, ◌-◌, if◌then◌else◌, Option, None, Some, List}
+use Rattle.tbr_tagged.specs.Outcome.{Outcome, done}
 use Rattle.tbr_decor.specs.declared.colour.Colour.{Colour}
 use Rattle.tbr_decor.specs.Decoration.{Decoration}
 use Rattle.tbr_decor.specs.Start as start
@@ -7,7 +8,8 @@ use Rattle.tbr_decor.specs.End as end
 use Rattle.tbr_decor.specs.Ground.{Ground}
 use Rattle.tbr_decor.specs.Change as change
 use Rattle.tbr_renderer.specs.Renderer.{Renderer, new_renderer, with_annotation, without_annotation}
-use Rattle.tbr_renderer.specs.Steps.{AddsText, TextIsTooNarrow}
+use Rattle.tbr_renderer.specs.Outcomes.{changed}
+use Rattle.tbr_renderer.specs.Steps.{after_text}
 use Rattle.tbr_renderer.specs.Image.{shown_title}
 
 -- after the beginning of a strikeout text is struck, and after its end no longer
@@ -76,50 +78,30 @@ module _ {D A : Type 0} (decoration : Decoration D A) where
 
 module _ {D A : Type 0} (columns : ℕ → Option ℕ) (decoration : Decoration D A) where
   -- What is opened brings the decorator's text under its annotation.
-  abbrev pub Opens : start.Start → Renderer D A (List A) → Renderer D A (List A) → Type 0
-  Opens s r t =
-      AddsText columns decoration.preformatted (decoration.start_text r.decorator s) (annotated decoration s r) t
-
-  -- The text of what is opened is answered by `TooNarrow`.
-  abbrev pub OpenIsTooNarrow : start.Start → Renderer D A (List A) → Type 0
-  OpenIsTooNarrow s r =
-      TextIsTooNarrow columns decoration.preformatted (decoration.start_text r.decorator s) (annotated decoration s r)
+  abbrev pub after_start : start.Start → Renderer D A (List A) → Outcome (Renderer D A (List A))
+  after_start s r =
+      let text = decoration.start_text r.decorator s in
+      after_text columns decoration.preformatted text (annotated decoration s r)
 
   -- What is closed brings the decorator's text, and then takes the last annotation.
-  abbrev pub Closes : end.End → Renderer D A (List A) → Renderer D A (List A) → Type 0
-  Closes e r t =
-      (m : Renderer D A (List A))
-      × AddsText columns decoration.preformatted (decoration.end_text r.decorator e) (asked_to_close decoration e r) m
-      × (t ≡ without_annotation m)
-
-  -- The text of what is closed is answered by `TooNarrow`.
-  abbrev pub CloseIsTooNarrow : end.End → Renderer D A (List A) → Type 0
-  CloseIsTooNarrow e r =
+  abbrev pub after_end : end.End → Renderer D A (List A) → Outcome (Renderer D A (List A))
+  after_end e r =
       let text = decoration.end_text r.decorator e in
-      TextIsTooNarrow columns decoration.preformatted text (asked_to_close decoration e r)
+      changed (λ s. without_annotation s)
+      (after_text columns decoration.preformatted text (asked_to_close decoration e r))
 
   -- A strikeout is opened, and then text is struck; text is no longer struck, and then it is closed.
-  abbrev pub OpensStrikeout : Renderer D A (List A) → Renderer D A (List A) → Type 0
-  OpensStrikeout r t = (m : Renderer D A (List A)) × Opens start.strikeout r m × (t ≡ struck_from m)
+  abbrev pub after_strikeout_start : Renderer D A (List A) → Outcome (Renderer D A (List A))
+  after_strikeout_start r = changed (λ s. struck_from s) (after_start start.strikeout r)
 
-  abbrev pub ClosesStrikeout : Renderer D A (List A) → Renderer D A (List A) → Type 0
-  ClosesStrikeout r t = Closes end.strikeout (struck_until r) t
+  abbrev pub after_strikeout_end : Renderer D A (List A) → Outcome (Renderer D A (List A))
+  after_strikeout_end r = after_end end.strikeout (struck_until r)
 
-  -- An image brings the decorator's text for the title that is shown, if one is, under an annotation of its own.
-  abbrev pub AddsImageBy : List ℕ → Option (List ℕ) → Renderer D A (List A) → Renderer D A (List A) → Type 0
-  AddsImageBy source None r t = t ≡ r
-  AddsImageBy source (Some title) r t =
-      (m : Renderer D A (List A)) × Opens (start.image source title) r m × (t ≡ without_annotation m)
+  -- An image with this title brings the decorator's text under an annotation of its own. One without shows nothing.
+  abbrev pub after_titled : List ℕ → Option (List ℕ) → Renderer D A (List A) → Outcome (Renderer D A (List A))
+  after_titled source None r = done r
+  after_titled source (Some title) r = changed (λ s. without_annotation s) (after_start (start.image source title) r)
 
   -- An image comes with the title that the options show for it, if they show one.
-  abbrev pub AddsImage : List ℕ → List ℕ → Renderer D A (List A) → Renderer D A (List A) → Type 0
-  AddsImage source title r t = AddsImageBy source (shown_title r.options.img_mode source title) r t
-
-  -- The text of an image with this title is answered by `TooNarrow`. Where no title is shown it never is.
-  abbrev pub ImageIsTooNarrowBy : List ℕ → Option (List ℕ) → Renderer D A (List A) → Type 0
-  ImageIsTooNarrowBy source None r = ⊥
-  ImageIsTooNarrowBy source (Some title) r = OpenIsTooNarrow (start.image source title) r
-
-  -- The text of an image is answered by `TooNarrow`.
-  abbrev pub ImageIsTooNarrow : List ℕ → List ℕ → Renderer D A (List A) → Type 0
-  ImageIsTooNarrow source title r = ImageIsTooNarrowBy source (shown_title r.options.img_mode source title) r
+  abbrev pub after_image : List ℕ → List ℕ → Renderer D A (List A) → Outcome (Renderer D A (List A))
+  after_image source title r = after_titled source (shown_title r.options.img_mode source title) r

@@ -1,12 +1,13 @@
 -- The end of the open run.
-use Rattle.std.specs.Prelude.{◌≡◌, ℕ, Bool, true, false, Option, None, Some, List, [], ◌++◌, map, fold}
+use Rattle.std.specs.Prelude.{◌≡◌, ℕ, Bool, false, if◌then◌else◌, Option, None, Some, List, [], ◌++◌, map, fold}
 use Rattle.std.specs.Global.{Vec}
-use Rattle.tbr_model.specs.Rule.{Event, run_of}
+use Rattle.tbr_model.specs.Rule.{Event}
 use Rattle.tbr_model.specs.Run.{Item}
 use Rattle.tbr_wrap.specs.Block.{Block, lines, all_lines, waiting_names, allows, grown}
 use Rattle.tbr_wrap.specs.Block as block
-use Rattle.tbr_wrap.specs.Runs.{EndsRun, CharactersFit}
 use Rattle.tbr_wrap.specs.Wrapped.{padding_of}
+use Rattle.tbr_tagged.specs.Outcome.{Outcome, done, refused}
+use Rattle.tbr_tagged.specs.declared.Error.TheVariants.{TooNarrow}
 use Rattle.tbr_footnotes.specs.Tags.{items_meant}
 use Rattle.tbr_renderer.specs.Renderer.{Open, Renderer, with_line, block_width, may_overflow}
 
@@ -56,33 +57,16 @@ flushed columns r lines names =
     let s = fold (with_line columns) (record r { block = None }) lines in
     record s { waiting = s.waiting ++ names }
 
--- The end of a block: its lines fit, are what a block promises of its run's, and join the others.
-pub record EndsBlock {D A : Type 0} (columns : ℕ → Option ℕ) (r : Renderer D A (List A)) (b : Open (List A))
-    (s : Renderer D A (List A)) : Type 0 where
-  pub fits : fits_at_end columns r b ≡ true
-  pub ends : EndsRun columns (block_width r) (may_overflow r) (run_of b.events)
-      (lines_at_end columns r b) (names_at_end columns r b)
-  pub is : s ≡ flushed columns r (block_lines columns r b (lines_at_end columns r b)) (names_at_end columns r b)
-
--- What a flush leaves: where no block is open, what there was.
-abbrev pub FlushesBlock : {D A : Type 0} →
-    (ℕ → Option ℕ) → Renderer D A (List A) → Option (Open (List A)) → Renderer D A (List A) → Type 0
-FlushesBlock columns r None s = s ≡ r
-FlushesBlock columns r (Some b) s = EndsBlock columns r b s
+-- The end of a block: its lines join the others, where none is wider than the block, or may be.
+abbrev pub after_block : {D A : Type 0} →
+    (ℕ → Option ℕ) → Renderer D A (List A) → Option (Open (List A)) → Outcome (Renderer D A (List A))
+after_block columns r None = done r
+after_block columns r (Some b) =
+    let texts = lines_at_end columns r b in
+    if fits_at_end columns r b
+    then done (flushed columns r (block_lines columns r b texts) (names_at_end columns r b))
+    else refused TooNarrow
 
 -- A flush ends the open block, if there is one.
-abbrev pub Flushes : {D A : Type 0} → (ℕ → Option ℕ) → Renderer D A (List A) → Renderer D A (List A) → Type 0
-Flushes columns r s = FlushesBlock columns r r.block s
-
--- A line of the block would be wider than it, and none may be. So some character of its run is wider.
-pub record RunIsTooNarrow {D A T : Type 0} (columns : ℕ → Option ℕ) (r : Renderer D A T) (b : Open T) : Type 0 where
-  pub narrow : fits_at_end columns r b ≡ false
-  pub wide : ¬ (CharactersFit columns (block_width r) (run_of b.events))
-
--- A flush answers that the open block is too narrow.
-abbrev pub BlockIsTooNarrow : {D A T : Type 0} → (ℕ → Option ℕ) → Renderer D A T → Option (Open T) → Type 0
-BlockIsTooNarrow columns r None = ⊥
-BlockIsTooNarrow columns r (Some b) = RunIsTooNarrow columns r b
-
-abbrev pub FlushIsTooNarrow : {D A T : Type 0} → (ℕ → Option ℕ) → Renderer D A T → Type 0
-FlushIsTooNarrow columns r = BlockIsTooNarrow columns r r.block
+abbrev pub after_flush : {D A : Type 0} → (ℕ → Option ℕ) → Renderer D A (List A) → Outcome (Renderer D A (List A))
+after_flush columns r = after_block columns r r.block

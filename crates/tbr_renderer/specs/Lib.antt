@@ -1,4 +1,5 @@
 pub mod Options
+pub mod Outcomes
 pub mod Renderer
 pub mod Meant
 pub mod View

@@ -1,5 +1,5 @@
 -- What a contract sees of a renderer, and the small steps by which it changes.
-use Rattle.std.specs.Prelude.{◌≡◌, ℕ, Bool, true, false, ◌&&◌, nat_lt, nat_le, if◌then◌else◌, Option, None, Some, unwrap_or, not, List, [], ◌∷◌, ◌++◌, map, flat_map, replicate}
+use Rattle.std.specs.Prelude.{◌≡◌, ◌<◌, ℕ, Bool, true, false, ◌&&◌, nat_lt, nat_le, if◌then◌else◌, Option, None, Some, unwrap_or, not, List, [], ◌∷◌, ◌++◌, map, flat_map, replicate}
 use Rattle.std.specs.List.{list_any, list_all}
 use Rattle.std.specs.Char.{is_whitespace}
 use Rattle.tbr_model.specs.declared.white_space.WhiteSpace.{WhiteSpace}
@@ -145,6 +145,12 @@ overflows options columns = options.allow_width_overflow && nat_lt columns 2
 -- whether a line of the renderer's blocks may be wider than that
 abbrev pub may_overflow : {D A T : Type 0} → Renderer D A T → Bool
 may_overflow r = overflows r.options (block_width r)
+
+-- A space takes one column, which is a law of `CharWidth`, and a line of the renderer's blocks has at least one, for
+-- which `new` asks.
+pub record IsSound {D A T : Type 0} (columns : ℕ → Option ℕ) (r : Renderer D A T) : Type 0 where
+  pub space : columns 32 ≡ Some 1
+  pub wide : 0 < block_width r
 
 -- a block as it is opened: it pads under the annotations of that moment
 abbrev pub new_block : {D A : Type 0} → Renderer D A (List A) → Open (List A)

@@ -18,7 +18,8 @@ use Rattle.tbr_rows.specs.declared.RowStyle.{RowStyle}
 use Rattle.tbr_kept_lines.specs.LastBorder.{last_border, before_border}
 use Rattle.tbr_kept_lines.specs.Line.{Line, text, border}
 use Rattle.tbr_renderer.specs.Renderer.{Open, Renderer, with_line}
-use Rattle.tbr_renderer.specs.Flush.{block_in, Flushes}
+use Rattle.tbr_renderer.specs.Flush.{block_in, after_flush}
+use Rattle.tbr_tagged.specs.Outcome.{done, if_live}
 use Rattle.tbr_renderer.specs.Appended.{with_border}
 
 -- ---- renderers with nothing in them
@@ -69,8 +70,8 @@ GivesCell columns_of hands_out col cell =
 abbrev pub FillsCell : {A : Type 0} → (ℕ → Option ℕ) → CellAlign → ℕ → A → Line A → RenderLine A → Type 0
 FillsCell columns align width a (text is) (Text es) =
     (items_of es ≡ aligned_items align is (width - items_width columns is) a) × AreLongest es
-FillsCell columns align width a (border b) (Rule done) = done ≡ with_cells (stretched width b.cells) b
-FillsCell columns align width a (text is) (Rule done) = ⊥
+FillsCell columns align width a (border b) (Rule filled) = filled ≡ with_cells (stretched width b.cells) b
+FillsCell columns align width a (text is) (Rule filled) = ⊥
 FillsCell columns align width a (border b) (Text es) = ⊥
 
 -- the cell in the row
@@ -128,8 +129,9 @@ pub record PutsRow {D A : Type 0} (columns : ℕ → Option ℕ) (collapses : Bo
   pub means : MeansRow columns (style_in r collapses) r.annotations r.hanging own (last_border r.lines) row
   pub is : s ≡ with_row columns r row
 
--- and so it does after a flush
+-- and so it does after a flush of a renderer that hasn't failed
 abbrev pub AppendsRow : {D A : Type 0} → (ℕ → Option ℕ) → Bool → List (GivenCell (List A))
     → Renderer D A (List A) → Renderer D A (List A) → Type 0
 AppendsRow {D} {A} columns collapses cells r s =
-    (m : Renderer D A (List A)) × Flushes columns r m × PutsRow columns collapses cells m s
+    (m : Renderer D A (List A)) × (if_live r.failure (after_flush columns r) ≡ done m)
+    × PutsRow columns collapses cells m s

@@ -1,19 +1,19 @@
 //! The calls of a renderer.
-ghost use Rattle.std.specs.Prelude.{◌≡◌, ◌≢◌, ◌≤◌, ◌<◌, ◌⊎◌, ℕ, suc, ◌^◌, Bool, true, List, length, Option, None, Err, OnOk, OnErr, IfOk, IfErr, chars, map, replicate};
+ghost use Rattle.std.specs.Prelude.{◌≡◌, ◌≢◌, ◌≤◌, ◌<◌, ℕ, suc, ◌^◌, Bool, true, List, length, Option, None, Err, OnOk, OnErr, IfOk, IfErr, chars, map, replicate};
 ghost use Rattle.std.specs.List.{AllZip, AllByRecursion as Each};
 ghost use Rattle.tbr_kept_lines.specs.Line.{Line};
-ghost use Rattle.tbr_renderer.specs.Renderer.{Kept, block_columns};
-ghost use Rattle.tbr_renderer.specs.Appended.{GivesFirst, texts_of, FirstToRefuse};
+ghost use Rattle.tbr_tagged.specs.Outcome.{Outcome, done};
+ghost use Rattle.tbr_renderer.specs.Outcomes.{gathered};
+ghost use Rattle.tbr_renderer.specs.Appended.{GivesFirst, texts_of};
 ghost use Rattle.tbr_renderer.specs.Rows.{GivenCell, GivesCell, align_in};
 ghost use Rattle.tbr_renderer.specs.Calls as call;
-ghost use Rattle.tbr_renderer.specs.Calls.{Call, Answers, Fails, Leaves};
+ghost use Rattle.tbr_renderer.specs.Calls.{CallsOf, IsLive, kept_in, IsWide, Leads, TakesNone, Answers, Fails, Leaves};
 ghost use Rattle.tbr_tagged.specs.declared.CellAlign.TheVariants as A;
 ghost use Rattle.tbr_tagged.specs.View.{chars_of};
 ghost use Rattle.tbr_decor.specs.Start as start;
 ghost use Rattle.tbr_decor.specs.End as end;
 ghost use Rattle.tbr_decor.specs.Prefix as prefix;
 ghost use Rattle.tbr_decor.specs.Ground as ground;
-ghost use Rattle.tbr_tagged.specs.declared.Error.{Error as Refusal};
 ghost use Rattle.tbr_tagged.specs.declared.Error.TheVariants as E;
 
 use std::convert::AsStr;
@@ -30,167 +30,145 @@ use tbr_lines::{CellAlign, Error, WhiteSpace};
 /// answers it, and does nothing else. A call that can't refuse does nothing then. The four calls for prefixes and
 /// `new_sub_renderer` neither leave the renderer failed nor look at a failure.
 pub trait Renderer {
-    // What its text is under.
+    // What its text is under, what a contract sees of it, and what calls make of that.
     ghost Tag: { Type 0 };
 
-    // What a call that succeeds leaves, and where it answers `TooNarrow`.
-    ghost does: { Call Self.Tag → Self → Self → Type 0 };
+    ghost State: { Type 0 };
 
-    ghost is_too_narrow: { Call Self.Tag → Self → Type 0 };
+    ghost calls: { CallsOf Self.Tag Self Self.State };
 
-    // The kept refusal, and what is kept of it where a call refuses.
-    ghost failure: { Self → Option Refusal };
-
-    ghost kept_of: { Self → Kept };
-
-    // The lines that it hands out where its open line is ended, and where that answers `TooNarrow`.
-    ghost hands_out: { Self → List (Line Self.Tag) → Type 0 };
-
-    ghost holds_back: { Self → Type 0 };
+    // The lines that it hands out where its open line is ended.
+    ghost handed_out: { Self → Outcome (List (Line Self.Tag)) };
 
     // Whether a row of such renderers, each with a span, has a place for each cell that overhangs, and what a row of
     // these cells leaves.
     ghost has_places_for: { Self → List (Self × ℕ) → Type 0 };
 
-    ghost appends_row: { Bool → List (GivenCell Self.Tag) → Self → Self → Type 0 };
+    ghost appends_row: { Bool → List (GivenCell Self.Tag) → Self.State → Self.State → Type 0 };
 
     // The text of a prefix, a renderer for a block inside, and whether there is neither a line nor text.
     ghost prefix_text: { Self → prefix.Prefix → List ℕ };
 
-    ghost is_sub_renderer: { Self → ℕ → Self → Type 0 };
+    ghost sub_renderer: { ℕ → Self.State → Self.State };
 
-    ghost tells_empty: { Self → Bool → Type 0 };
+    ghost is_empty: { Self → Bool };
 
     /// Ends the open line, and adds an empty one.
     fn add_empty_line(&mut self) -> Result<(), Error>
-        ensures answers { Answers does is_too_narrow failure kept_of call.add_empty_line self.old result self.new };
+        ensures answers { Answers calls call.add_empty_line self.old result self.new };
 
     /// Ends the open line, if there is one.
     fn new_line(&mut self) -> Result<(), Error>
-        ensures answers { Answers does is_too_narrow failure kept_of call.new_line self.old result self.new };
+        ensures answers { Answers calls call.new_line self.old result self.new };
 
     /// Ends the open line. Where no line is open, or it has no columns, an empty line is added.
     fn new_line_hard(&mut self) -> Result<(), Error>
-        ensures answers { Answers does is_too_narrow failure kept_of call.new_line_hard self.old result self.new };
+        ensures answers { Answers calls call.new_line_hard self.old result self.new };
 
     /// Begins a block: ends the open line, and adds an empty line if any line has content.
     fn start_block(&mut self) -> Result<(), Error>
-        ensures answers { Answers does is_too_narrow failure kept_of call.start_block self.old result self.new };
+        ensures answers { Answers calls call.start_block self.old result self.new };
 
     /// Begins a table, as a block is begun.
     fn start_table(&mut self) -> Result<(), Error>
-        ensures answers { Answers does is_too_narrow failure kept_of call.start_table self.old result self.new };
+        ensures answers { Answers calls call.start_table self.old result self.new };
 
     /// Ends a block: text that comes begins a new one, but for white space in `Normal`, which is ignored. It takes no
     /// memory.
     fn end_block(&mut self)
-        ensures { Leaves does failure call.end_block self.old self.new };
+        ensures { Leaves calls call.end_block self.old self.new };
 
     /// Adds text to the open block, or to a new one, in the mode that was pushed last and under the annotations.
     fn add_inline_text(&mut self, text: &str) -> Result<(), Error>
-        ensures answers { Answers does is_too_narrow failure kept_of (call.add_inline_text (chars text.now))
-            self.old result self.new };
+        ensures answers { Answers calls (call.add_inline_text (chars text.now)) self.old result self.new };
 
     /// Pushes a mode of white space. It refuses only where memory is refused.
     fn push_ws(&mut self, ws: WhiteSpace) -> Result<(), Error>
-        ensures answers { Answers does is_too_narrow failure kept_of (call.push_ws ws) self.old result self.new };
+        ensures answers { Answers calls (call.push_ws ws) self.old result self.new };
 
     /// Takes the mode that was pushed last, if there is one. It takes no memory.
     fn pop_ws(&mut self)
-        ensures { Leaves does failure call.pop_ws self.old self.new };
+        ensures { Leaves calls call.pop_ws self.old self.new };
 
     /// Begins a preformatted stretch. It refuses only where the depth passes `usize`.
     fn push_preformat(&mut self) -> Result<(), Error>
-        ensures answers { Answers does is_too_narrow failure kept_of call.push_preformat self.old result self.new }
-        ensures passes { failure self.old ≡ None →
-            OnErr result (2 ^ 64 ≤ suc (kept_of self.old).preformatted) };
+        ensures answers { Answers calls call.push_preformat self.old result self.new }
+        ensures passes { IsLive calls self.old → OnErr result (2 ^ 64 ≤ suc (kept_in calls self.old).preformatted) };
 
     /// Ends a preformatted stretch. It asks that one is open, and takes no memory.
     fn pop_preformat(&mut self)
-        requires { 0 < (kept_of self.old).preformatted }
-        ensures { Leaves does failure call.pop_preformat self.old self.new };
+        requires { 0 < (kept_in calls self.old).preformatted }
+        ensures { Leaves calls call.pop_preformat self.old self.new };
 
     /// Puts a marker where the text is. It opens a block if there is none, and refuses only where memory is refused.
     fn record_frag_start(&mut self, name: &str) -> Result<(), Error>
-        ensures answers { Answers does is_too_narrow failure kept_of (call.record_frag_start name.now)
-            self.old result self.new };
+        ensures answers { Answers calls (call.record_frag_start name.now) self.old result self.new };
 
     /// Begins a link: its annotation joins the others, and the decorator's text is added under it.
     fn start_link(&mut self, target: &str) -> Result<(), Error>
-        ensures answers { Answers does is_too_narrow failure kept_of (call.begin (start.link (chars target.now)))
-            self.old result self.new };
+        ensures answers { Answers calls (call.begin (start.link (chars target.now))) self.old result self.new };
 
     /// Ends a link: the decorator's text is added, and then the last annotation is taken, if there is one.
     fn end_link(&mut self) -> Result<(), Error>
-        ensures answers { Answers does is_too_narrow failure kept_of (call.finish end.link) self.old result self.new };
+        ensures answers { Answers calls (call.finish end.link) self.old result self.new };
 
     /// Begins emphasised text, as a link is begun.
     fn start_emphasis(&mut self) -> Result<(), Error>
-        ensures answers { Answers does is_too_narrow failure kept_of (call.begin start.emphasis)
-            self.old result self.new };
+        ensures answers { Answers calls (call.begin start.emphasis) self.old result self.new };
 
     /// Ends emphasised text, as a link is ended.
     fn end_emphasis(&mut self) -> Result<(), Error>
-        ensures answers { Answers does is_too_narrow failure kept_of (call.finish end.emphasis)
-            self.old result self.new };
+        ensures answers { Answers calls (call.finish end.emphasis) self.old result self.new };
 
     /// Begins strong text, as a link is begun.
     fn start_strong(&mut self) -> Result<(), Error>
-        ensures answers { Answers does is_too_narrow failure kept_of (call.begin start.strong)
-            self.old result self.new };
+        ensures answers { Answers calls (call.begin start.strong) self.old result self.new };
 
     /// Ends strong text, as a link is ended.
     fn end_strong(&mut self) -> Result<(), Error>
-        ensures answers { Answers does is_too_narrow failure kept_of (call.finish end.strong)
-            self.old result self.new };
+        ensures answers { Answers calls (call.finish end.strong) self.old result self.new };
 
     /// Begins code, as a link is begun.
     fn start_code(&mut self) -> Result<(), Error>
-        ensures answers { Answers does is_too_narrow failure kept_of (call.begin start.code)
-            self.old result self.new };
+        ensures answers { Answers calls (call.begin start.code) self.old result self.new };
 
     /// Ends code, as a link is ended.
     fn end_code(&mut self) -> Result<(), Error>
-        ensures answers { Answers does is_too_narrow failure kept_of (call.finish end.code) self.old result self.new };
+        ensures answers { Answers calls (call.finish end.code) self.old result self.new };
 
     /// Begins a superscript, as a link is begun.
     fn start_superscript(&mut self) -> Result<(), Error>
-        ensures answers { Answers does is_too_narrow failure kept_of (call.begin start.superscript)
-            self.old result self.new };
+        ensures answers { Answers calls (call.begin start.superscript) self.old result self.new };
 
     /// Ends a superscript, as a link is ended.
     fn end_superscript(&mut self) -> Result<(), Error>
-        ensures answers { Answers does is_too_narrow failure kept_of (call.finish end.superscript)
-            self.old result self.new };
+        ensures answers { Answers calls (call.finish end.superscript) self.old result self.new };
 
     /// Begins a strikeout, as a link is begun. Text after the decorator's has one stroke more, if the options ask for
     /// strokes. `OutOfMemory` comes too where the depth passes `usize`.
     fn start_strikeout(&mut self) -> Result<(), Error>
-        ensures answers { Answers does is_too_narrow failure kept_of call.start_strikeout self.old result self.new };
+        ensures answers { Answers calls call.start_strikeout self.old result self.new };
 
     /// Ends a strikeout, as a link is ended. The decorator's text already has one stroke less, if the options ask for
     /// strokes. In that case it asks that a strikeout is open. Where it refuses, that one stays open.
     fn end_strikeout(&mut self) -> Result<(), Error>
-        requires { let kept = kept_of self.old in
+        requires { let kept = kept_in calls self.old in
             kept.options.use_unicode_strikeout ≡ true → 0 < kept.strikeouts }
-        ensures answers { Answers does is_too_narrow failure kept_of call.end_strikeout self.old result self.new };
+        ensures answers { Answers calls call.end_strikeout self.old result self.new };
 
     /// Adds what the decorator shows for an image, under an annotation of its own. The options say what an image
     /// without a title shows.
     fn add_image(&mut self, src: &str, title: &str) -> Result<(), Error>
-        ensures answers { Answers does is_too_narrow failure kept_of (call.add_image (chars src.now) (chars title.now))
-            self.old result self.new };
+        ensures answers { Answers calls (call.add_image (chars src.now) (chars title.now)) self.old result self.new };
 
     /// Ends the open line, and adds a border of the renderer's width under the annotations. Markers that wait go on
     /// waiting. Where lines are padded the border becomes text.
     fn add_horizontal_border(&mut self) -> Result<(), Error>
-        ensures answers { Answers does is_too_narrow failure kept_of (call.add_border (kept_of self.old).width)
-            self.old result self.new };
+        ensures answers { Answers calls (call.add_border (kept_in calls self.old).width) self.old result self.new };
 
     /// Ends the open line, and adds a border of `width` columns, as `add_horizontal_border` does.
     fn add_horizontal_border_width(&mut self, width: usize) -> Result<(), Error>
-        ensures answers { Answers does is_too_narrow failure kept_of (call.add_border width)
-            self.old result self.new };
+        ensures answers { Answers calls (call.add_border width) self.old result self.new };
 
     /// Ends the open line, and then that of another renderer, and adds the lines of that one, each after a prefix and
     /// under the annotations. A border becomes text.
@@ -204,28 +182,22 @@ pub trait Renderer {
     ) -> Result<(), Error>
         requires { I.can_next prefixes }
         ensures ok { OnOk result ((lines : List (Line Tag)) × (given : List P)
-            × hands_out other lines × GivesFirst I.next_gives (length lines) prefixes given
-            × does (call.append_subrender (texts_of P.text given) lines) self.old self.new) }
-        ensures too_narrow { failure self.old ≡ None → result ≡ Err E.TooNarrow →
-            is_too_narrow call.new_line self.old ⊎ (((m : Self) × does call.new_line self.old m) × holds_back other) }
-        ensures two_columns { failure self.old ≡ None → 2 ≤ block_columns (kept_of self.old) →
-            failure other ≡ None → 2 ≤ block_columns (kept_of other) → result ≢ Err E.TooNarrow }
-        ensures fails { Fails failure kept_of self.old result self.new };
+            × (handed_out other ≡ done lines) × GivesFirst I.next_gives (length lines) prefixes given
+            × Leads calls (call.append_subrender (texts_of P.text given) lines) self.old self.new) }
+        ensures too_narrow { result ≡ Err E.TooNarrow → TakesNone calls (handed_out other) self.old }
+        ensures two_columns { IsWide calls self.old → IsWide calls other → result ≢ Err E.TooNarrow }
+        ensures fails { Fails calls self.old result self.new };
 
     /// Ends the open line, and adds the lines of other renderers, one below another, as `append_subrender` does without
     /// prefixes. Where borders are drawn, a border of slashes is between each two renderers. A plain one is after all
     /// of them, even where there are none. A refusal of one of them is passed on, the first in order.
     fn append_vert_row(&mut self, cols: Vec<Self>) -> Result<(), Error>
         ensures ok { OnOk result ((cells : List (List (Line Tag)))
-            × AllZip (λ col lines. hands_out col lines) cols.items cells
-            × does (call.append_vert_row cells) self.old self.new) }
-        ensures too_narrow { failure self.old ≡ None → result ≡ Err E.TooNarrow →
-            is_too_narrow call.new_line self.old
-            ⊎ FirstToRefuse (λ col lines. hands_out col lines) (λ col. holds_back col) cols.items }
-        ensures two_columns { failure self.old ≡ None → 2 ≤ block_columns (kept_of self.old) →
-            Each (λ col. (failure col ≡ None) × (2 ≤ block_columns (kept_of col))) cols.items →
-            result ≢ Err E.TooNarrow }
-        ensures fails { Fails failure kept_of self.old result self.new };
+            × (gathered handed_out cols.items ≡ done cells)
+            × Leads calls (call.append_vert_row cells) self.old self.new) }
+        ensures too_narrow { result ≡ Err E.TooNarrow → TakesNone calls (gathered handed_out cols.items) self.old }
+        ensures two_columns { IsWide calls self.old → Each (IsWide calls) cols.items → result ≢ Err E.TooNarrow }
+        ensures fails { Fails calls self.old result self.new };
 
     /// Ends the open line, and then those of other renderers, in order. It adds a row of their lines, side by side and
     /// parted by `│`, or by spaces where borders aren't drawn. Each comes with the rows that it spans, at least one.
@@ -246,15 +218,15 @@ pub trait Renderer {
         requires aligns { length aligns.now ≡ length cols.items }
         requires fits { has_places_for self.old cols.items }
         ensures ok { OnOk result ((cells : List (GivenCell Tag))
-            × AllZip (GivesCell (λ r. (kept_of r).width) hands_out) cols.items cells
-            × (map align_in cells ≡ aligns.now) × appends_row collapse cells self.old self.new) }
-        ensures too_narrow { failure self.old ≡ None → result ≡ Err E.TooNarrow →
-            is_too_narrow call.new_line self.old
-            ⊎ FirstToRefuse (λ col lines. hands_out col.0 lines) (λ col. holds_back col.0) cols.items }
-        ensures two_columns { failure self.old ≡ None → 2 ≤ block_columns (kept_of self.old) →
-            Each (λ col. (failure col.0 ≡ None) × (2 ≤ block_columns (kept_of col.0))) cols.items →
+            × AllZip (GivesCell (λ r. (kept_in calls r).width) (λ r lines. handed_out r ≡ done lines))
+            cols.items cells
+            × (map align_in cells ≡ aligns.now)
+            × appends_row collapse cells (calls.state self.old) (calls.state self.new)) }
+        ensures too_narrow { result ≡ Err E.TooNarrow →
+            TakesNone calls (gathered (λ col. handed_out col.0) cols.items) self.old }
+        ensures two_columns { IsWide calls self.old → Each (λ col. IsWide calls col.0) cols.items →
             result ≢ Err E.TooNarrow }
-        ensures fails { Fails failure kept_of self.old result self.new };
+        ensures fails { Fails calls self.old result self.new };
 
     /// Adds a row, as `append_columns_aligned` does, with all texts at the left.
     fn append_columns_with_borders(
@@ -265,36 +237,33 @@ pub trait Renderer {
         requires spans { Each (λ col. 0 < col.1) cols.items }
         requires fits { has_places_for self.old cols.items }
         ensures ok { OnOk result ((cells : List (GivenCell Tag))
-            × AllZip (GivesCell (λ r. (kept_of r).width) hands_out) cols.items cells
+            × AllZip (GivesCell (λ r. (kept_in calls r).width) (λ r lines. handed_out r ≡ done lines))
+            cols.items cells
             × (map align_in cells ≡ replicate (length cells) A.Left)
-            × appends_row collapse cells self.old self.new) }
-        ensures too_narrow { failure self.old ≡ None → result ≡ Err E.TooNarrow →
-            is_too_narrow call.new_line self.old
-            ⊎ FirstToRefuse (λ col lines. hands_out col.0 lines) (λ col. holds_back col.0) cols.items }
-        ensures two_columns { failure self.old ≡ None → 2 ≤ block_columns (kept_of self.old) →
-            Each (λ col. (failure col.0 ≡ None) × (2 ≤ block_columns (kept_of col.0))) cols.items →
+            × appends_row collapse cells (calls.state self.old) (calls.state self.new)) }
+        ensures too_narrow { result ≡ Err E.TooNarrow →
+            TakesNone calls (gathered (λ col. handed_out col.0) cols.items) self.old }
+        ensures two_columns { IsWide calls self.old → Each (λ col. IsWide calls col.0) cols.items →
             result ≢ Err E.TooNarrow }
-        ensures fails { Fails failure kept_of self.old result self.new };
+        ensures fails { Fails calls self.old result self.new };
 
     /// Begins text in a colour, whose annotation joins the others, if the decorator has one. The only refusal of its
     /// own is `OutOfMemory`.
     fn push_colour(&mut self, colour: Colour) -> Result<(), Error>
-        ensures answers { Answers does is_too_narrow failure kept_of (call.push_colour ground.text colour)
-            self.old result self.new };
+        ensures answers { Answers calls (call.push_colour ground.text colour) self.old result self.new };
 
     /// Ends text in a colour: the last annotation is taken, if there is one, where the decorator says so. It takes no
     /// memory.
     fn pop_colour(&mut self)
-        ensures { Leaves does failure (call.pop_colour ground.text) self.old self.new };
+        ensures { Leaves calls (call.pop_colour ground.text) self.old self.new };
 
     /// Begins a background in a colour, as text in a colour is begun.
     fn push_bgcolour(&mut self, colour: Colour) -> Result<(), Error>
-        ensures answers { Answers does is_too_narrow failure kept_of (call.push_colour ground.background colour)
-            self.old result self.new };
+        ensures answers { Answers calls (call.push_colour ground.background colour) self.old result self.new };
 
     /// Ends a background in a colour, as text in a colour is ended.
     fn pop_bgcolour(&mut self)
-        ensures { Leaves does failure (call.pop_colour ground.background) self.old self.new };
+        ensures { Leaves calls (call.pop_colour ground.background) self.old self.new };
 
     /// The text before each line of a header of the given level. Its only refusal is `OutOfMemory`, also on a renderer
     /// that has failed, and it changes nothing. So do the other calls for prefixes.
@@ -326,14 +295,14 @@ pub trait Renderer {
     /// `OutOfMemory`, also on a renderer that has failed.
     fn new_sub_renderer(&self, width: usize) -> Result<Self, Error>
         requires { 0 < width }
-        ensures sub { IfOk result (λ sub. is_sub_renderer self.now width sub) }
+        ensures sub { IfOk result (λ sub. calls.state sub ≡ sub_renderer width (calls.state self.now)) }
         ensures memory { IfErr result (λ e. e ≡ E.OutOfMemory) };
 
     /// The columns of the renderer.
     fn width(&self) -> usize
-        ensures { result ≡ (kept_of self.now).width };
+        ensures { result ≡ (kept_in calls self.now).width };
 
     /// Whether it has no line, and its open block, if any, is empty. It is false on a renderer that has failed.
     fn empty(&self) -> bool
-        ensures { tells_empty self.now result };
+        ensures { result ≡ is_empty self.now };
 }

@@ -1,16 +1,17 @@
 -- What commands lead to, by what annotations mean.
 use Rattle.std.proofs.Common.{Bool, true, false, Ok, Err, ◌≡◌, ◌≢◌, ◌⊎◌, ℕ, List, [], ◌∷◌, ◌++◌, map, length, Option, None, Some, refl, sym, ap, ◌∙◌, subst, inl, inr}
 use Rattle.std.specs.Global.{Vec}
-use Rattle.std.specs.List.{AllZip}
 use Rattle.std.proofs.lemmas.List.{map-append}
 use Rattle.tbr_tagged.specs.declared.CellAlign.{CellAlign}
 use Rattle.tbr_decor.specs.Decoration.{Decoration}
 use Rattle.text_block_renderer.specs.Renderer.{Renderer}
 use Rattle.text_block_renderer.specs.Line.{Line}
 use Rattle.text_block_renderer.specs.Meant.{meant}
-use Rattle.text_block_renderer.specs.Flush.{FlushIsTooNarrow}
 use Rattle.text_block_renderer.specs.Decorated.{sub_renderer}
-use Rattle.text_block_renderer.specs.Appended.{HandsOut, HoldsBack, FirstToRefuse}
+use Rattle.tbr_tagged.specs.Outcome.{Outcome, done, refused}
+use Rattle.tbr_tagged.specs.declared.Error.TheVariants as E
+use Rattle.tbr_renderer.specs.Outcomes.{and_then, changed, gathered}
+use Rattle.text_block_renderer.specs.Appended.{handed_out}
 use Rattle.text_block_renderer.specs.Calls.{append_subrender, append_vert_row, Does, IsTooNarrow}
 use Rattle.tbr_script.specs.declared.error.RunError.TheVariants.{TooNarrow, NotACommand, NothingToEnd}
 use Rattle.tbr_commands.specs.Request.{Request, call_of}
@@ -21,9 +22,14 @@ use Rattle.tbr_runner.proofs.Levels.{with_first, below_top}
 use Rattle.tbr_runner.specs.declared.opened.Opener.{Opener}
 use Rattle.tbr_runner.specs.declared.opened.Opener.TheVariants.{Sub, Cell}
 use Rattle.tbr_runner.specs.Prefixes.{prefixes}
-use Rattle.tbr_runner.specs.Closing.{ClosesAs, ClosingIsTooNarrow}
+use Rattle.tbr_runner.specs.Closing.{closed_text}
 use Rattle.tbr_runner.specs.Progress.{Pending, Opened, Progress, nothing_pending, cell_meant, pending_meant, opened_meant, progress_meant}
-use Rattle.tbr_runner.specs.Meaning.{opener, renderers_of, with_cell, without_cells, Closes, RequestDoes, RequestRefuses, LevelOpens, AppendDoes, AppendRefuses, CellDoes, CellRefuses, VerticalRowDoes, VerticalRowRefuses, Ends}
+use Rattle.tbr_runner.specs.Meaning.{opener, renderers_of, with_cell, without_cells, Closes, RequestDoes, RequestRefuses, LevelOpens, AppendDoes, AppendRefuses, CellDoes, CellRefuses, TakesNone, VerticalRowDoes, VerticalRowRefuses, Ends}
+
+-- what others give that are made of these
+pub gathered_over : {X Y Z : Type 0} (give : Y → Outcome Z) (make : X → Y) (xs : List X) → gathered (λ x. give (make x)) xs ≡ gathered give (map make xs)
+gathered_over give make [] = refl
+gathered_over give make (x ∷ xs) = ap (λ o. and_then (give (make x)) (λ z. changed (λ zs. z ∷ zs) o)) (gathered_over give make xs)
 
 module _ {D A M : Type 0} (meaning : A → M) where
   -- ---- stacks
@@ -103,11 +109,11 @@ module _ {D A M : Type 0} (meaning : A → M) where
     waiting : i.pending.cells ≢ [] → (progress_meant meaning p).pending.cells ≢ []
     waiting some none = some (ap (λ (q : Progress D A (Vec A)). q.pending.cells) same ∙ no_cells p.pending.cells none)
 
-    pub no_sub : (columns : ℕ → Option ℕ) (number : ℕ) → opener i.opened ≢ Some Sub → AppendRefuses columns (progress_meant meaning p) number (NothingToEnd number)
-    no_sub columns number none = inl ((λ is. none (ap (λ (q : Progress D A (Vec A)). opener q.opened) same ∙ sym (opener_meant p.opened) ∙ is)), refl)
+    pub no_sub : (columns : ℕ → Option ℕ) (decoration : Decoration D M) (number : ℕ) → opener i.opened ≢ Some Sub → AppendRefuses columns decoration (progress_meant meaning p) number (NothingToEnd number)
+    no_sub columns decoration number none = inl ((λ is. none (ap (λ (q : Progress D A (Vec A)). opener q.opened) same ∙ sym (opener_meant p.opened) ∙ is)), refl)
 
-    pub cells_in_sub : (columns : ℕ → Option ℕ) (number : ℕ) → opener i.opened ≡ Some Sub → i.pending.cells ≢ [] → AppendRefuses columns (progress_meant meaning p) number (NotACommand number)
-    cells_in_sub columns number is some = inr (inl (opener_meant p.opened ∙ here (Some Sub) is, (waiting some, refl)))
+    pub cells_in_sub : (columns : ℕ → Option ℕ) (decoration : Decoration D M) (number : ℕ) → opener i.opened ≡ Some Sub → i.pending.cells ≢ [] → AppendRefuses columns decoration (progress_meant meaning p) number (NotACommand number)
+    cells_in_sub columns decoration number is some = inr (inl (opener_meant p.opened ∙ here (Some Sub) is, (waiting some, refl)))
 
     pub no_cell : (number : ℕ) → ((span : ℕ) (align : CellAlign) → opener i.opened ≢ Some (Cell span align)) → CellRefuses (progress_meant meaning p) number (NothingToEnd number)
     no_cell number none = inl ((λ span align is. none span align (ap (λ (q : Progress D A (Vec A)). opener q.opened) same ∙ sym (opener_meant p.opened) ∙ is)), refl)
@@ -149,38 +155,31 @@ module _ {D A M : Type 0} (meaning : A → M) where
     -- ---- rows
 
     module _ (columns : ℕ → Option ℕ) (top : Renderer D A (Vec A)) (is_top : top_of i.stack ≡ Some top) (cols : List (Renderer D A (Vec A))) (are : cols ≡ renderers_of i.pending.cells) where
-      each_meant : (rs : List (Renderer D A (Vec A))) (cells : List (List (Line (List M)))) → AllZip (λ r lines. HandsOut columns (meant meaning r) lines) rs cells → AllZip (HandsOut columns) (map (meant meaning) rs) cells
-      each_meant [] [] h = tt
-      each_meant [] (c ∷ cells) h = absurd h
-      each_meant (r ∷ rs) [] h = absurd h
-      each_meant (r ∷ rs) (c ∷ cells) h = (h.0, each_meant rs cells h.1)
-
-      refusal_meant : (rs : List (Renderer D A (Vec A))) → FirstToRefuse (λ r lines. HandsOut columns (meant meaning r) lines) (λ r. HoldsBack columns (meant meaning r)) rs → FirstToRefuse (HandsOut columns) (HoldsBack columns) (map (meant meaning) rs)
-      refusal_meant [] h = absurd h
-      refusal_meant (r ∷ rs) (inl h) = inl h
-      refusal_meant (r ∷ rs) (inr h) = inr (h.0, h.1, refusal_meant rs h.2)
+      abbrev given : Outcome (List (List (Line (List M))))
+      given = gathered (λ r. handed_out columns (meant meaning r)) cols
 
       cols_meant : map (meant meaning) cols ≡ renderers_of (map (cell_meant meaning) i.pending.cells)
       cols_meant = ap (map (meant meaning)) are ∙ sym (renderers_meant i.pending.cells)
 
+      given_is : given ≡ gathered (handed_out columns) (renderers_of (map (cell_meant meaning) i.pending.cells))
+      given_is = gathered_over (handed_out columns) (meant meaning) cols ∙ ap (gathered (handed_out columns)) cols_meant
+
       pub vertical_done : (decoration : Decoration D M) (s : Renderer D A (Vec A)) (pending : Pending D A (Vec A)) → pending ≡ without_cells i.pending →
-          ((cells : List (List (Line (List M)))) × AllZip (λ r lines. HandsOut columns (meant meaning r) lines) cols cells × Does columns decoration (append_vert_row cells) (meant meaning top) (meant meaning s)) →
+          ((cells : List (List (Line (List M)))) × (given ≡ done cells) × Does columns decoration (append_vert_row cells) (meant meaning top) (meant meaning s)) →
           VerticalRowDoes columns decoration (progress_meant meaning p) (progress_meant meaning (record { stack = with_top i.stack s; pending = pending; opened = i.opened }))
       vertical_done decoration s pending taken h =
           subst (λ (q : Progress D A (Vec A)). VerticalRowDoes columns decoration (progress_meant meaning q) (progress_meant meaning (record { stack = with_top i.stack s; pending = pending; opened = i.opened }))) same (record {
             cells = h.0;
-            hand_out = subst (λ (rs : List (Renderer D M (List M))). AllZip (HandsOut columns) rs h.0) cols_meant (each_meant cols h.0 h.1);
+            hand_out = sym given_is ∙ h.1;
             does = on_top_meant (Does columns decoration (append_vert_row h.0)) i.stack top s is_top h.2;
             pending = ap (pending_meant meaning) taken;
             opened = refl;
           })
 
-      vertical_narrow : FlushIsTooNarrow columns (meant meaning top) ⊎ FirstToRefuse (λ r lines. HandsOut columns (meant meaning r) lines) (λ r. HoldsBack columns (meant meaning r)) cols → OfTop (FlushIsTooNarrow columns) (stack_meant meaning i.stack) ⊎ FirstToRefuse (HandsOut columns) (HoldsBack columns) (renderers_of (map (cell_meant meaning) i.pending.cells))
-      vertical_narrow (inl h) = inl (top_is_meant (FlushIsTooNarrow columns) i.stack top is_top h)
-      vertical_narrow (inr h) = inr (subst (FirstToRefuse (HandsOut columns) (HoldsBack columns)) cols_meant (refusal_meant cols h))
-
-      pub vertical_refused : FlushIsTooNarrow columns (meant meaning top) ⊎ FirstToRefuse (λ r lines. HandsOut columns (meant meaning r) lines) (λ r. HoldsBack columns (meant meaning r)) cols → VerticalRowRefuses columns (progress_meant meaning p) TooNarrow
-      vertical_refused h = subst (λ (q : Progress D A (Vec A)). VerticalRowRefuses columns (progress_meant meaning q) TooNarrow) same (vertical_narrow h, refl)
+      pub vertical_refused : (decoration : Decoration D M) → TakesNone columns decoration given (meant meaning top) → VerticalRowRefuses columns decoration (progress_meant meaning p) TooNarrow
+      vertical_refused decoration h =
+          let here = subst (λ (o : Outcome (List (List (Line (List M))))). OfTop (TakesNone columns decoration o) (stack_meant meaning i.stack)) given_is (top_is_meant (TakesNone columns decoration given) i.stack top is_top h) in
+          subst (λ (q : Progress D A (Vec A)). VerticalRowRefuses columns decoration (progress_meant meaning q) TooNarrow) same (here, refl)
 
     -- ---- the end
 
@@ -193,15 +192,15 @@ module _ {D A M : Type 0} (meaning : A → M) where
           go (inr some) = inr (λ none. some (no_cells i.pending.cells none))
 
       module _ (targets : List (List ℕ)) (are : targets ≡ (let s = i.stack in s.links)) (top : Renderer D A (Vec A)) (is_top : top_of i.stack ≡ Some top) (closed : i.opened ≡ []) (none : i.pending.cells ≡ []) where
-        pub end_refused : ClosingIsTooNarrow columns decoration targets (meant meaning top) → Ends columns decoration (progress_meant meaning p) number (Err TooNarrow)
+        pub end_refused : closed_text columns decoration targets (meant meaning top) ≡ refused E.TooNarrow → Ends columns decoration (progress_meant meaning p) number (Err TooNarrow)
         end_refused h =
-            let here = subst (λ ts. OfTop (ClosingIsTooNarrow columns decoration ts) (stack_meant meaning i.stack)) are (top_is_meant (ClosingIsTooNarrow columns decoration targets) i.stack top is_top h) in
+            let here = subst (λ ts. OfTop (λ r. closed_text columns decoration ts r ≡ refused E.TooNarrow) (stack_meant meaning i.stack)) are (top_is_meant (λ r. closed_text columns decoration targets r ≡ refused E.TooNarrow) i.stack top is_top h) in
             subst (λ (q : Progress D A (Vec A)). Ends columns decoration (progress_meant meaning q) number (Err TooNarrow)) same
             (inr (ap (map (opened_meant meaning)) closed, ap (map (cell_meant meaning)) none, here, refl))
 
-        pub end_text : (bytes : List ℕ) → ClosesAs columns decoration targets (meant meaning top) bytes → Ends columns decoration (progress_meant meaning p) number (Ok bytes)
+        pub end_text : (bytes : List ℕ) → closed_text columns decoration targets (meant meaning top) ≡ done bytes → Ends columns decoration (progress_meant meaning p) number (Ok bytes)
         end_text bytes h =
-            let here = subst (λ ts. OfTop (λ r. ClosesAs columns decoration ts r bytes) (stack_meant meaning i.stack)) are (top_is_meant (λ r. ClosesAs columns decoration targets r bytes) i.stack top is_top h) in
+            let here = subst (λ ts. OfTop (λ r. closed_text columns decoration ts r ≡ done bytes) (stack_meant meaning i.stack)) are (top_is_meant (λ r. closed_text columns decoration targets r ≡ done bytes) i.stack top is_top h) in
             subst (λ (q : Progress D A (Vec A)). Ends columns decoration (progress_meant meaning q) number (Ok bytes)) same
             (ap (map (opened_meant meaning)) closed, ap (map (cell_meant meaning)) none, here)
 
@@ -221,7 +220,7 @@ module _ {D A M : Type 0} (meaning : A → M) where
 
       module _ (columns : ℕ → Option ℕ) (top : Renderer D A (Vec A)) (is_top : top_of j.stack ≡ Some top) (is : opener i.opened ≡ Some Sub) where
         pub lines_appended : (decoration : Decoration D M) (first other : List ℕ) (s : Renderer D A (Vec A)) →
-            ((lines : List (Line (List M))) × HandsOut columns (meant meaning inside) lines × Does columns decoration (append_subrender (prefixes first other (length lines)) lines) (meant meaning top) (meant meaning s)) →
+            ((lines : List (Line (List M))) × (handed_out columns (meant meaning inside) ≡ done lines) × Does columns decoration (append_subrender (prefixes first other (length lines)) lines) (meant meaning top) (meant meaning s)) →
             AppendDoes columns decoration (progress_meant meaning p) first other (progress_meant meaning (record { stack = with_top j.stack s; pending = j.pending; opened = j.opened }))
         lines_appended decoration first other s h = record {
           inside = meant meaning inside;
@@ -234,10 +233,6 @@ module _ {D A M : Type 0} (meaning : A → M) where
           opened = refl;
         }
 
-        narrow : FlushIsTooNarrow columns (meant meaning top) ⊎ HoldsBack columns (meant meaning inside) → OfTop (FlushIsTooNarrow columns) (stack_meant meaning j.stack) ⊎ HoldsBack columns (meant meaning inside)
-        narrow (inl h) = inl (top_is_meant (FlushIsTooNarrow columns) j.stack top is_top h)
-        narrow (inr h) = inr h
-
-        pub lines_refused : (number : ℕ) → FlushIsTooNarrow columns (meant meaning top) ⊎ HoldsBack columns (meant meaning inside) → AppendRefuses columns (progress_meant meaning p) number TooNarrow
-        lines_refused number h =
-            inr (inr (meant meaning inside, progress_meant meaning j, closes_as p closed j by Sub inside (here (Some Sub) is) closes left, narrow h, refl))
+        pub lines_refused : (decoration : Decoration D M) (number : ℕ) → TakesNone columns decoration (handed_out columns (meant meaning inside)) (meant meaning top) → AppendRefuses columns decoration (progress_meant meaning p) number TooNarrow
+        lines_refused decoration number h =
+            inr (inr (meant meaning inside, progress_meant meaning j, closes_as p closed j by Sub inside (here (Some Sub) is) closes left, top_is_meant (TakesNone columns decoration (handed_out columns (meant meaning inside))) j.stack top is_top h, refl))

@@ -1,5 +1,5 @@
 -- Rows of the cells that wait, by what annotations mean.
-use Rattle.std.proofs.Common.{◌≡◌, ◌⊎◌, ℕ, Bool, true, false, Option, Some, List, [], ◌∷◌, map, refl, ap, sym, ◌∙◌, subst, inl, inr}
+use Rattle.std.proofs.Common.{◌≡◌, ℕ, Bool, true, false, Option, Some, List, [], ◌∷◌, map, refl, ap, sym, ◌∙◌, subst, inl, inr}
 use Rattle.std.specs.Global.{Vec}
 use Rattle.std.specs.List.{AllZip}
 use Rattle.tbr_tagged.specs.declared.CellAlign.{CellAlign}
@@ -11,14 +11,16 @@ use Rattle.tbr_renderer.proofs.BlankRenderers.{blank_meant}
 use Rattle.text_block_renderer.specs.Renderer.{Renderer}
 use Rattle.text_block_renderer.specs.Tags.{tag_meant}
 use Rattle.text_block_renderer.specs.Meant.{meant}
-use Rattle.text_block_renderer.specs.Flush.{FlushIsTooNarrow}
-use Rattle.text_block_renderer.specs.Appended.{HandsOut, HoldsBack, FirstToRefuse}
+use Rattle.tbr_tagged.specs.Outcome.{Outcome, done}
+use Rattle.tbr_renderer.specs.Outcomes.{and_then, changed, gathered}
+use Rattle.text_block_renderer.specs.Line.{Line}
+use Rattle.text_block_renderer.specs.Appended.{handed_out}
 use Rattle.text_block_renderer.specs.Rows.{looks, spots_of, GivenCell, align_in, GivesCell, AppendsRow}
 use Rattle.tbr_script.specs.declared.error.RunError.TheVariants.{TooNarrow, RowDoesNotFit}
 use Rattle.tbr_stack.specs.Stack.{top_of, with_top}
 use Rattle.tbr_stack.specs.Top.{OfTop, stack_meant}
 use Rattle.tbr_runner.specs.Progress.{Pending, Progress, cell_meant, pending_meant, progress_meant}
-use Rattle.tbr_runner.specs.Meaning.{renderers_of, without_cells, CellsFit, CellsAreTooNarrow, RowDoes, RowRefuses}
+use Rattle.tbr_runner.specs.Meaning.{renderers_of, without_cells, CellsFit, TakesNone, CellsAreTooNarrow, RowDoes, RowRefuses}
 use Rattle.tbr_runner.proofs.MeantCommands.{on_top_meant, top_is_meant}
 
 pub same_some : {X : Type 0} {x y : X} → Some x ≡ Some y → x ≡ y
@@ -44,19 +46,17 @@ module _ {D A M : Type 0} (meaning : A → M) (columns : ℕ → Option ℕ) whe
   -- ---- what comes into the row
 
   abbrev Comes : Renderer D A (Vec A) × ℕ → GivenCell (List M) → Type 0
-  Comes = GivesCell (λ r. r.width) (λ r lines. HandsOut columns (meant meaning r) lines)
+  Comes = GivesCell (λ r. r.width) (λ r lines. handed_out columns (meant meaning r) ≡ done lines)
 
-  come_meant : (cols : List (Renderer D A (Vec A) × ℕ)) (cells : List (GivenCell (List M))) → AllZip Comes cols cells → AllZip (GivesCell (λ r. r.width) (HandsOut columns)) (map (cell_meant meaning) cols) cells
+  come_meant : (cols : List (Renderer D A (Vec A) × ℕ)) (cells : List (GivenCell (List M))) → AllZip Comes cols cells → AllZip (GivesCell (λ r. r.width) (λ r lines. handed_out columns r ≡ done lines)) (map (cell_meant meaning) cols) cells
   come_meant [] [] h = tt
   come_meant [] (c ∷ cells) h = absurd h
   come_meant (col ∷ cols) [] h = absurd h
   come_meant (col ∷ cols) (c ∷ cells) h = (h.0, come_meant cols cells h.1)
 
-  pub first_meant : (cols : List (Renderer D A (Vec A) × ℕ)) → FirstToRefuse (λ col lines. HandsOut columns (meant meaning col.0) lines) (λ col. HoldsBack columns (meant meaning col.0)) cols →
-      FirstToRefuse (HandsOut columns) (HoldsBack columns) (renderers_of (map (cell_meant meaning) cols))
-  first_meant [] h = absurd h
-  first_meant (col ∷ cols) (inl h) = inl h
-  first_meant (col ∷ cols) (inr h) = inr (h.0, h.1, first_meant cols h.2)
+  given_meant : (cols : List (Renderer D A (Vec A) × ℕ)) → gathered (λ col. handed_out columns (meant meaning col.0)) cols ≡ gathered (handed_out columns) (renderers_of (map (cell_meant meaning) cols))
+  given_meant [] = refl
+  given_meant (col ∷ cols) = ap (λ o. and_then (handed_out columns (meant meaning col.0)) (λ z. changed (λ zs. z ∷ zs) o)) (given_meant cols)
 
   -- ---- the row
 
@@ -67,19 +67,17 @@ module _ {D A M : Type 0} (meaning : A → M) (columns : ℕ → Option ℕ) whe
         let h = subst (λ (cs : List (Renderer D A (Vec A) × ℕ)). CellsFit columns (map (cell_meant meaning) cs) fits (meant meaning top)) are (cells_fit top cols fits is) in
         top_is_meant meaning (CellsFit columns (map (cell_meant meaning) i.pending.cells) fits) i.stack top is_top h
 
-    pub row_unfit : (number : ℕ) → row_fits top.hanging (spots_of columns cols) ≡ false → RowRefuses columns (progress_meant meaning p) number (RowDoesNotFit number)
-    row_unfit number is =
-        subst (λ (q : Progress D A (Vec A)). RowRefuses columns (progress_meant meaning q) number (RowDoesNotFit number)) same (inl (fit false is, refl))
+    pub row_unfit : (decoration : Decoration D M) (number : ℕ) → row_fits top.hanging (spots_of columns cols) ≡ false → RowRefuses columns decoration (progress_meant meaning p) number (RowDoesNotFit number)
+    row_unfit decoration number is =
+        subst (λ (q : Progress D A (Vec A)). RowRefuses columns decoration (progress_meant meaning q) number (RowDoesNotFit number)) same (inl (fit false is, refl))
 
-    narrow : FlushIsTooNarrow columns (meant meaning top) ⊎ FirstToRefuse (λ col lines. HandsOut columns (meant meaning col.0) lines) (λ col. HoldsBack columns (meant meaning col.0)) cols → CellsAreTooNarrow columns (progress_meant meaning i)
-    narrow (inl h) = inl (top_is_meant meaning (FlushIsTooNarrow columns) i.stack top is_top h)
-    narrow (inr h) = inr (subst (λ (cs : List (Renderer D A (Vec A) × ℕ)). FirstToRefuse (HandsOut columns) (HoldsBack columns) (renderers_of (map (cell_meant meaning) cs))) are (first_meant cols h))
-
-    pub row_refused : (number : ℕ) → row_fits top.hanging (spots_of columns cols) ≡ true →
-        FlushIsTooNarrow columns (meant meaning top) ⊎ FirstToRefuse (λ col lines. HandsOut columns (meant meaning col.0) lines) (λ col. HoldsBack columns (meant meaning col.0)) cols →
-        RowRefuses columns (progress_meant meaning p) number TooNarrow
-    row_refused number is h =
-        subst (λ (q : Progress D A (Vec A)). RowRefuses columns (progress_meant meaning q) number TooNarrow) same (inr (fit true is, narrow h, refl))
+    pub row_refused : (decoration : Decoration D M) (number : ℕ) → row_fits top.hanging (spots_of columns cols) ≡ true →
+        TakesNone columns decoration (gathered (λ col. handed_out columns (meant meaning col.0)) cols) (meant meaning top) → RowRefuses columns decoration (progress_meant meaning p) number TooNarrow
+    row_refused decoration number is h =
+        let given = given_meant cols ∙ ap (λ (cs : List (Renderer D A (Vec A) × ℕ)). gathered (handed_out columns) (renderers_of (map (cell_meant meaning) cs))) are in
+        let here = top_is_meant meaning (TakesNone columns decoration (gathered (λ col. handed_out columns (meant meaning col.0)) cols)) i.stack top is_top h in
+        let narrow : CellsAreTooNarrow columns decoration (progress_meant meaning i) = subst (λ (o : Outcome (List (List (Line (List M))))). OfTop (TakesNone columns decoration o) (stack_meant meaning i.stack)) given here in
+        subst (λ (q : Progress D A (Vec A)). RowRefuses columns decoration (progress_meant meaning q) number TooNarrow) same (inr (fit true is, narrow, refl))
 
     pub row_done : (decoration : Decoration D M) (collapse : Bool) (aligns : List CellAlign) (s : Renderer D A (Vec A)) (pending : Pending D A (Vec A)) →
         row_fits top.hanging (spots_of columns cols) ≡ true → aligns ≡ i.pending.aligns → pending ≡ without_cells i.pending →
@@ -89,7 +87,7 @@ module _ {D A M : Type 0} (meaning : A → M) (columns : ℕ → Option ℕ) whe
         subst (λ (q : Progress D A (Vec A)). RowDoes columns decoration (progress_meant meaning q) collapse (progress_meant meaning (record { stack = with_top i.stack s; pending = pending; opened = i.opened }))) same (record {
           fits = fit true is;
           cells = h.0;
-          come = subst (λ (cs : List (Renderer D A (Vec A) × ℕ)). AllZip (GivesCell (λ r. r.width) (HandsOut columns)) (map (cell_meant meaning) cs) h.0) are (come_meant cols h.0 h.1);
+          come = subst (λ (cs : List (Renderer D A (Vec A) × ℕ)). AllZip (GivesCell (λ r. r.width) (λ r lines. handed_out columns r ≡ done lines)) (map (cell_meant meaning) cs) h.0) are (come_meant cols h.0 h.1);
           aligned = h.2 ∙ these;
           does = on_top_meant meaning (AppendsRow columns collapse h.0) i.stack top s is_top h.3;
           pending = ap (pending_meant meaning) taken;

@@ -1,6 +1,6 @@
 -- A script gives one thing.
 pub mod Tops
-pub mod Handed
+pub mod Taken
 pub mod Levels
 pub mod Rows
 pub mod Links

@@ -1,14 +1,16 @@
 -- What comes at the end of a script.
-use Rattle.std.specs.Prelude.{◌≡◌, ℕ, Option, List, [], ◌∷◌, encode_utf8_all}
+use Rattle.std.specs.Prelude.{ℕ, Option, List, [], ◌∷◌, encode_utf8_all}
 use Rattle.tbr_tagged.specs.Elements.{Element}
 use Rattle.tbr_decor.specs.Change as change
 use Rattle.tbr_decor.specs.Decoration.{Decoration}
+use Rattle.tbr_tagged.specs.Outcome.{Outcome}
+use Rattle.tbr_renderer.specs.Outcomes.{changed}
 use Rattle.tbr_renderer.specs.Footnotes.{listed, with_footnotes}
 use Rattle.text_block_renderer.specs.Renderer.{Renderer}
 use Rattle.text_block_renderer.specs.Line.{Line}
 use Rattle.text_block_renderer.specs.Steps.{block_started}
 use Rattle.text_block_renderer.specs.Text.{lines_text}
-use Rattle.text_block_renderer.specs.Flush.{Flushes, FlushIsTooNarrow}
+use Rattle.text_block_renderer.specs.Flush.{after_flush}
 
 -- footnotes come after the lines as a block of their own, if there are any
 abbrev pub with_notes :
@@ -26,24 +28,10 @@ module _ {D M : Type 0} (columns : ℕ → Option ℕ) (decoration : Decoration 
   finalised r =
       record r { decorator = decoration.after r.decorator (change.finalise (listed r.options targets)) }
 
-  -- The text of the lines after a flush, and of the footnotes after them.
-  abbrev pub ClosesAs : Renderer D M (List M) → List ℕ → Type 0
-  ClosesAs r bytes =
-      (s : Renderer D M (List M)) × Flushes columns (finalised r) s
-      × (bytes ≡ encode_utf8_all (lines_text (let t = with_notes columns (footnotes_of r) s in t.lines)))
+  -- the lines after a flush, and the footnotes after them
+  abbrev pub closed : Renderer D M (List M) → Outcome (List (Line (List M)))
+  closed r = changed (λ s. let t = with_notes columns (footnotes_of r) s in t.lines) (after_flush columns (finalised r))
 
-  -- The flush at the end is answered by `TooNarrow`.
-  abbrev pub ClosingIsTooNarrow : Renderer D M (List M) → Type 0
-  ClosingIsTooNarrow r = FlushIsTooNarrow columns (finalised r)
-
-  -- The lines after a flush, and the footnotes after them.
-  abbrev pub ClosesIn : Renderer D M (List M) → List (Line (List M)) → Type 0
-  ClosesIn r lines =
-      (s : Renderer D M (List M)) × Flushes columns (finalised r) s
-      × (lines ≡ (let t = with_notes columns (footnotes_of r) s in t.lines))
-
-  -- A flush of a renderer leaves the lines of another one with its footnotes, and is answered by `TooNarrow` only where
-  -- the flush of that one is.
-  pub record FlushesAsClosed (r noted : Renderer D M (List M)) : Type 0 where
-    pub lines : (s : Renderer D M (List M)) → Flushes columns noted s → ClosesIn r s.lines
-    pub too_narrow : FlushIsTooNarrow columns noted → ClosingIsTooNarrow r
+  -- and their text, as bytes
+  abbrev pub closed_text : Renderer D M (List M) → Outcome (List ℕ)
+  closed_text r = changed (λ lines. encode_utf8_all (lines_text lines)) (closed r)

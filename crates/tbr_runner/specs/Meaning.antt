@@ -7,10 +7,12 @@ use Rattle.tbr_decor.specs.Start as start
 use Rattle.tbr_decor.specs.Decoration.{Decoration}
 use Rattle.text_block_renderer.specs.Renderer.{Renderer, new_renderer}
 use Rattle.text_block_renderer.specs.Line.{Line}
-use Rattle.text_block_renderer.specs.Flush.{FlushIsTooNarrow}
 use Rattle.text_block_renderer.specs.Decorated.{sub_renderer}
-use Rattle.text_block_renderer.specs.Appended.{HandsOut, HoldsBack, FirstToRefuse}
-use Rattle.text_block_renderer.specs.Calls.{begin, append_subrender, append_vert_row, Does, IsTooNarrow}
+use Rattle.tbr_tagged.specs.Outcome.{Outcome, done, refused}
+use Rattle.tbr_tagged.specs.declared.Error.TheVariants as E
+use Rattle.tbr_renderer.specs.Outcomes.{and_then, gathered}
+use Rattle.text_block_renderer.specs.Appended.{handed_out}
+use Rattle.text_block_renderer.specs.Calls.{new_line, begin, append_subrender, append_vert_row, after, Does, IsTooNarrow}
 use Rattle.text_block_renderer.specs.Rows.{spots_of, GivenCell, align_in, GivesCell, AppendsRow}
 use Rattle.tbr_script.specs.declared.error.RunError.{RunError}
 use Rattle.tbr_script.specs.declared.error.RunError.TheVariants.{TooNarrow, NotACommand, NothingToEnd, RowDoesNotFit}
@@ -31,7 +33,7 @@ use Rattle.tbr_runner.specs.declared.opened.Opener.TheVariants.{Sub, Cell}
 use Rattle.tbr_runner.specs.Prefixes.{prefixes}
 use Rattle.tbr_runner.specs.Progress.{Pending, Opened, Progress, nothing_pending}
 use Rattle.tbr_runner.specs.Decorations.{plain_decoration, trivial_decoration, rich_decoration}
-use Rattle.tbr_runner.specs.Closing.{ClosesAs, ClosingIsTooNarrow}
+use Rattle.tbr_runner.specs.Closing.{closed_text}
 
 -- ---- after the first command, under any decorator
 
@@ -71,10 +73,10 @@ Ends columns decoration p number outcome =
     let targets = p.stack.links in
     MatchResult outcome
     (λ bytes. (p.opened ≡ []) × (p.pending.cells ≡ [])
-    × OfTop (λ r. ClosesAs columns decoration targets r bytes) p.stack)
+    × OfTop (λ r. closed_text columns decoration targets r ≡ done bytes) p.stack)
     (λ e. (((p.opened ≢ []) ⊎ (p.pending.cells ≢ [])) × (e ≡ NotACommand number))
-    ⊎ ((p.opened ≡ []) × (p.pending.cells ≡ []) × OfTop (ClosingIsTooNarrow columns decoration targets) p.stack
-    × (e ≡ TooNarrow)))
+    ⊎ ((p.opened ≡ []) × (p.pending.cells ≡ [])
+    × OfTop (λ r. closed_text columns decoration targets r ≡ refused E.TooNarrow) p.stack × (e ≡ TooNarrow)))
 
 -- ---- whether a row fits
 
@@ -127,7 +129,7 @@ module _ {D M : Type 0} (columns : ℕ → Option ℕ) (decoration : Decoration 
     pub closed : Progress D M (List M)
     pub closes : Closes p Sub inside closed
     pub lines : List (Line (List M))
-    pub hands_out : HandsOut columns inside lines
+    pub hands_out : handed_out columns inside ≡ done lines
     pub does : ChangesTop (Does columns decoration (append_subrender (prefixes first other (length lines)) lines))
         closed.stack next.stack
     pub pending : next.pending ≡ closed.pending
@@ -136,7 +138,7 @@ module _ {D M : Type 0} (columns : ℕ → Option ℕ) (decoration : Decoration 
   -- The lines of the waiting cells join those of the renderer on top, one cell below another, and none waits any more.
   pub record VerticalRowDoes (p next : Progress D M (List M)) : Type 0 where
     pub cells : List (List (Line (List M)))
-    pub hand_out : AllZip (HandsOut columns) (renderers_of p.pending.cells) cells
+    pub hand_out : gathered (handed_out columns) (renderers_of p.pending.cells) ≡ done cells
     pub does : ChangesTop (Does columns decoration (append_vert_row cells)) p.stack next.stack
     pub pending : next.pending ≡ without_cells p.pending
     pub opened : next.opened ≡ p.opened
@@ -145,7 +147,7 @@ module _ {D M : Type 0} (columns : ℕ → Option ℕ) (decoration : Decoration 
   pub record RowDoes (p : Progress D M (List M)) (collapse : Bool) (next : Progress D M (List M)) : Type 0 where
     pub fits : OfTop (CellsFit columns p.pending.cells true) p.stack
     pub cells : List (GivenCell (List M))
-    pub come : AllZip (GivesCell (λ r. r.width) (HandsOut columns)) p.pending.cells cells
+    pub come : AllZip (GivesCell (λ r. r.width) (λ r lines. handed_out columns r ≡ done lines)) p.pending.cells cells
     pub aligned : map align_in cells ≡ p.pending.aligns
     pub does : ChangesTop (AppendsRow columns collapse cells) p.stack next.stack
     pub pending : next.pending ≡ without_cells p.pending
@@ -175,20 +177,22 @@ CellRefuses p number e =
     (((span : ℕ) (align : CellAlign) → opener p.opened ≢ Some (Cell span align)) × (e ≡ NothingToEnd number))
     ⊎ ((span : ℕ) × (align : CellAlign) × (opener p.opened ≡ Some (Cell span align)) × CellsWait p number e)
 
-module _ {D M : Type 0} (columns : ℕ → Option ℕ) where
+module _ {D M : Type 0} (columns : ℕ → Option ℕ) (decoration : Decoration D M) where
+  -- A renderer is too narrow for a flush, or for what others hand out after it.
+  abbrev pub TakesNone : {X : Type 0} → Outcome X → Renderer D M (List M) → Type 0
+  TakesNone given r = and_then (after columns decoration new_line r) (λ _. given) ≡ refused E.TooNarrow
+
   -- No `sub` opened the innermost level, or cells wait in it, or its own renderer or the one below it is too narrow.
   abbrev pub AppendRefuses : Progress D M (List M) → ℕ → RunError → Type 0
   AppendRefuses p number e =
       ((opener p.opened ≢ Some Sub) × (e ≡ NothingToEnd number))
       ⊎ ((opener p.opened ≡ Some Sub) × CellsWait p number e)
       ⊎ ((inside : Renderer D M (List M)) × (closed : Progress D M (List M)) × Closes p Sub inside closed
-      × (OfTop (FlushIsTooNarrow columns) closed.stack ⊎ HoldsBack columns inside) × (e ≡ TooNarrow))
+      × OfTop (TakesNone (handed_out columns inside)) closed.stack × (e ≡ TooNarrow))
 
   -- The renderer on top is too narrow, or one of the cells.
   abbrev pub CellsAreTooNarrow : Progress D M (List M) → Type 0
-  CellsAreTooNarrow p =
-      OfTop (FlushIsTooNarrow columns) p.stack
-      ⊎ FirstToRefuse (HandsOut columns) (HoldsBack columns) (renderers_of p.pending.cells)
+  CellsAreTooNarrow p = OfTop (TakesNone (gathered (handed_out columns) (renderers_of p.pending.cells))) p.stack
 
   -- Something is too narrow where the waiting cells are taken.
   abbrev pub VerticalRowRefuses : Progress D M (List M) → RunError → Type 0
@@ -200,7 +204,6 @@ module _ {D M : Type 0} (columns : ℕ → Option ℕ) where
       (OfTop (CellsFit columns p.pending.cells false) p.stack × (e ≡ RowDoesNotFit number))
       ⊎ (OfTop (CellsFit columns p.pending.cells true) p.stack × CellsAreTooNarrow p × (e ≡ TooNarrow))
 
-module _ {D M : Type 0} (columns : ℕ → Option ℕ) (decoration : Decoration D M) where
   -- It ends nothing, or the renderer on top is too narrow.
   abbrev pub RequestRefuses : Progress D M (List M) → ℕ → Request → RunError → Type 0
   RequestRefuses p number request e =
@@ -225,11 +228,11 @@ module _ {D M : Type 0} (columns : ℕ → Option ℕ) (decoration : Decoration 
   CommandRefuses p number (link target) e = LinkRefuses p target e
   CommandRefuses p number end_link e = EndLinkRefuses p number e
   CommandRefuses p number (sub width) e = ⊥
-  CommandRefuses p number (append first other) e = AppendRefuses columns p number e
+  CommandRefuses p number (append first other) e = AppendRefuses p number e
   CommandRefuses p number (cell width span align) e = ⊥
   CommandRefuses p number end_cell e = CellRefuses p number e
-  CommandRefuses p number (row collapse) e = RowRefuses columns p number e
-  CommandRefuses p number vertical_row e = VerticalRowRefuses columns p e
+  CommandRefuses p number (row collapse) e = RowRefuses p number e
+  CommandRefuses p number vertical_row e = VerticalRowRefuses p e
 
   -- ---- lines
 

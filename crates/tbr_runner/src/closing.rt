@@ -6,7 +6,9 @@ ghost use Rattle.tbr_decor.specs.Decoration.{decoration_of};
 ghost use Rattle.text_block_renderer.specs.Tags.{tag_meant};
 ghost use Rattle.text_block_renderer.specs.Meant.{map_line, meant};
 ghost use Rattle.text_block_renderer.specs.Line.{line_seen};
-ghost use Rattle.tbr_runner.specs.Closing.{ClosesAs, ClosesIn, ClosingIsTooNarrow, FlushesAsClosed};
+ghost use Rattle.tbr_tagged.specs.Outcome.{done, refused};
+ghost use Rattle.text_block_renderer.specs.Appended.{handed_out};
+ghost use Rattle.tbr_runner.specs.Closing.{closed, closed_text};
 
 use std::collections::LinkedList;
 use tbr_decor::TextDecorator;
@@ -22,11 +24,12 @@ pub fn close<D: TextDecorator, W: CharWidth>(
 ) -> Result<String, Error>
     requires { renderer.failure ≡ None }
     ensures text { let links = map chars_of targets.items in
-        IfOk result (λ text. ClosesAs W.columns (decoration_of D.TextDecorator) links (meant D.meaning renderer)
-        (string_bytes text)) }
+        IfOk result (λ text. closed_text W.columns (decoration_of D.TextDecorator) links (meant D.meaning renderer)
+        ≡ done (string_bytes text)) }
     ensures too_narrow { let links = map chars_of targets.items in
         result ≡ Err E.TooNarrow →
-        ClosingIsTooNarrow W.columns (decoration_of D.TextDecorator) links (meant D.meaning renderer) }
+        closed_text W.columns (decoration_of D.TextDecorator) links (meant D.meaning renderer)
+        ≡ refused E.TooNarrow }
 {
     with_footnotes(renderer, targets)?.into_string()
 }
@@ -38,11 +41,11 @@ pub fn close_lines<D: TextDecorator, W: CharWidth>(
 ) -> Result<LinkedList<RenderLine<Vec<D::Annotation>>>, Error>
     requires { renderer.failure ≡ None }
     ensures lines { let links = map chars_of targets.items in
-        IfOk result (λ lines. ClosesIn W.columns (decoration_of D.TextDecorator) links (meant D.meaning renderer)
-        (map (map_line (tag_meant D.meaning)) (map line_seen lines))) }
+        IfOk result (λ lines. closed W.columns (decoration_of D.TextDecorator) links (meant D.meaning renderer)
+        ≡ done (map (map_line (tag_meant D.meaning)) (map line_seen lines))) }
     ensures too_narrow { let links = map chars_of targets.items in
         result ≡ Err E.TooNarrow →
-        ClosingIsTooNarrow W.columns (decoration_of D.TextDecorator) links (meant D.meaning renderer) }
+        closed W.columns (decoration_of D.TextDecorator) links (meant D.meaning renderer) ≡ refused E.TooNarrow }
 {
     with_footnotes(renderer, targets)?.into_lines()
 }
@@ -54,12 +57,12 @@ fn with_footnotes<D: TextDecorator, W: CharWidth>(
 ) -> Result<SubRenderer<D, W>, Error>
     requires { renderer.failure ≡ None }
     ensures noted { let links = map chars_of targets.items in
-        IfOk result (λ noted. FlushesAsClosed W.columns (decoration_of D.TextDecorator) links
-        (meant D.meaning renderer) (meant D.meaning noted)) }
+        IfOk result (λ noted. handed_out W.columns (meant D.meaning noted)
+        ≡ closed W.columns (decoration_of D.TextDecorator) links (meant D.meaning renderer)) }
     ensures live { IfOk result (λ noted. noted.failure ≡ None) }
     ensures too_narrow { let links = map chars_of targets.items in
         result ≡ Err E.TooNarrow →
-        ClosingIsTooNarrow W.columns (decoration_of D.TextDecorator) links (meant D.meaning renderer) }
+        closed W.columns (decoration_of D.TextDecorator) links (meant D.meaning renderer) ≡ refused E.TooNarrow }
 {
     let footnotes = renderer.finalise(targets)?;
     if footnotes.is_empty() {

@@ -1,12 +1,13 @@
 //! Lines that are appended after prefixes.
-ghost use Rattle.std.specs.Prelude.{◌≡◌, ◌⊎◌, List, length, None, Err, OnOk, IfOk, IfErr, string_bytes};
+ghost use Rattle.std.specs.Prelude.{◌≡◌, List, length, None, Err, OnOk, IfOk, IfErr, string_bytes};
 ghost use Rattle.tbr_tagged.specs.View.{chars_of};
 ghost use Rattle.tbr_tagged.specs.declared.Error.TheVariants as E;
 ghost use Rattle.tbr_decor.specs.Decoration.{decoration_of};
 ghost use Rattle.text_block_renderer.specs.Line.{Line};
 ghost use Rattle.text_block_renderer.specs.Meant.{meant};
-ghost use Rattle.text_block_renderer.specs.Flush.{FlushIsTooNarrow};
-ghost use Rattle.text_block_renderer.specs.Appended.{HandsOut, HoldsBack};
+ghost use Rattle.tbr_tagged.specs.Outcome.{done};
+ghost use Rattle.text_block_renderer.specs.Appended.{handed_out};
+ghost use Rattle.tbr_runner.specs.Meaning.{TakesNone};
 ghost use Rattle.text_block_renderer.specs.Calls.{Does, append_subrender};
 ghost use Rattle.tbr_runner.specs.Prefixes.{prefixes, asked_prefix};
 
@@ -42,12 +43,13 @@ pub fn append_behind<D: TextDecorator, W: CharWidth>(
     texts: &TextPair,
 ) -> Result<(), Error>
     requires { renderer.old.failure ≡ None }
-    ensures ok { OnOk result ((lines : List (Line (List D.Meaning))) × HandsOut W.columns (meant D.meaning inside) lines
+    ensures ok { OnOk result ((lines : List (Line (List D.Meaning)))
+        × (handed_out W.columns (meant D.meaning inside) ≡ done lines)
         × Does W.columns (decoration_of D.TextDecorator) (append_subrender
         (prefixes (string_bytes texts.now.first) (string_bytes texts.now.second) (length lines)) lines)
         (meant D.meaning renderer.old) (meant D.meaning renderer.new)) }
-    ensures too_narrow { result ≡ Err E.TooNarrow → FlushIsTooNarrow W.columns (meant D.meaning renderer.old)
-        ⊎ HoldsBack W.columns (meant D.meaning inside) }
+    ensures too_narrow { result ≡ Err E.TooNarrow → TakesNone W.columns (decoration_of D.TextDecorator)
+        (handed_out W.columns (meant D.meaning inside)) (meant D.meaning renderer.old) }
 {
     let first = iter::once(texts.first.as_str());
     let others = iter::repeat_n(texts.second.as_str(), OTHERS);

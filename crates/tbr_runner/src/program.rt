@@ -16,7 +16,8 @@ ghost use Rattle.tbr_commands.specs.Request as requests;
 ghost use Rattle.tbr_commands.specs.Command.{command_of, IsSized};
 ghost use Rattle.tbr_runner.specs.Progress.{progress_meant, nothing_pending, IsSpanned, GoesOn};
 ghost use Rattle.tbr_runner.specs.declared.opened.Opener.{Opener as By};
-ghost use Rattle.tbr_runner.specs.Closing.{ClosesIn, ClosingIsTooNarrow};
+ghost use Rattle.tbr_tagged.specs.Outcome.{done, refused};
+ghost use Rattle.tbr_runner.specs.Closing.{closed};
 ghost use Rattle.tbr_runner.specs.Prefixes.{asked_prefix};
 ghost use Rattle.tbr_runner.specs.Meaning.{opener, Closes, RequestDoes, RequestRefuses, LinkDoes, LinkRefuses, EndLinkDoes, EndLinkRefuses, LevelOpens, AppendDoes, AppendRefuses, CellDoes, CellRefuses, VerticalRowDoes, VerticalRowRefuses, RowDoes, RowRefuses, CommandDoes, CommandRefuses, LineDoes, LineRefuses, Ends};
 
@@ -239,7 +240,8 @@ impl<D: TextDecorator, W: CharWidth> Program<D, W> {
             (progress_meant D.meaning self.new)) }
         ensures live { OnOk result (GoesOn self.new) }
         ensures refused { IfErr result (λ e. e ≢ RunError.OutOfMemory →
-            AppendRefuses W.columns (progress_meant D.meaning self.old) number e) }
+            AppendRefuses W.columns (decoration_of D.TextDecorator)
+            (progress_meant D.meaning self.old) number e) }
         ensures left { IfErr result (λ e. e ≢ RunError.OutOfMemory → e ≢ RunError.TooNarrow → self.new ≡ self.old) }
     {
         if !self.opened.is_sub() {
@@ -282,7 +284,8 @@ impl<D: TextDecorator, W: CharWidth> Program<D, W> {
             (progress_meant D.meaning self.old) collapse (progress_meant D.meaning self.new)) }
         ensures live { OnOk result (GoesOn self.new) }
         ensures refused { IfErr result (λ e. e ≢ RunError.OutOfMemory →
-            RowRefuses W.columns (progress_meant D.meaning self.old) number e) }
+            RowRefuses W.columns (decoration_of D.TextDecorator)
+            (progress_meant D.meaning self.old) number e) }
         ensures left { IfErr result (λ e. e ≢ RunError.OutOfMemory → e ≢ RunError.TooNarrow → self.new ≡ self.old) }
     {
         if !self.renderers.top().row_fits(self.pending.cells()) {
@@ -301,7 +304,8 @@ impl<D: TextDecorator, W: CharWidth> Program<D, W> {
             (progress_meant D.meaning self.old) (progress_meant D.meaning self.new)) }
         ensures live { OnOk result (GoesOn self.new) }
         ensures refused { IfErr result (λ e. e ≢ RunError.OutOfMemory →
-            VerticalRowRefuses W.columns (progress_meant D.meaning self.old) e) }
+            VerticalRowRefuses W.columns (decoration_of D.TextDecorator)
+            (progress_meant D.meaning self.old) e) }
     {
         let cells = self.pending.take_renderers(alloc)?;
         self.renderers.top_mut().append_vert_row(cells)?;
@@ -331,11 +335,12 @@ impl<D: TextDecorator, W: CharWidth> Program<D, W> {
         requires live { GoesOn self }
         requires opened { self.opened ≡ [] }
         requires cells { self.pending.cells ≡ [] }
-        ensures lines { IfOk result (λ lines. OfTop (λ r. ClosesIn W.columns (decoration_of D.TextDecorator)
-            self.stack.links (meant D.meaning r) (map (map_line (tag_meant D.meaning)) (map line_seen lines)))
-            self.stack) }
-        ensures too_narrow { result ≡ Err Refusal.TooNarrow → OfTop (λ r. ClosingIsTooNarrow W.columns
-            (decoration_of D.TextDecorator) self.stack.links (meant D.meaning r)) self.stack }
+        ensures lines { IfOk result (λ lines. OfTop (λ r.
+            closed W.columns (decoration_of D.TextDecorator) self.stack.links (meant D.meaning r)
+            ≡ done (map (map_line (tag_meant D.meaning)) (map line_seen lines))) self.stack) }
+        ensures too_narrow { result ≡ Err Refusal.TooNarrow → OfTop (λ r.
+            closed W.columns (decoration_of D.TextDecorator) self.stack.links (meant D.meaning r)
+            ≡ refused Refusal.TooNarrow) self.stack }
     {
         let (renderer, targets) = self.renderers.into_inner();
         close_lines(renderer, targets)

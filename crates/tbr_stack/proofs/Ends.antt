@@ -1,9 +1,10 @@
 -- The end of a link.
-use Rattle.std.proofs.Common.{◌≡◌, ℕ, List, [], ◌∷◌, Option, Some, map, sym, refl, ap, ◌∙◌}
+use Rattle.std.proofs.Common.{◌≡◌, ℕ, List, [], ◌∷◌, Option, None, Some, map, sym, refl, ap, ◌∙◌}
 use Rattle.std.specs.Global.{Vec}
 use Rattle.tbr_decor.specs.Decoration.{Decoration}
 use Rattle.tbr_decor.specs.End as end
-use Rattle.tbr_renderer.specs.Calls.{finish, Does}
+use Rattle.tbr_tagged.proofs.Outcomes.{live_done}
+use Rattle.tbr_renderer.specs.Calls.{finish, made, Does}
 use Rattle.tbr_renderer.specs.Meant.{meant}
 use Rattle.tbr_renderer.specs.Renderer.{Renderer, kept_of}
 use Rattle.tbr_renderer.proofs.SettingsStay.{Steady, closed_alike}
@@ -11,17 +12,21 @@ use Rattle.tbr_stack.specs.Stack.{Level, Stack, top_of}
 use Rattle.tbr_stack.specs.Top.{OfTop, level_meant, stack_meant}
 use Rattle.tbr_stack.specs.Links.{open_in_first, open_links, shown_number}
 
--- neither the kept refusal nor what later calls ask for is changed
+-- neither the kept refusal, which there isn't, nor what later calls ask for is changed
 pub record Steadily {D A T : Type 0} (r q : Renderer D A T) : Type 0 where
-  pub failure : q.failure ≡ r.failure
+  pub failure : q.failure ≡ None
   pub kept : kept_of q ≡ kept_of r
+
+pub some_same : {X : Type 0} (x y : X) → Some x ≡ Some y → x ≡ y
+some_same x y e = cc
 
 module _ {D A M : Type 0} (f : A → M) where
   pub ended : (columns : ℕ → Option ℕ) (decoration : Decoration D M) (r q : Renderer D A (Vec A)) → Does columns decoration (finish end.link) (meant f r) (meant f q) → Steadily r q
   ended columns decoration r q h =
-      let same = closed_alike columns decoration end.link (meant f r) (meant f q) h in
+      let (live, made_is) = live_done r.failure (made columns decoration (finish end.link) (meant f r)) (meant f q) h in
+      let same = closed_alike columns decoration end.link (meant f r) (meant f q) made_is in
       record {
-        failure = ap (λ (x : Steady D M). x.failure) same;
+        failure = ap (λ (x : Steady D M). x.failure) same ∙ live;
         kept = ap (λ (x : Steady D M). x.settings.kept) same;
       }
 
@@ -35,6 +40,3 @@ module _ {D A M : Type 0} (f : A → M) where
   number_is s r number h top =
       let same : h.0 ≡ r = some_same h.0 r (sym h.1 ∙ top) in
       h.2 ∙ ap (λ q. shown_number q (open_links s)) same ∙ ap (λ places. shown_number r places) (sym (places_meant s.levels))
-    where
-      some_same : (x y : Renderer D A (Vec A)) → Some x ≡ Some y → x ≡ y
-      some_same x y e = cc

@@ -18,7 +18,8 @@ use Rattle.tbr_commands.specs.declared.request.layout.Layout.TheVariants.{StartB
 use Rattle.tbr_commands.specs.Request.{layout}
 use Rattle.tbr_commands.specs.Command.{Command, ask, sub, append, command_of}
 use Rattle.tbr_runner.specs.Progress.{Progress, progress_meant}
-use Rattle.tbr_runner.specs.Closing.{ClosesIn}
+use Rattle.tbr_tagged.specs.Outcome.{done}
+use Rattle.tbr_runner.specs.Closing.{closed}
 use Rattle.tbr_runner.specs.Meaning.{CommandDoes, started}
 use Rattle.tbr_view.specs.declared.block.Block.{Block}
 use Rattle.tbr_view.specs.declared.level.Level.{Level}
@@ -137,7 +138,7 @@ module _ {D M : Type 0} (columns : ℕ → Option ℕ) (decoration : Decoration 
   pub record EndsIn (s : State D M) (lines : List (Line (List M))) : Type 0 where
     pub levels : s.levels ≡ []
     pub cells : s.program.pending.cells ≡ []
-    pub closes : OfTop (λ r. ClosesIn columns decoration s.program.stack.links r lines) s.program.stack
+    pub closes : OfTop (λ r. closed columns decoration s.program.stack.links r ≡ done lines) s.program.stack
 
   -- the lines that a script gives from here
   abbrev pub LinesGive : State D M → List (List ℕ) → List (Line (List M)) → Type 0

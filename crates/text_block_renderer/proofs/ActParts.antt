@@ -12,19 +12,21 @@ use Rattle.tbr_rows.specs.declared.LineSet.{LineSet as Cell}
 use Rattle.tbr_decor.specs.Decoration.{Decoration}
 use Rattle.tbr_renderer.specs.declared.options.RenderOptions.{RenderOptions}
 use Rattle.tbr_kept_lines.specs.Line.{Line}
-use Rattle.tbr_renderer.specs.Renderer.{Open, Renderer, Settings, settings_of, with_line, open_run}
+use Rattle.tbr_renderer.specs.Renderer.{Open, Renderer, Settings, settings_of, with_line, open_run, IsSound}
 use Rattle.tbr_renderer.specs.Rows.{GivenCell, border_lines, with_next, with_row, PutsRow}
 use Rattle.tbr_kept_lines.specs.LastBorder.{before_border}
 use Rattle.tbr_renderer.specs.Appended.{border_line}
 use Rattle.tbr_renderer.specs.Calls.{Call, new_line, Does, entries_brought, Brings, laid_entries}
+use Rattle.tbr_tagged.specs.Outcome.{done}
+use Rattle.tbr_renderer.specs.Outcomes.{and_then, told_by}
 use Rattle.tbr_renderer.proofs.SettingsStay.{Steady, lines_added}
 use Rattle.text_block_renderer.specs.Stretches.{Part, ended, laid, ruled, lines_laid, IsPart, ComesInParts}
 use Rattle.text_block_renderer.specs.Acts.{Act, call, row, rows_of, ActBrings, ActsBring, Piece, part, put, cells_in, rows_in, border_lines_of, lines_of_piece, entries_of_piece, IsPiece, StaysLine, ComesInPieces}
-use Rattle.text_block_renderer.proofs.Moves.{any, Frame, frame, frame_of_lines, flushed_none, path_width, path_options, path_hanging}
+use Rattle.text_block_renderer.proofs.Moves.{any, Frame, frame, frame_of_lines, sound_alike, flushed_none, path_width, path_options, path_hanging}
 use Rattle.text_block_renderer.proofs.CallMoves.{calls_move}
 use Rattle.text_block_renderer.proofs.LineParts.{brings_parts}
 use Rattle.text_block_renderer.proofs.LaidTexts.{laid_lines}
-use Rattle.text_block_renderer.proofs.RowsOfCells.{row_closed}
+use Rattle.text_block_renderer.proofs.RowsOfCells.{row_flushes, row_closed}
 use Rattle.text_block_renderer.proofs.LastingLines.{all_stay, stay_on, stay_append, top_put_back}
 use Rattle.text_block_renderer.proofs.Lists.{flat_map_map, each_map, each_gives}
 use Rattle.text_block_renderer.proofs.OverhangingCells.{Chain, chain_append}
@@ -137,7 +139,9 @@ module _ {D A : Type 0} (columns : ℕ → Option ℕ) where
 
     -- as the only one of calls
     pub alone : (c : Call (List A)) (r s : Renderer D A (List A)) (es : List (Entry (List A))) → Does columns decoration c r s → es ≡ entries_brought columns decoration c r → Brings columns decoration (c ∷ []) r es s
-    alone c r s es does is = (s, [], does, (refl, refl), is ∙ sym (append-nil (entries_brought columns decoration c r)))
+    alone c r s es does is =
+        let first = entries_brought columns decoration c r in
+        (ap (λ o. and_then o (λ t. done t)) does, is ∙ sym (append-nil first) ∙ ap (λ o. first ++ told_by (λ t. []) o) (sym does))
 
     rows_one : (act : Act (List A)) (acts : List (Act (List A))) → rows_of (act ∷ acts) ≡ rows_of (act ∷ []) ++ rows_of acts
     rows_one (call c) acts = refl
@@ -163,11 +167,11 @@ module _ {D A : Type 0} (columns : ℕ → Option ℕ) where
               (chain_append columns r.options.draw_borders r.hanging (rows_in h.came.pieces) q.hanging (rows_in k.came.pieces) s.hanging h.chain behind);
         }
 
-    call_along : (c : Call (List A)) (r s : Renderer D A (List A)) (es : List (Entry (List A))) → Brings columns decoration (c ∷ []) r es s → Along [] r es s
+    call_along : (c : Call (List A)) (r s : Renderer D A (List A)) (es : List (Entry (List A))) → IsSound columns r → Brings columns decoration (c ∷ []) r es s → Along [] r es s
     unfolding as_pieces
-    call_along c r s es h =
+    call_along c r s es sound h =
         let path = calls_move columns any decoration (c ∷ []) r s es tt h in
-        let parts = (brings_parts columns decoration (c ∷ []) r s es h).0 in
+        let parts = (brings_parts columns decoration (c ∷ []) r s es sound h).0 in
         record {
           width = path_width columns any r s es _ path;
           options = path_options columns any r s es _ path;
@@ -187,27 +191,29 @@ module _ {D A : Type 0} (columns : ℕ → Option ℕ) where
           chain = (refl, refl, ap (λ (f : Frame A). f.hanging) same);
         }
 
-    act_along : (act : Act (List A)) (r s : Renderer D A (List A)) (es : List (Entry (List A))) → ActBrings columns decoration act r es s → Along (rows_of (act ∷ [])) r es s
-    act_along (call c) r s es h = call_along c r s es (alone c r s es h.0 h.1)
-    act_along (row collapses cells) r s es h =
-        let (m, flushes, puts, is) = h in
-        let first = call_along new_line r m [] (alone new_line r m [] flushes refl) in
-        let closed = row_closed columns collapses cells r s (m, flushes, puts) in
-        let second = row_along collapses cells m s (flushed_none columns r m flushes) closed puts in
+    act_along : (act : Act (List A)) (r s : Renderer D A (List A)) (es : List (Entry (List A))) → IsSound columns r → ActBrings columns decoration act r es s → Along (rows_of (act ∷ [])) r es s
+    act_along (call c) r s es sound h = call_along c r s es sound (alone c r s es h.0 h.1)
+    act_along (row collapses cells) r s es sound h =
+        let (m, flushed, puts, is) = h in
+        let first = call_along new_line r m [] sound (alone new_line r m [] flushed refl) in
+        let closed = row_closed columns collapses cells r s (m, flushed, puts) in
+        let second = row_along collapses cells m s (flushed_none columns r m (row_flushes columns r m flushed)) closed puts in
         subst (λ fs. Along (cells ∷ []) r fs s) (sym is) (along_on [] (cells ∷ []) r m s [] (laid_entries (joined puts.row.lines)) first second)
 
-    pub acts_along : (acts : List (Act (List A))) (r s : Renderer D A (List A)) (es : List (Entry (List A))) → ActsBring columns decoration acts r es s → Along (rows_of acts) r es s
-    acts_along [] r s es h =
+    pub acts_along : (acts : List (Act (List A))) (r s : Renderer D A (List A)) (es : List (Entry (List A))) → IsSound columns r → ActsBring columns decoration acts r es s → Along (rows_of acts) r es s
+    acts_along [] r s es sound h =
         subst (λ (q : Renderer D A (List A)). Along [] r es q) (sym h.0) (subst (λ fs. Along [] r fs r) (sym h.1) (record {
           width = refl;
           options = refl;
           came = record { pieces = []; are = tt; lines = subst (λ ls. AllZip StaysLine ls r.lines) (sym (append-nil r.lines)) (all_stay r.lines); entries = append-nil (open_run r.block); put_rows = refl };
           chain = refl;
         }))
-    acts_along (act ∷ acts) r s es h =
+    acts_along (act ∷ acts) r s es sound h =
         let (m, first, rest, does, others, is) = h in
+        let here = act_along act r m first sound does in
+        let still = sound_alike columns r m here.width here.options sound in
         subst (λ fs. Along (rows_of (act ∷ acts)) r fs s) (sym is)
-        (subst (λ xs. Along xs r (first ++ rest) s) (sym (rows_one act acts)) (along_on (rows_of (act ∷ [])) (rows_of acts) r m s first rest (act_along act r m first does) (acts_along acts m s rest others)))
+        (subst (λ xs. Along xs r (first ++ rest) s) (sym (rows_one act acts)) (along_on (rows_of (act ∷ [])) (rows_of acts) r m s first rest here (acts_along acts m s rest still others)))
 
-    pub act_options : (act : Act (List A)) (r s : Renderer D A (List A)) (es : List (Entry (List A))) → ActBrings columns decoration act r es s → s.options ≡ r.options
-    act_options act r s es h = let along = act_along act r s es h in along.options
+    pub act_sound : (act : Act (List A)) (r s : Renderer D A (List A)) (es : List (Entry (List A))) → IsSound columns r → ActBrings columns decoration act r es s → (s.options ≡ r.options) × IsSound columns s
+    act_sound act r s es sound h = let along = act_along act r s es sound h in (along.options, sound_alike columns r s along.width along.options sound)

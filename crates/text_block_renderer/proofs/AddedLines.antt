@@ -3,11 +3,12 @@ use Rattle.std.proofs.Common.{◌≡◌, ℕ, Option, Some, None, List, [], ◌�
 use Rattle.tbr_model.specs.Run.{Item}
 use Rattle.tbr_kept_lines.specs.Line.{Line}
 use Rattle.tbr_renderer.specs.Renderer.{Open, Renderer, with_line}
-use Rattle.tbr_renderer.specs.Flush.{block_lines, FlushesBlock, lines_at_end}
+use Rattle.tbr_renderer.specs.Flush.{block_lines, lines_at_end}
+use Rattle.tbr_renderer.proofs.FlushedBlocks.{FlushesBlock}
 use Rattle.tbr_decor.specs.Decoration.{Decoration}
-use Rattle.tbr_renderer.specs.Calls.{Call, Steps}
+use Rattle.tbr_renderer.specs.Calls.{Call, Steps, brought}
 use Rattle.text_block_renderer.proofs.Moves.{Move, flush, line, rule, join, turn, Makes, MakesAll, through, any}
-use Rattle.text_block_renderer.proofs.CallMoves.{calls_move, steps_bring}
+use Rattle.text_block_renderer.proofs.CallMoves.{calls_move}
 
 abbrev pub Grows : {D A : Type 0} → Renderer D A (List A) → Renderer D A (List A) → Type 0
 Grows {D} {A} r s = (more : List (Line (List A))) × (s.lines ≡ r.lines ++ more)
@@ -45,6 +46,5 @@ module _ {D A : Type 0} (columns : ℕ → Option ℕ) where
 
   pub steps_grow : (decoration : Decoration D A) (calls : List (Call (List A))) (r s : Renderer D A (List A)) → Steps columns decoration calls r s → Grows r s
   steps_grow decoration calls r s h =
-      let (es, brings) = steps_bring columns decoration calls r s h in
-      let path = calls_move columns any decoration calls r s es tt brings in
+      let path = calls_move columns any decoration calls r s (brought columns decoration calls r) tt (h, refl) in
       moves_grow path.moves r s path.makes

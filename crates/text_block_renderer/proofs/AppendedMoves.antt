@@ -10,8 +10,10 @@ use Rattle.tbr_renderer.specs.declared.options.RenderOptions.{RenderOptions}
 use Rattle.text_block_renderer.specs.Drawn.{row_borders}
 use Rattle.tbr_kept_lines.specs.Line.{Line}
 use Rattle.tbr_renderer.specs.Renderer.{Open, Renderer, with_line}
-use Rattle.tbr_renderer.specs.Flush.{block_lines, FlushesBlock, lines_at_end}
-use Rattle.tbr_renderer.specs.Appended.{with_border, border_of_cells, as_text, prefixed, AddsBorder, AppendsLines, with_divider, with_cell, with_cell_below, with_cells, AppendsCells}
+use Rattle.tbr_renderer.specs.Flush.{block_lines, lines_at_end}
+use Rattle.tbr_renderer.proofs.FlushedBlocks.{FlushesBlock}
+use Rattle.tbr_renderer.proofs.CallParts.{FlushesThen}
+use Rattle.tbr_renderer.specs.Appended.{with_border, border_of_cells, as_text, prefixed, with_divider, with_cell, with_cell_below, with_cells}
 use Rattle.tbr_renderer.specs.Calls.{laid_entry, laid_entries}
 use Rattle.text_block_renderer.proofs.Moves.{flush, line, rule, Kind, MayLay, MayRule, Course, Path, onward, one, stays, flushed_none}
 
@@ -75,13 +77,13 @@ module _ {D A : Type 0} (columns : ℕ → Option ℕ) (kind : Kind) where
       subst (λ (es : List (Entry (List A))). Path columns kind q (fold (with_line columns) r ts) es) (sym (map-append laid_entry t (joined ts)))
       (onward columns kind q r (fold (with_line columns) r ts) (laid_entries t) (laid_entries (joined ts)) (one columns kind (line t) q r (may t, none, refl)) (lines_put ts r may none))
 
-  pub lines_appended : (prefixes : List (List ℕ)) (lines : List (Line (List A))) (r s : Renderer D A (List A)) → ((is : List (Item (List A))) → MayLay kind is) → AppendsLines columns prefixes lines r s → Path columns kind r s (laid_entries (joined (prefixed r.annotations prefixes lines)))
+  pub lines_appended : (prefixes : List (List ℕ)) (lines : List (Line (List A))) (r s : Renderer D A (List A)) → ((is : List (Item (List A))) → MayLay kind is) → FlushesThen columns (λ m. fold (with_line columns) m (prefixed r.annotations prefixes lines)) r s → Path columns kind r s (laid_entries (joined (prefixed r.annotations prefixes lines)))
   lines_appended prefixes lines r s may h =
       let texts = prefixed r.annotations prefixes lines in
       let put = subst (λ (q : Renderer D A (List A)). Path columns kind h.0 q (laid_entries (joined texts))) (sym h.2) (lines_put texts h.0 may (flushed_none columns r h.0 h.1)) in
       onward columns kind r h.0 s [] (laid_entries (joined texts)) (one columns kind flush r h.0 h.1) put
 
-  pub border_added : (width : ℕ) (r s : Renderer D A (List A)) → ((q : Renderer D A (List A)) → q.options ≡ r.options → MayRule kind q) → AddsBorder columns width r s → Course columns kind r s [] (replicate width horizontal ∷ [])
+  pub border_added : (width : ℕ) (r s : Renderer D A (List A)) → ((q : Renderer D A (List A)) → q.options ≡ r.options → MayRule kind q) → FlushesThen columns (λ m. with_border columns m (border_of_cells horizontal width r)) r s → Course columns kind r s [] (replicate width horizontal ∷ [])
   border_added width r s may h =
       let joins = joins_flushed r h.0 r.block refl h.1 in
       onward columns kind r h.0 s [] [] (one columns kind flush r h.0 h.1)
@@ -155,7 +157,7 @@ module _ {D A : Type 0} (columns : ℕ → Option ℕ) (kind : Kind) where
           joins_below cells n joins,
         )
 
-    pub cells_appended : (cells : List (List (Line (List A)))) (s : Renderer D A (List A)) → AppendsCells columns cells r s →
+    pub cells_appended : (cells : List (List (Line (List A)))) (s : Renderer D A (List A)) → FlushesThen columns (λ m. with_divider columns horizontal (with_cells columns m cells)) r s →
         Course columns kind r s (laid_entries (joined (flat_map (map (as_text r.annotations)) cells))) (if r.options.draw_borders then row_borders r.width (length cells) else [])
     cells_appended cells s h =
         let es = laid_entries (joined (flat_map (map (as_text r.annotations)) cells)) in

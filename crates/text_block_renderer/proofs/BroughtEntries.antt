@@ -20,9 +20,10 @@ use Rattle.tbr_wrap.specs.Runs.{IsNormal, AreLastOf, EndsRun}
 use Rattle.tbr_tagged.proofs.SameItems.{all_zip_append}
 use Rattle.tbr_decor.specs.Decoration.{Decoration}
 use Rattle.tbr_kept_lines.specs.Line.{Line}
-use Rattle.tbr_renderer.specs.Renderer.{Open, Renderer, new_renderer, open_block, open_run, with_line, with_events, block_width, may_overflow}
+use Rattle.tbr_renderer.specs.Renderer.{Open, Renderer, new_renderer, open_block, open_run, with_line, with_events, block_width, may_overflow, IsSound}
 use Rattle.tbr_renderer.specs.declared.options.RenderOptions.{RenderOptions}
-use Rattle.tbr_renderer.specs.Flush.{block_lines, flushed, FlushesBlock, lines_at_end, names_at_end}
+use Rattle.tbr_renderer.specs.Flush.{block_lines, flushed, lines_at_end, names_at_end}
+use Rattle.tbr_renderer.proofs.FlushedBlocks.{FlushesBlock}
 use Rattle.tbr_renderer.specs.Appended.{with_border}
 use Rattle.tbr_renderer.specs.Calls.{Call, laid_entries, Brings, text_of_lines}
 use Rattle.text_block_renderer.specs.Drawn.{WithoutDrawnBorders, borders_drawn, DrawNone}
@@ -251,14 +252,14 @@ module _ {D A : Type 0} (columns : ℕ → Option ℕ) where
   same_seen : (r s : Renderer D A (List A)) → items_so_far s ≡ items_so_far r → SeenBehind (items_so_far r) [] (items_so_far s)
   same_seen r s e Y look looks = ap look e ∙ sym (append-nil (look (items_so_far r))) ∙ ap (λ ys. look (items_so_far r) ++ ys) (sym looks.nothing)
 
-  flush_stands : (r s : Renderer D A (List A)) (o : Option (Open (List A))) (es : List (Entry (List A))) → o ≡ r.block → FlushesBlock columns r o s → Stands columns r es → Stands columns s es
-  flush_stands r s None es e h k = subst (λ (q : Renderer D A (List A)). Stands columns q es) (sym h) k
-  flush_stands r s (Some b) es e h k =
+  flush_stands : (r s : Renderer D A (List A)) (o : Option (Open (List A))) (es : List (Entry (List A))) → o ≡ r.block → FlushesBlock columns r o s → IsSound columns r → Stands columns r es → Stands columns s es
+  flush_stands r s None es e h sound k = subst (λ (q : Renderer D A (List A)). Stands columns q es) (sym h) k
+  flush_stands r s (Some b) es e h sound k =
       let after : Renderer D A (List A) = flushed columns r (block_lines columns r b (lines_at_end columns r b)) (names_at_end columns r b) in
       let more : List (Item (List A)) = joined (lines_at_end columns r b) ++ marker_items (names_at_end columns r b) in
       let all : StandFor columns (items_so_far after) (k.ended ++ (run_of b.events)) =
       stand_behind columns (items_so_far r) more (items_so_far after) k.ended (run_of b.events) (λ Y look looks. seen_flushed look looks columns r b (lines_at_end columns r b) (names_at_end columns r b)) (stand r es k)
-      (run_stands columns (block_width r) (may_overflow r) (run_of b.events) (lines_at_end columns r b) (names_at_end columns r b) h.ends) in
+      (run_stands columns (block_width r) (may_overflow r) (run_of b.events) (lines_at_end columns r b) (names_at_end columns r b) (h.ends sound)) in
       let nothing : open_run after.block ≡ [] = ap open_run (no_block columns (block_lines columns r b (lines_at_end columns r b)) (record r { block = None }) refl) in
       let whole : (k.ended ++ (run_of b.events)) ++ open_run after.block ≡ es =
       ap (λ (run : List (Entry (List A))). (k.ended ++ (run_of b.events)) ++ run) nothing ∙ append-nil (k.ended ++ (run_of b.events)) ∙ ap (λ (p : Option (Open (List A))). k.ended ++ open_run p) e ∙ k.whole in
@@ -292,22 +293,22 @@ module _ {D A : Type 0} (columns : ℕ → Option ℕ) where
       let same : items_so_far s ≡ items_so_far r = ap (λ (ls : List (Line (List A))). text_of_lines ls ++ marker_items s.waiting) h.lines ∙ ap (λ ns. text_of_lines r.lines ++ marker_items ns) h.waiting in
       as_before r s es k.ended (same_seen r s same) (ap (λ (o : Option (Open (List A))). k.ended ++ open_run o) h.block ∙ k.whole) (stand r es k)
 
-  move_stands : (m : Move (List A)) (r s : Renderer D A (List A)) (es : List (Entry (List A))) → Makes columns undrawn m r s → Stands columns r es → Stands columns s (es ++ brought_by m)
-  move_stands flush r s es h k = subst (Stands columns s) (sym (append-nil es)) (flush_stands r s r.block es refl h k)
-  move_stands (line is) r s es h k = put_stands r s is es h.1 h.2 k
-  move_stands (rule cells) r s es h k = subst (Stands columns s) (sym (append-nil es)) (rule_stands r s (without_holes cells r.annotations) es h.0 h.2 k)
-  move_stands (join more) r s es h k = join_stands r s more es h k
-  move_stands turn r s es h k = subst (Stands columns s) (sym (append-nil es)) (turn_stands r s es h k)
+  move_stands : (m : Move (List A)) (r s : Renderer D A (List A)) (es : List (Entry (List A))) → Makes columns undrawn m r s → IsSound columns r → Stands columns r es → Stands columns s (es ++ brought_by m)
+  move_stands flush r s es h sound k = subst (Stands columns s) (sym (append-nil es)) (flush_stands r s r.block es refl h sound k)
+  move_stands (line is) r s es h sound k = put_stands r s is es h.1 h.2 k
+  move_stands (rule cells) r s es h sound k = subst (Stands columns s) (sym (append-nil es)) (rule_stands r s (without_holes cells r.annotations) es h.0 h.2 k)
+  move_stands (join more) r s es h sound k = join_stands r s more es h k
+  move_stands turn r s es h sound k = subst (Stands columns s) (sym (append-nil es)) (turn_stands r s es h k)
 
   pub brings_stands : (decoration : Decoration D A) (calls : List (Call (List A))) (r s : Renderer D A (List A)) (borders : List (List Cell)) (before es : List (Entry (List A))) →
-      Brings columns decoration calls r es s → WithoutDrawnBorders borders (λ q. Stands columns q before) r → WithoutDrawnBorders (borders ++ borders_drawn r calls) (λ q. Stands columns q (before ++ es)) s
+      IsSound columns r → Brings columns decoration calls r es s → WithoutDrawnBorders borders (λ q. Stands columns q before) r → WithoutDrawnBorders (borders ++ borders_drawn r calls) (λ q. Stands columns q (before ++ es)) s
   brings_stands = brings_on columns (Stands columns) move_stands
 
   pub new_brings_stands : (decoration : Decoration D A) (width : ℕ) (options : RenderOptions) (decorator : D) (calls : List (Call (List A))) (s : Renderer D A (List A)) (es : List (Entry (List A))) →
-      (let r : Renderer D A (List A) = new_renderer width options decorator in Brings columns decoration calls r es s → WithoutDrawnBorders (borders_drawn r calls) (λ q. Stands columns q es) s)
-  new_brings_stands decoration width options decorator calls s es h =
-      brings_stands decoration calls (new_renderer width options decorator) s [] [] es h ([], ([], refl, refl, refl), new_stands width options decorator)
+      (let r : Renderer D A (List A) = new_renderer width options decorator in IsSound columns r → Brings columns decoration calls r es s → WithoutDrawnBorders (borders_drawn r calls) (λ q. Stands columns q es) s)
+  new_brings_stands decoration width options decorator calls s es sound h =
+      brings_stands decoration calls (new_renderer width options decorator) s [] [] es sound h ([], ([], refl, refl, refl), new_stands width options decorator)
 
   pub brings_stands_all : (decoration : Decoration D A) (calls : List (Call (List A))) (r s : Renderer D A (List A)) (before es : List (Entry (List A))) →
-      DrawNone r calls → Brings columns decoration calls r es s → Stands columns r before → Stands columns s (before ++ es)
+      IsSound columns r → DrawNone r calls → Brings columns decoration calls r es s → Stands columns r before → Stands columns s (before ++ es)
   brings_stands_all = brings_on_all columns (Stands columns) move_stands

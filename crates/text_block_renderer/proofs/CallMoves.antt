@@ -14,11 +14,19 @@ use Rattle.tbr_decor.specs.Ground.{Ground}
 use Rattle.tbr_renderer.specs.declared.options.RenderOptions.{RenderOptions}
 use Rattle.tbr_renderer.specs.Renderer.{Open, Renderer, has_content, with_line, without_annotation, entries_of, ignores, with_events}
 use Rattle.tbr_kept_lines.specs.LastBorder.{without_last}
-use Rattle.tbr_renderer.specs.Flush.{block_lines, FlushesBlock, lines_at_end}
-use Rattle.tbr_renderer.specs.Steps.{AddsEmptyLine, with_empty_line, block_started, StartsBlock, BreaksLineAt, AddsText, AddsTextBy, text_brings, at_line_start}
+use Rattle.tbr_tagged.specs.Outcome.{done}
+use Rattle.tbr_tagged.proofs.Outcomes.{live_done}
+use Rattle.tbr_renderer.specs.Outcomes.{run, told_by}
+use Rattle.tbr_renderer.specs.Flush.{block_lines, lines_at_end}
+use Rattle.tbr_renderer.specs.Steps.{with_empty_line, block_started, text_brings, at_line_start}
+use Rattle.tbr_renderer.specs.Appended.{with_border, border_of_cells, prefixed, with_divider, with_cells}
+use Rattle.tbr_border.specs.Cell.{horizontal}
+use Rattle.tbr_renderer.proofs.OutcomeParts.{one_done, done_first}
+use Rattle.tbr_renderer.proofs.FlushedBlocks.{FlushesBlock, flushes}
+use Rattle.tbr_renderer.proofs.CallParts.{FlushesThen, flushed_then, BreaksLine, break_parts, AddsTextBy, AddsText, text_parts, Closes, close_parts, open_parts, AddsImage, image_parts}
 use Rattle.tbr_renderer.specs.Image.{shown_title}
-use Rattle.tbr_renderer.specs.Decorated.{struck_from, struck_until, asked_to_close, annotated, coloured, uncoloured, Opens, Closes, AddsImageBy}
-use Rattle.tbr_renderer.specs.Calls.{Call, add_empty_line, new_line, new_line_hard, start_block, start_table, end_block, add_inline_text, push_ws, pop_ws, push_preformat, pop_preformat, record_frag_start, begin, finish, start_strikeout, end_strikeout, add_image, push_colour, pop_colour, add_border, append_subrender, append_vert_row, Does, Steps, text_brought, image_brought, entries_brought, Brings}
+use Rattle.tbr_renderer.specs.Decorated.{struck_from, struck_until, asked_to_close, annotated, coloured, uncoloured}
+use Rattle.tbr_renderer.specs.Calls.{Call, add_empty_line, new_line, new_line_hard, start_block, start_table, end_block, add_inline_text, push_ws, pop_ws, push_preformat, pop_preformat, record_frag_start, begin, finish, start_strikeout, end_strikeout, add_image, push_colour, pop_colour, add_border, append_subrender, append_vert_row, made, after, Does, text_brought, image_brought, entries_brought, brought, Brings}
 use Rattle.text_block_renderer.specs.Drawn.{borders_added, AddsNoBorder}
 use Rattle.text_block_renderer.specs.Stretches.{AppendsNothing}
 use Rattle.text_block_renderer.proofs.Moves.{flush, line, join, SameText, Kind, any, undrawn, own, Fits, MayLay, MayRule, Course, Path, onward, one, stays, turned, turned_by, path_width, path_options, flushed_none}
@@ -63,7 +71,7 @@ module _ {D A : Type 0} (columns : ℕ → Option ℕ) (kind : Kind) where
   empty_put : (r s : Renderer D A (List A)) → r.block ≡ None → s ≡ with_empty_line columns r → Path columns kind r s []
   empty_put r s none h = onward columns kind r (with_line columns r []) s [] [] (one columns kind (line []) r (with_line columns r []) (may_lay_nothing (List A) kind, none, refl)) (turned columns kind (with_line columns r []) (with_empty_line columns r) s refl refl refl refl refl refl h)
 
-  empty_added : (r s : Renderer D A (List A)) → AddsEmptyLine columns r s → Path columns kind r s []
+  empty_added : (r s : Renderer D A (List A)) → FlushesThen columns (with_empty_line columns) r s → Path columns kind r s []
   empty_added r s h = onward columns kind r h.0 s [] [] (one columns kind flush r h.0 h.1) (empty_put h.0 s (flushed_none columns r h.0 h.1) h.2)
 
   begun : (r s : Renderer D A (List A)) → r.block ≡ None → s ≡ block_started columns r → Path columns kind r s []
@@ -77,10 +85,10 @@ module _ {D A : Type 0} (columns : ℕ → Option ℕ) (kind : Kind) where
           let is : block_started columns r ≡ record r { block_ended = false } = rw e refl in
           turned columns kind r (record r { block_ended = false }) s refl refl refl refl refl refl (h ∙ is)
 
-  started : (r s : Renderer D A (List A)) → StartsBlock columns r s → Path columns kind r s []
+  started : (r s : Renderer D A (List A)) → FlushesThen columns (block_started columns) r s → Path columns kind r s []
   started r s h = onward columns kind r h.0 s [] [] (one columns kind flush r h.0 h.1) (begun h.0 s (flushed_none columns r h.0 h.1) h.2)
 
-  broken : (r s : Renderer D A (List A)) (at : Bool) → BreaksLineAt columns at r s → Path columns kind r s []
+  broken : (r s : Renderer D A (List A)) (at : Bool) → BreaksLine columns at r s → Path columns kind r s []
   broken r s true h = empty_added r s h
   broken r s false h = one columns kind flush r s h
 
@@ -93,7 +101,7 @@ module _ {D A : Type 0} (columns : ℕ → Option ℕ) (kind : Kind) where
     entries_flushed cs r s None h = ap (λ (q : Renderer D A (List A)). entries_of columns preformatted q cs) h
     entries_flushed cs r s (Some b) h = ap (λ (q : Renderer D A (List A)). entries_of columns preformatted q cs) h.is ∙ entries_kept cs (block_lines columns r b (lines_at_end columns r b)) (record r { block = None })
 
-    entries_started : (cs : List ℕ) (r s : Renderer D A (List A)) → StartsBlock columns r s → entries_of columns preformatted s cs ≡ entries_of columns preformatted r cs
+    entries_started : (cs : List ℕ) (r s : Renderer D A (List A)) → FlushesThen columns (block_started columns) r s → entries_of columns preformatted s cs ≡ entries_of columns preformatted r cs
     entries_started cs r s h = ap (λ (q : Renderer D A (List A)). entries_of columns preformatted q cs) h.2 ∙ go (has_content h.0) refl ∙ entries_flushed cs r h.0 r.block h.1
       where
         go : (b : Bool) → has_content h.0 ≡ b → entries_of columns preformatted (block_started columns h.0) cs ≡ entries_of columns preformatted h.0 cs
@@ -106,10 +114,10 @@ module _ {D A : Type 0} (columns : ℕ → Option ℕ) (kind : Kind) where
     text_added : (ignored ended : Bool) (cs : List ℕ) (r s : Renderer D A (List A)) → AddsTextBy columns preformatted ignored ended cs r s →
         Path columns kind r s (if ignored then [] else entries_of columns preformatted r cs)
     text_added true ended cs r s h = stays columns kind r s h
-    text_added false false cs r s h = text_joined cs r s h.1
+    text_added false false cs r s h = text_joined cs r s h
     text_added false true cs r s h =
         subst (λ (es : List (Entry (List A))). Path columns kind r s es) (entries_started cs r h.0 h.1)
-        (onward columns kind r h.0 s [] (entries_of columns preformatted h.0 cs) (started r h.0 h.1) (text_joined cs h.0 s h.2.1))
+        (onward columns kind r h.0 s [] (entries_of columns preformatted h.0 cs) (started r h.0 h.1) (text_joined cs h.0 s h.2))
 
   -- ---- decorated text
 
@@ -133,7 +141,7 @@ module _ {D A : Type 0} (columns : ℕ → Option ℕ) (kind : Kind) where
     added : (cs : List ℕ) (r s : Renderer D A (List A)) → AddsText columns decoration.preformatted cs r s → Path columns kind r s (text_brought columns decoration cs r)
     added cs r s h = text_added decoration.preformatted (ignores r cs) r.block_ended cs r s h
 
-    opens : (opened : Start) (r s : Renderer D A (List A)) → Opens columns decoration opened r s → Path columns kind r s (text_brought columns decoration (decoration.start_text r.decorator opened) (annotated decoration opened r))
+    opens : (opened : Start) (r s : Renderer D A (List A)) → AddsText columns decoration.preformatted (decoration.start_text r.decorator opened) (annotated decoration opened r) s → Path columns kind r s (text_brought columns decoration (decoration.start_text r.decorator opened) (annotated decoration opened r))
     opens opened r s h =
         let q = annotated decoration opened r in
         let cs = decoration.start_text r.decorator opened in
@@ -150,40 +158,44 @@ module _ {D A : Type 0} (columns : ℕ → Option ℕ) (kind : Kind) where
         let es = text_brought columns decoration cs q in
         onward columns kind r q s [] es (turned columns kind r q q refl refl refl refl refl refl refl) (turned_then q h.0 s es (added cs q h.0 h.1) (turned columns kind h.0 (without_annotation h.0) s refl refl refl refl refl refl h.2))
 
-    image_added : (source : List ℕ) (title : Option (List ℕ)) (r s : Renderer D A (List A)) → AddsImageBy columns decoration source title r s → Path columns kind r s (image_brought columns decoration source title r)
+    image_added : (source : List ℕ) (title : Option (List ℕ)) (r s : Renderer D A (List A)) → AddsImage columns decoration source title r s → Path columns kind r s (image_brought columns decoration source title r)
     image_added source None r s h = stays columns kind r s h
     image_added source (Some title) r s h =
         let image = start.image source title in
         turned_then r h.0 s (text_brought columns decoration (decoration.start_text r.decorator image) (annotated decoration image r)) (opens image r h.0 h.1) (turned columns kind h.0 (without_annotation h.0) s refl refl refl refl refl refl h.2)
 
-    call_moves : (c : Call (List A)) (r s : Renderer D A (List A)) → Fits kind r (c ∷ []) → Does columns decoration c r s → Course columns kind r s (entries_brought columns decoration c r) (borders_added r.width r.options c)
-    call_moves add_empty_line r s fits h = empty_added r s h
-    call_moves new_line r s fits h = one columns kind flush r s h
-    call_moves new_line_hard r s fits h = broken r s (at_line_start columns r r.block) h
-    call_moves start_block r s fits h = started r s h
-    call_moves start_table r s fits h = started r s h
-    call_moves end_block r s fits h = turned columns kind r (record r { block_ended = true }) s refl refl refl refl refl refl h
-    call_moves (add_inline_text cs) r s fits h = text_added decoration.preformatted (ignores r cs) r.block_ended cs r s h
-    call_moves (push_ws mode) r s fits h = turned columns kind r (record r { modes = r.modes ++ mode ∷ [] }) s refl refl refl refl refl refl h
-    call_moves pop_ws r s fits h = turned columns kind r (record r { modes = without_last r.modes }) s refl refl refl refl refl refl h
-    call_moves push_preformat r s fits h = turned columns kind r (record r { preformatted = suc r.preformatted }) s refl refl refl refl refl refl h
-    call_moves pop_preformat r s fits h = turned columns kind r (record r { preformatted = r.preformatted - 1 }) s refl refl refl refl refl refl h
-    call_moves (record_frag_start name) r s fits h = one columns kind (join (entry (marker_entry name) ∷ [])) r s h
-    call_moves (begin opened) r s fits h = opens opened r s h
-    call_moves (finish closed) r s fits h = closes closed r s h
-    call_moves start_strikeout r s fits h =
+    made_moves : (c : Call (List A)) (r s : Renderer D A (List A)) → Fits kind r (c ∷ []) → made columns decoration c r ≡ done s → Course columns kind r s (entries_brought columns decoration c r) (borders_added r.width r.options c)
+    made_moves add_empty_line r s fits h = empty_added r s (flushed_then columns (with_empty_line columns) r s h)
+    made_moves new_line r s fits h = one columns kind flush r s (flushes columns r s h)
+    made_moves new_line_hard r s fits h = broken r s (at_line_start columns r r.block) (break_parts columns (at_line_start columns r r.block) r s h)
+    made_moves start_block r s fits h = started r s (flushed_then columns (block_started columns) r s h)
+    made_moves start_table r s fits h = started r s (flushed_then columns (block_started columns) r s h)
+    made_moves end_block r s fits h = turned columns kind r (record r { block_ended = true }) s refl refl refl refl refl refl (one_done _ s h)
+    made_moves (add_inline_text cs) r s fits h = added cs r s (text_parts columns decoration.preformatted cs r s h)
+    made_moves (push_ws mode) r s fits h = turned columns kind r (record r { modes = r.modes ++ mode ∷ [] }) s refl refl refl refl refl refl (one_done _ s h)
+    made_moves pop_ws r s fits h = turned columns kind r (record r { modes = without_last r.modes }) s refl refl refl refl refl refl (one_done _ s h)
+    made_moves push_preformat r s fits h = turned columns kind r (record r { preformatted = suc r.preformatted }) s refl refl refl refl refl refl (one_done _ s h)
+    made_moves pop_preformat r s fits h = turned columns kind r (record r { preformatted = r.preformatted - 1 }) s refl refl refl refl refl refl (one_done _ s h)
+    made_moves (record_frag_start name) r s fits h = one columns kind (join (entry (marker_entry name) ∷ [])) r s (one_done _ s h)
+    made_moves (begin opened) r s fits h = opens opened r s (text_parts columns decoration.preformatted (decoration.start_text r.decorator opened) (annotated decoration opened r) s h)
+    made_moves (finish closed) r s fits h = closes closed r s (close_parts columns decoration closed r s h)
+    made_moves start_strikeout r s fits e =
+        let h = open_parts columns decoration start.strikeout (λ (q : Renderer D A (List A)). struck_from q) r s e in
         let es = text_brought columns decoration (decoration.start_text r.decorator start.strikeout) (annotated decoration start.strikeout r) in
         turned_then r h.0 s es (opens start.strikeout r h.0 h.1) (turned_by columns kind h.0 (struck_from h.0) s (struck_from_same h.0 h.0.options.use_unicode_strikeout refl) h.2)
-    call_moves end_strikeout r s fits h =
+    made_moves end_strikeout r s fits h =
         let q = struck_until r in
         let es = text_brought columns decoration (decoration.end_text q.decorator end.strikeout) (asked_to_close decoration end.strikeout q) in
-        onward columns kind r q s [] es (turned_by columns kind r q q (struck_until_same r r.options.use_unicode_strikeout refl) refl) (closes end.strikeout q s h)
-    call_moves (add_image source title) r s fits h = image_added source (shown_title r.options.img_mode source title) r s h
-    call_moves (push_colour g colour) r s fits h = turned_by columns kind r (coloured decoration g colour r) s (coloured_same g colour r (decoration.colour_annotation r.decorator g colour) refl) h
-    call_moves (pop_colour g) r s fits h = turned_by columns kind r (uncoloured decoration g r) s (uncoloured_same g r (decoration.ends_colour r.decorator g) refl) h
-    call_moves (add_border width) r s fits h = border_added columns kind width r s (may_rule kind (add_border width) r (λ no. no) (λ no. no) fits) h
-    call_moves (append_subrender prefixes lines) r s fits h = lines_appended columns kind prefixes lines r s (may_lay kind (append_subrender prefixes lines) r (λ no. no) fits) h
-    call_moves (append_vert_row cells) r s fits h = cells_appended columns kind r (may_lay kind (append_vert_row cells) r (λ no. no) fits) (may_rule kind (append_vert_row cells) r (λ no. no) (λ no. no) fits) cells s h
+        onward columns kind r q s [] es (turned_by columns kind r q q (struck_until_same r r.options.use_unicode_strikeout refl) refl) (closes end.strikeout q s (close_parts columns decoration end.strikeout q s h))
+    made_moves (add_image source title) r s fits h = image_added source (shown_title r.options.img_mode source title) r s (image_parts columns decoration source (shown_title r.options.img_mode source title) r s h)
+    made_moves (push_colour g colour) r s fits h = turned_by columns kind r (coloured decoration g colour r) s (coloured_same g colour r (decoration.colour_annotation r.decorator g colour) refl) (one_done _ s h)
+    made_moves (pop_colour g) r s fits h = turned_by columns kind r (uncoloured decoration g r) s (uncoloured_same g r (decoration.ends_colour r.decorator g) refl) (one_done _ s h)
+    made_moves (add_border width) r s fits h = border_added columns kind width r s (may_rule kind (add_border width) r (λ no. no) (λ no. no) fits) (flushed_then columns (λ m. with_border columns m (border_of_cells horizontal width r)) r s h)
+    made_moves (append_subrender prefixes lines) r s fits h = lines_appended columns kind prefixes lines r s (may_lay kind (append_subrender prefixes lines) r (λ no. no) fits) (flushed_then columns (λ m. fold (with_line columns) m (prefixed r.annotations prefixes lines)) r s h)
+    made_moves (append_vert_row cells) r s fits h = cells_appended columns kind r (may_lay kind (append_vert_row cells) r (λ no. no) fits) (may_rule kind (append_vert_row cells) r (λ no. no) (λ no. no) fits) cells s (flushed_then columns (λ m. with_divider columns horizontal (with_cells columns m cells)) r s h)
+
+    call_moves : (c : Call (List A)) (r s : Renderer D A (List A)) → Fits kind r (c ∷ []) → Does columns decoration c r s → Course columns kind r s (entries_brought columns decoration c r) (borders_added r.width r.options c)
+    call_moves c r s fits h = made_moves c r s fits (live_done r.failure (made columns decoration c r) s h).1
 
     -- the borders of calls
     abbrev borders_of : Renderer D A (List A) → List (Call (List A)) → List (List Cell)
@@ -193,21 +205,15 @@ module _ {D A : Type 0} (columns : ℕ → Option ℕ) (kind : Kind) where
     same_borders r m calls width options = ap (λ w. flat_map (borders_added w m.options) calls) width ∙ ap (λ (o : RenderOptions). flat_map (borders_added r.width o) calls) options
 
     pub calls_move : (calls : List (Call (List A))) (r s : Renderer D A (List A)) (es : List (Entry (List A))) → Fits kind r calls → Brings columns decoration calls r es s → Course columns kind r s es (borders_of r calls)
-    calls_move [] r s es fits h = subst (λ (fs : List (Entry (List A))). Path columns kind r s fs) (sym h.1) (stays columns kind r s h.0)
+    calls_move [] r s es fits h = subst (λ (fs : List (Entry (List A))). Path columns kind r s fs) (sym h.1) (stays columns kind r s (one_done r s h.0))
     calls_move (c ∷ cs) r s es fits h =
-        let (m, rest, does, brings, is) = h in
+        let (m, does, steps) = done_first (after columns decoration c r) (run (after columns decoration) cs) s h.0 in
+        let rest = brought columns decoration cs m in
+        let is : es ≡ entries_brought columns decoration c r ++ rest = h.1 ∙ ap (λ o. entries_brought columns decoration c r ++ told_by (brought columns decoration cs) o) does in
         let first = entries_brought columns decoration c r in
         let added = borders_added r.width r.options c in
         let path = call_moves c r m (fits_first kind c cs r fits) does in
         let options = path_options columns kind r m first added path in
-        let others = calls_move cs m s rest (fits_others kind c cs r m options fits) brings in
+        let others = calls_move cs m s rest (fits_others kind c cs r m options fits) (steps, refl) in
         subst (λ (fs : List (Entry (List A))). Course columns kind r s fs (borders_of r (c ∷ cs))) (sym is)
         (subst (λ bs. Course columns kind r s (first ++ rest) (added ++ bs)) (same_borders r m cs (path_width columns kind r m first added path) options) (onward columns kind r m s first rest path others))
-
-module _ {D A : Type 0} (columns : ℕ → Option ℕ) (decoration : Decoration D A) where
-  pub steps_bring : (calls : List (Call (List A))) (r s : Renderer D A (List A)) → Steps columns decoration calls r s → (es : List (Entry (List A))) × Brings columns decoration calls r es s
-  steps_bring [] r s h = ([], (h, refl))
-  steps_bring (c ∷ cs) r s h =
-      let (m, does, steps) = h in
-      let (rest, brings) = steps_bring cs m s steps in
-      (entries_brought columns decoration c r ++ rest, (m, rest, does, brings, refl))

@@ -9,14 +9,15 @@ use Rattle.tbr_border.specs.Cell.{Cell}
 use Rattle.tbr_decor.specs.Decoration.{Decoration}
 use Rattle.tbr_renderer.specs.declared.options.RenderOptions.{RenderOptions}
 use Rattle.tbr_kept_lines.specs.Line.{Line, text, border}
-use Rattle.tbr_renderer.specs.Renderer.{Open, Renderer, line_padding, with_line}
+use Rattle.tbr_renderer.specs.Renderer.{Open, Renderer, line_padding, with_line, IsSound}
 use Rattle.tbr_model.specs.Markers.{marker_items}
-use Rattle.tbr_renderer.specs.Flush.{block_lines, flushed, FlushesBlock, lines_at_end, names_at_end}
+use Rattle.tbr_renderer.specs.Flush.{block_lines, flushed, lines_at_end, names_at_end}
+use Rattle.tbr_renderer.proofs.FlushedBlocks.{FlushesBlock}
 use Rattle.tbr_renderer.specs.Appended.{border_line, with_border}
-use Rattle.tbr_renderer.specs.Calls.{Call, Steps, Brings}
+use Rattle.tbr_renderer.specs.Calls.{Call, Steps, Brings, brought as all_brought}
 use Rattle.text_block_renderer.specs.Drawn.{as_it_is, drawn, line_put, not_drawn, cells_drawn, AreDrawnAmong, WithoutDrawnBorders, CameWithoutDrawnBorders, borders_drawn, DrawNone}
-use Rattle.text_block_renderer.proofs.Moves.{Move, flush, line, rule, join, turn, brought_by, brought, brought-append, ruled_by, ruled, Makes, MakesAll, makes-append, move_options, along, through, any, undrawn}
-use Rattle.text_block_renderer.proofs.CallMoves.{calls_move, steps_bring}
+use Rattle.text_block_renderer.proofs.Moves.{Move, flush, line, rule, join, turn, brought_by, brought, brought-append, ruled_by, ruled, Makes, MakesAll, makes-append, move_options, sound_moved, along, through, any, undrawn}
+use Rattle.text_block_renderer.proofs.CallMoves.{calls_move}
 
 module _ {T : Type 0} where
   put_as_they_are : (ls : List (Line T)) → ls ≡ map line_put (map as_it_is ls)
@@ -142,7 +143,7 @@ module _ {D A : Type 0} (columns : ℕ → Option ℕ) where
       let alike = come_alike (block_lines columns r b (lines_at_end columns r b)) (record r { block = None }) ls in
       let same : on s (ls ++ alike.more) ≡ flushed columns (on r ls) (block_lines columns r b (lines_at_end columns r b)) (names_at_end columns r b) =
       ap (λ (q : Renderer D A (List A)). on q (ls ++ alike.more)) h.is ∙ sym (ap (λ (q : Renderer D A (List A)). record q { waiting = q.waiting ++ (names_at_end columns r b) }) alike.others) in
-      let flushes : FlushesBlock columns (on r ls) (Some b) (on s (ls ++ alike.more)) = record { fits = h.fits; ends = h.ends; is = same } in
+      let flushes : FlushesBlock columns (on r ls) (Some b) (on s (ls ++ alike.more)) = record { fits = h.fits; ends = λ sound. h.ends (record { space = sound.space; wide = sound.wide }); is = same } in
       as_they_are flush r s ls alike.more (ap (λ (q : Renderer D A (List A)). q.lines) h.is ∙ alike.lines)
       (subst (λ (p : Option (Open (List A))). FlushesBlock columns (on r ls) p (on s (ls ++ alike.more))) e flushes)
 
@@ -187,45 +188,47 @@ module _ {D A : Type 0} (columns : ℕ → Option ℕ) where
   -- ---- calls
 
   module _ (P : Renderer D A (List A) → List (Entry (List A)) → Type 0)
-      (each : (m : Move (List A)) (r s : Renderer D A (List A)) (es : List (Entry (List A))) → Makes columns undrawn m r s → P r es → P s (es ++ brought_by m)) where
+      (each : (m : Move (List A)) (r s : Renderer D A (List A)) (es : List (Entry (List A))) → Makes columns undrawn m r s → IsSound columns r → P r es → P s (es ++ brought_by m)) where
+    -- it holds where the renderer is sound, and so it goes on
+    each_sound : (m : Move (List A)) (r s : Renderer D A (List A)) (es : List (Entry (List A))) → Makes columns undrawn m r s → IsSound columns r × P r es → IsSound columns s × P s (es ++ brought_by m)
+    each_sound m r s es h k = (sound_moved columns undrawn m r s h k.0, each m r s es h k.0 k.1)
+
     pub moves_on : (ms : List (Move (List A))) (r s : Renderer D A (List A)) (borders : List (List Cell)) (before : List (Entry (List A))) →
-        MakesAll columns any ms r s → WithoutDrawnBorders borders (λ q. P q before) r → WithoutDrawnBorders (borders ++ if_drawn r.options.pad_block_width (ruled ms)) (λ q. P q (before ++ brought ms)) s
-    moves_on ms r s borders before makes k =
+        IsSound columns r → MakesAll columns any ms r s → WithoutDrawnBorders borders (λ q. P q before) r → WithoutDrawnBorders (borders ++ if_drawn r.options.pad_block_width (ruled ms)) (λ q. P q (before ++ brought ms)) s
+    moves_on ms r s borders before sound makes k =
         let (ls, among, holds) = k in
         let bs = if_drawn r.options.pad_block_width (ruled ms) in
         let less = moves_less ms r s ls r.options.pad_block_width refl makes in
         let q : Renderer D A (List A) = on s (ls ++ less.rest) in
-        let all : P q (before ++ brought less.moves) = along columns undrawn P each less.moves (on r ls) q before less.makes holds in
+        let all : P q (before ++ brought less.moves) = (along columns undrawn (λ t es. IsSound columns t × P t es) each_sound less.moves (on r ls) q before less.makes (record { space = sound.space; wide = sound.wide }, holds)).1 in
         let drawn_all = among_both borders bs r.lines less.more ls less.rest among less.among in
         (ls ++ less.rest, subst (λ ms. AreDrawnAmong (borders ++ bs) ms (ls ++ less.rest)) (sym less.came) drawn_all, subst (λ fs. P q (before ++ fs)) less.brings all)
 
     pub brings_on : (decoration : Decoration D A) (calls : List (Call (List A))) (r s : Renderer D A (List A)) (borders : List (List Cell)) (before es : List (Entry (List A))) →
-        Brings columns decoration calls r es s → WithoutDrawnBorders borders (λ q. P q before) r → WithoutDrawnBorders (borders ++ borders_drawn r calls) (λ q. P q (before ++ es)) s
-    brings_on decoration calls r s borders before es h k =
+        IsSound columns r → Brings columns decoration calls r es s → WithoutDrawnBorders borders (λ q. P q before) r → WithoutDrawnBorders (borders ++ borders_drawn r calls) (λ q. P q (before ++ es)) s
+    brings_on decoration calls r s borders before es sound h k =
         let path = calls_move columns any decoration calls r s es tt h in
         subst (λ bs. WithoutDrawnBorders (borders ++ if_drawn r.options.pad_block_width bs) (λ q. P q (before ++ es)) s) path.rules
-        (subst (λ fs. WithoutDrawnBorders (borders ++ if_drawn r.options.pad_block_width (ruled path.moves)) (λ q. P q (before ++ fs)) s) path.brings (moves_on path.moves r s borders before path.makes k))
+        (subst (λ fs. WithoutDrawnBorders (borders ++ if_drawn r.options.pad_block_width (ruled path.moves)) (λ q. P q (before ++ fs)) s) path.brings (moves_on path.moves r s borders before sound path.makes k))
 
     -- where no border becomes text
     pub brings_on_all : (decoration : Decoration D A) (calls : List (Call (List A))) (r s : Renderer D A (List A)) (before es : List (Entry (List A))) →
-        DrawNone r calls → Brings columns decoration calls r es s → P r before → P s (before ++ es)
-    brings_on_all decoration calls r s before es none h k =
+        IsSound columns r → DrawNone r calls → Brings columns decoration calls r es s → P r before → P s (before ++ es)
+    brings_on_all decoration calls r s before es sound none h k =
         let path = calls_move columns undrawn decoration calls r s es none h in
-        subst (λ fs. P s (before ++ fs)) path.brings (along columns undrawn P each path.moves r s before path.makes k)
+        subst (λ fs. P s (before ++ fs)) path.brings (along columns undrawn (λ t es. IsSound columns t × P t es) each_sound path.moves r s before path.makes (sound, k)).1
 
   module _ (R : Renderer D A (List A) → Renderer D A (List A) → Type 0)
       (same : (r s : Renderer D A (List A)) → s ≡ r → R r s) (on_from : (r q s : Renderer D A (List A)) → R r q → R q s → R r s)
       (each : (m : Move (List A)) (r s : Renderer D A (List A)) → Makes columns undrawn m r s → R r s) where
     pub steps_on : (decoration : Decoration D A) (calls : List (Call (List A))) (r s : Renderer D A (List A)) → Steps columns decoration calls r s → CameWithoutDrawnBorders (borders_drawn r calls) R r s
     steps_on decoration calls r s h =
-        let (es, brings) = steps_bring columns decoration calls r s h in
-        let path = calls_move columns any decoration calls r s es tt brings in
+        let path = calls_move columns any decoration calls r s (all_brought columns decoration calls r) tt (h, refl) in
         let less = moves_less path.moves r s r.lines r.options.pad_block_width refl path.makes in
         let among = subst (λ bs. AreDrawnAmong (if_drawn r.options.pad_block_width bs) less.more less.rest) path.rules less.among in
         (less.more, less.rest, less.came, among, through columns undrawn R same on_from each less.moves r (on s (r.lines ++ less.rest)) less.makes)
 
     pub steps_on_all : (decoration : Decoration D A) (calls : List (Call (List A))) (r s : Renderer D A (List A)) → DrawNone r calls → Steps columns decoration calls r s → R r s
     steps_on_all decoration calls r s none h =
-        let (es, brings) = steps_bring columns decoration calls r s h in
-        let path = calls_move columns undrawn decoration calls r s es none brings in
+        let path = calls_move columns undrawn decoration calls r s (all_brought columns decoration calls r) none (h, refl) in
         through columns undrawn R same on_from each path.moves r s path.makes

@@ -10,7 +10,7 @@ use Rattle.tbr_rows.specs.Cells.{AreApart}
 use Rattle.tbr_rows.specs.CellsShown.{IsFilled, HasFilledCells}
 use Rattle.tbr_decor.specs.Decoration.{Decoration}
 use Rattle.tbr_renderer.specs.declared.options.RenderOptions.{RenderOptions}
-use Rattle.tbr_renderer.specs.Renderer.{Renderer, least, block_width}
+use Rattle.tbr_renderer.specs.Renderer.{Renderer, least, block_width, IsSound}
 use Rattle.text_block_renderer.specs.Stretches.{ended, laid, ruled}
 use Rattle.text_block_renderer.specs.Acts.{Act, ActsBring, Piece, part, put, cells_in, rows_in, IsPiece}
 use Rattle.text_block_renderer.specs.Headline.{NoLayoutIsAhead, StandsOnce, CellsFit, made, Headline}
@@ -38,9 +38,9 @@ module _ {D A : Type 0} (columns : ℕ → Option ℕ) where
     once r (part (ruled q cells)) h = tt
     once r (put p) h = tt
 
-    pub headline : (acts : List (Act (List A))) (r s : Renderer D A (List A)) (es : List (Entry (List A))) → ActsBring columns decoration acts r es s → Headline columns decoration acts r es s
-    headline acts r s es h =
-        let along = acts_along columns decoration acts r s es h in
+    pub headline : (acts : List (Act (List A))) (r s : Renderer D A (List A)) (es : List (Entry (List A))) → IsSound columns r → ActsBring columns decoration acts r es s → Headline columns decoration acts r es s
+    headline acts r s es sound h =
+        let along = acts_along columns decoration acts r s es sound h in
         let same : block_width s ≡ block_width r = ap (λ w. least w s.options.wrap_width) along.width ∙ ap (λ (o : RenderOptions). least r.width o.wrap_width) along.options in
         record {
           came = along.came;
@@ -52,5 +52,5 @@ module _ {D A : Type 0} (columns : ℕ → Option ℕ) where
               (subst (Each (λ p. CellsFit columns (cells_in p))) are (each_unmap (CellsFit columns) cells_in (rows_in along.came.pieces) (subst (Each (CellsFit columns)) (sym along.came.put_rows) fit))))
               (subst (λ cells. AreApart 0 cells × Each (IsFilled columns) cells) (sym none) (tt, tt))
               (subst (λ ps. Chain columns r.options.draw_borders r.hanging ps s.hanging) are along.chain);
-          two_columns_are_enough = λ two wide act narrow. act_fits columns two decoration act s (subst (λ n. 2 ≤ n) (sym same) wide) narrow;
+          two_columns_are_enough = λ two wide act narrow. act_fits columns sound.space two decoration act s (subst (λ n. 2 ≤ n) (sym same) wide) narrow;
         }

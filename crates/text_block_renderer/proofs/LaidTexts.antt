@@ -9,7 +9,11 @@ use Rattle.tbr_tagged.specs.Elements.{text_items}
 use Rattle.tbr_decor.specs.Decoration.{Decoration}
 use Rattle.tbr_kept_lines.specs.Line.{Line, text}
 use Rattle.tbr_renderer.specs.Renderer.{Renderer, with_line}
-use Rattle.tbr_renderer.specs.Flush.{Flushes}
+use Rattle.tbr_tagged.specs.Outcome.{done}
+use Rattle.tbr_tagged.proofs.Outcomes.{live_done}
+use Rattle.tbr_renderer.specs.Outcomes.{changed}
+use Rattle.tbr_renderer.specs.Flush.{after_flush}
+use Rattle.tbr_renderer.proofs.OutcomeParts.{done_before}
 use Rattle.tbr_renderer.specs.Appended.{as_text, prefixed}
 use Rattle.tbr_renderer.specs.Calls.{append_subrender, Does, text_of_lines}
 use Rattle.text_block_renderer.specs.Stretches.{padded_line, lines_laid}
@@ -71,10 +75,18 @@ module _ {D A : Type 0} (columns : ℕ → Option ℕ) where
   pub plain_lines : (ts : List (List (Item (List A)))) (r : Renderer D A (List A)) → r.options.pad_block_width ≡ false → r.waiting ≡ [] → (fold (with_line columns) r ts).lines ≡ r.lines ++ map text ts
   plain_lines ts r e none = unmarked_lines ts r none ∙ ap (λ ls. r.lines ++ ls) (unpadded_lines r ts e)
 
+  -- where they come after a flush
+  lines_after : (decoration : Decoration D A) (prefixes : List (List ℕ)) (lines : List (Line (List A))) (r s : Renderer D A (List A)) → Does columns decoration (append_subrender prefixes lines) r s →
+      (m : Renderer D A (List A)) × (after_flush columns r ≡ done m) × (s ≡ fold (with_line columns) m (prefixed r.annotations prefixes lines))
+  lines_after decoration prefixes lines r s h =
+      let change : Renderer D A (List A) → Renderer D A (List A) = λ m. fold (with_line columns) m (prefixed r.annotations prefixes lines) in
+      done_before change (after_flush columns r) s (live_done r.failure (changed change (after_flush columns r)) s h).1
+
   pub appended_behind : (decoration : Decoration D A) (prefixes : List (List ℕ)) (lines : List (Line (List A))) (r s : Renderer D A (List A)) → Does columns decoration (append_subrender prefixes lines) r s →
-      (m : Renderer D A (List A)) × Flushes columns r m × (s.lines ≡ m.lines ++ lines_laid columns m (prefixed r.annotations prefixes lines))
+      (m : Renderer D A (List A)) × (after_flush columns r ≡ done m) × (s.lines ≡ m.lines ++ lines_laid columns m (prefixed r.annotations prefixes lines))
   appended_behind decoration prefixes lines r s h =
-      (h.0, h.1, ap (λ (q : Renderer D A (List A)). q.lines) h.2 ∙ laid_lines (prefixed r.annotations prefixes lines) h.0)
+      let (m, flushed, is) = lines_after decoration prefixes lines r s h in
+      (m, flushed, ap (λ (q : Renderer D A (List A)). q.lines) is ∙ laid_lines (prefixed r.annotations prefixes lines) m)
 
   -- ---- visible characters
 
@@ -85,18 +97,21 @@ module _ {D A : Type 0} (columns : ℕ → Option ℕ) where
       shown_texts ts (with_line columns r t) ∙ ap (λ gs. gs ++ visible_glyphs columns (joined ts)) (shown_line columns r t)
       ∙ append_assoc old (visible_glyphs columns t) (visible_glyphs columns (joined ts)) ∙ ap (λ gs. old ++ gs) (sym (glyphs-append columns t (joined ts)))
 
-  pub characters_appended : (decoration : Decoration D A) (prefixes : List (List ℕ)) (lines : List (Line (List A))) (r s : Renderer D A (List A)) → (h : Does columns decoration (append_subrender prefixes lines) r s) →
-      visible_glyphs columns (text_of_lines s.lines) ≡ visible_glyphs columns (text_of_lines h.0.lines) ++ visible_glyphs columns (joined (prefixed r.annotations prefixes lines))
+  pub characters_appended : (decoration : Decoration D A) (prefixes : List (List ℕ)) (lines : List (Line (List A))) (r s : Renderer D A (List A)) → Does columns decoration (append_subrender prefixes lines) r s →
+      (m : Renderer D A (List A)) × (after_flush columns r ≡ done m) × (visible_glyphs columns (text_of_lines s.lines) ≡ visible_glyphs columns (text_of_lines m.lines) ++ visible_glyphs columns (joined (prefixed r.annotations prefixes lines)))
   characters_appended decoration prefixes lines r s h =
-      ap (λ (q : Renderer D A (List A)). visible_glyphs columns (text_of_lines q.lines)) h.2 ∙ shown_texts (prefixed r.annotations prefixes lines) h.0
+      let (m, flushed, is) = lines_after decoration prefixes lines r s h in
+      (m, flushed, ap (λ (q : Renderer D A (List A)). visible_glyphs columns (text_of_lines q.lines)) is ∙ shown_texts (prefixed r.annotations prefixes lines) m)
 
   pub characters_behind : (decoration : Decoration D A) (prefixes : List (List ℕ)) (lines : List (Line (List A))) (r s : Renderer D A (List A)) → Does columns decoration (append_subrender prefixes lines) r s →
-      (m : Renderer D A (List A)) × Flushes columns r m × (visible_glyphs columns (text_of_lines s.lines) ≡ visible_glyphs columns (text_of_lines m.lines) ++ flat_map (visible_behind columns r.annotations) (zip prefixes lines))
+      (m : Renderer D A (List A)) × (after_flush columns r ≡ done m) × (visible_glyphs columns (text_of_lines s.lines) ≡ visible_glyphs columns (text_of_lines m.lines) ++ flat_map (visible_behind columns r.annotations) (zip prefixes lines))
   characters_behind decoration prefixes lines r s h =
-      (h.0, h.1, characters_appended decoration prefixes lines r s h ∙ ap (λ gs. visible_glyphs columns (text_of_lines h.0.lines) ++ gs) (shown_behind columns r.annotations prefixes lines))
+      let (m, flushed, shown) = characters_appended decoration prefixes lines r s h in
+      (m, flushed, shown ∙ ap (λ gs. visible_glyphs columns (text_of_lines m.lines) ++ gs) (shown_behind columns r.annotations prefixes lines))
 
   pub characters_indented : (decoration : Decoration D A) (prefixes : List (List ℕ)) (lines : List (Line (List A))) (r s : Renderer D A (List A)) → Does columns decoration (append_subrender prefixes lines) r s →
-      length lines ≤ length prefixes → Each IsSpaces prefixes → (m : Renderer D A (List A)) × Flushes columns r m
+      length lines ≤ length prefixes → Each IsSpaces prefixes → (m : Renderer D A (List A)) × (after_flush columns r ≡ done m)
       × (visible_glyphs columns (text_of_lines s.lines) ≡ visible_glyphs columns (text_of_lines m.lines) ++ visible_glyphs columns (joined (map (as_text r.annotations) lines)))
   characters_indented decoration prefixes lines r s h fewer spaces =
-      (h.0, h.1, characters_appended decoration prefixes lines r s h ∙ ap (λ gs. visible_glyphs columns (text_of_lines h.0.lines) ++ gs) (shown_indented columns r.annotations prefixes lines fewer spaces))
+      let (m, flushed, shown) = characters_appended decoration prefixes lines r s h in
+      (m, flushed, shown ∙ ap (λ gs. visible_glyphs columns (text_of_lines m.lines) ++ gs) (shown_indented columns r.annotations prefixes lines fewer spaces))

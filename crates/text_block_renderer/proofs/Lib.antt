@@ -1,10 +1,10 @@
+pub use Rattle.tbr_renderer.proofs.OutcomeParts
 pub mod Moves
 pub mod AppendedMoves
 pub mod CallMoves
 pub mod DrawnBorders
 pub mod AddedLines
 pub mod Settings
-pub mod OneState
 pub mod VisibleCharacters
 pub mod LineContents
 pub mod BroughtEntries
@@ -24,3 +24,4 @@ pub mod OverhangingCells
 pub mod ActParts
 pub mod Headline
 pub mod VisibleInActs
+pub mod SoundRenderers

@@ -7,8 +7,9 @@ use Rattle.tbr_model.proofs.lists.Each.{each_append}
 use Rattle.tbr_border.specs.Border.{without_holes}
 use Rattle.tbr_border.specs.Cell.{Cell}
 use Rattle.tbr_decor.specs.Decoration.{Decoration}
-use Rattle.tbr_renderer.specs.Renderer.{Open, Renderer, with_line, with_events, open_run}
-use Rattle.tbr_renderer.specs.Flush.{block_lines, EndsBlock, FlushesBlock, lines_at_end, names_at_end}
+use Rattle.tbr_renderer.specs.Renderer.{Open, Renderer, with_line, with_events, open_run, IsSound}
+use Rattle.tbr_renderer.specs.Flush.{block_lines, lines_at_end, names_at_end}
+use Rattle.tbr_renderer.proofs.FlushedBlocks.{EndsBlock, FlushesBlock}
 use Rattle.tbr_renderer.specs.Appended.{with_border}
 use Rattle.tbr_renderer.specs.Calls.{Call, laid_entries, Brings}
 use Rattle.text_block_renderer.specs.Drawn.{borders_added}
@@ -16,7 +17,7 @@ use Rattle.text_block_renderer.specs.Stretches.{Part, ended, laid, ruled, entrie
 use Rattle.std.specs.Prelude.{⊤}
 use Rattle.std.specs.List.{AllByRecursion as Each}
 use Rattle.text_block_renderer.proofs.Moves as moves
-use Rattle.text_block_renderer.proofs.Moves.{Move, flush, line, rule, join, turn, brought_by, brought, ruled_by, Kind, any, undrawn, own, Fits, MayLay, MayRule, Makes, MakesAll, Frame, no_block, flush_frame}
+use Rattle.text_block_renderer.proofs.Moves.{Move, flush, line, rule, join, turn, brought_by, brought, ruled_by, Kind, any, undrawn, own, Fits, MayLay, MayRule, Makes, MakesAll, Frame, no_block, flush_frame, sound_alike}
 use Rattle.text_block_renderer.proofs.CallMoves.{calls_move}
 use Rattle.tbr_renderer.proofs.JoinedTexts.{run_joined}
 use Rattle.text_block_renderer.proofs.RunStretches.{flush_adds}
@@ -89,24 +90,24 @@ module _ {D A : Type 0} (columns : ℕ → Option ℕ) (kind : Kind) where
     borders = h.borders ∙ sym (append-nil bs);
   }
 
-  ended_part : (r q s : Renderer D A (List A)) (b : Open (List A)) (es : List (Entry (List A))) (bs : List (List Cell)) → q.block ≡ Some b → EndsBlock columns q b s → CameInParts r q es bs → CameInParts r s (es ++ []) (bs ++ [])
-  ended_part r q s b es bs open_block_is h k =
+  ended_part : (r q s : Renderer D A (List A)) (b : Open (List A)) (es : List (Entry (List A))) (bs : List (List Cell)) → q.block ≡ Some b → EndsBlock columns q b s → IsSound columns r → CameInParts r q es bs → CameInParts r s (es ++ []) (bs ++ [])
+  ended_part r q s b es bs open_block_is h sound k =
       let texts : List (List (Item (List A))) = block_lines columns q b (lines_at_end columns q b) in
       let closed : Renderer D A (List A) = record q { block = None } in
       let same = flush_frame columns q s (Some b) h in
       one_part r q s es [] bs (ended q b (lines_at_end columns q b))
       (ap (λ (f : Frame A). f.width) same)
       (ap (λ (f : Frame A). f.options) same)
-      (record { width = k.width; options = k.options; block = open_block_is; names = names_at_end columns q b; ends = h.ends })
+      (record { width = k.width; options = k.options; block = open_block_is; names = names_at_end columns q b; ends = h.ends (sound_alike columns r q k.width k.options sound) })
       (ended_kind kind q b (lines_at_end columns q b))
       (flush_adds columns q s b h)
       (append-nil (open_run q.block) ∙ ap open_run open_block_is ∙ sym (append-nil (run_of b.events)) ∙ ap (λ o. (run_of b.events) ++ open_run o) (sym (ap (λ (p : Renderer D A (List A)). p.block) h.is ∙ no_block columns texts closed refl)))
       k
 
-  flush_parts : (r q s : Renderer D A (List A)) (o : Option (Open (List A))) (es : List (Entry (List A))) (bs : List (List Cell)) → q.block ≡ o → FlushesBlock columns q o s → CameInParts r q es bs → CameInParts r s (es ++ []) (bs ++ [])
-  flush_parts r q s None es bs e h k =
+  flush_parts : (r q s : Renderer D A (List A)) (o : Option (Open (List A))) (es : List (Entry (List A))) (bs : List (List Cell)) → q.block ≡ o → FlushesBlock columns q o s → IsSound columns r → CameInParts r q es bs → CameInParts r s (es ++ []) (bs ++ [])
+  flush_parts r q s None es bs e h sound k =
       subst (λ (p : Renderer D A (List A)). CameInParts r p (es ++ []) (bs ++ [])) (sym h) (subst (λ cs. CameInParts r q (es ++ []) cs) (sym (append-nil bs)) (subst (λ fs. CameInParts r q fs bs) (sym (append-nil es)) k))
-  flush_parts r q s (Some b) es bs e h k = ended_part r q s b es bs e h k
+  flush_parts r q s (Some b) es bs e h sound k = ended_part r q s b es bs e h sound k
 
   -- where no block is open, the open run is none
   none_open : (q : Renderer D A (List A)) (es : List (Entry (List A))) → q.block ≡ None → open_run q.block ++ es ≡ es ++ open_run q.block
@@ -127,23 +128,23 @@ module _ {D A : Type 0} (columns : ℕ → Option ℕ) (kind : Kind) where
       subst (λ (p : Renderer D A (List A)). CameInParts r p (es ++ run_of more) (bs ++ [])) (sym h)
       (no_part r q (with_events q more) es (run_of more) bs refl refl refl (run_joined q more) k)
 
-  move_parts : (r : Renderer D A (List A)) (m : Move (List A)) (q s : Renderer D A (List A)) (es : List (Entry (List A))) (bs : List (List Cell)) → Makes columns kind m q s → CameInParts r q es bs → CameInParts r s (es ++ brought_by m) (bs ++ ruled_by m)
-  move_parts r flush q s es bs h k = flush_parts r q s q.block es bs refl h k
-  move_parts r (line is) q s es bs h k = put_parts r q s is es bs h.0 h.1 h.2 k
-  move_parts r (rule cells) q s es bs h k = rule_parts r q s cells es bs h.0 h.1 h.2 k
-  move_parts r (join more) q s es bs h k = join_parts r q s es more bs h k
-  move_parts r turn q s es bs h k = no_part r q s es [] bs h.width h.options h.lines (ap open_run h.block ∙ sym (append-nil (open_run q.block))) k
+  move_parts : (r : Renderer D A (List A)) (m : Move (List A)) (q s : Renderer D A (List A)) (es : List (Entry (List A))) (bs : List (List Cell)) → Makes columns kind m q s → IsSound columns r → CameInParts r q es bs → CameInParts r s (es ++ brought_by m) (bs ++ ruled_by m)
+  move_parts r flush q s es bs h sound k = flush_parts r q s q.block es bs refl h sound k
+  move_parts r (line is) q s es bs h sound k = put_parts r q s is es bs h.0 h.1 h.2 k
+  move_parts r (rule cells) q s es bs h sound k = rule_parts r q s cells es bs h.0 h.1 h.2 k
+  move_parts r (join more) q s es bs h sound k = join_parts r q s es more bs h k
+  move_parts r turn q s es bs h sound k = no_part r q s es [] bs h.width h.options h.lines (ap open_run h.block ∙ sym (append-nil (open_run q.block))) k
 
-  moves_parts : (r : Renderer D A (List A)) (ms : List (Move (List A))) (q s : Renderer D A (List A)) (es : List (Entry (List A))) (bs : List (List Cell)) → MakesAll columns kind ms q s → CameInParts r q es bs → CameInParts r s (es ++ brought ms) (bs ++ moves.ruled ms)
-  moves_parts r [] q s es bs h k =
+  moves_parts : (r : Renderer D A (List A)) (ms : List (Move (List A))) (q s : Renderer D A (List A)) (es : List (Entry (List A))) (bs : List (List Cell)) → MakesAll columns kind ms q s → IsSound columns r → CameInParts r q es bs → CameInParts r s (es ++ brought ms) (bs ++ moves.ruled ms)
+  moves_parts r [] q s es bs h sound k =
       subst (λ (p : Renderer D A (List A)). CameInParts r p (es ++ []) (bs ++ [])) (sym h) (subst (λ cs. CameInParts r q (es ++ []) cs) (sym (append-nil bs)) (subst (λ fs. CameInParts r q fs bs) (sym (append-nil es)) k))
-  moves_parts r (m ∷ ms) q s es bs h k =
+  moves_parts r (m ∷ ms) q s es bs h sound k =
       subst (λ fs. CameInParts r s fs (bs ++ moves.ruled (m ∷ ms))) (append_assoc es (brought_by m) (brought ms))
       (subst (λ cs. CameInParts r s ((es ++ brought_by m) ++ brought ms) cs) (append_assoc bs (ruled_by m) (moves.ruled ms))
-      (moves_parts r ms h.0 s (es ++ brought_by m) (bs ++ ruled_by m) h.2 (move_parts r m q h.0 es bs h.1 k)))
+      (moves_parts r ms h.0 s (es ++ brought_by m) (bs ++ ruled_by m) h.2 sound (move_parts r m q h.0 es bs h.1 sound k)))
 
-  came_in_parts : (decoration : Decoration D A) (calls : List (Call (List A))) (r s : Renderer D A (List A)) (es : List (Entry (List A))) → Fits kind r calls → Brings columns decoration calls r es s → CameInParts r s es (flat_map (borders_added r.width r.options) calls)
-  came_in_parts decoration calls r s es fits h =
+  came_in_parts : (decoration : Decoration D A) (calls : List (Call (List A))) (r s : Renderer D A (List A)) (es : List (Entry (List A))) → IsSound columns r → Fits kind r calls → Brings columns decoration calls r es s → CameInParts r s es (flat_map (borders_added r.width r.options) calls)
+  came_in_parts decoration calls r s es sound fits h =
       let path = calls_move columns kind decoration calls r s es fits h in
       let none_yet : CameInParts r r [] [] = record {
         width = refl;
@@ -152,13 +153,13 @@ module _ {D A : Type 0} (columns : ℕ → Option ℕ) (kind : Kind) where
         kinds = tt;
         borders = refl;
       } in
-      subst (λ bs. CameInParts r s es bs) path.rules (subst (λ fs. CameInParts r s fs (moves.ruled path.moves)) path.brings (moves_parts r path.moves r s [] [] path.makes none_yet))
+      subst (λ bs. CameInParts r s es bs) path.rules (subst (λ fs. CameInParts r s fs (moves.ruled path.moves)) path.brings (moves_parts r path.moves r s [] [] path.makes sound none_yet))
 
 module _ {D A : Type 0} (columns : ℕ → Option ℕ) where
-  pub brings_parts : (decoration : Decoration D A) (calls : List (Call (List A))) (r s : Renderer D A (List A)) (es : List (Entry (List A))) → Brings columns decoration calls r es s →
+  pub brings_parts : (decoration : Decoration D A) (calls : List (Call (List A))) (r s : Renderer D A (List A)) (es : List (Entry (List A))) → IsSound columns r → Brings columns decoration calls r es s →
       (came : ComesInParts columns r es s) × (flat_map borders_of_part came.parts ≡ flat_map (borders_added r.width r.options) calls)
-  brings_parts decoration calls r s es h = let came = came_in_parts columns any decoration calls r s es tt h in (came.parts, came.borders)
+  brings_parts decoration calls r s es sound h = let came = came_in_parts columns any decoration calls r s es sound tt h in (came.parts, came.borders)
 
-  pub brings_own_parts : (decoration : Decoration D A) (calls : List (Call (List A))) (r s : Renderer D A (List A)) (es : List (Entry (List A))) → Each AppendsNothing calls → Brings columns decoration calls r es s →
+  pub brings_own_parts : (decoration : Decoration D A) (calls : List (Call (List A))) (r s : Renderer D A (List A)) (es : List (Entry (List A))) → IsSound columns r → Each AppendsNothing calls → Brings columns decoration calls r es s →
       (came : ComesInParts columns r es s) × Each IsOwnPart came.parts
-  brings_own_parts decoration calls r s es own_calls h = let came = came_in_parts columns own decoration calls r s es own_calls h in (came.parts, came.kinds)
+  brings_own_parts decoration calls r s es sound own_calls h = let came = came_in_parts columns own decoration calls r s es sound own_calls h in (came.parts, came.kinds)

@@ -1,5 +1,5 @@
 -- The moves of which calls consist. What holds of lists of calls is shown move by move.
-use Rattle.std.proofs.Common.{◌≡◌, ℕ, false, Option, Some, None, List, [], ◌∷◌, ◌++◌, fold, refl, ap, sym, ◌∙◌, subst, append_assoc, append-nil}
+use Rattle.std.proofs.Common.{◌≡◌, ◌<◌, ℕ, false, Option, Some, None, List, [], ◌∷◌, ◌++◌, fold, refl, ap, sym, ◌∙◌, subst, append_assoc, append-nil}
 use Rattle.std.specs.Prelude.{⊤}
 use Rattle.std.specs.List.{AllByRecursion as Each}
 use Rattle.tbr_model.specs.Rule.{Event, run_of}
@@ -8,8 +8,9 @@ use Rattle.tbr_border.specs.Border.{without_holes}
 use Rattle.tbr_border.specs.Cell.{Cell}
 use Rattle.tbr_rows.specs.declared.LineSet.{LineSet as Overhanging}
 use Rattle.tbr_renderer.specs.declared.options.RenderOptions.{RenderOptions}
-use Rattle.tbr_renderer.specs.Renderer.{Open, Renderer, with_line, with_events}
-use Rattle.tbr_renderer.specs.Flush.{block_lines, Flushes, FlushesBlock, lines_at_end}
+use Rattle.tbr_renderer.specs.Renderer.{Open, Renderer, with_line, with_events, least, block_width, IsSound}
+use Rattle.tbr_renderer.specs.Flush.{block_lines, lines_at_end}
+use Rattle.tbr_renderer.proofs.FlushedBlocks.{FlushesBlock, Flushes}
 use Rattle.tbr_renderer.specs.Appended.{with_border}
 use Rattle.tbr_renderer.specs.Calls.{Call, laid_entries}
 use Rattle.text_block_renderer.specs.Drawn.{DrawNone}
@@ -90,6 +91,12 @@ MayRule undrawn r = r.options.pad_block_width ≡ false
 MayRule own r = ⊥
 
 -- ---- paths
+
+-- a renderer that wraps alike is sound too
+pub sound_alike : {D A : Type 0} (columns : ℕ → Option ℕ) (r q : Renderer D A (List A)) → q.width ≡ r.width → q.options ≡ r.options → IsSound columns r → IsSound columns q
+sound_alike columns r q width options sound =
+    let same : block_width q ≡ block_width r = ap (λ w. least w q.options.wrap_width) width ∙ ap (λ (o : RenderOptions). least r.width o.wrap_width) options in
+    record { space = sound.space; wide = subst (λ n. 0 < n) (sym same) sound.wide }
 
 -- what no call changes
 pub record Frame (A : Type 0) : Type 0 where
@@ -201,6 +208,12 @@ module _ {D A : Type 0} (columns : ℕ → Option ℕ) (kind : Kind) where
 
   pub move_options : (m : Move (List A)) (r s : Renderer D A (List A)) → Makes m r s → s.options ≡ r.options
   move_options m r s h = ap (λ (f : Frame A). f.options) (move_frame m r s h)
+
+  -- a sound renderer stays so
+  pub sound_moved : (m : Move (List A)) (r s : Renderer D A (List A)) → Makes m r s → IsSound columns r → IsSound columns s
+  sound_moved m r s h sound =
+      let same = move_frame m r s h in
+      sound_alike columns r s (ap (λ (f : Frame A). f.width) same) (ap (λ (f : Frame A). f.options) same) sound
 
   path_frame : (r s : Renderer D A (List A)) (es : List (Entry (List A))) (bs : List (List Cell)) → Course r s es bs → frame s ≡ frame r
   path_frame r s es bs path =

@@ -10,7 +10,9 @@ use Rattle.tbr_tagged.specs.Elements.{text_items}
 use Rattle.tbr_decor.specs.Decoration.{Decoration}
 use Rattle.tbr_kept_lines.specs.Line.{Line, text}
 use Rattle.tbr_renderer.specs.Renderer.{Open, Renderer, with_line}
-use Rattle.tbr_renderer.specs.Flush.{FlushesBlock}
+use Rattle.tbr_tagged.proofs.Outcomes.{live_done}
+use Rattle.tbr_renderer.proofs.FlushedBlocks.{FlushesBlock}
+use Rattle.tbr_renderer.proofs.CallParts.{flushed_then, handed_then}
 use Rattle.tbr_renderer.specs.Appended.{as_text, prefixed}
 use Rattle.text_block_renderer.specs.Nested.{Level, nested, IsFront, shortest, HandsOn, HandOn}
 use Rattle.text_block_renderer.proofs.Moves.{no_block}
@@ -64,13 +66,13 @@ module _ {D A : Type 0} (columns : ℕ → Option ℕ) (decoration : Decoration 
 
   handed_on : (level : Level (List A)) (inside lines : List (Line (List A))) → HandsOn columns decoration level inside lines → lines ≡ map text (prefixed level.tag level.prefixes inside)
   handed_on level inside lines h =
-      let (m, flushes, is) = h.takes in
-      let (t, last_flushes, gives) = h.gives.1 in
       let texts = prefixed h.first.annotations level.prefixes inside in
-      let same : m ≡ h.first = nothing_flushed h.first m h.first.block h.no_block flushes in
+      let (m, flushed, is) = flushed_then columns (λ q. fold (with_line columns) q texts) h.first h.last (live_done h.first.failure _ h.last h.takes).1 in
+      let (t, last_flushed, gives) = handed_then columns h.last lines h.gives in
+      let same : m ≡ h.first = nothing_flushed h.first m h.first.block h.no_block flushed in
       let last : h.last ≡ fold (with_line columns) h.first texts = is ∙ ap (λ (q : Renderer D A (List A)). fold (with_line columns) q texts) same in
       let closed : h.last.block ≡ None = ap (λ (q : Renderer D A (List A)). q.block) last ∙ no_block columns texts h.first h.no_block in
-      let out : t ≡ h.last = nothing_flushed h.last t h.last.block closed last_flushes in
+      let out : t ≡ h.last = nothing_flushed h.last t h.last.block closed last_flushed in
       gives ∙ ap (λ (q : Renderer D A (List A)). q.lines) (out ∙ last) ∙ plain_lines columns texts h.first h.unpadded h.no_marker ∙ ap (λ ls. ls ++ map text texts) h.no_line
       ∙ ap (λ tag. map text (prefixed tag level.prefixes inside)) h.annotations
 

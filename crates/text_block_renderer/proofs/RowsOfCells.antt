@@ -17,8 +17,17 @@ use Rattle.tbr_renderer.specs.Calls.{text_of_lines}
 use Rattle.tbr_renderer.specs.Rows.{GivenCell, FillsCell, ComesAs, border_lines, style_in, with_next, with_row, PutsRow, AppendsRow}
 use Rattle.text_block_renderer.proofs.AddedLines.{Grows, lines_grow, moves_grow}
 use Rattle.text_block_renderer.proofs.Moves.{flush, no_block, flushed_none}
-use Rattle.text_block_renderer.proofs.OneState.{flush_once}
+use Rattle.tbr_tagged.specs.Outcome.{done, if_live}
+use Rattle.tbr_tagged.proofs.Outcomes.{live_done}
+use Rattle.tbr_renderer.specs.Flush.{after_flush}
+use Rattle.tbr_renderer.proofs.OutcomeParts.{once}
+use Rattle.tbr_renderer.proofs.FlushedBlocks.{Flushes, flushes}
 use Rattle.tbr_renderer.proofs.SettingsStay.{Steady, flushed_alike}
+
+-- ---- the flush before a row
+
+pub row_flushes : {D A : Type 0} (columns : ℕ → Option ℕ) (r m : Renderer D A (List A)) → if_live r.failure (after_flush columns r) ≡ done m → Flushes columns r m
+row_flushes columns r m h = flushes columns r m (live_done r.failure (after_flush columns r) m h).1
 
 -- ---- texts only come
 
@@ -70,8 +79,8 @@ module _ {D A : Type 0} (columns : ℕ → Option ℕ) where
 
   pub texts_only_come : (collapses : Bool) (cells : List (GivenCell (List A))) (r s : Renderer D A (List A)) → AppendsRow columns collapses cells r s → (more : List (Item (List A))) × (text_of_lines s.lines ≡ text_of_lines r.lines ++ more)
   texts_only_come collapses cells r s h =
-      let (m, flushes, puts) = h in
-      let first = moves_grow columns (flush ∷ []) r m (m, flushes, refl) in
+      let (m, flushed, puts) = h in
+      let first = moves_grow columns (flush ∷ []) r m (m, row_flushes columns r m flushed, refl) in
       let behind = row_texts m puts.row in (
         text_of_lines first.0 ++ behind.0,
         ap (λ (q : Renderer D A (List A)). text_of_lines q.lines) puts.is ∙ behind.1 ∙ ap (λ is. is ++ behind.0) (ap text_of_lines first.1 ∙ text_append r.lines first.0) ∙ append_assoc (text_of_lines r.lines) (text_of_lines first.0) behind.0,
@@ -89,11 +98,11 @@ module _ {D A : Type 0} (columns : ℕ → Option ℕ) where
 
   pub settings_stay : (collapses : Bool) (cells : List (GivenCell (List A))) (r s : Renderer D A (List A)) → AppendsRow columns collapses cells r s → settings_of s ≡ settings_of r
   settings_stay collapses cells r s h =
-      let (m, flushes, puts) = h in
+      let (m, flushed, puts) = h in
       let row = puts.row in
       let top : Renderer D A (List A) = record m { lines = before_border m.lines ++ border_lines row.above; hanging = row.overhang } in
       ap (λ (q : Renderer D A (List A)). settings_of q) puts.is ∙ next_settles (fold (with_line columns) top row.lines) row.next ∙ lines_settle row.lines top
-      ∙ ap (λ (q : Steady D A). q.settings) (flushed_alike columns r m flushes)
+      ∙ ap (λ (q : Steady D A). q.settings) (flushed_alike columns r m (live_done r.failure (after_flush columns r) m flushed).1)
 
   -- ---- the kept refusal
 
@@ -107,11 +116,11 @@ module _ {D A : Type 0} (columns : ℕ → Option ℕ) where
 
   pub failure_stays : (collapses : Bool) (cells : List (GivenCell (List A))) (r s : Renderer D A (List A)) → AppendsRow columns collapses cells r s → s.failure ≡ r.failure
   failure_stays collapses cells r s h =
-      let (m, flushes, puts) = h in
+      let (m, flushed, puts) = h in
       let row = puts.row in
       let top : Renderer D A (List A) = record m { lines = before_border m.lines ++ border_lines row.above; hanging = row.overhang } in
       ap (λ (q : Renderer D A (List A)). q.failure) puts.is ∙ next_unfailed (fold (with_line columns) top row.lines) row.next ∙ lines_unfailed row.lines top
-      ∙ ap (λ (q : Steady D A). q.failure) (flushed_alike columns r m flushes)
+      ∙ ap (λ (q : Steady D A). q.failure) (flushed_alike columns r m (live_done r.failure (after_flush columns r) m flushed).1)
 
   -- ---- `Normal` text
 
@@ -121,10 +130,10 @@ module _ {D A : Type 0} (columns : ℕ → Option ℕ) where
 
   pub row_closed : (collapses : Bool) (cells : List (GivenCell (List A))) (r s : Renderer D A (List A)) → AppendsRow columns collapses cells r s → s.block ≡ None
   row_closed collapses cells r s h =
-      let (m, flushes, puts) = h in
+      let (m, flushed, puts) = h in
       let row = puts.row in
       let top : Renderer D A (List A) = record m { lines = before_border m.lines ++ border_lines row.above; hanging = row.overhang } in
-      ap (λ (q : Renderer D A (List A)). q.block) puts.is ∙ next_closed (fold (with_line columns) top row.lines) row.next (no_block columns row.lines top (flushed_none columns r m flushes))
+      ap (λ (q : Renderer D A (List A)). q.block) puts.is ∙ next_closed (fold (with_line columns) top row.lines) row.next (no_block columns row.lines top (flushed_none columns r m (row_flushes columns r m flushed)))
 
 -- ---- one state
 
@@ -173,5 +182,5 @@ module _ {D A : Type 0} (columns : ℕ → Option ℕ) (collapses : Bool) (cells
 
   pub rows_once : (r s t : Renderer D A (List A)) → AppendsRow columns collapses cells r s → AppendsRow columns collapses cells r t → t ≡ s
   rows_once r s t h k =
-      let same : k.0 ≡ h.0 = flush_once columns r h.0 k.0 h.1 k.1 in
+      let same : k.0 ≡ h.0 = once (if_live r.failure (after_flush columns r)) h.0 k.0 h.1 k.1 in
       puts_once h.0 s t h.2 (subst (λ (q : Renderer D A (List A)). PutsRow columns collapses cells q t) same k.2)

@@ -18,11 +18,13 @@ use Rattle.tbr_wrap.specs.Wrapped.{padding_of, HasBestLines}
 use Rattle.tbr_decor.specs.Decoration.{Decoration}
 use Rattle.tbr_renderer.specs.declared.options.RenderOptions.{RenderOptions}
 use Rattle.tbr_kept_lines.specs.Line.{Line}
-use Rattle.tbr_renderer.specs.Renderer.{Open, Renderer, new_block, least, overflows, with_line, with_events, with_more, block_width, may_overflow}
-use Rattle.tbr_renderer.specs.Flush.{block_lines, EndsBlock, FlushesBlock, Flushes, lines_at_end, names_at_end}
+use Rattle.tbr_renderer.specs.Renderer.{Open, Renderer, new_block, least, overflows, with_line, with_events, with_more, block_width, may_overflow, IsSound}
+use Rattle.tbr_tagged.specs.Outcome.{done}
+use Rattle.tbr_renderer.specs.Flush.{block_lines, lines_at_end, names_at_end, after_flush}
+use Rattle.tbr_renderer.proofs.FlushedBlocks.{flushes, EndsBlock, FlushesBlock, Flushes}
 use Rattle.tbr_renderer.specs.Calls.{Call, Steps, Brings}
 use Rattle.text_block_renderer.specs.Stretches.{line_of_text, stretch, items_on, NoneIsAhead, StandsAsStretch, StaysOpen, EndsAsStretch}
-use Rattle.text_block_renderer.proofs.Moves.{Move, flush, line, rule, join, turn, SameText, brought, MakesAll, any}
+use Rattle.text_block_renderer.proofs.Moves.{Move, flush, line, rule, join, turn, SameText, brought, MakesAll, any, sound_alike}
 use Rattle.text_block_renderer.proofs.CallMoves.{calls_move}
 use Rattle.text_block_renderer.proofs.AddedLines.{moves_grow, steps_grow}
 
@@ -150,12 +152,12 @@ module _ {D A : Type 0} (columns : ℕ → Option ℕ) where
       ap (λ (p : Renderer D A (List A)). p.lines) h.is ∙ lines_added b (lines_at_end columns r b) (record r { block = None })
       ∙ ap (λ ls. r.lines ++ ls) (same_stretch r (record r { block = None }) b b (lines_at_end columns r b) refl refl refl refl refl)
 
-  as_stretch : (r q s : Renderer D A (List A)) (b : Open (List A)) → EndsBlock columns r b q → (more : List (Line (List A))) × (s.lines ≡ q.lines ++ more) → StandsAsStretch columns r b s.lines
-  as_stretch r q s b h grows = record {
+  as_stretch : (r q s : Renderer D A (List A)) (b : Open (List A)) → EndsBlock columns r b q → IsSound columns r → (more : List (Line (List A))) × (s.lines ≡ q.lines ++ more) → StandsAsStretch columns r b s.lines
+  as_stretch r q s b h sound grows = record {
     texts = (lines_at_end columns r b);
     names = (names_at_end columns r b);
-    ends = h.ends;
-    ahead = λ narrow normal. none_ahead columns (block_width r) (run_of b.events) (lines_at_end columns r b) (h.ends.shown.best narrow normal);
+    ends = h.ends sound;
+    ahead = λ narrow normal. none_ahead columns (block_width r) (run_of b.events) (lines_at_end columns r b) ((h.ends sound).shown.best narrow normal);
     behind = grows.0;
     is = grows.1 ∙ ap (λ ls. ls ++ grows.0) (flush_adds r q b h);
   }
@@ -177,11 +179,11 @@ module _ {D A : Type 0} (columns : ℕ → Option ℕ) where
           subst (λ (w : ℕ). EndsRun columns (least w r.options.wrap_width) (overflows r.options (least w r.options.wrap_width)) (run_of b.events) h.texts h.names) width
           (subst (λ (o : RenderOptions). EndsRun columns (least q.width o.wrap_width) (overflows o (least q.width o.wrap_width)) (run_of b.events) h.texts h.names) options h.ends)
 
-  flush_stands : (r q s : Renderer D A (List A)) (b : Open (List A)) → r.block ≡ Some b → Flushes columns r q → (more : List (Line (List A))) × (s.lines ≡ q.lines ++ more) → StandsAsStretch columns r b s.lines
-  flush_stands r q s b open_block_is h grows = as_stretch r q s b (subst (λ (o : Option (Open (List A))). FlushesBlock columns r o q) open_block_is h) grows
+  flush_stands : (r q s : Renderer D A (List A)) (b : Open (List A)) → r.block ≡ Some b → Flushes columns r q → IsSound columns r → (more : List (Line (List A))) × (s.lines ≡ q.lines ++ more) → StandsAsStretch columns r b s.lines
+  flush_stands r q s b open_block_is h sound grows = as_stretch r q s b (subst (λ (o : Option (Open (List A))). FlushesBlock columns r o q) open_block_is h) sound grows
 
-  pub stands_for_good : (decoration : Decoration D A) (calls : List (Call (List A))) (r q s : Renderer D A (List A)) (b : Open (List A)) → r.block ≡ Some b → Flushes columns r q → Steps columns decoration calls q s → StandsAsStretch columns r b s.lines
-  stands_for_good decoration calls r q s b open_block_is h steps = flush_stands r q s b open_block_is h (steps_grow columns decoration calls q s steps)
+  pub stands_for_good : (decoration : Decoration D A) (calls : List (Call (List A))) (r q s : Renderer D A (List A)) (b : Open (List A)) → IsSound columns r → r.block ≡ Some b → after_flush columns r ≡ done q → Steps columns decoration calls q s → StandsAsStretch columns r b s.lines
+  stands_for_good decoration calls r q s b sound open_block_is h steps = flush_stands r q s b open_block_is (flushes columns r q h) sound (steps_grow columns decoration calls q s steps)
 
   -- ---- an open run
 
@@ -212,28 +214,28 @@ module _ {D A : Type 0} (columns : ℕ → Option ℕ) where
     options = h.options ∙ since.options;
   }
 
-  run_ends : (ms : List (Move (List A))) (r q s : Renderer D A (List A)) (b : Open (List A)) (es : List (Event (List A))) → Since r b es q → MakesAll columns any ms q s →
+  run_ends : (ms : List (Move (List A))) (r q s : Renderer D A (List A)) (b : Open (List A)) (es : List (Event (List A))) → Since r b es q → IsSound columns r → MakesAll columns any ms q s →
       StaysOpen r b (run_of es ++ brought ms) s ⊎ EndsAsStretch columns r b (run_of es ++ brought ms) s
-  run_ends [] r q s b es since h =
+  run_ends [] r q s b es since sound h =
       let open_still : StaysOpen r b (run_of es ++ []) q = record { lines = since.lines; events = es; are = sym (append-nil (run_of es)); block = since.block; waiting = since.waiting } in
       inl (subst (λ (p : Renderer D A (List A)). StaysOpen r b (run_of es ++ []) p) (sym h) open_still)
-  run_ends (flush ∷ ms) r q s b es since h = inr (record {
+  run_ends (flush ∷ ms) r q s b es since sound h = inr (record {
     more = es;
     later = brought ms;
     came = refl;
     annotations = q.annotations;
     stands = as_before (record r { annotations = q.annotations }) q (with_more b es) s.lines since.lines since.width since.options refl since.waiting
-        (flush_stands q h.0 s (with_more b es) since.block h.1 (moves_grow columns ms h.0 s h.2));
+        (flush_stands q h.0 s (with_more b es) since.block h.1 (sound_alike columns r q since.width since.options sound) (moves_grow columns ms h.0 s h.2));
   })
-  run_ends (line is ∷ ms) r q s b es since h = absurd (let no : Some (with_more b es) ≡ None = sym since.block ∙ h.1.1 in cc)
-  run_ends (rule cells ∷ ms) r q s b es since h = absurd (let no : Some (with_more b es) ≡ None = sym since.block ∙ h.1.1 in cc)
-  run_ends (join more ∷ ms) r q s b es since h =
+  run_ends (line is ∷ ms) r q s b es since sound h = absurd (let no : Some (with_more b es) ≡ None = sym since.block ∙ h.1.1 in cc)
+  run_ends (rule cells ∷ ms) r q s b es since sound h = absurd (let no : Some (with_more b es) ≡ None = sym since.block ∙ h.1.1 in cc)
+  run_ends (join more ∷ ms) r q s b es since sound h =
       let came : run_of (es ++ more) ++ brought ms ≡ run_of es ++ (run_of more ++ brought ms) = ap (λ (run : List (Entry (List A))). run ++ brought ms) (run_of-append es more) ∙ append_assoc (run_of es) (run_of more) (brought ms) in
-      subst (λ (fs : List (Entry (List A))). StaysOpen r b fs s ⊎ EndsAsStretch columns r b fs s) came (run_ends ms r h.0 s b (es ++ more) (joined_more r q h.0 b es more since h.1) h.2)
-  run_ends (turn ∷ ms) r q s b es since h = run_ends ms r h.0 s b es (turned r q h.0 b es since h.1) h.2
+      subst (λ (fs : List (Entry (List A))). StaysOpen r b fs s ⊎ EndsAsStretch columns r b fs s) came (run_ends ms r h.0 s b (es ++ more) (joined_more r q h.0 b es more since h.1) sound h.2)
+  run_ends (turn ∷ ms) r q s b es since sound h = run_ends ms r h.0 s b es (turned r q h.0 b es since h.1) sound h.2
 
-  pub brings_end : (decoration : Decoration D A) (calls : List (Call (List A))) (r s : Renderer D A (List A)) (b : Open (List A)) (es : List (Entry (List A))) → r.block ≡ Some b → Brings columns decoration calls r es s → StaysOpen r b es s ⊎ EndsAsStretch columns r b es s
-  brings_end decoration calls r s b es open_block_is h =
+  pub brings_end : (decoration : Decoration D A) (calls : List (Call (List A))) (r s : Renderer D A (List A)) (b : Open (List A)) (es : List (Entry (List A))) → IsSound columns r → r.block ≡ Some b → Brings columns decoration calls r es s → StaysOpen r b es s ⊎ EndsAsStretch columns r b es s
+  brings_end decoration calls r s b es sound open_block_is h =
       let path = calls_move columns any decoration calls r s es tt h in
       let none_yet : Since r b [] r = record {
         lines = refl;
@@ -242,4 +244,4 @@ module _ {D A : Type 0} (columns : ℕ → Option ℕ) where
         width = refl;
         options = refl;
       } in
-      subst (λ (fs : List (Entry (List A))). StaysOpen r b fs s ⊎ EndsAsStretch columns r b fs s) path.brings (run_ends path.moves r r s b [] none_yet path.makes)
+      subst (λ (fs : List (Entry (List A))). StaysOpen r b fs s ⊎ EndsAsStretch columns r b fs s) path.brings (run_ends path.moves r r s b [] none_yet sound path.makes)

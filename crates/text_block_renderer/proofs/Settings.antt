@@ -7,24 +7,31 @@ use Rattle.tbr_decor.specs.Ground.{Ground}
 use Rattle.tbr_decor.specs.declared.colour.Colour.{Colour}
 use Rattle.tbr_decor.specs.Decoration.{Decoration}
 use Rattle.tbr_renderer.specs.Image.{shown_title}
-use Rattle.tbr_renderer.specs.Decorated.{struck_from, struck_until, annotated, coloured, uncoloured, AddsImageBy}
+use Rattle.tbr_renderer.specs.Decorated.{struck_from, struck_until, annotated, coloured, uncoloured, after_start, after_titled}
 use Rattle.tbr_kept_lines.specs.Line.{Line}
-use Rattle.tbr_renderer.specs.Renderer.{Renderer, settings_of, with_line, ignores}
-use Rattle.tbr_renderer.specs.Flush.{Flushes}
-use Rattle.tbr_renderer.specs.Steps.{at_line_start, BreaksLineAt}
-use Rattle.tbr_renderer.specs.Calls.{Call, add_empty_line, new_line, new_line_hard, start_block, start_table, end_block, add_inline_text, push_ws, pop_ws, push_preformat, pop_preformat, record_frag_start, begin, finish, start_strikeout, end_strikeout, add_image, push_colour, pop_colour, add_border, append_subrender, append_vert_row, Does}
-use Rattle.tbr_renderer.specs.Appended.{with_border, border_of_cells, as_text, prefixed, with_divider, with_cell, with_cell_below, with_cells, AppendsCells}
-use Rattle.tbr_border.specs.Border.{Border}
+use Rattle.tbr_renderer.specs.Renderer.{Renderer, settings_of, with_line, without_annotation}
+use Rattle.tbr_decor.specs.Start.{Start}
+use Rattle.tbr_tagged.specs.Outcome.{done}
+use Rattle.tbr_tagged.proofs.Outcomes.{live_done}
+use Rattle.tbr_renderer.specs.Outcomes.{changed}
+use Rattle.tbr_renderer.specs.Flush.{after_flush}
+use Rattle.tbr_renderer.specs.Steps.{at_line_start, after_empty_line, after_text}
+use Rattle.tbr_renderer.proofs.OutcomeParts.{one_done, done_before}
+use Rattle.tbr_renderer.specs.Calls.{Call, add_empty_line, new_line, new_line_hard, start_block, start_table, end_block, add_inline_text, push_ws, pop_ws, push_preformat, pop_preformat, record_frag_start, begin, finish, start_strikeout, end_strikeout, add_image, push_colour, pop_colour, add_border, append_subrender, append_vert_row, made, Does}
+use Rattle.tbr_renderer.specs.Appended.{with_border, border_of_cells, as_text, prefixed, with_divider, with_cell, with_cell_below, with_cells}
 use Rattle.tbr_border.specs.Cell.{Cell, horizontal, slash}
 use Rattle.text_block_renderer.specs.Settings.{settled, settled_by_image}
-use Rattle.tbr_renderer.proofs.SettingsStay.{Steady, steady, lines_added, flushed_alike, empty_added, started_alike, text_added, added, taken, closed_alike}
+use Rattle.tbr_renderer.proofs.SettingsStay.{Steady, steady, lines_added, flushed_alike, empty_added, started_alike, text_added, taken, closed_alike}
 
 module _ {D A : Type 0} (columns : ℕ → Option ℕ) where
-  border_added : (r m s : Renderer D A (List A)) (b : Border (List A)) → Flushes columns r m → s ≡ with_border columns m b → steady s ≡ steady r
-  border_added r m s b h is = ap (λ (q : Renderer D A (List A)). steady q) is ∙ flushed_alike columns r m h
+  lines_appended : (m : Renderer D A (List A)) (texts : List (List (Item (List A)))) → steady (fold (with_line columns) m texts) ≡ steady m
+  lines_appended m texts = lines_added columns texts m
 
-  lines_appended : (r m s : Renderer D A (List A)) (texts : List (List (Item (List A)))) → Flushes columns r m → s ≡ fold (with_line columns) m texts → steady s ≡ steady r
-  lines_appended r m s texts h is = ap (λ (q : Renderer D A (List A)). steady q) is ∙ lines_added columns texts m ∙ flushed_alike columns r m h
+  -- a flush, and then what changes neither the settings nor the refusal
+  flushed_then_alike : (change : Renderer D A (List A) → Renderer D A (List A)) → ((m : Renderer D A (List A)) → steady (change m) ≡ steady m) → (r s : Renderer D A (List A)) → changed change (after_flush columns r) ≡ done s → steady s ≡ steady r
+  flushed_then_alike change same r s h =
+      let (m, flush, is) = done_before change (after_flush columns r) s h in
+      ap (λ (q : Renderer D A (List A)). steady q) is ∙ same m ∙ flushed_alike columns r m flush
 
   divided : (cell : Cell) (r : Renderer D A (List A)) → steady (with_divider columns cell r) ≡ steady r
   divided cell r = go r.options.draw_borders
@@ -45,21 +52,23 @@ module _ {D A : Type 0} (columns : ℕ → Option ℕ) where
   cells_added [] r = refl
   cells_added (lines ∷ cells) r = cells_below cells (with_cell columns r lines) ∙ cell_added r lines
 
-  cells_appended : (cells : List (List (Line (List A)))) (r s : Renderer D A (List A)) → AppendsCells columns cells r s → steady s ≡ steady r
-  cells_appended cells r s h =
-      ap (λ (q : Renderer D A (List A)). steady q) h.2 ∙ divided horizontal (with_cells columns h.0 cells) ∙ cells_added cells h.0 ∙ flushed_alike columns r h.0 h.1
-
-  broken : (r s : Renderer D A (List A)) (at : Bool) → BreaksLineAt columns at r s → steady s ≡ steady r
-  broken r s true h = empty_added columns r s h
-  broken r s false h = flushed_alike columns r s h
+  broken : (at : Bool) (r s : Renderer D A (List A)) → (if at then after_empty_line columns r else after_flush columns r) ≡ done s → steady s ≡ steady r
+  broken true r s h = empty_added columns r s h
+  broken false r s h = flushed_alike columns r s h
 
   module _ (decoration : Decoration D A) where
-    image_alike : (source : List ℕ) (title : Option (List ℕ)) (r s : Renderer D A (List A)) → AddsImageBy columns decoration source title r s → steady s ≡ steady (settled_by_image decoration source title r)
-    image_alike source None r s h = ap (λ (p : Renderer D A (List A)). steady p) h
-    image_alike source (Some title) r s h =
-        let image = start.image source title in
-        let q = annotated decoration image r in
-        ap (λ (p : Renderer D A (List A)). steady p) h.2 ∙ taken columns decoration h.0 q (added columns decoration (decoration.start_text r.decorator image) q h.0 h.1)
+    -- what is opened, and then what is made of the settings that it leaves
+    opened_alike : (opened : Start) (change : Renderer D A (List A) → Renderer D A (List A)) → ((m r : Renderer D A (List A)) → steady m ≡ steady r → steady (change m) ≡ steady (change r)) →
+        (r s : Renderer D A (List A)) → changed change (after_start columns decoration opened r) ≡ done s → steady s ≡ steady (change (annotated decoration opened r))
+    opened_alike opened change same r s h =
+        let q = annotated decoration opened r in
+        let cs = decoration.start_text r.decorator opened in
+        let (m, adds, is) = done_before change (after_text columns decoration.preformatted cs q) s h in
+        ap (λ (p : Renderer D A (List A)). steady p) is ∙ same m q (text_added columns decoration.preformatted cs q m adds)
+
+    image_alike : (source : List ℕ) (title : Option (List ℕ)) (r s : Renderer D A (List A)) → after_titled columns decoration source title r ≡ done s → steady s ≡ steady (settled_by_image decoration source title r)
+    image_alike source None r s h = ap (λ (p : Renderer D A (List A)). steady p) (one_done r s h)
+    image_alike source (Some title) r s h = opened_alike (start.image source title) (λ (q : Renderer D A (List A)). without_annotation q) (taken columns decoration) r s h
 
     -- strokes, by the settings alone
     struck_alike : (m r : Renderer D A (List A)) → steady m ≡ steady r → steady (struck_from m) ≡ steady (struck_from r)
@@ -75,31 +84,32 @@ module _ {D A : Type 0} (columns : ℕ → Option ℕ) where
             go true e = rw e refl
             go false e = rw e refl
 
-    pub call_settings : (call : Call (List A)) (r s : Renderer D A (List A)) → Does columns decoration call r s → steady s ≡ steady (settled decoration call r)
-    call_settings add_empty_line r s h = empty_added columns r s h
-    call_settings new_line r s h = flushed_alike columns r s h
-    call_settings new_line_hard r s h = broken r s (at_line_start columns r r.block) h
-    call_settings start_block r s h = started_alike columns r s h
-    call_settings start_table r s h = started_alike columns r s h
-    call_settings end_block r s h = ap (λ (q : Renderer D A (List A)). steady q) h
-    call_settings (add_inline_text cs) r s h = text_added columns decoration.preformatted (ignores r cs) r.block_ended cs r s h
-    call_settings (push_ws mode) r s h = ap (λ (q : Renderer D A (List A)). steady q) h
-    call_settings pop_ws r s h = ap (λ (q : Renderer D A (List A)). steady q) h
-    call_settings push_preformat r s h = ap (λ (q : Renderer D A (List A)). steady q) h
-    call_settings pop_preformat r s h = ap (λ (q : Renderer D A (List A)). steady q) h
-    call_settings (record_frag_start name) r s h = ap (λ (q : Renderer D A (List A)). steady q) h
-    call_settings (begin opened) r s h = added columns decoration (decoration.start_text r.decorator opened) (annotated decoration opened r) s h
-    call_settings (finish closed) r s h = closed_alike columns decoration closed r s h
-    call_settings start_strikeout r s h =
-        let q = annotated decoration start.strikeout r in
-        ap (λ (p : Renderer D A (List A)). steady p) h.2 ∙ struck_alike h.0 q (added columns decoration (decoration.start_text r.decorator start.strikeout) q h.0 h.1)
-    call_settings end_strikeout r s h = closed_alike columns decoration end.strikeout (struck_until r) s h
-    call_settings (add_image source title) r s h = image_alike source (shown_title r.options.img_mode source title) r s h
-    call_settings (push_colour g colour) r s h = ap (λ (q : Renderer D A (List A)). steady q) h
-    call_settings (pop_colour g) r s h = ap (λ (q : Renderer D A (List A)). steady q) h
-    call_settings (add_border width) r s h = border_added r h.0 s (border_of_cells horizontal width r) h.1 h.2
-    call_settings (append_subrender prefixes lines) r s h = lines_appended r h.0 s (prefixed r.annotations prefixes lines) h.1 h.2
-    call_settings (append_vert_row cells) r s h = cells_appended cells r s h
+    made_settings : (call : Call (List A)) (r s : Renderer D A (List A)) → made columns decoration call r ≡ done s → steady s ≡ steady (settled decoration call r)
+    made_settings add_empty_line r s h = empty_added columns r s h
+    made_settings new_line r s h = flushed_alike columns r s h
+    made_settings new_line_hard r s h = broken (at_line_start columns r r.block) r s h
+    made_settings start_block r s h = started_alike columns r s h
+    made_settings start_table r s h = started_alike columns r s h
+    made_settings end_block r s h = ap (λ (q : Renderer D A (List A)). steady q) (one_done _ s h)
+    made_settings (add_inline_text cs) r s h = text_added columns decoration.preformatted cs r s h
+    made_settings (push_ws mode) r s h = ap (λ (q : Renderer D A (List A)). steady q) (one_done _ s h)
+    made_settings pop_ws r s h = ap (λ (q : Renderer D A (List A)). steady q) (one_done _ s h)
+    made_settings push_preformat r s h = ap (λ (q : Renderer D A (List A)). steady q) (one_done _ s h)
+    made_settings pop_preformat r s h = ap (λ (q : Renderer D A (List A)). steady q) (one_done _ s h)
+    made_settings (record_frag_start name) r s h = ap (λ (q : Renderer D A (List A)). steady q) (one_done _ s h)
+    made_settings (begin opened) r s h = text_added columns decoration.preformatted (decoration.start_text r.decorator opened) (annotated decoration opened r) s h
+    made_settings (finish closed) r s h = closed_alike columns decoration closed r s h
+    made_settings start_strikeout r s h = opened_alike start.strikeout (λ (q : Renderer D A (List A)). struck_from q) struck_alike r s h
+    made_settings end_strikeout r s h = closed_alike columns decoration end.strikeout (struck_until r) s h
+    made_settings (add_image source title) r s h = image_alike source (shown_title r.options.img_mode source title) r s h
+    made_settings (push_colour g colour) r s h = ap (λ (q : Renderer D A (List A)). steady q) (one_done _ s h)
+    made_settings (pop_colour g) r s h = ap (λ (q : Renderer D A (List A)). steady q) (one_done _ s h)
+    made_settings (add_border width) r s h = flushed_then_alike (λ m. with_border columns m (border_of_cells horizontal width r)) (λ m. refl) r s h
+    made_settings (append_subrender prefixes lines) r s h = flushed_then_alike (λ m. fold (with_line columns) m (prefixed r.annotations prefixes lines)) (λ m. lines_appended m (prefixed r.annotations prefixes lines)) r s h
+    made_settings (append_vert_row cells) r s h = flushed_then_alike (λ m. with_divider columns horizontal (with_cells columns m cells)) (λ m. divided horizontal (with_cells columns m cells) ∙ cells_added cells m) r s h
+
+    call_settings : (call : Call (List A)) (r s : Renderer D A (List A)) → Does columns decoration call r s → steady s ≡ steady (settled decoration call r)
+    call_settings call r s h = made_settings call r s (live_done r.failure (made columns decoration call r) s h).1
 
     pub call_changes : (call : Call (List A)) (r s : Renderer D A (List A)) → Does columns decoration call r s → settings_of s ≡ settings_of (settled decoration call r)
     call_changes call r s h = ap (λ (x : Steady D A). x.settings) (call_settings call r s h)

@@ -11,12 +11,18 @@ use Rattle.tbr_tagged.specs.Elements.{text_items}
 use Rattle.tbr_border.specs.Cell.{Cell, horizontal, slash}
 use Rattle.tbr_decor.specs.Decoration.{Decoration}
 use Rattle.tbr_kept_lines.specs.Line.{Line, text, border}
-use Rattle.tbr_renderer.specs.Renderer.{Renderer}
-use Rattle.tbr_renderer.specs.Appended.{border_of_cells, with_border, as_text, prefixed, with_divider, with_cell, with_cell_below, with_cells, HandsOut}
-use Rattle.tbr_renderer.specs.Calls.{Call, add_empty_line, new_line, new_line_hard, start_block, start_table, end_block, add_inline_text, push_ws, pop_ws, push_preformat, pop_preformat, record_frag_start, begin, finish, start_strikeout, end_strikeout, add_image, push_colour, pop_colour, add_border, append_subrender, append_vert_row, Does, Steps, text_of_lines, Shows}
+use Rattle.tbr_renderer.specs.Renderer.{Renderer, IsSound}
+use Rattle.tbr_renderer.specs.Appended.{border_of_cells, with_border, as_text, prefixed, with_divider, with_cell, with_cell_below, with_cells, handed_out}
+use Rattle.tbr_renderer.specs.Calls.{Call, add_empty_line, new_line, new_line_hard, start_block, start_table, end_block, add_inline_text, push_ws, pop_ws, push_preformat, pop_preformat, record_frag_start, begin, finish, start_strikeout, end_strikeout, add_image, push_colour, pop_colour, add_border, append_subrender, append_vert_row, after, Does, Steps, text_of_lines, Shows}
+use Rattle.tbr_tagged.specs.Outcome.{done}
+use Rattle.tbr_renderer.specs.Outcomes.{run}
+use Rattle.tbr_renderer.proofs.OutcomeParts.{done_first}
+use Rattle.tbr_renderer.proofs.CallParts.{handed_then}
+use Rattle.text_block_renderer.proofs.Moves.{flush}
+use Rattle.text_block_renderer.proofs.VerticalRows.{cells_after}
 use Rattle.text_block_renderer.specs.Drawn.{Put, as_it_is, drawn, line_put, not_drawn, WithoutDrawnBorders}
 use Rattle.text_block_renderer.specs.Taken.{StandWithin, Takes, AreTakenIn}
-use Rattle.text_block_renderer.proofs.AddedLines.{Grows, steps_grow}
+use Rattle.text_block_renderer.proofs.AddedLines.{Grows, moves_grow, steps_grow}
 use Rattle.text_block_renderer.proofs.LineContents.{text_of_lines-append}
 use Rattle.text_block_renderer.proofs.VisibleCharacters.{glyphs-append, handed_out_less}
 use Rattle.text_block_renderer.proofs.LaidTexts.{shown_texts, characters_appended}
@@ -142,13 +148,15 @@ module _ {D A : Type 0} (columns : ℕ → Option ℕ) where
     taken_within (append_subrender prefixes taken) r s lines t h =
         let tag = r.annotations in
         let all : StandWithin (seen columns taken) (visible_glyphs columns (joined (prefixed tag prefixes taken))) = prefixed_within columns tag prefixes taken (subst (λ (ls : List (Line (List A))). length ls ≤ length prefixes) (sym t.0) t.1) in
+        let (m, flushed, shown) = characters_appended columns decoration prefixes taken r s h in
         subst (λ (ls : List (Line (List A))). StandWithin (seen columns ls) (seen columns s.lines)) t.0
-        (subst (StandWithin (seen columns taken)) (sym (characters_appended columns decoration prefixes taken r s h))
-        (within_behind (seen columns h.0.lines) (seen columns taken) (visible_glyphs columns (joined (prefixed tag prefixes taken))) all))
+        (subst (StandWithin (seen columns taken)) (sym shown)
+        (within_behind (seen columns m.lines) (seen columns taken) (visible_glyphs columns (joined (prefixed tag prefixes taken))) all))
     taken_within (append_vert_row cells) r s lines t h =
         let (front, back, is) = t in
-        let row = divider_keeps (seen columns lines) horizontal (with_cells columns h.0 (front ++ lines ∷ back)) (row_within front back lines h.0) in
-        subst (λ (q : Renderer D A (List A)). StandWithin (seen columns lines) (seen columns q.lines)) (sym (h.2 ∙ ap (λ cs. with_divider columns horizontal (with_cells columns h.0 cs)) is)) row
+        let (m, flushed, whole) = cells_after columns decoration cells r s h in
+        let row = divider_keeps (seen columns lines) horizontal (with_cells columns m (front ++ lines ∷ back)) (row_within front back lines m) in
+        subst (λ (q : Renderer D A (List A)). StandWithin (seen columns lines) (seen columns q.lines)) (sym (whole ∙ ap (λ cs. with_divider columns horizontal (with_cells columns m cs)) is)) row
     taken_within add_empty_line r s lines t h = elim t [ ]
     taken_within new_line r s lines t h = elim t [ ]
     taken_within new_line_hard r s lines t h = elim t [ ]
@@ -171,13 +179,17 @@ module _ {D A : Type 0} (columns : ℕ → Option ℕ) where
     taken_within (add_border width) r s lines t h = elim t [ ]
 
     steps_within : (before : List (Call (List A))) (c : Call (List A)) (behind : List (Call (List A))) (r s : Renderer D A (List A)) (lines : List (Line (List A))) → Takes lines c → Steps columns decoration (before ++ c ∷ behind) r s → StandWithin (seen columns lines) (seen columns s.lines)
-    steps_within [] c behind r s lines t h = still_within (seen columns lines) h.0 s (steps_grow columns decoration behind h.0 s h.2) (taken_within c r h.0 lines t h.1)
-    steps_within (d ∷ before) c behind r s lines t h = steps_within before c behind h.0 s lines t h.2
+    steps_within [] c behind r s lines t h =
+        let (m, does, others) = done_first (after columns decoration c r) (run (after columns decoration) behind) s h in
+        still_within (seen columns lines) m s (steps_grow columns decoration behind m s others) (taken_within c r m lines t does)
+    steps_within (d ∷ before) c behind r s lines t h =
+        let (m, does, others) = done_first (after columns decoration d r) (run (after columns decoration) (before ++ c ∷ behind)) s h in
+        steps_within before c behind m s lines t others
 
-    handed_within : (gs : List (ℕ × List A)) (r : Renderer D A (List A)) (lines : List (Line (List A))) → HandsOut columns r lines → StandWithin gs (seen columns r.lines) → StandWithin gs (seen columns lines)
+    handed_within : (gs : List (ℕ × List A)) (r : Renderer D A (List A)) (lines : List (Line (List A))) → handed_out columns r ≡ done lines → StandWithin gs (seen columns r.lines) → StandWithin gs (seen columns lines)
     handed_within gs r lines h k =
-        let (s, flushes, is) = h.1 in
-        subst (λ (ls : List (Line (List A))). StandWithin gs (seen columns ls)) (sym is) (still_within gs r s (steps_grow columns decoration (new_line ∷ []) r s (s, flushes, refl)) k)
+        let (s, flushed, is) = handed_then columns r lines h in
+        subst (λ (ls : List (Line (List A))). StandWithin gs (seen columns ls)) (sym is) (still_within gs r s (moves_grow columns (flush ∷ []) r s (s, flushed, refl)) k)
 
     pub all_within : (depth : ℕ) (inside outside : List (Line (List A))) → AreTakenIn columns decoration depth inside outside → StandWithin (seen columns inside) (seen columns outside)
     all_within zero inside outside h = subst (λ (ls : List (Line (List A))). StandWithin (seen columns inside) (seen columns ls)) (sym h) (within_itself (seen columns inside))
@@ -187,10 +199,10 @@ module _ {D A : Type 0} (columns : ℕ → Option ℕ) where
         within_on (seen columns inside) (seen columns between) (seen columns outside) here (all_within depth between outside others)
 
     pub brought_within : (depth : ℕ) (r : Renderer D A (List A)) (borders : List (List Cell)) (es : List (Entry (List A))) (inside outside : List (Line (List A))) →
-        WithoutDrawnBorders borders (λ q. Shows columns q es) r → HandsOut columns r inside → AreTakenIn columns decoration depth inside outside →
+        IsSound columns r → WithoutDrawnBorders borders (λ q. Shows columns q es) r → handed_out columns r ≡ done inside → AreTakenIn columns decoration depth inside outside →
         (shown : List (ℕ × List A)) × AllZip (IsShown (λ a b. a ≡ b)) shown (visible_entries columns es) × StandWithin shown (visible_glyphs columns (text_of_lines outside))
-    brought_within depth r borders es inside outside shows gives h =
-        let (rest, among, shown) = handed_out_less columns r borders es inside shows gives in
+    brought_within depth r borders es inside outside sound shows gives h =
+        let (rest, among, shown) = handed_out_less columns r borders es inside sound shows gives in
         let (puts, is, drawn_are, others) = among in
         let here : StandWithin (seen columns rest) (seen columns inside) =
         subst (λ (ls : List (Line (List A))). StandWithin (seen columns ls) (seen columns inside)) (sym others)

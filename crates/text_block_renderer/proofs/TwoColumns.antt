@@ -1,5 +1,5 @@
 -- Two columns are enough for characters that take two at most.
-use Rattle.std.proofs.Common.{unwrap_or, IfSome, ◌≡◌, ℕ, ◌≤◌, inl, inr, Bool, true, false, Option, Some, None, List, [], ◌∷◌, refl, ap, sym, subst, arith}
+use Rattle.std.proofs.Common.{unwrap_or, IfSome, ◌≡◌, ℕ, ◌≤◌, inl, inr, Bool, true, false, if◌then◌else◌, Option, Some, None, List, [], ◌∷◌, fold, refl, ap, sym, subst, arith}
 use Rattle.tbr_model.specs.Rule.{run_of}
 use Rattle.tbr_model.specs.Run.{Entry, character, marker_entry}
 use Rattle.tbr_wrap.specs.Runs.{CharactersFit}
@@ -7,11 +7,18 @@ use Rattle.tbr_decor.specs.Start as start
 use Rattle.tbr_decor.specs.End as end
 use Rattle.tbr_decor.specs.Decoration.{Decoration}
 use Rattle.tbr_renderer.specs.Image.{shown_title}
-use Rattle.tbr_renderer.specs.Decorated.{struck_until, asked_to_close, annotated, ImageIsTooNarrowBy}
-use Rattle.tbr_renderer.specs.Renderer.{Open, Renderer, least, block_width, ignores}
-use Rattle.tbr_renderer.specs.Flush.{BlockIsTooNarrow, FlushIsTooNarrow}
-use Rattle.tbr_renderer.specs.Steps.{StartsBlock, TextIsTooNarrowBy, TextIsTooNarrow}
-use Rattle.tbr_renderer.specs.Calls.{Call, add_empty_line, new_line, new_line_hard, start_block, start_table, end_block, add_inline_text, push_ws, pop_ws, push_preformat, pop_preformat, record_frag_start, begin, finish, start_strikeout, end_strikeout, add_image, push_colour, pop_colour, add_border, append_subrender, append_vert_row, IsTooNarrow}
+use Rattle.tbr_renderer.specs.Decorated.{struck_from, struck_until, asked_to_close, annotated, after_start, after_end, after_titled}
+use Rattle.tbr_renderer.specs.Renderer.{Open, Renderer, least, block_width, without_annotation, with_line, open_block, with_events, struck, text_annotations, last_mode, ignores}
+use Rattle.tbr_tagged.specs.Outcome.{done, refused}
+use Rattle.tbr_tagged.specs.declared.Error.TheVariants.{TooNarrow}
+use Rattle.tbr_border.specs.Cell.{horizontal}
+use Rattle.tbr_renderer.specs.Outcomes.{changed}
+use Rattle.tbr_renderer.specs.Flush.{block_lines, lines_at_end, names_at_end, fits_at_end, fits_grown, flushed, after_block, after_flush}
+use Rattle.tbr_renderer.specs.Steps.{with_empty_line, after_empty_line, block_started, after_block_start, at_line_start, text_brings, after_joining, after_first_text, after_text}
+use Rattle.tbr_renderer.specs.Appended.{with_border, border_of_cells, prefixed, with_divider, with_cells}
+use Rattle.tbr_renderer.proofs.OutcomeParts.{refused_before, refused_first, refused_if_not}
+use Rattle.tbr_renderer.proofs.MappedBlocks.{end_wide, join_wide}
+use Rattle.tbr_renderer.specs.Calls.{Call, add_empty_line, new_line, new_line_hard, start_block, start_table, end_block, add_inline_text, push_ws, pop_ws, push_preformat, pop_preformat, record_frag_start, begin, finish, start_strikeout, end_strikeout, add_image, push_colour, pop_colour, add_border, append_subrender, append_vert_row, made}
 use Rattle.tbr_renderer.proofs.SettingsStay.{Steady, started_alike}
 use Rattle.text_block_renderer.specs.Acts.{Act, call, row, ActIsTooNarrow}
 use Rattle.text_block_renderer.specs.Headline.{TakeTwoAtMost}
@@ -25,27 +32,43 @@ characters_fit columns two width [] wide = tt
 characters_fit columns two width (character c a b mode ∷ es) wide = (narrow (columns c) width (two c) wide, characters_fit columns two width es wide)
 characters_fit columns two width (marker_entry name ∷ es) wide = (tt, characters_fit columns two width es wide)
 
-module _ {D A : Type 0} (columns : ℕ → Option ℕ) (two : TakeTwoAtMost columns) where
-  block_fits : (r : Renderer D A (List A)) (o : Option (Open (List A))) → 2 ≤ block_width r → BlockIsTooNarrow columns r o → ⊥
-  block_fits r None wide h = h
-  block_fits r (Some b) wide h = h.wide (characters_fit columns two (block_width r) (run_of b.events) wide)
+module _ {D A : Type 0} (columns : ℕ → Option ℕ) (one : columns 32 ≡ Some 1) (two : TakeTwoAtMost columns) where
+  flush_fits : (r : Renderer D A (List A)) → 2 ≤ block_width r → after_flush columns r ≡ refused TooNarrow → ⊥
+  flush_fits r wide h = go r.block h
+    where
+      go : (o : Option (Open (List A))) → after_block columns r o ≡ refused TooNarrow → ⊥
+      go None e = cc
+      go (Some b) e =
+          end_wide columns one r b (omega (arith, wide)) (refused_if_not (fits_at_end columns r b) (flushed columns r (block_lines columns r b (lines_at_end columns r b)) (names_at_end columns r b)) e)
+          (characters_fit columns two (block_width r) (run_of b.events) wide)
 
-  flush_fits : (r : Renderer D A (List A)) → 2 ≤ block_width r → FlushIsTooNarrow columns r → ⊥
-  flush_fits r wide h = block_fits r r.block wide h
+  flushed_fits : {X : Type 0} (change : Renderer D A (List A) → X) (r : Renderer D A (List A)) → 2 ≤ block_width r → changed change (after_flush columns r) ≡ refused TooNarrow → ⊥
+  flushed_fits change r wide h = flush_fits r wide (refused_before change (after_flush columns r) TooNarrow h)
 
-  started_width : (r m : Renderer D A (List A)) → StartsBlock columns r m → block_width m ≡ block_width r
-  started_width r m h = ap (λ (x : Steady D A). least x.settings.kept.width x.settings.kept.options.wrap_width) (started_alike columns r m h)
+  break_fits : (at : Bool) (r : Renderer D A (List A)) → 2 ≤ block_width r → (if at then after_empty_line columns r else after_flush columns r) ≡ refused TooNarrow → ⊥
+  break_fits true r wide h = flushed_fits (with_empty_line columns) r wide h
+  break_fits false r wide h = flush_fits r wide h
 
-  text_fits_by : (preformatted : D → Bool → A) (ignored ended : Bool) (cs : List ℕ) (r : Renderer D A (List A)) → 2 ≤ block_width r → TextIsTooNarrowBy columns preformatted ignored ended cs r → ⊥
-  text_fits_by preformatted true ended cs r wide h = h
-  text_fits_by preformatted false true cs r wide (inl h) = flush_fits r wide h
-  text_fits_by preformatted false true cs r wide (inr h) =
-      let still : 2 ≤ block_width h.0 = subst (λ n. 2 ≤ n) (sym (started_width r h.0 h.1)) wide in
-      h.2.wide (characters_fit columns two (block_width h.0) _ still)
-  text_fits_by preformatted false false cs r wide h = h.wide (characters_fit columns two (block_width r) _ wide)
+  module _ (preformatted : D → Bool → A) where
+    join_fits : (cs : List ℕ) (r : Renderer D A (List A)) → 2 ≤ block_width r → after_joining columns preformatted cs r ≡ refused TooNarrow → ⊥
+    join_fits cs r wide h =
+        let more = text_brings columns preformatted cs r in
+        join_wide columns one r (open_block r) (omega (arith, wide)) (struck columns r.strikeouts cs) (text_annotations preformatted false r) (text_annotations preformatted true r) (last_mode r.modes)
+        (refused_if_not (fits_grown columns r (open_block r) more) (with_events r more) h) (characters_fit columns two (block_width r) _ wide)
 
-  text_fits : (preformatted : D → Bool → A) (cs : List ℕ) (r : Renderer D A (List A)) → 2 ≤ block_width r → TextIsTooNarrow columns preformatted cs r → ⊥
-  text_fits preformatted cs r wide h = text_fits_by preformatted (ignores r cs) r.block_ended cs r wide h
+    text_fits : (cs : List ℕ) (r : Renderer D A (List A)) → 2 ≤ block_width r → after_text columns preformatted cs r ≡ refused TooNarrow → ⊥
+    text_fits cs r wide h = go (ignores r cs) r.block_ended h
+      where
+        first : after_first_text columns preformatted cs r ≡ refused TooNarrow → ⊥
+        first e = elim (refused_first (after_block_start columns r) (after_joining columns preformatted cs) TooNarrow e) [
+          | inl starts ↦ flushed_fits (block_started columns) r wide starts
+          | inr joins ↦ (let same = ap (λ (x : Steady D A). least x.settings.kept.width x.settings.kept.options.wrap_width) (started_alike columns r joins.0 joins.1) in join_fits cs joins.0 (subst (λ n. 2 ≤ n) (sym same) wide) joins.2)
+        ]
+
+        go : (ignored ended : Bool) → (if ignored then done r else if ended then after_first_text columns preformatted cs r else after_joining columns preformatted cs r) ≡ refused TooNarrow → ⊥
+        go true ended e = cc
+        go false true e = first e
+        go false false e = join_fits cs r wide e
 
   struck_width : (r : Renderer D A (List A)) → block_width (struck_until r) ≡ block_width r
   struck_width r = go r.options.use_unicode_strikeout refl
@@ -55,38 +78,42 @@ module _ {D A : Type 0} (columns : ℕ → Option ℕ) (two : TakeTwoAtMost colu
       go false e = rw e refl
 
   module _ (decoration : Decoration D A) where
-    image_fits : (source : List ℕ) (o : Option (List ℕ)) (r : Renderer D A (List A)) → 2 ≤ block_width r → ImageIsTooNarrowBy columns decoration source o r → ⊥
-    image_fits source None r wide h = h
-    image_fits source (Some title) r wide h = text_fits decoration.preformatted (decoration.start_text r.decorator (start.image source title)) (annotated decoration (start.image source title) r) wide h
+    start_fits : (s : start.Start) (r : Renderer D A (List A)) → 2 ≤ block_width r → after_start columns decoration s r ≡ refused TooNarrow → ⊥
+    start_fits s r wide h = text_fits decoration.preformatted (decoration.start_text r.decorator s) (annotated decoration s r) wide h
 
-    struck_fits : (r : Renderer D A (List A)) → 2 ≤ block_width r → IsTooNarrow columns decoration end_strikeout r → ⊥
-    struck_fits r wide h =
-        let still : 2 ≤ block_width (struck_until r) = subst (λ n. 2 ≤ n) (sym (struck_width r)) wide in
-        text_fits decoration.preformatted (decoration.end_text (struck_until r).decorator end.strikeout) (asked_to_close decoration end.strikeout (struck_until r)) still h
+    end_fits : (e : end.End) (r : Renderer D A (List A)) → 2 ≤ block_width r → after_end columns decoration e r ≡ refused TooNarrow → ⊥
+    end_fits e r wide h =
+        let cs = decoration.end_text r.decorator e in
+        text_fits decoration.preformatted cs (asked_to_close decoration e r) wide (refused_before (λ (s : Renderer D A (List A)). without_annotation s) (after_text columns decoration.preformatted cs (asked_to_close decoration e r)) TooNarrow h)
 
-    call_fits : (c : Call (List A)) (r : Renderer D A (List A)) → 2 ≤ block_width r → IsTooNarrow columns decoration c r → ⊥
-    call_fits add_empty_line r wide h = flush_fits r wide h
+    image_fits : (source : List ℕ) (title : Option (List ℕ)) (r : Renderer D A (List A)) → 2 ≤ block_width r → after_titled columns decoration source title r ≡ refused TooNarrow → ⊥
+    image_fits source None r wide h = cc
+    image_fits source (Some title) r wide h =
+        start_fits (start.image source title) r wide (refused_before (λ (s : Renderer D A (List A)). without_annotation s) (after_start columns decoration (start.image source title) r) TooNarrow h)
+
+    call_fits : (c : Call (List A)) (r : Renderer D A (List A)) → 2 ≤ block_width r → made columns decoration c r ≡ refused TooNarrow → ⊥
+    call_fits add_empty_line r wide h = flushed_fits (with_empty_line columns) r wide h
     call_fits new_line r wide h = flush_fits r wide h
-    call_fits new_line_hard r wide h = flush_fits r wide h
-    call_fits start_block r wide h = flush_fits r wide h
-    call_fits start_table r wide h = flush_fits r wide h
-    call_fits end_block r wide h = h
+    call_fits new_line_hard r wide h = break_fits (at_line_start columns r r.block) r wide h
+    call_fits start_block r wide h = flushed_fits (block_started columns) r wide h
+    call_fits start_table r wide h = flushed_fits (block_started columns) r wide h
+    call_fits end_block r wide h = cc
     call_fits (add_inline_text cs) r wide h = text_fits decoration.preformatted cs r wide h
-    call_fits (push_ws mode) r wide h = h
-    call_fits pop_ws r wide h = h
-    call_fits push_preformat r wide h = h
-    call_fits pop_preformat r wide h = h
-    call_fits (record_frag_start name) r wide h = h
-    call_fits (begin opened) r wide h = text_fits decoration.preformatted (decoration.start_text r.decorator opened) (annotated decoration opened r) wide h
-    call_fits (finish closed) r wide h = text_fits decoration.preformatted (decoration.end_text r.decorator closed) (asked_to_close decoration closed r) wide h
-    call_fits start_strikeout r wide h = text_fits decoration.preformatted (decoration.start_text r.decorator start.strikeout) (annotated decoration start.strikeout r) wide h
-    call_fits end_strikeout r wide h = struck_fits r wide h
+    call_fits (push_ws mode) r wide h = cc
+    call_fits pop_ws r wide h = cc
+    call_fits push_preformat r wide h = cc
+    call_fits pop_preformat r wide h = cc
+    call_fits (record_frag_start name) r wide h = cc
+    call_fits (begin opened) r wide h = start_fits opened r wide h
+    call_fits (finish closed) r wide h = end_fits closed r wide h
+    call_fits start_strikeout r wide h = start_fits start.strikeout r wide (refused_before (λ (s : Renderer D A (List A)). struck_from s) (after_start columns decoration start.strikeout r) TooNarrow h)
+    call_fits end_strikeout r wide h = end_fits end.strikeout (struck_until r) (subst (λ n. 2 ≤ n) (sym (struck_width r)) wide) h
     call_fits (add_image source title) r wide h = image_fits source (shown_title r.options.img_mode source title) r wide h
-    call_fits (push_colour g colour) r wide h = h
-    call_fits (pop_colour g) r wide h = h
-    call_fits (add_border width) r wide h = flush_fits r wide h
-    call_fits (append_subrender prefixes lines) r wide h = flush_fits r wide h
-    call_fits (append_vert_row cells) r wide h = flush_fits r wide h
+    call_fits (push_colour g colour) r wide h = cc
+    call_fits (pop_colour g) r wide h = cc
+    call_fits (add_border width) r wide h = flushed_fits (λ m. with_border columns m (border_of_cells horizontal width r)) r wide h
+    call_fits (append_subrender prefixes lines) r wide h = flushed_fits (λ m. fold (with_line columns) m (prefixed r.annotations prefixes lines)) r wide h
+    call_fits (append_vert_row cells) r wide h = flushed_fits (λ m. with_divider columns horizontal (with_cells columns m cells)) r wide h
 
     pub act_fits : (act : Act (List A)) (r : Renderer D A (List A)) → 2 ≤ block_width r → ActIsTooNarrow columns decoration act r → ⊥
     act_fits (call c) r wide h = call_fits c r wide h

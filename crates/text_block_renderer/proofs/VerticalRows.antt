@@ -8,7 +8,11 @@ use Rattle.tbr_border.specs.Cell.{Cell, horizontal, slash}
 use Rattle.tbr_decor.specs.Decoration.{Decoration}
 use Rattle.tbr_kept_lines.specs.Line.{Line, text, border}
 use Rattle.tbr_renderer.specs.Renderer.{Renderer, Settings, settings_of, with_line}
-use Rattle.tbr_renderer.specs.Flush.{Flushes}
+use Rattle.tbr_tagged.specs.Outcome.{done}
+use Rattle.tbr_tagged.proofs.Outcomes.{live_done}
+use Rattle.tbr_renderer.specs.Outcomes.{changed}
+use Rattle.tbr_renderer.specs.Flush.{after_flush}
+use Rattle.tbr_renderer.proofs.OutcomeParts.{done_before}
 use Rattle.tbr_renderer.specs.Appended.{with_border, border_of_cells, as_text, with_divider, with_cell, with_cell_below, with_cells}
 use Rattle.tbr_renderer.specs.Calls.{append_vert_row, Does}
 use Rattle.text_block_renderer.specs.Stretches.{lines_laid}
@@ -85,11 +89,19 @@ module _ {D A : Type 0} (columns : ℕ → Option ℕ) where
           let row = divider_so_far horizontal (with_cells columns q cells) (q.lines ++ join_by (cell_lines r) slashed cells) (cells_so_far cells q q.lines (record { settings = settings; waiting = none; lines = refl })) in
           row.lines ∙ append_assoc q.lines (join_by (cell_lines r) slashed cells) (border (border_of_cells horizontal r.width r) ∷ [])
 
+  -- the cells come after a flush
+  pub cells_after : (decoration : Decoration D A) (cells : List (List (Line (List A)))) (r s : Renderer D A (List A)) → Does columns decoration (append_vert_row cells) r s →
+      (m : Renderer D A (List A)) × (after_flush columns r ≡ done m) × (s ≡ with_divider columns horizontal (with_cells columns m cells))
+  cells_after decoration cells r s h =
+      let change : Renderer D A (List A) → Renderer D A (List A) = λ m. with_divider columns horizontal (with_cells columns m cells) in
+      done_before change (after_flush columns r) s (live_done r.failure (changed change (after_flush columns r)) s h).1
+
   pub row_drawn : (decoration : Decoration D A) (cells : List (List (Line (List A)))) (r s : Renderer D A (List A)) → Does columns decoration (append_vert_row cells) r s → r.options.draw_borders ≡ true → r.options.pad_block_width ≡ false →
-      (m : Renderer D A (List A)) × Flushes columns r m × (m.waiting ≡ [] → s.lines ≡ m.lines ++ row_lines r cells)
+      (m : Renderer D A (List A)) × (after_flush columns r ≡ done m) × (m.waiting ≡ [] → s.lines ≡ m.lines ++ row_lines r cells)
   row_drawn decoration cells r s h drawn unpadded =
-      let settings = ap (λ (x : Steady D A). x.settings) (flushed_alike columns r h.0 h.1) in
-      (h.0, h.1, (λ none. ap (λ (q : Renderer D A (List A)). q.lines) h.2 ∙ row_so_far r unpadded drawn cells h.0 settings none))
+      let (m, flushed, is) = cells_after decoration cells r s h in
+      let settings = ap (λ (x : Steady D A). x.settings) (flushed_alike columns r m flushed) in
+      (m, flushed, (λ none. ap (λ (q : Renderer D A (List A)). q.lines) is ∙ row_so_far r unpadded drawn cells m settings none))
 
   -- ---- without borders
 
@@ -110,12 +122,13 @@ module _ {D A : Type 0} (columns : ℕ → Option ℕ) where
       ap (λ p. fold (with_cell_below columns) (with_cell columns p lines) cells) (sym (divider_undrawn slash q undrawn)) ∙ below_alone tag (lines ∷ cells) q undrawn e
 
   pub row_undrawn : (decoration : Decoration D A) (cells : List (List (Line (List A)))) (r s : Renderer D A (List A)) → Does columns decoration (append_vert_row cells) r s → r.options.draw_borders ≡ false →
-      (m : Renderer D A (List A)) × Flushes columns r m × (s.lines ≡ m.lines ++ lines_laid columns m (flat_map (map (as_text r.annotations)) cells))
+      (m : Renderer D A (List A)) × (after_flush columns r ≡ done m) × (s.lines ≡ m.lines ++ lines_laid columns m (flat_map (map (as_text r.annotations)) cells))
   row_undrawn decoration cells r s h undrawn =
-      let settings = ap (λ (x : Steady D A). x.settings) (flushed_alike columns r h.0 h.1) in
+      let (m, flushed, is) = cells_after decoration cells r s h in
+      let settings = ap (λ (x : Steady D A). x.settings) (flushed_alike columns r m flushed) in
       let texts = flat_map (map (as_text r.annotations)) cells in
-      let here : h.0.options.draw_borders ≡ false = ap (λ (x : Settings D A). x.kept.options.draw_borders) settings ∙ undrawn in
-      let put = cells_alone r.annotations cells h.0 here (ap (λ (x : Settings D A). x.annotations) settings) in
-      let after : Renderer D A (List A) = fold (with_line columns) h.0 texts in
-      let last = divider_undrawn horizontal after (ap (λ (x : Settings D A). x.kept.options.draw_borders) (settings_laid texts h.0) ∙ here) in
-      (h.0, h.1, ap (λ (q : Renderer D A (List A)). q.lines) (h.2 ∙ ap (with_divider columns horizontal) put ∙ last) ∙ laid_lines columns texts h.0)
+      let here : m.options.draw_borders ≡ false = ap (λ (x : Settings D A). x.kept.options.draw_borders) settings ∙ undrawn in
+      let put = cells_alone r.annotations cells m here (ap (λ (x : Settings D A). x.annotations) settings) in
+      let after : Renderer D A (List A) = fold (with_line columns) m texts in
+      let last = divider_undrawn horizontal after (ap (λ (x : Settings D A). x.kept.options.draw_borders) (settings_laid texts m) ∙ here) in
+      (m, flushed, ap (λ (q : Renderer D A (List A)). q.lines) (is ∙ ap (with_divider columns horizontal) put ∙ last) ∙ laid_lines columns texts m)

@@ -15,9 +15,12 @@ use Rattle.tbr_tagged.specs.Padding.{spaces}
 use Rattle.tbr_wrap.specs.Wrapped.{padding_of}
 use Rattle.tbr_tagged.proofs.SameItems.{all_zip_append}
 use Rattle.tbr_kept_lines.specs.Line.{Line}
-use Rattle.tbr_renderer.specs.Renderer.{Open, Renderer, new_renderer, with_line, open_run, with_events, block_width}
-use Rattle.tbr_renderer.specs.Flush.{block_lines, FlushesBlock, lines_at_end}
-use Rattle.tbr_renderer.specs.Appended.{border_line, with_border, HandsOut}
+use Rattle.tbr_renderer.specs.Renderer.{Open, Renderer, new_renderer, with_line, open_run, with_events, block_width, IsSound}
+use Rattle.tbr_renderer.specs.Flush.{block_lines, lines_at_end}
+use Rattle.tbr_renderer.proofs.FlushedBlocks.{FlushesBlock}
+use Rattle.tbr_renderer.specs.Appended.{border_line, with_border, handed_out}
+use Rattle.tbr_tagged.specs.Outcome.{done}
+use Rattle.tbr_renderer.proofs.CallParts.{handed_then}
 use Rattle.tbr_renderer.specs.declared.options.RenderOptions.{RenderOptions}
 use Rattle.tbr_decor.specs.Decoration.{Decoration}
 use Rattle.tbr_renderer.specs.Calls.{Call, laid_entries, Brings, text_of_lines, Shows}
@@ -99,15 +102,15 @@ module _ {D A : Type 0} (columns : ℕ → Option ℕ) where
 
   -- ---- steps
 
-  shows_flush : (r s : Renderer D A (List A)) (o : Option (Open (List A))) (es : List (Entry (List A))) → o ≡ r.block → FlushesBlock columns r o s → Shows columns r es → Shows columns s es
-  shows_flush r s None es e h k = subst (λ (q : Renderer D A (List A)). Shows columns q es) (sym h) k
-  shows_flush r s (Some b) es e h k =
+  shows_flush : (r s : Renderer D A (List A)) (o : Option (Open (List A))) (es : List (Entry (List A))) → o ≡ r.block → FlushesBlock columns r o s → IsSound columns r → Shows columns r es → Shows columns s es
+  shows_flush r s None es e h sound k = subst (λ (q : Renderer D A (List A)). Shows columns q es) (sym h) k
+  shows_flush r s (Some b) es e h sound k =
       let after = fold (with_line columns) (record r { block = None }) (block_lines columns r b (lines_at_end columns r b)) in
       let lines = shown_lines b (block_width r) (lines_at_end columns r b) (record r { block = None }) in
       let both : AllZip (IsShown (λ x y. x ≡ y)) (visible_glyphs columns (text_of_lines after.lines)) (visible_entries columns (k.ended ++ (run_of b.events))) =
       subst (λ (gs : List (ℕ × List A)). AllZip (IsShown (λ x y. x ≡ y)) gs (visible_entries columns (k.ended ++ (run_of b.events)))) (sym lines)
       (subst (λ (fs : List (Entry (List A))). AllZip (IsShown (λ x y. x ≡ y)) (visible_glyphs columns (text_of_lines r.lines) ++ visible_glyphs columns (joined (lines_at_end columns r b))) fs) (sym (entries-append columns k.ended (run_of b.events)))
-      (all_zip_append (IsShown (λ x y. x ≡ y)) (visible_glyphs columns (text_of_lines r.lines)) (visible_glyphs columns (joined (lines_at_end columns r b))) (visible_entries columns k.ended) (visible_entries columns (run_of b.events)) k.shown h.ends.shown.visible)) in
+      (all_zip_append (IsShown (λ x y. x ≡ y)) (visible_glyphs columns (text_of_lines r.lines)) (visible_glyphs columns (joined (lines_at_end columns r b))) (visible_entries columns k.ended) (visible_entries columns (run_of b.events)) k.shown (h.ends sound).shown.visible)) in
       let nothing : open_run after.block ≡ [] = ap open_run (no_block columns (block_lines columns r b (lines_at_end columns r b)) (record r { block = None }) refl) in
       let whole : visible_entries columns ((k.ended ++ (run_of b.events)) ++ open_run after.block) ≡ visible_entries columns es =
       ap (λ (run : List (Entry (List A))). visible_entries columns ((k.ended ++ (run_of b.events)) ++ run)) nothing ∙ ap (visible_entries columns) (append-nil (k.ended ++ (run_of b.events)))
@@ -152,29 +155,29 @@ module _ {D A : Type 0} (columns : ℕ → Option ℕ) where
   with_none : (s : Renderer D A (List A)) (es : List (Entry (List A))) → Shows columns s es → Shows columns s (es ++ [])
   with_none s es k = subst (Shows columns s) (sym (append-nil es)) k
 
-  shows_move : (m : Move (List A)) (r s : Renderer D A (List A)) (es : List (Entry (List A))) → Makes columns undrawn m r s → Shows columns r es → Shows columns s (es ++ brought_by m)
-  shows_move flush r s es h k = with_none s es (shows_flush r s r.block es refl h k)
-  shows_move (line is) r s es h k = shows_put r s is es h.1 h.2 k
-  shows_move (rule cells) r s es h k = with_none s es (shows_rule r s (without_holes cells r.annotations) es h.0 h.2 k)
-  shows_move (join more) r s es h k = shows_more r s more es h k
-  shows_move turn r s es h k = with_none s es (record {
+  shows_move : (m : Move (List A)) (r s : Renderer D A (List A)) (es : List (Entry (List A))) → Makes columns undrawn m r s → IsSound columns r → Shows columns r es → Shows columns s (es ++ brought_by m)
+  shows_move flush r s es h sound k = with_none s es (shows_flush r s r.block es refl h sound k)
+  shows_move (line is) r s es h sound k = shows_put r s is es h.1 h.2 k
+  shows_move (rule cells) r s es h sound k = with_none s es (shows_rule r s (without_holes cells r.annotations) es h.0 h.2 k)
+  shows_move (join more) r s es h sound k = shows_more r s more es h k
+  shows_move turn r s es h sound k = with_none s es (record {
     ended = k.ended;
     shown = subst (λ (ls : List (Line (List A))). AllZip (IsShown (λ x y. x ≡ y)) (visible_glyphs columns (text_of_lines ls)) (visible_entries columns k.ended)) (sym h.lines) k.shown;
     whole = ap (λ (o : Option (Open (List A))). visible_entries columns (k.ended ++ open_run o)) h.block ∙ k.whole;
   })
 
   pub brings_shown : (decoration : Decoration D A) (calls : List (Call (List A))) (r s : Renderer D A (List A)) (borders : List (List Cell)) (before es : List (Entry (List A))) →
-      Brings columns decoration calls r es s → WithoutDrawnBorders borders (λ q. Shows columns q before) r → WithoutDrawnBorders (borders ++ borders_drawn r calls) (λ q. Shows columns q (before ++ es)) s
+      IsSound columns r → Brings columns decoration calls r es s → WithoutDrawnBorders borders (λ q. Shows columns q before) r → WithoutDrawnBorders (borders ++ borders_drawn r calls) (λ q. Shows columns q (before ++ es)) s
   brings_shown = brings_on columns (Shows columns) shows_move
 
   pub new_brings_shown : (decoration : Decoration D A) (width : ℕ) (options : RenderOptions) (decorator : D) (calls : List (Call (List A))) (s : Renderer D A (List A)) (es : List (Entry (List A))) →
-      (let r : Renderer D A (List A) = new_renderer width options decorator in Brings columns decoration calls r es s → WithoutDrawnBorders (borders_drawn r calls) (λ q. Shows columns q es) s)
-  new_brings_shown decoration width options decorator calls s es h =
+      (let r : Renderer D A (List A) = new_renderer width options decorator in IsSound columns r → Brings columns decoration calls r es s → WithoutDrawnBorders (borders_drawn r calls) (λ q. Shows columns q es) s)
+  new_brings_shown decoration width options decorator calls s es sound h =
       let nothing : Shows columns (new_renderer {D = D} width options decorator) [] = record { ended = []; shown = tt; whole = refl } in
-      brings_shown decoration calls (new_renderer width options decorator) s [] [] es h ([], ([], refl, refl, refl), nothing)
+      brings_shown decoration calls (new_renderer width options decorator) s [] [] es sound h ([], ([], refl, refl, refl), nothing)
 
   pub brings_shown_all : (decoration : Decoration D A) (calls : List (Call (List A))) (r s : Renderer D A (List A)) (before es : List (Entry (List A))) →
-      DrawNone r calls → Brings columns decoration calls r es s → Shows columns r before → Shows columns s (before ++ es)
+      IsSound columns r → DrawNone r calls → Brings columns decoration calls r es s → Shows columns r before → Shows columns s (before ++ es)
   brings_shown_all = brings_on_all columns (Shows columns) shows_move
 
   -- ---- lines that are handed out
@@ -186,19 +189,19 @@ module _ {D A : Type 0} (columns : ℕ → Option ℕ) where
       ap (visible_entries columns) (sym (append-nil k.ended) ∙ ap (λ (o : Option (Open (List A))). k.ended ++ open_run o) (sym none)) ∙ k.whole in
       subst (λ (fs : List (Entry (List A))). AllZip (IsShown (λ a b. a ≡ b)) (visible_glyphs columns (text_of_lines s.lines)) fs) ended k.shown
 
-  pub handed_out : (r : Renderer D A (List A)) (es : List (Entry (List A))) (lines : List (Line (List A))) → Shows columns r es → HandsOut columns r lines →
+  pub all_handed_out : (r : Renderer D A (List A)) (es : List (Entry (List A))) (lines : List (Line (List A))) → IsSound columns r → Shows columns r es → handed_out columns r ≡ done lines →
       AllZip (IsShown (λ a b. a ≡ b)) (visible_glyphs columns (text_of_lines lines)) (visible_entries columns es)
-  handed_out r es lines k h =
-      let (s, flushes, is) = h.1 in
+  all_handed_out r es lines sound k h =
+      let (s, flushes, is) = handed_then columns r lines h in
       subst (λ (ls : List (Line (List A))). AllZip (IsShown (λ a b. a ≡ b)) (visible_glyphs columns (text_of_lines ls)) (visible_entries columns es)) (sym is)
-      (all_shown s es (flushed_none columns r s flushes) (shows_flush r s r.block es refl flushes k))
+      (all_shown s es (flushed_none columns r s flushes) (shows_flush r s r.block es refl flushes sound k))
 
-  pub handed_out_less : (r : Renderer D A (List A)) (borders : List (List Cell)) (es : List (Entry (List A))) (lines : List (Line (List A))) → WithoutDrawnBorders borders (λ q. Shows columns q es) r → HandsOut columns r lines →
+  pub handed_out_less : (r : Renderer D A (List A)) (borders : List (List Cell)) (es : List (Entry (List A))) (lines : List (Line (List A))) → IsSound columns r → WithoutDrawnBorders borders (λ q. Shows columns q es) r → handed_out columns r ≡ done lines →
       (rest : List (Line (List A))) × AreDrawnAmong borders lines rest × AllZip (IsShown (λ a b. a ≡ b)) (visible_glyphs columns (text_of_lines rest)) (visible_entries columns es)
-  handed_out_less r borders es lines k h =
-      let (s, flushes, is) = h.1 in
+  handed_out_less r borders es lines sound k h =
+      let (s, flushes, is) = handed_then columns r lines h in
       let none : borders ++ if_drawn r.options.pad_block_width [] ≡ borders = ap (λ bs. borders ++ bs) (if_none_drawn r.options.pad_block_width) ∙ append-nil borders in
-      let (rest, among, shows) = moves_on columns (Shows columns) shows_move (flush ∷ []) r s borders es (s, flushes, refl) k in
+      let (rest, among, shows) = moves_on columns (Shows columns) shows_move (flush ∷ []) r s borders es sound (s, flushes, refl) k in
       let q : Renderer D A (List A) = record s { lines = rest } in
       let here : AreDrawnAmong borders lines rest = subst (λ ls. AreDrawnAmong borders ls rest) (sym is) (subst (λ bs. AreDrawnAmong bs s.lines rest) none among) in
       (rest, here, all_shown q es (flushed_none columns r s flushes) (subst (λ (fs : List (Entry (List A))). Shows columns q fs) (append-nil es) shows))

@@ -9,16 +9,19 @@ use Rattle.tbr_border.specs.Border.{Border}
 use Rattle.tbr_rows.specs.Meant.{SeenRow}
 use Rattle.tbr_decor.specs.Decoration.{Decoration}
 use Rattle.tbr_renderer.specs.declared.options.RenderOptions.{RenderOptions}
-use Rattle.tbr_renderer.specs.Renderer.{Renderer, with_line}
+use Rattle.tbr_renderer.specs.Renderer.{Renderer, with_line, IsSound}
 use Rattle.tbr_kept_lines.specs.LastBorder.{before_border}
 use Rattle.tbr_renderer.specs.Rows.{border_lines, with_next, with_row}
 use Rattle.tbr_renderer.specs.Calls.{new_line, laid_entry, laid_entries, text_of_lines, Shows}
+use Rattle.tbr_tagged.proofs.Outcomes.{live_done}
+use Rattle.tbr_renderer.specs.Flush.{after_flush}
+use Rattle.text_block_renderer.proofs.RowsOfCells.{row_flushes}
 use Rattle.tbr_renderer.proofs.SettingsStay.{Steady, lines_added, flushed_alike}
 use Rattle.text_block_renderer.specs.Acts.{Act, call, row, ActBrings, ActsBring}
 use Rattle.text_block_renderer.proofs.Moves.{flushed_none}
 use Rattle.text_block_renderer.proofs.RowsOfCells.{text_append, cut_texts, no_texts}
 use Rattle.text_block_renderer.proofs.VisibleCharacters.{shows_put, shows_rule, brings_shown_all}
-use Rattle.text_block_renderer.proofs.ActParts.{alone, act_options}
+use Rattle.text_block_renderer.proofs.ActParts.{alone, act_sound}
 
 module _ {D A : Type 0} (columns : ℕ → Option ℕ) where
   -- the border above a row has no text
@@ -53,21 +56,22 @@ module _ {D A : Type 0} (columns : ℕ → Option ℕ) where
       shows_next full seen.next (es ++ laid_entries (joined seen.lines)) still (shows_laid seen.lines top es none (shows_top m seen es k))
 
   module _ (decoration : Decoration D A) where
-    act_shows : (act : Act (List A)) (r s : Renderer D A (List A)) (before es : List (Entry (List A))) → r.options.pad_block_width ≡ false → ActBrings columns decoration act r es s → Shows columns r before → Shows columns s (before ++ es)
-    act_shows (call c) r s before es unpadded h k = brings_shown_all columns decoration (c ∷ []) r s before es (inl unpadded) (alone columns decoration c r s es h.0 h.1) k
-    act_shows (row collapses cells) r s before es unpadded h k =
-        let (m, flushes, puts, is) = h in
-        let first : Shows columns m before = subst (Shows columns m) (append-nil before) (brings_shown_all columns decoration (new_line ∷ []) r m before [] (inl unpadded) (alone columns decoration new_line r m [] flushes refl) k) in
-        let still : m.options.pad_block_width ≡ false = ap (λ (x : Steady D A). x.settings.kept.options.pad_block_width) (flushed_alike columns r m flushes) ∙ unpadded in
-        let all = shows_row m puts.row before still (flushed_none columns r m flushes) first in
+    act_shows : (act : Act (List A)) (r s : Renderer D A (List A)) (before es : List (Entry (List A))) → IsSound columns r → r.options.pad_block_width ≡ false → ActBrings columns decoration act r es s → Shows columns r before → Shows columns s (before ++ es)
+    act_shows (call c) r s before es sound unpadded h k = brings_shown_all columns decoration (c ∷ []) r s before es sound (inl unpadded) (alone columns decoration c r s es h.0 h.1) k
+    act_shows (row collapses cells) r s before es sound unpadded h k =
+        let (m, flushed, puts, is) = h in
+        let first : Shows columns m before = subst (Shows columns m) (append-nil before) (brings_shown_all columns decoration (new_line ∷ []) r m before [] sound (inl unpadded) (alone columns decoration new_line r m [] flushed refl) k) in
+        let still : m.options.pad_block_width ≡ false = ap (λ (x : Steady D A). x.settings.kept.options.pad_block_width) (flushed_alike columns r m (live_done r.failure (after_flush columns r) m flushed).1) ∙ unpadded in
+        let all = shows_row m puts.row before still (flushed_none columns r m (row_flushes columns r m flushed)) first in
         subst (λ fs. Shows columns s (before ++ fs)) (sym is) (subst (λ (q : Renderer D A (List A)). Shows columns q (before ++ laid_entries (joined puts.row.lines))) (sym puts.is) all)
 
-    pub acts_show : (acts : List (Act (List A))) (r s : Renderer D A (List A)) (before es : List (Entry (List A))) → r.options.pad_block_width ≡ false → ActsBring columns decoration acts r es s → Shows columns r before →
+    pub acts_show : (acts : List (Act (List A))) (r s : Renderer D A (List A)) (before es : List (Entry (List A))) → IsSound columns r → r.options.pad_block_width ≡ false → ActsBring columns decoration acts r es s → Shows columns r before →
         Shows columns s (before ++ es)
-    acts_show [] r s before es unpadded h k =
+    acts_show [] r s before es sound unpadded h k =
         subst (λ (q : Renderer D A (List A)). Shows columns q (before ++ es)) (sym h.0) (subst (λ fs. Shows columns r (before ++ fs)) (sym h.1) (subst (Shows columns r) (sym (append-nil before)) k))
-    acts_show (act ∷ acts) r s before es unpadded h k =
+    acts_show (act ∷ acts) r s before es sound unpadded h k =
         let (m, first, rest, does, others, is) = h in
-        let still : m.options.pad_block_width ≡ false = ap (λ (o : RenderOptions). o.pad_block_width) (act_options columns decoration act r m first does) ∙ unpadded in
-        let here = act_shows act r m before first unpadded does k in
-        subst (Shows columns s) (append_assoc before first rest ∙ ap (λ fs. before ++ fs) (sym is)) (acts_show acts m s (before ++ first) rest still others here)
+        let (options, sound_there) = act_sound columns decoration act r m first sound does in
+        let still : m.options.pad_block_width ≡ false = ap (λ (o : RenderOptions). o.pad_block_width) options ∙ unpadded in
+        let here = act_shows act r m before first sound unpadded does k in
+        subst (Shows columns s) (append_assoc before first rest ∙ ap (λ fs. before ++ fs) (sym is)) (acts_show acts m s (before ++ first) rest sound_there still others here)

@@ -12,8 +12,10 @@ use Rattle.tbr_wrap.specs.Runs.{IsNormal}
 use Rattle.tbr_wrap.specs.Wrapped.{HasBestLines}
 use Rattle.tbr_decor.specs.Decoration.{Decoration}
 use Rattle.tbr_kept_lines.specs.Line.{Line, text, border}
-use Rattle.tbr_renderer.specs.Renderer.{Open, Renderer, with_line, block_width, may_overflow, open_run, line_padding}
-use Rattle.tbr_renderer.specs.Flush.{block_lines, flushed, FlushesBlock, Flushes, EndsBlock, lines_at_end, names_at_end}
+use Rattle.tbr_renderer.specs.Renderer.{Open, Renderer, with_line, block_width, may_overflow, open_run, line_padding, IsSound}
+use Rattle.tbr_tagged.specs.Outcome.{done}
+use Rattle.tbr_renderer.specs.Flush.{block_lines, flushed, lines_at_end, names_at_end, after_flush}
+use Rattle.tbr_renderer.proofs.FlushedBlocks.{flushes, FlushesBlock, EndsBlock}
 use Rattle.tbr_renderer.specs.Appended.{with_border}
 use Rattle.tbr_renderer.specs.Calls.{Call, Steps}
 use Rattle.text_block_renderer.specs.Drawn.{CameWithoutDrawnBorders, borders_drawn, DrawNone}
@@ -88,14 +90,14 @@ module _ {D A : Type 0} (columns : ℕ → Option ℕ) where
       ∙ ap (λ ns. ns ++ (names_at_end columns r b)) (none_wait (with_line columns (record r { block = None }) _) (block_lines columns r b ts) refl)
 
   -- what waited counts as the first of the run
-  stand_flushed : (r s : Renderer D A (List A)) (b : Open (List A)) → EndsBlock columns r b s → (is : List (Item (List A))) × StandFor columns (is ++ marker_items s.waiting) (marker_run r.waiting ++ (run_of b.events))
-  stand_flushed r s b h = go (lines_at_end columns r b) refl
+  stand_flushed : (r s : Renderer D A (List A)) (b : Open (List A)) → EndsBlock columns r b s → IsSound columns r → (is : List (Item (List A))) × StandFor columns (is ++ marker_items s.waiting) (marker_run r.waiting ++ (run_of b.events))
+  stand_flushed r s b h sound = go (lines_at_end columns r b) refl
     where
       all : StandFor columns (marker_items r.waiting ++ (joined (lines_at_end columns r b) ++ marker_items (names_at_end columns r b))) (marker_run r.waiting ++ (run_of b.events))
       all =
           stand_behind columns (marker_items r.waiting) (joined (lines_at_end columns r b) ++ marker_items (names_at_end columns r b)) (marker_items r.waiting ++ (joined (lines_at_end columns r b) ++ marker_items (names_at_end columns r b))) (marker_run r.waiting) (run_of b.events)
           (λ Y look looks. looks.append (marker_items r.waiting) (joined (lines_at_end columns r b) ++ marker_items (names_at_end columns r b))) (markers_stand columns r.waiting)
-          (run_stands columns (block_width r) (may_overflow r) (run_of b.events) (lines_at_end columns r b) (names_at_end columns r b) h.ends)
+          (run_stands columns (block_width r) (may_overflow r) (run_of b.events) (lines_at_end columns r b) (names_at_end columns r b) (h.ends sound))
 
       go : (ts : List (List (Item (List A)))) → (lines_at_end columns r b) ≡ ts → (is : List (Item (List A))) × StandFor columns (is ++ marker_items s.waiting) (marker_run r.waiting ++ (run_of b.events))
       go [] e =
@@ -107,25 +109,25 @@ module _ {D A : Type 0} (columns : ℕ → Option ℕ) where
           sym (append_assoc (marker_items r.waiting) (joined (lines_at_end columns r b)) (marker_items (names_at_end columns r b))) ∙ ap (λ ns. (marker_items r.waiting ++ joined (lines_at_end columns r b)) ++ marker_items ns) (sym (full_flush r s b t ts h e)) in
           (marker_items r.waiting ++ joined (lines_at_end columns r b), subst (λ (is : List (Item (List A))). StandFor columns is (marker_run r.waiting ++ (run_of b.events))) same all)
 
-  trails : (r s : Renderer D A (List A)) (b : Open (List A)) → EndsBlock columns r b s → may_overflow r ≡ false → IsNormal (run_of b.events) → has_character (kept_items columns (run_of b.events)) ≡ true → marker_items s.waiting ≡ trailing columns (run_of b.events)
-  trails r s b h narrow normal some = go (lines_at_end columns r b) refl
+  trails : (r s : Renderer D A (List A)) (b : Open (List A)) → EndsBlock columns r b s → IsSound columns r → may_overflow r ≡ false → IsNormal (run_of b.events) → has_character (kept_items columns (run_of b.events)) ≡ true → marker_items s.waiting ≡ trailing columns (run_of b.events)
+  trails r s b h sound narrow normal some = go (lines_at_end columns r b) refl
     where
       go : (ts : List (List (Item (List A)))) → (lines_at_end columns r b) ≡ ts → marker_items s.waiting ≡ trailing columns (run_of b.events)
-      go (t ∷ ts) e = ap marker_items (full_flush r s b t ts h e) ∙ h.ends.waits narrow normal
+      go (t ∷ ts) e = ap marker_items (full_flush r s b t ts h e) ∙ (h.ends sound).waits narrow normal
       go [] e =
-          let kept : marker_items (names_at_end columns r b) ≡ kept_items columns (run_of b.events) = ap (λ (ls : List (List (Item (List A)))). without_spaces (joined ls) ++ marker_items (names_at_end columns r b)) (sym e) ∙ h.ends.kept normal in
+          let kept : marker_items (names_at_end columns r b) ≡ kept_items columns (run_of b.events) = ap (λ (ls : List (List (Item (List A)))). without_spaces (joined ls) ++ marker_items (names_at_end columns r b)) (sym e) ∙ (h.ends sound).kept normal in
           let none : has_character (kept_items columns (run_of b.events)) ≡ false = no_character (names_at_end columns r b) (kept_items columns (run_of b.events)) (sym kept) in
           absurd (let no : true ≡ false = sym some ∙ none in cc)
 
-  bare : (r s : Renderer D A (List A)) (b : Open (List A)) → EndsBlock columns r b s → may_overflow r ≡ false → IsNormal (run_of b.events) → has_character (kept_items columns (run_of b.events)) ≡ false → (s.lines ≡ r.lines) × (s.waiting ≡ r.waiting ++ names_in_run (run_of b.events))
-  bare r s b h narrow normal none =
-      let texts : (lines_at_end columns r b) ≡ [] = no_lines columns (block_width r) (run_of b.events) (lines_at_end columns r b) (h.ends.shown.best narrow normal) none in
+  bare : (r s : Renderer D A (List A)) (b : Open (List A)) → EndsBlock columns r b s → IsSound columns r → may_overflow r ≡ false → IsNormal (run_of b.events) → has_character (kept_items columns (run_of b.events)) ≡ false → (s.lines ≡ r.lines) × (s.waiting ≡ r.waiting ++ names_in_run (run_of b.events))
+  bare r s b h sound narrow normal none =
+      let texts : (lines_at_end columns r b) ≡ [] = no_lines columns (block_width r) (run_of b.events) (lines_at_end columns r b) ((h.ends sound).shown.best narrow normal) none in
       let is = bare_flush r s b h texts in
-      let names : (names_at_end columns r b) ≡ names_in_run (run_of b.events) = ap (λ (ls : List (List (Item (List A)))). names_in_items (joined ls) ++ (names_at_end columns r b)) (sym texts) ∙ h.ends.markers in
+      let names : (names_at_end columns r b) ≡ names_in_run (run_of b.events) = ap (λ (ls : List (List (Item (List A)))). names_in_items (joined ls) ++ (names_at_end columns r b)) (sym texts) ∙ (h.ends sound).markers in
       (ap (λ (q : Renderer D A (List A)). q.lines) is, ap (λ (q : Renderer D A (List A)). q.waiting) is ∙ ap (λ ns. r.waiting ++ ns) names)
 
-  flush_stands : (r s : Renderer D A (List A)) (o : Option (Open (List A))) → FlushesBlock columns r o s → FlushStands columns (open_run o) r s
-  flush_stands r s None h = record {
+  flush_stands : (r s : Renderer D A (List A)) (o : Option (Open (List A))) → FlushesBlock columns r o s → IsSound columns r → FlushStands columns (open_run o) r s
+  flush_stands r s None h sound = record {
     waits = ([], same (is_visible columns));
     waits_kept = λ normal. ([], same (is_kept columns));
     kept = λ normal. ap (λ (q : Renderer D A (List A)). without_spaces (items_so_far q)) h ∙ sym (append-nil (without_spaces (items_so_far r)));
@@ -138,19 +140,19 @@ module _ {D A : Type 0} (columns : ℕ → Option ℕ) where
 
       same : (test : ℕ → Bool) → s.waiting ≡ names_behind {A = List A} test (first ++ [])
       same test = ap (λ (q : Renderer D A (List A)). q.waiting) h ∙ sym (names_of_marker_run test first [] r.waiting refl) ∙ ap (names_behind test) (sym (append-nil first))
-  flush_stands r s (Some b) h =
-      let (is, all) = stand_flushed r s b h in record {
+  flush_stands r s (Some b) h sound =
+      let (is, all) = stand_flushed r s b h sound in record {
         waits = waits_behind columns is s.waiting (marker_run r.waiting ++ (run_of b.events)) all;
         waits_kept = λ normal. waits_behind_kept columns is s.waiting (marker_run r.waiting ++ (run_of b.events)) all (normal_behind r.waiting (run_of b.events) normal);
         kept = λ normal.
             ap (λ (q : Renderer D A (List A)). without_spaces (items_so_far q)) h.is ∙ seen_flushed without_spaces at_unspaced columns r b (lines_at_end columns r b) (names_at_end columns r b)
-            ∙ ap (λ js. without_spaces (items_so_far r) ++ js) ((run_stands columns (block_width r) (may_overflow r) (run_of b.events) (lines_at_end columns r b) (names_at_end columns r b) h.ends).kept normal);
-        trails = trails r s b h;
-        bare = bare r s b h;
+            ∙ ap (λ js. without_spaces (items_so_far r) ++ js) ((run_stands columns (block_width r) (may_overflow r) (run_of b.events) (lines_at_end columns r b) (names_at_end columns r b) (h.ends sound)).kept normal);
+        trails = trails r s b h sound;
+        bare = bare r s b h sound;
       }
 
-  pub flushes_stand : (r s : Renderer D A (List A)) → Flushes columns r s → FlushStands columns (open_run r.block) r s
-  flushes_stand r s h = flush_stands r s r.block h
+  pub flushes_stand : (r s : Renderer D A (List A)) → IsSound columns r → after_flush columns r ≡ done s → FlushStands columns (open_run r.block) r s
+  flushes_stand r s sound h = flush_stands r s r.block (flushes columns r s h) sound
 
 -- ---- until a line of text comes
 

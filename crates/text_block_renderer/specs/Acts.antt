@@ -7,10 +7,12 @@ use Rattle.tbr_border.specs.Border.{Border}
 use Rattle.tbr_decor.specs.Decoration.{Decoration}
 use Rattle.tbr_kept_lines.specs.Line.{Line, text, border}
 use Rattle.tbr_renderer.specs.Renderer.{Renderer, open_run}
-use Rattle.tbr_renderer.specs.Flush.{Flushes, FlushIsTooNarrow}
+use Rattle.tbr_tagged.specs.Outcome.{done, refused, if_live}
+use Rattle.tbr_tagged.specs.declared.Error.TheVariants.{TooNarrow}
+use Rattle.tbr_renderer.specs.Flush.{after_flush}
 use Rattle.tbr_renderer.specs.Appended.{border_line}
 use Rattle.tbr_renderer.specs.Rows.{GivenCell, PutsRow}
-use Rattle.tbr_renderer.specs.Calls.{Call, Does, IsTooNarrow, entries_brought, laid_entries}
+use Rattle.tbr_renderer.specs.Calls.{Call, Does, made, entries_brought, laid_entries}
 use Rattle.text_block_renderer.specs.Stretches.{Part, entries_of_part, lines_of_part, lines_laid, IsBetweenBlocks, IsPart}
 
 -- What is done to a renderer: a call, or a row of cells side by side, with whether it collapses.
@@ -30,8 +32,8 @@ module _ {D A : Type 0} (columns : ℕ → Option ℕ) (decoration : Decoration 
   abbrev pub ActBrings : Act (List A) → Renderer D A (List A) → List (Entry (List A)) → Renderer D A (List A) → Type 0
   ActBrings (call c) r es s = Does columns decoration c r s × (es ≡ entries_brought columns decoration c r)
   ActBrings (row collapses cells) r es s =
-      (m : Renderer D A (List A)) × Flushes columns r m × (puts : PutsRow columns collapses cells m s)
-      × (es ≡ laid_entries (joined puts.row.lines))
+      (m : Renderer D A (List A)) × (if_live r.failure (after_flush columns r) ≡ done m)
+      × (puts : PutsRow columns collapses cells m s) × (es ≡ laid_entries (joined puts.row.lines))
 
   -- and one after another
   abbrev pub ActsBring :
@@ -43,8 +45,8 @@ module _ {D A : Type 0} (columns : ℕ → Option ℕ) (decoration : Decoration 
 
   -- where one answers `TooNarrow` for its own wrapping
   abbrev pub ActIsTooNarrow : Act (List A) → Renderer D A (List A) → Type 0
-  ActIsTooNarrow (call c) r = IsTooNarrow columns decoration c r
-  ActIsTooNarrow (row collapses cells) r = FlushIsTooNarrow columns r
+  ActIsTooNarrow (call c) r = made columns decoration c r ≡ refused TooNarrow
+  ActIsTooNarrow (row collapses cells) r = after_flush columns r ≡ refused TooNarrow
 
 -- ---- what adds lines
 

@@ -10,6 +10,7 @@ pub use Rattle.tbr_renderer.specs.Flush
 pub use Rattle.tbr_renderer.specs.Image
 pub use Rattle.tbr_renderer.specs.Meant
 pub use Rattle.tbr_renderer.specs.Options
+pub use Rattle.tbr_renderer.specs.Outcomes
 pub use Rattle.tbr_renderer.specs.Renderer
 pub use Rattle.tbr_renderer.specs.Steps
 pub use Rattle.tbr_renderer.specs.View

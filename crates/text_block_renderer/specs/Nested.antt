@@ -7,7 +7,8 @@ use Rattle.tbr_tagged.specs.Elements.{text_items}
 use Rattle.tbr_decor.specs.Decoration.{Decoration}
 use Rattle.tbr_kept_lines.specs.Line.{Line, text}
 use Rattle.tbr_renderer.specs.Renderer.{Renderer}
-use Rattle.tbr_renderer.specs.Appended.{as_text, prefixed, HandsOut}
+use Rattle.tbr_renderer.specs.Appended.{as_text, prefixed, handed_out}
+use Rattle.tbr_tagged.specs.Outcome.{done}
 use Rattle.tbr_renderer.specs.Calls.{append_subrender, Does}
 
 -- A block inside others: a prefix for each line, and the tag that they are under.
@@ -47,7 +48,7 @@ pub record HandsOn {D A : Type 0} (columns : ℕ → Option ℕ) (decoration : D
   pub no_marker : first.waiting ≡ []
   pub unpadded : first.options.pad_block_width ≡ false
   pub takes : Does columns decoration (append_subrender level.prefixes inside) first last
-  pub gives : HandsOut columns last lines
+  pub gives : handed_out columns last ≡ done lines
 
 -- and so does one renderer after another, the innermost first
 abbrev pub HandOn : {D A : Type 0} → (ℕ → Option ℕ) → Decoration D A → List (Level (List A))

@@ -3,7 +3,8 @@ use Rattle.std.specs.Prelude.{◌≡◌, ℕ, zero, suc, ◌≤◌, ◌⊎◌, �
 use Rattle.tbr_decor.specs.Decoration.{Decoration}
 use Rattle.tbr_kept_lines.specs.Line.{Line}
 use Rattle.tbr_renderer.specs.Renderer.{Renderer}
-use Rattle.tbr_renderer.specs.Appended.{HandsOut}
+use Rattle.tbr_tagged.specs.Outcome.{done}
+use Rattle.tbr_renderer.specs.Appended.{handed_out}
 use Rattle.tbr_renderer.specs.Calls.{Call, append_subrender, append_vert_row, Steps}
 
 -- They are there in order, with others between.
@@ -28,7 +29,7 @@ pub record TakesIn {D A : Type 0} (columns : ℕ → Option ℕ) (decoration : D
   pub behind : List (Call (List A))
   pub steps : Steps columns decoration (before ++ call ∷ behind) first last
   pub takes : Takes inside call
-  pub gives : HandsOut columns last outside
+  pub gives : handed_out columns last ≡ done outside
 
 -- so many renderers do, one after another
 abbrev pub AreTakenIn : {D A : Type 0} →

@@ -4,14 +4,16 @@ pub mod headline;
 pub mod links;
 pub mod rows;
 
-ghost use Rattle.std.specs.Prelude.{◌≡◌, ℕ, false, ◌⊎◌, Option, Some, List, [], ◌++◌, flat_map};
+ghost use Rattle.std.specs.Prelude.{◌≡◌, ◌≢◌, ◌<◌, ℕ, Bool, false, ◌⊎◌, Option, Some, List, [], ◌++◌, flat_map};
 ghost use Rattle.std.specs.List.{AllByRecursion as Each};
 ghost use Rattle.tbr_border.specs.Cell.{Cell};
 ghost use Rattle.tbr_kept_lines.specs.Line.{Line};
-ghost use Rattle.tbr_renderer.specs.Renderer.{Open, Renderer, new_renderer, settings_of, open_run};
+ghost use Rattle.tbr_renderer.specs.Renderer.{Open, Renderer, new_renderer, settings_of, open_run, IsSound};
 ghost use Rattle.tbr_renderer.specs.declared.options.RenderOptions.{RenderOptions};
-ghost use Rattle.tbr_renderer.specs.Flush.{Flushes};
-ghost use Rattle.tbr_renderer.specs.Calls.{Call, Does, IsTooNarrow, Steps, Brings, Shows};
+ghost use Rattle.tbr_tagged.specs.Outcome.{done};
+ghost use Rattle.tbr_renderer.specs.Flush.{after_flush};
+ghost use Rattle.tbr_renderer.specs.Rows.{GivenCell, AppendsRow};
+ghost use Rattle.tbr_renderer.specs.Calls.{Call, Does, Steps, Brings, Shows};
 ghost use Rattle.text_block_renderer.specs.Settings.{settled};
 ghost use Rattle.text_block_renderer.specs.Drawn.{WithoutDrawnBorders, CameWithoutDrawnBorders, borders_added, borders_drawn, DrawNone};
 ghost use Rattle.text_block_renderer.specs.MarkersStand.{Stands, FlushStands, WaitForText};
@@ -33,24 +35,17 @@ pub fn a_call_changes_its_own_settings_alone<D, A>()
         Does columns decoration call r s → settings_of s ≡ settings_of (settled decoration call r) }
 {}
 
-/// The end of a run leaves one state only, in every mode.
-pub fn a_flush_leaves_one_state<D, A>()
-    ensures { (columns : ℕ → Option ℕ) (r s t : Renderer D A (List A)) →
-        Flushes columns r s → Flushes columns r t → t ≡ s }
-{}
-
-/// A call leaves one state only, in every mode.
-pub fn a_call_leaves_one_state<D, A>()
-    ensures { (columns : ℕ → Option ℕ) (decoration : Decoration D A) (call : Call (List A))
-        (r s t : Renderer D A (List A)) →
-        Does columns decoration call r s → Does columns decoration call r t → t ≡ s }
-{}
-
-/// A call that is too narrow leaves nothing, in every mode.
-pub fn a_call_is_too_narrow_or_not<D, A>()
-    ensures { (columns : ℕ → Option ℕ) (decoration : Decoration D A) (call : Call (List A))
+/// Renderers are sound, as the laws ask: they have columns from the beginning, and no call or row takes these.
+pub fn renderers_stay_sound<D, A>()
+    ensures new { (columns : ℕ → Option ℕ) → columns 32 ≡ Some 1 → (width : ℕ) (options : RenderOptions)
+        (decorator : D) → 0 < width → options.wrap_width ≢ Some 0 →
+        IsSound columns (new_renderer {D = D} {A = A} {T = List A} width options decorator) }
+    ensures calls { (columns : ℕ → Option ℕ) (decoration : Decoration D A) (calls : List (Call (List A)))
         (r s : Renderer D A (List A)) →
-        Does columns decoration call r s → IsTooNarrow columns decoration call r → ⊥ }
+        IsSound columns r → Steps columns decoration calls r s → IsSound columns s }
+    ensures row { (columns : ℕ → Option ℕ) (collapses : Bool) (cells : List (GivenCell (List A)))
+        (r s : Renderer D A (List A)) →
+        IsSound columns r → AppendsRow columns collapses cells r s → IsSound columns s }
 {}
 
 /// After any calls the visible characters of what they brought are in the lines of text, but for those of the open run.
@@ -59,14 +54,16 @@ pub fn a_call_is_too_narrow_or_not<D, A>()
 pub fn visible_characters_stand_once<D, A>()
     ensures calls { (columns : ℕ → Option ℕ) (decoration : Decoration D A) (calls : List (Call (List A)))
         (r s : Renderer D A (List A)) (borders : List (List Cell)) (before es : List (Entry (List A))) →
-        Brings columns decoration calls r es s → WithoutDrawnBorders borders (λ q. Shows columns q before) r →
+        IsSound columns r → Brings columns decoration calls r es s →
+        WithoutDrawnBorders borders (λ q. Shows columns q before) r →
         WithoutDrawnBorders (borders ++ borders_drawn r calls) (λ q. Shows columns q (before ++ es)) s }
     ensures from_new { (columns : ℕ → Option ℕ) (decoration : Decoration D A) (width : ℕ) (options : RenderOptions)
         (decorator : D) (calls : List (Call (List A))) (s : Renderer D A (List A)) (es : List (Entry (List A))) →
-        let r = new_renderer {D = D} {A = A} width options decorator in Brings columns decoration calls r es s →
+        let r = new_renderer {D = D} {A = A} width options decorator in
+        IsSound columns r → Brings columns decoration calls r es s →
         WithoutDrawnBorders (borders_drawn r calls) (λ q. Shows columns q es) s }
     ensures undrawn { (columns : ℕ → Option ℕ) (decoration : Decoration D A) (calls : List (Call (List A)))
-        (r s : Renderer D A (List A)) (before es : List (Entry (List A))) → DrawNone r calls →
+        (r s : Renderer D A (List A)) (before es : List (Entry (List A))) → IsSound columns r → DrawNone r calls →
         Brings columns decoration calls r es s → Shows columns r before → Shows columns s (before ++ es) }
 {}
 
@@ -77,14 +74,16 @@ pub fn visible_characters_stand_once<D, A>()
 pub fn what_was_brought_stands<D, A>()
     ensures calls { (columns : ℕ → Option ℕ) (decoration : Decoration D A) (calls : List (Call (List A)))
         (r s : Renderer D A (List A)) (borders : List (List Cell)) (before es : List (Entry (List A))) →
-        Brings columns decoration calls r es s → WithoutDrawnBorders borders (λ q. Stands columns q before) r →
+        IsSound columns r → Brings columns decoration calls r es s →
+        WithoutDrawnBorders borders (λ q. Stands columns q before) r →
         WithoutDrawnBorders (borders ++ borders_drawn r calls) (λ q. Stands columns q (before ++ es)) s }
     ensures from_new { (columns : ℕ → Option ℕ) (decoration : Decoration D A) (width : ℕ) (options : RenderOptions)
         (decorator : D) (calls : List (Call (List A))) (s : Renderer D A (List A)) (es : List (Entry (List A))) →
-        let r = new_renderer {D = D} {A = A} width options decorator in Brings columns decoration calls r es s →
+        let r = new_renderer {D = D} {A = A} width options decorator in
+        IsSound columns r → Brings columns decoration calls r es s →
         WithoutDrawnBorders (borders_drawn r calls) (λ q. Stands columns q es) s }
     ensures undrawn { (columns : ℕ → Option ℕ) (decoration : Decoration D A) (calls : List (Call (List A)))
-        (r s : Renderer D A (List A)) (before es : List (Entry (List A))) → DrawNone r calls →
+        (r s : Renderer D A (List A)) (before es : List (Entry (List A))) → IsSound columns r → DrawNone r calls →
         Brings columns decoration calls r es s → Stands columns r before → Stands columns s (before ++ es) }
     ensures new { (columns : ℕ → Option ℕ) (width : ℕ) (options : RenderOptions) (decorator : D) →
         Stands columns (new_renderer {D = D} {A = A} width options decorator) [] }
@@ -95,8 +94,8 @@ pub fn what_was_brought_stands<D, A>()
 /// a `Normal` run come in order after all that was in lines or waited. Where it may not overflow, just its trailing
 /// markers wait.
 pub fn what_a_flush_makes_stand<D, A>()
-    ensures { (columns : ℕ → Option ℕ) (r s : Renderer D A (List A)) →
-        Flushes columns r s → FlushStands columns (open_run r.block) r s }
+    ensures { (columns : ℕ → Option ℕ) (r s : Renderer D A (List A)) → IsSound columns r →
+        after_flush columns r ≡ done s → FlushStands columns (open_run r.block) r s }
 {}
 
 /// Markers that wait begin the next line of text, whatever calls come, and until then they wait. A border that became
@@ -114,16 +113,17 @@ pub fn waiting_markers_begin_the_next_text<D, A>()
 /// of it.
 pub fn a_run_is_one_stretch<D, A>()
     ensures { (columns : ℕ → Option ℕ) (decoration : Decoration D A) (calls : List (Call (List A)))
-        (r q s : Renderer D A (List A)) (b : Open (List A)) → r.block ≡ Some b → Flushes columns r q →
-        Steps columns decoration calls q s → StandsAsStretch columns r b s.lines }
+        (r q s : Renderer D A (List A)) (b : Open (List A)) → IsSound columns r → r.block ≡ Some b →
+        after_flush columns r ≡ done q → Steps columns decoration calls q s → StandsAsStretch columns r b s.lines }
 {}
 
 /// Whatever calls come, the run of an open block goes on, or it ends as one stretch of the lines. The stretch also has
 /// the first of the entries that came, and comes after all lines that there were.
 pub fn each_open_run_ends_as_one_stretch<D, A>()
     ensures { (columns : ℕ → Option ℕ) (decoration : Decoration D A) (calls : List (Call (List A)))
-        (r s : Renderer D A (List A)) (b : Open (List A)) (es : List (Entry (List A))) → r.block ≡ Some b →
-        Brings columns decoration calls r es s → StaysOpen r b es s ⊎ EndsAsStretch columns r b es s }
+        (r s : Renderer D A (List A)) (b : Open (List A)) (es : List (Entry (List A))) → IsSound columns r →
+        r.block ≡ Some b → Brings columns decoration calls r es s →
+        StaysOpen r b es s ⊎ EndsAsStretch columns r b es s }
 {}
 
 /// The lines that calls add are the stretches of the runs that ended, laid texts such as empty lines, and the borders
@@ -131,10 +131,10 @@ pub fn each_open_run_ends_as_one_stretch<D, A>()
 /// run that is open. Calls that append nothing add stretches and empty lines alone.
 pub fn lines_are_stretches_laid_texts_and_borders<D, A>()
     ensures calls { (columns : ℕ → Option ℕ) (decoration : Decoration D A) (calls : List (Call (List A)))
-        (r s : Renderer D A (List A)) (es : List (Entry (List A))) →
+        (r s : Renderer D A (List A)) (es : List (Entry (List A))) → IsSound columns r →
         Brings columns decoration calls r es s → (came : ComesInParts columns r es s)
         × (flat_map borders_of_part came.parts ≡ flat_map (borders_added r.width r.options) calls) }
     ensures own { (columns : ℕ → Option ℕ) (decoration : Decoration D A) (calls : List (Call (List A)))
-        (r s : Renderer D A (List A)) (es : List (Entry (List A))) → Each AppendsNothing calls →
+        (r s : Renderer D A (List A)) (es : List (Entry (List A))) → IsSound columns r → Each AppendsNothing calls →
         Brings columns decoration calls r es s → (came : ComesInParts columns r es s) × Each IsOwnPart came.parts }
 {}

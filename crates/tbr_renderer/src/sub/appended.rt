@@ -1,6 +1,6 @@
 //! Lines of other renderers.
-ghost use Rattle.std.specs.Prelude.{◌≡◌, ◌≢◌, ◌≤◌, ◌++◌, ◌⊎◌, None, Err, List, length, map, fold, chars, string_bytes, string_len, OnOk, IfOk};
-ghost use Rattle.std.specs.List.{AllZip, AllByRecursion as Each};
+ghost use Rattle.std.specs.Prelude.{◌≡◌, ◌≢◌, ◌≤◌, ◌++◌, None, Err, List, length, map, fold, chars, string_bytes, string_len, OnOk, IfOk};
+ghost use Rattle.std.specs.List.{AllByRecursion as Each};
 ghost use Rattle.std.specs.Vec.Iter.{into_iter_items};
 ghost use Rattle.tbr_tagged.specs.Copies.{equal_lists};
 ghost use Rattle.tbr_tagged.specs.Elements.{items_of, text_items, IsMerged};
@@ -10,8 +10,10 @@ ghost use Rattle.tbr_kept_lines.specs.Line.{Line, line_seen};
 ghost use Rattle.tbr_renderer.specs.Renderer.{KeepsSettings, with_line, block_width};
 ghost use Rattle.tbr_footnotes.specs.Tags.{tag_meant, items_meant};
 ghost use Rattle.tbr_renderer.specs.Meant.{map_line, meant};
-ghost use Rattle.tbr_renderer.specs.Flush.{Flushes, FlushIsTooNarrow};
-ghost use Rattle.tbr_renderer.specs.Appended.{GivesFirst, texts_of, as_text, prefixed, with_cell, with_cell_below, with_cells, AppendsLines, AppendsCells, HandsOut, HoldsBack, FirstToRefuse};
+ghost use Rattle.tbr_tagged.specs.Outcome.{done, refused};
+ghost use Rattle.tbr_renderer.specs.Outcomes.{and_then, gathered};
+ghost use Rattle.tbr_renderer.specs.Flush.{after_flush};
+ghost use Rattle.tbr_renderer.specs.Appended.{GivesFirst, texts_of, as_text, prefixed, with_cell, with_cell_below, with_cells, after_lines, after_cells, handed_out};
 
 use crate::sub::SubRenderer;
 use std::alloc::Global;
@@ -111,12 +113,12 @@ impl<D: TextDecorator, W: CharWidth> SubRenderer<D, W> {
         requires unfailed { self.old.failure ≡ None }
         requires prefixes { I.can_next prefixes }
         ensures ok { OnOk result ((lines : List (Line (List D.Meaning))) × (given : List P)
-            × HandsOut W.columns (meant D.meaning other) lines × GivesFirst I.next_gives (length lines) prefixes given
-            × AppendsLines W.columns (texts_of P.text given) lines (meant D.meaning self.old)
-            (meant D.meaning self.new)) }
-        ensures too_narrow { result ≡ Err E.TooNarrow → FlushIsTooNarrow W.columns (meant D.meaning self.old)
-            ⊎ (Flushes W.columns (meant D.meaning self.old) (meant D.meaning self.new)
-            × HoldsBack W.columns (meant D.meaning other)) }
+            × (handed_out W.columns (meant D.meaning other) ≡ done lines)
+            × GivesFirst I.next_gives (length lines) prefixes given
+            × (after_lines W.columns (texts_of P.text given) lines (meant D.meaning self.old)
+            ≡ done (meant D.meaning self.new))) }
+        ensures too_narrow { result ≡ Err E.TooNarrow → and_then (after_flush W.columns (meant D.meaning self.old))
+            (λ _. handed_out W.columns (meant D.meaning other)) ≡ refused E.TooNarrow }
         ensures two_columns { 2 ≤ block_width self.old → other.failure ≡ None → 2 ≤ block_width other →
             result ≢ Err E.TooNarrow }
         ensures settings { KeepsSettings (meant D.meaning self.old) (meant D.meaning self.new) }
@@ -132,11 +134,10 @@ impl<D: TextDecorator, W: CharWidth> SubRenderer<D, W> {
     pub(crate) fn try_append_vert_row(&mut self, cols: Vec<SubRenderer<D, W>>) -> Result<(), Error>
         requires { self.old.failure ≡ None }
         ensures ok { OnOk result ((cells : List (List (Line (List D.Meaning))))
-            × AllZip (λ col lines. HandsOut W.columns (meant D.meaning col) lines) cols.items cells
-            × AppendsCells W.columns cells (meant D.meaning self.old) (meant D.meaning self.new)) }
-        ensures too_narrow { result ≡ Err E.TooNarrow → FlushIsTooNarrow W.columns (meant D.meaning self.old)
-            ⊎ FirstToRefuse (λ col lines. HandsOut W.columns (meant D.meaning col) lines)
-            (λ col. HoldsBack W.columns (meant D.meaning col)) cols.items }
+            × (gathered (λ col. handed_out W.columns (meant D.meaning col)) cols.items ≡ done cells)
+            × (after_cells W.columns cells (meant D.meaning self.old) ≡ done (meant D.meaning self.new))) }
+        ensures too_narrow { result ≡ Err E.TooNarrow → and_then (after_flush W.columns (meant D.meaning self.old))
+            (λ _. gathered (λ col. handed_out W.columns (meant D.meaning col)) cols.items) ≡ refused E.TooNarrow }
         ensures two_columns { 2 ≤ block_width self.old →
             Each (λ col. (col.failure ≡ None) × (2 ≤ block_width col)) cols.items → result ≢ Err E.TooNarrow }
         ensures settings { KeepsSettings (meant D.meaning self.old) (meant D.meaning self.new) }
@@ -151,11 +152,10 @@ impl<D: TextDecorator, W: CharWidth> SubRenderer<D, W> {
     fn add_cells(&mut self, cols: Vec<SubRenderer<D, W>>) -> Result<(), Error>
         requires { self.old.failure ≡ None }
         ensures ok { OnOk result ((cells : List (List (Line (List D.Meaning))))
-            × AllZip (λ col lines. HandsOut W.columns (meant D.meaning col) lines) cols.items cells
+            × (gathered (λ col. handed_out W.columns (meant D.meaning col)) cols.items ≡ done cells)
             × (meant D.meaning self.new ≡ with_cells W.columns (meant D.meaning self.old) cells)) }
         ensures too_narrow { result ≡ Err E.TooNarrow →
-            FirstToRefuse (λ col lines. HandsOut W.columns (meant D.meaning col) lines)
-            (λ col. HoldsBack W.columns (meant D.meaning col)) cols.items }
+            gathered (λ col. handed_out W.columns (meant D.meaning col)) cols.items ≡ refused E.TooNarrow }
         ensures two_columns { Each (λ col. (col.failure ≡ None) × (2 ≤ block_width col)) cols.items →
             result ≢ Err E.TooNarrow }
         ensures unfailed { OnOk result (self.new.failure ≡ None) }
@@ -174,11 +174,10 @@ impl<D: TextDecorator, W: CharWidth> SubRenderer<D, W> {
     fn add_cells_below(&mut self, cols: IntoIter<SubRenderer<D, W>>) -> Result<(), Error>
         requires { self.old.failure ≡ None }
         ensures ok { OnOk result ((cells : List (List (Line (List D.Meaning))))
-            × AllZip (λ col lines. HandsOut W.columns (meant D.meaning col) lines) (into_iter_items cols) cells
+            × (gathered (λ col. handed_out W.columns (meant D.meaning col)) (into_iter_items cols) ≡ done cells)
             × (meant D.meaning self.new ≡ fold (with_cell_below W.columns) (meant D.meaning self.old) cells)) }
         ensures too_narrow { result ≡ Err E.TooNarrow →
-            FirstToRefuse (λ col lines. HandsOut W.columns (meant D.meaning col) lines)
-            (λ col. HoldsBack W.columns (meant D.meaning col)) (into_iter_items cols) }
+            gathered (λ col. handed_out W.columns (meant D.meaning col)) (into_iter_items cols) ≡ refused E.TooNarrow }
         ensures two_columns { Each (λ col. (col.failure ≡ None) × (2 ≤ block_width col)) (into_iter_items cols) →
             result ≢ Err E.TooNarrow }
         ensures unfailed { OnOk result (self.new.failure ≡ None) }

@@ -6,8 +6,9 @@ ghost use Rattle.tbr_kept_lines.specs.Line.{text_lines};
 ghost use Rattle.tbr_tagged.specs.declared.Error.TheVariants as E;
 ghost use Rattle.tbr_renderer.specs.Renderer.{KeepsSettings, with_line, block_width};
 ghost use Rattle.tbr_renderer.specs.Meant.{meant};
-ghost use Rattle.tbr_renderer.specs.Flush.{line_meant, AddsAsIs, Flushes, FlushIsTooNarrow};
-ghost use Rattle.tbr_renderer.specs.Steps.{with_empty_line, AddsEmptyLine, block_started, StartsBlock, at_line_start, BreaksLine};
+ghost use Rattle.tbr_renderer.specs.Flush.{line_meant, AddsAsIs, after_flush};
+ghost use Rattle.tbr_renderer.specs.Outcomes.{Tries};
+ghost use Rattle.tbr_renderer.specs.Steps.{with_empty_line, after_empty_line, block_started, after_block_start, at_line_start, after_break};
 
 use crate::sub::SubRenderer;
 use tbr_decor::TextDecorator;
@@ -73,9 +74,8 @@ impl<D: TextDecorator, W: CharWidth> SubRenderer<D, W> {
     /// Ends the run of the open block, if there is one.
     pub(crate) fn try_flush(&mut self) -> Result<(), Error>
         requires { self.old.failure ≡ None }
-        ensures ok { OnOk result (Flushes W.columns (meant D.meaning self.old) (meant D.meaning self.new)) }
+        ensures tries { Tries (meant D.meaning) (after_flush W.columns) self.old result self.new }
         ensures unfailed { OnOk result (self.new.failure ≡ None) }
-        ensures too_narrow { result ≡ Err E.TooNarrow → FlushIsTooNarrow W.columns (meant D.meaning self.old) }
         ensures two_columns { 2 ≤ block_width self.old → result ≢ Err E.TooNarrow }
         ensures settings { KeepsSettings (meant D.meaning self.old) (meant D.meaning self.new) }
     {
@@ -93,8 +93,7 @@ impl<D: TextDecorator, W: CharWidth> SubRenderer<D, W> {
     /// Ends the run, and adds an empty line.
     pub(crate) fn try_add_empty_line(&mut self) -> Result<(), Error>
         requires { self.old.failure ≡ None }
-        ensures ok { OnOk result (AddsEmptyLine W.columns (meant D.meaning self.old) (meant D.meaning self.new)) }
-        ensures too_narrow { result ≡ Err E.TooNarrow → FlushIsTooNarrow W.columns (meant D.meaning self.old) }
+        ensures tries { Tries (meant D.meaning) (after_empty_line W.columns) self.old result self.new }
         ensures two_columns { 2 ≤ block_width self.old → result ≢ Err E.TooNarrow }
         ensures settings { KeepsSettings (meant D.meaning self.old) (meant D.meaning self.new) }
     {
@@ -118,10 +117,9 @@ impl<D: TextDecorator, W: CharWidth> SubRenderer<D, W> {
     /// Ends the run, and begins a block.
     pub(crate) fn try_start_block(&mut self) -> Result<(), Error>
         requires { self.old.failure ≡ None }
-        ensures ok { OnOk result (StartsBlock W.columns (meant D.meaning self.old) (meant D.meaning self.new)) }
+        ensures tries { Tries (meant D.meaning) (after_block_start W.columns) self.old result self.new }
         ensures unfailed { OnOk result (self.new.failure ≡ None) }
         ensures columns { OnOk result (block_width self.new ≡ block_width self.old) }
-        ensures too_narrow { result ≡ Err E.TooNarrow → FlushIsTooNarrow W.columns (meant D.meaning self.old) }
         ensures two_columns { 2 ≤ block_width self.old → result ≢ Err E.TooNarrow }
         ensures settings { KeepsSettings (meant D.meaning self.old) (meant D.meaning self.new) }
     {
@@ -158,8 +156,7 @@ impl<D: TextDecorator, W: CharWidth> SubRenderer<D, W> {
     /// Ends the run. Where nothing is open that takes columns, it adds an empty line.
     pub(crate) fn try_break_line(&mut self) -> Result<(), Error>
         requires { self.old.failure ≡ None }
-        ensures ok { OnOk result (BreaksLine W.columns (meant D.meaning self.old) (meant D.meaning self.new)) }
-        ensures too_narrow { result ≡ Err E.TooNarrow → FlushIsTooNarrow W.columns (meant D.meaning self.old) }
+        ensures tries { Tries (meant D.meaning) (after_break W.columns) self.old result self.new }
         ensures two_columns { 2 ≤ block_width self.old → result ≢ Err E.TooNarrow }
         ensures settings { KeepsSettings (meant D.meaning self.old) (meant D.meaning self.new) }
     {

@@ -6,8 +6,8 @@ ghost use Rattle.tbr_renderer.specs.Renderer.{KeepsSettings, block_width};
 ghost use Rattle.tbr_rows.specs.Meant.{map_border};
 ghost use Rattle.tbr_footnotes.specs.Tags.{tag_meant};
 ghost use Rattle.tbr_renderer.specs.Meant.{meant};
-ghost use Rattle.tbr_renderer.specs.Flush.{FlushIsTooNarrow};
-ghost use Rattle.tbr_renderer.specs.Appended.{with_border, border_of_cells, with_divider, AddsBorder};
+ghost use Rattle.tbr_renderer.specs.Appended.{with_border, border_of_cells, with_divider, after_border};
+ghost use Rattle.tbr_renderer.specs.Outcomes.{Tries};
 
 use crate::sub::SubRenderer;
 use tbr_decor::TextDecorator;
@@ -48,8 +48,7 @@ impl<D: TextDecorator, W: CharWidth> SubRenderer<D, W> {
     /// Ends the run, and adds a border.
     pub(crate) fn try_add_border(&mut self, width: usize) -> Result<(), Error>
         requires { self.old.failure ≡ None }
-        ensures ok { OnOk result (AddsBorder W.columns width (meant D.meaning self.old) (meant D.meaning self.new)) }
-        ensures too_narrow { result ≡ Err E.TooNarrow → FlushIsTooNarrow W.columns (meant D.meaning self.old) }
+        ensures tries { Tries (meant D.meaning) (after_border W.columns width) self.old result self.new }
         ensures two_columns { 2 ≤ block_width self.old → result ≢ Err E.TooNarrow }
         ensures settings { KeepsSettings (meant D.meaning self.old) (meant D.meaning self.new) }
     {

@@ -1,5 +1,5 @@
 //! The calls of a renderer.
-ghost use Rattle.std.specs.Prelude.{◌≡◌, ◌≢◌, ◌<◌, ◌++◌, ◌∷◌, [], suc, ◌^◌, not, true, None, Some, Err, OnOk, OnErr, IfErr, List, map, length, replicate, ◌⊎◌, ◌≤◌};
+ghost use Rattle.std.specs.Prelude.{◌≡◌, ◌≢◌, ◌<◌, ◌++◌, ◌∷◌, [], suc, ◌^◌, not, true, None, Some, Err, OnOk, OnErr, IfErr, List, map, length, replicate, ◌≤◌};
 ghost use Rattle.tbr_tagged.specs.declared.Error.TheVariants as E;
 ghost use Rattle.tbr_kept_lines.specs.Line.{Line};
 ghost use Rattle.tbr_renderer.specs.Renderer.{kept_of, block_width};
@@ -7,13 +7,14 @@ ghost use Rattle.tbr_kept_lines.specs.LastBorder.{without_last};
 ghost use Rattle.tbr_renderer.specs.Meant.{meant};
 ghost use Rattle.tbr_footnotes.specs.Tags.{tag_meant};
 ghost use Rattle.tbr_renderer.specs.Steps.{block_is_empty, is_empty};
-ghost use Rattle.tbr_renderer.specs.Calls.{Fails};
+ghost use Rattle.tbr_renderer.specs.Calls.{after, calls_by, IsWide, Fails};
 ghost use Rattle.tbr_renderer.specs.Calls as call;
-ghost use Rattle.tbr_renderer.specs.Appended.{HandsOut, HoldsBack, FirstToRefuse, AppendsCells};
+ghost use Rattle.tbr_tagged.specs.Outcome.{done, refused};
+ghost use Rattle.tbr_renderer.specs.Outcomes.{and_then, gathered};
+ghost use Rattle.tbr_renderer.specs.Appended.{handed_out};
 ghost use Rattle.tbr_rows.specs.Cells.{row_fits};
 ghost use Rattle.tbr_renderer.specs.Rows.{GivenCell, GivesCell, align_in, spots_of, AppendsRow};
 ghost use Rattle.tbr_tagged.specs.declared.CellAlign.TheVariants as A;
-ghost use Rattle.tbr_renderer.specs.Flush.{FlushIsTooNarrow};
 ghost use Rattle.tbr_decor.specs.Decoration.{decoration_of};
 ghost use Rattle.std.specs.List.{AllZip, AllByRecursion as Each};
 ghost use Rattle.tbr_wrap.specs.Runs.{is_some_list};
@@ -86,44 +87,34 @@ impl<D: TextDecorator, W: CharWidth> SubRenderer<D, W> {
 }
 
 impl<D: TextDecorator, W: CharWidth> Renderer for SubRenderer<D, W> {
-    ghost use Rattle.tbr_renderer.specs.Renderer.{kept_of};
+    ghost use Rattle.tbr_renderer.specs.Renderer.{Renderer as Seen};
     ghost use Rattle.tbr_renderer.specs.Meant.{meant};
     ghost use Rattle.tbr_renderer.specs.Steps.{is_empty};
-    ghost use Rattle.tbr_renderer.specs.Appended.{HandsOut, HoldsBack};
+    ghost use Rattle.tbr_renderer.specs.Appended.{handed_out};
     ghost use Rattle.tbr_decor.specs.Decoration.{decoration_of};
-    ghost use Rattle.std.specs.Prelude.{◌≡◌, ◌⊎◌, List, true};
+    ghost use Rattle.std.specs.Prelude.{◌≡◌, List, true};
     ghost use Rattle.tbr_rows.specs.Cells.{row_fits};
     ghost use Rattle.tbr_renderer.specs.Rows.{spots_of, AppendsRow};
     ghost use Rattle.tbr_renderer.specs.Decorated.{sub_renderer};
-    ghost use Rattle.tbr_renderer.specs.Calls.{Does, IsTooNarrow};
+    ghost use Rattle.tbr_renderer.specs.Calls.{calls_by};
 
     ghost Tag = { List D.Meaning };
 
-    ghost hands_out = { λ r lines. HandsOut W.columns (meant D.meaning r) lines };
+    ghost State = { Seen D D.Meaning (List D.Meaning) };
 
-    ghost holds_back = { λ r. HoldsBack W.columns (meant D.meaning r) };
+    ghost calls = { calls_by W.columns (decoration_of D.TextDecorator) D.meaning };
+
+    ghost handed_out = { λ r. handed_out W.columns (meant D.meaning r) };
 
     ghost has_places_for = { λ r cols. row_fits r.hanging (spots_of W.columns cols) ≡ true };
 
-    ghost appends_row = { λ collapse cells old new.
-        AppendsRow W.columns collapse cells (meant D.meaning old) (meant D.meaning new) };
-
-    ghost does = { λ call old new.
-        Does W.columns (decoration_of D.TextDecorator) call (meant D.meaning old) (meant D.meaning new) };
-
-    ghost is_too_narrow = { λ call old.
-        IsTooNarrow W.columns (decoration_of D.TextDecorator) call (meant D.meaning old) };
-
-    ghost failure = { λ r. r.failure };
-
-    ghost kept_of = { λ r. kept_of r };
+    ghost appends_row = { λ collapse cells r s. AppendsRow W.columns collapse cells r s };
 
     ghost prefix_text = { λ r prefix. D.prefix_text r.decorator prefix };
 
-    ghost is_sub_renderer = { λ r width sub.
-        meant D.meaning sub ≡ sub_renderer (decoration_of D.TextDecorator) width (meant D.meaning r) };
+    ghost sub_renderer = { λ width r. sub_renderer (decoration_of D.TextDecorator) width r };
 
-    ghost tells_empty = { λ r empty. empty ≡ is_empty W.columns (meant D.meaning r) };
+    ghost is_empty = { λ r. is_empty W.columns (meant D.meaning r) };
 
     fn add_empty_line(&mut self) -> Result<(), Error> {
         self.refusal()?;
@@ -275,15 +266,15 @@ impl<D: TextDecorator, W: CharWidth> Renderer for SubRenderer<D, W> {
 
     fn append_vert_row(&mut self, cols: Vec<SubRenderer<D, W>>) -> Result<(), Error>
         ensures ok { OnOk result ((cells : List (List (Line (List D.Meaning))))
-            × AllZip (λ col lines. HandsOut W.columns (meant D.meaning col) lines) cols.items cells
-            × AppendsCells W.columns cells (meant D.meaning self.old) (meant D.meaning self.new)) }
-        ensures too_narrow { self.old.failure ≡ None → result ≡ Err E.TooNarrow →
-            FlushIsTooNarrow W.columns (meant D.meaning self.old)
-            ⊎ FirstToRefuse (λ col lines. HandsOut W.columns (meant D.meaning col) lines)
-            (λ col. HoldsBack W.columns (meant D.meaning col)) cols.items }
-        ensures two_columns { self.old.failure ≡ None → 2 ≤ block_width self.old →
-            Each (λ col. (col.failure ≡ None) × (2 ≤ block_width col)) cols.items → result ≢ Err E.TooNarrow }
-        ensures fails { Fails (λ r. r.failure) kept_of self.old result self.new }
+            × (gathered (λ col. handed_out W.columns (meant D.meaning col)) cols.items ≡ done cells)
+            × (after W.columns (decoration_of D.TextDecorator) (call.append_vert_row cells)
+            (meant D.meaning self.old) ≡ done (meant D.meaning self.new))) }
+        ensures too_narrow { result ≡ Err E.TooNarrow →
+            and_then (after W.columns (decoration_of D.TextDecorator) call.new_line (meant D.meaning self.old))
+            (λ _. gathered (λ col. handed_out W.columns (meant D.meaning col)) cols.items) ≡ refused E.TooNarrow }
+        ensures two_columns { let calls = calls_by W.columns (decoration_of D.TextDecorator) D.meaning in
+            IsWide calls self.old → Each (IsWide calls) cols.items → result ≢ Err E.TooNarrow }
+        ensures fails { Fails (calls_by W.columns (decoration_of D.TextDecorator) D.meaning) self.old result self.new }
     {
         self.refusal()?;
         let done = self.try_append_vert_row(cols);
@@ -300,17 +291,16 @@ impl<D: TextDecorator, W: CharWidth> Renderer for SubRenderer<D, W> {
         requires aligns { length aligns.now ≡ length cols.items }
         requires fits { row_fits self.old.hanging (spots_of W.columns cols.items) ≡ true }
         ensures ok { OnOk result ((cells : List (GivenCell (List D.Meaning)))
-            × AllZip (GivesCell (λ col. col.width) (λ col lines. HandsOut W.columns (meant D.meaning col) lines))
-            cols.items cells
+            × AllZip (GivesCell (λ col. col.width)
+            (λ col lines. handed_out W.columns (meant D.meaning col) ≡ done lines)) cols.items cells
             × (map align_in cells ≡ aligns.now)
             × AppendsRow W.columns collapse cells (meant D.meaning self.old) (meant D.meaning self.new)) }
-        ensures too_narrow { self.old.failure ≡ None → result ≡ Err E.TooNarrow →
-            FlushIsTooNarrow W.columns (meant D.meaning self.old)
-            ⊎ FirstToRefuse (λ col lines. HandsOut W.columns (meant D.meaning col.0) lines)
-            (λ col. HoldsBack W.columns (meant D.meaning col.0)) cols.items }
-        ensures two_columns { self.old.failure ≡ None → 2 ≤ block_width self.old →
-            Each (λ col. (col.0.failure ≡ None) × (2 ≤ block_width col.0)) cols.items → result ≢ Err E.TooNarrow }
-        ensures fails { Fails (λ r. r.failure) kept_of self.old result self.new }
+        ensures too_narrow { result ≡ Err E.TooNarrow →
+            and_then (after W.columns (decoration_of D.TextDecorator) call.new_line (meant D.meaning self.old))
+            (λ _. gathered (λ col. handed_out W.columns (meant D.meaning col.0)) cols.items) ≡ refused E.TooNarrow }
+        ensures two_columns { let calls = calls_by W.columns (decoration_of D.TextDecorator) D.meaning in
+            IsWide calls self.old → Each (λ col. IsWide calls col.0) cols.items → result ≢ Err E.TooNarrow }
+        ensures fails { Fails (calls_by W.columns (decoration_of D.TextDecorator) D.meaning) self.old result self.new }
     {
         self.refusal()?;
         let done = self.try_append_columns(cols, aligns, collapse);
@@ -325,17 +315,16 @@ impl<D: TextDecorator, W: CharWidth> Renderer for SubRenderer<D, W> {
         requires spans { Each (λ col. 0 < col.1) cols.items }
         requires fits { row_fits self.old.hanging (spots_of W.columns cols.items) ≡ true }
         ensures ok { OnOk result ((cells : List (GivenCell (List D.Meaning)))
-            × AllZip (GivesCell (λ col. col.width) (λ col lines. HandsOut W.columns (meant D.meaning col) lines))
-            cols.items cells
+            × AllZip (GivesCell (λ col. col.width)
+            (λ col lines. handed_out W.columns (meant D.meaning col) ≡ done lines)) cols.items cells
             × (map align_in cells ≡ replicate (length cells) A.Left)
             × AppendsRow W.columns collapse cells (meant D.meaning self.old) (meant D.meaning self.new)) }
-        ensures too_narrow { self.old.failure ≡ None → result ≡ Err E.TooNarrow →
-            FlushIsTooNarrow W.columns (meant D.meaning self.old)
-            ⊎ FirstToRefuse (λ col lines. HandsOut W.columns (meant D.meaning col.0) lines)
-            (λ col. HoldsBack W.columns (meant D.meaning col.0)) cols.items }
-        ensures two_columns { self.old.failure ≡ None → 2 ≤ block_width self.old →
-            Each (λ col. (col.0.failure ≡ None) × (2 ≤ block_width col.0)) cols.items → result ≢ Err E.TooNarrow }
-        ensures fails { Fails (λ r. r.failure) kept_of self.old result self.new }
+        ensures too_narrow { result ≡ Err E.TooNarrow →
+            and_then (after W.columns (decoration_of D.TextDecorator) call.new_line (meant D.meaning self.old))
+            (λ _. gathered (λ col. handed_out W.columns (meant D.meaning col.0)) cols.items) ≡ refused E.TooNarrow }
+        ensures two_columns { let calls = calls_by W.columns (decoration_of D.TextDecorator) D.meaning in
+            IsWide calls self.old → Each (λ col. IsWide calls col.0) cols.items → result ≢ Err E.TooNarrow }
+        ensures fails { Fails (calls_by W.columns (decoration_of D.TextDecorator) D.meaning) self.old result self.new }
     {
         self.refusal()?;
         let done = self.try_append_columns(cols, &[], collapse);

@@ -7,8 +7,9 @@ ghost use Rattle.tbr_renderer.specs.Renderer.{kept_of, block_width, with_annotat
 ghost use Rattle.tbr_renderer.specs.Meant.{meant};
 ghost use Rattle.tbr_renderer.specs.View.{start_of, end_of};
 ghost use Rattle.tbr_renderer.specs.Calls as call;
-ghost use Rattle.tbr_renderer.specs.Calls.{Does, IsTooNarrow, Answers};
-ghost use Rattle.tbr_renderer.specs.Decorated.{asked_to_open, annotated, asked_to_close, Opens, OpenIsTooNarrow, Closes, CloseIsTooNarrow};
+ghost use Rattle.tbr_renderer.specs.Outcomes.{Tries};
+ghost use Rattle.tbr_renderer.specs.Calls.{calls_by, Answers};
+ghost use Rattle.tbr_renderer.specs.Decorated.{asked_to_open, annotated, asked_to_close, after_start, after_end};
 
 use crate::sub::SubRenderer;
 use tbr_decor::TextDecorator;
@@ -119,10 +120,8 @@ impl<D: TextDecorator, W: CharWidth> SubRenderer<D, W> {
     /// Adds the decorator's text for what is opened, under its annotation.
     pub(crate) fn try_open(&mut self, start: Start) -> Result<(), Error>
         requires { self.old.failure ≡ None }
-        ensures ok { OnOk result (Opens W.columns (decoration_of D.TextDecorator) (start_of start.entry)
-            (meant D.meaning self.old) (meant D.meaning self.new)) }
-        ensures too_narrow { result ≡ Err E.TooNarrow → OpenIsTooNarrow W.columns
-            (decoration_of D.TextDecorator) (start_of start.entry) (meant D.meaning self.old) }
+        ensures tries { Tries (meant D.meaning)
+            (after_start W.columns (decoration_of D.TextDecorator) (start_of start.entry)) self.old result self.new }
         ensures two_columns { 2 ≤ block_width self.old → result ≢ Err E.TooNarrow }
         ensures kept { kept_of (meant D.meaning self.new) ≡ kept_of (meant D.meaning self.old) }
     {
@@ -132,10 +131,8 @@ impl<D: TextDecorator, W: CharWidth> SubRenderer<D, W> {
 
     /// Opens decorated text, and keeps a refusal.
     pub(crate) fn begin(&mut self, start: Start) -> Result<(), Error>
-        ensures answers { Answers
-            (λ c old new. Does W.columns (decoration_of D.TextDecorator) c (meant D.meaning old) (meant D.meaning new))
-            (λ c old. IsTooNarrow W.columns (decoration_of D.TextDecorator) c (meant D.meaning old))
-            (λ r. r.failure) kept_of (call.begin (start_of start.entry)) self.old result self.new }
+        ensures answers { Answers (calls_by W.columns (decoration_of D.TextDecorator) D.meaning)
+            (call.begin (start_of start.entry)) self.old result self.new }
     {
         self.refusal()?;
         let done = self.try_open(start);
@@ -145,10 +142,8 @@ impl<D: TextDecorator, W: CharWidth> SubRenderer<D, W> {
     /// Adds the decorator's text for what is closed, and then takes the last annotation.
     pub(crate) fn try_close(&mut self, end: End) -> Result<(), Error>
         requires { self.old.failure ≡ None }
-        ensures ok { OnOk result (Closes W.columns (decoration_of D.TextDecorator) (end_of end)
-            (meant D.meaning self.old) (meant D.meaning self.new)) }
-        ensures too_narrow { result ≡ Err E.TooNarrow → CloseIsTooNarrow W.columns
-            (decoration_of D.TextDecorator) (end_of end) (meant D.meaning self.old) }
+        ensures tries { Tries (meant D.meaning)
+            (after_end W.columns (decoration_of D.TextDecorator) (end_of end)) self.old result self.new }
         ensures two_columns { 2 ≤ block_width self.old → result ≢ Err E.TooNarrow }
         ensures kept { kept_of (meant D.meaning self.new) ≡ kept_of (meant D.meaning self.old) }
     {
@@ -160,10 +155,8 @@ impl<D: TextDecorator, W: CharWidth> SubRenderer<D, W> {
 
     /// Closes decorated text, and keeps a refusal.
     pub(crate) fn finish(&mut self, end: End) -> Result<(), Error>
-        ensures answers { Answers
-            (λ c old new. Does W.columns (decoration_of D.TextDecorator) c (meant D.meaning old) (meant D.meaning new))
-            (λ c old. IsTooNarrow W.columns (decoration_of D.TextDecorator) c (meant D.meaning old))
-            (λ r. r.failure) kept_of (call.finish (end_of end)) self.old result self.new }
+        ensures answers { Answers (calls_by W.columns (decoration_of D.TextDecorator) D.meaning)
+            (call.finish (end_of end)) self.old result self.new }
     {
         self.refusal()?;
         let done = self.try_close(end);

@@ -5,13 +5,15 @@ ghost use Rattle.tbr_tagged.specs.Copies.{equal_lists};
 ghost use Rattle.tbr_border.specs.RenderLine.{IsMergedText};
 ghost use Rattle.tbr_tagged.specs.declared.Error.{Error as Refusal};
 ghost use Rattle.tbr_tagged.specs.declared.Error.TheVariants as E;
-ghost use Rattle.tbr_renderer.specs.Renderer.{Renderer as Seen, block_width};
+ghost use Rattle.tbr_renderer.specs.Renderer.{block_width};
 ghost use Rattle.tbr_kept_lines.specs.Line.{line_seen};
 ghost use Rattle.tbr_kept_lines.specs.Text.{line_text, lines_text};
 ghost use Rattle.tbr_tagged.specs.View.{chars_of};
 ghost use Rattle.tbr_footnotes.specs.Tags.{tag_meant};
 ghost use Rattle.tbr_renderer.specs.Meant.{map_line, meant};
-ghost use Rattle.tbr_renderer.specs.Flush.{Flushes, FlushIsTooNarrow};
+ghost use Rattle.tbr_tagged.specs.Outcome.{done, refused};
+ghost use Rattle.tbr_renderer.specs.Outcomes.{changed};
+ghost use Rattle.tbr_renderer.specs.Appended.{handed_out};
 
 use crate::sub::SubRenderer;
 use std::alloc::Global;
@@ -27,12 +29,11 @@ impl<D: TextDecorator, W: CharWidth> SubRenderer<D, W> {
     ///
     /// It refuses as `new_line` does. The list takes memory for each line.
     pub fn into_lines(self) -> Result<LinkedList<RenderLine<Vec<D::Annotation>>>, Error>
-        ensures lines { IfOk result (λ lines. (s : Seen D D.Meaning (List D.Meaning))
-            × Flushes W.columns (meant D.meaning self) s
-            × (map (map_line (tag_meant D.meaning)) (map line_seen lines) ≡ s.lines)) }
+        ensures lines { IfOk result (λ lines. handed_out W.columns (meant D.meaning self)
+            ≡ done (map (map_line (tag_meant D.meaning)) (map line_seen lines))) }
         ensures merged { IfOk result (λ lines. Each (IsMergedText (equal_lists D.Annotation.eq)) lines) }
-        ensures too_narrow { self.failure ≡ None → result ≡ Err E.TooNarrow →
-            FlushIsTooNarrow W.columns (meant D.meaning self) }
+        ensures too_narrow { result ≡ Err E.TooNarrow →
+            handed_out W.columns (meant D.meaning self) ≡ refused E.TooNarrow }
         ensures two_columns { self.failure ≡ None → 2 ≤ block_width self → result ≢ Err E.TooNarrow }
         ensures kept { (e : Refusal) → self.failure ≡ Some e → result ≡ Err e }
     {
@@ -45,12 +46,11 @@ impl<D: TextDecorator, W: CharWidth> SubRenderer<D, W> {
     ///
     /// It refuses as `new_line` does.
     pub(crate) fn into_vec(self) -> Result<Vec<RenderLine<Vec<D::Annotation>>>, Error>
-        ensures lines { IfOk result (λ lines. (s : Seen D D.Meaning (List D.Meaning))
-            × Flushes W.columns (meant D.meaning self) s
-            × (map (map_line (tag_meant D.meaning)) (map line_seen lines.items) ≡ s.lines)) }
+        ensures lines { IfOk result (λ lines. handed_out W.columns (meant D.meaning self)
+            ≡ done (map (map_line (tag_meant D.meaning)) (map line_seen lines.items))) }
         ensures merged { IfOk result (λ lines. Each (IsMergedText (equal_lists D.Annotation.eq)) lines.items) }
-        ensures too_narrow { self.failure ≡ None → result ≡ Err E.TooNarrow →
-            FlushIsTooNarrow W.columns (meant D.meaning self) }
+        ensures too_narrow { result ≡ Err E.TooNarrow →
+            handed_out W.columns (meant D.meaning self) ≡ refused E.TooNarrow }
         ensures two_columns { self.failure ≡ None → 2 ≤ block_width self → result ≢ Err E.TooNarrow }
         ensures kept { (e : Refusal) → self.failure ≡ Some e → result ≡ Err e }
     {
@@ -61,10 +61,10 @@ impl<D: TextDecorator, W: CharWidth> SubRenderer<D, W> {
     ///
     /// It refuses as `new_line` does.
     fn into_kept(mut self) -> Result<KeptLines<Vec<D::Annotation>>, Error>
-        ensures lines { IfOk result (λ lines. (s : Seen D D.Meaning (List D.Meaning))
-            × Flushes W.columns (meant D.meaning self) s × (map (map_line (tag_meant D.meaning)) lines ≡ s.lines)) }
-        ensures too_narrow { self.failure ≡ None → result ≡ Err E.TooNarrow →
-            FlushIsTooNarrow W.columns (meant D.meaning self) }
+        ensures lines { IfOk result (λ lines.
+            handed_out W.columns (meant D.meaning self) ≡ done (map (map_line (tag_meant D.meaning)) lines)) }
+        ensures too_narrow { result ≡ Err E.TooNarrow →
+            handed_out W.columns (meant D.meaning self) ≡ refused E.TooNarrow }
         ensures two_columns { self.failure ≡ None → 2 ≤ block_width self → result ≢ Err E.TooNarrow }
         ensures kept { (e : Refusal) → self.failure ≡ Some e → result ≡ Err e }
     {
@@ -77,10 +77,10 @@ impl<D: TextDecorator, W: CharWidth> SubRenderer<D, W> {
     ///
     /// It refuses as `new_line` does.
     pub fn into_string(self) -> Result<String, Error>
-        ensures text { IfOk result (λ text. (s : Seen D D.Meaning (List D.Meaning))
-            × Flushes W.columns (meant D.meaning self) s × (chars_of text ≡ lines_text s.lines)) }
-        ensures too_narrow { self.failure ≡ None → result ≡ Err E.TooNarrow →
-            FlushIsTooNarrow W.columns (meant D.meaning self) }
+        ensures text { IfOk result (λ text.
+            changed lines_text (handed_out W.columns (meant D.meaning self)) ≡ done (chars_of text)) }
+        ensures too_narrow { result ≡ Err E.TooNarrow →
+            handed_out W.columns (meant D.meaning self) ≡ refused E.TooNarrow }
         ensures two_columns { self.failure ≡ None → 2 ≤ block_width self → result ≢ Err E.TooNarrow }
         ensures kept { (e : Refusal) → self.failure ≡ Some e → result ≡ Err e }
     {

@@ -8,7 +8,8 @@ ghost use Rattle.tbr_tagged.specs.declared.Error.TheVariants as E;
 ghost use Rattle.tbr_decor.specs.Change as change;
 ghost use Rattle.tbr_decor.specs.Meant.{lines_meant};
 ghost use Rattle.tbr_decor.specs.Meant as decor;
-ghost use Rattle.tbr_renderer.specs.Calls.{Fails};
+ghost use Rattle.tbr_decor.specs.Decoration.{decoration_of};
+ghost use Rattle.tbr_renderer.specs.Calls.{calls_by, Fails};
 ghost use Rattle.tbr_footnotes.specs.Cutting.{texts_meant};
 ghost use Rattle.tbr_renderer.specs.Footnotes.{listed, with_footnotes};
 ghost use Rattle.tbr_renderer.specs.Footnotes as model;
@@ -35,7 +36,7 @@ impl<D: TextDecorator, W: CharWidth> SubRenderer<D, W> {
             }) }
         ensures memory { self.old.failure ≡ None → result ≢ Err E.TooNarrow }
         ensures left { self.old.failure ≡ None → IfErr result (λ e. self.new ≡ record self.old { failure = Some e }) }
-        ensures fails { Fails (λ r. r.failure) kept_of self.old result self.new }
+        ensures fails { Fails (calls_by W.columns (decoration_of D.TextDecorator) D.meaning) self.old result self.new }
     {
         self.refusal()?;
         match self.footnotes(links) {
@@ -78,7 +79,7 @@ impl<D: TextDecorator, W: CharWidth> SubRenderer<D, W> {
         ensures ok { OnOk result (meant D.meaning self.new
             ≡ with_footnotes W.columns (meant D.meaning self.old) (lines_meant D.meaning links.items)) }
         ensures memory { self.old.failure ≡ None → result ≢ Err E.TooNarrow }
-        ensures fails { Fails (λ r. r.failure) kept_of self.old result self.new }
+        ensures fails { Fails (calls_by W.columns (decoration_of D.TextDecorator) D.meaning) self.old result self.new }
     {
         self.refusal()?;
         let done = self.try_fmt_links(links);

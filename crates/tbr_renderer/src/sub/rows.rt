@@ -1,5 +1,5 @@
 //! Rows of cells side by side.
-ghost use Rattle.std.specs.Prelude.{◌≡◌, ◌≢◌, ◌≤◌, ◌==◌, ◌⊎◌, ◌++◌, ◌∷◌, [], None, Some, Err, true, not, List, length, map, fold, OnOk, IfOk, IfSome};
+ghost use Rattle.std.specs.Prelude.{◌≡◌, ◌≢◌, ◌≤◌, ◌==◌, ◌++◌, ◌∷◌, [], None, Some, Err, true, not, List, length, map, fold, OnOk, IfOk, IfSome};
 ghost use Rattle.std.specs.Option.{option_map};
 ghost use Rattle.std.specs.List.{AllZip, AllByRecursion as Each, list_any};
 ghost use Rattle.tbr_tagged.specs.Copies.{equal_lists};
@@ -12,8 +12,10 @@ ghost use Rattle.tbr_renderer.specs.Renderer.{KeepsSettings, with_line, block_wi
 ghost use Rattle.tbr_footnotes.specs.Tags.{tag_meant, items_meant};
 ghost use Rattle.tbr_renderer.specs.Meant.{meant};
 ghost use Rattle.tbr_kept_lines.specs.Line.{line_seen};
-ghost use Rattle.tbr_renderer.specs.Flush.{FlushIsTooNarrow};
-ghost use Rattle.tbr_renderer.specs.Appended.{HandsOut, HoldsBack, FirstToRefuse};
+ghost use Rattle.tbr_tagged.specs.Outcome.{done, refused};
+ghost use Rattle.tbr_renderer.specs.Outcomes.{and_then, gathered};
+ghost use Rattle.tbr_renderer.specs.Flush.{after_flush};
+ghost use Rattle.tbr_renderer.specs.Appended.{handed_out};
 ghost use Rattle.tbr_kept_lines.specs.LastBorder.{last_border, before_border};
 ghost use Rattle.tbr_renderer.specs.Rows as model;
 ghost use Rattle.tbr_renderer.specs.Rows.{GivenCell, GivesCell, ComesAs, AppendsRow};
@@ -84,13 +86,12 @@ impl<D: TextDecorator, W: CharWidth> SubRenderer<D, W> {
         requires unfailed { self.old.failure ≡ None }
         requires fits { row_fits self.old.hanging (model.spots_of W.columns cols.items) ≡ true }
         ensures ok { OnOk result ((cells : List (GivenCell (List D.Meaning)))
-            × AllZip (GivesCell (λ col. col.width) (λ col lines. HandsOut W.columns (meant D.meaning col) lines))
-            cols.items cells
+            × AllZip (GivesCell (λ col. col.width)
+            (λ col lines. handed_out W.columns (meant D.meaning col) ≡ done lines)) cols.items cells
             × (map model.align_in cells ≡ model.aligned_as aligns.now cols.items)
             × AppendsRow W.columns collapses cells (meant D.meaning self.old) (meant D.meaning self.new)) }
-        ensures too_narrow { result ≡ Err E.TooNarrow → FlushIsTooNarrow W.columns (meant D.meaning self.old)
-            ⊎ FirstToRefuse (λ col lines. HandsOut W.columns (meant D.meaning col.0) lines)
-            (λ col. HoldsBack W.columns (meant D.meaning col.0)) cols.items }
+        ensures too_narrow { result ≡ Err E.TooNarrow → and_then (after_flush W.columns (meant D.meaning self.old))
+            (λ _. gathered (λ col. handed_out W.columns (meant D.meaning col.0)) cols.items) ≡ refused E.TooNarrow }
         ensures two_columns { 2 ≤ block_width self.old →
             Each (λ col. (col.0.failure ≡ None) × (2 ≤ block_width col.0)) cols.items → result ≢ Err E.TooNarrow }
         ensures settings { KeepsSettings (meant D.meaning self.old) (meant D.meaning self.new) }
@@ -108,16 +109,15 @@ impl<D: TextDecorator, W: CharWidth> SubRenderer<D, W> {
         aligns: &[CellAlign],
     ) -> Result<Columns<Vec<D::Annotation>>, Error>
         ensures cells { IfOk result (λ columns. (cells : List (GivenCell (List D.Meaning)))
-            × AllZip (GivesCell (λ col. col.width) (λ col lines. HandsOut W.columns (meant D.meaning col) lines))
-            cols.items cells
+            × AllZip (GivesCell (λ col. col.width)
+            (λ col lines. handed_out W.columns (meant D.meaning col) ≡ done lines)) cols.items cells
             × (map model.align_in cells ≡ model.aligned_as aligns.now cols.items)
             × AllZip (ComesAs W.columns (map D.meaning self.now.annotations)) cells
             (map (map_cell (tag_meant D.meaning)) columns)) }
         ensures free { IfOk result (λ columns. AllZip (model.LeavesFree W.columns) cols.items columns) }
         ensures side_by_side { IfOk result (λ columns. AreSideBySide 0 columns) }
         ensures too_narrow { result ≡ Err E.TooNarrow →
-            FirstToRefuse (λ col lines. HandsOut W.columns (meant D.meaning col.0) lines)
-            (λ col. HoldsBack W.columns (meant D.meaning col.0)) cols.items }
+            gathered (λ col. handed_out W.columns (meant D.meaning col.0)) cols.items ≡ refused E.TooNarrow }
         ensures two_columns { Each (λ col. (col.0.failure ≡ None) × (2 ≤ block_width col.0)) cols.items →
             result ≢ Err E.TooNarrow }
     {

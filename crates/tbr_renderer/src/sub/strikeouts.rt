@@ -2,11 +2,10 @@
 ghost use Rattle.std.specs.Prelude.{◌≡◌, ◌≢◌, ◌<◌, ◌≤◌, true, None, Err, IfErr, OnOk, OnErr};
 ghost use Rattle.tbr_tagged.specs.declared.Error.TheVariants as E;
 ghost use Rattle.tbr_decor.specs.Decoration.{decoration_of};
-ghost use Rattle.tbr_decor.specs.Start as start;
-ghost use Rattle.tbr_decor.specs.End as end;
 ghost use Rattle.tbr_renderer.specs.Renderer.{kept_of, block_width};
 ghost use Rattle.tbr_renderer.specs.Meant.{meant};
-ghost use Rattle.tbr_renderer.specs.Decorated.{struck_from, struck_until, OpenIsTooNarrow, CloseIsTooNarrow, OpensStrikeout, ClosesStrikeout};
+ghost use Rattle.tbr_renderer.specs.Decorated.{struck_from, struck_until, after_strikeout_start, after_strikeout_end};
+ghost use Rattle.tbr_renderer.specs.Outcomes.{Tries};
 
 use crate::sub::SubRenderer;
 use crate::sub::decorated::{End, Start};
@@ -52,10 +51,8 @@ impl<D: TextDecorator, W: CharWidth> SubRenderer<D, W> {
     /// Opens a strikeout, after whose own text characters have strokes.
     pub(crate) fn try_start_strikeout(&mut self) -> Result<(), Error>
         requires { self.old.failure ≡ None }
-        ensures ok { OnOk result (OpensStrikeout W.columns (decoration_of D.TextDecorator)
-            (meant D.meaning self.old) (meant D.meaning self.new)) }
-        ensures too_narrow { result ≡ Err E.TooNarrow → OpenIsTooNarrow W.columns
-            (decoration_of D.TextDecorator) start.strikeout (meant D.meaning self.old) }
+        ensures tries { Tries (meant D.meaning)
+            (after_strikeout_start W.columns (decoration_of D.TextDecorator)) self.old result self.new }
         ensures two_columns { 2 ≤ block_width self.old → result ≢ Err E.TooNarrow }
         ensures kept { OnErr result (kept_of (meant D.meaning self.new) ≡ kept_of (meant D.meaning self.old)) }
     {
@@ -67,10 +64,8 @@ impl<D: TextDecorator, W: CharWidth> SubRenderer<D, W> {
     pub(crate) fn try_end_strikeout(&mut self) -> Result<(), Error>
         requires unfailed { self.old.failure ≡ None }
         requires open { self.old.options.use_unicode_strikeout ≡ true → 0 < self.old.strikeouts }
-        ensures ok { OnOk result (ClosesStrikeout W.columns (decoration_of D.TextDecorator)
-            (meant D.meaning self.old) (meant D.meaning self.new)) }
-        ensures too_narrow { result ≡ Err E.TooNarrow → CloseIsTooNarrow W.columns
-            (decoration_of D.TextDecorator) end.strikeout (struck_until (meant D.meaning self.old)) }
+        ensures tries { Tries (meant D.meaning)
+            (after_strikeout_end W.columns (decoration_of D.TextDecorator)) self.old result self.new }
         ensures two_columns { 2 ≤ block_width self.old → result ≢ Err E.TooNarrow }
         ensures kept { OnErr result (kept_of (meant D.meaning self.new) ≡ kept_of (meant D.meaning self.old)) }
     {

@@ -7,7 +7,8 @@ ghost use Rattle.tbr_renderer.specs.View.{IsFresh, block_meant};
 ghost use Rattle.tbr_footnotes.specs.Tags.{tag_meant};
 ghost use Rattle.tbr_renderer.specs.Meant.{meant};
 ghost use Rattle.tbr_renderer.specs.Flush.{fits_grown};
-ghost use Rattle.tbr_renderer.specs.Steps.{JoinsText, JoinIsTooNarrow, AddsTextBy, AddsText, TextIsTooNarrowBy, TextIsTooNarrow};
+ghost use Rattle.tbr_renderer.specs.Steps.{after_joining, after_first_text, after_text};
+ghost use Rattle.tbr_renderer.specs.Outcomes.{Tries};
 ghost use Rattle.tbr_model.specs.Rule.{entry};
 ghost use Rattle.tbr_model.specs.Run.{marker_entry};
 
@@ -172,10 +173,8 @@ impl<D: TextDecorator, W: CharWidth> SubRenderer<D, W> {
     /// Adds text to the open block, or to a new one.
     fn add_to_block(&mut self, text: &str) -> Result<(), Error>
         requires { self.old.failure ≡ None }
-        ensures ok { OnOk result (JoinsText W.columns D.preformatted (chars text.now)
-            (meant D.meaning self.old) (meant D.meaning self.new)) }
-        ensures too_narrow { result ≡ Err E.TooNarrow →
-            JoinIsTooNarrow W.columns D.preformatted (chars text.now) (meant D.meaning self.old) }
+        ensures tries { Tries (meant D.meaning)
+            (after_joining W.columns D.preformatted (chars text.now)) self.old result self.new }
         ensures two_columns { 2 ≤ block_width self.old → result ≢ Err E.TooNarrow }
         ensures settings { KeepsSettings (meant D.meaning self.old) (meant D.meaning self.new) }
     {
@@ -202,10 +201,8 @@ impl<D: TextDecorator, W: CharWidth> SubRenderer<D, W> {
     /// Begins a block with text.
     fn begin_with(&mut self, text: &str) -> Result<(), Error>
         requires { self.old.failure ≡ None }
-        ensures ok { OnOk result (AddsTextBy W.columns D.preformatted false true (chars text.now)
-            (meant D.meaning self.old) (meant D.meaning self.new)) }
-        ensures too_narrow { result ≡ Err E.TooNarrow →
-            TextIsTooNarrowBy W.columns D.preformatted false true (chars text.now) (meant D.meaning self.old) }
+        ensures tries { Tries (meant D.meaning)
+            (after_first_text W.columns D.preformatted (chars text.now)) self.old result self.new }
         ensures two_columns { 2 ≤ block_width self.old → result ≢ Err E.TooNarrow }
         ensures settings { KeepsSettings (meant D.meaning self.old) (meant D.meaning self.new) }
     {
@@ -216,10 +213,8 @@ impl<D: TextDecorator, W: CharWidth> SubRenderer<D, W> {
     /// Adds text: to the open block or a new one, or after the end of a block to one that it begins.
     pub(crate) fn try_add_text(&mut self, text: &str) -> Result<(), Error>
         requires { self.old.failure ≡ None }
-        ensures ok { OnOk result (AddsText W.columns D.preformatted (chars text.now)
-            (meant D.meaning self.old) (meant D.meaning self.new)) }
-        ensures too_narrow { result ≡ Err E.TooNarrow →
-            TextIsTooNarrow W.columns D.preformatted (chars text.now) (meant D.meaning self.old) }
+        ensures tries { Tries (meant D.meaning)
+            (after_text W.columns D.preformatted (chars text.now)) self.old result self.new }
         ensures two_columns { 2 ≤ block_width self.old → result ≢ Err E.TooNarrow }
         ensures settings { KeepsSettings (meant D.meaning self.old) (meant D.meaning self.new) }
     {

@@ -1,13 +1,14 @@
 -- A command leads to one progress, or is refused, and not both.
-use Rattle.std.proofs.Common.{◌≡◌, ◌⊎◌, ℕ, Option, List, length, sym, ap, ◌∙◌, subst, inl, inr}
+use Rattle.std.proofs.Common.{◌≡◌, ℕ, Option, List, length, sym, ap, ◌∙◌, subst, inl, inr}
 use Rattle.std.proofs.lemmas.Bool.{false≢true}
 use Rattle.tbr_decor.specs.Decoration.{Decoration}
 use Rattle.text_block_renderer.specs.Renderer.{Renderer}
 use Rattle.text_block_renderer.specs.Line.{Line}
-use Rattle.text_block_renderer.specs.Flush.{FlushIsTooNarrow}
-use Rattle.text_block_renderer.specs.Appended.{HandsOut, HoldsBack}
-use Rattle.text_block_renderer.specs.Calls.{Call, append_subrender, append_vert_row, Does, IsTooNarrow}
-use Rattle.text_block_renderer.proofs.OneState.{call_once, call_or_not}
+use Rattle.tbr_tagged.specs.declared.Error.TheVariants as E
+use Rattle.tbr_renderer.specs.Outcomes.{gathered}
+use Rattle.tbr_renderer.proofs.OutcomeParts.{once, done_or_refused}
+use Rattle.text_block_renderer.specs.Appended.{handed_out}
+use Rattle.text_block_renderer.specs.Calls.{Call, append_subrender, append_vert_row, after, Does, IsTooNarrow}
 use Rattle.tbr_stack.specs.Stack.{Stack}
 use Rattle.tbr_stack.specs.Top.{ChangesTop, OfTop}
 use Rattle.tbr_script.specs.declared.error.RunError.{RunError}
@@ -16,9 +17,9 @@ use Rattle.tbr_commands.specs.Command.{Command, ask, link, end_link, sub, append
 use Rattle.tbr_runner.specs.declared.opened.Opener.TheVariants.{Sub, Cell}
 use Rattle.tbr_runner.specs.Prefixes.{prefixes}
 use Rattle.tbr_runner.specs.Progress.{Progress}
-use Rattle.tbr_runner.specs.Meaning.{CellDoes, CellRefuses, RequestDoes, AppendDoes, VerticalRowDoes, CommandDoes, AppendRefuses, VerticalRowRefuses, RequestRefuses, CommandRefuses}
+use Rattle.tbr_runner.specs.Meaning.{renderers_of, TakesNone, CellDoes, CellRefuses, RequestDoes, AppendDoes, VerticalRowDoes, CommandDoes, AppendRefuses, VerticalRowRefuses, RequestRefuses, CommandRefuses}
 use Rattle.tbr_runner.proofs.once.Tops.{on_top_once, on_top_or_not}
-use Rattle.tbr_runner.proofs.once.Handed.{handed_once, handed_or_held, all_handed_once, all_handed_or_not}
+use Rattle.tbr_runner.proofs.once.Taken.{flush_done, takes_or_not}
 use Rattle.tbr_runner.proofs.once.Levels.{one_progress, closes_once, closes_opener, cell_once, opens_once}
 use Rattle.tbr_runner.proofs.once.Refusals.{not_waiting}
 use Rattle.tbr_runner.proofs.once.Rows.{row_once, row_or_not}
@@ -37,11 +38,11 @@ module _ {D M : Type 0} (columns : ℕ → Option ℕ) (decoration : Decoration 
 
     called_once : (x y : Stack (Renderer D M (List M))) → Calls x → Calls y → x ≡ y
     called_once x y a b =
-        on_top_once (λ r s. Does columns decoration (call r.width) r s) p.stack x y (λ r s t. call_once columns decoration (call r.width) r s t) a b
+        on_top_once (λ r s. Does columns decoration (call r.width) r s) p.stack x y (λ r s t. once (after columns decoration (call r.width) r) s t) a b
 
     called_or_not : (x : Stack (Renderer D M (List M))) → Calls x → OfTop (λ r. IsTooNarrow columns decoration (call r.width) r) p.stack → ⊥
     called_or_not x a b =
-        on_top_or_not (λ r s. Does columns decoration (call r.width) r s) (λ r. IsTooNarrow columns decoration (call r.width) r) p.stack x (λ r s. call_or_not columns decoration (call r.width) r s) a b
+        on_top_or_not (λ r s. Does columns decoration (call r.width) r s) (λ r. IsTooNarrow columns decoration (call r.width) r) p.stack x (λ r s. done_or_refused (after columns decoration (call r.width) r) s E.TooNarrow) a b
 
   -- ---- requests
 
@@ -63,8 +64,8 @@ module _ {D M : Type 0} (columns : ℕ → Option ℕ) (decoration : Decoration 
     append_once : (y : Progress D M (List M)) → AppendDoes columns decoration p first other y → x ≡ y
     append_once y b =
         let same = closes_once p Sub Sub a.inside b.inside a.closed b.closed a.closes b.closes in
-        let hands = subst (λ (r : Renderer D M (List M)). HandsOut columns r b.lines) (sym same.1) b.hands_out in
-        let lines = handed_once columns decoration a.inside a.lines b.lines a.hands_out hands in
+        let hands = ap (handed_out columns) same.1 ∙ b.hands_out in
+        let lines = once (handed_out columns a.inside) b.lines a.lines hands a.hands_out in
         let there = subst (λ (q : Progress D M (List M)). ChangesTop (Does columns decoration (behind b.lines)) q.stack y.stack) (sym same.2) b.does in
         let does = subst (λ (ls : List (Line (List M))). ChangesTop (Does columns decoration (behind ls)) a.closed.stack y.stack) (sym lines) there in
         one_progress x y
@@ -72,7 +73,7 @@ module _ {D M : Type 0} (columns : ℕ → Option ℕ) (decoration : Decoration 
         (a.pending ∙ ap (λ (q : Progress D M (List M)). q.pending) same.2 ∙ sym b.pending)
         (a.opened ∙ ap (λ (q : Progress D M (List M)). q.opened) same.2 ∙ sym b.opened)
 
-    append_or_not : (number : ℕ) (e : RunError) → AppendRefuses columns p number e → ⊥
+    append_or_not : (number : ℕ) (e : RunError) → AppendRefuses columns decoration p number e → ⊥
     append_or_not number e (inl b) = b.0 (closes_opener p Sub a.inside a.closed a.closes)
     append_or_not number e (inr (inl b)) = not_waiting p number e a.closes.cells b.1
     append_or_not number e (inr (inr b)) = go b.3
@@ -80,25 +81,27 @@ module _ {D M : Type 0} (columns : ℕ → Option ℕ) (decoration : Decoration 
         same : (Sub ≡ Sub) × (a.inside ≡ b.0) × (a.closed ≡ b.1)
         same = closes_once p Sub Sub a.inside b.0 a.closed b.1 a.closes b.2
 
-        go : OfTop (FlushIsTooNarrow columns) b.1.stack ⊎ HoldsBack columns b.0 → ⊥
-        go (inl k) = called_or_not (λ width. behind a.lines) a.closed x.stack a.does (subst (λ (q : Progress D M (List M)). OfTop (FlushIsTooNarrow columns) q.stack) (sym same.2) k)
-        go (inr k) =
-            handed_or_held columns decoration a.inside a.lines a.hands_out (subst (λ (r : Renderer D M (List M)). HoldsBack columns r) (sym same.1) k)
+        go : OfTop (TakesNone columns decoration (handed_out columns b.0)) b.1.stack → ⊥
+        go k =
+            let there = subst (λ (q : Progress D M (List M)). OfTop (TakesNone columns decoration (handed_out columns b.0)) q.stack) (sym same.2) k in
+            let here = subst (λ (r : Renderer D M (List M)). OfTop (TakesNone columns decoration (handed_out columns r)) a.closed.stack) (sym same.1) there in
+            takes_or_not columns decoration (λ r. Does columns decoration (behind a.lines) r) (handed_out columns a.inside) a.lines a.closed.stack x.stack a.hands_out (λ r s h. flush_done columns decoration _ r s h) a.does here
 
   -- ---- rows
 
   module _ (p x : Progress D M (List M)) (a : VerticalRowDoes columns decoration p x) where
     vertical_once : (y : Progress D M (List M)) → VerticalRowDoes columns decoration p y → x ≡ y
     vertical_once y b =
-        let cells = all_handed_once columns decoration _ a.cells b.cells a.hand_out b.hand_out in
+        let cells = once (gathered (handed_out columns) (renderers_of p.pending.cells)) b.cells a.cells b.hand_out a.hand_out in
         let does = subst (λ (cs : List (List (Line (List M)))). ChangesTop (Does columns decoration (append_vert_row cs)) p.stack y.stack) (sym cells) b.does in
         one_progress x y
         (called_once (λ width. append_vert_row a.cells) p x.stack y.stack a.does does)
         (a.pending ∙ sym b.pending) (a.opened ∙ sym b.opened)
 
-    vertical_or_not : (e : RunError) → VerticalRowRefuses columns p e → ⊥
-    vertical_or_not e (inl b, is) = called_or_not (λ width. append_vert_row a.cells) p x.stack a.does b
-    vertical_or_not e (inr b, is) = all_handed_or_not columns decoration _ a.cells a.hand_out b
+    vertical_or_not : (e : RunError) → VerticalRowRefuses columns decoration p e → ⊥
+    vertical_or_not e b =
+        takes_or_not columns decoration (λ r. Does columns decoration (append_vert_row a.cells) r) (gathered (handed_out columns) (renderers_of p.pending.cells)) a.cells p.stack x.stack a.hand_out
+        (λ r s h. flush_done columns decoration _ r s h) a.does b.0
 
   -- ---- commands
 

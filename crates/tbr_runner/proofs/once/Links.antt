@@ -4,8 +4,9 @@ use Rattle.tbr_decor.specs.Start as start
 use Rattle.tbr_decor.specs.End as end_text
 use Rattle.tbr_decor.specs.Decoration.{Decoration}
 use Rattle.text_block_renderer.specs.Renderer.{Renderer}
-use Rattle.text_block_renderer.specs.Calls.{Call, begin, finish, add_inline_text, Does, IsTooNarrow}
-use Rattle.text_block_renderer.proofs.OneState.{call_once, call_or_not}
+use Rattle.text_block_renderer.specs.Calls.{Call, begin, finish, add_inline_text, after, Does, IsTooNarrow}
+use Rattle.tbr_tagged.specs.declared.Error.TheVariants as E
+use Rattle.tbr_renderer.proofs.OutcomeParts.{once, done_or_refused}
 use Rattle.tbr_stack.specs.Stack.{Stack}
 use Rattle.tbr_stack.specs.Links.{with_link, without_open_link, open_links, shown_number, link_number, EndsWith, EndIsTooNarrowWith}
 use Rattle.tbr_stack.proofs.Tops.{top_linked}
@@ -25,13 +26,13 @@ module _ {D M : Type 0} (columns : ℕ → Option ℕ) (decoration : Decoration 
     pub link_once : (y : Progress D M (List M)) → LinkDoes columns decoration p target y → x ≡ y
     link_once y b =
         one_progress x y
-        (on_top_once (Does columns decoration starts) (with_link (chars target) p.stack) x.stack y.stack (call_once columns decoration starts) a.starts b.starts)
+        (on_top_once (Does columns decoration starts) (with_link (chars target) p.stack) x.stack y.stack (λ r s t. once (after columns decoration starts r) s t) a.starts b.starts)
         (a.pending ∙ sym b.pending) (a.opened ∙ sym b.opened)
 
     pub link_or_not : (e : RunError) → LinkRefuses columns decoration p target e → ⊥
     link_or_not e b =
         let is = top_linked (chars target) p.stack ∙ b.0.1 in
-        on_top_or_not (Does columns decoration starts) (IsTooNarrow columns decoration starts) (with_link (chars target) p.stack) x.stack (call_or_not columns decoration starts) a.starts (b.0.0, is, b.0.2)
+        on_top_or_not (Does columns decoration starts) (IsTooNarrow columns decoration starts) (with_link (chars target) p.stack) x.stack (λ r s. done_or_refused (after columns decoration starts r) s E.TooNarrow) a.starts (b.0.0, is, b.0.2)
 
   -- ---- a link ends
 
@@ -42,18 +43,18 @@ module _ {D M : Type 0} (columns : ℕ → Option ℕ) (decoration : Decoration 
   shows k = add_inline_text (link_number k)
 
   end_once : (number : Option ℕ) (r s t : Renderer D M (List M)) → EndsWith columns decoration number r s → EndsWith columns decoration number r t → t ≡ s
-  end_once None r s t a b = call_once columns decoration ends r s t a b
+  end_once None r s t a b = once (after columns decoration ends r) s t a b
   end_once (Some k) r s t a b =
-      let middle = call_once columns decoration ends r a.0 b.0 a.1 b.1 in
-      call_once columns decoration (shows k) a.0 s t a.2
+      let middle = once (after columns decoration ends r) a.0 b.0 a.1 b.1 in
+      once (after columns decoration (shows k) a.0) s t a.2
       (subst (λ (m : Renderer D M (List M)). Does columns decoration (shows k) m t) middle b.2)
 
   end_or_not : (number : Option ℕ) (r s : Renderer D M (List M)) → EndsWith columns decoration number r s → EndIsTooNarrowWith columns decoration number r → ⊥
-  end_or_not None r s a b = call_or_not columns decoration ends r s a b
-  end_or_not (Some k) r s a (inl b) = call_or_not columns decoration ends r a.0 a.1 b
+  end_or_not None r s a b = done_or_refused (after columns decoration ends r) s E.TooNarrow a b
+  end_or_not (Some k) r s a (inl b) = done_or_refused (after columns decoration ends r) a.0 E.TooNarrow a.1 b
   end_or_not (Some k) r s a (inr b) =
-      let middle = call_once columns decoration ends r a.0 b.0 a.1 b.1 in
-      call_or_not columns decoration (shows k) a.0 s a.2
+      let middle = once (after columns decoration ends r) a.0 b.0 a.1 b.1 in
+      done_or_refused (after columns decoration (shows k) a.0) s E.TooNarrow a.2
       (subst (λ (m : Renderer D M (List M)). IsTooNarrow columns decoration (shows k) m) middle b.2)
 
   module _ (p x : Progress D M (List M)) (a : EndLinkDoes columns decoration p x) where

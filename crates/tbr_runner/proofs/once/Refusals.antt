@@ -21,8 +21,8 @@ module _ {D A T : Type 0} where
   cell_refused_once p number d e (inr a) (inl b) = absurd (b.0 a.0 a.1 a.2)
   cell_refused_once p number d e (inr a) (inr b) = a.3.1 ∙ sym b.3.1
 
-module _ {D M : Type 0} (columns : ℕ → Option ℕ) where
-  append_refused_once : (p : Progress D M (List M)) (number : ℕ) (d e : RunError) → AppendRefuses columns p number d → AppendRefuses columns p number e → d ≡ e
+module _ {D M : Type 0} (columns : ℕ → Option ℕ) (decoration : Decoration D M) where
+  append_refused_once : (p : Progress D M (List M)) (number : ℕ) (d e : RunError) → AppendRefuses columns decoration p number d → AppendRefuses columns decoration p number e → d ≡ e
   append_refused_once p number d e (inl a) (inl b) = a.1 ∙ sym b.1
   append_refused_once p number d e (inl a) (inr (inl b)) = absurd (a.0 b.0)
   append_refused_once p number d e (inl a) (inr (inr b)) = absurd (a.0 (closes_opener p Sub b.0 b.1 b.2))
@@ -46,7 +46,7 @@ module _ {D M : Type 0} (columns : ℕ → Option ℕ) (decoration : Decoration 
   end_link_refused_once p number d e (inr a) (inl b) = absurd (a.0 b.0)
   end_link_refused_once p number d e (inr a) (inr b) = a.2 ∙ sym b.2
 
-  row_refused_once : (p : Progress D M (List M)) (number : ℕ) (d e : RunError) → RowRefuses columns p number d → RowRefuses columns p number e → d ≡ e
+  row_refused_once : (p : Progress D M (List M)) (number : ℕ) (d e : RunError) → RowRefuses columns decoration p number d → RowRefuses columns decoration p number e → d ≡ e
   row_refused_once p number d e (inl a) (inl b) = a.1 ∙ sym b.1
   row_refused_once p number d e (inl a) (inr b) = absurd (row_fits_or_not columns p b.0 a.0)
   row_refused_once p number d e (inr a) (inl b) = absurd (row_fits_or_not columns p a.0 b.0)
@@ -57,7 +57,7 @@ module _ {D M : Type 0} (columns : ℕ → Option ℕ) (decoration : Decoration 
   refused_once p number (link target) d e a b = a.1 ∙ sym b.1
   refused_once p number end_link d e a b = end_link_refused_once p number d e a b
   refused_once p number (sub width) d e a b = absurd a
-  refused_once p number (append first other) d e a b = append_refused_once columns p number d e a b
+  refused_once p number (append first other) d e a b = append_refused_once columns decoration p number d e a b
   refused_once p number (cell width span align) d e a b = absurd a
   refused_once p number end_cell d e a b = cell_refused_once p number d e a b
   refused_once p number (row collapse) d e a b = row_refused_once p number d e a b

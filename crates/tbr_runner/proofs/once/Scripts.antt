@@ -1,10 +1,9 @@
 -- A script gives one thing.
-use Rattle.std.proofs.Common.{◌≡◌, ◌≢◌, ◌⊎◌, ℕ, ◌+◌, List, [], ◌∷◌, sym, ap, ◌∙◌, Option, Result, Ok, Err, subst, inl, inr, encode_utf8_all}
+use Rattle.std.proofs.Common.{◌≡◌, ◌≢◌, ◌⊎◌, ℕ, ◌+◌, List, [], ◌∷◌, sym, ap, ◌∙◌, Option, Result, Ok, Err, subst, inl, inr}
 use Rattle.tbr_decor.specs.Decoration.{Decoration}
-use Rattle.text_block_renderer.specs.Renderer.{Renderer}
-use Rattle.text_block_renderer.specs.Text.{lines_text}
-use Rattle.text_block_renderer.specs.Calls.{new_line}
-use Rattle.text_block_renderer.proofs.OneState.{call_once, call_or_not}
+use Rattle.tbr_tagged.specs.Outcome.{done, refused}
+use Rattle.tbr_tagged.specs.declared.Error.TheVariants as E
+use Rattle.tbr_renderer.proofs.OutcomeParts.{once, done_or_refused}
 use Rattle.tbr_script.specs.declared.error.RunError.{RunError}
 use Rattle.tbr_commands.specs.declared.opening.Decorator.{Decorator}
 use Rattle.tbr_commands.specs.declared.opening.Decorator.TheVariants.{Plain, Trivial, Rich}
@@ -12,7 +11,7 @@ use Rattle.tbr_commands.specs.declared.opening.Opening.{Opening}
 use Rattle.tbr_commands.proofs.OneCommand.{command_once}
 use Rattle.tbr_commands.proofs.OneOpening.{opening_once}
 use Rattle.tbr_runner.specs.Decorations.{plain_decoration, trivial_decoration, rich_decoration}
-use Rattle.tbr_runner.specs.Closing.{with_notes, footnotes_of, finalised, ClosesAs, ClosingIsTooNarrow}
+use Rattle.tbr_runner.specs.Closing.{closed_text}
 use Rattle.tbr_runner.specs.Progress.{Progress}
 use Rattle.tbr_runner.specs.Meaning.{CommandDoes, CommandRefuses, LineDoes, LineRefuses, Ends, LinesGive, started, OpensUnder, Begins}
 use Rattle.tbr_runner.proofs.once.Tops.{top_is_both}
@@ -51,16 +50,14 @@ module _ {D M : Type 0} (columns : ℕ → Option ℕ) (decoration : Decoration 
   ends_or_not p number s e a (inl b) = text_or_levels p a.0 a.1 b.0
   ends_or_not p number s e a (inr b) =
       let targets = (let t = p.stack in t.links) in
-      let both = top_is_both (λ r. ClosesAs columns decoration targets r s) (ClosingIsTooNarrow columns decoration targets) p.stack a.2 b.2 in
-      call_or_not columns decoration new_line (finalised columns decoration targets both.0) both.2.0.0 both.2.0.1 both.2.1
+      let both = top_is_both (λ r. closed_text columns decoration targets r ≡ done s) (λ r. closed_text columns decoration targets r ≡ refused E.TooNarrow) p.stack a.2 b.2 in
+      done_or_refused (closed_text columns decoration targets both.0) s E.TooNarrow both.2.0 both.2.1
 
   ends_once : (p : Progress D M (List M)) (number : ℕ) (x y : Result (List ℕ) RunError) → Ends columns decoration p number x → Ends columns decoration p number y → x ≡ y
   ends_once p number (Ok s) (Ok t) a b =
       let targets = (let u = p.stack in u.links) in
-      let both = top_is_both (λ r. ClosesAs columns decoration targets r s) (λ r. ClosesAs columns decoration targets r t) p.stack a.2 b.2 in
-      let r = both.0 in
-      let one = call_once columns decoration new_line (finalised columns decoration targets r) both.2.1.0 both.2.0.0 both.2.1.1 both.2.0.1 in
-      ap Ok (both.2.0.2 ∙ ap (λ (q : Renderer D M (List M)). encode_utf8_all (lines_text (let n = with_notes columns (footnotes_of columns decoration targets r) q in n.lines))) one ∙ sym both.2.1.2)
+      let both = top_is_both (λ r. closed_text columns decoration targets r ≡ done s) (λ r. closed_text columns decoration targets r ≡ done t) p.stack a.2 b.2 in
+      ap Ok (once (closed_text columns decoration targets both.0) t s both.2.1 both.2.0)
   ends_once p number (Ok s) (Err e) a b = absurd (ends_or_not p number s e a b)
   ends_once p number (Err d) (Ok t) a b = absurd (ends_or_not p number t d b a)
   ends_once p number (Err d) (Err e) (inl a) (inl b) = ap Err (a.1 ∙ sym b.1)

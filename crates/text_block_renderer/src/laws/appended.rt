@@ -7,9 +7,10 @@ ghost use Rattle.tbr_model.specs.Hard.{IsShown, IsSpaces, visible_glyphs, visibl
 ghost use Rattle.tbr_border.specs.Cell.{Cell};
 ghost use Rattle.tbr_decor.specs.Decoration.{Decoration};
 ghost use Rattle.tbr_kept_lines.specs.Line.{Line, text};
-ghost use Rattle.tbr_renderer.specs.Renderer.{Renderer};
-ghost use Rattle.tbr_renderer.specs.Flush.{Flushes};
-ghost use Rattle.tbr_renderer.specs.Appended.{as_text, prefixed, HandsOut};
+ghost use Rattle.tbr_renderer.specs.Renderer.{Renderer, IsSound};
+ghost use Rattle.tbr_tagged.specs.Outcome.{done};
+ghost use Rattle.tbr_renderer.specs.Flush.{after_flush};
+ghost use Rattle.tbr_renderer.specs.Appended.{as_text, prefixed, handed_out};
 ghost use Rattle.tbr_renderer.specs.Calls.{append_subrender, append_vert_row, Does, text_of_lines, Shows};
 ghost use Rattle.text_block_renderer.specs.Drawn.{AreDrawnAmong, WithoutDrawnBorders};
 ghost use Rattle.text_block_renderer.specs.Stretches.{lines_laid};
@@ -38,7 +39,8 @@ pub fn appended_lines_come_behind_the_others<D, A>()
     ensures { (columns : ℕ → Option ℕ) (decoration : Decoration D A) (prefixes : List (List ℕ))
         (lines : List (Line (List A))) (r s : Renderer D A (List A)) →
         Does columns decoration (append_subrender prefixes lines) r s → (m : Renderer D A (List A))
-        × Flushes columns r m × (s.lines ≡ m.lines ++ lines_laid columns m (prefixed r.annotations prefixes lines)) }
+        × (after_flush columns r ≡ done m)
+        × (s.lines ≡ m.lines ++ lines_laid columns m (prefixed r.annotations prefixes lines)) }
 {}
 
 /// The visible characters of lines that are appended come after those of the prefixes, line by line and in order. Where
@@ -47,13 +49,14 @@ pub fn appended_characters_stand<D, A>()
     ensures prefixed { (columns : ℕ → Option ℕ) (decoration : Decoration D A) (prefixes : List (List ℕ))
         (lines : List (Line (List A))) (r s : Renderer D A (List A)) →
         Does columns decoration (append_subrender prefixes lines) r s →
-        (m : Renderer D A (List A)) × Flushes columns r m
+        (m : Renderer D A (List A)) × (after_flush columns r ≡ done m)
         × (visible_glyphs columns (text_of_lines s.lines) ≡ visible_glyphs columns (text_of_lines m.lines)
         ++ flat_map (visible_behind columns r.annotations) (zip prefixes lines)) }
     ensures indented { (columns : ℕ → Option ℕ) (decoration : Decoration D A) (prefixes : List (List ℕ))
         (lines : List (Line (List A))) (r s : Renderer D A (List A)) →
         Does columns decoration (append_subrender prefixes lines) r s →
-        length lines ≤ length prefixes → Each IsSpaces prefixes → (m : Renderer D A (List A)) × Flushes columns r m
+        length lines ≤ length prefixes → Each IsSpaces prefixes →
+        (m : Renderer D A (List A)) × (after_flush columns r ≡ done m)
         × (visible_glyphs columns (text_of_lines s.lines) ≡ visible_glyphs columns (text_of_lines m.lines)
         ++ visible_glyphs columns (joined (map (as_text r.annotations) lines))) }
 {}
@@ -64,11 +67,12 @@ pub fn a_vertical_row_is_its_cells_and_borders<D, A>()
     ensures drawn { (columns : ℕ → Option ℕ) (decoration : Decoration D A) (cells : List (List (Line (List A))))
         (r s : Renderer D A (List A)) → Does columns decoration (append_vert_row cells) r s →
         r.options.draw_borders ≡ true → r.options.pad_block_width ≡ false →
-        (m : Renderer D A (List A)) × Flushes columns r m × (m.waiting ≡ [] → s.lines ≡ m.lines ++ row_lines r cells) }
+        (m : Renderer D A (List A)) × (after_flush columns r ≡ done m)
+        × (m.waiting ≡ [] → s.lines ≡ m.lines ++ row_lines r cells) }
     ensures without_borders { (columns : ℕ → Option ℕ) (decoration : Decoration D A)
         (cells : List (List (Line (List A)))) (r s : Renderer D A (List A)) →
         Does columns decoration (append_vert_row cells) r s → r.options.draw_borders ≡ false →
-        (m : Renderer D A (List A)) × Flushes columns r m
+        (m : Renderer D A (List A)) × (after_flush columns r ≡ done m)
         × (s.lines ≡ m.lines ++ lines_laid columns m (flat_map (map (as_text r.annotations)) cells)) }
 {}
 
@@ -76,12 +80,12 @@ pub fn a_vertical_row_is_its_cells_and_borders<D, A>()
 /// Borders that became text by padding are left out.
 pub fn handed_out_lines_have_all_characters<D, A>()
     ensures lines { (columns : ℕ → Option ℕ) (r : Renderer D A (List A)) (borders : List (List Cell))
-        (es : List (Entry (List A))) (lines : List (Line (List A))) →
-        WithoutDrawnBorders borders (λ q. Shows columns q es) r → HandsOut columns r lines →
+        (es : List (Entry (List A))) (lines : List (Line (List A))) → IsSound columns r →
+        WithoutDrawnBorders borders (λ q. Shows columns q es) r → handed_out columns r ≡ done lines →
         (rest : List (Line (List A))) × AreDrawnAmong borders lines rest
         × AllZip (IsShown (λ a b. a ≡ b)) (visible_glyphs columns (text_of_lines rest)) (visible_entries columns es) }
     ensures undrawn { (columns : ℕ → Option ℕ) (r : Renderer D A (List A)) (es : List (Entry (List A)))
-        (lines : List (Line (List A))) → Shows columns r es → HandsOut columns r lines →
+        (lines : List (Line (List A))) → IsSound columns r → Shows columns r es → handed_out columns r ≡ done lines →
         AllZip (IsShown (λ a b. a ≡ b)) (visible_glyphs columns (text_of_lines lines)) (visible_entries columns es) }
 {}
 
@@ -94,7 +98,8 @@ pub fn nothing_visible_is_lost_to_any_depth<D, A>()
         StandWithin (visible_glyphs columns (text_of_lines inside)) (visible_glyphs columns (text_of_lines outside)) }
     ensures brought { (columns : ℕ → Option ℕ) (decoration : Decoration D A) (depth : ℕ) (r : Renderer D A (List A))
         (borders : List (List Cell)) (es : List (Entry (List A))) (inside outside : List (Line (List A))) →
-        WithoutDrawnBorders borders (λ q. Shows columns q es) r → HandsOut columns r inside →
+        IsSound columns r → WithoutDrawnBorders borders (λ q. Shows columns q es) r →
+        handed_out columns r ≡ done inside →
         AreTakenIn columns decoration depth inside outside →
         (shown : List (ℕ × List A)) × AllZip (IsShown (λ a b. a ≡ b)) shown (visible_entries columns es)
         × StandWithin shown (visible_glyphs columns (text_of_lines outside)) }

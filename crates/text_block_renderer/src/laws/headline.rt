@@ -2,7 +2,7 @@
 ghost use Rattle.std.specs.Prelude.{ℕ, Option, List};
 ghost use Rattle.tbr_model.specs.Run.{Entry};
 ghost use Rattle.tbr_decor.specs.Decoration.{Decoration};
-ghost use Rattle.tbr_renderer.specs.Renderer.{Renderer};
+ghost use Rattle.tbr_renderer.specs.Renderer.{Renderer, IsSound};
 ghost use Rattle.text_block_renderer.specs.Acts.{Act, ActsBring};
 ghost use Rattle.text_block_renderer.specs.Headline.{Headline};
 
@@ -20,5 +20,5 @@ ghost use Rattle.text_block_renderer.specs.Headline.{Headline};
 pub fn the_headline<D, A>()
     ensures { (columns : ℕ → Option ℕ) (decoration : Decoration D A) (acts : List (Act (List A)))
         (r s : Renderer D A (List A)) (es : List (Entry (List A))) →
-        ActsBring columns decoration acts r es s → Headline columns decoration acts r es s }
+        IsSound columns r → ActsBring columns decoration acts r es s → Headline columns decoration acts r es s }
 {}

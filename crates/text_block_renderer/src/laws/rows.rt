@@ -2,7 +2,7 @@
 ghost use Rattle.std.specs.Prelude.{◌≡◌, ℕ, Bool, false, Option, List, ◌++◌};
 ghost use Rattle.tbr_model.specs.Run.{Entry, Item};
 ghost use Rattle.tbr_decor.specs.Decoration.{Decoration};
-ghost use Rattle.tbr_renderer.specs.Renderer.{Renderer, settings_of};
+ghost use Rattle.tbr_renderer.specs.Renderer.{Renderer, settings_of, IsSound};
 ghost use Rattle.tbr_renderer.specs.Calls.{text_of_lines, Shows};
 ghost use Rattle.tbr_renderer.specs.Rows.{GivenCell, AppendsRow};
 ghost use Rattle.text_block_renderer.specs.Acts.{Act, ActsBring};
@@ -32,6 +32,7 @@ pub fn a_row_changes_no_settings<D, A>()
 /// brings the texts of its lines.
 pub fn visible_characters_stand_once_with_rows_too<D, A>()
     ensures { (columns : ℕ → Option ℕ) (decoration : Decoration D A) (acts : List (Act (List A)))
-        (r s : Renderer D A (List A)) (before es : List (Entry (List A))) → r.options.pad_block_width ≡ false →
-        ActsBring columns decoration acts r es s → Shows columns r before → Shows columns s (before ++ es) }
+        (r s : Renderer D A (List A)) (before es : List (Entry (List A))) → IsSound columns r →
+        r.options.pad_block_width ≡ false → ActsBring columns decoration acts r es s → Shows columns r before →
+        Shows columns s (before ++ es) }
 {}

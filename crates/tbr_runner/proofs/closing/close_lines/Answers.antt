@@ -1,15 +1,20 @@
-use Rattle.std.proofs.Common.{map, sym, subst}
+use Rattle.std.proofs.Common.{map, sym, ◌∙◌}
 use Rattle.tbr_tagged.specs.View.{chars_of}
 use Rattle.tbr_decor.specs.Decoration.{decoration_of}
-use Rattle.text_block_renderer.specs.Meant.{meant}
-use Rattle.tbr_runner.specs.Closing.{ClosesIn}
-use Rattle.tbr_runner.proofs.Results.{if_ok_then}
+use Rattle.text_block_renderer.specs.Tags.{tag_meant}
+use Rattle.text_block_renderer.specs.Meant.{map_line, meant}
+use Rattle.text_block_renderer.specs.Line.{line_seen}
+use Rattle.text_block_renderer.specs.Appended.{handed_out}
+use Rattle.tbr_runner.specs.Closing.{closed}
+use Rattle.tbr_runner.proofs.Results.{if_ok_given}
 use Rattle.tbr_runner.proofs.closing.close_lines.Goals as goal
 
 pub returns-clause-lines : goal.returns-clause-lines
 returns-clause-lines g c =
-    let meaning = g.D.TextDecorator.meaning in
-    let targets = map chars_of c.args.targets.items in
-    let noted = c.in_ok-with_footnotes.ensures.noted in
-    if_ok_then c.into_lines.result (λ lines h.
-    subst (ClosesIn g.W.CharWidth.columns (decoration_of g.D.TextDecorator) targets (meant meaning c.args.renderer)) (sym h.2) (noted.lines h.0 h.1)) c.into_lines.ensures.lines
+    let f = g.D.TextDecorator.meaning in
+    let columns = g.W.CharWidth.columns in
+    if_ok_given (λ lines. map (map_line (tag_meant f)) (map line_seen lines)) (handed_out columns (meant f c.in_ok-with_footnotes.field-0))
+    (closed columns (decoration_of g.D.TextDecorator) (map chars_of c.args.targets.items) (meant f c.args.renderer)) c.into_lines.result c.in_ok-with_footnotes.ensures.noted c.into_lines.ensures.lines
+
+pub returns-clause-too_narrow : goal.returns-clause-too_narrow
+returns-clause-too_narrow g c = λ narrow. sym c.in_ok-with_footnotes.ensures.noted ∙ c.into_lines.ensures.too_narrow narrow

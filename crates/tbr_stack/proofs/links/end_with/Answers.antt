@@ -2,14 +2,13 @@ use Rattle.std.proofs.Common.{◌≤◌, inr, sym, subst, ◌∙◌}
 use Rattle.std.proofs.lemmas.Result.{on_ok_weaker, on_err_weaker}
 use Rattle.tbr_decor.specs.Decoration.{decoration_of}
 use Rattle.tbr_renderer.specs.Renderer.{block_columns}
-use Rattle.tbr_renderer.proofs.AppendedLines.{unfailed}
 use Rattle.tbr_stack.proofs.Ends.{ended}
 use Rattle.tbr_stack.proofs.links.end_with.Goals as goal
 
 pub add_number-requires : goal.add_number-requires
 add_number-requires g c =
     let steady = ended g.D.TextDecorator.meaning g.W.CharWidth.columns (decoration_of g.D.TextDecorator) c.args.renderer.now c.end_link.new.self c.in_ok-end_link.ensures.answers.ok in
-    steady.failure ∙ unfailed c.args.renderer.now.failure c.end_link.result _ c.in_ok-end_link.was (λ e h. (c.end_link.ensures.answers.fails.refusal.1 e h).0)
+    steady.failure
 
 pub returns-in-Some-clause-ok : goal.returns-in-Some-clause-ok
 returns-in-Some-clause-ok g c = rw c.in-Some.is (on_ok_weaker c.add_number.result (λ h. (_, c.in_ok-end_link.ensures.answers.ok, h)) c.add_number.ensures.ok)

@@ -1,32 +1,33 @@
-use Rattle.std.proofs.Common.{◌≡◌, ◌∙◌, ◌∷◌, ap, sym, subst, map, fold, inl, inr}
-use Rattle.std.specs.List.{AllZip, AllByRecursion as Each}
+use Rattle.std.proofs.Common.{◌≡◌, ◌∙◌, ◌∷◌, ap, sym, subst, map, fold}
+use Rattle.std.specs.List.{AllByRecursion as Each}
 use Rattle.std.specs.Vec.Iter.{into_iter_items}
 use Rattle.std.proofs.lemmas.Result.{on_ok_weaker}
 use Rattle.tbr_tagged.specs.declared.Error.TheVariants.{TooNarrow}
 use Rattle.tbr_footnotes.specs.Tags.{tag_meant}
-use Rattle.tbr_renderer.specs.Meant.{map_line, meant}
+use Rattle.tbr_renderer.specs.Meant.{map_line}
 use Rattle.tbr_kept_lines.specs.Line.{line_seen}
-use Rattle.tbr_renderer.specs.Appended.{FirstToRefuse, HoldsBack, with_cell_below}
-use Rattle.tbr_renderer.proofs.AppendedLines.{Hands, unfailed, held_back, passed_on}
+use Rattle.tbr_renderer.specs.Outcomes.{and_then, changed, gathered}
+use Rattle.tbr_renderer.specs.Appended.{with_cell_below}
+use Rattle.tbr_renderer.proofs.AppendedLines.{hands, passed_on}
 use Rattle.tbr_renderer.proofs.sub.SubRenderer.add_cells.Goals as goal
 
 pub returns-in_err-lines-clause-too_narrow : goal.returns-in_err-lines-clause-too_narrow
 returns-in_err-lines-clause-too_narrow g c = λ is.
-    let f = g.D.TextDecorator.meaning in
-    let columns = g.W.CharWidth.columns in
+    let give = hands g.D.TextDecorator.meaning g.W.CharWidth.columns c.args.self.now in
+    let others = into_iter_items c.next.new.self in
     let e = passed_on c.from_residual.result c.into_vec.result c.in_err-lines.field-0.0 TooNarrow is c.from_residual.ensures.1 c.in_err-lines.was in
-    let whole : c.args.cols.items ≡ c.in-Some.first ∷ into_iter_items c.next.new.self = sym c.into_iter-cols.ensures.rest ∙ c.in-Some.ensures.items in
-    subst (λ cols. FirstToRefuse (Hands f columns c.args.self.now) (λ col. HoldsBack columns (meant f col)) cols) (sym whole)
-    (inl (held_back columns (meant f c.in-Some.first) c.into_vec.result e c.into_vec.ensures.too_narrow c.into_vec.ensures.kept))
+    let whole : c.args.cols.items ≡ c.in-Some.first ∷ others = sym c.into_iter-cols.ensures.rest ∙ c.in-Some.ensures.items in
+    ap (gathered give) whole ∙ ap (λ o. and_then o (λ lines. changed (λ cells. lines ∷ cells) (gathered give others))) (c.into_vec.ensures.too_narrow e)
 
 pub returns-clause-too_narrow : goal.returns-clause-too_narrow
 returns-clause-too_narrow g c = λ is.
     let f = g.D.TextDecorator.meaning in
-    let columns = g.W.CharWidth.columns in
-    let lines = c.in_ok-lines.lines.items in
-    let whole : c.args.cols.items ≡ c.in-Some.first ∷ into_iter_items c.next.new.self = sym c.into_iter-cols.ensures.rest ∙ c.in-Some.ensures.items in
-    subst (λ cols. FirstToRefuse (Hands f columns c.args.self.now) (λ col. HoldsBack columns (meant f col)) cols) (sym whole)
-    (inr (map (map_line (tag_meant f)) (map line_seen lines), (unfailed c.in-Some.first.failure c.into_vec.result c.in_ok-lines.lines c.in_ok-lines.was c.into_vec.ensures.kept, c.in_ok-lines.ensures.lines), c.add_cells_below.ensures.too_narrow is))
+    let give = hands f g.W.CharWidth.columns c.args.self.now in
+    let others = into_iter_items c.next.new.self in
+    let seen = map (map_line (tag_meant f)) (map line_seen c.in_ok-lines.lines.items) in
+    let whole : c.args.cols.items ≡ c.in-Some.first ∷ others = sym c.into_iter-cols.ensures.rest ∙ c.in-Some.ensures.items in
+    ap (gathered give) whole ∙ ap (λ o. and_then o (λ lines. changed (λ cells. lines ∷ cells) (gathered give others))) c.in_ok-lines.ensures.lines
+    ∙ ap (changed (λ cells. seen ∷ cells)) (c.add_cells_below.ensures.too_narrow is)
 
 pub returns-clause-two_columns : goal.returns-clause-two_columns
 returns-clause-two_columns g c = λ wide is.
@@ -38,13 +39,13 @@ pub returns-clause-ok : goal.returns-clause-ok
 returns-clause-ok g c =
     let f = g.D.TextDecorator.meaning in
     let columns = g.W.CharWidth.columns in
-    let lines = c.in_ok-lines.lines.items in
-    let seen = map (map_line (tag_meant f)) (map line_seen lines) in
-    let whole : c.args.cols.items ≡ c.in-Some.first ∷ into_iter_items c.next.new.self = sym c.into_iter-cols.ensures.rest ∙ c.in-Some.ensures.items in
+    let give = hands f columns c.args.self.now in
+    let others = into_iter_items c.next.new.self in
+    let seen = map (map_line (tag_meant f)) (map line_seen c.in_ok-lines.lines.items) in
+    let whole : c.args.cols.items ≡ c.in-Some.first ∷ others = sym c.into_iter-cols.ensures.rest ∙ c.in-Some.ensures.items in
     on_ok_weaker c.add_cells_below.result (λ h. (
       seen ∷ h.0,
-      subst (λ cols. AllZip (Hands f columns c.args.self.now) cols (seen ∷ h.0)) (sym whole)
-          ((unfailed c.in-Some.first.failure c.into_vec.result c.in_ok-lines.lines c.in_ok-lines.was c.into_vec.ensures.kept, c.in_ok-lines.ensures.lines), h.1),
+      ap (gathered give) whole ∙ ap (λ o. and_then o (λ lines. changed (λ cells. lines ∷ cells) (gathered give others))) c.in_ok-lines.ensures.lines ∙ ap (changed (λ cells. seen ∷ cells)) h.1,
       h.2 ∙ ap (λ r. fold (with_cell_below columns) r h.0) c.in_ok-add_cell.ensures.lines,
     ))
     c.add_cells_below.ensures.ok

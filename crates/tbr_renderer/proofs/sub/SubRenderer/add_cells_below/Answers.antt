@@ -1,12 +1,13 @@
-use Rattle.std.proofs.Common.{sym, subst, map}
-use Rattle.std.specs.List.{AllZip, AllByRecursion as Each}
+use Rattle.std.proofs.Common.{ap, subst, map, ◌∙◌}
+use Rattle.std.specs.List.{AllByRecursion as Each}
 use Rattle.std.specs.Vec.Iter.{into_iter_items}
 use Rattle.tbr_tagged.specs.declared.Error.TheVariants.{TooNarrow}
 use Rattle.tbr_footnotes.specs.Tags.{tag_meant}
-use Rattle.tbr_renderer.specs.Meant.{map_line, meant}
+use Rattle.tbr_renderer.specs.Meant.{map_line}
 use Rattle.tbr_kept_lines.specs.Line.{line_seen}
-use Rattle.tbr_renderer.specs.Appended.{FirstToRefuse, HoldsBack}
-use Rattle.tbr_renderer.proofs.AppendedLines.{Hands, no_cells, cells_go_on, refuses_behind, each_at, unfailed, held_back, passed_on}
+use Rattle.tbr_renderer.specs.Outcomes.{gathered}
+use Rattle.tbr_renderer.proofs.OutcomeParts.{gathered_stops}
+use Rattle.tbr_renderer.proofs.AppendedLines.{hands, no_cells, cells_go_on, each_at, passed_on}
 use Rattle.tbr_kept_lines.proofs.ItemsLeft.{items_left, items_taken}
 use Rattle.tbr_renderer.proofs.sub.SubRenderer.add_cells_below.Goals as goal
 
@@ -19,9 +20,9 @@ returns-in_err-lines-clause-too_narrow g c = λ is.
     let columns = g.W.CharWidth.columns in
     let e = passed_on c.from_residual-in_err-lines.result c.into_vec.result c.in_err-lines.field-0.0 TooNarrow is c.from_residual-in_err-lines.ensures.1 c.in_err-lines.was in
     let whole = items_left c.args.cols c.into_iter-col-iterator.result c.loop-col.col-iterator c.next.new.self c.loop-col.yielded c.in-Some.col c.into_iter-col-iterator.ensures.into_iter_gives c.loop-col.yielded_by c.in-Some.ensures.steps.0 in
-    subst (λ cols. FirstToRefuse (Hands f columns c.args.self.now) (λ col. HoldsBack columns (meant f col)) cols) (sym whole)
-    (refuses_behind (Hands f columns c.args.self.now) (λ col. HoldsBack columns (meant f col)) c.loop-col.yielded c.in-Some.col (into_iter_items c.next.new.self) c.loop-col.invariant.cells c.loop-col.invariant.hand
-    (held_back columns (meant f c.in-Some.col) c.into_vec.result e c.into_vec.ensures.too_narrow c.into_vec.ensures.kept))
+    let give = hands f columns c.args.self.now in
+    ap (gathered give) whole
+    ∙ gathered_stops give c.loop-col.yielded c.loop-col.invariant.cells c.in-Some.col (into_iter_items c.next.new.self) TooNarrow c.loop-col.invariant.hand (c.into_vec.ensures.too_narrow e)
 
 pub returns-in_err-lines-clause-two_columns : goal.returns-in_err-lines-clause-two_columns
 returns-in_err-lines-clause-two_columns g c = λ wide is.
@@ -35,7 +36,7 @@ loop-col-preserved g c =
     let f = g.D.TextDecorator.meaning in
     let lines = c.in_ok-lines.lines.items in
     cells_go_on f g.W.CharWidth.columns c.args.self.now c.loop-col.yielded c.in-Some.col (map (map_line (tag_meant f)) (map line_seen lines)) c.loop-col.self c.add_divider.new.self c.add_cell.new.self c.loop-col.invariant
-    (unfailed c.in-Some.col.failure c.into_vec.result c.in_ok-lines.lines c.in_ok-lines.was c.into_vec.ensures.kept, c.in_ok-lines.ensures.lines)
+    c.in_ok-lines.ensures.lines
     c.in_ok-add_divider.ensures.divider c.in_ok-add_cell.ensures.lines c.in_ok-add_divider.ensures.settings c.in_ok-add_cell.ensures.settings c.in_ok-add_cell.ensures.unfailed
 
 pub returns-clause-ok : goal.returns-clause-ok
@@ -43,4 +44,4 @@ returns-clause-ok g c =
     let f = g.D.TextDecorator.meaning in
     let h = c.loop-col.invariant in
     let whole = items_taken c.args.cols c.into_iter-col-iterator.result c.loop-col.col-iterator c.next.new.self c.loop-col.yielded c.into_iter-col-iterator.ensures.into_iter_gives c.loop-col.yielded_by c.in-None.ensures.steps in
-    (h.cells, subst (λ cols. AllZip (Hands f g.W.CharWidth.columns c.args.self.now) cols h.cells) (sym whole) h.hand, h.is)
+    (h.cells, ap (gathered (hands f g.W.CharWidth.columns c.args.self.now)) whole ∙ h.hand, h.is)

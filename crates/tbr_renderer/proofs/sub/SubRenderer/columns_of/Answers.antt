@@ -11,10 +11,12 @@ use Rattle.tbr_footnotes.specs.Tags.{tag_meant}
 use Rattle.tbr_renderer.specs.Meant.{map_line, meant}
 use Rattle.tbr_renderer.specs.Rows.{LeavesFree, FillsCell, aligned_as}
 use Rattle.tbr_kept_lines.specs.Line.{line_seen}
-use Rattle.tbr_renderer.specs.Appended.{FirstToRefuse, HandsOut, HoldsBack}
+use Rattle.tbr_renderer.specs.Outcomes.{gathered}
+use Rattle.tbr_renderer.specs.Appended.{handed_out}
+use Rattle.tbr_renderer.proofs.OutcomeParts.{gathered_stops, all_give}
 use Rattle.tbr_footnotes.proofs.Tags.{tags_mean}
 use Rattle.tbr_kept_lines.proofs.ItemsLeft.{items_left, items_taken}
-use Rattle.tbr_renderer.proofs.AppendedLines.{refuses_behind, each_at, unfailed, held_back, passed_on}
+use Rattle.tbr_renderer.proofs.AppendedLines.{each_at, passed_on}
 use Rattle.tbr_renderer.proofs.MeantRows.{Gives, HasColumns, tags_told, no_columns, columns_go_on, next_taken, lines_fill, lines_given}
 use Rattle.tbr_renderer.proofs.sub.SubRenderer.columns_of.Goals as goal
 
@@ -35,9 +37,9 @@ returns-in_err-lines-clause-too_narrow g c = λ is.
     let all = c.into_iter-col-iterator.result in
     let whole = sym c.into_iter-col-iterator.ensures.into_iter_gives.0 ∙ items_left all all c.loop-col.col-iterator c.next.new.self c.loop-col.yielded (c.in-Some.col, c.in-Some.span) refl c.loop-col.yielded_by c.in-Some.ensures.steps.0 in
     let inv = c.loop-col.invariant.0 in
-    subst (λ cols. FirstToRefuse (λ col lines. HandsOut columns (meant f col.0) lines) (λ col. HoldsBack columns (meant f col.0)) cols) (sym whole)
-    (refuses_behind (λ col lines. HandsOut columns (meant f col.0) lines) (λ col. HoldsBack columns (meant f col.0)) c.loop-col.yielded (c.in-Some.col, c.in-Some.span) (into_iter_items c.next.new.self) _ (lines_given f columns c.loop-col.yielded inv.cells inv.give)
-    (held_back columns (meant f c.in-Some.col) c.into_vec.result e c.into_vec.ensures.too_narrow c.into_vec.ensures.kept))
+    ap (gathered (λ col. handed_out columns (meant f col.0))) whole
+    ∙ gathered_stops (λ col. handed_out columns (meant f col.0)) c.loop-col.yielded _ (c.in-Some.col, c.in-Some.span) (into_iter_items c.next.new.self) TooNarrow
+    (all_give (λ col. handed_out columns (meant f col.0)) c.loop-col.yielded _ (lines_given f columns c.loop-col.yielded inv.cells inv.give)) (c.into_vec.ensures.too_narrow e)
 
 pub returns-in_err-lines-clause-two_columns : goal.returns-in_err-lines-clause-two_columns
 returns-in_err-lines-clause-two_columns g c = λ wide is.
@@ -64,7 +66,7 @@ loop-col-preserved g c =
     let next = next_taken (λ it. it.rest.now) c.loop-col.aligns c.next-in-loop-col.new.self c.next-in-loop-col.result c.unwrap_or-align.result c.next-in-loop-col.ensures.steps (c.unwrap_or-align.ensures ∙ ap (λ o. unwrap_or o Left) c.copied.ensures) in
     let fills = lines_fill f eq (tags_mean eq f g.met.D.TextDecorator.equal_by_meaning) (tags_told eq f g.met.D.TextDecorator.equal_by_meaning) columns c.unwrap_or-align.result c.width-width.result c.in_ok-tag.tag lines filled c.in_ok-lines.ensures.merged zip in (
       columns_go_on f columns c.args.aligns.now (map f c.args.self.now.annotations) c.loop-col.yielded own c.push.new.self c.loop-col.aligns.rest.now c.next-in-loop-col.new.self.rest.now col c.in-Some.span c.unwrap_or-align.result seen filled c.loop-col.invariant.0
-          (unfailed col.failure c.into_vec.result c.in_ok-lines.lines c.in_ok-lines.was c.into_vec.ensures.kept, c.in_ok-lines.ensures.lines)
+          c.in_ok-lines.ensures.lines
           next.0 next.1
           (subst (λ tag. AllZip (FillsCell columns c.unwrap_or-align.result col.width tag) seen (map (map_row_line (tag_meant f)) filled)) c.in_ok-tag.ensures
           (subst (λ (n : ℕ). AllZip (FillsCell columns c.unwrap_or-align.result n (tag_meant f c.in_ok-tag.tag)) seen (map (map_row_line (tag_meant f)) filled)) c.width-width.ensures fills))

@@ -1,4 +1,5 @@
-use Rattle.std.proofs.Common.{map, ◌∙◌}
+use Rattle.std.proofs.Common.{map, ap, sym, ◌∙◌}
+use Rattle.tbr_tagged.specs.Outcome.{done}
 use Rattle.tbr_tagged.specs.Copies.{equal_lists}
 use Rattle.tbr_tagged.proofs.Copies.{list_copies_equal}
 use Rattle.tbr_footnotes.specs.Tags.{tag_meant}
@@ -14,5 +15,5 @@ pub returns-clause-lines : goal.returns-clause-lines
 returns-clause-lines g c =
     let f = g.D.TextDecorator.meaning in
     let eq = g.D.Annotation.PartialEq.eq in
-    let kept = c.in_ok-into_kept.ensures.lines in
-    (kept.0, kept.1, same_meant (equal_lists eq) (tag_meant f) (tags_mean eq f g.met.D.TextDecorator.equal_by_meaning) (map line_seen c.in_ok-into_vec.field-0.items) c.in_ok-into_kept.field-0 c.in_ok-into_vec.ensures.lines ∙ kept.2)
+    c.in_ok-into_kept.ensures.lines
+    ∙ ap (λ lines. done lines) (sym (same_meant (equal_lists eq) (tag_meant f) (tags_mean eq f g.met.D.TextDecorator.equal_by_meaning) (map line_seen c.in_ok-into_vec.field-0.items) c.in_ok-into_kept.field-0 c.in_ok-into_vec.ensures.lines))

@@ -8,7 +8,7 @@ use Rattle.tbr_tagged.specs.Outcome.{done}
 use Rattle.tbr_renderer.specs.Meant.{meant}
 use Rattle.tbr_renderer.specs.Renderer.{Renderer, with_events, block_width, may_overflow}
 use Rattle.tbr_renderer.specs.View.{IsFresh}
-use Rattle.tbr_renderer.proofs.JoinedTexts.{fresh_marked, marked, marker_added}
+use Rattle.tbr_renderer.proofs.JoinedTexts.{fresh_marked, marked, block_grown}
 use Rattle.tbr_renderer.proofs.sub.SubRenderer.try_add_marker.Goals as goal
 
 pub put_block-requires : goal.put_block-requires
@@ -27,5 +27,5 @@ returns-clause-ok g c =
     let name = string_bytes c.in_ok-name.name in
     let e = subst (λ (b : Block (Vec g.row.D-Annotation.Denot)). after_marker name b ≡ done c.add_element.new.self) c.deref_mut.ensures.value (c.in_ok-add_element.ensures.answers name refl).ok in
     let written = marked f columns (block_width old) (may_overflow old) c.in_ok-block.block.value c.add_element.new.self name e in
-    marker_added f columns old c.take_or_new_block.new.self c.put_block.new.self c.in_ok-block.block.value c.add_element.new.self name c.in_ok-block.ensures.rest c.in_ok-block.ensures.block written c.put_block.ensures
+    block_grown f old c.take_or_new_block.new.self c.put_block.new.self c.in_ok-block.block.value c.add_element.new.self (entry (marker_entry name) ∷ []) c.in_ok-block.ensures.rest c.in_ok-block.ensures.block written c.put_block.ensures
     ∙ ap (λ (bytes : List _). with_events (meant f old) (entry (marker_entry bytes) ∷ [])) c.in_ok-name.ensures.ok

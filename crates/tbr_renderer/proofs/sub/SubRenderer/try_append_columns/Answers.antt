@@ -1,4 +1,5 @@
-use Rattle.std.proofs.Common.{map}
+use Rattle.std.proofs.Common.{map, ◌∙◌}
+use Rattle.tbr_tagged.proofs.Outcomes.{live_goes}
 use Rattle.tbr_rows.specs.Meant.{map_cell}
 use Rattle.tbr_footnotes.specs.Tags.{tag_meant}
 use Rattle.tbr_renderer.specs.Meant.{meant}
@@ -7,7 +8,7 @@ use Rattle.tbr_renderer.proofs.sub.SubRenderer.try_append_columns.Goals as goal
 
 pub add_row-requires-clause-fits : goal.add_row-requires-clause-fits
 add_row-requires-clause-fits g c =
-    still_fits g.D.TextDecorator.meaning g.W.CharWidth.columns c.args.self.now c.try_flush.new.self c.args.cols.items c.in_ok-columns.columns c.in_ok-try_flush.ensures.ok c.in_ok-columns.ensures.side_by_side c.in_ok-columns.ensures.free c.requires.fits
+    still_fits g.D.TextDecorator.meaning g.W.CharWidth.columns c.args.self.now c.try_flush.new.self c.args.cols.items c.in_ok-columns.columns c.in_ok-try_flush.ensures.tries.ok c.in_ok-columns.ensures.side_by_side c.in_ok-columns.ensures.free c.requires.fits
 
 pub returns-clause-ok : goal.returns-clause-ok
 returns-clause-ok g c =
@@ -18,5 +19,5 @@ returns-clause-ok g c =
       cells,
       give,
       aligned,
-      (meant f c.try_flush.new.self, c.in_ok-try_flush.ensures.ok, record { own = map (map_cell (tag_meant f)) own; come = come; side_by_side = stand_meant f own c.in_ok-columns.ensures.side_by_side; row = row; means = means; is = is }),
+      (meant f c.try_flush.new.self, live_goes c.args.self.now.failure _ c.requires.unfailed ∙ c.in_ok-try_flush.ensures.tries.ok, record { own = map (map_cell (tag_meant f)) own; come = come; side_by_side = stand_meant f own c.in_ok-columns.ensures.side_by_side; row = row; means = means; is = is }),
     )

@@ -9,18 +9,23 @@ use Rattle.tbr_wrap.proofs.runs.BlockLaws.{flush_in_two, flush_leaves, none_open
 use Rattle.tbr_tagged.proofs.Copies.{list_copies_equal}
 use Rattle.tbr_renderer.specs.Renderer.{block_width, may_overflow}
 use Rattle.tbr_renderer.specs.View.{block_seen, names_of, IsFresh}
+use Rattle.tbr_renderer.specs.Meant.{meant}
+use Rattle.tbr_renderer.specs.Flush.{after_flush}
+use Rattle.tbr_renderer.proofs.OutcomeParts.{tries_ok, tries_err}
 use Rattle.tbr_renderer.proofs.BlockEnds.{markers_named, are_markers, block_flushed, block_refused}
 use Rattle.tbr_renderer.proofs.sub.SubRenderer.try_flush.Goals as goal
 
 pub flush-requires : goal.flush-requires
 flush-requires g c = λ v w copy. list_copies_equal g.D.Annotation.Clone.is_clone g.D.Annotation.PartialEq.eq g.met.D.TextDecorator.copies_equal v.items w.items copy.0
 
-pub returns-in_err-flush-clause-too_narrow : goal.returns-in_err-flush-clause-too_narrow
-returns-in_err-flush-clause-too_narrow g c = λ is.
-    let fresh = subst (λ b. IsFresh g.W.CharWidth.columns (block_width c.args.self.now) (may_overflow c.args.self.now) b) (sym c.into_inner-block.ensures) c.in-Some.ensures.opened in
+pub returns-in_err-flush-clause-tries : goal.returns-in_err-flush-clause-tries
+returns-in_err-flush-clause-tries g c =
+    let f = g.D.TextDecorator.meaning in
+    let columns = g.W.CharWidth.columns in
+    let fresh = subst (λ b. IsFresh columns (block_width c.args.self.now) (may_overflow c.args.self.now) b) (sym c.into_inner-block.ensures) c.in-Some.ensures.opened in
     let seen = ap (λ b. block_seen (Some b)) c.into_inner-block.ensures ∙ c.in-Some.ensures.block in
-    let e : c.flush.result ≡ Err E.TooNarrow = c.in_err-flush.was ∙ ap Err (sym (subst (λ (r : Result (Unit {0}) Error). IsErrAnd r (λ x. x ≡ c.in_err-flush.field-0.0)) is c.from_residual.ensures.1)) in
-    block_refused g.D.TextDecorator.meaning g.W.CharWidth.columns (g.met.W.CharWidth.drawn_in_one 32 refl) c.args.self.now c.into_inner-block.result seen fresh (c.flush.ensures.answers.too_narrow e)
+    tries_err (meant f) (after_flush columns) c.args.self.now c.take_block.new.self c.from_residual.result c.in_err-flush.field-0.0 c.from_residual.ensures.1
+    (λ narrow. block_refused f columns c.args.self.now c.into_inner-block.result seen fresh (c.flush.ensures.answers.too_narrow (c.in_err-flush.was ∙ ap Err narrow)))
 
 pub returns-in_err-flush-clause-two_columns : goal.returns-in_err-flush-clause-two_columns
 returns-in_err-flush-clause-two_columns g c = λ two is.
@@ -28,12 +33,12 @@ returns-in_err-flush-clause-two_columns g c = λ two is.
     let e : c.flush.result ≡ Err E.TooNarrow = c.in_err-flush.was ∙ ap Err (sym (subst (λ (r : Result (Unit {0}) Error). IsErrAnd r (λ x. x ≡ c.in_err-flush.field-0.0)) is c.from_residual.ensures.1)) in
     flush_in_two g.W.CharWidth.columns (g.met.W.CharWidth.drawn_in_one 32 refl) g.met.W.CharWidth.at_most_two c.into_inner-block.result (omega (arith, two, k.width_is)) k.unfailed (c.flush.ensures.answers.too_narrow e)
 
-pub returns-in_err-markers-clause-too_narrow : goal.returns-in_err-markers-clause-too_narrow
-returns-in_err-markers-clause-too_narrow g c = λ is.
+pub returns-in_err-markers-clause-tries : goal.returns-in_err-markers-clause-tries
+returns-in_err-markers-clause-tries g c =
     let fresh = subst (λ b. IsFresh g.W.CharWidth.columns (block_width c.args.self.now) (may_overflow c.args.self.now) b) (sym c.into_inner-block.ensures) c.in-Some.ensures.opened in
     let live = ap (λ (b : Block (Vec g.row.D-Annotation.Denot)). b.failure) (flush_leaves g.W.CharWidth.columns c.into_inner-block.result c.flush.new.self c.in_ok-flush.ensures.answers.ok) ∙ fresh.unfailed in
-    let e : c.take_trailing_fragments.result ≡ Err E.TooNarrow = c.in_err-markers.was ∙ ap Err (sym (subst (λ (r : Result (Unit {0}) Error). IsErrAnd r (λ x. x ≡ c.in_err-markers.field-0.0)) is c.from_residual-in_err-markers.ensures.1)) in
-    absurd (let want = c.take_trailing_fragments.ensures.memory live in let no : E.TooNarrow ≡ E.OutOfMemory = rw e at want in cc)
+    tries_err (meant g.D.TextDecorator.meaning) (after_flush g.W.CharWidth.columns) c.args.self.now c.take_block.new.self c.from_residual-in_err-markers.result c.in_err-markers.field-0.0 c.from_residual-in_err-markers.ensures.1
+    (λ narrow. absurd (let e : c.take_trailing_fragments.result ≡ Err E.TooNarrow = c.in_err-markers.was ∙ ap Err narrow in let want = c.take_trailing_fragments.ensures.memory live in let no : E.TooNarrow ≡ E.OutOfMemory = rw e at want in cc))
 
 pub returns-in_err-markers-clause-two_columns : goal.returns-in_err-markers-clause-two_columns
 returns-in_err-markers-clause-two_columns g c = λ two is.
@@ -49,11 +54,12 @@ add_lines_of-requires-clause-ended g c =
 pub add_waiting-requires : goal.add_waiting-requires
 add_waiting-requires g c = are_markers (map element_of c.in_ok-markers.markers.items) (loose g.W.CharWidth.columns c.flush.new.self) c.in_ok-markers.ensures.markers
 
-pub returns-clause-ok : goal.returns-clause-ok
-returns-clause-ok g c =
+pub returns-clause-tries : goal.returns-clause-tries
+returns-clause-tries g c =
     let fresh = subst (λ b. IsFresh g.W.CharWidth.columns (block_width c.args.self.now) (may_overflow c.args.self.now) b) (sym c.into_inner-block.ensures) c.in-Some.ensures.opened in
     let seen = ap (λ b. block_seen (Some b)) c.into_inner-block.ensures ∙ c.in-Some.ensures.block in
     let columns = g.W.CharWidth.columns in
-    block_flushed g.D.TextDecorator.meaning columns (g.met.W.CharWidth.drawn_in_one 32 refl) c.args.self.now c.into_inner-block.result seen fresh c.flush.new.self c.take_trailing_fragments.new.self c.in_ok-flush.ensures.answers.ok c.in_ok-markers.ensures.answers.ok
+    tries_ok (meant g.D.TextDecorator.meaning) (after_flush columns) c.args.self.now c.add_waiting.new.self tt
+    (block_flushed g.D.TextDecorator.meaning columns c.args.self.now c.into_inner-block.result seen fresh c.flush.new.self c.take_trailing_fragments.new.self c.in_ok-flush.ensures.answers.ok c.in_ok-markers.ensures.answers.ok
     (names_of (map element_of c.in_ok-markers.markers.items)) c.take_block.new.self c.add_lines_of.new.self c.add_waiting.new.self c.in-Some.ensures.rest c.in_ok-add_lines_of.ensures.lines
-    (markers_named (map element_of c.in_ok-markers.markers.items) (loose columns c.flush.new.self) c.in_ok-markers.ensures.markers) c.in_ok-add_waiting.ensures.waiting
+    (markers_named (map element_of c.in_ok-markers.markers.items) (loose columns c.flush.new.self) c.in_ok-markers.ensures.markers) c.in_ok-add_waiting.ensures.waiting)

@@ -11,7 +11,7 @@ use Rattle.tbr_runner.proofs.program.Program.add_row.Goals as goal
 pub returns-then-not-row_fits-clause-refused : goal.returns-then-not-row_fits-clause-refused
 returns-then-not-row_fits-clause-refused g c = λ _.
     let unfit : c.row_fits.result ≡ false = let k = c.if-not-row_fits.true in cc in
-    row_unfit g.D.TextDecorator.meaning g.W.CharWidth.columns _ c.args.self.now c.self.view_is c.top.result.now c.top.ensures c.cells.result.now.items c.cells.ensures c.args.number (sym c.row_fits.ensures ∙ unfit)
+    row_unfit g.D.TextDecorator.meaning g.W.CharWidth.columns _ c.args.self.now c.self.view_is c.top.result.now c.top.ensures c.cells.result.now.items c.cells.ensures (decoration_of g.D.TextDecorator) c.args.number (sym c.row_fits.ensures ∙ unfit)
 
 pub returns-in_err-append_columns_aligned-clause-refused : goal.returns-in_err-append_columns_aligned-clause-refused
 returns-in_err-append_columns_aligned-clause-refused g c =
@@ -21,10 +21,9 @@ returns-in_err-append_columns_aligned-clause-refused g c =
     let cells = c.cells.ensures ∙ sym c.take_cells-cells.ensures.cells in
     let top = same_some (sym c.top.ensures ∙ c.top_mut-top.ensures.top) in
     let fits = fits_there columns top cells (sym c.row_fits.ensures ∙ fit) in
-    refused_by (RowRefuses columns (progress_meant meaning c.args.self.now) c.args.number) c.from_residual.result c.in_err-append_columns_aligned.field-0.0 c.from_residual.ensures.1 (λ e.
-    let live = top_live c.self.inside.renderers c.self.inside.pending c.self.inside.opened (subst GoesOn (sym c.self.view_is) c.requires) c.top_mut-top.result.now c.top_mut-top.ensures.top in
-    row_refused meaning columns _ c.args.self.now c.self.view_is c.top_mut-top.result.now c.top_mut-top.ensures.top c.take_cells-cells.result.0.items c.take_cells-cells.ensures.cells c.args.number fits
-    (c.append_columns_aligned.ensures.too_narrow live.0 (c.in_err-append_columns_aligned.was ∙ ap Err e)))
+    refused_by (RowRefuses columns (decoration_of g.D.TextDecorator) (progress_meant meaning c.args.self.now) c.args.number) c.from_residual.result c.in_err-append_columns_aligned.field-0.0 c.from_residual.ensures.1 (λ e.
+    row_refused meaning columns _ c.args.self.now c.self.view_is c.top_mut-top.result.now c.top_mut-top.ensures.top c.take_cells-cells.result.0.items c.take_cells-cells.ensures.cells (decoration_of g.D.TextDecorator) c.args.number fits
+    (c.append_columns_aligned.ensures.too_narrow (c.in_err-append_columns_aligned.was ∙ ap Err e)))
 
 pub returns-clause-live : goal.returns-clause-live
 returns-clause-live g c =

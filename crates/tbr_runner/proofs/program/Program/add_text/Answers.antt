@@ -15,9 +15,8 @@ returns-in_err-add_inline_text-clause-refused g c =
     let columns = g.W.CharWidth.columns in
     let request = text c.args.text.now in
     let i = c.self.inside in
-    let live = top_live i.renderers i.pending i.opened (subst GoesOn (sym c.self.view_is) c.requires) c.top_mut.result.now c.top_mut.ensures.top in
     refused_by (λ e. (number : ℕ) → RequestRefuses columns (decoration_of g.D.TextDecorator) (progress_meant meaning c.args.self.now) number request e) c.from_residual.result c.in_err-add_inline_text.field-0.0 c.from_residual.ensures.1 (λ e number.
-    request_refused meaning _ c.args.self.now c.self.view_is columns (decoration_of g.D.TextDecorator) request c.top_mut.result.now c.top_mut.ensures.top refl number (c.add_inline_text.ensures.answers.too_narrow live.0 (c.in_err-add_inline_text.was ∙ ap Err e)))
+    request_refused meaning _ c.args.self.now c.self.view_is columns (decoration_of g.D.TextDecorator) request c.top_mut.result.now c.top_mut.ensures.top refl number (c.add_inline_text.ensures.answers.too_narrow (c.in_err-add_inline_text.was ∙ ap Err e)))
 
 pub returns-clause-live : goal.returns-clause-live
 returns-clause-live g c =

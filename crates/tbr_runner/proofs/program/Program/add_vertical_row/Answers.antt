@@ -13,10 +13,9 @@ pub returns-in_err-append_vert_row-clause-refused : goal.returns-in_err-append_v
 returns-in_err-append_vert_row-clause-refused g c =
     let meaning = g.D.TextDecorator.meaning in
     let columns = g.W.CharWidth.columns in
-    refused_by (VerticalRowRefuses columns (progress_meant meaning c.args.self.now)) c.from_residual-in_err-append_vert_row.result c.in_err-append_vert_row.field-0.0 c.from_residual-in_err-append_vert_row.ensures.1 (λ e.
-    let live = top_live c.self.inside.renderers c.self.inside.pending c.self.inside.opened (subst GoesOn (sym c.self.view_is) c.requires) c.top_mut.result.now c.top_mut.ensures.top in
-    vertical_refused meaning _ c.args.self.now c.self.view_is columns c.top_mut.result.now c.top_mut.ensures.top c.in_ok-cells.cells.items c.in_ok-cells.ensures.cells
-    (c.append_vert_row.ensures.too_narrow live.0 (c.in_err-append_vert_row.was ∙ ap Err e)))
+    refused_by (VerticalRowRefuses columns (decoration_of g.D.TextDecorator) (progress_meant meaning c.args.self.now)) c.from_residual-in_err-append_vert_row.result c.in_err-append_vert_row.field-0.0 c.from_residual-in_err-append_vert_row.ensures.1 (λ e.
+    vertical_refused meaning _ c.args.self.now c.self.view_is columns c.top_mut.result.now c.top_mut.ensures.top c.in_ok-cells.cells.items c.in_ok-cells.ensures.cells (decoration_of g.D.TextDecorator)
+    (c.append_vert_row.ensures.too_narrow (c.in_err-append_vert_row.was ∙ ap Err e)))
 
 pub returns-clause-live : goal.returns-clause-live
 returns-clause-live g c =

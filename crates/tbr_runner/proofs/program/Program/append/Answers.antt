@@ -11,11 +11,11 @@ use Rattle.tbr_runner.proofs.program.Program.append.Goals as goal
 
 pub returns-then-not-is_sub-clause-refused : goal.returns-then-not-is_sub-clause-refused
 returns-then-not-is_sub-clause-refused g c = λ _.
-    no_sub g.D.TextDecorator.meaning _ c.args.self.now c.self.view_is g.W.CharWidth.columns c.args.number (λ is. let h : c.is_sub.result ≡ true = c.is_sub.ensures.1 is in let k = c.if-not-is_sub.true in cc)
+    no_sub g.D.TextDecorator.meaning _ c.args.self.now c.self.view_is g.W.CharWidth.columns (decoration_of g.D.TextDecorator) c.args.number (λ is. let h : c.is_sub.result ≡ true = c.is_sub.ensures.1 is in let k = c.if-not-is_sub.true in cc)
 
 pub returns-then-has_cells-clause-refused : goal.returns-then-has_cells-clause-refused
 returns-then-has_cells-clause-refused g c = λ _.
-    cells_in_sub g.D.TextDecorator.meaning _ c.args.self.now c.self.view_is g.W.CharWidth.columns c.args.number (c.is_sub.ensures.0 (cc)) (λ none. let h : c.has_cells.result ≡ false = c.has_cells.ensures.1 none in cc)
+    cells_in_sub g.D.TextDecorator.meaning _ c.args.self.now c.self.view_is g.W.CharWidth.columns (decoration_of g.D.TextDecorator) c.args.number (c.is_sub.ensures.0 (cc)) (λ none. let h : c.has_cells.result ≡ false = c.has_cells.ensures.1 none in cc)
 
 pub close-inside-requires-clause-opened : goal.close-inside-requires-clause-opened
 close-inside-requires-clause-opened g c =
@@ -34,8 +34,8 @@ pub returns-in_err-append_behind-clause-refused : goal.returns-in_err-append_beh
 returns-in_err-append_behind-clause-refused g c =
     let meaning = g.D.TextDecorator.meaning in
     let columns = g.W.CharWidth.columns in
-    refused_by (AppendRefuses columns (progress_meant meaning c.args.self.now) c.args.number) c.from_residual.result c.in_err-append_behind.field-0.0 c.from_residual.ensures.1 (λ e.
-    lines_refused meaning _ c.args.self.now c.self.view_is c.close-inside.new.self _ c.close-inside.ensures.closes.0 c.close-inside.result c.close-inside.ensures.closes.1 c.self-2.view_is columns c.top_mut-top.result.now c.top_mut-top.ensures.top (c.is_sub.ensures.0 (cc)) c.args.number
+    refused_by (AppendRefuses columns (decoration_of g.D.TextDecorator) (progress_meant meaning c.args.self.now) c.args.number) c.from_residual.result c.in_err-append_behind.field-0.0 c.from_residual.ensures.1 (λ e.
+    lines_refused meaning _ c.args.self.now c.self.view_is c.close-inside.new.self _ c.close-inside.ensures.closes.0 c.close-inside.result c.close-inside.ensures.closes.1 c.self-2.view_is columns c.top_mut-top.result.now c.top_mut-top.ensures.top (c.is_sub.ensures.0 (cc)) (decoration_of g.D.TextDecorator) c.args.number
     (c.append_behind.ensures.too_narrow (c.in_err-append_behind.was ∙ ap Err e)))
 
 pub returns-clause-live : goal.returns-clause-live

@@ -5,7 +5,9 @@ use Rattle.text_block_renderer.specs.Meant.{map_line, meant}
 use Rattle.text_block_renderer.specs.Line.{line_seen}
 use Rattle.tbr_stack.specs.Stack.{top_of}
 use Rattle.tbr_runner.specs.Progress.{GoesOn}
-use Rattle.tbr_runner.specs.Closing.{ClosesIn, ClosingIsTooNarrow}
+use Rattle.tbr_tagged.specs.Outcome.{done, refused}
+use Rattle.tbr_tagged.specs.declared.Error.TheVariants.{TooNarrow}
+use Rattle.tbr_runner.specs.Closing.{closed}
 use Rattle.tbr_runner.proofs.Levels.{only_level}
 use Rattle.tbr_runner.proofs.Results.{if_ok_then}
 use Rattle.tbr_runner.proofs.program.Program.finish_lines.Goals as goal
@@ -21,7 +23,7 @@ returns-clause-lines g c =
     let top = subst (λ s. top_of s ≡ Some r) stack c.into_inner-renderer.ensures.renderer in
     let links = c.into_inner-renderer.ensures.links ∙ ap (λ s. s.links) stack in
     if_ok_then c.close_lines.result (λ lines h.
-    (r, top, subst (λ targets. ClosesIn g.W.CharWidth.columns (decoration_of g.D.TextDecorator) targets (meant g.D.TextDecorator.meaning r) (map (map_line (tag_meant g.D.TextDecorator.meaning)) (map line_seen lines))) links h)) c.close_lines.ensures.lines
+    (r, top, subst (λ targets. closed g.W.CharWidth.columns (decoration_of g.D.TextDecorator) targets (meant g.D.TextDecorator.meaning r) ≡ done (map (map_line (tag_meant g.D.TextDecorator.meaning)) (map line_seen lines))) links h)) c.close_lines.ensures.lines
 
 pub returns-clause-too_narrow : goal.returns-clause-too_narrow
 returns-clause-too_narrow g c = λ narrow.
@@ -29,4 +31,4 @@ returns-clause-too_narrow g c = λ narrow.
     let r = c.into_inner-renderer.result.0 in
     let top = subst (λ s. top_of s ≡ Some r) stack c.into_inner-renderer.ensures.renderer in
     let links = c.into_inner-renderer.ensures.links ∙ ap (λ s. s.links) stack in
-    (r, top, subst (λ targets. ClosingIsTooNarrow g.W.CharWidth.columns (decoration_of g.D.TextDecorator) targets (meant g.D.TextDecorator.meaning r)) links (c.close_lines.ensures.too_narrow narrow))
+    (r, top, subst (λ targets. closed g.W.CharWidth.columns (decoration_of g.D.TextDecorator) targets (meant g.D.TextDecorator.meaning r) ≡ refused TooNarrow) links (c.close_lines.ensures.too_narrow narrow))

@@ -1,11 +1,12 @@
-use Rattle.std.proofs.Common.{◌≡◌, Some, chars, inl, inr, sym, subst, ap, ◌∙◌}
+use Rattle.std.proofs.Common.{◌≡◌, ◌≤◌, Some, chars, inl, inr, sym, subst, ap, ◌∙◌}
 use Rattle.std.proofs.lemmas.Result.{on_ok_weaker, on_err_weaker}
 use Rattle.tbr_renderer.specs.Meant.{meant}
-use Rattle.tbr_renderer.specs.Renderer.{kept_of}
+use Rattle.tbr_renderer.specs.Renderer.{kept_of, block_width}
 use Rattle.tbr_renderer.proofs.KeptRefusals.{on_err}
 use Rattle.tbr_tagged.specs.declared.Error.TheVariants.{OutOfMemory}
 use Rattle.tbr_stack.specs.Stack.{top_of}
 use Rattle.tbr_stack.specs.Top.{ChangesTop, stack_meant}
+use Rattle.tbr_stack.proofs.Ends.{some_same}
 use Rattle.tbr_stack.proofs.Tops.{failure_of_top, top_linked, changes_linked, step_meant, of_top, if_ok, if_err}
 use Rattle.tbr_stack.proofs.links.TextRenderer+D+W.start_link.Goals as goal
 
@@ -24,8 +25,14 @@ pub returns-clause-too_narrow : goal.returns-clause-too_narrow
 returns-clause-too_narrow g c unfailed refused =
     let is = (c.in_ok-keep.ensures).ok ∙ if_ok c.open_link-done.result (c.in_ok-keep.ensures).result c.open_link-done.ensures.ok in
     let top = sym (top_linked (chars c.args.target.now) c.args.self.now) ∙ sym (ap (λ s. top_of s) is) ∙ c.top_mut.ensures.top in
+    of_top g.D.TextDecorator.meaning _ c.args.self.now c.top_mut.result.now top (c.start_link.ensures.answers.too_narrow refused)
+
+pub returns-clause-two_columns : goal.returns-clause-two_columns
+returns-clause-two_columns g c unfailed wide refused =
+    let is = (c.in_ok-keep.ensures).ok ∙ if_ok c.open_link-done.result (c.in_ok-keep.ensures).result c.open_link-done.ensures.ok in
+    let top = sym (top_linked (chars c.args.target.now) c.args.self.now) ∙ sym (ap (λ s. top_of s) is) ∙ c.top_mut.ensures.top in
     let live = sym (failure_of_top c.args.self.now c.top_mut.result.now top) ∙ unfailed in
-    of_top g.D.TextDecorator.meaning _ c.args.self.now c.top_mut.result.now top (c.start_link.ensures.answers.too_narrow live refused)
+    c.start_link.ensures.answers.two_columns (live, subst (λ r. 2 ≤ block_width r) (some_same wide.0 c.top_mut.result.now (sym wide.1 ∙ top)) wide.2) refused
 
 pub returns-clause-left : goal.returns-clause-left
 returns-clause-left g c unfailed =

@@ -1,10 +1,11 @@
-use Rattle.std.proofs.Common.{map, ap, subst}
+use Rattle.std.proofs.Common.{◌≡◌, map, ap, subst}
 use Rattle.tbr_decor.specs.Decoration.{decoration_of}
 use Rattle.text_block_renderer.specs.Tags.{tag_meant}
 use Rattle.text_block_renderer.specs.Meant.{map_line, meant}
 use Rattle.text_block_renderer.specs.Top.{OfTop}
 use Rattle.text_block_renderer.specs.Line.{line_seen}
-use Rattle.tbr_runner.specs.Closing.{ClosesIn}
+use Rattle.tbr_tagged.specs.Outcome.{done}
+use Rattle.tbr_runner.specs.Closing.{closed}
 use Rattle.tbr_runner.specs.Progress.{cell_meant}
 use Rattle.tbr_runner.proofs.MeantCommands.{top_is_meant}
 use Rattle.tbr_view.specs.Session.{openers}
@@ -14,11 +15,11 @@ pub returns-in-Ok-clause-lines : goal.returns-in-Ok-clause-lines
 returns-in-Ok-clause-lines g c =
     let meaning = g.D.TextDecorator.meaning in
     let lines = map (map_line (tag_meant meaning)) (map line_seen c.in-Ok.lines) in
-    let Closes = ClosesIn g.W.CharWidth.columns (decoration_of g.D.TextDecorator) in
+    let ends_with = closed g.W.CharWidth.columns (decoration_of g.D.TextDecorator) in
     let stack = let p = c.args.self.program in p.stack in
-    let ends = subst (λ p. OfTop (λ r. Closes p.stack.links (meant meaning r) lines) p.stack) c.in_ok-end.ensures.program c.in-Ok.ensures.lines in
+    let ends = subst (λ p. OfTop (λ r. ends_with p.stack.links (meant meaning r) ≡ done lines) p.stack) c.in_ok-end.ensures.program c.in-Ok.ensures.lines in
     record {
       levels = ap openers c.in_ok-end.ensures.inside;
       cells = ap (map (cell_meant meaning)) c.in_ok-end.ensures.cells;
-      closes = top_is_meant meaning (λ r. Closes stack.links r lines) stack ends.0 ends.1 ends.2;
+      closes = top_is_meant meaning (λ r. ends_with stack.links r ≡ done lines) stack ends.0 ends.1 ends.2;
     }

@@ -1,0 +1,46 @@
+-- What a flush leaves.
+use Rattle.std.proofs.Common.{◌≡◌, ℕ, true, Option, None, Some, List, ap, ◌∙◌}
+use Rattle.tbr_model.specs.Rule.{run_of}
+use Rattle.tbr_model.specs.Run.{Item}
+use Rattle.tbr_wrap.specs.Runs.{EndsRun}
+use Rattle.tbr_tagged.specs.Outcome.{done}
+use Rattle.tbr_renderer.specs.Renderer.{Open, Renderer, block_width, may_overflow, IsSound}
+use Rattle.tbr_renderer.specs.Flush.{block_lines, lines_at_end, names_at_end, fits_at_end, flushed, after_block, after_flush}
+use Rattle.tbr_renderer.proofs.OutcomeParts.{one_done, if_fits}
+use Rattle.tbr_renderer.proofs.MappedBlocks.{end_promised}
+
+-- The end of a block: its lines fit, are what a block promises of its run's, and join the others.
+pub record EndsBlock {D A : Type 0} (columns : ℕ → Option ℕ) (r : Renderer D A (List A)) (b : Open (List A)) (s : Renderer D A (List A)) : Type 0 where
+  pub fits : fits_at_end columns r b ≡ true
+  pub ends : IsSound columns r → EndsRun columns (block_width r) (may_overflow r) (run_of b.events) (lines_at_end columns r b) (names_at_end columns r b)
+  pub is : s ≡ flushed columns r (block_lines columns r b (lines_at_end columns r b)) (names_at_end columns r b)
+
+-- What a flush leaves: where no block is open, what there was.
+abbrev pub FlushesBlock : {D A : Type 0} → (ℕ → Option ℕ) → Renderer D A (List A) → Option (Open (List A)) → Renderer D A (List A) → Type 0
+FlushesBlock columns r None s = s ≡ r
+FlushesBlock columns r (Some b) s = EndsBlock columns r b s
+
+abbrev pub Flushes : {D A : Type 0} → (ℕ → Option ℕ) → Renderer D A (List A) → Renderer D A (List A) → Type 0
+Flushes columns r s = FlushesBlock columns r r.block s
+
+module _ {D A : Type 0} (columns : ℕ → Option ℕ) (r s : Renderer D A (List A)) where
+  pub block_ended : (b : Open (List A)) → after_block columns r (Some b) ≡ done s →
+      (fits_at_end columns r b ≡ true) × (s ≡ flushed columns r (block_lines columns r b (lines_at_end columns r b)) (names_at_end columns r b))
+  block_ended b e = if_fits (fits_at_end columns r b) (flushed columns r (block_lines columns r b (lines_at_end columns r b)) (names_at_end columns r b)) s e
+
+  block_flushed : (o : Option (Open (List A))) → after_block columns r o ≡ done s → FlushesBlock columns r o s
+  block_flushed None e = one_done r s e
+  block_flushed (Some b) e =
+      let (fits, is) = block_ended b e in
+      record { fits = fits; ends = λ sound. end_promised columns sound.space r b sound.wide fits; is = is }
+
+  pub flushes : after_flush columns r ≡ done s → Flushes columns r s
+  flushes e = block_flushed r.block e
+
+  -- What neither the lines nor the open block tell stays.
+  pub flush_keeps : {X : Type 0} (look : Renderer D A (List A) → X) → ((texts : List (List (Item (List A)))) (names : List (List ℕ)) → look (flushed columns r texts names) ≡ look r) → after_flush columns r ≡ done s → look s ≡ look r
+  flush_keeps {X} look same e = go r.block e
+    where
+      go : (o : Option (Open (List A))) → after_block columns r o ≡ done s → look s ≡ look r
+      go None h = ap look (one_done r s h)
+      go (Some b) h = ap look (block_ended b h).1 ∙ same (block_lines columns r b (lines_at_end columns r b)) (names_at_end columns r b)

@@ -1,0 +1,112 @@
+-- What the outcome of calls one after another is made of.
+use Rattle.std.proofs.Common.{◌≡◌, ◌⊎◌, inl, inr, Result, Ok, Err, Bool, true, false, if◌then◌else◌, List, [], ◌∷◌, ◌++◌, refl, ap, sym, ◌∙◌, subst}
+use Rattle.std.specs.List.{AllZip}
+use Rattle.std.specs.Result.{IsErrAnd}
+use Rattle.std.proofs.lemmas.Result.{on_ok_weaker}
+use Rattle.tbr_tagged.specs.Outcome.{Outcome, done, refused}
+use Rattle.tbr_tagged.specs.declared.Error.{Error}
+use Rattle.tbr_tagged.specs.declared.Error.TheVariants as E
+use Rattle.tbr_renderer.specs.Outcomes.{and_then, changed, run, gathered, Tries}
+
+pub one_done : {S : Type 0} (s t : S) → done s ≡ done t → t ≡ s
+one_done s t e = cc
+
+-- ---- one after another
+
+pub done_first : {S T : Type 0} (o : Outcome S) (next : S → Outcome T) (t : T) → and_then o next ≡ done t → (s : S) × (o ≡ done s) × (next s ≡ done t)
+done_first (done s) next t e = (s, refl, e)
+done_first (refused d) next t e = absurd (let no : ⊥ = cc in no)
+
+pub done_before : {S T : Type 0} (change : S → T) (o : Outcome S) (t : T) → changed change o ≡ done t → (s : S) × (o ≡ done s) × (t ≡ change s)
+done_before change (done s) t e = (s, refl, one_done (change s) t e)
+done_before change (refused d) t e = absurd (let no : ⊥ = cc in no)
+
+-- a call is done, and then others are
+pub run_on : {C S : Type 0} (after : C → S → Outcome S) (call : C) (calls : List C) (s m : S) (o : Outcome S) → after call s ≡ done m → run after calls m ≡ o → run after (call ∷ calls) s ≡ o
+run_on after call calls s m o h k = ap (λ first. and_then first (run after calls)) h ∙ k
+
+-- and a last one
+pub run_last : {C S : Type 0} (after : C → S → Outcome S) (call : C) (s t : S) → after call s ≡ done t → run after (call ∷ []) s ≡ done t
+run_last after call s t h = ap (λ first. and_then first (λ x. done x)) h
+
+-- an outcome is one state or one refusal
+pub once : {S : Type 0} (o : Outcome S) (s t : S) → o ≡ done s → o ≡ done t → t ≡ s
+once o s t h k = one_done s t (sym h ∙ k)
+
+pub done_or_refused : {S : Type 0} (o : Outcome S) (s : S) (e : Error) → o ≡ done s → o ≡ refused e → ⊥
+done_or_refused o s e h k = let no : done s ≡ refused e = sym h ∙ k in cc
+
+pub refused_before : {S T : Type 0} (change : S → T) (o : Outcome S) (e : Error) → changed change o ≡ refused e → o ≡ refused e
+refused_before change (done s) e h = absurd (let no : ⊥ = cc in no)
+refused_before change (refused d) e h = let same : d ≡ e = cc in ap (λ x. refused x) same
+
+pub refused_first : {S T : Type 0} (o : Outcome S) (next : S → Outcome T) (e : Error) → and_then o next ≡ refused e → (o ≡ refused e) ⊎ ((s : S) × (o ≡ done s) × (next s ≡ refused e))
+refused_first (done s) next e h = inr (s, refl, h)
+refused_first (refused d) next e h = inl (let same : d ≡ e = cc in ap (λ x. refused x) same)
+
+-- ---- what fits, or is too narrow
+
+pub if_fits : {S : Type 0} (fits : Bool) (s t : S) → (if fits then done s else refused E.TooNarrow) ≡ done t → (fits ≡ true) × (t ≡ s)
+if_fits true s t e = (refl, one_done s t e)
+if_fits false s t e = absurd (let no : ⊥ = cc in no)
+
+pub refused_if_not : {S : Type 0} (fits : Bool) (s : S) → (if fits then done s else refused E.TooNarrow) ≡ refused E.TooNarrow → fits ≡ false
+refused_if_not true s e = absurd (let no : ⊥ = cc in no)
+refused_if_not false s e = refl
+
+pub fitting : {S : Type 0} (fits : Bool) (s : S) → fits ≡ true → (if fits then done s else refused E.TooNarrow) ≡ done s
+fitting fits s e = ap (λ b. if b then done s else refused E.TooNarrow) e
+
+pub not_fitting : {S : Type 0} (fits : Bool) (s : S) → fits ≡ false → (if fits then done s else refused E.TooNarrow) ≡ refused E.TooNarrow
+not_fitting fits s e = ap (λ b. if b then done s else refused E.TooNarrow) e
+
+-- ---- what is tried
+
+module _ {S V R : Type 0} (state : S → V) (make : V → Outcome V) (old new : S) where
+  pub tries_ok : (x : R) → make (state old) ≡ done (state new) → Tries state make old (Ok x) new
+  tries_ok x is = record { ok = is; too_narrow = λ e. absurd (let no : ⊥ = cc in no) }
+
+  pub tries_err : (result : Result R Error) (e : Error) → IsErrAnd result (λ x. x ≡ e) → (e ≡ E.TooNarrow → make (state old) ≡ refused E.TooNarrow) → Tries state make old result new
+  tries_err (Ok x) e is narrow = absurd is
+  tries_err (Err x) e is narrow = record { ok = tt; too_narrow = λ same. narrow (let one : x ≡ e = is in cc) }
+
+-- a first step is done, and then another one is tried
+pub tries_then : {S V R : Type 0} (state : S → V) (first next : V → Outcome V) (old m new : S) (result : Result R Error) → first (state old) ≡ done (state m) → Tries state next m result new → Tries state (λ v. and_then (first v) next) old result new
+tries_then state first next old m new result is tries = record {
+  ok = on_ok_weaker result (λ e. ap (λ o. and_then o next) is ∙ e) tries.ok;
+  too_narrow = λ e. ap (λ o. and_then o next) is ∙ tries.too_narrow e;
+}
+
+-- ---- what all give
+
+module _ {X Y : Type 0} (give : X → Outcome Y) where
+  pub gathered_last : (xs : List X) (ys : List Y) (x : X) (y : Y) → gathered give xs ≡ done ys → give x ≡ done y → gathered give (xs ++ x ∷ []) ≡ done (ys ++ y ∷ [])
+  gathered_last [] ys x y e h = ap (λ o. and_then o (λ z. done (z ∷ []))) h ∙ ap (λ zs. done (zs ++ y ∷ [])) (sym (one_done [] ys e))
+  gathered_last (z ∷ xs) ys x y e h =
+      let (first, gives, rest) = done_first (give z) (λ w. changed (λ ws. w ∷ ws) (gathered give xs)) ys e in
+      let (others, give_others, is) = done_before (λ ws. first ∷ ws) (gathered give xs) ys rest in
+      ap (λ o. and_then o (λ w. changed (λ ws. w ∷ ws) (gathered give (xs ++ x ∷ [])))) gives
+      ∙ ap (changed (λ ws. first ∷ ws)) (gathered_last xs others x y give_others h) ∙ ap (λ zs. done (zs ++ y ∷ [])) (sym is)
+
+  pub gathered_stops : (xs : List X) (ys : List Y) (x : X) (more : List X) (e : Error) → gathered give xs ≡ done ys → give x ≡ refused e → gathered give (xs ++ x ∷ more) ≡ refused e
+  gathered_stops [] ys x more e h r = ap (λ o. and_then o (λ w. changed (λ ws. w ∷ ws) (gathered give more))) r
+  gathered_stops (z ∷ xs) ys x more e h r =
+      let (first, gives, rest) = done_first (give z) (λ w. changed (λ ws. w ∷ ws) (gathered give xs)) ys h in
+      let (others, give_others, is) = done_before (λ ws. first ∷ ws) (gathered give xs) ys rest in
+      ap (λ o. and_then o (λ w. changed (λ ws. w ∷ ws) (gathered give (xs ++ x ∷ more)))) gives
+      ∙ ap (changed (λ ws. first ∷ ws)) (gathered_stops xs others x more e give_others r)
+
+  -- each of them gives its own
+  pub each_gives : (xs : List X) (ys : List Y) → gathered give xs ≡ done ys → AllZip (λ x y. give x ≡ done y) xs ys
+  each_gives [] [] e = tt
+  each_gives [] (y ∷ ys) e = absurd (let no : ⊥ = cc in no)
+  each_gives (x ∷ xs) ys e =
+      let (first, gives, rest) = done_first (give x) (λ w. changed (λ ws. w ∷ ws) (gathered give xs)) ys e in
+      let (others, give_others, is) = done_before (λ ws. first ∷ ws) (gathered give xs) ys rest in
+      subst (λ zs. AllZip (λ x y. give x ≡ done y) (x ∷ xs) zs) (sym is) (gives, each_gives xs others give_others)
+
+  pub all_give : (xs : List X) (ys : List Y) → AllZip (λ x y. give x ≡ done y) xs ys → gathered give xs ≡ done ys
+  all_give [] [] h = refl
+  all_give [] (y ∷ ys) h = absurd h
+  all_give (x ∷ xs) [] h = absurd h
+  all_give (x ∷ xs) (y ∷ ys) h = ap (λ o. and_then o (λ w. changed (λ ws. w ∷ ws) (gathered give xs))) h.0 ∙ ap (changed (λ ws. y ∷ ws)) (all_give xs ys h.1)

@@ -1,0 +1,34 @@
+-- Renderers stay sound.
+use Rattle.std.proofs.Common.{◌≡◌, ◌≢◌, ◌<◌, ℕ, zero, suc, Bool, true, false, Option, None, Some, List, ap, refl, arith}
+use Rattle.std.specs.Prelude.{nat_le, if◌then◌else◌}
+use Rattle.tbr_decor.specs.Decoration.{Decoration}
+use Rattle.tbr_renderer.specs.declared.options.RenderOptions.{RenderOptions}
+use Rattle.tbr_renderer.specs.Renderer.{Renderer, Settings, new_renderer, least, IsSound}
+use Rattle.tbr_renderer.specs.Calls.{Call, Steps, brought}
+use Rattle.tbr_renderer.specs.Rows.{GivenCell, AppendsRow}
+use Rattle.text_block_renderer.proofs.Moves.{any, sound_alike, path_width, path_options}
+use Rattle.text_block_renderer.proofs.CallMoves.{calls_move}
+use Rattle.text_block_renderer.proofs.RowsOfCells.{settings_stay}
+
+some_columns : (width : ℕ) (wrap : Option ℕ) → 0 < width → wrap ≢ Some 0 → 0 < least width wrap
+some_columns width None wide some = wide
+some_columns width (Some zero) wide some = absurd (some refl)
+some_columns width (Some (suc n)) wide some = go (nat_le width (suc n))
+  where
+    go : (less : Bool) → 0 < (if less then width else suc n)
+    go true = wide
+    go false = omega arith
+
+module _ {D A : Type 0} (columns : ℕ → Option ℕ) where
+  pub new_sound : columns 32 ≡ Some 1 → (width : ℕ) (options : RenderOptions) (decorator : D) → 0 < width → options.wrap_width ≢ Some 0 → IsSound columns (new_renderer {D = D} {A = A} {T = List A} width options decorator)
+  new_sound space width options decorator wide some = record { space = space; wide = some_columns width options.wrap_width wide some }
+
+  pub calls_sound : (decoration : Decoration D A) (calls : List (Call (List A))) (r s : Renderer D A (List A)) → IsSound columns r → Steps columns decoration calls r s → IsSound columns s
+  calls_sound decoration calls r s sound h =
+      let path = calls_move columns any decoration calls r s (brought columns decoration calls r) tt (h, refl) in
+      sound_alike columns r s (path_width columns any r s _ _ path) (path_options columns any r s _ _ path) sound
+
+  pub row_sound : (collapses : Bool) (cells : List (GivenCell (List A))) (r s : Renderer D A (List A)) → IsSound columns r → AppendsRow columns collapses cells r s → IsSound columns s
+  row_sound collapses cells r s sound h =
+      let same = settings_stay columns collapses cells r s h in
+      sound_alike columns r s (ap (λ (x : Settings D A). x.kept.width) same) (ap (λ (x : Settings D A). x.kept.options) same) sound
