@@ -96,15 +96,6 @@ module _ {X Y : Type 0} (give : X → Outcome Y) where
       ap (λ o. and_then o (λ w. changed (λ ws. w ∷ ws) (gathered give (xs ++ x ∷ more)))) gives
       ∙ ap (changed (λ ws. first ∷ ws)) (gathered_stops xs others x more e give_others r)
 
-  -- each of them gives its own
-  pub each_gives : (xs : List X) (ys : List Y) → gathered give xs ≡ done ys → AllZip (λ x y. give x ≡ done y) xs ys
-  each_gives [] [] e = tt
-  each_gives [] (y ∷ ys) e = absurd (let no : ⊥ = cc in no)
-  each_gives (x ∷ xs) ys e =
-      let (first, gives, rest) = done_first (give x) (λ w. changed (λ ws. w ∷ ws) (gathered give xs)) ys e in
-      let (others, give_others, is) = done_before (λ ws. first ∷ ws) (gathered give xs) ys rest in
-      subst (λ zs. AllZip (λ x y. give x ≡ done y) (x ∷ xs) zs) (sym is) (gives, each_gives xs others give_others)
-
   pub all_give : (xs : List X) (ys : List Y) → AllZip (λ x y. give x ≡ done y) xs ys → gathered give xs ≡ done ys
   all_give [] [] h = refl
   all_give [] (y ∷ ys) h = absurd h
