@@ -12,13 +12,14 @@ use Rattle.tbr_tagged.specs.Outcome.{Outcome, done, refused}
 use Rattle.tbr_tagged.specs.declared.Error.TheVariants as E
 use Rattle.tbr_renderer.specs.Outcomes.{and_then, changed, gathered}
 use Rattle.text_block_renderer.specs.Appended.{handed_out}
-use Rattle.text_block_renderer.specs.Calls.{append_subrender, append_vert_row, Does, IsTooNarrow}
+use Rattle.text_block_renderer.specs.Calls.{append_subrender, append_vert_row, after, Does, IsTooNarrow}
 use Rattle.tbr_script.specs.declared.error.RunError.TheVariants.{TooNarrow, NotACommand, NothingToEnd}
 use Rattle.tbr_commands.specs.Request.{Request, call_of}
 use Rattle.tbr_commands.specs.Begun.{ends_nothing, counted}
-use Rattle.tbr_stack.specs.Stack.{Stack, Level, top_of, with_top, pushed, first_renderer}
-use Rattle.tbr_stack.specs.Top.{ChangesTop, OfTop, level_meant, stack_meant}
-use Rattle.tbr_runner.proofs.Levels.{with_first, below_top}
+use Rattle.tbr_stack.specs.Stack.{Stack, Level, top_of, with_top, pushed}
+use Rattle.tbr_stack.specs.Top.{in_top, OfTop, level_meant, stack_meant}
+use Rattle.tbr_stack.proofs.Tops.{top_meant, done_in, refused_in}
+use Rattle.tbr_runner.proofs.Levels.{below_top}
 use Rattle.tbr_runner.specs.declared.opened.Opener.{Opener}
 use Rattle.tbr_runner.specs.declared.opened.Opener.TheVariants.{Sub, Cell}
 use Rattle.tbr_runner.specs.Prefixes.{prefixes}
@@ -34,27 +35,12 @@ gathered_over give make (x ∷ xs) = ap (λ o. and_then (give (make x)) (λ z. c
 module _ {D A M : Type 0} (meaning : A → M) where
   -- ---- stacks
 
-  first_meant : (levels : List (Level (Renderer D A (Vec A)))) (r : Renderer D A (Vec A)) → first_renderer levels ≡ Some r → first_renderer (map (level_meant meaning) levels) ≡ Some (meant meaning r)
-  first_meant [] r is = cc
-  first_meant (level ∷ levels) r is =
-      let same : level.renderer ≡ r = cc in
-      ap (λ (x : Renderer D A (Vec A)). Some (meant meaning x)) same
-
-  with_first_meant : (levels : List (Level (Renderer D A (Vec A)))) (s : Renderer D A (Vec A)) → map (level_meant meaning) (with_first levels s) ≡ with_first (map (level_meant meaning) levels) (meant meaning s)
-  with_first_meant [] s = refl
-  with_first_meant (level ∷ levels) s = refl
-
   below_top_meant : (levels : List (Level (Renderer D A (Vec A)))) → map (level_meant meaning) (below_top levels) ≡ below_top (map (level_meant meaning) levels)
   below_top_meant [] = refl
   below_top_meant (level ∷ levels) = refl
 
-  -- the renderer on top leads to another
-  pub on_top_meant : (Leads : Renderer D M (List M) → Renderer D M (List M) → Type 0) (stack : Stack (Renderer D A (Vec A))) (r s : Renderer D A (Vec A)) → top_of stack ≡ Some r → Leads (meant meaning r) (meant meaning s) → ChangesTop Leads (stack_meant meaning stack) (stack_meant meaning (with_top stack s))
-  on_top_meant Leads stack r s is leads =
-      (meant meaning r, meant meaning s, first_meant stack.levels r is, leads, ap (λ (ls : List (Level (Renderer D M (List M)))). record (stack_meant meaning stack) { levels = ls }) (with_first_meant stack.levels s))
-
   pub top_is_meant : (Is : Renderer D M (List M) → Type 0) (stack : Stack (Renderer D A (Vec A))) (r : Renderer D A (Vec A)) → top_of stack ≡ Some r → Is (meant meaning r) → OfTop Is (stack_meant meaning stack)
-  top_is_meant Is stack r is such = (meant meaning r, first_meant stack.levels r is, such)
+  top_is_meant Is stack r is such = (meant meaning r, top_meant meaning stack r is, such)
 
   -- ---- levels and cells
 
@@ -78,7 +64,7 @@ module _ {D A M : Type 0} (meaning : A → M) where
   closes_meant p next by inside closes = record {
     cells = ap (map (cell_meant meaning)) closes.cells;
     opened = ap (map (opened_meant meaning)) closes.opened;
-    top = first_meant p.stack.levels inside closes.top;
+    top = top_meant meaning p.stack inside closes.top;
     stack = ap (stack_meant meaning) closes.stack ∙ ap (λ (ls : List (Level (Renderer D M (List M)))). record (stack_meant meaning p.stack) { levels = ls }) (below_top_meant p.stack.levels);
   }
 
@@ -97,7 +83,7 @@ module _ {D A M : Type 0} (meaning : A → M) where
       LevelOpens decoration (progress_meant meaning p) by width (progress_meant meaning (record { stack = stack; pending = pending; opened = opened }))
   opens_meant decoration i p by width r inside stack pending opened same top is pushes nothing opens =
       subst (λ (q : Progress D A (Vec A)). LevelOpens decoration (progress_meant meaning q) by width (progress_meant meaning (record { stack = stack; pending = pending; opened = opened }))) same (record {
-        stack = (meant meaning r, first_meant i.stack.levels r top, ap (stack_meant meaning) pushes ∙ ap (λ (x : Renderer D M (List M)). pushed x (stack_meant meaning i.stack)) is);
+        stack = (meant meaning r, top_meant meaning i.stack r top, ap (stack_meant meaning) pushes ∙ ap (λ (x : Renderer D M (List M)). pushed x (stack_meant meaning i.stack)) is);
         pending = ap (pending_meant meaning) nothing;
         opened = ap (map (opened_meant meaning)) opens;
       })
@@ -130,6 +116,10 @@ module _ {D A M : Type 0} (meaning : A → M) where
     -- ---- requests
 
     module _ (columns : ℕ → Option ℕ) (decoration : Decoration D M) (request : Request) where
+      -- the call that is asked of the top
+      abbrev asked : Renderer D M (List M) → Outcome (Renderer D M (List M))
+      asked r = after columns decoration (call_of r.width request) r
+
       ends_as : (b : Bool) → ends_nothing i.pending.begun request ≡ b → ends_nothing p.pending.begun request ≡ b
       ends_as b is = ap (λ (q : Progress D A (Vec A)). ends_nothing q.pending.begun request) (sym same) ∙ is
 
@@ -139,15 +129,15 @@ module _ {D A M : Type 0} (meaning : A → M) where
       module _ (top : Renderer D A (Vec A)) (is_top : top_of i.stack ≡ Some top) (some : ends_nothing i.pending.begun request ≡ false) where
         pub request_refused : (number : ℕ) → IsTooNarrow columns decoration (call_of top.width request) (meant meaning top) → RequestRefuses columns decoration (progress_meant meaning p) number request TooNarrow
         request_refused number h =
-            let here_is = top_is_meant (λ r. IsTooNarrow columns decoration (call_of r.width request) r) i.stack top is_top h in
-            inr (ends_as false some, subst (λ (q : Progress D A (Vec A)). OfTop (λ r. IsTooNarrow columns decoration (call_of r.width request) r) (stack_meant meaning q.stack)) same here_is, refl)
+            let here_is = refused_in meaning asked i.stack top E.TooNarrow is_top h in
+            inr (ends_as false some, subst (λ (q : Progress D A (Vec A)). in_top asked (stack_meant meaning q.stack) ≡ refused E.TooNarrow) same here_is, refl)
 
         pub request_done : (s : Renderer D A (Vec A)) (pending : Pending D A (Vec A)) → pending ≡ record i.pending { begun = counted i.pending.begun request } → Does columns decoration (call_of top.width request) (meant meaning top) (meant meaning s) →
             RequestDoes columns decoration (progress_meant meaning p) request (progress_meant meaning (record { stack = with_top i.stack s; pending = pending; opened = i.opened }))
         request_done s pending counts does =
             subst (λ (q : Progress D A (Vec A)). RequestDoes columns decoration (progress_meant meaning q) request (progress_meant meaning (record { stack = with_top i.stack s; pending = pending; opened = i.opened }))) same (record {
               ends = some;
-              does = on_top_meant (λ r t. Does columns decoration (call_of r.width request) r t) i.stack top s is_top does;
+              does = done_in meaning asked i.stack top s is_top does;
               counts = ap (pending_meant meaning) counts;
               opened = refl;
             })
@@ -171,7 +161,7 @@ module _ {D A M : Type 0} (meaning : A → M) where
           subst (λ (q : Progress D A (Vec A)). VerticalRowDoes columns decoration (progress_meant meaning q) (progress_meant meaning (record { stack = with_top i.stack s; pending = pending; opened = i.opened }))) same (record {
             cells = h.0;
             hand_out = sym given_is ∙ h.1;
-            does = on_top_meant (Does columns decoration (append_vert_row h.0)) i.stack top s is_top h.2;
+            does = done_in meaning (after columns decoration (append_vert_row h.0)) i.stack top s is_top h.2;
             pending = ap (pending_meant meaning) taken;
             opened = refl;
           })
@@ -228,7 +218,7 @@ module _ {D A M : Type 0} (meaning : A → M) where
           closes = closes_as p closed j by Sub inside (here (Some Sub) is) closes left;
           lines = h.0;
           hands_out = h.1;
-          does = on_top_meant (Does columns decoration (append_subrender (prefixes first other (length h.0)) h.0)) j.stack top s is_top h.2;
+          does = done_in meaning (after columns decoration (append_subrender (prefixes first other (length h.0)) h.0)) j.stack top s is_top h.2;
           pending = refl;
           opened = refl;
         }

@@ -21,7 +21,8 @@ use Rattle.tbr_stack.specs.Stack.{top_of, with_top}
 use Rattle.tbr_stack.specs.Top.{OfTop, stack_meant}
 use Rattle.tbr_runner.specs.Progress.{Pending, Progress, cell_meant, pending_meant, progress_meant}
 use Rattle.tbr_runner.specs.Meaning.{renderers_of, without_cells, CellsFit, TakesNone, CellsAreTooNarrow, RowDoes, RowRefuses}
-use Rattle.tbr_runner.proofs.MeantCommands.{on_top_meant, top_is_meant}
+use Rattle.tbr_runner.proofs.MeantCommands.{top_is_meant}
+use Rattle.tbr_stack.proofs.Tops.{changes}
 
 pub same_some : {X : Type 0} {x y : X} → Some x ≡ Some y → x ≡ y
 same_some e = cc e
@@ -89,7 +90,7 @@ module _ {D A M : Type 0} (meaning : A → M) (columns : ℕ → Option ℕ) whe
           cells = h.0;
           come = subst (λ (cs : List (Renderer D A (Vec A) × ℕ)). AllZip (GivesCell (λ r. r.width) (λ r lines. handed_out columns r ≡ done lines)) (map (cell_meant meaning) cs) h.0) are (come_meant cols h.0 h.1);
           aligned = h.2 ∙ these;
-          does = on_top_meant meaning (AppendsRow columns collapse h.0) i.stack top s is_top h.3;
+          does = changes meaning (AppendsRow columns collapse h.0) i.stack top s is_top h.3;
           pending = ap (pending_meant meaning) taken;
           opened = refl;
         })

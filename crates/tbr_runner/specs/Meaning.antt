@@ -3,7 +3,6 @@ use Rattle.std.specs.Prelude.{◌≡◌, ◌≢◌, ℕ, ◌+◌, ◌⊎◌, Boo
 use Rattle.std.specs.List.{AllZip}
 use Rattle.tbr_tagged.specs.declared.CellAlign.{CellAlign}
 use Rattle.tbr_rows.specs.Cells.{row_fits}
-use Rattle.tbr_decor.specs.Start as start
 use Rattle.tbr_decor.specs.Decoration.{Decoration}
 use Rattle.text_block_renderer.specs.Renderer.{Renderer, new_renderer}
 use Rattle.text_block_renderer.specs.Line.{Line}
@@ -12,14 +11,14 @@ use Rattle.tbr_tagged.specs.Outcome.{Outcome, done, refused}
 use Rattle.tbr_tagged.specs.declared.Error.TheVariants as E
 use Rattle.tbr_renderer.specs.Outcomes.{and_then, gathered}
 use Rattle.text_block_renderer.specs.Appended.{handed_out}
-use Rattle.text_block_renderer.specs.Calls.{new_line, begin, append_subrender, append_vert_row, after, Does, IsTooNarrow}
+use Rattle.text_block_renderer.specs.Calls.{new_line, append_subrender, append_vert_row, after}
 use Rattle.text_block_renderer.specs.Rows.{spots_of, GivenCell, align_in, GivesCell, AppendsRow}
 use Rattle.tbr_script.specs.declared.error.RunError.{RunError}
 use Rattle.tbr_script.specs.declared.error.RunError.TheVariants.{TooNarrow, NotACommand, NothingToEnd, RowDoesNotFit}
 use Rattle.tbr_script.specs.Script.{lines_of}
 use Rattle.tbr_stack.specs.Stack.{new_stack, top_of, pushed, below}
-use Rattle.tbr_stack.specs.Top.{ChangesTop, OfTop}
-use Rattle.tbr_stack.specs.Links.{open_links, StartsLink, EndsLink, EndIsTooNarrow}
+use Rattle.tbr_stack.specs.Top.{in_top, ChangesTop, OfTop}
+use Rattle.tbr_stack.specs.Links.{open_links, after_link_start, after_link_end}
 use Rattle.tbr_commands.specs.declared.opening.Decorator.{Decorator}
 use Rattle.tbr_commands.specs.declared.opening.Decorator.TheVariants.{Plain, Trivial, Rich}
 use Rattle.tbr_commands.specs.declared.opening.Opening.{Opening}
@@ -105,20 +104,20 @@ module _ {D M : Type 0} (columns : ℕ → Option ℕ) (decoration : Decoration 
   -- The renderer on top does what is asked.
   pub record RequestDoes (p : Progress D M (List M)) (request : Request) (next : Progress D M (List M)) : Type 0 where
     pub ends : ends_nothing p.pending.begun request ≡ false
-    pub does : ChangesTop (λ r s. Does columns decoration (call_of r.width request) r s) p.stack next.stack
+    pub does : in_top (λ r. after columns decoration (call_of r.width request) r) p.stack ≡ done next.stack
     pub counts : next.pending ≡ record p.pending { begun = counted p.pending.begun request }
     pub opened : next.opened ≡ p.opened
 
   -- A link begins, whose target has these bytes.
   pub record LinkDoes (p : Progress D M (List M)) (target : List ℕ) (next : Progress D M (List M)) : Type 0 where
-    pub starts : StartsLink columns decoration (chars target) p.stack next.stack
+    pub starts : after_link_start columns decoration (chars target) p.stack ≡ done next.stack
     pub pending : next.pending ≡ p.pending
     pub opened : next.opened ≡ p.opened
 
   -- The link that began last ends. One is open in the innermost level.
   pub record EndLinkDoes (p next : Progress D M (List M)) : Type 0 where
     pub open_here : open_links p.stack ≢ []
-    pub ends : EndsLink columns decoration p.stack next.stack
+    pub ends : after_link_end columns decoration p.stack ≡ done next.stack
     pub pending : next.pending ≡ p.pending
     pub opened : next.opened ≡ p.opened
 
@@ -130,8 +129,8 @@ module _ {D M : Type 0} (columns : ℕ → Option ℕ) (decoration : Decoration 
     pub closes : Closes p Sub inside closed
     pub lines : List (Line (List M))
     pub hands_out : handed_out columns inside ≡ done lines
-    pub does : ChangesTop (Does columns decoration (append_subrender (prefixes first other (length lines)) lines))
-        closed.stack next.stack
+    pub does : let call = append_subrender (prefixes first other (length lines)) lines in
+        in_top (after columns decoration call) closed.stack ≡ done next.stack
     pub pending : next.pending ≡ closed.pending
     pub opened : next.opened ≡ closed.opened
 
@@ -139,7 +138,7 @@ module _ {D M : Type 0} (columns : ℕ → Option ℕ) (decoration : Decoration 
   pub record VerticalRowDoes (p next : Progress D M (List M)) : Type 0 where
     pub cells : List (List (Line (List M)))
     pub hand_out : gathered (handed_out columns) (renderers_of p.pending.cells) ≡ done cells
-    pub does : ChangesTop (Does columns decoration (append_vert_row cells)) p.stack next.stack
+    pub does : in_top (after columns decoration (append_vert_row cells)) p.stack ≡ done next.stack
     pub pending : next.pending ≡ without_cells p.pending
     pub opened : next.opened ≡ p.opened
 
@@ -209,18 +208,19 @@ module _ {D M : Type 0} (columns : ℕ → Option ℕ) (decoration : Decoration 
   RequestRefuses p number request e =
       ((ends_nothing p.pending.begun request ≡ true) × (e ≡ NothingToEnd number))
       ⊎ ((ends_nothing p.pending.begun request ≡ false)
-      × OfTop (λ r. IsTooNarrow columns decoration (call_of r.width request) r) p.stack × (e ≡ TooNarrow))
+      × (in_top (λ r. after columns decoration (call_of r.width request) r) p.stack ≡ refused E.TooNarrow)
+      × (e ≡ TooNarrow))
 
   -- The renderer on top is too narrow for the text that begins a link.
   abbrev pub LinkRefuses : Progress D M (List M) → List ℕ → RunError → Type 0
   LinkRefuses p target e =
-      OfTop (IsTooNarrow columns decoration (begin (start.link (chars target)))) p.stack × (e ≡ TooNarrow)
+      (after_link_start columns decoration (chars target) p.stack ≡ refused E.TooNarrow) × (e ≡ TooNarrow)
 
   -- No link is open in the innermost level, or the renderer on top is too narrow for what ends one.
   abbrev pub EndLinkRefuses : Progress D M (List M) → ℕ → RunError → Type 0
   EndLinkRefuses p number e =
       ((open_links p.stack ≡ []) × (e ≡ NothingToEnd number))
-      ⊎ ((open_links p.stack ≢ []) × EndIsTooNarrow columns decoration p.stack × (e ≡ TooNarrow))
+      ⊎ ((open_links p.stack ≢ []) × (after_link_end columns decoration p.stack ≡ refused E.TooNarrow) × (e ≡ TooNarrow))
 
   -- With what a command on the line of this number is refused. Only memory refuses one that opens a level.
   abbrev pub CommandRefuses : Progress D M (List M) → ℕ → Command → RunError → Type 0

@@ -1,11 +1,17 @@
 -- The top of a stack, and a stack by what its annotations mean.
-use Rattle.std.proofs.Common.{◌≡◌, ℕ, List, [], ◌∷◌, ◌++◌, Some, map, true, false, Result, Ok, Err, sym, subst, refl, ap, ◌∙◌}
+use Rattle.std.proofs.Common.{◌≡◌, ℕ, List, [], ◌∷◌, ◌++◌, Some, map, Option, None, true, false, Result, Ok, Err, sym, subst, refl, ap, ◌∙◌}
 use Rattle.std.specs.Prelude.{OnOk, OnErr, is_ok}
 use Rattle.std.specs.Global.{Vec}
+use Rattle.std.proofs.lemmas.Result.{on_ok_weaker}
+use Rattle.tbr_tagged.specs.Outcome.{Outcome, done, refused}
+use Rattle.tbr_tagged.specs.declared.Error.TheVariants.{TooNarrow}
+use Rattle.tbr_renderer.proofs.OutcomeParts.{done_before}
+use Rattle.tbr_tagged.specs.declared.Error.{Error}
+use Rattle.tbr_renderer.specs.Outcomes.{changed, Tries}
 use Rattle.tbr_renderer.specs.Renderer.{Renderer}
 use Rattle.tbr_renderer.specs.Meant.{meant}
 use Rattle.tbr_stack.specs.Stack.{Level, Stack, first_renderer, top_of, in_first, with_top}
-use Rattle.tbr_stack.specs.Top.{failure_of_first, failure_of, ChangesTop, OfTop, level_meant, stack_meant}
+use Rattle.tbr_stack.specs.Top.{failure_of_first, failure_of, in_top_of, in_top, ChangesTop, level_meant, stack_meant}
 use Rattle.tbr_stack.specs.Links.{opened, closed, with_link, without_open_link}
 
 -- ---- the top
@@ -23,6 +29,21 @@ first_opened place (level ∷ levels) = refl
 
 pub top_linked : {R : Type 0} (target : List ℕ) (s : Stack R) → top_of (with_link target s) ≡ top_of s
 top_linked target s = first_opened _ s.levels
+
+-- the top that a call has changed
+pub top_changed : {R : Type 0} (make : R → Outcome R) (s t : Stack R) → in_top make s ≡ done t → ChangesTop (λ r q. make r ≡ done q) s t
+top_changed {R = R} make s t h = go (top_of s) refl h
+  where
+    go : (top : Option R) → top_of s ≡ top → in_top_of make s top ≡ done t → ChangesTop (λ r q. make r ≡ done q) s t
+    go None is made = cc
+    go (Some r) is made = let (q, changes, same) = done_before (with_top s) (make r) t made in (r, q, is, changes, same)
+
+-- what is tried elsewhere
+tries_as : {S V X : Type 0} (state : S → V) (make other : V → Outcome V) (m old new : S) (result : Result X Error) → other (state old) ≡ make (state m) → Tries state make m result new → Tries state other old result new
+tries_as state make other m old new result same h = record {
+  ok = on_ok_weaker result (λ is. same ∙ is) h.ok;
+  too_narrow = λ e. same ∙ h.too_narrow e;
+}
 
 -- ---- by what annotations mean
 
@@ -47,7 +68,7 @@ module _ {D A M : Type 0} (f : A → M) where
   pub closed_meant : (s : Stack (Renderer D A (Vec A))) → stack_meant f (without_open_link s) ≡ without_open_link (stack_meant f s)
   closed_meant s = ap (λ levels. record { levels = levels; links = s.links; table_depth = s.table_depth }) (changed_meant closed closed (λ l. refl) s.levels)
 
-  with_top_meant : (s : Stack (Renderer D A (Vec A))) (q : Renderer D A (Vec A)) → stack_meant f (with_top s q) ≡ with_top (stack_meant f s) (meant f q)
+  pub with_top_meant : (s : Stack (Renderer D A (Vec A))) (q : Renderer D A (Vec A)) → stack_meant f (with_top s q) ≡ with_top (stack_meant f s) (meant f q)
   with_top_meant s q =
       ap (λ levels. record { levels = levels; links = s.links; table_depth = s.table_depth })
       (changed_meant (λ l. record l { renderer = q }) (λ l. record l { renderer = meant f q }) (λ l. refl) s.levels)
@@ -68,8 +89,30 @@ module _ {D A M : Type 0} (f : A → M) where
         (s t : Stack (Renderer D A (Vec A))) → ChangesTop P s t → ChangesTop Step (stack_meant f s) (stack_meant f t)
     step_meant P carry s t h = subst (λ u. ChangesTop Step (stack_meant f s) (stack_meant f u)) (sym h.4) (changes s h.0 h.1 h.2 (carry h.0 h.1 h.3))
 
-  pub of_top : (P : Renderer D M (List M) → Type 0) (s : Stack (Renderer D A (Vec A))) (r : Renderer D A (Vec A)) → top_of s ≡ Some r → P (meant f r) → OfTop P (stack_meant f s)
-  of_top P s r top h = (meant f r, top_meant s r top, h)
+  -- ---- what a call makes of the top
+
+  module _ (make : Renderer D M (List M) → Outcome (Renderer D M (List M))) where
+    pub made_in : (s : Stack (Renderer D A (Vec A))) (r : Renderer D A (Vec A)) → top_of s ≡ Some r → in_top make (stack_meant f s) ≡ changed (with_top (stack_meant f s)) (make (meant f r))
+    made_in s r top = ap (in_top_of make (stack_meant f s)) (top_meant s r top)
+
+    pub done_in : (s : Stack (Renderer D A (Vec A))) (r q : Renderer D A (Vec A)) → top_of s ≡ Some r → make (meant f r) ≡ done (meant f q) → in_top make (stack_meant f s) ≡ done (stack_meant f (with_top s q))
+    done_in s r q top is = made_in s r top ∙ ap (changed (with_top (stack_meant f s))) is ∙ ap (λ t. done t) (sym (with_top_meant s q))
+
+    pub refused_in : (s : Stack (Renderer D A (Vec A))) (r : Renderer D A (Vec A)) (e : Error) → top_of s ≡ Some r → make (meant f r) ≡ refused e → in_top make (stack_meant f s) ≡ refused e
+    refused_in s r e top is = made_in s r top ∙ ap (changed (with_top (stack_meant f s))) is
+
+    pub tries_in : {X : Type 0} (s : Stack (Renderer D A (Vec A))) (r q : Renderer D A (Vec A)) (result : Result X Error) → top_of s ≡ Some r → Tries (meant f) make r result q → Tries (stack_meant f) (in_top make) s result (with_top s q)
+    tries_in s r q result top h = record {
+      ok = on_ok_weaker result (λ is. done_in s r q top is) h.ok;
+      too_narrow = λ e. refused_in s r TooNarrow top (h.too_narrow e);
+    }
+
+    -- after the opening of a link
+    pub tries_linked : {X : Type 0} (target : List ℕ) (s l : Stack (Renderer D A (Vec A))) (r q : Renderer D A (Vec A)) (result : Result X Error) → l ≡ with_link target s → top_of l ≡ Some r → Tries (meant f) make r result q →
+        Tries (stack_meant f) (λ t. in_top make (with_link target t)) s result (with_top l q)
+    tries_linked target s l r q result is top h =
+        tries_as (stack_meant f) (in_top make) (λ t. in_top make (with_link target t)) l s (with_top l q) result
+        (ap (in_top make) (sym (linked_meant target s) ∙ ap (λ u. stack_meant f u) (sym is))) (tries_in l r q result top h)
 
 -- ---- refusals
 

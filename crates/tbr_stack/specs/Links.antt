@@ -1,14 +1,16 @@
 -- The links of a stack.
 use Rattle.std.specs.Prelude.{◌≡◌, ℕ, ◌+◌, ◌⊎◌, if◌then◌else◌, length, Option, Some, None, List, [], ◌∷◌, ◌++◌, drop, codes}
 use Rattle.std.specs.Fmt.{decimal}
+use Rattle.tbr_tagged.specs.Outcome.{Outcome}
 use Rattle.tbr_tagged.specs.declared.Error.TheVariants.{OutOfMemory}
 use Rattle.tbr_decor.specs.Decoration.{Decoration}
 use Rattle.tbr_decor.specs.Start as start
 use Rattle.tbr_decor.specs.End as end
 use Rattle.tbr_renderer.specs.Renderer.{Renderer, kept_of}
-use Rattle.tbr_renderer.specs.Calls.{begin, finish, add_inline_text, Does, IsTooNarrow}
+use Rattle.tbr_renderer.specs.Outcomes.{and_then, changed}
+use Rattle.tbr_renderer.specs.Calls.{begin, finish, add_inline_text, after}
 use Rattle.tbr_stack.specs.Stack.{Level, Stack, in_first}
-use Rattle.tbr_stack.specs.Top.{ChangesTop, OfTop}
+use Rattle.tbr_stack.specs.Top.{in_top, ChangesTop}
 
 -- ---- the links that are open in one renderer
 
@@ -60,33 +62,22 @@ module _ {D A : Type 0} (columns : ℕ → Option ℕ) (decoration : Decoration 
   Top = Renderer D A (List A)
 
   -- A link starts: it is opened, and then it begins in the top.
-  abbrev pub StartsLink : List ℕ → Stack Top → Stack Top → Type 0
-  StartsLink target s t = ChangesTop (Does columns decoration (begin (start.link target))) (with_link target s) t
+  abbrev pub after_link_start : List ℕ → Stack Top → Outcome (Stack Top)
+  after_link_start target s = in_top (after columns decoration (begin (start.link target))) (with_link target s)
 
   -- A link ends in a renderer, and its number comes after it, where one is shown.
-  abbrev pub EndsWith : Option ℕ → Top → Top → Type 0
-  EndsWith None r q = Does columns decoration (finish end.link) r q
-  EndsWith (Some k) r q =
-      (m : Top) × Does columns decoration (finish end.link) r m
-      × Does columns decoration (add_inline_text (link_number k)) m q
+  abbrev pub after_end_with : Option ℕ → Top → Outcome Top
+  after_end_with None r = after columns decoration (finish end.link) r
+  after_end_with (Some k) r =
+      and_then (after columns decoration (finish end.link) r) (after columns decoration (add_inline_text (link_number k)))
 
-  -- The end of a link in a renderer is answered by `TooNarrow`: its own text, or its number, where one is shown.
-  abbrev pub EndIsTooNarrowWith : Option ℕ → Top → Type 0
-  EndIsTooNarrowWith None r = IsTooNarrow columns decoration (finish end.link) r
-  EndIsTooNarrowWith (Some k) r =
-      IsTooNarrow columns decoration (finish end.link) r
-      ⊎ ((m : Top) × Does columns decoration (finish end.link) r m
-      × IsTooNarrow columns decoration (add_inline_text (link_number k)) m)
+  -- The link that was opened last in the top ends, with the number that is shown, and is closed.
+  abbrev pub after_end_showing : (Top → Option ℕ) → Stack Top → Outcome (Stack Top)
+  after_end_showing shown s = changed without_open_link (in_top (λ r. after_end_with (shown r) r) s)
 
-  -- The link that was opened last in the top ends, with its number, and is closed.
-  abbrev pub EndsLink : Stack Top → Stack Top → Type 0
-  EndsLink s t =
-      (m : Stack Top) × ChangesTop (λ r q. EndsWith (shown_number r (open_links s)) r q) s m
-      × (t ≡ without_open_link m)
-
-  -- The end of a link in the top, with its number, is answered by `TooNarrow`.
-  abbrev pub EndIsTooNarrow : Stack Top → Type 0
-  EndIsTooNarrow s = OfTop (λ r. EndIsTooNarrowWith (shown_number r (open_links s)) r) s
+  -- and with its own number
+  abbrev pub after_link_end : Stack Top → Outcome (Stack Top)
+  after_link_end s = after_end_showing (λ r. shown_number r (open_links s)) s
 
 -- ---- calls that refuse
 

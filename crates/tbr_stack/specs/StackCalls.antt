@@ -1,10 +1,10 @@
 -- Calls on a stack, one after another, and which link is the next to end after them.
 use Rattle.std.specs.Prelude.{◌≡◌, ℕ, ◌+◌, zero, suc, Option, None, Some, List, [], ◌∷◌, ◌++◌, if◌then◌else◌, length}
+use Rattle.tbr_tagged.specs.Outcome.{Outcome, done}
 use Rattle.tbr_decor.specs.Decoration.{Decoration}
 use Rattle.tbr_renderer.specs.Renderer.{Renderer}
 use Rattle.tbr_stack.specs.Stack.{Stack, with_top, pushed, below}
-use Rattle.tbr_stack.specs.Top.{ChangesTop}
-use Rattle.tbr_stack.specs.Links.{without_open_link, StartsLink, EndsLink, EndsWith}
+use Rattle.tbr_stack.specs.Links.{after_link_start, after_link_end, after_end_showing}
 
 -- A call on a stack. What is done to the top alone may be anything, and so may the renderer that is pushed.
 pub data StackCall : Type 0 where
@@ -62,8 +62,8 @@ module _ {D A : Type 0} (columns : ℕ → Option ℕ) (decoration : Decoration 
   StackDoes (set_table_depth depth) s t = t ≡ record s { table_depth = depth }
   StackDoes push s t = (top : Top) × (t ≡ pushed top s)
   StackDoes pop s t = t ≡ below s
-  StackDoes (start_link target) s t = StartsLink columns decoration target s t
-  StackDoes end_link s t = EndsLink columns decoration s t
+  StackDoes (start_link target) s t = after_link_start columns decoration target s ≡ done t
+  StackDoes end_link s t = after_link_end columns decoration s ≡ done t
 
   -- and calls one after another
   abbrev pub StackSteps : List StackCall → Stack Top → Stack Top → Type 0
@@ -71,9 +71,6 @@ module _ {D A : Type 0} (columns : ℕ → Option ℕ) (decoration : Decoration 
   StackSteps (call ∷ calls) s t = (m : Stack Top) × StackDoes call s m × StackSteps calls m t
 
   -- A link ends in the top as the one with this number. With footnotes the number comes, and without them none does.
-  abbrev pub EndsAsNumber : ℕ → Stack Top → Stack Top → Type 0
-  EndsAsNumber k s t =
-      (m : Stack Top)
-      × ChangesTop
-      (λ r q. EndsWith columns decoration (if r.options.include_link_footnotes then Some k else None) r q) s m
-      × (t ≡ without_open_link m)
+  abbrev pub after_end_as : ℕ → Stack Top → Outcome (Stack Top)
+  after_end_as k s =
+      after_end_showing columns decoration (λ r. if r.options.include_link_footnotes then Some k else None) s

@@ -5,11 +5,12 @@ ghost use Rattle.tbr_tagged.specs.declared.Error.TheVariants as E;
 ghost use Rattle.tbr_decor.specs.Decoration.{decoration_of};
 ghost use Rattle.tbr_decor.specs.Start as start;
 ghost use Rattle.tbr_renderer.specs.Renderer.{block_width, kept_of};
-ghost use Rattle.tbr_renderer.specs.Calls.{KeepsFailure, Does, IsTooNarrow};
+ghost use Rattle.tbr_renderer.specs.Outcomes.{Tries};
+ghost use Rattle.tbr_renderer.specs.Calls.{KeepsFailure, Fails, Answers, IsWide, calls_by};
 ghost use Rattle.tbr_renderer.specs.Meant.{meant};
 ghost use Rattle.tbr_renderer.specs.Calls as call;
 ghost use Rattle.tbr_stack.specs.Top.{failure_of, ChangesTop, OfTop, stack_meant};
-ghost use Rattle.tbr_stack.specs.Links.{link_number, open_links, shown_number, StartsLink, StopsToStart, EndsWith, EndIsTooNarrowWith, EndsLink, EndIsTooNarrow, StopsToEnd};
+ghost use Rattle.tbr_stack.specs.Links.{link_number, open_links, shown_number, after_link_start, after_end_with, after_link_end, StopsToStart, StopsToEnd};
 
 use crate::stack::TextRenderer;
 use std::alloc::Global;
@@ -25,11 +26,8 @@ impl<D: TextDecorator, W: CharWidth> TextRenderer<D, W> {
     /// opened. Otherwise it is open, even where the top refuses.
     pub fn start_link(&mut self, target: &str) -> Result<(), Error>
         requires { 0 < length self.old.levels }
-        ensures ok { OnOk result (StartsLink W.columns (decoration_of D.TextDecorator) (chars target.now)
-            (stack_meant D.meaning self.old) (stack_meant D.meaning self.new)) }
-        ensures too_narrow { failure_of self.old ≡ None → result ≡ Err E.TooNarrow →
-            OfTop (IsTooNarrow W.columns (decoration_of D.TextDecorator) (call.begin (start.link (chars target.now))))
-            (stack_meant D.meaning self.old) }
+        ensures tries { let make = after_link_start W.columns (decoration_of D.TextDecorator) (chars target.now) in
+            Tries (stack_meant D.meaning) make self.old result self.new }
         ensures two_columns { failure_of self.old ≡ None → OfTop (λ r. 2 ≤ block_width r) self.old →
             result ≢ Err E.TooNarrow }
         ensures left { failure_of self.old ≡ None → OnErr result
@@ -50,10 +48,8 @@ impl<D: TextDecorator, W: CharWidth> TextRenderer<D, W> {
     /// answers its refusal, and nothing changes.
     pub fn end_link(&mut self) -> Result<(), Error>
         requires { 0 < length self.old.levels }
-        ensures ok { OnOk result (EndsLink W.columns (decoration_of D.TextDecorator)
-            (stack_meant D.meaning self.old) (stack_meant D.meaning self.new)) }
-        ensures too_narrow { failure_of self.old ≡ None → result ≡ Err E.TooNarrow →
-            EndIsTooNarrow W.columns (decoration_of D.TextDecorator) (stack_meant D.meaning self.old) }
+        ensures tries { let make = after_link_end W.columns (decoration_of D.TextDecorator) in
+            Tries (stack_meant D.meaning) make self.old result self.new }
         ensures two_columns { failure_of self.old ≡ None → OfTop (λ r. 2 ≤ block_width r) self.old →
             result ≢ Err E.TooNarrow }
         ensures left { failure_of self.old ≡ None → OnErr result
@@ -113,13 +109,12 @@ fn end_with<D: TextDecorator, W: CharWidth>(
     alloc: Global,
     number: Option<usize>,
 ) -> Result<(), Error>
-    ensures ok { OnOk result (EndsWith W.columns (decoration_of D.TextDecorator) number
-        (meant D.meaning renderer.old) (meant D.meaning renderer.new)) }
-    ensures too_narrow { renderer.old.failure ≡ None → result ≡ Err E.TooNarrow →
-        EndIsTooNarrowWith W.columns (decoration_of D.TextDecorator) number (meant D.meaning renderer.old) }
-    ensures two_columns { renderer.old.failure ≡ None → 2 ≤ block_width renderer.old → result ≢ Err E.TooNarrow }
-    ensures left { OnErr result (kept_of renderer.new ≡ kept_of renderer.old) }
-    ensures kept { KeepsFailure (λ r. r.failure) renderer.old result renderer.new }
+    ensures tries { let make = after_end_with W.columns (decoration_of D.TextDecorator) number in
+        Tries (meant D.meaning) make renderer.old result renderer.new }
+    ensures two_columns { let calls = calls_by W.columns (decoration_of D.TextDecorator) D.meaning in
+        IsWide calls renderer.old → result ≢ Err E.TooNarrow }
+    ensures fails { let calls = calls_by W.columns (decoration_of D.TextDecorator) D.meaning in
+        Fails calls renderer.old result renderer.new }
 {
     renderer.end_link()?;
     match number {
@@ -135,13 +130,8 @@ fn add_number<D: TextDecorator, W: CharWidth>(
     k: usize,
 ) -> Result<(), Error>
     requires { renderer.old.failure ≡ None }
-    ensures ok { OnOk result (Does W.columns (decoration_of D.TextDecorator) (call.add_inline_text (link_number k))
-        (meant D.meaning renderer.old) (meant D.meaning renderer.new)) }
-    ensures too_narrow { result ≡ Err E.TooNarrow → IsTooNarrow W.columns (decoration_of D.TextDecorator)
-        (call.add_inline_text (link_number k)) (meant D.meaning renderer.old) }
-    ensures two_columns { 2 ≤ block_width renderer.old → result ≢ Err E.TooNarrow }
-    ensures left { OnErr result (kept_of renderer.new ≡ kept_of renderer.old) }
-    ensures failed { IfErr result (λ e. renderer.new.failure ≡ Some e) }
+    ensures answers { let calls = calls_by W.columns (decoration_of D.TextDecorator) D.meaning in
+        Answers calls (call.add_inline_text (link_number k)) renderer.old result renderer.new }
 {
     match number_text(alloc, k) {
         Ok(number) => renderer.add_inline_text(number.as_str()),

@@ -5,11 +5,16 @@ use Rattle.std.specs.List.{slice_get}
 use Rattle.std.proofs.lemmas.List.{length-append}
 use Rattle.tbr_decor.specs.Decoration.{Decoration}
 use Rattle.tbr_decor.specs.Usual.{footnote, footnotes_from, footnotes}
+use Rattle.tbr_decor.specs.Start as start
+use Rattle.tbr_tagged.specs.Outcome.{Outcome, done}
 use Rattle.tbr_renderer.specs.Renderer.{Renderer}
+use Rattle.tbr_renderer.specs.Calls.{begin, after}
+use Rattle.tbr_renderer.proofs.OutcomeParts.{done_before}
 use Rattle.tbr_stack.specs.Stack.{Level, Stack, new_stack, first_renderer, in_first, with_top}
-use Rattle.tbr_stack.specs.Top.{ChangesTop}
-use Rattle.tbr_stack.specs.Links.{opened, closed, first_open, open_in_first, open_links, with_link, StartsLink, EndsLink, EndsWith}
-use Rattle.tbr_stack.specs.StackCalls.{StackCall, change_top, set_table_depth, push, pop, start_link, end_link, targets_of, IsNextToEnd, IsNextNumber, StackDoes, StackSteps, EndsAsNumber}
+use Rattle.tbr_stack.specs.Top.{in_top, ChangesTop}
+use Rattle.tbr_stack.specs.Links.{opened, closed, first_open, open_in_first, open_links, with_link, without_open_link, shown_number, after_link_start, after_end_with, after_end_showing, after_link_end}
+use Rattle.tbr_stack.specs.StackCalls.{StackCall, change_top, set_table_depth, push, pop, start_link, end_link, targets_of, IsNextToEnd, IsNextNumber, StackDoes, StackSteps, after_end_as}
+use Rattle.tbr_stack.proofs.Tops.{top_changed}
 
 -- ---- links that are open, as the places of their targets
 
@@ -148,6 +153,13 @@ module _ {D A : Type 0} (columns : ℕ → Option ℕ) (decoration : Decoration 
   abbrev Tops : Type 0
   Tops = Stack (Renderer D A (List A))
 
+  -- what begins a link in the top, and what ends one
+  abbrev begins : List ℕ → Renderer D A (List A) → Outcome (Renderer D A (List A))
+  begins target = after columns decoration (begin (start.link target))
+
+  abbrev ends : List ℕ → Renderer D A (List A) → Outcome (Renderer D A (List A))
+  ends places r = after_end_with columns decoration (shown_number r places) r
+
   opens_top_changed : (Step : Renderer D A (List A) → Renderer D A (List A) → Type 0) (s t : Tops) → ChangesTop Step s t → opens_of t ≡ opens_of s
   opens_top_changed Step s t h = ap (λ (q : Tops). opens_of q) h.4 ∙ opens_top s h.1
 
@@ -159,17 +171,20 @@ module _ {D A : Type 0} (columns : ℕ → Option ℕ) (decoration : Decoration 
   does_open (set_table_depth depth) s t h = ap (λ (q : Tops). opens_of q) h
   does_open push s t h = ap (λ (q : Tops). opens_of q) h.1
   does_open pop s t h = ap (λ (q : Tops). opens_of q) h ∙ opens_dropped s.levels
-  does_open (start_link target) s t h = opens_top_changed _ (with_link target s) t h ∙ opens_changed (opened (length s.links + 1)) (λ o. (length s.links + 1) ∷ o) (λ l. refl) s.levels
+  does_open (start_link target) s t h = opens_top_changed _ (with_link target s) t (top_changed (begins target) (with_link target s) t h) ∙ opens_changed (opened (length s.links + 1)) (λ o. (length s.links + 1) ∷ o) (λ l. refl) s.levels
   does_open end_link s t h =
-      ap (λ (q : Tops). opens_of q) h.2 ∙ opens_changed closed (drop 1) (λ l. refl) h.0.levels ∙ ap (in_first (drop 1)) (opens_top_changed _ s h.0 h.1)
+      let (m, ended, is) = done_before without_open_link (in_top (ends (open_links s)) s) t h in
+      ap (λ (q : Tops). opens_of q) is ∙ opens_changed closed (drop 1) (λ l. refl) m.levels ∙ ap (in_first (drop 1)) (opens_top_changed _ s m (top_changed (ends (open_links s)) s m ended))
 
   does_link : (call : StackCall) (s t : Tops) → StackDoes columns decoration call s t → t.links ≡ s.links ++ targets_of (call ∷ [])
   does_link change_top s t h = ap (λ (q : Tops). q.links) h.1 ∙ sym (append-nil s.links)
   does_link (set_table_depth depth) s t h = ap (λ (q : Tops). q.links) h ∙ sym (append-nil s.links)
   does_link push s t h = ap (λ (q : Tops). q.links) h.1 ∙ sym (append-nil s.links)
   does_link pop s t h = ap (λ (q : Tops). q.links) h ∙ sym (append-nil s.links)
-  does_link (start_link target) s t h = links_top_changed _ (with_link target s) t h
-  does_link end_link s t h = ap (λ (q : Tops). q.links) h.2 ∙ links_top_changed _ s h.0 h.1 ∙ sym (append-nil s.links)
+  does_link (start_link target) s t h = links_top_changed _ (with_link target s) t (top_changed (begins target) (with_link target s) t h)
+  does_link end_link s t h =
+      let (m, ended, is) = done_before without_open_link (in_top (ends (open_links s)) s) t h in
+      ap (λ (q : Tops). q.links) is ∙ links_top_changed _ s m (top_changed (ends (open_links s)) s m ended) ∙ sym (append-nil s.links)
 
   -- ---- numbers
 
@@ -181,18 +196,17 @@ module _ {D A : Type 0} (columns : ℕ → Option ℕ) (decoration : Decoration 
       let further = goes_on call calls (length s.links) numbers (opens_of s) k next h in
       still_first calls further.0 m t k rest further.1 (subst (λ os. Stands further.0 os k) (sym (does_open call s m does)) further.2)
 
-  ends_so : (t u : Tops) (k : ℕ) → first_open (open_links t) ≡ Some k → EndsLink columns decoration t u → EndsAsNumber columns decoration k t u
-  ends_so t u k first h =
-      let m = h.0 in
-      (m, subst (λ (o : Option ℕ). ChangesTop (λ r q. EndsWith columns decoration (if r.options.include_link_footnotes then o else None) r q) t m) first h.1, h.2)
+  ends_so : (t : Tops) (k : ℕ) → first_open (open_links t) ≡ Some k → after_link_end columns decoration t ≡ after_end_as columns decoration k t
+  ends_so t k first = ap (λ (o : Option ℕ). after_end_showing columns decoration (λ r. if r.options.include_link_footnotes then o else None) t) first
 
-  pub own_number : (target : List ℕ) (calls : List StackCall) (s m t u : Tops) → StartsLink columns decoration target s m → StackSteps columns decoration calls m t → IsNextToEnd (0 ∷ []) calls → EndsLink columns decoration t u →
-      EndsAsNumber columns decoration (length s.links + 1) t u
-  own_number target calls s m t u starts steps next ends =
+  pub own_number : (target : List ℕ) (calls : List StackCall) (s m t : Tops) → after_link_start columns decoration target s ≡ done m → StackSteps columns decoration calls m t → IsNextToEnd (0 ∷ []) calls →
+      after_link_end columns decoration t ≡ after_end_as columns decoration (length s.links + 1) t
+  own_number target calls s m t starts steps next =
       let k = length s.links + 1 in
-      let here = opened_stands k s.levels starts.0 starts.2 in
-      let stands = subst (λ os. Stands (0 ∷ []) os k) (sym (opens_top_changed _ (with_link target s) m starts)) here in
-      ends_so t u k (still_first calls (0 ∷ []) m t k steps next stands) ends
+      let changes = top_changed (begins target) (with_link target s) m starts in
+      let here = opened_stands k s.levels changes.0 changes.2 in
+      let stands = subst (λ os. Stands (0 ∷ []) os k) (sym (opens_top_changed _ (with_link target s) m changes)) here in
+      ends_so t k (still_first calls (0 ∷ []) m t k steps next stands)
 
   -- ---- where the open links started
 
@@ -261,7 +275,7 @@ module _ {D A : Type 0} (columns : ℕ → Option ℕ) (decoration : Decoration 
       targets_come calls m t rest ∙ ap (λ ls. ls ++ targets_of calls) (does_link call s m does) ∙ append_assoc s.links (targets_of (call ∷ [])) (targets_of calls)
       ∙ ap (λ ls. s.links ++ ls) (sym (targets_one call calls))
 
-  pub own_place : (target : List ℕ) (calls : List StackCall) (s m t : Tops) → StartsLink columns decoration target s m → StackSteps columns decoration calls m t → slice_get t.links (length s.links) ≡ Some target
+  pub own_place : (target : List ℕ) (calls : List StackCall) (s m t : Tops) → after_link_start columns decoration target s ≡ done m → StackSteps columns decoration calls m t → slice_get t.links (length s.links) ≡ Some target
   own_place target calls s m t starts steps =
       let all = targets_come (start_link target ∷ calls) s t (m, starts, steps) in
       ap (λ ls. slice_get ls (length s.links)) all ∙ get_seam s.links target (targets_of calls)

@@ -8,9 +8,11 @@ use Rattle.tbr_tagged.specs.declared.Error.TheVariants as E
 use Rattle.tbr_renderer.specs.Outcomes.{gathered}
 use Rattle.tbr_renderer.proofs.OutcomeParts.{once, done_or_refused}
 use Rattle.text_block_renderer.specs.Appended.{handed_out}
-use Rattle.text_block_renderer.specs.Calls.{Call, append_subrender, append_vert_row, after, Does, IsTooNarrow}
+use Rattle.text_block_renderer.specs.Calls.{Call, append_subrender, append_vert_row, after, Does}
 use Rattle.tbr_stack.specs.Stack.{Stack}
-use Rattle.tbr_stack.specs.Top.{ChangesTop, OfTop}
+use Rattle.tbr_stack.specs.Top.{in_top, OfTop}
+use Rattle.tbr_stack.proofs.Tops.{top_changed}
+use Rattle.tbr_tagged.specs.Outcome.{Outcome}
 use Rattle.tbr_script.specs.declared.error.RunError.{RunError}
 use Rattle.tbr_commands.specs.Request.{Request, call_of}
 use Rattle.tbr_commands.specs.Command.{Command, ask, link, end_link, sub, append, cell, end_cell, row, vertical_row}
@@ -18,7 +20,6 @@ use Rattle.tbr_runner.specs.declared.opened.Opener.TheVariants.{Sub, Cell}
 use Rattle.tbr_runner.specs.Prefixes.{prefixes}
 use Rattle.tbr_runner.specs.Progress.{Progress}
 use Rattle.tbr_runner.specs.Meaning.{renderers_of, TakesNone, CellDoes, CellRefuses, RequestDoes, AppendDoes, VerticalRowDoes, CommandDoes, AppendRefuses, VerticalRowRefuses, RequestRefuses, CommandRefuses}
-use Rattle.tbr_runner.proofs.once.Tops.{on_top_once, on_top_or_not}
 use Rattle.tbr_runner.proofs.once.Taken.{flush_done, takes_or_not}
 use Rattle.tbr_runner.proofs.once.Levels.{one_progress, closes_once, closes_opener, cell_once, opens_once}
 use Rattle.tbr_runner.proofs.once.Refusals.{not_waiting}
@@ -30,30 +31,23 @@ cell_or_not p x number e a (inl b) = b.0 a.0 a.1 (closes_opener p (Cell a.0 a.1)
 cell_or_not p x number e a (inr b) = not_waiting p number e a.4.cells b.3
 
 module _ {D M : Type 0} (columns : ℕ → Option ℕ) (decoration : Decoration D M) where
-  -- ---- a call of the renderer on top, which its width may determine
-
-  module _ (call : ℕ → Call (List M)) (p : Progress D M (List M)) where
-    abbrev Calls : Stack (Renderer D M (List M)) → Type 0
-    Calls next = ChangesTop (λ r s. Does columns decoration (call r.width) r s) p.stack next
-
-    called_once : (x y : Stack (Renderer D M (List M))) → Calls x → Calls y → x ≡ y
-    called_once x y a b =
-        on_top_once (λ r s. Does columns decoration (call r.width) r s) p.stack x y (λ r s t. once (after columns decoration (call r.width) r) s t) a b
-
-    called_or_not : (x : Stack (Renderer D M (List M))) → Calls x → OfTop (λ r. IsTooNarrow columns decoration (call r.width) r) p.stack → ⊥
-    called_or_not x a b =
-        on_top_or_not (λ r s. Does columns decoration (call r.width) r s) (λ r. IsTooNarrow columns decoration (call r.width) r) p.stack x (λ r s. done_or_refused (after columns decoration (call r.width) r) s E.TooNarrow) a b
+  -- what is called of the renderer on top
+  abbrev calls : Call (List M) → Stack (Renderer D M (List M)) → Outcome (Stack (Renderer D M (List M)))
+  calls call stack = in_top (after columns decoration call) stack
 
   -- ---- requests
 
   module _ (p x : Progress D M (List M)) (request : Request) (a : RequestDoes columns decoration p request x) where
+    abbrev asked : Outcome (Stack (Renderer D M (List M)))
+    asked = in_top (λ r. after columns decoration (call_of r.width request) r) p.stack
+
     request_once : (y : Progress D M (List M)) → RequestDoes columns decoration p request y → x ≡ y
     request_once y b =
-        one_progress x y (called_once (λ width. call_of width request) p x.stack y.stack a.does b.does) (a.counts ∙ sym b.counts) (a.opened ∙ sym b.opened)
+        one_progress x y (once asked y.stack x.stack b.does a.does) (a.counts ∙ sym b.counts) (a.opened ∙ sym b.opened)
 
     request_or_not : (number : ℕ) (e : RunError) → RequestRefuses columns decoration p number request e → ⊥
     request_or_not number e (inl b) = false≢true (sym a.ends ∙ b.0)
-    request_or_not number e (inr b) = called_or_not (λ width. call_of width request) p x.stack a.does b.1
+    request_or_not number e (inr b) = done_or_refused asked x.stack E.TooNarrow a.does b.1
 
   -- ---- lines of a level
 
@@ -66,10 +60,10 @@ module _ {D M : Type 0} (columns : ℕ → Option ℕ) (decoration : Decoration 
         let same = closes_once p Sub Sub a.inside b.inside a.closed b.closed a.closes b.closes in
         let hands = ap (handed_out columns) same.1 ∙ b.hands_out in
         let lines = once (handed_out columns a.inside) b.lines a.lines hands a.hands_out in
-        let there = subst (λ (q : Progress D M (List M)). ChangesTop (Does columns decoration (behind b.lines)) q.stack y.stack) (sym same.2) b.does in
-        let does = subst (λ (ls : List (Line (List M))). ChangesTop (Does columns decoration (behind ls)) a.closed.stack y.stack) (sym lines) there in
+        let there = ap (λ (q : Progress D M (List M)). calls (behind b.lines) q.stack) same.2 ∙ b.does in
+        let does = ap (λ (ls : List (Line (List M))). calls (behind ls) a.closed.stack) lines ∙ there in
         one_progress x y
-        (called_once (λ width. behind a.lines) a.closed x.stack y.stack a.does does)
+        (once (calls (behind a.lines) a.closed.stack) y.stack x.stack does a.does)
         (a.pending ∙ ap (λ (q : Progress D M (List M)). q.pending) same.2 ∙ sym b.pending)
         (a.opened ∙ ap (λ (q : Progress D M (List M)). q.opened) same.2 ∙ sym b.opened)
 
@@ -85,7 +79,8 @@ module _ {D M : Type 0} (columns : ℕ → Option ℕ) (decoration : Decoration 
         go k =
             let there = subst (λ (q : Progress D M (List M)). OfTop (TakesNone columns decoration (handed_out columns b.0)) q.stack) (sym same.2) k in
             let here = subst (λ (r : Renderer D M (List M)). OfTop (TakesNone columns decoration (handed_out columns r)) a.closed.stack) (sym same.1) there in
-            takes_or_not columns decoration (λ r. Does columns decoration (behind a.lines) r) (handed_out columns a.inside) a.lines a.closed.stack x.stack a.hands_out (λ r s h. flush_done columns decoration _ r s h) a.does here
+            takes_or_not columns decoration (λ r. Does columns decoration (behind a.lines) r) (handed_out columns a.inside) a.lines a.closed.stack x.stack a.hands_out (λ r s h. flush_done columns decoration _ r s h)
+            (top_changed (after columns decoration (behind a.lines)) a.closed.stack x.stack a.does) here
 
   -- ---- rows
 
@@ -93,15 +88,15 @@ module _ {D M : Type 0} (columns : ℕ → Option ℕ) (decoration : Decoration 
     vertical_once : (y : Progress D M (List M)) → VerticalRowDoes columns decoration p y → x ≡ y
     vertical_once y b =
         let cells = once (gathered (handed_out columns) (renderers_of p.pending.cells)) b.cells a.cells b.hand_out a.hand_out in
-        let does = subst (λ (cs : List (List (Line (List M)))). ChangesTop (Does columns decoration (append_vert_row cs)) p.stack y.stack) (sym cells) b.does in
+        let does = ap (λ (cs : List (List (Line (List M)))). calls (append_vert_row cs) p.stack) cells ∙ b.does in
         one_progress x y
-        (called_once (λ width. append_vert_row a.cells) p x.stack y.stack a.does does)
+        (once (calls (append_vert_row a.cells) p.stack) y.stack x.stack does a.does)
         (a.pending ∙ sym b.pending) (a.opened ∙ sym b.opened)
 
     vertical_or_not : (e : RunError) → VerticalRowRefuses columns decoration p e → ⊥
     vertical_or_not e b =
         takes_or_not columns decoration (λ r. Does columns decoration (append_vert_row a.cells) r) (gathered (handed_out columns) (renderers_of p.pending.cells)) a.cells p.stack x.stack a.hand_out
-        (λ r s h. flush_done columns decoration _ r s h) a.does b.0
+        (λ r s h. flush_done columns decoration _ r s h) (top_changed (after columns decoration (append_vert_row a.cells)) p.stack x.stack a.does) b.0
 
   -- ---- commands
 

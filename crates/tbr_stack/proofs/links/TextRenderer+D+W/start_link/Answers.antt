@@ -1,13 +1,16 @@
 use Rattle.std.proofs.Common.{◌≡◌, ◌≤◌, Some, chars, inl, inr, sym, subst, ap, ◌∙◌}
-use Rattle.std.proofs.lemmas.Result.{on_ok_weaker, on_err_weaker}
+use Rattle.std.proofs.lemmas.Result.{on_err_weaker}
 use Rattle.tbr_renderer.specs.Meant.{meant}
 use Rattle.tbr_renderer.specs.Renderer.{kept_of, block_width}
 use Rattle.tbr_renderer.proofs.KeptRefusals.{on_err}
 use Rattle.tbr_tagged.specs.declared.Error.TheVariants.{OutOfMemory}
+use Rattle.tbr_decor.specs.Start as start
+use Rattle.tbr_decor.specs.Decoration.{decoration_of}
+use Rattle.tbr_renderer.specs.Calls.{begin, after}
 use Rattle.tbr_stack.specs.Stack.{top_of}
 use Rattle.tbr_stack.specs.Top.{ChangesTop, stack_meant}
 use Rattle.tbr_stack.proofs.Ends.{some_same}
-use Rattle.tbr_stack.proofs.Tops.{failure_of_top, top_linked, changes_linked, step_meant, of_top, if_ok, if_err}
+use Rattle.tbr_stack.proofs.Tops.{failure_of_top, top_linked, changes_linked, tries_linked, step_meant, if_ok, if_err}
 use Rattle.tbr_stack.proofs.links.TextRenderer+D+W.start_link.Goals as goal
 
 pub returns-in_err-keep-clause-left : goal.returns-in_err-keep-clause-left
@@ -16,16 +19,12 @@ returns-in_err-keep-clause-left g c unfailed =
     let left = step_meant g.D.TextDecorator.meaning (λ r q. q ≡ record r { failure = Some OutOfMemory }) _ (λ r q is. ap (meant g.D.TextDecorator.meaning) is) _ _ (c.in_err-keep.ensures).failed in
     on_err c.from_residual-in_err-keep.result (inl (subst (λ s. ChangesTop (λ r q. q ≡ record r { failure = Some OutOfMemory }) (stack_meant g.D.TextDecorator.meaning s) (stack_meant g.D.TextDecorator.meaning c.keep.new.self)) same left))
 
-pub returns-clause-ok : goal.returns-clause-ok
-returns-clause-ok g c =
+pub returns-clause-tries : goal.returns-clause-tries
+returns-clause-tries g c =
     let is = (c.in_ok-keep.ensures).ok ∙ if_ok c.open_link-done.result (c.in_ok-keep.ensures).result c.open_link-done.ensures.ok in
-    on_ok_weaker c.start_link.result (λ h. changes_linked g.D.TextDecorator.meaning _ (chars c.args.target.now) c.args.self.now c.keep.new.self c.top_mut.result.now c.start_link.new.self is c.top_mut.ensures.top h) c.start_link.ensures.answers.ok
-
-pub returns-clause-too_narrow : goal.returns-clause-too_narrow
-returns-clause-too_narrow g c unfailed refused =
-    let is = (c.in_ok-keep.ensures).ok ∙ if_ok c.open_link-done.result (c.in_ok-keep.ensures).result c.open_link-done.ensures.ok in
-    let top = sym (top_linked (chars c.args.target.now) c.args.self.now) ∙ sym (ap (λ s. top_of s) is) ∙ c.top_mut.ensures.top in
-    of_top g.D.TextDecorator.meaning _ c.args.self.now c.top_mut.result.now top (c.start_link.ensures.answers.too_narrow refused)
+    let answers = c.start_link.ensures.answers in
+    tries_linked g.D.TextDecorator.meaning (after g.W.CharWidth.columns (decoration_of g.D.TextDecorator) (begin (start.link (chars c.args.target.now)))) (chars c.args.target.now)
+    c.args.self.now c.keep.new.self c.top_mut.result.now c.start_link.new.self c.start_link.result is c.top_mut.ensures.top (record { ok = answers.ok; too_narrow = answers.too_narrow })
 
 pub returns-clause-two_columns : goal.returns-clause-two_columns
 returns-clause-two_columns g c unfailed wide refused =
