@@ -12,6 +12,7 @@ ghost use Rattle.tbr_renderer.specs.Renderer.{Open, Renderer, new_renderer, sett
 ghost use Rattle.tbr_renderer.specs.declared.options.RenderOptions.{RenderOptions};
 ghost use Rattle.tbr_tagged.specs.Outcome.{done};
 ghost use Rattle.tbr_renderer.specs.Flush.{after_flush};
+ghost use Rattle.tbr_renderer.specs.Decorated.{sub_renderer};
 ghost use Rattle.tbr_renderer.specs.Rows.{GivenCell, AppendsRow};
 ghost use Rattle.tbr_renderer.specs.Calls.{Call, Does, Steps, Brings, Shows};
 ghost use Rattle.text_block_renderer.specs.Settings.{settled};
@@ -35,11 +36,14 @@ pub fn a_call_changes_its_own_settings_alone<D, A>()
         Does columns decoration call r s → settings_of s ≡ settings_of (settled decoration call r) }
 {}
 
-/// Renderers are sound, as the laws ask: they have columns from the beginning, and no call or row takes these.
+/// Renderers are sound, as the laws ask: new ones and those for a block inside have columns, and no call or row takes
+/// these.
 pub fn renderers_stay_sound<D, A>()
     ensures new { (columns : ℕ → Option ℕ) → columns 32 ≡ Some 1 → (width : ℕ) (options : RenderOptions)
         (decorator : D) → 0 < width → options.wrap_width ≢ Some 0 →
         IsSound columns (new_renderer {D = D} {A = A} {T = List A} width options decorator) }
+    ensures inside { (columns : ℕ → Option ℕ) (decoration : Decoration D A) (width : ℕ) (r : Renderer D A (List A)) →
+        0 < width → IsSound columns r → IsSound columns (sub_renderer decoration width r) }
     ensures calls { (columns : ℕ → Option ℕ) (decoration : Decoration D A) (calls : List (Call (List A)))
         (r s : Renderer D A (List A)) →
         IsSound columns r → Steps columns decoration calls r s → IsSound columns s }
