@@ -43,8 +43,9 @@ def needed_by(*names):
     return [it for it in crates().values() if it.name in needed]
 
 
-def beside_others(*words):
+def beside_others(niceness, *words):
     """Runs a command of `rt` that keeps others out of its own crate alone. Nobody may change the crates below meanwhile."""
+    os.nice(int(niceness))
     own = rt().rtlib
     hold = own.lock
     own.lock = lambda crates: hold(crates[-1:])

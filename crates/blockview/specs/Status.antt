@@ -1,8 +1,8 @@
 -- With which status the program ends.
 use Rattle.std.specs.Prelude.{ℕ}
-use Rattle.tbr_view.specs.Problem.{status_of}
-use Rattle.tbr_view.specs.declared.problem.Refusal.{Refusal}
-use Rattle.tbr_view.specs.declared.problem.Refusal.TheVariants.{OutOfMemory, Script}
+use Rattle.tbr_statements.specs.Problem.{status_of}
+use Rattle.tbr_statements.specs.declared.problem.Refusal.{Refusal}
+use Rattle.tbr_statements.specs.declared.problem.Refusal.TheVariants.{OutOfMemory, Script}
 
 -- the status where a script isn't shown
 abbrev pub status_of_refusal : Refusal → ℕ

@@ -13,7 +13,8 @@ use std::process::ExitCode;
 use std::{env, fs, io};
 use tbr_lines::UnicodeColumns;
 use tbr_show::{AmbiguousWide, html};
-use tbr_view::{Format, Problem, Refusal, Settings, Shown, view};
+use tbr_statements::{Problem, Refusal};
+use tbr_view::{Format, Settings, Shown, view};
 
 mod arguments;
 mod report;

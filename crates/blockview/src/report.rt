@@ -1,7 +1,7 @@
 //! How problems are reported.
 
 use std::alloc::{AllocError, Global};
-use tbr_view::{Kind, Problem};
+use tbr_statements::{Kind, Problem};
 
 /// The characters of a line that are shown at most.
 const SHOWN: usize = 120;

@@ -4,9 +4,9 @@ use Rattle.tbr_tagged.specs.UnicodeColumns.{unicode_columns}
 use Rattle.tbr_decor.specs.Style.{style_of}
 use Rattle.tbr_script.specs.declared.error.RunError.{RunError}
 use Rattle.tbr_commands.specs.Command.{Command}
-use Rattle.tbr_runner.specs.Progress.{GoesOn, progress_meant}
-use Rattle.tbr_runner.specs.Decorations.{plain_decoration, trivial_decoration, rich_decoration}
-use Rattle.tbr_runner.specs.Meaning.{CommandDoes, CommandRefuses, Ends}
+use Rattle.tbr_program.specs.Progress.{GoesOn, progress_meant}
+use Rattle.tbr_program.specs.Decorations.{plain_decoration, trivial_decoration, rich_decoration}
+use Rattle.tbr_program.specs.Meaning.{CommandDoes, CommandRefuses, Ends}
 use Rattle.tbr_c_lines.specs.Copied.{IsCopied}
 use Rattle.tbr_c_lines.specs.Status.{fault_of, fault_of_command, status_of}
 use Rattle.tbr_c_lines.specs.Line.{Line, size_of}

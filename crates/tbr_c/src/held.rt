@@ -11,8 +11,8 @@ use std::marker::Model;
 use std::{mem, str};
 use tbr_c_lines::{Fault, Line, LineSize, Lines, Rest};
 use tbr_commands::{Command, Opening};
+use tbr_decor::DecoratorPrefix;
 use tbr_lines::Error;
-use tbr_runner::DecoratorPrefix;
 
 /// A renderer that C fills, then finishes, and then takes lines of.
 #[derive(Drop)]

@@ -3,7 +3,7 @@
 use crate::handle::{Handle, hand_back};
 use crate::state::Facts;
 use tbr_c_lines::{Fault, answer, copy_out, status};
-use tbr_runner::DecoratorPrefix;
+use tbr_decor::DecoratorPrefix;
 
 /// What a renderer answers of its innermost level.
 fn facts(renderer: Handle, back: &mut *mut u8) -> Result<Facts, Fault> {

@@ -6,8 +6,8 @@ ghost use Rattle.tbr_decor.specs.Decoration.{decoration_of};
 ghost use Rattle.tbr_script.specs.declared.error.RunError.{RunError as Unrun};
 ghost use Rattle.tbr_script.specs.declared.error.RunError.TheVariants as script;
 ghost use Rattle.tbr_commands.specs.Command.{command_of, IsSized};
-ghost use Rattle.tbr_runner.specs.Progress.{GoesOn, progress_meant};
-ghost use Rattle.tbr_runner.specs.Meaning.{CommandDoes, CommandRefuses, Ends};
+ghost use Rattle.tbr_program.specs.Progress.{GoesOn, progress_meant};
+ghost use Rattle.tbr_program.specs.Meaning.{CommandDoes, CommandRefuses, Ends};
 ghost use Rattle.tbr_c_lines.specs.Status.{fault_of_command};
 ghost use Rattle.tbr_c.specs.State.{CanGoOn, MayFinish, IsKept, HasEnded, Does, Refuses, EndsAs, HasNoLines, TakesLine, HasNoNext, CopiesRest};
 ghost use Rattle.tbr_c.specs.declared.state.State.TheVariants as S;
@@ -16,10 +16,12 @@ ghost use Rattle.tbr_c_lines.specs.declared.fault.Fault.TheVariants as F;
 use std::alloc::Global;
 use tbr_c_lines::{Fault, LineSize, Lines, Rest, of_command};
 use tbr_commands::{Command, Decorator, Opening};
-use tbr_decor::{PlainDecorator, RichDecorator, TextDecorator, TrivialDecorator};
+use tbr_decor::{
+    DecoratorPrefix, PlainDecorator, RichDecorator, TextDecorator, TrivialDecorator,
+};
 use tbr_lines::{Error, UnicodeColumns};
 use tbr_renderer::{RenderOptions, Renderer};
-use tbr_runner::{DecoratorPrefix, Program};
+use tbr_program::Program;
 use tbr_script::RunError;
 
 /// How far a renderer is.

@@ -5,6 +5,7 @@ pub use annotation::RichAnnotation;
 pub use colour::Colour;
 pub use decorator::TextDecorator;
 pub use plain::PlainDecorator;
+pub use prefix::DecoratorPrefix;
 pub use rich::RichDecorator;
 pub use trivial::TrivialDecorator;
 
@@ -12,6 +13,7 @@ mod annotation;
 mod colour;
 mod decorator;
 mod plain;
+mod prefix;
 mod rich;
 pub mod text;
 mod trivial;

@@ -1,11 +1,3 @@
-pub mod GivenPrefixes
-pub mod Levels
-pub mod MeantCommands
-pub mod LivePrograms
-pub mod Links
-pub mod Notes
-pub mod Rows
 pub mod LinesGive
 pub mod ScriptRefusals
-pub mod Results
 pub mod once

@@ -5,8 +5,8 @@ use Rattle.tbr_script.specs.Refusal.{IsOfScript}
 use Rattle.tbr_script.specs.declared.error.RunError.{RunError}
 use Rattle.tbr_script.specs.declared.error.RunError.TheVariants.{TooNarrow, NotACommand, NothingToEnd, RowDoesNotFit}
 use Rattle.tbr_commands.specs.Command.{Command, ask, link, end_link, sub, append, cell, end_cell, row, vertical_row}
-use Rattle.tbr_runner.specs.Progress.{Progress}
-use Rattle.tbr_runner.specs.Meaning.{CommandRefuses, LineRefuses, Ends}
+use Rattle.tbr_program.specs.Progress.{Progress}
+use Rattle.tbr_program.specs.Meaning.{CommandRefuses, LineRefuses, Ends}
 
 as_such : (e f : RunError) → e ≡ f → IsOfScript f → IsOfScript e
 as_such e f same h = subst IsOfScript (sym same) h

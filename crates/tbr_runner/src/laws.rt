@@ -1,6 +1,6 @@
 //! What holds of the meaning of scripts, as the contract of a function that does nothing.
 ghost use Rattle.std.specs.Prelude.{◌≡◌, ℕ, List, Option, Result};
-ghost use Rattle.tbr_runner.specs.Meaning.{Gives};
+ghost use Rattle.tbr_runner.specs.Scripts.{Gives};
 ghost use Rattle.tbr_script.specs.declared.error.RunError.{RunError};
 
 /// A script gives one thing: a text, or a refusal with its line.

@@ -5,17 +5,18 @@ ghost use Rattle.tbr_tagged.specs.UnicodeColumns.{unicode_columns};
 ghost use Rattle.tbr_script.specs.Streams.{AppendsBeginning};
 ghost use Rattle.tbr_decor.specs.Decoration.{decoration_of};
 ghost use Rattle.tbr_script.specs.Script.{lines_of};
-ghost use Rattle.tbr_runner.specs.Progress.{progress_meant, GoesOn};
-ghost use Rattle.tbr_runner.specs.Meaning.{Ends, LinesGive, started, Opens, Gives};
+ghost use Rattle.tbr_program.specs.Progress.{progress_meant, GoesOn};
+ghost use Rattle.tbr_program.specs.Meaning.{Ends, started};
+ghost use Rattle.tbr_runner.specs.Scripts.{LinesGive, Opens, Gives};
 ghost use Rattle.tbr_script.specs.declared.error.RunError.{RunError as Refusal};
 ghost use Rattle.tbr_script.specs.Refusal.{IsOfScript};
 
-use crate::program::Program;
 use std::alloc::Global;
 use std::convert::AsSlice;
 use tbr_commands::{Decorator, Opening};
 use tbr_decor::{PlainDecorator, RichDecorator, TextDecorator, TrivialDecorator};
 use tbr_lines::{CharWidth, UnicodeColumns};
+use tbr_program::Program;
 use tbr_script::{RunError, Sink, Source, split_line, write_all};
 
 /// Bytes that a read asks for at most.

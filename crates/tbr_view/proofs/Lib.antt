@@ -1,5 +1,2 @@
-mod NearWords
-mod Statements
 pub mod ShownLines
 mod States
-pub mod FirstWords

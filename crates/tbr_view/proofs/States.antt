@@ -19,16 +19,16 @@ use Rattle.tbr_commands.specs.declared.command.Command.TheVariants as asked
 use Rattle.tbr_commands.specs.declared.request.layout.Layout.TheVariants.{StartBlock}
 use Rattle.tbr_commands.specs.Request.{layout}
 use Rattle.tbr_commands.specs.Command.{ask, sub, command_of}
-use Rattle.tbr_runner.specs.Progress.{Progress, progress_meant}
-use Rattle.tbr_runner.specs.Meaning.{CommandDoes}
-use Rattle.tbr_runner.proofs.MeantCommands.{top_is_meant}
-use Rattle.tbr_view.specs.declared.block.Block.{Block}
-use Rattle.tbr_view.specs.declared.level.Level.{Level}
-use Rattle.tbr_view.specs.declared.level.Notes.{Notes}
-use Rattle.tbr_view.specs.declared.level.Opener.{Opener}
-use Rattle.tbr_view.specs.declared.level.Opener.TheVariants.{Block as OfBlock}
-use Rattle.tbr_view.specs.Block.{prefix_of, other_prefix, stands_apart, end_of}
-use Rattle.tbr_view.specs.Level.{Known, Leaves, innermost, opener_of, may_not_append, is_closed_by, known_outside, left, noted}
+use Rattle.tbr_program.specs.Progress.{Progress, progress_meant}
+use Rattle.tbr_program.specs.Meaning.{CommandDoes}
+use Rattle.tbr_program.proofs.MeantCommands.{top_is_meant}
+use Rattle.tbr_statements.specs.declared.block.Block.{Block}
+use Rattle.tbr_statements.specs.declared.level.Level.{Level}
+use Rattle.tbr_statements.specs.declared.level.Notes.{Notes}
+use Rattle.tbr_statements.specs.declared.level.Opener.{Opener}
+use Rattle.tbr_statements.specs.declared.level.Opener.TheVariants.{Block as OfBlock}
+use Rattle.tbr_statements.specs.Block.{prefix_of, other_prefix, stands_apart, end_of}
+use Rattle.tbr_statements.specs.Level.{Known, Leaves, innermost, opener_of, may_not_append, is_closed_by, known_outside, left, noted}
 use Rattle.tbr_view.specs.Session.{State, openers, state_of, opened_by, DoesIf, Commands, BlockOpens, BlockAppends, BlockCloses, LineDoes, LinesDo}
 
 -- ---- lists of levels

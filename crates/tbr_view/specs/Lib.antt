@@ -1,9 +1,3 @@
-pub mod Block
-pub mod Statement
-pub mod Words
-pub mod Fault
-pub mod Problem
-pub mod Level
 pub mod Script
 pub mod Session
 pub mod Shown

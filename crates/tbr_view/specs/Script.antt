@@ -4,11 +4,11 @@ use Rattle.std.specs.List.{AllByRecursion as Each}
 use Rattle.tbr_script.specs.Script.{lines_of}
 use Rattle.tbr_commands.specs.Opening.{IsOpening}
 use Rattle.tbr_commands.specs.declared.opening.Opening.{Opening}
-use Rattle.tbr_view.specs.Statement.{is_skipped}
-use Rattle.tbr_view.specs.Level.{held}
-use Rattle.tbr_view.specs.Problem.{Tells}
-use Rattle.tbr_view.specs.declared.problem.Kind.TheVariants.{NotACommand}
-use Rattle.tbr_view.specs.declared.problem.Refusal.{Refusal}
+use Rattle.tbr_statements.specs.Statement.{is_skipped}
+use Rattle.tbr_statements.specs.Level.{held}
+use Rattle.tbr_statements.specs.Problem.{Tells}
+use Rattle.tbr_statements.specs.declared.problem.Kind.TheVariants.{NotACommand}
+use Rattle.tbr_statements.specs.declared.problem.Refusal.{Refusal}
 
 -- lines that ask for nothing
 abbrev pub AreSkipped : List (List ℕ) → Type 0

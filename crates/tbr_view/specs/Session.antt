@@ -17,22 +17,22 @@ use Rattle.tbr_commands.specs.declared.opening.Opening.{Opening}
 use Rattle.tbr_commands.specs.declared.request.layout.Layout.TheVariants.{StartBlock, EndBlock}
 use Rattle.tbr_commands.specs.Request.{layout}
 use Rattle.tbr_commands.specs.Command.{Command, ask, sub, append, command_of}
-use Rattle.tbr_runner.specs.Progress.{Progress, progress_meant}
+use Rattle.tbr_program.specs.Progress.{Progress, progress_meant}
 use Rattle.tbr_tagged.specs.Outcome.{done}
-use Rattle.tbr_runner.specs.Closing.{closed}
-use Rattle.tbr_runner.specs.Meaning.{CommandDoes, started}
-use Rattle.tbr_view.specs.declared.block.Block.{Block}
-use Rattle.tbr_view.specs.declared.level.Level.{Level}
-use Rattle.tbr_view.specs.declared.level.Opener.{Opener}
-use Rattle.tbr_view.specs.declared.level.Opener.TheVariants.{Sub, Cell, Block as OfBlock}
-use Rattle.tbr_view.specs.declared.problem.Problem.{Problem}
-use Rattle.tbr_view.specs.declared.problem.Kind.TheVariants.{LinesLost}
-use Rattle.tbr_view.specs.declared.statement.Statement.{Statement}
-use Rattle.tbr_view.specs.declared.statement.Statement.TheVariants as statement
-use Rattle.tbr_view.specs.Problem.{IsOf}
-use Rattle.tbr_view.specs.Block.{prefix_of, other_prefix, stands_apart, end_of}
-use Rattle.tbr_view.specs.Statement.{IsStatement, is_skipped}
-use Rattle.tbr_view.specs.Level.{innermost, may_not_append}
+use Rattle.tbr_program.specs.Closing.{closed}
+use Rattle.tbr_program.specs.Meaning.{CommandDoes, started}
+use Rattle.tbr_statements.specs.declared.block.Block.{Block}
+use Rattle.tbr_statements.specs.declared.level.Level.{Level}
+use Rattle.tbr_statements.specs.declared.level.Opener.{Opener}
+use Rattle.tbr_statements.specs.declared.level.Opener.TheVariants.{Sub, Cell, Block as OfBlock}
+use Rattle.tbr_statements.specs.declared.problem.Problem.{Problem}
+use Rattle.tbr_statements.specs.declared.problem.Kind.TheVariants.{LinesLost}
+use Rattle.tbr_statements.specs.declared.statement.Statement.{Statement}
+use Rattle.tbr_statements.specs.declared.statement.Statement.TheVariants as statement
+use Rattle.tbr_statements.specs.Problem.{IsOf}
+use Rattle.tbr_statements.specs.Block.{prefix_of, other_prefix, stands_apart, end_of}
+use Rattle.tbr_statements.specs.Statement.{IsStatement, is_skipped}
+use Rattle.tbr_statements.specs.Level.{innermost, may_not_append}
 
 -- ---- lines that are lost
 

@@ -18,7 +18,7 @@ use Rattle.text_block_renderer.specs.Tags.{tag_meant}
 use Rattle.text_block_renderer.specs.Meant.{map_line}
 use Rattle.text_block_renderer.specs.Line.{line_seen}
 use Rattle.tbr_script.specs.Script.{lines_of}
-use Rattle.tbr_runner.specs.Decorations.{plain_decoration, trivial_decoration, rich_decoration}
+use Rattle.tbr_program.specs.Decorations.{plain_decoration, trivial_decoration, rich_decoration}
 use Rattle.tbr_commands.specs.declared.opening.Decorator.{Decorator}
 use Rattle.tbr_commands.specs.declared.opening.Decorator.TheVariants.{Plain, Trivial, Rich}
 use Rattle.tbr_commands.specs.declared.opening.Opening.{Opening}

@@ -10,17 +10,15 @@ ghost use Rattle.tbr_view.specs.Script.{Begins, BeginsNot};
 ghost use Rattle.tbr_view.specs.Session.{LinesGive, begun};
 ghost use Rattle.tbr_view.specs.Shown.{IsShown, opening_in};
 
-use crate::advice;
-use crate::problem::{Problem, Refusal};
 use crate::session::Session;
 use crate::show::show;
-use crate::statement::is_skipped;
 use std::alloc::Global;
 use std::collections::LinkedList;
 use tbr_commands::{Decorator, Opening};
 use tbr_decor::{PlainDecorator, RichDecorator, TextDecorator, TrivialDecorator};
 use tbr_lines::{CharWidth, RenderLine};
 use tbr_script::split_line;
+use tbr_statements::{Problem, Refusal, advice, is_skipped};
 
 /// What is written.
 #[derive(Clone, Copy, Debug, PartialEq, Eq)]

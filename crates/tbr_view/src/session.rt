@@ -4,27 +4,25 @@ ghost use Rattle.tbr_decor.specs.Decoration.{decoration_of};
 ghost use Rattle.tbr_commands.specs.Command.{command_of, ask};
 ghost use Rattle.tbr_commands.specs.Command as asked;
 ghost use Rattle.tbr_commands.specs.Request.{layout as laid};
-ghost use Rattle.tbr_runner.specs.Meaning.{CommandDoes};
-ghost use Rattle.tbr_runner.specs.Progress.{GoesOn, progress_meant};
+ghost use Rattle.tbr_program.specs.Meaning.{CommandDoes};
+ghost use Rattle.tbr_program.specs.Progress.{GoesOn, progress_meant};
 ghost use Rattle.text_block_renderer.specs.Tags.{tag_meant};
 ghost use Rattle.text_block_renderer.specs.Meant.{map_line};
 ghost use Rattle.text_block_renderer.specs.Line.{line_seen};
-ghost use Rattle.tbr_view.specs.Level.{innermost, opener_of, may_not_append, known_in, noted, takes_two};
+ghost use Rattle.tbr_statements.specs.Level.{innermost, opener_of, may_not_append, known_in, noted, takes_two};
 ghost use Rattle.tbr_view.specs.Session as model;
-ghost use Rattle.tbr_view.specs.Statement.{IsSized};
+ghost use Rattle.tbr_statements.specs.Statement.{IsSized};
 
-use crate::advice;
-use crate::block::Block;
-use crate::level::{Levels, Opener, TooWide};
-use crate::problem::{Problem, Refusal};
-use crate::statement::{Statement, is_skipped};
 use std::alloc::{AllocError, Global};
 use std::collections::LinkedList;
 use tbr_commands::{Command, Layout, Opening, Request};
 use tbr_decor::TextDecorator;
 use tbr_lines::{CharWidth, RenderLine, text_width};
-use tbr_runner::Program;
+use tbr_program::Program;
 use tbr_script::{RunError, TextPair};
+use tbr_statements::{
+    Block, Levels, Opener, Problem, Refusal, Statement, TooWide, advice, is_skipped,
+};
 use text_block_renderer::Renderer;
 
 /// A script of which some lines were done.

@@ -16,12 +16,13 @@ use Rattle.tbr_renderer.specs.Renderer.{Open, Renderer, Settings, settings_of, w
 use Rattle.tbr_renderer.specs.Rows.{GivenCell, border_lines, with_next, with_row, PutsRow}
 use Rattle.tbr_kept_lines.specs.LastBorder.{before_border}
 use Rattle.tbr_renderer.specs.Appended.{border_line}
-use Rattle.tbr_renderer.specs.Calls.{Call, new_line, Does, entries_brought, Brings, laid_entries}
-use Rattle.tbr_tagged.specs.Outcome.{done}
+use Rattle.tbr_renderer.specs.Calls.{Call, new_line, after, Does, entries_brought, Brings, laid_entries}
+use Rattle.tbr_tagged.specs.Outcome.{Outcome, done, refused}
 use Rattle.tbr_renderer.specs.Outcomes.{and_then, told_by}
 use Rattle.tbr_renderer.proofs.SettingsStay.{Steady, lines_added}
+use Rattle.text_block_renderer.specs.EndedRuns.{EndedRun, flush_ends, call_ends, runs_ended}
 use Rattle.text_block_renderer.specs.Stretches.{Part, ended, laid, ruled, lines_laid, IsPart, ComesInParts}
-use Rattle.text_block_renderer.specs.Acts.{Act, call, row, rows_of, ActBrings, ActsBring, Piece, part, put, cells_in, rows_in, border_lines_of, lines_of_piece, entries_of_piece, IsPiece, StaysLine, ComesInPieces}
+use Rattle.text_block_renderer.specs.Acts.{Act, call, row, rows_of, ActBrings, ActsBring, Piece, part, put, cells_in, rows_in, border_lines_of, lines_of_piece, entries_of_piece, run_of_piece, act_ends, acts_end, IsPiece, StaysLine, ComesInPieces}
 use Rattle.text_block_renderer.proofs.Moves.{any, Frame, frame, frame_of_lines, sound_alike, flushed_none, path_width, path_options, path_hanging}
 use Rattle.text_block_renderer.proofs.CallMoves.{calls_move}
 use Rattle.text_block_renderer.proofs.LineParts.{brings_parts}
@@ -52,7 +53,7 @@ module _ {D A : Type 0} (columns : ℕ → Option ℕ) where
   }
 
   part_of_other : (r q : Renderer D A (List A)) → q.width ≡ r.width → q.options ≡ r.options → (p : Part D A) → IsPart columns q p → IsPart columns r p
-  part_of_other r q width options (ended t b texts) h = record { width = h.width ∙ width; options = h.options ∙ options; block = h.block; names = h.names; ends = h.ends }
+  part_of_other r q width options (ended t b texts) h = record { width = h.width ∙ width; options = h.options ∙ options; block = h.block; are_its = h.are_its; names = h.names; ends = h.ends }
   part_of_other r q width options (laid t is) h = record { width = h.width ∙ width; options = h.options ∙ options; block = h.block }
   part_of_other r q width options (ruled t cells) h = record { width = h.width ∙ width; options = h.options ∙ options; block = h.block }
 
@@ -148,38 +149,47 @@ module _ {D A : Type 0} (columns : ℕ → Option ℕ) where
     rows_one (row collapses cells) acts = refl
 
     -- What came in pieces, to a renderer that is the same but for what calls and rows may change.
-    pub record Along (xs : List (List (GivenCell (List A)))) (r : Renderer D A (List A)) (es : List (Entry (List A))) (s : Renderer D A (List A)) : Type 0 where
+    pub record Along (xs : List (List (GivenCell (List A)))) (rs : List (EndedRun D A)) (r : Renderer D A (List A)) (es : List (Entry (List A))) (s : Renderer D A (List A)) : Type 0 where
       pub width : s.width ≡ r.width
       pub options : s.options ≡ r.options
       pub came : ComesInPieces columns xs r es s
+      pub runs : flat_map (run_of_piece columns) came.pieces ≡ rs
       pub chain : Chain columns r.options.draw_borders r.hanging (rows_in came.pieces) s.hanging
 
-    along_on : (xs ys : List (List (GivenCell (List A)))) (r q s : Renderer D A (List A)) (es fs : List (Entry (List A))) → Along xs r es q → Along ys q fs s → Along (xs ++ ys) r (es ++ fs) s
+    along_on : (xs ys : List (List (GivenCell (List A)))) (rs ss : List (EndedRun D A)) (r q s : Renderer D A (List A)) (es fs : List (Entry (List A))) → Along xs rs r es q → Along ys ss q fs s → Along (xs ++ ys) (rs ++ ss) r (es ++ fs) s
     unfolding come_on
-    along_on xs ys r q s es fs h k =
+    along_on xs ys rs ss r q s es fs h k =
         let behind : Chain columns r.options.draw_borders q.hanging (rows_in k.came.pieces) s.hanging =
         subst (λ (o : RenderOptions). Chain columns o.draw_borders q.hanging (rows_in k.came.pieces) s.hanging) h.options k.chain in
         record {
           width = k.width ∙ h.width;
           options = k.options ∙ h.options;
           came = come_on xs ys r q s es fs h.width h.options h.came k.came;
+          runs = flat_map-append (run_of_piece columns) h.came.pieces k.came.pieces ∙ ap (λ ts. ts ++ flat_map (run_of_piece columns) k.came.pieces) h.runs ∙ ap (λ ts. rs ++ ts) k.runs;
           chain = subst (λ rows. Chain columns r.options.draw_borders r.hanging rows s.hanging) (sym (rows_append h.came.pieces k.came.pieces))
               (chain_append columns r.options.draw_borders r.hanging (rows_in h.came.pieces) q.hanging (rows_in k.came.pieces) s.hanging h.chain behind);
         }
 
-    call_along : (c : Call (List A)) (r s : Renderer D A (List A)) (es : List (Entry (List A))) → IsSound columns r → Brings columns decoration (c ∷ []) r es s → Along [] r es s
+    -- what a call alone ends
+    one_ends : (c : Call (List A)) (o : Outcome (Renderer D A (List A))) (r : Renderer D A (List A)) → call_ends decoration c r ++ told_by (λ t. []) o ≡ call_ends decoration c r
+    one_ends c (done s) r = append-nil (call_ends decoration c r)
+    one_ends c (refused e) r = append-nil (call_ends decoration c r)
+
+    call_along : (c : Call (List A)) (r s : Renderer D A (List A)) (es : List (Entry (List A))) → IsSound columns r → Brings columns decoration (c ∷ []) r es s → Along [] (call_ends decoration c r) r es s
     unfolding as_pieces
     call_along c r s es sound h =
         let path = calls_move columns any decoration (c ∷ []) r s es tt h in
-        let parts = (brings_parts columns decoration (c ∷ []) r s es sound h).0 in
+        let (parts, borders, runs) = brings_parts columns decoration (c ∷ []) r s es sound h in
+        let none : runs_ended decoration columns (c ∷ []) r ≡ call_ends decoration c r = one_ends c (after columns decoration c r) r in
         record {
           width = path_width columns any r s es _ path;
           options = path_options columns any r s es _ path;
           came = as_pieces r s es parts;
+          runs = flat_map_map (run_of_piece columns) part parts.parts ∙ runs ∙ none;
           chain = subst (λ rows. Chain columns r.options.draw_borders r.hanging rows s.hanging) (sym (no_rows parts.parts)) (path_hanging columns any r s es _ path);
         }
 
-    row_along : (collapses : Bool) (cells : List (GivenCell (List A))) (m s : Renderer D A (List A)) → m.block ≡ None → s.block ≡ None → (puts : PutsRow columns collapses cells m s) → Along (cells ∷ []) m (laid_entries (joined puts.row.lines)) s
+    row_along : (collapses : Bool) (cells : List (GivenCell (List A))) (m s : Renderer D A (List A)) → m.block ≡ None → s.block ≡ None → (puts : PutsRow columns collapses cells m s) → Along (cells ∷ []) [] m (laid_entries (joined puts.row.lines)) s
     unfolding put_piece
     row_along collapses cells m s none closed puts =
         let seen = puts.row in
@@ -188,32 +198,37 @@ module _ {D A : Type 0} (columns : ℕ → Option ℕ) where
           width = ap (λ (f : Frame A). f.width) same;
           options = ap (λ (f : Frame A). f.options) same;
           came = put_piece collapses cells m s none closed puts;
+          runs = refl;
           chain = (refl, refl, ap (λ (f : Frame A). f.hanging) same);
         }
 
-    act_along : (act : Act (List A)) (r s : Renderer D A (List A)) (es : List (Entry (List A))) → IsSound columns r → ActBrings columns decoration act r es s → Along (rows_of (act ∷ [])) r es s
+    act_along : (act : Act (List A)) (r s : Renderer D A (List A)) (es : List (Entry (List A))) → IsSound columns r → ActBrings columns decoration act r es s → Along (rows_of (act ∷ [])) (act_ends columns decoration act r) r es s
     act_along (call c) r s es sound h = call_along c r s es sound (alone c r s es h.0 h.1)
     act_along (row collapses cells) r s es sound h =
         let (m, flushed, puts, is) = h in
         let first = call_along new_line r m [] sound (alone new_line r m [] flushed refl) in
         let closed = row_closed columns collapses cells r s (m, flushed, puts) in
         let second = row_along collapses cells m s (flushed_none columns r m (row_flushes columns r m flushed)) closed puts in
-        subst (λ fs. Along (cells ∷ []) r fs s) (sym is) (along_on [] (cells ∷ []) r m s [] (laid_entries (joined puts.row.lines)) first second)
+        subst (λ (ss : List (EndedRun D A)). Along (cells ∷ []) ss r es s) (append-nil (flush_ends r))
+        (subst (λ fs. Along (cells ∷ []) (flush_ends r ++ []) r fs s) (sym is) (along_on [] (cells ∷ []) (flush_ends r) [] r m s [] (laid_entries (joined puts.row.lines)) first second))
 
-    pub acts_along : (acts : List (Act (List A))) (r s : Renderer D A (List A)) (es : List (Entry (List A))) → IsSound columns r → ActsBring columns decoration acts r es s → Along (rows_of acts) r es s
+    pub acts_along : (acts : List (Act (List A))) (r s : Renderer D A (List A)) (es : List (Entry (List A))) → IsSound columns r → (brings : ActsBring columns decoration acts r es s) → Along (rows_of acts) (acts_end columns decoration acts r s es brings) r es s
     acts_along [] r s es sound h =
-        subst (λ (q : Renderer D A (List A)). Along [] r es q) (sym h.0) (subst (λ fs. Along [] r fs r) (sym h.1) (record {
+        subst (λ (q : Renderer D A (List A)). Along [] [] r es q) (sym h.0) (subst (λ fs. Along [] [] r fs r) (sym h.1) (record {
           width = refl;
           options = refl;
           came = record { pieces = []; are = tt; lines = subst (λ ls. AllZip StaysLine ls r.lines) (sym (append-nil r.lines)) (all_stay r.lines); entries = append-nil (open_run r.block); put_rows = refl };
+          runs = refl;
           chain = refl;
         }))
     acts_along (act ∷ acts) r s es sound h =
         let (m, first, rest, does, others, is) = h in
         let here = act_along act r m first sound does in
         let still = sound_alike columns r m here.width here.options sound in
-        subst (λ fs. Along (rows_of (act ∷ acts)) r fs s) (sym is)
-        (subst (λ xs. Along xs r (first ++ rest) s) (sym (rows_one act acts)) (along_on (rows_of (act ∷ [])) (rows_of acts) r m s first rest here (acts_along acts m s rest still others)))
+        let ends = act_ends columns decoration act r in
+        let later = acts_end columns decoration acts m s rest others in
+        subst (λ fs. Along (rows_of (act ∷ acts)) (ends ++ later) r fs s) (sym is)
+        (subst (λ xs. Along xs (ends ++ later) r (first ++ rest) s) (sym (rows_one act acts)) (along_on (rows_of (act ∷ [])) (rows_of acts) ends later r m s first rest here (acts_along acts m s rest still others)))
 
     pub act_sound : (act : Act (List A)) (r s : Renderer D A (List A)) (es : List (Entry (List A))) → IsSound columns r → ActBrings columns decoration act r es s → (s.options ≡ r.options) × IsSound columns s
     act_sound act r s es sound h = let along = act_along act r s es sound h in (along.options, sound_alike columns r s along.width along.options sound)

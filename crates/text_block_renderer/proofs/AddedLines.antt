@@ -34,14 +34,14 @@ module _ {D A : Type 0} (columns : ℕ → Option ℕ) where
       let g = lines_grow (block_lines columns r b (lines_at_end columns r b)) (record r { block = None }) in
       (g.0, ap (λ (q : Renderer D A (List A)). q.lines) h.is ∙ g.1)
 
-  move_grows : (m : Move (List A)) (r s : Renderer D A (List A)) → Makes columns any m r s → Grows r s
-  move_grows flush r s h = flush_grows r s r.block h
+  move_grows : (m : Move D A) (r s : Renderer D A (List A)) → Makes columns any m r s → Grows r s
+  move_grows (flush q) r s h = flush_grows r s r.block h.1
   move_grows (line is) r s h = (_, ap (λ (q : Renderer D A (List A)). q.lines) h.2)
   move_grows (rule cells) r s h = (_, ap (λ (q : Renderer D A (List A)). q.lines) h.2)
   move_grows (join es) r s h = stays r s (ap (λ (q : Renderer D A (List A)). q.lines) h)
   move_grows turn r s h = stays r s h.lines
 
-  pub moves_grow : (ms : List (Move (List A))) (r s : Renderer D A (List A)) → MakesAll columns any ms r s → Grows r s
+  pub moves_grow : (ms : List (Move D A)) (r s : Renderer D A (List A)) → MakesAll columns any ms r s → Grows r s
   moves_grow = through columns any Grows (λ r s e. stays r s (ap (λ (q : Renderer D A (List A)). q.lines) e)) grows_on move_grows
 
   pub steps_grow : (decoration : Decoration D A) (calls : List (Call (List A))) (r s : Renderer D A (List A)) → Steps columns decoration calls r s → Grows r s

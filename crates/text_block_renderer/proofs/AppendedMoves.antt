@@ -15,7 +15,8 @@ use Rattle.tbr_renderer.proofs.FlushedBlocks.{FlushesBlock}
 use Rattle.tbr_renderer.proofs.CallParts.{FlushesThen}
 use Rattle.tbr_renderer.specs.Appended.{with_border, border_of_cells, as_text, prefixed, with_divider, with_cell, with_cell_below, with_cells}
 use Rattle.tbr_renderer.specs.Calls.{laid_entry, laid_entries}
-use Rattle.text_block_renderer.proofs.Moves.{flush, line, rule, Kind, MayLay, MayRule, Course, Path, onward, one, stays, flushed_none}
+use Rattle.text_block_renderer.specs.EndedRuns.{flush_ends}
+use Rattle.text_block_renderer.proofs.Moves.{line, rule, Kind, MayLay, MayRule, Course, Path, onward, one, flushed_first, stays, flushed_none}
 
 -- ---- borders of rows
 
@@ -77,16 +78,17 @@ module _ {D A : Type 0} (columns : ℕ → Option ℕ) (kind : Kind) where
       subst (λ (es : List (Entry (List A))). Path columns kind q (fold (with_line columns) r ts) es) (sym (map-append laid_entry t (joined ts)))
       (onward columns kind q r (fold (with_line columns) r ts) (laid_entries t) (laid_entries (joined ts)) (one columns kind (line t) q r (may t, none, refl)) (lines_put ts r may none))
 
-  pub lines_appended : (prefixes : List (List ℕ)) (lines : List (Line (List A))) (r s : Renderer D A (List A)) → ((is : List (Item (List A))) → MayLay kind is) → FlushesThen columns (λ m. fold (with_line columns) m (prefixed r.annotations prefixes lines)) r s → Path columns kind r s (laid_entries (joined (prefixed r.annotations prefixes lines)))
+  pub lines_appended : (prefixes : List (List ℕ)) (lines : List (Line (List A))) (r s : Renderer D A (List A)) → ((is : List (Item (List A))) → MayLay kind is) → FlushesThen columns (λ m. fold (with_line columns) m (prefixed r.annotations prefixes lines)) r s →
+      Course columns kind r s (laid_entries (joined (prefixed r.annotations prefixes lines))) [] (flush_ends r)
   lines_appended prefixes lines r s may h =
       let texts = prefixed r.annotations prefixes lines in
       let put = subst (λ (q : Renderer D A (List A)). Path columns kind h.0 q (laid_entries (joined texts))) (sym h.2) (lines_put texts h.0 may (flushed_none columns r h.0 h.1)) in
-      onward columns kind r h.0 s [] (laid_entries (joined texts)) (one columns kind flush r h.0 h.1) put
+      flushed_first columns kind r h.0 s (laid_entries (joined texts)) h.1 put
 
-  pub border_added : (width : ℕ) (r s : Renderer D A (List A)) → ((q : Renderer D A (List A)) → q.options ≡ r.options → MayRule kind q) → FlushesThen columns (λ m. with_border columns m (border_of_cells horizontal width r)) r s → Course columns kind r s [] (replicate width horizontal ∷ [])
+  pub border_added : (width : ℕ) (r s : Renderer D A (List A)) → ((q : Renderer D A (List A)) → q.options ≡ r.options → MayRule kind q) → FlushesThen columns (λ m. with_border columns m (border_of_cells horizontal width r)) r s → Course columns kind r s [] (replicate width horizontal ∷ []) (flush_ends r)
   border_added width r s may h =
       let joins = joins_flushed r h.0 r.block refl h.1 in
-      onward columns kind r h.0 s [] [] (one columns kind flush r h.0 h.1)
+      flushed_first columns kind r h.0 s [] h.1
       (one columns kind (rule (replicate width horizontal)) h.0 s
       (may h.0 joins.options, joins.block, h.2 ∙ ap (λ tag. with_border columns h.0 (without_holes (replicate width horizontal) tag)) (sym joins.annotations)))
 
@@ -99,7 +101,7 @@ module _ {D A : Type 0} (columns : ℕ → Option ℕ) (kind : Kind) where
 
     -- `q` leads to `s` by a border, and `s` joins the lines of `r`
     record Divided (q s : Renderer D A (List A)) (bs : List (List Cell)) : Type 0 where
-      path : Course columns kind q s [] bs
+      path : Course columns kind q s [] bs []
       joins : Joins r s
 
     divided : (cell : Cell) (q : Renderer D A (List A)) → Joins r q → Divided q (with_divider columns cell q) (divider cell)
@@ -119,7 +121,7 @@ module _ {D A : Type 0} (columns : ℕ → Option ℕ) (kind : Kind) where
         subst (λ (tag : List A). Path columns kind q (with_cell columns q lines) (laid_entries (joined (map (as_text tag) lines)))) h.annotations
         (lines_put (map (as_text q.annotations) lines) q may_lay h.block)
 
-    cells_below : (cells : List (List (Line (List A)))) (q : Renderer D A (List A)) → Joins r q → Course columns kind q (fold (with_cell_below columns) q cells) (laid_entries (joined (flat_map (map (as_text r.annotations)) cells))) (slashes cells)
+    cells_below : (cells : List (List (Line (List A)))) (q : Renderer D A (List A)) → Joins r q → Course columns kind q (fold (with_cell_below columns) q cells) (laid_entries (joined (flat_map (map (as_text r.annotations)) cells))) (slashes cells) []
     cells_below [] q h = stays columns kind q q refl
     cells_below (lines ∷ cells) q h =
         let d = divided slash q h in
@@ -129,7 +131,7 @@ module _ {D A : Type 0} (columns : ℕ → Option ℕ) (kind : Kind) where
         let texts = map (as_text r.annotations) lines in
         let rest = flat_map (map (as_text r.annotations)) cells in
         let joins = joins_lines (map (as_text p.annotations) lines) r p d.joins in
-        subst (λ (es : List (Entry (List A))). Course columns kind q s es (slashes (lines ∷ cells))) (sym (ap laid_entries (joined-append texts rest) ∙ map-append laid_entry (joined texts) (joined rest)))
+        subst (λ (es : List (Entry (List A))). Course columns kind q s es (slashes (lines ∷ cells)) []) (sym (ap laid_entries (joined-append texts rest) ∙ map-append laid_entry (joined texts) (joined rest)))
         (onward columns kind q p s [] (laid_entries (joined texts) ++ laid_entries (joined rest)) d.path
         (onward columns kind p n s (laid_entries (joined texts)) (laid_entries (joined rest)) (cell_put lines p d.joins) (cells_below cells n joins)))
 
@@ -143,7 +145,7 @@ module _ {D A : Type 0} (columns : ℕ → Option ℕ) (kind : Kind) where
     abbrev between : List (List (Line (List A))) → List (List Cell)
     between cells = slashes_between r.options.draw_borders r.width cells
 
-    cells_put : (cells : List (List (Line (List A)))) (q : Renderer D A (List A)) → Joins r q → Course columns kind q (with_cells columns q cells) (laid_entries (joined (flat_map (map (as_text r.annotations)) cells))) (between cells)
+    cells_put : (cells : List (List (Line (List A)))) (q : Renderer D A (List A)) → Joins r q → Course columns kind q (with_cells columns q cells) (laid_entries (joined (flat_map (map (as_text r.annotations)) cells))) (between cells) []
         × Joins r (with_cells columns q cells)
     cells_put [] q h = (stays columns kind q q refl, h)
     cells_put (lines ∷ cells) q h =
@@ -152,18 +154,18 @@ module _ {D A : Type 0} (columns : ℕ → Option ℕ) (kind : Kind) where
         let texts = map (as_text r.annotations) lines in
         let rest = flat_map (map (as_text r.annotations)) cells in
         let joins = joins_lines (map (as_text q.annotations) lines) r q h in (
-          subst (λ (es : List (Entry (List A))). Course columns kind q s es (slashes cells)) (sym (ap laid_entries (joined-append texts rest) ∙ map-append laid_entry (joined texts) (joined rest)))
+          subst (λ (es : List (Entry (List A))). Course columns kind q s es (slashes cells) []) (sym (ap laid_entries (joined-append texts rest) ∙ map-append laid_entry (joined texts) (joined rest)))
               (onward columns kind q n s (laid_entries (joined texts)) (laid_entries (joined rest)) (cell_put lines q h) (cells_below cells n joins)),
           joins_below cells n joins,
         )
 
     pub cells_appended : (cells : List (List (Line (List A)))) (s : Renderer D A (List A)) → FlushesThen columns (λ m. with_divider columns horizontal (with_cells columns m cells)) r s →
-        Course columns kind r s (laid_entries (joined (flat_map (map (as_text r.annotations)) cells))) (if r.options.draw_borders then row_borders r.width (length cells) else [])
+        Course columns kind r s (laid_entries (joined (flat_map (map (as_text r.annotations)) cells))) (if r.options.draw_borders then row_borders r.width (length cells) else []) (flush_ends r)
     cells_appended cells s h =
         let es = laid_entries (joined (flat_map (map (as_text r.annotations)) cells)) in
         let p : Renderer D A (List A) = with_cells columns h.0 cells in
         let (path, joins) = cells_put cells h.0 (joins_flushed r h.0 r.block refl h.1) in
         let d = divided horizontal p joins in
-        let last = subst (λ (q : Renderer D A (List A)). Course columns kind p q [] (divider horizontal)) (sym h.2) d.path in
-        subst (Course columns kind r s es) (row_is r.options.draw_borders r.width cells)
-        (onward columns kind r h.0 s [] es (one columns kind flush r h.0 h.1) (subst (λ (fs : List (Entry (List A))). Course columns kind h.0 s fs (between cells ++ divider horizontal)) (append-nil es) (onward columns kind h.0 p s es [] path last)))
+        let last = subst (λ (q : Renderer D A (List A)). Course columns kind p q [] (divider horizontal) []) (sym h.2) d.path in
+        subst (λ bs. Course columns kind r s es bs (flush_ends r)) (row_is r.options.draw_borders r.width cells)
+        (flushed_first columns kind r h.0 s es h.1 (subst (λ (fs : List (Entry (List A))). Course columns kind h.0 s fs (between cells ++ divider horizontal) []) (append-nil es) (onward columns kind h.0 p s es [] path last)))

@@ -293,8 +293,8 @@ module _ {D A : Type 0} (columns : ℕ → Option ℕ) where
       let same : items_so_far s ≡ items_so_far r = ap (λ (ls : List (Line (List A))). text_of_lines ls ++ marker_items s.waiting) h.lines ∙ ap (λ ns. text_of_lines r.lines ++ marker_items ns) h.waiting in
       as_before r s es k.ended (same_seen r s same) (ap (λ (o : Option (Open (List A))). k.ended ++ open_run o) h.block ∙ k.whole) (stand r es k)
 
-  move_stands : (m : Move (List A)) (r s : Renderer D A (List A)) (es : List (Entry (List A))) → Makes columns undrawn m r s → IsSound columns r → Stands columns r es → Stands columns s (es ++ brought_by m)
-  move_stands flush r s es h sound k = subst (Stands columns s) (sym (append-nil es)) (flush_stands r s r.block es refl h sound k)
+  move_stands : (m : Move D A) (r s : Renderer D A (List A)) (es : List (Entry (List A))) → Makes columns undrawn m r s → IsSound columns r → Stands columns r es → Stands columns s (es ++ brought_by m)
+  move_stands (flush q) r s es h sound k = subst (Stands columns s) (sym (append-nil es)) (flush_stands r s r.block es refl h.1 sound k)
   move_stands (line is) r s es h sound k = put_stands r s is es h.1 h.2 k
   move_stands (rule cells) r s es h sound k = subst (Stands columns s) (sym (append-nil es)) (rule_stands r s (without_holes cells r.annotations) es h.0 h.2 k)
   move_stands (join more) r s es h sound k = join_stands r s more es h k

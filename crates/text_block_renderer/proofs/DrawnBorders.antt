@@ -14,7 +14,7 @@ use Rattle.tbr_model.specs.Markers.{marker_items}
 use Rattle.tbr_renderer.specs.Flush.{block_lines, flushed, lines_at_end, names_at_end}
 use Rattle.tbr_renderer.proofs.FlushedBlocks.{FlushesBlock}
 use Rattle.tbr_renderer.specs.Appended.{border_line, with_border}
-use Rattle.tbr_renderer.specs.Calls.{Call, Steps, Brings, brought as all_brought}
+use Rattle.tbr_renderer.specs.Calls.{laid_entries, Call, Steps, Brings, brought as all_brought}
 use Rattle.text_block_renderer.specs.Drawn.{as_it_is, drawn, line_put, not_drawn, cells_drawn, AreDrawnAmong, WithoutDrawnBorders, CameWithoutDrawnBorders, borders_drawn, DrawNone}
 use Rattle.text_block_renderer.proofs.Moves.{Move, flush, line, rule, join, turn, brought_by, brought, brought-append, ruled_by, ruled, Makes, MakesAll, makes-append, move_options, sound_moved, along, through, any, undrawn}
 use Rattle.text_block_renderer.proofs.CallMoves.{calls_move}
@@ -74,7 +74,7 @@ module _ {D A : Type 0} (columns : ℕ → Option ℕ) where
     rest : List (Line (List A))
     came : s.lines ≡ r.lines ++ more
     among : AreDrawnAmong bs more rest
-    moves : List (Move (List A))
+    moves : List (Move D A)
     makes : MakesAll columns undrawn moves (on r ls) (on s (ls ++ rest))
     brings : brought moves ≡ es
 
@@ -91,7 +91,7 @@ module _ {D A : Type 0} (columns : ℕ → Option ℕ) where
   }
 
   -- the lines that came are as they are
-  as_they_are : (m : Move (List A)) (r s : Renderer D A (List A)) (ls more : List (Line (List A))) → s.lines ≡ r.lines ++ more → Makes columns undrawn m (on r ls) (on s (ls ++ more)) → Less r s ls (brought_by m) []
+  as_they_are : (m : Move D A) (r s : Renderer D A (List A)) (ls more : List (Line (List A))) → s.lines ≡ r.lines ++ more → Makes columns undrawn m (on r ls) (on s (ls ++ more)) → Less r s ls (brought_by m) []
   as_they_are m r s ls more lines makes = record {
     more = more;
     rest = more;
@@ -102,7 +102,7 @@ module _ {D A : Type 0} (columns : ℕ → Option ℕ) where
     brings = append-nil (brought_by m);
   }
 
-  no_line : (m : Move (List A)) (r s : Renderer D A (List A)) (ls : List (Line (List A))) → s.lines ≡ r.lines → Makes columns undrawn m (on r ls) (on s ls) → Less r s ls (brought_by m) []
+  no_line : (m : Move D A) (r s : Renderer D A (List A)) (ls : List (Line (List A))) → s.lines ≡ r.lines → Makes columns undrawn m (on r ls) (on s ls) → Less r s ls (brought_by m) []
   no_line m r s ls lines makes =
       as_they_are m r s ls [] (lines ∙ sym (append-nil r.lines)) (subst (λ ms. Makes columns undrawn m (on r ls) (on s ms)) (sym (append-nil ls)) makes)
 
@@ -144,8 +144,8 @@ module _ {D A : Type 0} (columns : ℕ → Option ℕ) where
       let same : on s (ls ++ alike.more) ≡ flushed columns (on r ls) (block_lines columns r b (lines_at_end columns r b)) (names_at_end columns r b) =
       ap (λ (q : Renderer D A (List A)). on q (ls ++ alike.more)) h.is ∙ sym (ap (λ (q : Renderer D A (List A)). record q { waiting = q.waiting ++ (names_at_end columns r b) }) alike.others) in
       let flushes : FlushesBlock columns (on r ls) (Some b) (on s (ls ++ alike.more)) = record { fits = h.fits; ends = λ sound. h.ends (record { space = sound.space; wide = sound.wide }); is = same } in
-      as_they_are flush r s ls alike.more (ap (λ (q : Renderer D A (List A)). q.lines) h.is ∙ alike.lines)
-      (subst (λ (p : Option (Open (List A))). FlushesBlock columns (on r ls) p (on s (ls ++ alike.more))) e flushes)
+      as_they_are (flush (on r ls)) r s ls alike.more (ap (λ (q : Renderer D A (List A)). q.lines) h.is ∙ alike.lines)
+      (refl, subst (λ (p : Option (Open (List A))). FlushesBlock columns (on r ls) p (on s (ls ++ alike.more))) e flushes)
 
   rule_less : (r s : Renderer D A (List A)) (ls : List (Line (List A))) (cells : List Cell) (pads : Bool) → r.options.pad_block_width ≡ pads → r.block ≡ None → s ≡ with_border columns r (without_holes cells r.annotations) → Less r s ls [] (if_drawn pads (cells ∷ []))
   rule_less r s ls cells true e none h =
@@ -164,11 +164,11 @@ module _ {D A : Type 0} (columns : ℕ → Option ℕ) where
   with_none : (r s : Renderer D A (List A)) (ls : List (Line (List A))) (es : List (Entry (List A))) (pads : Bool) → Less r s ls es [] → Less r s ls es (if_drawn pads [])
   with_none r s ls es pads h = subst (Less r s ls es) (sym (if_none_drawn pads)) h
 
-  move_less : (m : Move (List A)) (r s : Renderer D A (List A)) (ls : List (Line (List A))) (pads : Bool) → r.options.pad_block_width ≡ pads → Makes columns any m r s → Less r s ls (brought_by m) (if_drawn pads (ruled_by m))
-  move_less flush r s ls pads e h = with_none r s ls [] pads (flush_less r s ls r.block refl h)
+  move_less : (m : Move D A) (r s : Renderer D A (List A)) (ls : List (Line (List A))) (pads : Bool) → r.options.pad_block_width ≡ pads → Makes columns any m r s → Less r s ls (brought_by m) (if_drawn pads (ruled_by m))
+  move_less (flush q) r s ls pads e h = with_none r s ls [] pads (flush_less r s ls r.block refl h.1)
   move_less (line is) r s ls pads e h =
       let marked = line_laid r is in
-      with_none r s ls (brought_by (line is)) pads
+      with_none r s ls (laid_entries is) pads
       (as_they_are (line is) r s ls (marked ∷ []) (ap (λ (q : Renderer D A (List A)). q.lines) h.2) (tt, h.1, ap (λ (q : Renderer D A (List A)). on q (ls ++ marked ∷ [])) h.2))
   move_less (rule cells) r s ls pads e h = rule_less r s ls cells pads e h.1 h.2
   move_less (join es) r s ls pads e h =
@@ -176,7 +176,7 @@ module _ {D A : Type 0} (columns : ℕ → Option ℕ) where
   move_less turn r s ls pads e h =
       with_none r s ls [] pads (no_line turn r s ls h.lines (record { lines = refl; block = h.block; waiting = h.waiting; width = h.width; options = h.options; hanging = h.hanging }))
 
-  moves_less : (ms : List (Move (List A))) (r s : Renderer D A (List A)) (ls : List (Line (List A))) (pads : Bool) → r.options.pad_block_width ≡ pads → MakesAll columns any ms r s → Less r s ls (brought ms) (if_drawn pads (ruled ms))
+  moves_less : (ms : List (Move D A)) (r s : Renderer D A (List A)) (ls : List (Line (List A))) (pads : Bool) → r.options.pad_block_width ≡ pads → MakesAll columns any ms r s → Less r s ls (brought ms) (if_drawn pads (ruled ms))
   moves_less [] r s ls pads e h =
       with_none r s ls [] pads (nothing r s ls [] [] (ap (λ (q : Renderer D A (List A)). q.lines) h ∙ sym (append-nil r.lines)) (none_among []) (ap (λ (q : Renderer D A (List A)). on q ls) h))
   moves_less (m ∷ ms) r s ls pads e h =
@@ -188,12 +188,12 @@ module _ {D A : Type 0} (columns : ℕ → Option ℕ) where
   -- ---- calls
 
   module _ (P : Renderer D A (List A) → List (Entry (List A)) → Type 0)
-      (each : (m : Move (List A)) (r s : Renderer D A (List A)) (es : List (Entry (List A))) → Makes columns undrawn m r s → IsSound columns r → P r es → P s (es ++ brought_by m)) where
+      (each : (m : Move D A) (r s : Renderer D A (List A)) (es : List (Entry (List A))) → Makes columns undrawn m r s → IsSound columns r → P r es → P s (es ++ brought_by m)) where
     -- it holds where the renderer is sound, and so it goes on
-    each_sound : (m : Move (List A)) (r s : Renderer D A (List A)) (es : List (Entry (List A))) → Makes columns undrawn m r s → IsSound columns r × P r es → IsSound columns s × P s (es ++ brought_by m)
+    each_sound : (m : Move D A) (r s : Renderer D A (List A)) (es : List (Entry (List A))) → Makes columns undrawn m r s → IsSound columns r × P r es → IsSound columns s × P s (es ++ brought_by m)
     each_sound m r s es h k = (sound_moved columns undrawn m r s h k.0, each m r s es h k.0 k.1)
 
-    pub moves_on : (ms : List (Move (List A))) (r s : Renderer D A (List A)) (borders : List (List Cell)) (before : List (Entry (List A))) →
+    pub moves_on : (ms : List (Move D A)) (r s : Renderer D A (List A)) (borders : List (List Cell)) (before : List (Entry (List A))) →
         IsSound columns r → MakesAll columns any ms r s → WithoutDrawnBorders borders (λ q. P q before) r → WithoutDrawnBorders (borders ++ if_drawn r.options.pad_block_width (ruled ms)) (λ q. P q (before ++ brought ms)) s
     moves_on ms r s borders before sound makes k =
         let (ls, among, holds) = k in
@@ -220,7 +220,7 @@ module _ {D A : Type 0} (columns : ℕ → Option ℕ) where
 
   module _ (R : Renderer D A (List A) → Renderer D A (List A) → Type 0)
       (same : (r s : Renderer D A (List A)) → s ≡ r → R r s) (on_from : (r q s : Renderer D A (List A)) → R r q → R q s → R r s)
-      (each : (m : Move (List A)) (r s : Renderer D A (List A)) → Makes columns undrawn m r s → R r s) where
+      (each : (m : Move D A) (r s : Renderer D A (List A)) → Makes columns undrawn m r s → R r s) where
     pub steps_on : (decoration : Decoration D A) (calls : List (Call (List A))) (r s : Renderer D A (List A)) → Steps columns decoration calls r s → CameWithoutDrawnBorders (borders_drawn r calls) R r s
     steps_on decoration calls r s h =
         let path = calls_move columns any decoration calls r s (all_brought columns decoration calls r) tt (h, refl) in

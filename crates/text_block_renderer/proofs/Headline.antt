@@ -38,12 +38,13 @@ module _ {D A : Type 0} (columns : ℕ → Option ℕ) where
     once r (part (ruled q cells)) h = tt
     once r (put p) h = tt
 
-    pub headline : (acts : List (Act (List A))) (r s : Renderer D A (List A)) (es : List (Entry (List A))) → IsSound columns r → ActsBring columns decoration acts r es s → Headline columns decoration acts r es s
+    pub headline : (acts : List (Act (List A))) (r s : Renderer D A (List A)) (es : List (Entry (List A))) → IsSound columns r → (brings : ActsBring columns decoration acts r es s) → Headline columns decoration acts r es s brings
     headline acts r s es sound h =
         let along = acts_along columns decoration acts r s es sound h in
         let same : block_width s ≡ block_width r = ap (λ w. least w s.options.wrap_width) along.width ∙ ap (λ (o : RenderOptions). least r.width o.wrap_width) along.options in
         record {
           came = along.came;
+          runs = along.runs;
           no_layout_is_ahead = each_gives (IsPiece columns r) (NoLayoutIsAhead columns) (no_layout r) along.came.pieces along.came.are;
           visible_characters_stand_once = each_gives (IsPiece columns r) (StandsOnce columns) (once r) along.came.pieces along.came.are;
           each_cell_shows_its_texts_once = λ one none fit before rows behind cell are is_cell span.

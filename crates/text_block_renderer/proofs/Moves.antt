@@ -14,16 +14,17 @@ use Rattle.tbr_renderer.proofs.FlushedBlocks.{FlushesBlock, Flushes}
 use Rattle.tbr_renderer.specs.Appended.{with_border}
 use Rattle.tbr_renderer.specs.Calls.{Call, laid_entries}
 use Rattle.text_block_renderer.specs.Drawn.{DrawNone}
+use Rattle.text_block_renderer.specs.EndedRuns.{EndedRun, flush_ends}
 use Rattle.text_block_renderer.specs.Stretches.{AppendsNothing}
 
--- The end of the open run; a line of text or a border, where no block is open; what comes to the open block. Or a
+-- The end of the run that is open in this renderer; a line of text or a border, where no block is open; what comes to the open block. Or a
 -- change of what isn't text.
-pub data Move (T : Type 0) : Type 0 where
-  flush : Move T
-  line : List (Item T) → Move T
-  rule : List Cell → Move T
-  join : List (Event T) → Move T
-  turn : Move T
+pub data Move (D A : Type 0) : Type 0 where
+  flush : Renderer D A (List A) → Move D A
+  line : List (Item (List A)) → Move D A
+  rule : List Cell → Move D A
+  join : List (Event (List A)) → Move D A
+  turn : Move D A
 
 -- the same lines, open block and waiting markers, in a renderer that wraps alike
 pub record SameText {D A : Type 0} (r s : Renderer D A (List A)) : Type 0 where
@@ -34,34 +35,50 @@ pub record SameText {D A : Type 0} (r s : Renderer D A (List A)) : Type 0 where
   pub options : s.options ≡ r.options
   pub hanging : s.hanging ≡ r.hanging
 
-abbrev pub brought_by : {T : Type 0} → Move T → List (Entry T)
-brought_by flush = []
+abbrev pub brought_by : {D A : Type 0} → Move D A → List (Entry (List A))
+brought_by (flush r) = []
 brought_by (line is) = laid_entries is
 brought_by (rule cells) = []
 brought_by (join es) = run_of es
 brought_by turn = []
 
-abbrev pub brought : {T : Type 0} → List (Move T) → List (Entry T)
+abbrev pub brought : {D A : Type 0} → List (Move D A) → List (Entry (List A))
 brought [] = []
 brought (m ∷ ms) = brought_by m ++ brought ms
 
 -- the borders that moves put
-abbrev pub ruled_by : {T : Type 0} → Move T → List (List Cell)
-ruled_by flush = []
+abbrev pub ruled_by : {D A : Type 0} → Move D A → List (List Cell)
+ruled_by (flush r) = []
 ruled_by (line is) = []
 ruled_by (rule cells) = cells ∷ []
 ruled_by (join es) = []
 ruled_by turn = []
 
-abbrev pub ruled : {T : Type 0} → List (Move T) → List (List Cell)
+abbrev pub ruled : {D A : Type 0} → List (Move D A) → List (List Cell)
 ruled [] = []
 ruled (m ∷ ms) = ruled_by m ++ ruled ms
 
-ruled-append : {T : Type 0} (ms ns : List (Move T)) → ruled (ms ++ ns) ≡ ruled ms ++ ruled ns
+-- the runs that moves end
+abbrev pub ended_by : {D A : Type 0} → Move D A → List (EndedRun D A)
+ended_by (flush r) = flush_ends r
+ended_by (line is) = []
+ended_by (rule cells) = []
+ended_by (join es) = []
+ended_by turn = []
+
+abbrev pub ended : {D A : Type 0} → List (Move D A) → List (EndedRun D A)
+ended [] = []
+ended (m ∷ ms) = ended_by m ++ ended ms
+
+ended-append : {D A : Type 0} (ms ns : List (Move D A)) → ended (ms ++ ns) ≡ ended ms ++ ended ns
+ended-append [] ns = refl
+ended-append (m ∷ ms) ns = ap (λ rs. ended_by m ++ rs) (ended-append ms ns) ∙ sym (append_assoc (ended_by m) (ended ms) (ended ns))
+
+ruled-append : {D A : Type 0} (ms ns : List (Move D A)) → ruled (ms ++ ns) ≡ ruled ms ++ ruled ns
 ruled-append [] ns = refl
 ruled-append (m ∷ ms) ns = ap (λ bs. ruled_by m ++ bs) (ruled-append ms ns) ∙ sym (append_assoc (ruled_by m) (ruled ms) (ruled ns))
 
-pub brought-append : {T : Type 0} (ms ns : List (Move T)) → brought (ms ++ ns) ≡ brought ms ++ brought ns
+pub brought-append : {D A : Type 0} (ms ns : List (Move D A)) → brought (ms ++ ns) ≡ brought ms ++ brought ns
 brought-append [] ns = refl
 brought-append (m ∷ ms) ns = ap (λ es. brought_by m ++ es) (brought-append ms ns) ∙ sym (append_assoc (brought_by m) (brought ms) (brought ns))
 
@@ -128,42 +145,48 @@ module _ {D A : Type 0} (columns : ℕ → Option ℕ) where
   flush_frame r s (Some b) h = ap (λ (q : Renderer D A (List A)). frame q) h.is ∙ frame_of_lines (block_lines columns r b (lines_at_end columns r b)) (record r { block = None })
 
 module _ {D A : Type 0} (columns : ℕ → Option ℕ) (kind : Kind) where
-  abbrev pub Makes : Move (List A) → Renderer D A (List A) → Renderer D A (List A) → Type 0
-  Makes flush r s = Flushes columns r s
+  abbrev pub Makes : Move D A → Renderer D A (List A) → Renderer D A (List A) → Type 0
+  Makes (flush q) r s = (q ≡ r) × Flushes columns r s
   Makes (line is) r s = MayLay kind is × (r.block ≡ None) × (s ≡ with_line columns r is)
   Makes (rule cells) r s = MayRule kind r × (r.block ≡ None) × (s ≡ with_border columns r (without_holes cells r.annotations))
   Makes (join es) r s = s ≡ with_events r es
   Makes turn r s = SameText r s
 
-  abbrev pub MakesAll : List (Move (List A)) → Renderer D A (List A) → Renderer D A (List A) → Type 0
+  abbrev pub MakesAll : List (Move D A) → Renderer D A (List A) → Renderer D A (List A) → Type 0
   MakesAll [] r s = s ≡ r
   MakesAll (m ∷ ms) r s = (q : Renderer D A (List A)) × Makes m r q × MakesAll ms q s
 
-  -- some moves lead from one renderer to the other, bring these entries, and put these borders
-  pub record Course (r s : Renderer D A (List A)) (es : List (Entry (List A))) (bs : List (List Cell)) : Type 0 where
-    pub moves : List (Move (List A))
+  -- some moves lead from one renderer to the other, bring these entries, put these borders, and end these runs
+  pub record Course (r s : Renderer D A (List A)) (es : List (Entry (List A))) (bs : List (List Cell)) (rs : List (EndedRun D A)) : Type 0 where
+    pub moves : List (Move D A)
     pub makes : MakesAll moves r s
     pub brings : brought moves ≡ es
     pub rules : ruled moves ≡ bs
+    pub ends : ended moves ≡ rs
 
-  -- and no border
+  -- no border and no run
   abbrev pub Path : Renderer D A (List A) → Renderer D A (List A) → List (Entry (List A)) → Type 0
-  Path r s es = Course r s es []
+  Path r s es = Course r s es [] []
 
-  pub makes-append : (ms ns : List (Move (List A))) (r q s : Renderer D A (List A)) → MakesAll ms r q → MakesAll ns q s → MakesAll (ms ++ ns) r s
+  pub makes-append : (ms ns : List (Move D A)) (r q s : Renderer D A (List A)) → MakesAll ms r q → MakesAll ns q s → MakesAll (ms ++ ns) r s
   makes-append [] ns r q s h k = subst (λ (p : Renderer D A (List A)). MakesAll ns p s) h k
   makes-append (m ∷ ms) ns r q s h k = (h.0, h.1, makes-append ms ns h.0 q s h.2 k)
 
-  pub onward : (r q s : Renderer D A (List A)) (es fs : List (Entry (List A))) {bs cs : List (List Cell)} → Course r q es bs → Course q s fs cs → Course r s (es ++ fs) (bs ++ cs)
-  onward r q s es fs {bs} {cs} p k = record {
+  pub onward : (r q s : Renderer D A (List A)) (es fs : List (Entry (List A))) {bs cs : List (List Cell)} {rs ss : List (EndedRun D A)} → Course r q es bs rs → Course q s fs cs ss → Course r s (es ++ fs) (bs ++ cs) (rs ++ ss)
+  onward r q s es fs {bs} {cs} {rs} {ss} p k = record {
     moves = p.moves ++ k.moves;
     makes = makes-append p.moves k.moves r q s p.makes k.makes;
     brings = brought-append p.moves k.moves ∙ ap (λ gs. gs ++ brought k.moves) p.brings ∙ ap (λ gs. es ++ gs) k.brings;
     rules = ruled-append p.moves k.moves ∙ ap (λ ds. ds ++ ruled k.moves) p.rules ∙ ap (λ ds. bs ++ ds) k.rules;
+    ends = ended-append p.moves k.moves ∙ ap (λ ts. ts ++ ended k.moves) p.ends ∙ ap (λ ts. rs ++ ts) k.ends;
   }
 
-  pub one : (m : Move (List A)) (r s : Renderer D A (List A)) → Makes m r s → Course r s (brought_by m) (ruled_by m)
-  one m r s h = record { moves = m ∷ []; makes = (s, h, refl); brings = append-nil (brought_by m); rules = append-nil (ruled_by m) }
+  pub one : (m : Move D A) (r s : Renderer D A (List A)) → Makes m r s → Course r s (brought_by m) (ruled_by m) (ended_by m)
+  one m r s h = record { moves = m ∷ []; makes = (s, h, refl); brings = append-nil (brought_by m); rules = append-nil (ruled_by m); ends = append-nil (ended_by m) }
+
+  -- the end of the open run, and then what ends no other
+  pub flushed_first : (r m s : Renderer D A (List A)) (es : List (Entry (List A))) {bs : List (List Cell)} → Flushes columns r m → Course m s es bs [] → Course r s es bs (flush_ends r)
+  flushed_first r m s es {bs} h k = subst (λ (rs : List (EndedRun D A)). Course r s es bs rs) (append-nil (flush_ends r)) (onward r m s [] es (one (flush r) r m (refl, h)) k)
 
   -- `q` is `r` but for what isn't text
   pub turned_by : (r q s : Renderer D A (List A)) → SameText r q → s ≡ q → Path r s []
@@ -173,12 +196,12 @@ module _ {D A : Type 0} (columns : ℕ → Option ℕ) (kind : Kind) where
   turned r q s lines block waiting width options hanging is = turned_by r q s (record { lines = lines; block = block; waiting = waiting; width = width; options = options; hanging = hanging }) is
 
   pub stays : (r s : Renderer D A (List A)) → s ≡ r → Path r s []
-  stays r s h = record { moves = []; makes = h; brings = refl; rules = refl }
+  stays r s h = record { moves = []; makes = h; brings = refl; rules = refl; ends = refl }
 
   -- What each move keeps, moves one after another keep.
   pub along : (P : Renderer D A (List A) → List (Entry (List A)) → Type 0) →
-      ((m : Move (List A)) (r s : Renderer D A (List A)) (es : List (Entry (List A))) → Makes m r s → P r es → P s (es ++ brought_by m)) →
-      (ms : List (Move (List A))) (r s : Renderer D A (List A)) (es : List (Entry (List A))) → MakesAll ms r s → P r es → P s (es ++ brought ms)
+      ((m : Move D A) (r s : Renderer D A (List A)) (es : List (Entry (List A))) → Makes m r s → P r es → P s (es ++ brought_by m)) →
+      (ms : List (Move D A)) (r s : Renderer D A (List A)) (es : List (Entry (List A))) → MakesAll ms r s → P r es → P s (es ++ brought ms)
   along P each [] r s es h k = subst (λ (q : Renderer D A (List A)). P q (es ++ [])) (sym h) (subst (λ (fs : List (Entry (List A))). P r fs) (sym (append-nil es)) k)
   along P each (m ∷ ms) r s es h k =
       subst (λ (fs : List (Entry (List A))). P s fs) (append_assoc es (brought_by m) (brought ms))
@@ -188,15 +211,15 @@ module _ {D A : Type 0} (columns : ℕ → Option ℕ) (kind : Kind) where
   pub through : (R : Renderer D A (List A) → Renderer D A (List A) → Type 0) →
       ((r s : Renderer D A (List A)) → s ≡ r → R r s) →
       ((r q s : Renderer D A (List A)) → R r q → R q s → R r s) →
-      ((m : Move (List A)) (r s : Renderer D A (List A)) → Makes m r s → R r s) →
-      (ms : List (Move (List A))) (r s : Renderer D A (List A)) → MakesAll ms r s → R r s
+      ((m : Move D A) (r s : Renderer D A (List A)) → Makes m r s → R r s) →
+      (ms : List (Move D A)) (r s : Renderer D A (List A)) → MakesAll ms r s → R r s
   through R same on each [] r s h = same r s h
   through R same on each (m ∷ ms) r s h = on r h.0 s (each m r h.0 h.1) (through R same on each ms h.0 s h.2)
 
   -- ---- width, options, and the cells that overhang
 
-  move_frame : (m : Move (List A)) (r s : Renderer D A (List A)) → Makes m r s → frame s ≡ frame r
-  move_frame flush r s h = flush_frame columns r s r.block h
+  move_frame : (m : Move D A) (r s : Renderer D A (List A)) → Makes m r s → frame s ≡ frame r
+  move_frame (flush q) r s h = flush_frame columns r s r.block h.1
   move_frame (line is) r s h = ap (λ (q : Renderer D A (List A)). frame q) h.2
   move_frame (rule cells) r s h = ap (λ (q : Renderer D A (List A)). frame q) h.2
   move_frame (join es) r s h = ap (λ (q : Renderer D A (List A)). frame q) h
@@ -206,24 +229,24 @@ module _ {D A : Type 0} (columns : ℕ → Option ℕ) (kind : Kind) where
       frame_of : ℕ → RenderOptions → List (Overhanging (List A)) → Frame A
       frame_of w o cells = record { width = w; options = o; hanging = cells }
 
-  pub move_options : (m : Move (List A)) (r s : Renderer D A (List A)) → Makes m r s → s.options ≡ r.options
+  pub move_options : (m : Move D A) (r s : Renderer D A (List A)) → Makes m r s → s.options ≡ r.options
   move_options m r s h = ap (λ (f : Frame A). f.options) (move_frame m r s h)
 
   -- a sound renderer stays so
-  pub sound_moved : (m : Move (List A)) (r s : Renderer D A (List A)) → Makes m r s → IsSound columns r → IsSound columns s
+  pub sound_moved : (m : Move D A) (r s : Renderer D A (List A)) → Makes m r s → IsSound columns r → IsSound columns s
   sound_moved m r s h sound =
       let same = move_frame m r s h in
       sound_alike columns r s (ap (λ (f : Frame A). f.width) same) (ap (λ (f : Frame A). f.options) same) sound
 
-  path_frame : (r s : Renderer D A (List A)) (es : List (Entry (List A))) (bs : List (List Cell)) → Course r s es bs → frame s ≡ frame r
-  path_frame r s es bs path =
+  path_frame : (r s : Renderer D A (List A)) (es : List (Entry (List A))) (bs : List (List Cell)) {rs : List (EndedRun D A)} → Course r s es bs rs → frame s ≡ frame r
+  path_frame r s es bs {rs} path =
       through (λ p q. frame q ≡ frame p) (λ p q e. ap (λ (t : Renderer D A (List A)). frame t) e) (λ p q t g h. h ∙ g) move_frame path.moves r s path.makes
 
-  pub path_width : (r s : Renderer D A (List A)) (es : List (Entry (List A))) (bs : List (List Cell)) → Course r s es bs → s.width ≡ r.width
-  path_width r s es bs path = ap (λ (f : Frame A). f.width) (path_frame r s es bs path)
+  pub path_width : (r s : Renderer D A (List A)) (es : List (Entry (List A))) (bs : List (List Cell)) {rs : List (EndedRun D A)} → Course r s es bs rs → s.width ≡ r.width
+  path_width r s es bs {rs} path = ap (λ (f : Frame A). f.width) (path_frame r s es bs path)
 
-  pub path_options : (r s : Renderer D A (List A)) (es : List (Entry (List A))) (bs : List (List Cell)) → Course r s es bs → s.options ≡ r.options
-  path_options r s es bs path = ap (λ (f : Frame A). f.options) (path_frame r s es bs path)
+  pub path_options : (r s : Renderer D A (List A)) (es : List (Entry (List A))) (bs : List (List Cell)) {rs : List (EndedRun D A)} → Course r s es bs rs → s.options ≡ r.options
+  path_options r s es bs {rs} path = ap (λ (f : Frame A). f.options) (path_frame r s es bs path)
 
-  pub path_hanging : (r s : Renderer D A (List A)) (es : List (Entry (List A))) (bs : List (List Cell)) → Course r s es bs → s.hanging ≡ r.hanging
-  path_hanging r s es bs path = ap (λ (f : Frame A). f.hanging) (path_frame r s es bs path)
+  pub path_hanging : (r s : Renderer D A (List A)) (es : List (Entry (List A))) (bs : List (List Cell)) {rs : List (EndedRun D A)} → Course r s es bs rs → s.hanging ≡ r.hanging
+  path_hanging r s es bs {rs} path = ap (λ (f : Frame A). f.hanging) (path_frame r s es bs path)

@@ -80,7 +80,7 @@ module _ {D A : Type 0} (columns : ℕ → Option ℕ) where
   pub texts_only_come : (collapses : Bool) (cells : List (GivenCell (List A))) (r s : Renderer D A (List A)) → AppendsRow columns collapses cells r s → (more : List (Item (List A))) × (text_of_lines s.lines ≡ text_of_lines r.lines ++ more)
   texts_only_come collapses cells r s h =
       let (m, flushed, puts) = h in
-      let first = moves_grow columns (flush ∷ []) r m (m, row_flushes columns r m flushed, refl) in
+      let first = moves_grow columns (flush r ∷ []) r m (m, (refl, row_flushes columns r m flushed), refl) in
       let behind = row_texts m puts.row in (
         text_of_lines first.0 ++ behind.0,
         ap (λ (q : Renderer D A (List A)). text_of_lines q.lines) puts.is ∙ behind.1 ∙ ap (λ is. is ++ behind.0) (ap text_of_lines first.1 ∙ text_append r.lines first.0) ∙ append_assoc (text_of_lines r.lines) (text_of_lines first.0) behind.0,

@@ -214,18 +214,18 @@ module _ {D A : Type 0} (columns : ℕ → Option ℕ) where
     options = h.options ∙ since.options;
   }
 
-  run_ends : (ms : List (Move (List A))) (r q s : Renderer D A (List A)) (b : Open (List A)) (es : List (Event (List A))) → Since r b es q → IsSound columns r → MakesAll columns any ms q s →
+  run_ends : (ms : List (Move D A)) (r q s : Renderer D A (List A)) (b : Open (List A)) (es : List (Event (List A))) → Since r b es q → IsSound columns r → MakesAll columns any ms q s →
       StaysOpen r b (run_of es ++ brought ms) s ⊎ EndsAsStretch columns r b (run_of es ++ brought ms) s
   run_ends [] r q s b es since sound h =
       let open_still : StaysOpen r b (run_of es ++ []) q = record { lines = since.lines; events = es; are = sym (append-nil (run_of es)); block = since.block; waiting = since.waiting } in
       inl (subst (λ (p : Renderer D A (List A)). StaysOpen r b (run_of es ++ []) p) (sym h) open_still)
-  run_ends (flush ∷ ms) r q s b es since sound h = inr (record {
+  run_ends (flush p ∷ ms) r q s b es since sound h = inr (record {
     more = es;
     later = brought ms;
     came = refl;
     annotations = q.annotations;
     stands = as_before (record r { annotations = q.annotations }) q (with_more b es) s.lines since.lines since.width since.options refl since.waiting
-        (flush_stands q h.0 s (with_more b es) since.block h.1 (sound_alike columns r q since.width since.options sound) (moves_grow columns ms h.0 s h.2));
+        (flush_stands q h.0 s (with_more b es) since.block h.1.1 (sound_alike columns r q since.width since.options sound) (moves_grow columns ms h.0 s h.2));
   })
   run_ends (line is ∷ ms) r q s b es since sound h = absurd (let no : Some (with_more b es) ≡ None = sym since.block ∙ h.1.1 in cc)
   run_ends (rule cells ∷ ms) r q s b es since sound h = absurd (let no : Some (with_more b es) ≡ None = sym since.block ∙ h.1.1 in cc)

@@ -189,7 +189,7 @@ module _ {D A : Type 0} (columns : ℕ → Option ℕ) where
     handed_within : (gs : List (ℕ × List A)) (r : Renderer D A (List A)) (lines : List (Line (List A))) → handed_out columns r ≡ done lines → StandWithin gs (seen columns r.lines) → StandWithin gs (seen columns lines)
     handed_within gs r lines h k =
         let (s, flushed, is) = handed_then columns r lines h in
-        subst (λ (ls : List (Line (List A))). StandWithin gs (seen columns ls)) (sym is) (still_within gs r s (moves_grow columns (flush ∷ []) r s (s, flushed, refl)) k)
+        subst (λ (ls : List (Line (List A))). StandWithin gs (seen columns ls)) (sym is) (still_within gs r s (moves_grow columns (flush r ∷ []) r s (s, (refl, flushed), refl)) k)
 
     pub all_within : (depth : ℕ) (inside outside : List (Line (List A))) → AreTakenIn columns decoration depth inside outside → StandWithin (seen columns inside) (seen columns outside)
     all_within zero inside outside h = subst (λ (ls : List (Line (List A))). StandWithin (seen columns inside) (seen columns ls)) (sym h) (within_itself (seen columns inside))

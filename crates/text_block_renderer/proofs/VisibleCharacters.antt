@@ -155,8 +155,8 @@ module _ {D A : Type 0} (columns : ℕ → Option ℕ) where
   with_none : (s : Renderer D A (List A)) (es : List (Entry (List A))) → Shows columns s es → Shows columns s (es ++ [])
   with_none s es k = subst (Shows columns s) (sym (append-nil es)) k
 
-  shows_move : (m : Move (List A)) (r s : Renderer D A (List A)) (es : List (Entry (List A))) → Makes columns undrawn m r s → IsSound columns r → Shows columns r es → Shows columns s (es ++ brought_by m)
-  shows_move flush r s es h sound k = with_none s es (shows_flush r s r.block es refl h sound k)
+  shows_move : (m : Move D A) (r s : Renderer D A (List A)) (es : List (Entry (List A))) → Makes columns undrawn m r s → IsSound columns r → Shows columns r es → Shows columns s (es ++ brought_by m)
+  shows_move (flush q) r s es h sound k = with_none s es (shows_flush r s r.block es refl h.1 sound k)
   shows_move (line is) r s es h sound k = shows_put r s is es h.1 h.2 k
   shows_move (rule cells) r s es h sound k = with_none s es (shows_rule r s (without_holes cells r.annotations) es h.0 h.2 k)
   shows_move (join more) r s es h sound k = shows_more r s more es h k
@@ -201,7 +201,7 @@ module _ {D A : Type 0} (columns : ℕ → Option ℕ) where
   handed_out_less r borders es lines sound k h =
       let (s, flushes, is) = handed_then columns r lines h in
       let none : borders ++ if_drawn r.options.pad_block_width [] ≡ borders = ap (λ bs. borders ++ bs) (if_none_drawn r.options.pad_block_width) ∙ append-nil borders in
-      let (rest, among, shows) = moves_on columns (Shows columns) shows_move (flush ∷ []) r s borders es sound (s, flushes, refl) k in
+      let (rest, among, shows) = moves_on columns (Shows columns) shows_move (flush r ∷ []) r s borders es sound (s, (refl, flushes), refl) k in
       let q : Renderer D A (List A) = record s { lines = rest } in
       let here : AreDrawnAmong borders lines rest = subst (λ ls. AreDrawnAmong borders ls rest) (sym is) (subst (λ bs. AreDrawnAmong bs s.lines rest) none among) in
       (rest, here, all_shown q es (flushed_none columns r s flushes) (subst (λ (fs : List (Entry (List A))). Shows columns q fs) (append-nil es) shows))

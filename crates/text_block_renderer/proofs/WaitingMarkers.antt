@@ -239,8 +239,8 @@ module _ {D A : Type 0} (columns : ℕ → Option ℕ) where
     wait = λ none. ([], ap (λ (q : Renderer D A (List A)). q.waiting) h ∙ sym (append-nil r.waiting));
   }
 
-  move_waits : (m : Move (List A)) (r s : Renderer D A (List A)) → Makes columns undrawn m r s → WaitForText r s
-  move_waits flush r s h = flush_waits r s r.block h
+  move_waits : (m : Move D A) (r s : Renderer D A (List A)) → Makes columns undrawn m r s → WaitForText r s
+  move_waits (flush q) r s h = flush_waits r s r.block h.1
   move_waits (line is) r s h = subst (λ (q : Renderer D A (List A)). WaitForText r q) (sym h.2) (line_came r is)
   move_waits (rule cells) r s h = rule_waits r s (without_holes cells r.annotations) h.0 h.2
   move_waits (join es) r s h = same_wait r s (ap (λ (q : Renderer D A (List A)). q.lines) h) (ap (λ (q : Renderer D A (List A)). q.waiting) h)

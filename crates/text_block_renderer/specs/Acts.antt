@@ -1,5 +1,5 @@
 -- Calls and rows of cells, one after another, and what they add to a renderer's lines.
-use Rattle.std.specs.Prelude.{◌≡◌, ℕ, Bool, ⊤, Option, None, Some, List, [], ◌∷◌, ◌++◌, map, flat_map}
+use Rattle.std.specs.Prelude.{◌≡◌, ℕ, Bool, Option, None, Some, List, [], ◌∷◌, ◌++◌, map, flat_map}
 use Rattle.std.specs.List.{AllZip, AllByRecursion as Each}
 use Rattle.tbr_model.specs.Run.{Entry}
 use Rattle.tbr_model.specs.Layout.{joined}
@@ -13,7 +13,8 @@ use Rattle.tbr_renderer.specs.Flush.{after_flush}
 use Rattle.tbr_renderer.specs.Appended.{border_line}
 use Rattle.tbr_renderer.specs.Rows.{GivenCell, PutsRow}
 use Rattle.tbr_renderer.specs.Calls.{Call, Does, made, entries_brought, laid_entries}
-use Rattle.text_block_renderer.specs.Stretches.{Part, entries_of_part, lines_of_part, lines_laid, IsBetweenBlocks, IsPart}
+use Rattle.text_block_renderer.specs.EndedRuns.{EndedRun, flush_ends, call_ends}
+use Rattle.text_block_renderer.specs.Stretches.{Part, entries_of_part, run_of_part, lines_of_part, lines_laid, IsBetweenBlocks, IsPart}
 
 -- What is done to a renderer: a call, or a row of cells side by side, with whether it collapses.
 pub data Act (T : Type 0) : Type 0 where
@@ -42,6 +43,17 @@ module _ {D A : Type 0} (columns : ℕ → Option ℕ) (decoration : Decoration 
   ActsBring (act ∷ acts) r es s =
       (m : Renderer D A (List A)) × (first rest : List (Entry (List A))) × ActBrings act r first m
       × ActsBring acts m rest s × (es ≡ first ++ rest)
+
+  -- the run that one ends, if it ends one
+  abbrev pub act_ends : Act (List A) → Renderer D A (List A) → List (EndedRun D A)
+  act_ends (call c) r = call_ends decoration c r
+  act_ends (row collapses cells) r = flush_ends r
+
+  -- the runs that acts end, one after another
+  abbrev pub acts_end : (acts : List (Act (List A))) (r s : Renderer D A (List A)) (es : List (Entry (List A))) →
+      ActsBring acts r es s → List (EndedRun D A)
+  acts_end [] r s es h = []
+  acts_end (act ∷ acts) r s es h = act_ends act r ++ acts_end acts h.0 s h.2 h.4
 
   -- where one answers `TooNarrow` for its own wrapping
   abbrev pub ActIsTooNarrow : Act (List A) → Renderer D A (List A) → Type 0
@@ -84,6 +96,11 @@ module _ {D A : Type 0} (columns : ℕ → Option ℕ) where
   lines_of_piece (put p) =
       lines_laid columns p.before p.puts.row.lines ++ border_lines_of p.before p.puts.row.next
 
+  -- the run that ended there
+  abbrev pub run_of_piece : Piece D A columns → List (EndedRun D A)
+  run_of_piece (part p) = run_of_part p
+  run_of_piece (put p) = []
+
   abbrev pub entries_of_piece : Piece D A columns → List (Entry (List A))
   entries_of_piece (part p) = entries_of_part p
   entries_of_piece (put p) = laid_entries (joined p.puts.row.lines)
@@ -93,10 +110,14 @@ module _ {D A : Type 0} (columns : ℕ → Option ℕ) where
   IsPiece first (part p) = IsPart columns first p
   IsPiece first (put p) = IsBetweenBlocks first p.before
 
--- A text stays as it is, and a border stays a border. A row below it gives it other cells.
+-- the same tag, and the same text in the same columns
+abbrev pub KeepsText : {T : Type 0} → Border T → Border T → Type 0
+KeepsText b c = (c.tag ≡ b.tag) × (c.holes ≡ b.holes)
+
+-- A text stays as it is. A border keeps its tag and the text in front of it; a row below gives it other cells.
 abbrev pub StaysLine : {T : Type 0} → Line T → Line T → Type 0
 StaysLine (text is) (text js) = js ≡ is
-StaysLine (border b) (border c) = ⊤
+StaysLine (border b) (border c) = KeepsText b c
 StaysLine (text is) (border c) = ⊥
 StaysLine (border b) (text js) = ⊥
 

@@ -10,10 +10,12 @@ use Rattle.tbr_wrap.specs.Runs.{IsNormal, EndsRun}
 use Rattle.tbr_wrap.specs.Wrapped.{padding_of}
 use Rattle.tbr_kept_lines.specs.Line.{Line, text}
 use Rattle.tbr_renderer.specs.Renderer.{Open, Renderer, line_padding, block_width, may_overflow, open_run, with_more}
+use Rattle.tbr_renderer.specs.Flush.{lines_at_end}
 use Rattle.tbr_renderer.specs.Appended.{border_line}
 use Rattle.tbr_renderer.specs.Calls.{Call, add_border, append_subrender, append_vert_row, laid_entries}
 use Rattle.tbr_border.specs.Border.{without_holes}
 use Rattle.tbr_border.specs.Cell.{Cell}
+use Rattle.text_block_renderer.specs.EndedRuns.{EndedRun}
 
 -- a text of a block as a line: after markers, and padded to the block's width and to the renderer's
 abbrev pub line_of_text : {D A : Type 0} → (ℕ → Option ℕ) → Renderer D A (List A) → Open (List A) → List (List ℕ)
@@ -93,6 +95,12 @@ entries_of_part (ended r b texts) = (run_of b.events)
 entries_of_part (laid r is) = laid_entries is
 entries_of_part (ruled r cells) = []
 
+-- the run that ended there
+abbrev pub run_of_part : {D A : Type 0} → Part D A → List (EndedRun D A)
+run_of_part (ended r b texts) = record { renderer = r; block = b } ∷ []
+run_of_part (laid r is) = []
+run_of_part (ruled r cells) = []
+
 -- the border that is there
 abbrev pub borders_of_part : {D A : Type 0} → Part D A → List (List Cell)
 borders_of_part (ended r b texts) = []
@@ -104,12 +112,13 @@ lines_of_part columns (ended r b texts) = stretch columns r b texts
 lines_of_part columns (laid r is) = lines_laid columns r (is ∷ [])
 lines_of_part columns (ruled r cells) = border_line columns r (without_holes cells r.annotations) ∷ []
 
--- The open run ended with these texts. The renderer's width and options are still those of another one.
+-- The open run ended with its texts, which are these. The renderer's width and options are still those of another one.
 pub record HasEnded {D A : Type 0} (columns : ℕ → Option ℕ) (first r : Renderer D A (List A)) (b : Open (List A))
     (texts : List (List (Item (List A)))) : Type 0 where
   pub width : r.width ≡ first.width
   pub options : r.options ≡ first.options
   pub block : r.block ≡ Some b
+  pub are_its : texts ≡ lines_at_end columns r b
   pub names : List (List ℕ)
   pub ends : EndsRun columns (block_width r) (may_overflow r) (run_of b.events) texts names
 

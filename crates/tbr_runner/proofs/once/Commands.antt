@@ -16,10 +16,10 @@ use Rattle.tbr_tagged.specs.Outcome.{Outcome}
 use Rattle.tbr_script.specs.declared.error.RunError.{RunError}
 use Rattle.tbr_commands.specs.Request.{Request, call_of}
 use Rattle.tbr_commands.specs.Command.{Command, ask, link, end_link, sub, append, cell, end_cell, row, vertical_row}
-use Rattle.tbr_runner.specs.declared.opened.Opener.TheVariants.{Sub, Cell}
-use Rattle.tbr_runner.specs.Prefixes.{prefixes}
-use Rattle.tbr_runner.specs.Progress.{Progress}
-use Rattle.tbr_runner.specs.Meaning.{renderers_of, TakesNone, CellDoes, CellRefuses, RequestDoes, AppendDoes, VerticalRowDoes, CommandDoes, AppendRefuses, VerticalRowRefuses, RequestRefuses, CommandRefuses}
+use Rattle.tbr_program.specs.declared.opened.Opener.TheVariants.{Sub, Cell}
+use Rattle.tbr_program.specs.Prefixes.{prefixes}
+use Rattle.tbr_program.specs.Progress.{Progress}
+use Rattle.tbr_program.specs.Meaning.{renderers_of, TakesNone, CellDoes, CellRefuses, RequestDoes, AppendDoes, VerticalRowDoes, CommandDoes, AppendRefuses, VerticalRowRefuses, RequestRefuses, CommandRefuses}
 use Rattle.tbr_runner.proofs.once.Taken.{flush_done, takes_or_not}
 use Rattle.tbr_runner.proofs.once.Levels.{one_progress, closes_once, closes_opener, cell_once, opens_once}
 use Rattle.tbr_runner.proofs.once.Refusals.{not_waiting}

@@ -5,10 +5,10 @@ use Rattle.tbr_decor.specs.Decoration.{Decoration}
 use Rattle.text_block_renderer.specs.Renderer.{Renderer}
 use Rattle.text_block_renderer.specs.Decorated.{sub_renderer}
 use Rattle.tbr_stack.specs.Stack.{Stack, pushed}
-use Rattle.tbr_runner.specs.declared.opened.Opener.{Opener}
-use Rattle.tbr_runner.specs.declared.opened.Opener.TheVariants.{Cell}
-use Rattle.tbr_runner.specs.Progress.{Pending, Opened, Progress}
-use Rattle.tbr_runner.specs.Meaning.{opener, with_cell, Closes, LevelOpens, CellDoes}
+use Rattle.tbr_program.specs.declared.opened.Opener.{Opener}
+use Rattle.tbr_program.specs.declared.opened.Opener.TheVariants.{Cell}
+use Rattle.tbr_program.specs.Progress.{Pending, Opened, Progress}
+use Rattle.tbr_program.specs.Meaning.{opener, with_cell, Closes, LevelOpens, CellDoes}
 use Rattle.tbr_runner.proofs.once.Tops.{top_once}
 
 same_cell : (m n : ℕ) (a b : CellAlign) → Cell m a ≡ Cell n b → (m ≡ n) × (a ≡ b)

@@ -5,8 +5,8 @@ use Rattle.tbr_tagged.specs.declared.Error.TheVariants as E
 use Rattle.tbr_renderer.proofs.OutcomeParts.{once, done_or_refused}
 use Rattle.tbr_stack.specs.Links.{after_link_start, after_link_end}
 use Rattle.tbr_script.specs.declared.error.RunError.{RunError}
-use Rattle.tbr_runner.specs.Progress.{Progress}
-use Rattle.tbr_runner.specs.Meaning.{LinkDoes, LinkRefuses, EndLinkDoes, EndLinkRefuses}
+use Rattle.tbr_program.specs.Progress.{Progress}
+use Rattle.tbr_program.specs.Meaning.{LinkDoes, LinkRefuses, EndLinkDoes, EndLinkRefuses}
 use Rattle.tbr_runner.proofs.once.Levels.{one_progress}
 
 module _ {D M : Type 0} (columns : ℕ → Option ℕ) (decoration : Decoration D M) (p x : Progress D M (List M)) where

@@ -5,9 +5,9 @@ use Rattle.tbr_decor.specs.Decoration.{Decoration}
 use Rattle.tbr_script.specs.declared.error.RunError.{RunError}
 use Rattle.tbr_commands.specs.Request.{Request}
 use Rattle.tbr_commands.specs.Command.{Command, ask, link, end_link, sub, append, cell, end_cell, row, vertical_row}
-use Rattle.tbr_runner.specs.declared.opened.Opener.TheVariants.{Sub}
-use Rattle.tbr_runner.specs.Progress.{Progress}
-use Rattle.tbr_runner.specs.Meaning.{CellsWait, CellRefuses, AppendRefuses, RequestRefuses, EndLinkRefuses, RowRefuses, CommandRefuses}
+use Rattle.tbr_program.specs.declared.opened.Opener.TheVariants.{Sub}
+use Rattle.tbr_program.specs.Progress.{Progress}
+use Rattle.tbr_program.specs.Meaning.{CellsWait, CellRefuses, AppendRefuses, RequestRefuses, EndLinkRefuses, RowRefuses, CommandRefuses}
 use Rattle.tbr_runner.proofs.once.Levels.{closes_opener}
 use Rattle.tbr_runner.proofs.once.Rows.{row_fits_or_not}
 

@@ -12,8 +12,8 @@ use Rattle.text_block_renderer.specs.Rows.{GivenCell, align_in, GivesCell, Appen
 use Rattle.text_block_renderer.proofs.RowsOfCells.{rows_once}
 use Rattle.tbr_script.specs.declared.error.RunError.{RunError}
 use Rattle.tbr_stack.specs.Top.{ChangesTop, OfTop}
-use Rattle.tbr_runner.specs.Progress.{Progress}
-use Rattle.tbr_runner.specs.Meaning.{renderers_of, CellsFit, RowDoes, RowRefuses}
+use Rattle.tbr_program.specs.Progress.{Progress}
+use Rattle.tbr_program.specs.Meaning.{renderers_of, CellsFit, RowDoes, RowRefuses}
 use Rattle.tbr_runner.proofs.once.Tops.{on_top_once, top_is_both}
 use Rattle.tbr_runner.proofs.once.Taken.{takes_or_not}
 use Rattle.tbr_runner.proofs.once.Levels.{one_progress}

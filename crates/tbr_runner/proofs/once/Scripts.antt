@@ -10,10 +10,11 @@ use Rattle.tbr_commands.specs.declared.opening.Decorator.TheVariants.{Plain, Tri
 use Rattle.tbr_commands.specs.declared.opening.Opening.{Opening}
 use Rattle.tbr_commands.proofs.OneCommand.{command_once}
 use Rattle.tbr_commands.proofs.OneOpening.{opening_once}
-use Rattle.tbr_runner.specs.Decorations.{plain_decoration, trivial_decoration, rich_decoration}
-use Rattle.tbr_runner.specs.Closing.{closed_text}
-use Rattle.tbr_runner.specs.Progress.{Progress}
-use Rattle.tbr_runner.specs.Meaning.{CommandDoes, CommandRefuses, LineDoes, LineRefuses, Ends, LinesGive, started, OpensUnder, Begins}
+use Rattle.tbr_program.specs.Decorations.{plain_decoration, trivial_decoration, rich_decoration}
+use Rattle.tbr_program.specs.Closing.{closed_text}
+use Rattle.tbr_program.specs.Progress.{Progress}
+use Rattle.tbr_program.specs.Meaning.{CommandDoes, CommandRefuses, LineDoes, LineRefuses, Ends, started}
+use Rattle.tbr_runner.specs.Scripts.{LinesGive, OpensUnder, Begins}
 use Rattle.tbr_runner.proofs.once.Tops.{top_is_both}
 use Rattle.tbr_runner.proofs.once.Refusals.{refused_once}
 use Rattle.tbr_runner.proofs.once.Commands.{does_once, does_or_not}

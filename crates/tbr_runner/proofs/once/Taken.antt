@@ -11,7 +11,7 @@ use Rattle.text_block_renderer.specs.Flush.{after_flush}
 use Rattle.text_block_renderer.specs.Calls.{new_line, after}
 use Rattle.tbr_stack.specs.Stack.{Stack}
 use Rattle.tbr_stack.specs.Top.{ChangesTop, OfTop}
-use Rattle.tbr_runner.specs.Meaning.{TakesNone}
+use Rattle.tbr_program.specs.Meaning.{TakesNone}
 use Rattle.tbr_runner.proofs.once.Tops.{on_top_or_not}
 
 module _ {D M : Type 0} (columns : ℕ → Option ℕ) (decoration : Decoration D M) where

@@ -8,6 +8,7 @@ ghost use Rattle.text_block_renderer.specs.Headline.{Headline};
 
 /// Whatever calls and rows of cells come to a renderer and succeed:
 ///
+/// - The runs are those between one flush and the next: each call and row ends the run that is open, or none.
 /// - After any number of lines no legal layout of a `Normal` run has placed more of it than the renderer has.
 /// - Each run's visible characters are in the renderer's lines once, in order, under equal annotations.
 /// - Each cell of a row shows its texts once, in order, in its own columns, also in the borders that it spans.
@@ -20,5 +21,6 @@ ghost use Rattle.text_block_renderer.specs.Headline.{Headline};
 pub fn the_headline<D, A>()
     ensures { (columns : ℕ → Option ℕ) (decoration : Decoration D A) (acts : List (Act (List A)))
         (r s : Renderer D A (List A)) (es : List (Entry (List A))) →
-        IsSound columns r → ActsBring columns decoration acts r es s → Headline columns decoration acts r es s }
+        IsSound columns r → (brings : ActsBring columns decoration acts r es s) →
+        Headline columns decoration acts r es s brings }
 {}

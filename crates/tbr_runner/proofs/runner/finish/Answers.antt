@@ -1,7 +1,7 @@
 use Rattle.tbr_decor.specs.Decoration.{decoration_of}
-use Rattle.tbr_runner.specs.Progress.{progress_meant}
+use Rattle.tbr_program.specs.Progress.{progress_meant}
 use Rattle.tbr_runner.proofs.ScriptRefusals.{end_of_script}
-use Rattle.tbr_runner.proofs.Results.{if_err_then}
+use Rattle.tbr_program.proofs.Results.{if_err_then}
 use Rattle.tbr_runner.proofs.runner.finish.Goals as goal
 
 pub returns-clause-of_script : goal.returns-clause-of_script

@@ -1,7 +1,7 @@
 use Rattle.std.proofs.Common.{ℕ, ◌+◌, ◌≤◌, List, Option, Result, length}
 use Rattle.tbr_script.specs.declared.error.RunError.{RunError}
 use Rattle.tbr_script.specs.Script.{lines_of}
-use Rattle.tbr_runner.specs.Meaning.{Begins, Gives}
+use Rattle.tbr_runner.specs.Scripts.{Begins, Gives}
 use Rattle.tbr_runner.proofs.runner.first_command.Given as goal
 
 abbrev pub invariant-loop-rest : goal.invariant-loop-rest

@@ -1,10 +1,10 @@
 use Rattle.std.proofs.Common.{◌≡◌, Err, arith}
 use Rattle.std.proofs.lemmas.Result.{err_from_is_err_and}
 use Rattle.tbr_decor.specs.Decoration.{decoration_of}
-use Rattle.tbr_runner.specs.Progress.{progress_meant}
+use Rattle.tbr_program.specs.Progress.{progress_meant}
 use Rattle.tbr_runner.proofs.LinesGive.{at_end, line_done, line_refused}
 use Rattle.tbr_runner.proofs.ScriptRefusals.{line_of_script}
-use Rattle.tbr_runner.proofs.Results.{if_err_is}
+use Rattle.tbr_program.proofs.Results.{if_err_is}
 use Rattle.tbr_runner.proofs.runner.run_lines.Goals as goal
 
 pub returns-in_err-run_line-clause-refusal : goal.returns-in_err-run_line-clause-refusal

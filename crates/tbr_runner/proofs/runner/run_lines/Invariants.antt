@@ -2,8 +2,8 @@ use Rattle.std.proofs.Common.{ℕ, ◌+◌, ◌≤◌, List, Result, length}
 use Rattle.tbr_decor.specs.Decoration.{decoration_of}
 use Rattle.tbr_script.specs.declared.error.RunError.{RunError}
 use Rattle.tbr_script.specs.Script.{lines_of}
-use Rattle.tbr_runner.specs.Progress.{progress_meant, GoesOn}
-use Rattle.tbr_runner.specs.Meaning.{LinesGive}
+use Rattle.tbr_program.specs.Progress.{progress_meant, GoesOn}
+use Rattle.tbr_runner.specs.Scripts.{LinesGive}
 use Rattle.tbr_runner.proofs.runner.run_lines.Given as goal
 
 abbrev pub invariant-loop-rest : goal.invariant-loop-rest

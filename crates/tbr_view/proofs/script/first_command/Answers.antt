@@ -1,8 +1,8 @@
 use Rattle.std.proofs.Common.{◌≡◌, ℕ, ◌+◌, true, List, [], ◌∷◌, ◌++◌, length, append_assoc, arith, rules, ap, sym, ◌∙◌}
 use Rattle.std.proofs.lemmas.List.{length-append}
 use Rattle.tbr_script.specs.Script.{lines_of}
-use Rattle.tbr_view.specs.Statement.{is_skipped}
-use Rattle.tbr_view.specs.Level.{held}
+use Rattle.tbr_statements.specs.Statement.{is_skipped}
+use Rattle.tbr_statements.specs.Level.{held}
 use Rattle.tbr_view.specs.Script.{AreSkipped}
 use Rattle.tbr_view.proofs.script.first_command.Goals as goal
 

@@ -1,6 +1,6 @@
 use Rattle.std.proofs.Common.{◌≡◌, ◌+◌, ◌++◌, ℕ, List, length}
 use Rattle.tbr_script.specs.Script.{lines_of}
-use Rattle.tbr_view.specs.Level.{held}
+use Rattle.tbr_statements.specs.Level.{held}
 use Rattle.tbr_view.specs.Script.{AreSkipped}
 use Rattle.tbr_view.proofs.script.first_command.Given as goal
 

@@ -1,7 +1,7 @@
 use Rattle.std.proofs.Common.{subst}
 use Rattle.tbr_decor.specs.Decoration.{decoration_of}
 use Rattle.tbr_script.specs.Script.{lines_of}
-use Rattle.tbr_runner.proofs.Results.{if_ok_then}
+use Rattle.tbr_program.proofs.Results.{if_ok_then}
 use Rattle.tbr_view.specs.Session.{state_of, LinesDo}
 use Rattle.tbr_view.proofs.States.{no_line_left, line_done}
 use Rattle.tbr_view.proofs.script.run.Goals as goal

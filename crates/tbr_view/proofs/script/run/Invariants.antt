@@ -1,7 +1,7 @@
 use Rattle.std.proofs.Common.{length}
 use Rattle.tbr_decor.specs.Decoration.{decoration_of}
 use Rattle.tbr_script.specs.Script.{lines_of}
-use Rattle.tbr_runner.specs.Progress.{GoesOn}
+use Rattle.tbr_program.specs.Progress.{GoesOn}
 use Rattle.tbr_view.specs.Session.{State, state_of, begun, LinesDo}
 use Rattle.tbr_view.proofs.script.run.Given as goal
 

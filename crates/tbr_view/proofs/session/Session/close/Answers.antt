@@ -1,9 +1,9 @@
 use Rattle.std.proofs.Common.{sym, ◌∙◌, subst}
 use Rattle.std.proofs.lemmas.Result.{on_ok_weaker}
 use Rattle.tbr_decor.specs.Decoration.{decoration_of}
-use Rattle.tbr_runner.specs.Progress.{progress_meant}
-use Rattle.tbr_view.specs.declared.level.Opener.TheVariants.{Block as OfBlock}
-use Rattle.tbr_view.specs.Level.{Leaves}
+use Rattle.tbr_program.specs.Progress.{progress_meant}
+use Rattle.tbr_statements.specs.declared.level.Opener.TheVariants.{Block as OfBlock}
+use Rattle.tbr_statements.specs.Level.{Leaves}
 use Rattle.tbr_view.specs.Session.{state_of, BlockAppends, BlockCloses}
 use Rattle.tbr_view.proofs.States.{block_closes}
 use Rattle.tbr_view.proofs.session.Session.close.Goals as goal

@@ -5,9 +5,9 @@ use Rattle.text_block_renderer.specs.Meant.{map_line, meant}
 use Rattle.text_block_renderer.specs.Top.{OfTop}
 use Rattle.text_block_renderer.specs.Line.{line_seen}
 use Rattle.tbr_tagged.specs.Outcome.{done}
-use Rattle.tbr_runner.specs.Closing.{closed}
-use Rattle.tbr_runner.specs.Progress.{cell_meant}
-use Rattle.tbr_runner.proofs.MeantCommands.{top_is_meant}
+use Rattle.tbr_program.specs.Closing.{closed}
+use Rattle.tbr_program.specs.Progress.{cell_meant}
+use Rattle.tbr_program.proofs.MeantCommands.{top_is_meant}
 use Rattle.tbr_view.specs.Session.{openers}
 use Rattle.tbr_view.proofs.session.Session.finish.Goals as goal
 

@@ -6,9 +6,9 @@ use Rattle.text_block_renderer.specs.Stack.{top_of}
 use Rattle.tbr_commands.specs.declared.request.layout.Layout.TheVariants.{StartBlock}
 use Rattle.tbr_commands.specs.Request.{layout}
 use Rattle.tbr_commands.specs.Command.{ask}
-use Rattle.tbr_runner.specs.Progress.{progress_meant}
-use Rattle.tbr_view.specs.declared.level.Opener.TheVariants.{Block as OfBlock}
-use Rattle.tbr_view.specs.Block.{other_prefix, stands_apart}
+use Rattle.tbr_program.specs.Progress.{progress_meant}
+use Rattle.tbr_statements.specs.declared.level.Opener.TheVariants.{Block as OfBlock}
+use Rattle.tbr_statements.specs.Block.{other_prefix, stands_apart}
 use Rattle.tbr_view.specs.Session.{openers, DoesIf}
 use Rattle.tbr_view.proofs.States.{block_opens, openers_push}
 use Rattle.tbr_view.proofs.session.Session.open.Goals as goal

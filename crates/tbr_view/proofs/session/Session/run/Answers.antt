@@ -1,6 +1,6 @@
 use Rattle.std.proofs.Common.{ap, sym, ◌∙◌}
 use Rattle.tbr_decor.specs.Decoration.{decoration_of}
-use Rattle.tbr_view.specs.Level.{known_in}
+use Rattle.tbr_statements.specs.Level.{known_in}
 use Rattle.tbr_view.specs.Session.{openers, opened_by}
 use Rattle.tbr_view.proofs.States.{commanded, openers_noted}
 use Rattle.tbr_view.proofs.session.Session.run.Goals as goal

@@ -1,7 +1,7 @@
 use Rattle.std.proofs.Common.{sym, subst, ◌∙◌, refl, inl, inr}
 use Rattle.std.specs.Prelude.{IfSome}
 use Rattle.std.proofs.lemmas.Result.{on_ok_weaker}
-use Rattle.tbr_view.specs.Statement.{IsStatement}
+use Rattle.tbr_statements.specs.Statement.{IsStatement}
 use Rattle.tbr_view.proofs.session.Session.run_line.Goals as goal
 
 pub returns-then-is_skipped-clause-does : goal.returns-then-is_skipped-clause-does

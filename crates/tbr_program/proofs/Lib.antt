@@ -1,0 +1,9 @@
+pub mod GivenPrefixes
+pub mod Levels
+pub mod MeantCommands
+pub mod LivePrograms
+pub mod Links
+pub mod Notes
+pub mod Rows
+pub mod CommandLines
+pub mod Results

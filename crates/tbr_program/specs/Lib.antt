@@ -1,0 +1,5 @@
+pub mod Prefixes
+pub mod Progress
+pub mod Decorations
+pub mod Closing
+pub mod Meaning

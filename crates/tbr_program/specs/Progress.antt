@@ -1,0 +1,86 @@
+-- Where a script is after its first command.
+use Rattle.std.specs.Prelude.{◌≡◌, ◌<◌, ℕ, true, None, List, [], ◌∷◌, map}
+use Rattle.std.specs.List.{AllZip}
+use Rattle.std.specs.Global.{Vec}
+use Rattle.tbr_tagged.specs.declared.CellAlign.{CellAlign}
+use Rattle.text_block_renderer.specs.Renderer.{Renderer}
+use Rattle.text_block_renderer.specs.Meant.{meant}
+use Rattle.tbr_stack.specs.Stack.{Stack}
+use Rattle.tbr_stack.specs.Top.{stack_meant}
+use Rattle.tbr_commands.specs.Begun.{nothing_begun}
+use Rattle.tbr_commands.specs.declared.begun.Begun.{Begun}
+use Rattle.tbr_program.specs.declared.opened.Opener.{Opener}
+use Rattle.tbr_program.specs.declared.opened.Opener.TheVariants.{Sub, Cell}
+
+-- What has begun on a renderer and not ended, and the cells that wait there for their row, each with its span, and how
+-- their texts are aligned.
+pub record Pending (D A T : Type 0) : Type 0 where
+  pub begun : Begun
+  pub cells : List (Renderer D A T × ℕ)
+  pub aligns : List CellAlign
+
+-- A level that is open: the command that opened it, and what is pending below it.
+pub record Opened (D A T : Type 0) : Type 0 where
+  pub by : Opener
+  pub below : Pending D A T
+
+-- The renderers, what is pending on that on top, and the levels that are open, the innermost first.
+pub record Progress (D A T : Type 0) : Type 0 where
+  pub stack : Stack (Renderer D A T)
+  pub pending : Pending D A T
+  pub opened : List (Opened D A T)
+
+-- nothing begun, and no cell that waits
+abbrev pub nothing_pending : {D A T : Type 0} → Pending D A T
+nothing_pending = record { begun = nothing_begun; cells = []; aligns = [] }
+
+-- a cell to come spans at least one row
+abbrev pub IsSpanned : Opener → Type 0
+IsSpanned Sub = Unit {0}
+IsSpanned (Cell span align) = 0 < span
+
+-- ---- the same, each annotation as what it means
+
+module _ {D A M : Type 0} (meaning : A → M) where
+  -- a cell that waits, with its span
+  abbrev pub cell_meant : Renderer D A (Vec A) × ℕ → Renderer D M (List M) × ℕ
+  cell_meant cell = (meant meaning cell.0, cell.1)
+
+  -- what is pending on a renderer
+  abbrev pub pending_meant : Pending D A (Vec A) → Pending D M (List M)
+  pending_meant p = record { begun = p.begun; cells = map cell_meant p.cells; aligns = p.aligns }
+
+  -- a level that is open
+  abbrev pub opened_meant : Opened D A (Vec A) → Opened D M (List M)
+  opened_meant o = record { by = o.by; below = pending_meant o.below }
+
+  -- where a script is
+  abbrev pub progress_meant : Progress D A (Vec A) → Progress D M (List M)
+  progress_meant p = record {
+    stack = stack_meant meaning p.stack;
+    pending = pending_meant p.pending;
+    opened = map opened_meant p.opened;
+  }
+
+-- ---- programs that go on
+
+-- The renderer hasn't refused. Its preformatted stretches are those that were begun, and so are its strikeouts where
+-- struck out text has strokes.
+abbrev pub IsLive : {D A T : Type 0} → Renderer D A T → Begun → Type 0
+IsLive r begun =
+    (r.failure ≡ None) × (r.preformatted ≡ begun.preformats)
+    × (r.options.use_unicode_strikeout ≡ true → r.strikeouts ≡ begun.strikeouts)
+
+-- what has begun on each renderer, that on top first
+abbrev pub begun_on_each : {D A T : Type 0} → Pending D A T → List (Opened D A T) → List Begun
+begun_on_each pending opened = pending.begun ∷ map (λ o. o.below.begun) opened
+
+-- one renderer for each level, and each is live
+abbrev pub AreLive : {D A T : Type 0} →
+    Stack (Renderer D A T) → Pending D A T → List (Opened D A T) → Type 0
+AreLive stack pending opened =
+    AllZip (λ level begun. IsLive level.renderer begun) stack.levels (begun_on_each pending opened)
+
+-- No refusal came yet.
+abbrev pub GoesOn : {D A T : Type 0} → Progress D A T → Type 0
+GoesOn p = AreLive p.stack p.pending p.opened

@@ -1,0 +1,74 @@
+//! What comes at the end of a script.
+ghost use Rattle.std.specs.Prelude.{◌≡◌, None, Err, map, IfOk, string_bytes};
+ghost use Rattle.tbr_tagged.specs.View.{chars_of};
+ghost use Rattle.tbr_tagged.specs.declared.Error.TheVariants as E;
+ghost use Rattle.tbr_decor.specs.Decoration.{decoration_of};
+ghost use Rattle.text_block_renderer.specs.Tags.{tag_meant};
+ghost use Rattle.text_block_renderer.specs.Meant.{map_line, meant};
+ghost use Rattle.text_block_renderer.specs.Line.{line_seen};
+ghost use Rattle.tbr_tagged.specs.Outcome.{done, refused};
+ghost use Rattle.text_block_renderer.specs.Appended.{handed_out};
+ghost use Rattle.tbr_program.specs.Closing.{closed, closed_text};
+
+use std::collections::LinkedList;
+use tbr_decor::TextDecorator;
+use tbr_lines::{CharWidth, Error, RenderLine};
+use text_block_renderer::{Renderer, SubRenderer};
+
+/// The text of a renderer whose links have these targets: its lines, and after them the footnotes as a block of their
+/// own, if there are any. It asks for a renderer that hasn't failed, and refuses as that does. Where it refuses, the
+/// renderer and the targets are dropped.
+pub fn close<D: TextDecorator, W: CharWidth>(
+    renderer: SubRenderer<D, W>,
+    targets: Vec<String>,
+) -> Result<String, Error>
+    requires { renderer.failure ≡ None }
+    ensures text { let links = map chars_of targets.items in
+        IfOk result (λ text. closed_text W.columns (decoration_of D.TextDecorator) links (meant D.meaning renderer)
+        ≡ done (string_bytes text)) }
+    ensures too_narrow { let links = map chars_of targets.items in
+        result ≡ Err E.TooNarrow →
+        closed_text W.columns (decoration_of D.TextDecorator) links (meant D.meaning renderer)
+        ≡ refused E.TooNarrow }
+{
+    with_footnotes(renderer, targets)?.into_string()
+}
+
+/// The same as lines. It refuses as [`close`] does.
+pub fn close_lines<D: TextDecorator, W: CharWidth>(
+    renderer: SubRenderer<D, W>,
+    targets: Vec<String>,
+) -> Result<LinkedList<RenderLine<Vec<D::Annotation>>>, Error>
+    requires { renderer.failure ≡ None }
+    ensures lines { let links = map chars_of targets.items in
+        IfOk result (λ lines. closed W.columns (decoration_of D.TextDecorator) links (meant D.meaning renderer)
+        ≡ done (map (map_line (tag_meant D.meaning)) (map line_seen lines))) }
+    ensures too_narrow { let links = map chars_of targets.items in
+        result ≡ Err E.TooNarrow →
+        closed W.columns (decoration_of D.TextDecorator) links (meant D.meaning renderer) ≡ refused E.TooNarrow }
+{
+    with_footnotes(renderer, targets)?.into_lines()
+}
+
+/// The renderer, and after its lines the footnotes.
+fn with_footnotes<D: TextDecorator, W: CharWidth>(
+    mut renderer: SubRenderer<D, W>,
+    targets: Vec<String>,
+) -> Result<SubRenderer<D, W>, Error>
+    requires { renderer.failure ≡ None }
+    ensures noted { let links = map chars_of targets.items in
+        IfOk result (λ noted. handed_out W.columns (meant D.meaning noted)
+        ≡ closed W.columns (decoration_of D.TextDecorator) links (meant D.meaning renderer)) }
+    ensures live { IfOk result (λ noted. noted.failure ≡ None) }
+    ensures too_narrow { let links = map chars_of targets.items in
+        result ≡ Err E.TooNarrow →
+        closed W.columns (decoration_of D.TextDecorator) links (meant D.meaning renderer) ≡ refused E.TooNarrow }
+{
+    let footnotes = renderer.finalise(targets)?;
+    if footnotes.is_empty() {
+        return Ok(renderer);
+    }
+    renderer.start_block()?;
+    renderer.fmt_links(footnotes)?;
+    Ok(renderer)
+}

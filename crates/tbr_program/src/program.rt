@@ -1,0 +1,391 @@
+//! A script's commands, one after another.
+ghost use Rattle.std.specs.Prelude.{◌≡◌, ℕ, [], ◌≢◌, ◌<◌, None, Some, Ok, Err, IfOk, IfErr, OnOk, length, map, string_bytes};
+ghost use Rattle.tbr_tagged.specs.View.{chars_of};
+ghost use Rattle.tbr_tagged.specs.declared.Error.TheVariants as Refusal;
+ghost use Rattle.tbr_decor.specs.Decoration.{decoration_of};
+ghost use Rattle.tbr_decor.specs.Prefix.{asked_prefix};
+ghost use Rattle.text_block_renderer.specs.Renderer.{new_renderer};
+ghost use Rattle.text_block_renderer.specs.Tags.{tag_meant};
+ghost use Rattle.text_block_renderer.specs.Meant.{map_line, meant};
+ghost use Rattle.text_block_renderer.specs.Line.{line_seen};
+ghost use Rattle.tbr_script.specs.declared.error.RunError.TheVariants as E;
+ghost use Rattle.tbr_stack.specs.Stack.{new_stack, top_of};
+ghost use Rattle.tbr_stack.specs.Top.{OfTop};
+ghost use Rattle.tbr_stack.specs.Links.{open_links};
+ghost use Rattle.tbr_commands.specs.Request.{request_of};
+ghost use Rattle.tbr_commands.specs.Request as requests;
+ghost use Rattle.tbr_commands.specs.Command.{command_of, IsSized};
+ghost use Rattle.tbr_program.specs.Progress.{progress_meant, nothing_pending, IsSpanned, GoesOn};
+ghost use Rattle.tbr_program.specs.declared.opened.Opener.{Opener as By};
+ghost use Rattle.tbr_tagged.specs.Outcome.{done, refused};
+ghost use Rattle.tbr_program.specs.Closing.{closed};
+ghost use Rattle.tbr_program.specs.Meaning.{opener, Closes, RequestDoes, RequestRefuses, LinkDoes, LinkRefuses, EndLinkDoes, EndLinkRefuses, LevelOpens, AppendDoes, AppendRefuses, CellDoes, CellRefuses, VerticalRowDoes, VerticalRowRefuses, RowDoes, RowRefuses, CommandDoes, CommandRefuses, LineDoes, LineRefuses, Ends};
+
+use crate::closing::{close, close_lines};
+use crate::opened::{OpenLevels, Opener};
+use crate::pending::Pending;
+use crate::prefixes::{append_behind, prefix_of};
+use std::alloc::Global;
+use std::collections::LinkedList;
+use std::marker::Model;
+use std::mem;
+use tbr_commands::{Command, NewCell, Request};
+use tbr_decor::{DecoratorPrefix, TextDecorator};
+use tbr_lines::{CharWidth, Error, RenderLine};
+use tbr_script::{RunError, TextPair};
+use tbr_stack::TextRenderer;
+use text_block_renderer::{RenderOptions, Renderer, SubRenderer};
+
+/// What a script has called so far after its first command.
+#[derive(Drop)]
+pub struct Program<D: TextDecorator, W: CharWidth> {
+    renderers: TextRenderer<D, W>,
+    /// On the renderer on top.
+    pending: Pending<D, W>,
+    opened: OpenLevels<D, W>,
+}
+
+impl<D: TextDecorator, W: CharWidth> Model for Program<D, W> {
+    ghost use Rattle.std.specs.Global.{Vec};
+    ghost use Rattle.tbr_program.specs.Progress.{Progress};
+
+    ghost Value = { Progress D D.Annotation (Vec D.Annotation) };
+
+    ghost view = { λ p. record { stack = p.renderers; pending = p.pending; opened = p.opened } };
+}
+
+impl<D: TextDecorator, W: CharWidth> Program<D, W> {
+    /// A renderer of a width in columns of at least 1, and nothing called yet. A wrap width is at least 1 too. It
+    /// refuses only where memory is refused.
+    pub fn new(
+        alloc: Global,
+        width: usize,
+        options: RenderOptions,
+        decorator: D,
+    ) -> Result<Program<D, W>, RunError>
+        requires width { 0 < width }
+        requires wrap_width { options.wrap_width ≢ Some 0 }
+        ensures program { IfOk result (λ program. program ≡ record {
+          stack = new_stack (new_renderer width options decorator);
+          pending = nothing_pending;
+          opened = [];
+        }) }
+        ensures live { IfOk result (λ program. GoesOn program) }
+        ensures memory { IfErr result (λ e. e ≡ E.OutOfMemory) }
+    {
+        let renderer = SubRenderer::new(alloc, width, options, decorator);
+        Ok(Program {
+            renderers: TextRenderer::new(alloc, renderer)?,
+            pending: Pending::nothing(alloc),
+            opened: OpenLevels::none(alloc),
+        })
+    }
+
+    /// Does what the line of this number asks for. An empty line asks for nothing.
+    ///
+    /// It refuses as the line does, and with `OutOfMemory` only where memory is refused. After `OutOfMemory` and
+    /// `TooNarrow` the program isn't to be used any more. Each other refusal leaves it as it was.
+    pub fn run_line(&mut self, alloc: Global, number: usize, line: &[u8]) -> Result<(), RunError>
+        requires { GoesOn self.old }
+        ensures done { OnOk result (LineDoes W.columns (decoration_of D.TextDecorator)
+            (progress_meant D.meaning self.old) line.now (progress_meant D.meaning self.new)) }
+        ensures live { OnOk result (GoesOn self.new) }
+        ensures refused { IfErr result (λ e. e ≢ RunError.OutOfMemory →
+            LineRefuses W.columns (decoration_of D.TextDecorator) (progress_meant D.meaning self.old) number
+            line.now e) }
+    {
+        if line.is_empty() {
+            return Ok(());
+        }
+        // A text without escapes needs no copy.
+        if let Some(text) = Command::plain_text(line) {
+            return self.add_text(text);
+        }
+        match Command::parse(alloc, line)? {
+            Some(command) => self.run(alloc, number, &command),
+            None => Err(RunError::NotACommand(number)),
+        }
+    }
+
+    /// Does what a command asks for, on the line of this number.
+    ///
+    /// After `OutOfMemory` and `TooNarrow` the program isn't to be used any more. Each other refusal leaves it as it
+    /// was.
+    pub fn run(&mut self, alloc: Global, number: usize, command: &Command) -> Result<(), RunError>
+        requires live { GoesOn self.old }
+        requires sized { IsSized (command_of command.now) }
+        ensures done { OnOk result (CommandDoes W.columns (decoration_of D.TextDecorator)
+            (progress_meant D.meaning self.old) (command_of command.now) (progress_meant D.meaning self.new)) }
+        ensures live { OnOk result (GoesOn self.new) }
+        ensures refused { IfErr result (λ e. e ≢ RunError.OutOfMemory →
+            CommandRefuses W.columns (decoration_of D.TextDecorator) (progress_meant D.meaning self.old) number
+            (command_of command.now) e) }
+        ensures left { IfErr result (λ e. e ≢ RunError.OutOfMemory → e ≢ RunError.TooNarrow → self.new ≡ self.old) }
+    {
+        match command {
+            Command::Ask(request) => self.call(number, request),
+            Command::Link(target) => self.start_link(target.as_str()),
+            Command::EndLink => self.end_link(number),
+            Command::Sub(width) => self.open(alloc, Opener::Sub, *width),
+            Command::Append(prefixes) => self.append(number, prefixes),
+            Command::Cell(new) => {
+                let NewCell { width, span, align } = *new;
+                self.open(alloc, Opener::Cell { span, align }, width)
+            }
+            Command::EndCell => self.end_cell(number),
+            Command::Row { collapse } => self.add_row(alloc, number, *collapse),
+            Command::VerticalRow => self.add_vertical_row(alloc),
+        }
+    }
+
+    /// Adds a text to the renderer on top, as a line asks for it.
+    fn add_text(&mut self, text: &str) -> Result<(), RunError>
+        requires { GoesOn self.old }
+        ensures done { OnOk result (RequestDoes W.columns (decoration_of D.TextDecorator)
+            (progress_meant D.meaning self.old) (requests.text text.now) (progress_meant D.meaning self.new)) }
+        ensures live { OnOk result (GoesOn self.new) }
+        ensures refused { IfErr result (λ e. e ≢ RunError.OutOfMemory → (number : ℕ) →
+            RequestRefuses W.columns (decoration_of D.TextDecorator) (progress_meant D.meaning self.old) number
+            (requests.text text.now) e) }
+    {
+        self.renderers.top_mut().add_inline_text(text)?;
+        Ok(())
+    }
+
+    /// Does what a request asks for, on the line of this number.
+    fn call(&mut self, number: usize, request: &Request) -> Result<(), RunError>
+        requires { GoesOn self.old }
+        ensures done { OnOk result (RequestDoes W.columns (decoration_of D.TextDecorator)
+            (progress_meant D.meaning self.old) (request_of request.now) (progress_meant D.meaning self.new)) }
+        ensures live { OnOk result (GoesOn self.new) }
+        ensures refused { IfErr result (λ e. e ≢ RunError.OutOfMemory →
+            RequestRefuses W.columns (decoration_of D.TextDecorator) (progress_meant D.meaning self.old) number
+            (request_of request.now) e) }
+        ensures left { IfErr result (λ e. e ≢ RunError.OutOfMemory → e ≢ RunError.TooNarrow → self.new ≡ self.old) }
+    {
+        if self.pending.lacks(request) {
+            return Err(RunError::NothingToEnd(number));
+        }
+        self.pending.note(request)?;
+        let top = self.renderers.top_mut();
+        request.call(top)?;
+        Ok(())
+    }
+
+    /// Begins a link to a target.
+    fn start_link(&mut self, target: &str) -> Result<(), RunError>
+        requires { GoesOn self.old }
+        ensures done { OnOk result (LinkDoes W.columns (decoration_of D.TextDecorator)
+            (progress_meant D.meaning self.old) target.now (progress_meant D.meaning self.new)) }
+        ensures live { OnOk result (GoesOn self.new) }
+        ensures refused { IfErr result (λ e. e ≢ RunError.OutOfMemory →
+            LinkRefuses W.columns (decoration_of D.TextDecorator) (progress_meant D.meaning self.old) target.now e) }
+    {
+        self.renderers.start_link(target)?;
+        Ok(())
+    }
+
+    /// Ends the link that began last, on the line of this number.
+    fn end_link(&mut self, number: usize) -> Result<(), RunError>
+        requires { GoesOn self.old }
+        ensures done { OnOk result (EndLinkDoes W.columns (decoration_of D.TextDecorator)
+            (progress_meant D.meaning self.old) (progress_meant D.meaning self.new)) }
+        ensures live { OnOk result (GoesOn self.new) }
+        ensures refused { IfErr result (λ e. e ≢ RunError.OutOfMemory →
+            EndLinkRefuses W.columns (decoration_of D.TextDecorator) (progress_meant D.meaning self.old) number e) }
+        ensures left { IfErr result (λ e. e ≢ RunError.OutOfMemory → e ≢ RunError.TooNarrow → self.new ≡ self.old) }
+    {
+        if self.renderers.open_links() == 0 {
+            return Err(RunError::NothingToEnd(number));
+        }
+        self.renderers.end_link()?;
+        Ok(())
+    }
+
+    /// Opens a level of a width of at least 1.
+    fn open(&mut self, alloc: Global, by: Opener, width: usize) -> Result<(), RunError>
+        requires live { GoesOn self.old }
+        requires width { 0 < width }
+        requires spans { IsSpanned by }
+        ensures done { OnOk result (LevelOpens (decoration_of D.TextDecorator)
+            (progress_meant D.meaning self.old) by width (progress_meant D.meaning self.new)) }
+        ensures live { OnOk result (GoesOn self.new) }
+        ensures memory { IfErr result (λ e. e ≡ E.OutOfMemory) }
+    {
+        let inside = self.renderers.top().new_sub_renderer(width)?;
+        self.renderers.push(inside)?;
+        let below = mem::replace(&mut self.pending, Pending::nothing(alloc));
+        self.opened.open(by, below)?;
+        Ok(())
+    }
+
+    /// Closes the innermost level, and answers its renderer. It asks that a level is open in which no cell waits.
+    fn close(&mut self) -> SubRenderer<D, W>
+        requires live { GoesOn self.old }
+        requires opened { opener self.old.opened ≢ None }
+        requires cells { self.old.pending.cells ≡ [] }
+        ensures closes { (by : By) × Closes self.old by result self.new }
+        ensures live { GoesOn self.new }
+    {
+        let inside = self.renderers.pop();
+        self.pending = self.opened.close();
+        inside
+    }
+
+    /// Closes the level that `sub` opened, on the line of this number: its lines join those below it.
+    fn append(&mut self, number: usize, prefixes: &TextPair) -> Result<(), RunError>
+        requires { GoesOn self.old }
+        ensures done { OnOk result (AppendDoes W.columns (decoration_of D.TextDecorator)
+            (progress_meant D.meaning self.old) (string_bytes prefixes.now.first) (string_bytes prefixes.now.second)
+            (progress_meant D.meaning self.new)) }
+        ensures live { OnOk result (GoesOn self.new) }
+        ensures refused { IfErr result (λ e. e ≢ RunError.OutOfMemory →
+            AppendRefuses W.columns (decoration_of D.TextDecorator)
+            (progress_meant D.meaning self.old) number e) }
+        ensures left { IfErr result (λ e. e ≢ RunError.OutOfMemory → e ≢ RunError.TooNarrow → self.new ≡ self.old) }
+    {
+        if !self.opened.is_sub() {
+            return Err(RunError::NothingToEnd(number));
+        }
+        if self.pending.has_cells() {
+            return Err(RunError::NotACommand(number));
+        }
+        let inside = self.close();
+        let top = self.renderers.top_mut();
+        append_behind(top, inside, prefixes)?;
+        Ok(())
+    }
+
+    /// Closes the level that `cell` opened, on the line of this number: it waits below as a cell.
+    fn end_cell(&mut self, number: usize) -> Result<(), RunError>
+        requires { GoesOn self.old }
+        ensures done { OnOk result
+            (CellDoes (progress_meant D.meaning self.old) (progress_meant D.meaning self.new)) }
+        ensures live { OnOk result (GoesOn self.new) }
+        ensures refused { IfErr result (λ e. e ≢ RunError.OutOfMemory →
+            CellRefuses (progress_meant D.meaning self.old) number e) }
+        ensures left { IfErr result (λ e. e ≢ RunError.OutOfMemory → e ≢ RunError.TooNarrow → self.new ≡ self.old) }
+    {
+        let Some((span, align)) = self.opened.cell() else {
+            return Err(RunError::NothingToEnd(number));
+        };
+        if self.pending.has_cells() {
+            return Err(RunError::NotACommand(number));
+        }
+        let inside = self.close();
+        self.pending.add_cell(inside, span, align)?;
+        Ok(())
+    }
+
+    /// Adds the waiting cells side by side, on the line of this number.
+    fn add_row(&mut self, alloc: Global, number: usize, collapse: bool) -> Result<(), RunError>
+        requires { GoesOn self.old }
+        ensures done { OnOk result (RowDoes W.columns (decoration_of D.TextDecorator)
+            (progress_meant D.meaning self.old) collapse (progress_meant D.meaning self.new)) }
+        ensures live { OnOk result (GoesOn self.new) }
+        ensures refused { IfErr result (λ e. e ≢ RunError.OutOfMemory →
+            RowRefuses W.columns (decoration_of D.TextDecorator)
+            (progress_meant D.meaning self.old) number e) }
+        ensures left { IfErr result (λ e. e ≢ RunError.OutOfMemory → e ≢ RunError.TooNarrow → self.new ≡ self.old) }
+    {
+        if !self.renderers.top().row_fits(self.pending.cells()) {
+            return Err(RunError::RowDoesNotFit(number));
+        }
+        let (cells, aligns) = self.pending.take_cells(alloc);
+        let top = self.renderers.top_mut();
+        top.append_columns_aligned(cells, &aligns, collapse)?;
+        Ok(())
+    }
+
+    /// Adds the waiting cells, one below another.
+    fn add_vertical_row(&mut self, alloc: Global) -> Result<(), RunError>
+        requires { GoesOn self.old }
+        ensures done { OnOk result (VerticalRowDoes W.columns (decoration_of D.TextDecorator)
+            (progress_meant D.meaning self.old) (progress_meant D.meaning self.new)) }
+        ensures live { OnOk result (GoesOn self.new) }
+        ensures refused { IfErr result (λ e. e ≢ RunError.OutOfMemory →
+            VerticalRowRefuses W.columns (decoration_of D.TextDecorator)
+            (progress_meant D.meaning self.old) e) }
+    {
+        let cells = self.pending.take_renderers(alloc)?;
+        self.renderers.top_mut().append_vert_row(cells)?;
+        Ok(())
+    }
+
+    /// The text of the script, whose end counts as the line of this number.
+    ///
+    /// It refuses as the end of the script does, and with `OutOfMemory` only where memory is refused.
+    pub fn finish(self, number: usize) -> Result<String, RunError>
+        requires { GoesOn self }
+        ensures text { IfOk result (λ text.
+            Ends W.columns (decoration_of D.TextDecorator) (progress_meant D.meaning self) number
+            (Ok (string_bytes text))) }
+        ensures refused { IfErr result (λ e. e ≢ RunError.OutOfMemory →
+            Ends W.columns (decoration_of D.TextDecorator) (progress_meant D.meaning self) number (Err e)) }
+    {
+        if !self.opened.is_empty() || self.pending.has_cells() {
+            return Err(RunError::NotACommand(number));
+        }
+        let (renderer, targets) = self.renderers.into_inner();
+        Ok(close(renderer, targets)?)
+    }
+
+    /// The lines of the text, where no level is open and no cell waits. It refuses as `finish` does then.
+    pub fn finish_lines(self) -> Result<LinkedList<RenderLine<Vec<D::Annotation>>>, Error>
+        requires live { GoesOn self }
+        requires opened { self.opened ≡ [] }
+        requires cells { self.pending.cells ≡ [] }
+        ensures lines { IfOk result (λ lines. OfTop (λ r.
+            closed W.columns (decoration_of D.TextDecorator) self.stack.links (meant D.meaning r)
+            ≡ done (map (map_line (tag_meant D.meaning)) (map line_seen lines))) self.stack) }
+        ensures too_narrow { result ≡ Err Refusal.TooNarrow → OfTop (λ r.
+            closed W.columns (decoration_of D.TextDecorator) self.stack.links (meant D.meaning r)
+            ≡ refused Refusal.TooNarrow) self.stack }
+    {
+        let (renderer, targets) = self.renderers.into_inner();
+        close_lines(renderer, targets)
+    }
+
+    /// The renderer of the innermost level.
+    pub fn top(&self) -> &SubRenderer<D, W>
+        requires { GoesOn self.now }
+        ensures { top_of self.now.stack ≡ Some result.now }
+    {
+        self.renderers.top()
+    }
+
+    /// The text of a prefix of the decorator of the innermost level. It refuses only where memory is refused, and
+    /// changes nothing.
+    pub fn prefix(&mut self, prefix: DecoratorPrefix) -> Result<String, Error>
+        requires { GoesOn self.old }
+        ensures text { IfOk result (λ text.
+            OfTop (λ r. chars_of text ≡ D.prefix_text r.decorator (asked_prefix prefix)) self.old.stack) }
+        ensures memory { IfErr result (λ e. e ≡ Refusal.OutOfMemory) }
+        ensures unchanged { self.new ≡ self.old }
+    {
+        let top = self.renderers.top_mut();
+        prefix_of(top, prefix)
+    }
+
+    /// How many levels are open inside the outermost one.
+    pub fn open_levels(&self) -> usize
+        ensures { result ≡ length self.now.opened }
+    {
+        self.opened.len()
+    }
+
+    /// How many links are open in the innermost level.
+    pub fn open_links(&self) -> usize
+        requires { GoesOn self.now }
+        ensures { result ≡ length (open_links self.now.stack) }
+    {
+        self.renderers.open_links()
+    }
+
+    /// How many cells wait in the innermost level.
+    pub fn waiting_cells(&self) -> usize
+        ensures { result ≡ length self.now.pending.cells }
+    {
+        self.pending.cells().len()
+    }
+}

@@ -1,8 +1,0 @@
-use Rattle.std.proofs.Common.{sym, subst}
-use Rattle.tbr_runner.specs.Progress.{GoesOn}
-use Rattle.tbr_runner.proofs.Levels.{below_live}
-use Rattle.tbr_runner.proofs.program.Program.close.Goals as goal
-
-pub returns-clause-live : goal.returns-clause-live
-returns-clause-live g c =
-    below_live c.self.inside.renderers c.self.inside.pending c.self.inside.opened (subst GoesOn (sym c.self.view_is) c.requires.live) c.pop-inside.new.self c.close.result c.close.new.self c.pop-inside.ensures.below c.close.ensures

@@ -1,0 +1,3 @@
+mod NearWords
+mod Statements
+pub mod FirstWords

@@ -1,0 +1,98 @@
+//! Blocks with the decorator's own prefixes.
+ghost use Rattle.std.specs.Prelude.{◌≡◌, IfOk, chars, string_bytes};
+ghost use Rattle.tbr_tagged.specs.View.{chars_of};
+ghost use Rattle.tbr_decor.specs.Prefix.{asked_prefix};
+ghost use Rattle.tbr_statements.specs.Block as model;
+
+use std::alloc::Global;
+use tbr_decor::DecoratorPrefix;
+use tbr_lines::{CharWidth, OutOfMemory, spaces, text_width};
+use tbr_script::TextPair;
+
+/// A block that comes after a prefix of the decorator.
+#[derive(Clone, Copy, Debug, PartialEq, Eq)]
+pub enum Block {
+    /// A quotation: each line after the prefix, and empty lines round it.
+    Quote,
+    /// An item of a list: the first line after the prefix, and the others after as many spaces.
+    Item,
+    /// The item of this number.
+    Ordered(i64),
+    /// A heading of this level: each line after the prefix, and empty lines round it.
+    Heading(usize),
+}
+
+impl Block {
+    /// The prefix that the decorator is asked for.
+    pub fn prefix(self) -> DecoratorPrefix
+        ensures { asked_prefix result ≡ model.prefix_of self }
+    {
+        match self {
+            Block::Quote => DecoratorPrefix::Quote,
+            Block::Item => DecoratorPrefix::Item,
+            Block::Ordered(number) => DecoratorPrefix::OrderedItem(number),
+            Block::Heading(level) => DecoratorPrefix::Header(level),
+        }
+    }
+
+    /// Whether it is a block of its own, with an empty line before it and after it.
+    pub fn stands_apart(self) -> bool
+        ensures { result ≡ model.stands_apart self }
+    {
+        matches!(self, Block::Quote | Block::Heading(_))
+    }
+
+    /// The command that ends it.
+    pub fn end(self) -> &'static str
+        ensures { result.now ≡ model.end_of self }
+    {
+        match self {
+            Block::Quote => "endquote",
+            Block::Item => "enditem",
+            Block::Ordered(_) => "endordered",
+            Block::Heading(_) => "endheading",
+        }
+    }
+
+    /// What an error calls it.
+    pub fn name(self) -> &'static str
+        ensures { result.now ≡ model.name_of self }
+    {
+        match self {
+            Block::Quote => "a quote",
+            Block::Item => "an item",
+            Block::Ordered(_) => "an ordered item",
+            Block::Heading(_) => "a heading",
+        }
+    }
+
+    /// What is before its first line, and before the others, where the decorator's prefix is this one. It refuses
+    /// where memory is refused, and where the prefix's columns pass `usize`.
+    pub fn prefixes<W: CharWidth>(
+        self,
+        alloc: Global,
+        prefix: String,
+    ) -> Result<TextPair, OutOfMemory>
+        ensures first { IfOk result (λ texts. string_bytes texts.first ≡ string_bytes prefix) }
+        ensures others { IfOk result (λ texts.
+            chars_of texts.second ≡ model.other_prefix W.columns self (chars_of prefix)) }
+    {
+        let second = self.other_prefix::<W>(alloc, prefix.as_str())?;
+        Ok(TextPair {
+            first: prefix,
+            second,
+        })
+    }
+
+    /// What is before its lines but the first.
+    fn other_prefix<W: CharWidth>(self, alloc: Global, prefix: &str) -> Result<String, OutOfMemory>
+        ensures { IfOk result (λ other.
+            chars_of other ≡ model.other_prefix W.columns self (chars prefix.now)) }
+    {
+        if self.stands_apart() {
+            Ok(String::from_str(alloc, prefix)?)
+        } else {
+            spaces(alloc, text_width::<W>(prefix)?)
+        }
+    }
+}

@@ -1,0 +1,15 @@
+//! What the lines of a script for people ask for, what is open there, and what its errors say.
+#![tactic(auto)]
+
+pub use block::Block;
+pub use level::{Level, Levels, Notes, Opener, TooWide};
+pub use problem::{Kind, Problem, Refusal, Related};
+pub use statement::{Statement, is_skipped};
+
+pub mod advice;
+mod block;
+mod fault;
+mod level;
+mod problem;
+mod statement;
+mod words;

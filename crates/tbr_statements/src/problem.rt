@@ -1,0 +1,92 @@
+//! What is wrong with a script.
+ghost use Rattle.std.specs.Prelude.{◌≡◌};
+ghost use Rattle.tbr_statements.specs.Problem as model;
+
+use std::alloc::{AllocError, AllocFailed};
+use tbr_lines::{Error, OutOfMemory};
+
+/// The kinds of problems.
+#[derive(Clone, Copy, Debug, PartialEq, Eq)]
+pub enum Kind {
+    /// The line is no command, or not the first one that it should be, or the script has none.
+    NotACommand,
+    /// The line ends what isn't open there.
+    NothingToEnd,
+    /// The script ends inside a block or a cell.
+    StillOpen,
+    /// A level closes, or the script ends, before the row of cells that wait.
+    CellsWait,
+    /// Cells of a row are in the way of those that overhang from the rows above.
+    RowDoesNotFit,
+    /// A character is wider than its block.
+    TooNarrow,
+    /// The prefix of a block leaves it no column.
+    NoRoom,
+    /// A cell takes more rows than come, and lines of it are in no row.
+    LinesLost,
+}
+
+impl Kind {
+    /// The status with which a program ends that finds such a problem: that of `blockrender`, or 0 where something was
+    /// lost.
+    pub fn status(self) -> u8
+        ensures { result ≡ model.status_of self }
+    {
+        match self {
+            Kind::LinesLost => 0,
+            Kind::TooNarrow => 1,
+            _ => 2,
+        }
+    }
+}
+
+/// What is wrong with a script, or what was lost of it.
+#[derive(Debug, Drop)]
+pub struct Problem {
+    /// Its kind.
+    pub kind: Kind,
+    /// The line at fault, counted from 1. Where the script ends too early it is the one after the last.
+    pub line: usize,
+    /// What is wrong with it.
+    pub message: String,
+    /// Another line that this has to do with.
+    pub related: Option<Related>,
+    /// One way to put it right.
+    pub help: String,
+}
+
+/// A line that a problem has to do with.
+#[derive(Clone, Copy, Debug)]
+pub struct Related {
+    /// The line, counted from 1.
+    pub line: usize,
+    /// What is there.
+    pub note: &'static str,
+}
+
+/// Why a script isn't shown.
+#[derive(Debug, Drop)]
+pub enum Refusal {
+    /// Memory was refused, or a size passes `usize`.
+    OutOfMemory,
+    /// The script is at fault.
+    Script(Problem),
+}
+
+impl From<AllocError> for Refusal {
+    fn from(_e: AllocError) -> Refusal {
+        Refusal::OutOfMemory
+    }
+}
+
+impl<T: Drop> From<AllocFailed<T>> for Refusal {
+    fn from(_e: AllocFailed<T>) -> Refusal {
+        Refusal::OutOfMemory
+    }
+}
+
+impl From<OutOfMemory> for Refusal {
+    fn from(_e: OutOfMemory) -> Refusal {
+        Refusal::OutOfMemory
+    }
+}

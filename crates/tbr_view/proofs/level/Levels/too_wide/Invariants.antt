@@ -1,6 +1,0 @@
-use Rattle.std.proofs.Common.{◌≡◌, take}
-use Rattle.tbr_view.specs.Level.{outside_too_wide}
-use Rattle.tbr_view.proofs.level.Levels.too_wide.Given as goal
-
-abbrev pub invariant-loop-level : goal.invariant-loop-level
-invariant-loop-level l = l.found ≡ outside_too_wide (take l.level-index l.level-items)

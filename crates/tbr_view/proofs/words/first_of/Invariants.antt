@@ -1,6 +1,0 @@
-use Rattle.std.proofs.Common.{map, take}
-use Rattle.tbr_view.specs.Words.{NoneBegins}
-use Rattle.tbr_view.proofs.words.first_of.Given as goal
-
-abbrev pub invariant-loop-text : goal.invariant-loop-text
-invariant-loop-text l = NoneBegins l.word (map (λ s. s.now) (take l.text-index l.among))
