@@ -1,5 +1,5 @@
 -- What a line of a script does, or with what it is refused.
-use Rattle.std.proofs.Common.{◌≡◌, ℕ, suc, ◌+◌, ◌==◌, true, false, Option, List, [], ◌∷◌, length, Result, Err, refl, sym, subst, inl, inr, arith}
+use Rattle.std.proofs.Common.{◌≡◌, ℕ, suc, ◌==◌, true, false, Option, List, [], ◌∷◌, length, refl, sym, inl, inr, arith}
 use Rattle.std.proofs.lemmas.Bool.{false≢true, eqb-true}
 use Rattle.tbr_decor.specs.Decoration.{Decoration}
 use Rattle.tbr_commands.specs.Command.{Command}

@@ -1,5 +1,5 @@
 -- The meaning of a script's commands, one by one: where each leads, and with what it is refused.
-use Rattle.std.specs.Prelude.{◌≡◌, ◌≢◌, ℕ, ◌+◌, ◌⊎◌, Bool, true, false, Option, None, Some, Result, Err, MatchResult, List, [], ◌∷◌, ◌++◌, map, length, chars}
+use Rattle.std.specs.Prelude.{◌≡◌, ◌≢◌, ℕ, ◌⊎◌, Bool, true, false, Option, None, Some, Result, MatchResult, List, [], ◌∷◌, ◌++◌, map, length, chars}
 use Rattle.std.specs.List.{AllZip}
 use Rattle.tbr_tagged.specs.declared.CellAlign.{CellAlign}
 use Rattle.tbr_rows.specs.Cells.{row_fits}
@@ -15,23 +15,18 @@ use Rattle.text_block_renderer.specs.Calls.{new_line, append_subrender, append_v
 use Rattle.text_block_renderer.specs.Rows.{spots_of, GivenCell, align_in, GivesCell, AppendsRow}
 use Rattle.tbr_script.specs.declared.error.RunError.{RunError}
 use Rattle.tbr_script.specs.declared.error.RunError.TheVariants.{TooNarrow, NotACommand, NothingToEnd, RowDoesNotFit}
-use Rattle.tbr_script.specs.Script.{lines_of}
 use Rattle.tbr_stack.specs.Stack.{new_stack, top_of, pushed, below}
 use Rattle.tbr_stack.specs.Top.{in_top, ChangesTop, OfTop}
 use Rattle.tbr_stack.specs.Links.{open_links, after_link_start, after_link_end}
-use Rattle.tbr_commands.specs.declared.opening.Decorator.{Decorator}
-use Rattle.tbr_commands.specs.declared.opening.Decorator.TheVariants.{Plain, Trivial, Rich}
 use Rattle.tbr_commands.specs.declared.opening.Opening.{Opening}
 use Rattle.tbr_commands.specs.Request.{Request, call_of}
 use Rattle.tbr_commands.specs.Command.{Command, ask, link, end_link, sub, append, cell, end_cell, row, vertical_row}
 use Rattle.tbr_commands.specs.Syntax.{IsCommand}
-use Rattle.tbr_commands.specs.Opening.{IsOpening}
 use Rattle.tbr_commands.specs.Begun.{ends_nothing, counted}
 use Rattle.tbr_program.specs.declared.opened.Opener.{Opener}
 use Rattle.tbr_program.specs.declared.opened.Opener.TheVariants.{Sub, Cell}
 use Rattle.tbr_program.specs.Prefixes.{prefixes}
 use Rattle.tbr_program.specs.Progress.{Pending, Opened, Progress, nothing_pending}
-use Rattle.tbr_program.specs.Decorations.{plain_decoration, trivial_decoration, rich_decoration}
 use Rattle.tbr_program.specs.Closing.{closed_text}
 
 -- ---- after the first command, under any decorator

@@ -1,13 +1,12 @@
 -- What lines give, one after another.
-use Rattle.std.proofs.Common.{◌≡◌, ℕ, suc, ◌+◌, ◌==◌, true, false, Option, List, [], ◌∷◌, length, Result, Err, refl, sym, subst, inl, inr, arith}
-use Rattle.std.proofs.lemmas.Bool.{false≢true, eqb-true}
+use Rattle.std.proofs.Common.{◌≡◌, ℕ, ◌+◌, ◌==◌, true, false, Option, List, [], ◌∷◌, length, Result, Err, refl, sym, subst, inl, inr}
+use Rattle.std.proofs.lemmas.Bool.{false≢true}
 use Rattle.tbr_decor.specs.Decoration.{Decoration}
 use Rattle.tbr_script.specs.declared.error.RunError.{RunError}
 use Rattle.tbr_script.specs.declared.error.RunError.TheVariants.{NotACommand}
 use Rattle.tbr_commands.specs.declared.opening.Decorator.{Decorator}
 use Rattle.tbr_commands.specs.declared.opening.Opening.{Opening}
 use Rattle.tbr_script.specs.Script.{lines_of}
-use Rattle.tbr_commands.specs.Syntax.{IsCommand}
 use Rattle.tbr_commands.specs.Opening.{IsOpening}
 use Rattle.tbr_program.specs.Progress.{Progress}
 use Rattle.tbr_program.specs.Meaning.{LineDoes, LineRefuses, Ends}

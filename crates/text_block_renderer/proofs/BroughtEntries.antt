@@ -237,19 +237,19 @@ module _ {D A : Type 0} (columns : ℕ → Option ℕ) where
     waits_kept = waits_behind_kept columns (text_of_lines r.lines) r.waiting ended h;
   }
 
-  stand : (r : Renderer D A (List A)) (es : List (Entry (List A))) → (h : Stands columns r es) → StandFor columns (items_so_far r) h.ended
+  pub stand : (r : Renderer D A (List A)) (es : List (Entry (List A))) → (h : Stands columns r es) → StandFor columns (items_so_far r) h.ended
   stand r es h = record { order = h.order; names = names_before columns (text_of_lines r.lines) r.waiting ∙ h.markers; kept = h.kept }
 
   pub new_stands : (width : ℕ) (options : RenderOptions) (decorator : D) → Stands columns (new_renderer {D = D} {A = A} width options decorator) []
   new_stands width options decorator = stands (new_renderer width options decorator) [] [] refl (nothing_stands columns)
 
   -- nothing more is there
-  as_before : (r s : Renderer D A (List A)) (es ended : List (Entry (List A))) → SeenBehind (items_so_far r) [] (items_so_far s) → ended ++ open_run s.block ≡ es → StandFor columns (items_so_far r) ended → Stands columns s es
+  pub as_before : (r s : Renderer D A (List A)) (es ended : List (Entry (List A))) → SeenBehind (items_so_far r) [] (items_so_far s) → ended ++ open_run s.block ≡ es → StandFor columns (items_so_far r) ended → Stands columns s es
   as_before r s es ended seen whole h =
       let k : StandFor columns (items_so_far s) (ended ++ []) = stand_behind columns (items_so_far r) [] (items_so_far s) ended [] seen h (nothing_stands columns) in
       stands s es ended whole (subst (λ (fs : List (Entry (List A))). StandFor columns (items_so_far s) fs) (append-nil ended) k)
 
-  same_seen : (r s : Renderer D A (List A)) → items_so_far s ≡ items_so_far r → SeenBehind (items_so_far r) [] (items_so_far s)
+  pub same_seen : (r s : Renderer D A (List A)) → items_so_far s ≡ items_so_far r → SeenBehind (items_so_far r) [] (items_so_far s)
   same_seen r s e Y look looks = ap look e ∙ sym (append-nil (look (items_so_far r))) ∙ ap (λ ys. look (items_so_far r) ++ ys) (sym looks.nothing)
 
   flush_stands : (r s : Renderer D A (List A)) (o : Option (Open (List A))) (es : List (Entry (List A))) → o ≡ r.block → FlushesBlock columns r o s → IsSound columns r → Stands columns r es → Stands columns s es
@@ -276,7 +276,7 @@ module _ {D A : Type 0} (columns : ℕ → Option ℕ) where
       ap (λ (o : Option (Open (List A))). (k.ended ++ more) ++ open_run o) none ∙ append-nil (k.ended ++ more) ∙ ap (λ fs. fs ++ more) nothing in
       subst (λ (q : Renderer D A (List A)). Stands columns q (es ++ more)) (sym e) (stands after (es ++ more) (k.ended ++ more) whole all)
 
-  rule_stands : (r s : Renderer D A (List A)) (b : Border (List A)) (es : List (Entry (List A))) → r.options.pad_block_width ≡ false → s ≡ with_border columns r b → Stands columns r es → Stands columns s es
+  pub rule_stands : (r s : Renderer D A (List A)) (b : Border (List A)) (es : List (Entry (List A))) → r.options.pad_block_width ≡ false → s ≡ with_border columns r b → Stands columns r es → Stands columns s es
   rule_stands r s b es unpadded e k =
       let same : items_so_far (with_border columns r b) ≡ items_so_far r =
       ap (λ l. text_of_lines (r.lines ++ l ∷ []) ++ marker_items r.waiting) (border_stays columns r b unpadded) ∙ ap (λ is. is ++ marker_items r.waiting) (no_text_behind r.lines b) in
@@ -293,7 +293,7 @@ module _ {D A : Type 0} (columns : ℕ → Option ℕ) where
       let same : items_so_far s ≡ items_so_far r = ap (λ (ls : List (Line (List A))). text_of_lines ls ++ marker_items s.waiting) h.lines ∙ ap (λ ns. text_of_lines r.lines ++ marker_items ns) h.waiting in
       as_before r s es k.ended (same_seen r s same) (ap (λ (o : Option (Open (List A))). k.ended ++ open_run o) h.block ∙ k.whole) (stand r es k)
 
-  move_stands : (m : Move D A) (r s : Renderer D A (List A)) (es : List (Entry (List A))) → Makes columns undrawn m r s → IsSound columns r → Stands columns r es → Stands columns s (es ++ brought_by m)
+  pub move_stands : (m : Move D A) (r s : Renderer D A (List A)) (es : List (Entry (List A))) → Makes columns undrawn m r s → IsSound columns r → Stands columns r es → Stands columns s (es ++ brought_by m)
   move_stands (flush q) r s es h sound k = subst (Stands columns s) (sym (append-nil es)) (flush_stands r s r.block es refl h.1 sound k)
   move_stands (line is) r s es h sound k = put_stands r s is es h.1 h.2 k
   move_stands (rule cells) r s es h sound k = subst (Stands columns s) (sym (append-nil es)) (rule_stands r s (without_holes cells r.annotations) es h.0 h.2 k)

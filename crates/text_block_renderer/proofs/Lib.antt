@@ -23,5 +23,6 @@ pub mod Lists
 pub mod OverhangingCells
 pub mod ActParts
 pub mod Headline
-pub mod VisibleInActs
+pub mod ActsKeep
+pub mod WaitingUnderRows
 pub mod SoundRenderers

@@ -31,7 +31,7 @@ row_flushes columns r m h = flushes columns r m (live_done r.failure (after_flus
 
 -- ---- texts only come
 
-pub text_append : {T : Type 0} (xs ys : List (Line T)) → text_of_lines (xs ++ ys) ≡ text_of_lines xs ++ text_of_lines ys
+text_append : {T : Type 0} (xs ys : List (Line T)) → text_of_lines (xs ++ ys) ≡ text_of_lines xs ++ text_of_lines ys
 text_append [] ys = refl
 text_append (text is ∷ xs) ys = ap (λ js. is ++ js) (text_append xs ys) ∙ sym (append_assoc is (text_of_lines xs) (text_of_lines ys))
 text_append (border b ∷ xs) ys = text_append xs ys
@@ -49,16 +49,26 @@ without_border (l ∷ m ∷ ls) b e =
     let next : length (l ∷ m ∷ ls) - 1 ≡ suc (length (m ∷ ls) - 1) = omega arith in
     ap (λ n. text_of_lines (take n (l ∷ m ∷ ls))) next ∙ text_behind l (without_last (m ∷ ls)) (m ∷ ls) (without_border (m ∷ ls) b e)
 
-pub cut_texts : {T : Type 0} (ls : List (Line T)) → text_of_lines (before_border ls) ≡ text_of_lines ls
+cut_texts : {T : Type 0} (ls : List (Line T)) → text_of_lines (before_border ls) ≡ text_of_lines ls
 cut_texts {T} ls = go (last_border ls) refl
   where
     go : (o : Option (Border T)) → last_border ls ≡ o → text_of_lines (if is_some o then without_last ls else ls) ≡ text_of_lines ls
     go None e = refl
     go (Some b) e = without_border ls b e
 
-pub no_texts : {T : Type 0} (o : Option (Border T)) → text_of_lines (border_lines o) ≡ []
+no_texts : {T : Type 0} (o : Option (Border T)) → text_of_lines (border_lines o) ≡ []
 no_texts None = refl
 no_texts (Some b) = refl
+
+-- a renderer with the border above a row in the place of its last line, if that is one
+abbrev pub under_row : {D A : Type 0} → Renderer D A (List A) → SeenRow (List A) → Renderer D A (List A)
+under_row r row = record r { lines = before_border r.lines ++ border_lines row.above; hanging = row.overhang }
+
+-- it has the same text
+pub same_texts : {D A : Type 0} (r : Renderer D A (List A)) (row : SeenRow (List A)) → text_of_lines (under_row r row).lines ≡ text_of_lines r.lines
+same_texts r row =
+    text_append (before_border r.lines) (border_lines row.above) ∙ ap (λ is. text_of_lines (before_border r.lines) ++ is) (no_texts row.above) ∙ append-nil (text_of_lines (before_border r.lines))
+    ∙ cut_texts r.lines
 
 module _ {D A : Type 0} (columns : ℕ → Option ℕ) where
   next_grows : (r : Renderer D A (List A)) (o : Option (Border (List A))) → Grows r (with_next columns r o)
@@ -67,14 +77,14 @@ module _ {D A : Type 0} (columns : ℕ → Option ℕ) where
 
   row_texts : (r : Renderer D A (List A)) (row : SeenRow (List A)) → (more : List (Item (List A))) × (text_of_lines (with_row columns r row).lines ≡ text_of_lines r.lines ++ more)
   row_texts r row =
-      let top : Renderer D A (List A) = record r { lines = before_border r.lines ++ border_lines row.above; hanging = row.overhang } in
+      let top = under_row r row in
       let texts = lines_grow columns row.lines top in
       let next = next_grows (fold (with_line columns) top row.lines) row.next in
       let came : List (Line (List A)) = texts.0 ++ next.0 in
       let whole : (with_row columns r row).lines ≡ top.lines ++ came = next.1 ∙ ap (λ ls. ls ++ next.0) texts.1 ∙ append_assoc top.lines texts.0 next.0 in (
         text_of_lines came,
         ap text_of_lines whole ∙ text_append top.lines came
-            ∙ ap (λ is. is ++ text_of_lines came) (text_append (before_border r.lines) (border_lines row.above) ∙ ap (λ is. text_of_lines (before_border r.lines) ++ is) (no_texts row.above) ∙ append-nil (text_of_lines (before_border r.lines)) ∙ cut_texts r.lines),
+            ∙ ap (λ is. is ++ text_of_lines came) (same_texts r row),
       )
 
   pub texts_only_come : (collapses : Bool) (cells : List (GivenCell (List A))) (r s : Renderer D A (List A)) → AppendsRow columns collapses cells r s → (more : List (Item (List A))) × (text_of_lines s.lines ≡ text_of_lines r.lines ++ more)

@@ -118,7 +118,7 @@ module _ {D A : Type 0} (columns : ℕ → Option ℕ) where
       subst (λ (q : Renderer D A (List A)). Shows columns q es) (sym h.is) (record { ended = k.ended ++ (run_of b.events); shown = both; whole = whole })
 
   -- laid items, put as a line where no block is open
-  pub shows_put : (r s : Renderer D A (List A)) (is : List (Item (List A))) (es : List (Entry (List A))) → r.block ≡ None → s ≡ with_line columns r is → Shows columns r es → Shows columns s (es ++ laid_entries is)
+  shows_put : (r s : Renderer D A (List A)) (is : List (Item (List A))) (es : List (Entry (List A))) → r.block ≡ None → s ≡ with_line columns r is → Shows columns r es → Shows columns s (es ++ laid_entries is)
   shows_put r s is es none e k =
       let more : List (Entry (List A)) = laid_entries is in
       let both : AllZip (IsShown (λ x y. x ≡ y)) (visible_glyphs columns (text_of_lines r.lines) ++ visible_glyphs columns is) (visible_entries columns (k.ended ++ more)) =
@@ -155,7 +155,7 @@ module _ {D A : Type 0} (columns : ℕ → Option ℕ) where
   with_none : (s : Renderer D A (List A)) (es : List (Entry (List A))) → Shows columns s es → Shows columns s (es ++ [])
   with_none s es k = subst (Shows columns s) (sym (append-nil es)) k
 
-  shows_move : (m : Move D A) (r s : Renderer D A (List A)) (es : List (Entry (List A))) → Makes columns undrawn m r s → IsSound columns r → Shows columns r es → Shows columns s (es ++ brought_by m)
+  pub shows_move : (m : Move D A) (r s : Renderer D A (List A)) (es : List (Entry (List A))) → Makes columns undrawn m r s → IsSound columns r → Shows columns r es → Shows columns s (es ++ brought_by m)
   shows_move (flush q) r s es h sound k = with_none s es (shows_flush r s r.block es refl h.1 sound k)
   shows_move (line is) r s es h sound k = shows_put r s is es h.1 h.2 k
   shows_move (rule cells) r s es h sound k = with_none s es (shows_rule r s (without_holes cells r.annotations) es h.0 h.2 k)

@@ -167,7 +167,7 @@ first_text_stays (text js ∷ ls) ms is e = e
 first_text_stays (border b ∷ ls) ms is e = first_text_stays ls ms is e
 
 module _ {D A : Type 0} where
-  wait_on : (r q s : Renderer D A (List A)) → WaitForText r q → WaitForText q s → WaitForText r s
+  pub wait_on : (r q s : Renderer D A (List A)) → WaitForText r q → WaitForText q s → WaitForText r s
   wait_on r q s g h = go (first_text g.more) refl
     where
       lines : s.lines ≡ r.lines ++ (g.more ++ h.more)
@@ -202,7 +202,7 @@ module _ {D A : Type 0} where
     wait = λ none. (names, waiting);
   }
 
-  same_wait : (r s : Renderer D A (List A)) → s.lines ≡ r.lines → s.waiting ≡ r.waiting → WaitForText r s
+  pub same_wait : (r s : Renderer D A (List A)) → s.lines ≡ r.lines → s.waiting ≡ r.waiting → WaitForText r s
   same_wait r s lines waiting = no_line_came r s [] lines (waiting ∙ sym (append-nil r.waiting))
 
 module _ {D A : Type 0} (columns : ℕ → Option ℕ) where
@@ -216,7 +216,7 @@ module _ {D A : Type 0} (columns : ℕ → Option ℕ) where
         wait = λ none. cc;
       }
 
-  lines_came : (ts : List (List (Item (List A)))) (r : Renderer D A (List A)) → WaitForText r (fold (with_line columns) r ts)
+  pub lines_came : (ts : List (List (Item (List A)))) (r : Renderer D A (List A)) → WaitForText r (fold (with_line columns) r ts)
   lines_came [] r = same_wait r r refl refl
   lines_came (t ∷ ts) r = wait_on r (with_line columns r t) (fold (with_line columns) (with_line columns r t) ts) (line_came r t) (lines_came ts (with_line columns r t))
 
@@ -231,7 +231,7 @@ module _ {D A : Type 0} (columns : ℕ → Option ℕ) where
       (no_line_came after (record after { waiting = after.waiting ++ (names_at_end columns r b) }) (names_at_end columns r b) refl refl))
 
   -- a border that stays one is no text
-  rule_waits : (r s : Renderer D A (List A)) (b : Border (List A)) → r.options.pad_block_width ≡ false → s ≡ with_border columns r b → WaitForText r s
+  pub rule_waits : (r s : Renderer D A (List A)) (b : Border (List A)) → r.options.pad_block_width ≡ false → s ≡ with_border columns r b → WaitForText r s
   rule_waits r s b unpadded h = record {
     more = border b ∷ [];
     lines = ap (λ (q : Renderer D A (List A)). q.lines) h ∙ ap (λ l. r.lines ++ l ∷ []) (border_stays columns r b unpadded);

@@ -9,6 +9,7 @@ use Rattle.tbr_wrap.specs.Runs.{IsNormal, AreLastOf}
 use Rattle.tbr_kept_lines.specs.Line.{Line, text, border}
 use Rattle.tbr_renderer.specs.Renderer.{Renderer, may_overflow, open_run}
 use Rattle.tbr_renderer.specs.Calls.{text_of_lines}
+use Rattle.text_block_renderer.specs.Acts.{StaysLine}
 
 -- the items of the lines of text, and after them the markers that wait
 abbrev pub items_so_far : {D A : Type 0} → Renderer D A (List A) → List (Item (List A))
@@ -57,5 +58,14 @@ BeginsWith {X} front all = (rest : List X) × (all ≡ front ++ rest)
 pub record WaitForText {D A : Type 0} (r s : Renderer D A (List A)) : Type 0 where
   pub more : List (Line (List A))
   pub lines : s.lines ≡ r.lines ++ more
+  pub stand : (is : List (Item (List A))) → first_text more ≡ Some is → BeginsWith (marker_items r.waiting) is
+  pub wait : first_text more ≡ None → BeginsWith r.waiting s.waiting
+
+-- So they do where rows come too, which give borders other cells.
+pub record WaitForTextUnderRows {D A : Type 0} (r s : Renderer D A (List A)) : Type 0 where
+  pub kept : List (Line (List A))
+  pub more : List (Line (List A))
+  pub lines : s.lines ≡ kept ++ more
+  pub stay : AllZip StaysLine r.lines kept
   pub stand : (is : List (Item (List A))) → first_text more ≡ Some is → BeginsWith (marker_items r.waiting) is
   pub wait : first_text more ≡ None → BeginsWith r.waiting s.waiting

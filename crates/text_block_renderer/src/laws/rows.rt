@@ -6,6 +6,7 @@ ghost use Rattle.tbr_renderer.specs.Renderer.{Renderer, settings_of, IsSound};
 ghost use Rattle.tbr_renderer.specs.Calls.{text_of_lines, Shows};
 ghost use Rattle.tbr_renderer.specs.Rows.{GivenCell, AppendsRow};
 ghost use Rattle.text_block_renderer.specs.Acts.{Act, ActsBring};
+ghost use Rattle.text_block_renderer.specs.MarkersStand.{Stands, WaitForTextUnderRows};
 
 /// A row takes no line of text back: its texts come after those that there are.
 pub fn a_row_takes_no_text_back<D, A>()
@@ -35,4 +36,23 @@ pub fn visible_characters_stand_once_with_rows_too<D, A>()
         (r s : Renderer D A (List A)) (before es : List (Entry (List A))) → IsSound columns r →
         r.options.pad_block_width ≡ false → ActsBring columns decoration acts r es s → Shows columns r before →
         Shows columns s (before ++ es) }
+{}
+
+/// And what calls and rows brought is in the lines of text, or is a marker that waits, as [`what_was_brought_stands`]
+/// says it of calls, where lines aren't padded.
+///
+/// [`what_was_brought_stands`]: super::what_was_brought_stands
+pub fn what_was_brought_stands_with_rows_too<D, A>()
+    ensures { (columns : ℕ → Option ℕ) (decoration : Decoration D A) (acts : List (Act (List A)))
+        (r s : Renderer D A (List A)) (before es : List (Entry (List A))) → IsSound columns r →
+        r.options.pad_block_width ≡ false → ActsBring columns decoration acts r es s → Stands columns r before →
+        Stands columns s (before ++ es) }
+{}
+
+/// Markers that wait begin the next line of text, by a call or by a row, and until then they wait, where lines aren't
+/// padded.
+pub fn waiting_markers_begin_the_next_text_with_rows_too<D, A>()
+    ensures { (columns : ℕ → Option ℕ) (decoration : Decoration D A) (acts : List (Act (List A)))
+        (r s : Renderer D A (List A)) (es : List (Entry (List A))) → IsSound columns r →
+        r.options.pad_block_width ≡ false → ActsBring columns decoration acts r es s → WaitForTextUnderRows r s }
 {}
