@@ -13,11 +13,12 @@ use Rattle.tbr_decor.specs.Decoration.{Decoration}
 use Rattle.tbr_kept_lines.specs.Line.{Line, text, border}
 use Rattle.tbr_renderer.specs.Renderer.{Renderer, IsSound}
 use Rattle.tbr_renderer.specs.Appended.{border_of_cells, with_border, as_text, prefixed, with_divider, with_cell, with_cell_below, with_cells, handed_out}
-use Rattle.tbr_renderer.specs.Calls.{Call, add_empty_line, new_line, new_line_hard, start_block, start_table, end_block, add_inline_text, push_ws, pop_ws, push_preformat, pop_preformat, record_frag_start, begin, finish, start_strikeout, end_strikeout, add_image, push_colour, pop_colour, add_border, append_subrender, append_vert_row, after, Does, Steps, text_of_lines, Shows}
+use Rattle.tbr_renderer.specs.Calls.{Call, add_empty_line, new_line, new_line_hard, start_block, start_table, end_block, add_inline_text, push_ws, pop_ws, push_preformat, pop_preformat, record_frag_start, begin, finish, start_strikeout, end_strikeout, add_image, push_colour, pop_colour, add_border, append_subrender, append_vert_row, Does, text_of_lines, Shows}
 use Rattle.tbr_tagged.specs.Outcome.{done}
-use Rattle.tbr_renderer.specs.Outcomes.{run}
-use Rattle.tbr_renderer.proofs.OutcomeParts.{done_first}
 use Rattle.tbr_renderer.proofs.CallParts.{handed_then}
+use Rattle.text_block_renderer.specs.Acts.{Act, call, row, ActBrings, ActsBring}
+use Rattle.text_block_renderer.proofs.ActParts.{alone}
+use Rattle.text_block_renderer.proofs.RowsOfCells.{texts_only_come}
 use Rattle.text_block_renderer.proofs.Moves.{flush}
 use Rattle.text_block_renderer.proofs.VerticalRows.{cells_after}
 use Rattle.text_block_renderer.specs.Drawn.{Put, as_it_is, drawn, line_put, not_drawn, WithoutDrawnBorders}
@@ -104,11 +105,19 @@ module _ {T : Type 0} (columns : ℕ → Option ℕ) where
 -- ---- calls
 
 module _ {D A : Type 0} (columns : ℕ → Option ℕ) where
-  -- more lines lose none
+  -- more text loses none
+  abbrev MoreText : Renderer D A (List A) → Renderer D A (List A) → Type 0
+  MoreText r s = (more : List (Item (List A))) × (text_of_lines s.lines ≡ text_of_lines r.lines ++ more)
+
+  more_within : (gs : List (ℕ × List A)) (r s : Renderer D A (List A)) → MoreText r s → StandWithin gs (seen columns r.lines) → StandWithin gs (seen columns s.lines)
+  more_within gs r s (more, is) h = subst (StandWithin gs) (sym (ap (visible_glyphs columns) is ∙ glyphs-append columns (text_of_lines r.lines) more)) (within_more gs (seen columns r.lines) (visible_glyphs columns more) h)
+
+  more_text : (r s : Renderer D A (List A)) → Grows r s → MoreText r s
+  more_text r s grows = (text_of_lines grows.0, ap text_of_lines grows.1 ∙ text_of_lines-append r.lines grows.0)
+
+  -- nor do more lines
   still_within : (gs : List (ℕ × List A)) (r s : Renderer D A (List A)) → Grows r s → StandWithin gs (seen columns r.lines) → StandWithin gs (seen columns s.lines)
-  still_within gs r s grows h =
-      let whole : seen columns s.lines ≡ seen columns r.lines ++ seen columns grows.0 = ap (seen columns) grows.1 ∙ ap (visible_glyphs columns) (text_of_lines-append r.lines grows.0) ∙ glyphs-append columns (text_of_lines r.lines) (text_of_lines grows.0) in
-      subst (StandWithin gs) (sym whole) (within_more gs (seen columns r.lines) (seen columns grows.0) h)
+  still_within gs r s grows h = more_within gs r s (more_text r s grows) h
 
   divider_keeps : (gs : List (ℕ × List A)) (cell : Cell) (r : Renderer D A (List A)) → StandWithin gs (seen columns r.lines) → StandWithin gs (seen columns (with_divider columns cell r).lines)
   divider_keeps gs cell r h = go r.options.draw_borders
@@ -178,13 +187,25 @@ module _ {D A : Type 0} (columns : ℕ → Option ℕ) where
     taken_within (pop_colour g) r s lines t h = elim t [ ]
     taken_within (add_border width) r s lines t h = elim t [ ]
 
-    steps_within : (before : List (Call (List A))) (c : Call (List A)) (behind : List (Call (List A))) (r s : Renderer D A (List A)) (lines : List (Line (List A))) → Takes lines c → Steps columns decoration (before ++ c ∷ behind) r s → StandWithin (seen columns lines) (seen columns s.lines)
-    steps_within [] c behind r s lines t h =
-        let (m, does, others) = done_first (after columns decoration c r) (run (after columns decoration) behind) s h in
-        still_within (seen columns lines) m s (steps_grow columns decoration behind m s others) (taken_within c r m lines t does)
-    steps_within (d ∷ before) c behind r s lines t h =
-        let (m, does, others) = done_first (after columns decoration d r) (run (after columns decoration) (before ++ c ∷ behind)) s h in
-        steps_within before c behind m s lines t others
+    act_adds : (act : Act (List A)) (r s : Renderer D A (List A)) (es : List (Entry (List A))) → ActBrings columns decoration act r es s → MoreText r s
+    act_adds (call c) r s es h = more_text r s (steps_grow columns decoration (c ∷ []) r s (alone columns decoration c r s es h.0 h.1).0)
+    act_adds (row collapses cells) r s es h = texts_only_come columns collapses cells r s (h.0, h.1, h.2)
+
+    -- what is there stays through calls and rows
+    acts_within : (gs : List (ℕ × List A)) (acts : List (Act (List A))) (r s : Renderer D A (List A)) (es : List (Entry (List A))) → ActsBring columns decoration acts r es s → StandWithin gs (seen columns r.lines) → StandWithin gs (seen columns s.lines)
+    acts_within gs [] r s es h k = subst (λ (q : Renderer D A (List A)). StandWithin gs (seen columns q.lines)) (sym h.0) k
+    acts_within gs (act ∷ acts) r s es h k =
+        let (m, first, rest, does, others, is) = h in
+        acts_within gs acts m s rest others (more_within gs r m (act_adds act r m first does) k)
+
+    steps_within : (before : List (Act (List A))) (c : Call (List A)) (behind : List (Act (List A))) (r s : Renderer D A (List A)) (es : List (Entry (List A))) (lines : List (Line (List A))) → Takes lines c → ActsBring columns decoration (before ++ call c ∷ behind) r es s →
+        StandWithin (seen columns lines) (seen columns s.lines)
+    steps_within [] c behind r s es lines t h =
+        let (m, first, rest, does, others, is) = h in
+        acts_within (seen columns lines) behind m s rest others (taken_within c r m lines t does.0)
+    steps_within (d ∷ before) c behind r s es lines t h =
+        let (m, first, rest, does, others, is) = h in
+        steps_within before c behind m s rest lines t others
 
     handed_within : (gs : List (ℕ × List A)) (r : Renderer D A (List A)) (lines : List (Line (List A))) → handed_out columns r ≡ done lines → StandWithin gs (seen columns r.lines) → StandWithin gs (seen columns lines)
     handed_within gs r lines h k =
@@ -195,7 +216,7 @@ module _ {D A : Type 0} (columns : ℕ → Option ℕ) where
     all_within zero inside outside h = subst (λ (ls : List (Line (List A))). StandWithin (seen columns inside) (seen columns ls)) (sym h) (within_itself (seen columns inside))
     all_within (suc depth) inside outside h =
         let (between, taken, others) = h in
-        let here = handed_within (seen columns inside) taken.last between taken.gives (steps_within taken.before taken.call taken.behind taken.first taken.last inside taken.takes taken.steps) in
+        let here = handed_within (seen columns inside) taken.last between taken.gives (steps_within taken.before taken.taking taken.behind taken.first taken.last taken.es inside taken.takes taken.bring) in
         within_on (seen columns inside) (seen columns between) (seen columns outside) here (all_within depth between outside others)
 
     pub brought_within : (depth : ℕ) (r : Renderer D A (List A)) (borders : List (List Cell)) (es : List (Entry (List A))) (inside outside : List (Line (List A))) →

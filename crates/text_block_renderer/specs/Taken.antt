@@ -1,11 +1,13 @@
 -- Lines that renderers hand out and others take.
 use Rattle.std.specs.Prelude.{◌≡◌, ℕ, zero, suc, ◌≤◌, ◌⊎◌, ⊤, Option, List, [], ◌∷◌, ◌++◌, length}
+use Rattle.tbr_model.specs.Run.{Entry}
 use Rattle.tbr_decor.specs.Decoration.{Decoration}
 use Rattle.tbr_kept_lines.specs.Line.{Line}
 use Rattle.tbr_renderer.specs.Renderer.{Renderer}
 use Rattle.tbr_tagged.specs.Outcome.{done}
 use Rattle.tbr_renderer.specs.Appended.{handed_out}
-use Rattle.tbr_renderer.specs.Calls.{Call, append_subrender, append_vert_row, Steps}
+use Rattle.tbr_renderer.specs.Calls.{Call, append_subrender, append_vert_row}
+use Rattle.text_block_renderer.specs.Acts.{Act, call, ActsBring}
 
 -- They are there in order, with others between.
 abbrev pub StandWithin : {X : Type 0} → List X → List X → Type 0
@@ -19,16 +21,18 @@ Takes lines (append_subrender prefixes taken) = (taken ≡ lines) × (length lin
 Takes {T} lines (append_vert_row cells) = (front back : List (List (Line T))) × (cells ≡ front ++ lines ∷ back)
 Takes lines other = ⊥
 
--- A renderer takes the lines at one of its calls, and hands out its own after the last.
+-- Calls and rows lead from a renderer to another. It takes the lines at one of the calls, and hands out its own after
+-- all.
 pub record TakesIn {D A : Type 0} (columns : ℕ → Option ℕ) (decoration : Decoration D A)
     (inside outside : List (Line (List A))) : Type 0 where
   pub first : Renderer D A (List A)
   pub last : Renderer D A (List A)
-  pub before : List (Call (List A))
-  pub call : Call (List A)
-  pub behind : List (Call (List A))
-  pub steps : Steps columns decoration (before ++ call ∷ behind) first last
-  pub takes : Takes inside call
+  pub before : List (Act (List A))
+  pub taking : Call (List A)
+  pub behind : List (Act (List A))
+  pub es : List (Entry (List A))
+  pub bring : ActsBring columns decoration (before ++ call taking ∷ behind) first es last
+  pub takes : Takes inside taking
   pub gives : handed_out columns last ≡ done outside
 
 -- so many renderers do, one after another
