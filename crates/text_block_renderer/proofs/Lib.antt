@@ -15,6 +15,8 @@ pub mod LaidTexts
 pub mod NestedLines
 pub mod VerticalRows
 pub mod RowsOfCells
+pub mod Within
+pub mod CellsInRows
 pub mod TakenLines
 pub mod LinkNumbers
 pub mod TwoColumns

@@ -71,7 +71,7 @@ same_texts r row =
     ∙ cut_texts r.lines
 
 module _ {D A : Type 0} (columns : ℕ → Option ℕ) where
-  next_grows : (r : Renderer D A (List A)) (o : Option (Border (List A))) → Grows r (with_next columns r o)
+  pub next_grows : (r : Renderer D A (List A)) (o : Option (Border (List A))) → Grows r (with_next columns r o)
   next_grows r None = ([], sym (append-nil r.lines))
   next_grows r (Some b) = (_, refl)
 

@@ -1,5 +1,5 @@
 -- Visible characters of lines that renderers take from one another.
-use Rattle.std.proofs.Common.{◌≡◌, ℕ, zero, suc, ◌≤◌, inl, inr, Bool, true, false, if◌then◌else◌, Option, List, [], ◌∷◌, ◌++◌, map, flat_map, fold, length, refl, ap, sym, ◌∙◌, subst, arith, append-nil}
+use Rattle.std.proofs.Common.{◌≡◌, ℕ, zero, suc, ◌≤◌, Bool, true, false, if◌then◌else◌, Option, List, [], ◌∷◌, ◌++◌, map, flat_map, fold, length, refl, ap, sym, ◌∙◌, subst, arith}
 use Rattle.std.specs.List.{AllZip}
 use Rattle.std.proofs.lemmas.Grind.{fold-append}
 use Rattle.tbr_model.specs.Run.{Entry, Item}
@@ -22,40 +22,13 @@ use Rattle.text_block_renderer.proofs.RowsOfCells.{texts_only_come}
 use Rattle.text_block_renderer.proofs.Moves.{flush}
 use Rattle.text_block_renderer.proofs.VerticalRows.{cells_after}
 use Rattle.text_block_renderer.specs.Drawn.{Put, as_it_is, drawn, line_put, not_drawn, WithoutDrawnBorders}
-use Rattle.text_block_renderer.specs.Taken.{StandWithin, Takes, AreTakenIn}
+use Rattle.text_block_renderer.specs.Taken.{StandWithin, CallTakes, Takes, AreTakenIn}
 use Rattle.text_block_renderer.proofs.AddedLines.{Grows, moves_grow, steps_grow}
+use Rattle.text_block_renderer.proofs.CellsInRows.{cell_within_row}
+use Rattle.text_block_renderer.proofs.Within.{within_behind, within_both, within_itself, within_more, within_on}
 use Rattle.text_block_renderer.proofs.LineContents.{text_of_lines-append}
 use Rattle.text_block_renderer.proofs.VisibleCharacters.{glyphs-append, handed_out_less}
 use Rattle.text_block_renderer.proofs.LaidTexts.{shown_texts, characters_appended}
-
--- ---- lists within lists
-
-module _ {X : Type 0} where
-  within_behind : (front xs ys : List X) → StandWithin xs ys → StandWithin xs (front ++ ys)
-  within_behind [] xs ys h = h
-  within_behind (f ∷ front) [] ys h = tt
-  within_behind (f ∷ front) (x ∷ xs) ys h = inr (within_behind front (x ∷ xs) ys h)
-
-  within_both : (xs ys us vs : List X) → StandWithin xs us → StandWithin ys vs → StandWithin (xs ++ ys) (us ++ vs)
-  within_both [] ys us vs h k = within_behind us ys vs k
-  within_both (x ∷ xs) ys [] vs h k = elim h [ ]
-  within_both (x ∷ xs) ys (u ∷ us) vs (inl h) k = inl (h.0, within_both xs ys us vs h.1 k)
-  within_both (x ∷ xs) ys (u ∷ us) vs (inr h) k = inr (within_both (x ∷ xs) ys us vs h k)
-
-  within_itself : (xs : List X) → StandWithin xs xs
-  within_itself [] = tt
-  within_itself (x ∷ xs) = inl (refl, within_itself xs)
-
-  within_more : (xs ys more : List X) → StandWithin xs ys → StandWithin xs (ys ++ more)
-  within_more xs ys more h = subst (λ zs. StandWithin zs (ys ++ more)) (append-nil xs) (within_both xs [] ys more h tt)
-
-  within_on : (xs ys zs : List X) → StandWithin xs ys → StandWithin ys zs → StandWithin xs zs
-  within_on [] ys zs h k = tt
-  within_on (x ∷ xs) [] zs h k = elim h [ ]
-  within_on (x ∷ xs) (y ∷ ys) [] h k = elim k [ ]
-  within_on (x ∷ xs) (y ∷ ys) (z ∷ zs) h (inr k) = inr (within_on (x ∷ xs) (y ∷ ys) zs h k)
-  within_on (x ∷ xs) (y ∷ ys) (z ∷ zs) (inl h) (inl k) = inl (h.0 ∙ k.0, within_on xs ys zs h.1 k.1)
-  within_on (x ∷ xs) (y ∷ ys) (z ∷ zs) (inr h) (inl k) = inr (within_on (x ∷ xs) ys zs h k.1)
 
 -- ---- lines as text
 
@@ -153,7 +126,7 @@ module _ {D A : Type 0} (columns : ℕ → Option ℕ) where
       (cells_keep (seen columns lines) back (with_cell_below columns p lines) (cell_within lines (with_divider columns slash p)))
 
   module _ (decoration : Decoration D A) where
-    taken_within : (c : Call (List A)) (r s : Renderer D A (List A)) (lines : List (Line (List A))) → Takes lines c → Does columns decoration c r s → StandWithin (seen columns lines) (seen columns s.lines)
+    taken_within : (c : Call (List A)) (r s : Renderer D A (List A)) (lines : List (Line (List A))) → CallTakes lines c → Does columns decoration c r s → StandWithin (seen columns lines) (seen columns s.lines)
     taken_within (append_subrender prefixes taken) r s lines t h =
         let tag = r.annotations in
         let all : StandWithin (seen columns taken) (visible_glyphs columns (joined (prefixed tag prefixes taken))) = prefixed_within columns tag prefixes taken (subst (λ (ls : List (Line (List A))). length ls ≤ length prefixes) (sym t.0) t.1) in
@@ -198,14 +171,21 @@ module _ {D A : Type 0} (columns : ℕ → Option ℕ) where
         let (m, first, rest, does, others, is) = h in
         acts_within gs acts m s rest others (more_within gs r m (act_adds act r m first does) k)
 
-    steps_within : (before : List (Act (List A))) (c : Call (List A)) (behind : List (Act (List A))) (r s : Renderer D A (List A)) (es : List (Entry (List A))) (lines : List (Line (List A))) → Takes lines c → ActsBring columns decoration (before ++ call c ∷ behind) r es s →
+    act_within : (act : Act (List A)) (r s : Renderer D A (List A)) (es : List (Entry (List A))) (lines : List (Line (List A))) → Takes lines act → ActBrings columns decoration act r es s → StandWithin (seen columns lines) (seen columns s.lines)
+    act_within (call c) r s es lines t h = taken_within c r s lines t h.0
+    act_within (row collapses cells) r s es lines t h =
+        let (cell, among, one, is) = t in
+        let (m, flushed, puts, brings) = h in
+        subst (λ (ls : List (Line (List A))). StandWithin (seen columns ls) (seen columns s.lines)) is (cell_within_row columns collapses cells m s puts cell among one)
+
+    steps_within : (before : List (Act (List A))) (act : Act (List A)) (behind : List (Act (List A))) (r s : Renderer D A (List A)) (es : List (Entry (List A))) (lines : List (Line (List A))) → Takes lines act → ActsBring columns decoration (before ++ act ∷ behind) r es s →
         StandWithin (seen columns lines) (seen columns s.lines)
-    steps_within [] c behind r s es lines t h =
+    steps_within [] act behind r s es lines t h =
         let (m, first, rest, does, others, is) = h in
-        acts_within (seen columns lines) behind m s rest others (taken_within c r m lines t does.0)
-    steps_within (d ∷ before) c behind r s es lines t h =
+        acts_within (seen columns lines) behind m s rest others (act_within act r m first lines t does)
+    steps_within (d ∷ before) act behind r s es lines t h =
         let (m, first, rest, does, others, is) = h in
-        steps_within before c behind m s rest lines t others
+        steps_within before act behind m s rest lines t others
 
     handed_within : (gs : List (ℕ × List A)) (r : Renderer D A (List A)) (lines : List (Line (List A))) → handed_out columns r ≡ done lines → StandWithin gs (seen columns r.lines) → StandWithin gs (seen columns lines)
     handed_within gs r lines h k =

@@ -7,7 +7,9 @@ use Rattle.tbr_renderer.specs.Renderer.{Renderer}
 use Rattle.tbr_tagged.specs.Outcome.{done}
 use Rattle.tbr_renderer.specs.Appended.{handed_out}
 use Rattle.tbr_renderer.specs.Calls.{Call, append_subrender, append_vert_row}
-use Rattle.text_block_renderer.specs.Acts.{Act, call, ActsBring}
+use Rattle.tbr_rows.specs.CellsShown.{StandsAmong}
+use Rattle.tbr_renderer.specs.Rows.{GivenCell}
+use Rattle.text_block_renderer.specs.Acts.{Act, call, row, ActsBring}
 
 -- They are there in order, with others between.
 abbrev pub StandWithin : {X : Type 0} → List X → List X → Type 0
@@ -16,22 +18,27 @@ StandWithin (x ∷ xs) [] = ⊥
 StandWithin (x ∷ xs) (y ∷ ys) = ((x ≡ y) × StandWithin xs ys) ⊎ StandWithin (x ∷ xs) ys
 
 -- a call that takes the lines, after as many prefixes or as a cell
-abbrev pub Takes : {T : Type 0} → List (Line T) → Call T → Type 0
-Takes lines (append_subrender prefixes taken) = (taken ≡ lines) × (length lines ≤ length prefixes)
-Takes {T} lines (append_vert_row cells) = (front back : List (List (Line T))) × (cells ≡ front ++ lines ∷ back)
-Takes lines other = ⊥
+abbrev pub CallTakes : {T : Type 0} → List (Line T) → Call T → Type 0
+CallTakes lines (append_subrender prefixes taken) = (taken ≡ lines) × (length lines ≤ length prefixes)
+CallTakes lines (append_vert_row cells) = StandsAmong lines cells
+CallTakes lines other = ⊥
 
--- Calls and rows lead from a renderer to another. It takes the lines at one of the calls, and hands out its own after
--- all.
+-- and a row takes them as a cell that spans no other row
+abbrev pub Takes : {T : Type 0} → List (Line T) → Act T → Type 0
+Takes lines (call c) = CallTakes lines c
+Takes {T} lines (row collapses cells) =
+    (cell : GivenCell T) × StandsAmong cell cells × (cell.span ≡ 1) × (cell.lines ≡ lines)
+
+-- Calls and rows lead from a renderer to another. It takes the lines at one of these, and hands out its own after all.
 pub record TakesIn {D A : Type 0} (columns : ℕ → Option ℕ) (decoration : Decoration D A)
     (inside outside : List (Line (List A))) : Type 0 where
   pub first : Renderer D A (List A)
   pub last : Renderer D A (List A)
   pub before : List (Act (List A))
-  pub taking : Call (List A)
+  pub taking : Act (List A)
   pub behind : List (Act (List A))
   pub es : List (Entry (List A))
-  pub bring : ActsBring columns decoration (before ++ call taking ∷ behind) first es last
+  pub bring : ActsBring columns decoration (before ++ taking ∷ behind) first es last
   pub takes : Takes inside taking
   pub gives : handed_out columns last ≡ done outside
 
