@@ -1,17 +1,17 @@
 -- The visible characters of a cell that spans one row are in the row's lines, whatever the cell's width.
-use Rattle.std.proofs.Common.{◌≡◌, ◌≢◌, ℕ, zero, suc, ◌+◌, ◌-◌, ◌≤◌, ◌/◌, ◌⊎◌, inl, inr, is_none, nat_lt, Bool, true, false, if◌then◌else◌, Option, List, [], ◌∷◌, ◌++◌, map, flat_map, fold, take, drop, length, refl, ap, sym, ◌∙◌, subst, arith, append_assoc, append-nil}
+use Rattle.std.proofs.Common.{◌≡◌, ◌≢◌, ℕ, zero, suc, ◌+◌, ◌-◌, ◌≤◌, ◌/◌, ◌⊎◌, inl, inr, is_none, Bool, true, false, if◌then◌else◌, Option, Some, None, List, [], ◌∷◌, ◌++◌, map, flat_map, fold, drop, length, refl, ap, sym, ◌∙◌, subst, arith, append_assoc, append-nil}
 use Rattle.std.specs.Prelude.{nat_le}
 use Rattle.std.specs.List.{AllZip}
-use Rattle.std.proofs.lemmas.List.{map-append, drop-drop, take_all, length-drop}
+use Rattle.std.proofs.lemmas.List.{map-append, drop-drop, length-drop}
 use Rattle.tbr_model.specs.Run.{Item, items_width}
 use Rattle.tbr_model.specs.Layout.{joined}
 use Rattle.tbr_model.specs.Hard.{visible_glyphs}
 use Rattle.tbr_model.proofs.lists.Joined.{joined-append}
-use Rattle.tbr_border.specs.Border.{Border}
+use Rattle.tbr_border.specs.Border.{Hole, Border, has_holes, shown}
 use Rattle.tbr_border.specs.declared.RenderLine.{RenderLine}
 use Rattle.tbr_border.specs.declared.RenderLine.TheVariants.{Text, Line as Rule}
 use Rattle.tbr_tagged.specs.declared.CellAlign.{CellAlign}
-use Rattle.tbr_tagged.specs.Elements.{Element, items_of, text_items}
+use Rattle.tbr_tagged.specs.Elements.{items_of, text_items, element_items}
 use Rattle.tbr_tagged.specs.Padding.{spaces, columns_in_front}
 use Rattle.tbr_rows.specs.declared.LineSet.{LineSet as Cell}
 use Rattle.tbr_rows.specs.declared.RowStyle.{RowStyle}
@@ -19,23 +19,21 @@ use Rattle.tbr_rows.specs.Cells.{cell_height, first_line}
 use Rattle.tbr_rows.specs.CellsShown.{StandsAmong}
 use Rattle.tbr_rows.specs.Gaps.{cell_in}
 use Rattle.tbr_rows.specs.Meant.{SeenRow, MeansRow}
-use Rattle.tbr_rows.specs.Shown.{Meeting, met, meeting, later_of, texts_in}
-use Rattle.tbr_rows.specs.Borders.{without_first_border, with_last_border_apart}
+use Rattle.tbr_rows.specs.Shown.{Meeting, met, meeting, as_lines, merged_first, merged_last}
+use Rattle.tbr_rows.specs.Borders.{first_mergeable, last_mergeable, without_first_border, with_last_border_apart}
 use Rattle.tbr_rows.specs.Rows.{separator_in}
-use Rattle.tbr_rows.specs.Texts.{row_height, row_text, cell_text, text_of_lines as cell_shows, line_text, line_texts, numbers_below}
+use Rattle.tbr_rows.specs.Texts.{row_height, row_text, cell_text, text_in_row, text_of_lines as cell_shows, line_text, line_texts, numbers_below}
 use Rattle.tbr_rows.proofs.Among.{among_cons, among_front, none_among, among_map, each_among}
-use Rattle.tbr_rows.proofs.AllLines.{all_texts, cells_meet, row_is_high_enough}
+use Rattle.tbr_rows.proofs.AllLines.{merged_and_left, cells_meet, row_is_high_enough}
 use Rattle.tbr_rows.proofs.CellsSeated.{among_own}
 use Rattle.tbr_kept_lines.specs.Line.{Line, text, border}
 use Rattle.tbr_renderer.specs.Renderer.{Renderer, with_line}
 use Rattle.tbr_renderer.specs.Rows.{GivenCell, FillsCell, ComesAs, PutsRow}
-use Rattle.tbr_renderer.specs.Calls.{text_of_lines}
 use Rattle.tbr_model.specs.Run.{glyph}
-use Rattle.text_block_renderer.specs.Taken.{StandWithin}
-use Rattle.text_block_renderer.proofs.Within.{within_behind, within_both, within_itself, within_more, within_on}
-use Rattle.text_block_renderer.proofs.LineContents.{text_of_lines-append}
+use Rattle.text_block_renderer.specs.Taken.{StandWithin, text_before, written}
+use Rattle.text_block_renderer.proofs.Within.{within_behind, within_more, within_on, two_within, itself_within, middle_within}
+use Rattle.text_block_renderer.proofs.Written.{written-append, border_shown, written_texts}
 use Rattle.text_block_renderer.proofs.VisibleCharacters.{glyphs-append}
-use Rattle.text_block_renderer.proofs.LaidTexts.{shown_texts}
 use Rattle.text_block_renderer.proofs.RowsOfCells.{under_row, next_grows}
 
 -- ---- among the items of lists
@@ -95,19 +93,45 @@ module _ {T : Type 0} where
   abbrev items_in : List (RenderLine T) → List (Item T)
   items_in [] = []
   items_in (Text es ∷ ls) = items_of es ++ items_in ls
-  items_in (Rule b ∷ ls) = items_in ls
+  items_in (Rule b ∷ ls) = text_before b ++ items_in ls
 
   items_in-append : (ls ms : List (RenderLine T)) → items_in (ls ++ ms) ≡ items_in ls ++ items_in ms
   items_in-append [] ms = refl
   items_in-append (Text es ∷ ls) ms = ap (λ is. items_of es ++ is) (items_in-append ls ms) ∙ sym (append_assoc (items_of es) (items_in ls) (items_in ms))
-  items_in-append (Rule b ∷ ls) ms = items_in-append ls ms
+  items_in-append (Rule b ∷ ls) ms = ap (λ is. text_before b ++ is) (items_in-append ls ms) ∙ sym (append_assoc (text_before b) (items_in ls) (items_in ms))
 
-  of_texts : (ls : List (RenderLine T)) → items_in (texts_in ls) ≡ items_in ls
-  of_texts [] = refl
-  of_texts (Text es ∷ ls) = ap (λ is. items_of es ++ is) (of_texts ls)
-  of_texts (Rule b ∷ ls) = of_texts ls
+  -- a border that is merged has no text in front of it
+  no_holes : (hs : List (Hole T)) → has_holes hs ≡ false → flat_map (λ (h : Hole T). element_items h.element) hs ≡ []
+  no_holes [] e = refl
+  no_holes (h ∷ hs) e = cc
 
-  -- a cell that meets a row spans as many, and one that spans one leaves nothing
+  unwritten : (ls : List (RenderLine T)) → items_in (as_lines (first_mergeable ls)) ≡ []
+  unwritten [] = refl
+  unwritten (Text es ∷ ls) = refl
+  unwritten (Rule b ∷ ls) = go (has_holes b.holes) refl
+    where
+      go : (h : Bool) → has_holes b.holes ≡ h → items_in (as_lines (if h then None else Some b)) ≡ []
+      go true e = refl
+      go false e = append-nil (text_before b) ∙ no_holes b.holes e
+
+  nothing_if : (merges : Bool) (ls : List (RenderLine T)) → items_in (if merges then as_lines (first_mergeable ls) else []) ≡ []
+  nothing_if true ls = unwritten ls
+  nothing_if false ls = refl
+
+  last_if : (merges : Bool) (ls : List (RenderLine T)) → items_in (if merges then as_lines (last_mergeable ls) else []) ≡ []
+  last_if true ls = unwritten (drop (length ls - 1) ls)
+  last_if false ls = refl
+
+  -- so a cell and what meets the row say the same
+  met_written : (m : Meeting) (c : Cell T) → items_in (met m c).lines ≡ items_in c.lines
+  met_written m c =
+      let under : Cell T = if m.first then without_first_border c else c in
+      let first = merged_first m c in
+      let last = merged_last m c in
+      sym (ap items_in (sym (merged_and_left m c)) ∙ items_in-append (first ++ (met m c).lines) last ∙ ap (λ is. items_in (first ++ (met m c).lines) ++ is) (last_if m.last under.lines) ∙ append-nil (items_in (first ++ (met m c).lines))
+      ∙ items_in-append first (met m c).lines ∙ ap (λ is. is ++ items_in (met m c).lines) (nothing_if m.first c.lines))
+
+  -- a cell that meets a row spans as many
   span_met : (m : Meeting) (c : Cell T) → (met m c).span ≡ c.span
   span_met m c = go m.first m.last
     where
@@ -117,29 +141,12 @@ module _ {T : Type 0} where
       go false true = refl
       go false false = refl
 
-  nothing_later : (draws : Bool) (height : ℕ) (c : Cell T) → c.span ≡ 1 → later_of draws height c ≡ []
-  nothing_later draws height c one =
-      let not_more : nat_lt 1 c.span ≡ false = ap (nat_lt 1) one in
-      ap (λ more. let cs : List (Cell T) = if more then record c { span = c.span - 1; lines = drop (if draws then 1 else 0) (drop height c.lines) } ∷ [] else [] in flat_map (λ (d : Cell T). d.lines) cs) not_more
-
   as_high : (c : Cell T) → c.span ≡ 1 → cell_height c ≡ length c.lines
   as_high c one = let first : nat_le c.span 1 ≡ true = ap (λ n. nat_le n 1) one in ap (λ b. if b then length c.lines else length c.lines / c.span) first
 
 module _ {T : Type 0} (columns : ℕ → Option ℕ) (a : T) where
   abbrev glyphs : List (Item T) → List (ℕ × T)
   glyphs is = visible_glyphs columns is
-
-  two_within : (is js us vs : List (Item T)) → StandWithin (glyphs is) (glyphs us) → StandWithin (glyphs js) (glyphs vs) → StandWithin (glyphs (is ++ js)) (glyphs (us ++ vs))
-  two_within is js us vs h k =
-      subst (λ gs. StandWithin gs (glyphs (us ++ vs))) (sym (glyphs-append columns is js))
-      (subst (StandWithin (glyphs is ++ glyphs js)) (sym (glyphs-append columns us vs)) (within_both (glyphs is) (glyphs js) (glyphs us) (glyphs vs) h k))
-
-  itself_within : (is : List (Item T)) → StandWithin (glyphs is) (glyphs is)
-  itself_within is = within_itself (glyphs is)
-
-  -- items with others in front and after
-  middle_within : (front is back : List (Item T)) → StandWithin (glyphs is) (glyphs (front ++ (is ++ back)))
-  middle_within front is back = subst (λ js. StandWithin (glyphs js) (glyphs (front ++ (is ++ back)))) (append-nil is) (two_within [] (is ++ []) front (is ++ back) tt (two_within is [] is back (itself_within is) tt))
 
   -- ---- a line of the row
 
@@ -148,7 +155,7 @@ module _ {T : Type 0} (columns : ℕ → Option ℕ) (a : T) where
   text_among separator t (u ∷ []) h = go (among_cons t u [] h)
     where
       go : (t ≡ u) ⊎ StandsAmong t [] → StandWithin (glyphs t) (glyphs u)
-      go (inl same) = subst (λ v. StandWithin (glyphs t) (glyphs v)) same (itself_within t)
+      go (inl same) = subst (λ v. StandWithin (glyphs t) (glyphs v)) same (itself_within columns t)
       go (inr there) = absurd (none_among t there)
   text_among separator t (u ∷ v ∷ ts) h = go (among_cons t u (v ∷ ts) h) (text_among separator t (v ∷ ts))
     where
@@ -156,19 +163,22 @@ module _ {T : Type 0} (columns : ℕ → Option ℕ) (a : T) where
       rest = row_text separator (v ∷ ts)
 
       go : (t ≡ u) ⊎ StandsAmong t (v ∷ ts) → (StandsAmong t (v ∷ ts) → StandWithin (glyphs t) (glyphs rest)) → StandWithin (glyphs t) (glyphs (u ++ separator ∷ rest))
-      go (inl same) later = subst (λ w. StandWithin (glyphs t) (glyphs (w ++ separator ∷ rest))) same (middle_within [] t (separator ∷ rest))
-      go (inr there) later = two_within [] t u (separator ∷ rest) tt (two_within [] t (separator ∷ []) rest tt (later there))
+      go (inl same) later = subst (λ w. StandWithin (glyphs t) (glyphs (w ++ separator ∷ rest))) same (middle_within columns [] t (separator ∷ rest))
+      go (inr there) later = two_within columns [] t u (separator ∷ rest) tt (two_within columns [] t (separator ∷ []) rest tt (later there))
 
   each_within : (f g : ℕ → List (Item T)) → ((n : ℕ) → StandWithin (glyphs (f n)) (glyphs (g n))) → (ns : List ℕ) → StandWithin (glyphs (joined (map f ns))) (glyphs (joined (map g ns)))
   each_within f g h [] = tt
-  each_within f g h (n ∷ ns) = two_within (f n) (joined (map f ns)) (g n) (joined (map g ns)) (h n) (each_within f g h ns)
+  each_within f g h (n ∷ ns) = two_within columns (f n) (joined (map f ns)) (g n) (joined (map g ns)) (h n) (each_within f g h ns)
 
   -- ---- the lines of a cell
 
-  one_within : (shows : List (RenderLine T) → List (Item T)) → ((es : List (Element T)) (ls : List (RenderLine T)) → shows (Text es ∷ ls) ≡ items_of es) → (ls : List (RenderLine T)) → StandWithin (glyphs (items_in (one_of ls))) (glyphs (shows ls))
-  one_within shows texts [] = tt
-  one_within shows texts (Text es ∷ ls) = subst (λ is. StandWithin (glyphs (items_of es ++ [])) (glyphs is)) (sym (texts es ls)) (subst (λ is. StandWithin (glyphs is) (glyphs (items_of es))) (sym (append-nil (items_of es))) (itself_within (items_of es)))
-  one_within shows texts (Rule b ∷ ls) = tt
+  line_within : (l : RenderLine T) → StandWithin (glyphs (items_in (l ∷ []))) (glyphs (text_in_row a l))
+  line_within (Text es) = subst (λ is. StandWithin (glyphs is) (glyphs (items_of es))) (sym (append-nil (items_of es))) (itself_within columns (items_of es))
+  line_within (Rule b) = subst (λ is. StandWithin (glyphs is) (glyphs (shown a b))) (sym (append-nil (text_before b))) (border_shown columns a b)
+
+  one_within : (shows : List (RenderLine T) → List (Item T)) → ((l : RenderLine T) (ls : List (RenderLine T)) → shows (l ∷ ls) ≡ text_in_row a l) → (ls : List (RenderLine T)) → StandWithin (glyphs (items_in (one_of ls))) (glyphs (shows ls))
+  one_within shows each [] = tt
+  one_within shows each (l ∷ ls) = subst (λ is. StandWithin (glyphs (items_in (l ∷ []))) (glyphs is)) (sym (each l ls)) (line_within l)
 
   lines_within : (ls : List (RenderLine T)) (shown : ℕ → List (Item T)) → ((i : ℕ) → StandWithin (glyphs (items_in (one_of (drop i ls)))) (glyphs (shown i))) → (n : ℕ) → StandWithin (glyphs (items_in (firsts n ls))) (glyphs (joined (map shown (numbers_below n))))
   lines_within ls shown each zero = tt
@@ -179,7 +189,7 @@ module _ {T : Type 0} (columns : ℕ → Option ℕ) (a : T) where
       let whole : joined (map shown (numbers_below n ++ n ∷ [])) ≡ joined texts ++ shown n = ap joined (map-append shown (numbers_below n) (n ∷ [])) ∙ joined-append texts (shown n ∷ []) ∙ ap (λ is. joined texts ++ is) (append-nil (shown n)) in
       subst (λ is. StandWithin (glyphs is) (glyphs (joined (map shown (numbers_below n ++ n ∷ []))))) (sym (items_in-append before next))
       (subst (λ is. StandWithin (glyphs (items_in before ++ items_in next)) (glyphs is)) (sym whole)
-      (two_within (items_in before) (items_in next) (joined texts) (shown n) (lines_within ls shown each n) (each n)))
+      (two_within columns (items_in before) (items_in next) (joined texts) (shown n) (lines_within ls shown each n) (each n)))
 
   -- ---- a cell in a row
 
@@ -194,14 +204,12 @@ module _ {T : Type 0} (columns : ℕ → Option ℕ) (a : T) where
       let met_one : (met m c).span ≡ 1 = span_met m c ∙ one in
       let high : cell_height (met m c) ≤ height = subst (λ (d : Cell T). cell_height d ≤ height) is (each_among _ k means.shown shown (row_is_high_enough means.shown)) in
       let short : length (met m c).lines ≤ height = subst (λ n. n ≤ height) (as_high (met m c) met_one) high in
-      let texts = all_texts false (m ∷ []) c (high, nothing_later false height (met m c) met_one) in
       let ls : List (RenderLine T) = (met m c).lines in
-      let lines_are : (take height ls ++ []) ++ [] ≡ ls = append-nil (take height ls ++ []) ∙ append-nil (take height ls) ∙ take_all height ls short in
-      let same : items_in ls ≡ items_in c.lines = ap items_in (sym lines_are) ∙ sym (of_texts ((take height ls ++ []) ++ [])) ∙ ap items_in texts ∙ of_texts c.lines in
+      let same : items_in ls ≡ items_in c.lines = met_written m c in
       let firsts_are : firsts height k.cell.lines ≡ ls = ap (λ (d : Cell T). firsts height d.lines) is ∙ all_firsts height ls short in
       let separator : Item T = glyph (separator_in style) a in
       let here : StandWithin (glyphs (items_in c.lines)) (glyphs (joined (map (λ i. cell_text a i k) (numbers_below height)))) =
-      subst (λ js. StandWithin (glyphs js) (glyphs (joined (map (λ i. cell_text a i k) (numbers_below height))))) (ap items_in firsts_are ∙ same) (lines_within k.cell.lines (λ i. cell_text a i k) (λ i. one_within (cell_shows a k) (λ es ls. refl) (drop i k.cell.lines)) height) in
+      subst (λ js. StandWithin (glyphs js) (glyphs (joined (map (λ i. cell_text a i k) (numbers_below height))))) (ap items_in firsts_are ∙ same) (lines_within k.cell.lines (λ i. cell_text a i k) (λ i. one_within (cell_shows a k) (λ l ls. refl) (drop i k.cell.lines)) height) in
       let there = each_within (λ i. cell_text a i k) (line_text separator a means.shown) (λ i. text_among separator (cell_text a i k) (map (cell_text a i) means.shown) (among_map (cell_text a i) k means.shown shown)) (numbers_below height) in
       subst (λ ts. StandWithin (glyphs (items_in c.lines)) (glyphs (joined ts))) (sym means.texts)
       (within_on (glyphs (items_in c.lines)) (glyphs (joined (map (λ i. cell_text a i k) (numbers_below height)))) (glyphs (joined (line_texts separator a means.shown height))) here there)
@@ -220,7 +228,7 @@ module _ {T : Type 0} (columns : ℕ → Option ℕ) (a : T) where
 
   -- ---- what comes into the cell
 
-  filled_within : (align : CellAlign) (width : ℕ) (lines : List (Line T)) (filled : List (RenderLine T)) → AllZip (FillsCell columns align width a) lines filled → StandWithin (glyphs (text_of_lines lines)) (glyphs (items_in filled))
+  filled_within : (align : CellAlign) (width : ℕ) (lines : List (Line T)) (filled : List (RenderLine T)) → AllZip (FillsCell columns align width a) lines filled → StandWithin (glyphs (written lines)) (glyphs (items_in filled))
   filled_within align width [] [] h = tt
   filled_within align width [] (f ∷ fs) h = elim h [ ]
   filled_within align width (l ∷ ls) [] h = elim h [ ]
@@ -229,30 +237,32 @@ module _ {T : Type 0} (columns : ℕ → Option ℕ) (a : T) where
       let front : List (Item T) = text_items (spaces (columns_in_front align missing)) a in
       let back : List (Item T) = text_items (spaces (missing - columns_in_front align missing)) a in
       let are : front ++ (is ++ back) ≡ items_of es = sym (append_assoc front is back) ∙ sym h.0.0 in
-      two_within is (text_of_lines ls) (items_of es) (items_in fs)
-      (subst (λ js. StandWithin (glyphs is) (glyphs js)) are (middle_within front is back))
+      two_within columns is (written ls) (items_of es) (items_in fs)
+      (subst (λ js. StandWithin (glyphs is) (glyphs js)) are (middle_within columns front is back))
       (filled_within align width ls fs h.1)
-  filled_within align width (border b ∷ ls) (Rule c ∷ fs) h = filled_within align width ls fs h.1
+  filled_within align width (border b ∷ ls) (Rule c ∷ fs) h =
+      let same : text_before c ≡ text_before b = ap (λ (d : Border T). text_before d) h.0 in
+      two_within columns (text_before b) (written ls) (text_before c) (items_in fs) (subst (λ is. StandWithin (glyphs (text_before b)) (glyphs is)) (sym same) (itself_within columns (text_before b))) (filled_within align width ls fs h.1)
   filled_within align width (text is ∷ ls) (Rule c ∷ fs) h = absurd h.0
   filled_within align width (border b ∷ ls) (Text es ∷ fs) h = absurd h.0
 
 -- A row's lines have the visible characters of its cells of one row.
 pub cell_within_row : {D A : Type 0} (columns : ℕ → Option ℕ) (collapses : Bool) (cells : List (GivenCell (List A))) (m s : Renderer D A (List A)) → PutsRow columns collapses cells m s → (cell : GivenCell (List A)) → StandsAmong cell cells → cell.span ≡ 1 →
-    StandWithin (visible_glyphs columns (text_of_lines cell.lines)) (visible_glyphs columns (text_of_lines s.lines))
+    StandWithin (visible_glyphs columns (written cell.lines)) (visible_glyphs columns (written s.lines))
 cell_within_row columns collapses cells m s puts cell among one =
     let (c, own, comes) = among_zip (ComesAs columns m.annotations) cell cells puts.own puts.come among in
     let row = puts.row in
     let top = under_row m row in
     let full = fold (with_line columns) top row.lines in
     let next = next_grows columns full row.next in
-    let inside = visible_glyphs columns (text_of_lines cell.lines) in
+    let inside = visible_glyphs columns (written cell.lines) in
     let laid = visible_glyphs columns (joined row.lines) in
     let in_row : StandWithin inside laid =
     within_on inside (visible_glyphs columns (items_in c.lines)) laid (filled_within columns m.annotations cell.align cell.width cell.lines c.lines comes.2)
     (cell_in_row columns m.annotations _ _ _ _ row puts.means c (comes.1 ∙ one) own) in
-    let in_full : StandWithin inside (visible_glyphs columns (text_of_lines full.lines)) =
-    subst (StandWithin inside) (sym (shown_texts columns row.lines top)) (within_behind (visible_glyphs columns (text_of_lines top.lines)) inside laid in_row) in
-    let whole : visible_glyphs columns (text_of_lines s.lines) ≡ visible_glyphs columns (text_of_lines full.lines) ++ visible_glyphs columns (text_of_lines next.0) =
-    ap (λ (q : Renderer _ _ _). visible_glyphs columns (text_of_lines q.lines)) puts.is ∙ ap (λ ls. visible_glyphs columns (text_of_lines ls)) next.1 ∙ ap (visible_glyphs columns) (text_of_lines-append full.lines next.0)
-    ∙ glyphs-append columns (text_of_lines full.lines) (text_of_lines next.0) in
-    subst (StandWithin inside) (sym whole) (within_more inside (visible_glyphs columns (text_of_lines full.lines)) (visible_glyphs columns (text_of_lines next.0)) in_full)
+    let in_full : StandWithin inside (visible_glyphs columns (written full.lines)) =
+    subst (StandWithin inside) (sym (written_texts columns row.lines top)) (within_behind (visible_glyphs columns (written top.lines)) inside laid in_row) in
+    let whole : visible_glyphs columns (written s.lines) ≡ visible_glyphs columns (written full.lines) ++ visible_glyphs columns (written next.0) =
+    ap (λ (q : Renderer _ _ _). visible_glyphs columns (written q.lines)) puts.is ∙ ap (λ ls. visible_glyphs columns (written ls)) next.1 ∙ ap (visible_glyphs columns) (written-append full.lines next.0)
+    ∙ glyphs-append columns (written full.lines) (written next.0) in
+    subst (StandWithin inside) (sym whole) (within_more inside (visible_glyphs columns (written full.lines)) (visible_glyphs columns (written next.0)) in_full)

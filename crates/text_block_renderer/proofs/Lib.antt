@@ -16,6 +16,7 @@ pub mod NestedLines
 pub mod VerticalRows
 pub mod RowsOfCells
 pub mod Within
+pub mod Written
 pub mod CellsInRows
 pub mod TakenLines
 pub mod LinkNumbers

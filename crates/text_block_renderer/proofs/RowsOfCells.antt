@@ -75,16 +75,19 @@ module _ {D A : Type 0} (columns : ℕ → Option ℕ) where
   next_grows r None = ([], sym (append-nil r.lines))
   next_grows r (Some b) = (_, refl)
 
-  row_texts : (r : Renderer D A (List A)) (row : SeenRow (List A)) → (more : List (Item (List A))) × (text_of_lines (with_row columns r row).lines ≡ text_of_lines r.lines ++ more)
-  row_texts r row =
+  -- after the border above come the lines of the row, and the border below
+  pub row_grows : (r : Renderer D A (List A)) (row : SeenRow (List A)) → (more : List (Line (List A))) × ((with_row columns r row).lines ≡ (under_row r row).lines ++ more)
+  row_grows r row =
       let top = under_row r row in
       let texts = lines_grow columns row.lines top in
       let next = next_grows (fold (with_line columns) top row.lines) row.next in
-      let came : List (Line (List A)) = texts.0 ++ next.0 in
-      let whole : (with_row columns r row).lines ≡ top.lines ++ came = next.1 ∙ ap (λ ls. ls ++ next.0) texts.1 ∙ append_assoc top.lines texts.0 next.0 in (
-        text_of_lines came,
-        ap text_of_lines whole ∙ text_append top.lines came
-            ∙ ap (λ is. is ++ text_of_lines came) (same_texts r row),
+      (texts.0 ++ next.0, next.1 ∙ ap (λ ls. ls ++ next.0) texts.1 ∙ append_assoc top.lines texts.0 next.0)
+
+  row_texts : (r : Renderer D A (List A)) (row : SeenRow (List A)) → (more : List (Item (List A))) × (text_of_lines (with_row columns r row).lines ≡ text_of_lines r.lines ++ more)
+  row_texts r row =
+      let grows = row_grows r row in (
+        text_of_lines grows.0,
+        ap text_of_lines grows.1 ∙ text_append (under_row r row).lines grows.0 ∙ ap (λ is. is ++ text_of_lines grows.0) (same_texts r row),
       )
 
   pub texts_only_come : (collapses : Bool) (cells : List (GivenCell (List A))) (r s : Renderer D A (List A)) → AppendsRow columns collapses cells r s → (more : List (Item (List A))) × (text_of_lines s.lines ≡ text_of_lines r.lines ++ more)

@@ -1,11 +1,13 @@
 -- Visible characters of lines that renderers take from one another.
-use Rattle.std.proofs.Common.{◌≡◌, ℕ, zero, suc, ◌≤◌, Bool, true, false, if◌then◌else◌, Option, List, [], ◌∷◌, ◌++◌, map, flat_map, fold, length, refl, ap, sym, ◌∙◌, subst, arith}
+use Rattle.std.proofs.Common.{◌≡◌, ℕ, zero, suc, ◌≤◌, Bool, true, false, if◌then◌else◌, Option, List, [], ◌∷◌, ◌++◌, map, flat_map, fold, length, refl, ap, sym, ◌∙◌, subst, arith, append_assoc, append-nil}
 use Rattle.std.specs.List.{AllZip}
 use Rattle.std.proofs.lemmas.Grind.{fold-append}
 use Rattle.tbr_model.specs.Run.{Entry, Item}
 use Rattle.tbr_model.specs.Layout.{joined}
 use Rattle.tbr_model.specs.Hard.{IsShown, visible_glyphs, visible_entries}
-use Rattle.tbr_border.specs.Border.{shown, without_holes}
+use Rattle.tbr_border.specs.Border.{Border, shown, without_holes}
+use Rattle.tbr_kept_lines.specs.LastBorder.{before_border}
+use Rattle.tbr_renderer.specs.Rows.{border_lines}
 use Rattle.tbr_tagged.specs.Padding.{spaces}
 use Rattle.tbr_tagged.specs.Elements.{text_items}
 use Rattle.tbr_border.specs.Cell.{Cell, horizontal, slash}
@@ -16,44 +18,43 @@ use Rattle.tbr_renderer.specs.Appended.{border_of_cells, with_border, as_text, p
 use Rattle.tbr_renderer.specs.Calls.{Call, add_empty_line, new_line, new_line_hard, start_block, start_table, end_block, add_inline_text, push_ws, pop_ws, push_preformat, pop_preformat, record_frag_start, begin, finish, start_strikeout, end_strikeout, add_image, push_colour, pop_colour, add_border, append_subrender, append_vert_row, Does, text_of_lines, Shows}
 use Rattle.tbr_tagged.specs.Outcome.{done}
 use Rattle.tbr_renderer.proofs.CallParts.{handed_then}
-use Rattle.text_block_renderer.specs.Acts.{Act, call, row, ActBrings, ActsBring}
+use Rattle.text_block_renderer.specs.Acts.{Act, call, row, ActBrings, ActsBring, StaysLine}
 use Rattle.text_block_renderer.proofs.ActParts.{alone}
-use Rattle.text_block_renderer.proofs.RowsOfCells.{texts_only_come}
+use Rattle.text_block_renderer.proofs.RowsOfCells.{row_flushes, under_row, row_grows}
 use Rattle.text_block_renderer.proofs.Moves.{flush}
 use Rattle.text_block_renderer.proofs.VerticalRows.{cells_after}
 use Rattle.text_block_renderer.specs.Drawn.{Put, as_it_is, drawn, line_put, not_drawn, WithoutDrawnBorders}
-use Rattle.text_block_renderer.specs.Taken.{StandWithin, CallTakes, Takes, AreTakenIn}
+use Rattle.text_block_renderer.specs.Taken.{StandWithin, text_before, written, CallTakes, Takes, AreTakenIn}
 use Rattle.text_block_renderer.proofs.AddedLines.{Grows, moves_grow, steps_grow}
 use Rattle.text_block_renderer.proofs.CellsInRows.{cell_within_row}
-use Rattle.text_block_renderer.proofs.Within.{within_behind, within_both, within_itself, within_more, within_on}
-use Rattle.text_block_renderer.proofs.LineContents.{text_of_lines-append}
+use Rattle.text_block_renderer.proofs.Within.{within_behind, within_itself, within_more, within_on, two_within, itself_within, behind_within}
+use Rattle.text_block_renderer.proofs.Written.{written-append, stays_written, texts_written, border_shown, written_texts}
+use Rattle.text_block_renderer.proofs.LastingLines.{top_put_back}
 use Rattle.text_block_renderer.proofs.VisibleCharacters.{glyphs-append, handed_out_less}
-use Rattle.text_block_renderer.proofs.LaidTexts.{shown_texts, characters_appended}
+use Rattle.text_block_renderer.proofs.LaidTexts.{lines_after}
 
 -- ---- lines as text
 
 abbrev seen : {T : Type 0} → (ℕ → Option ℕ) → List (Line T) → List (ℕ × T)
-seen columns lines = visible_glyphs columns (text_of_lines lines)
+seen columns lines = visible_glyphs columns (written lines)
 
 module _ {T : Type 0} (columns : ℕ → Option ℕ) where
-  -- one line of text or a border, and then lines
-  first_within : (tag : T) (line : Line T) (lines : List (Line T)) (front rest : List (Item T)) → StandWithin (visible_glyphs columns (text_of_lines lines)) (visible_glyphs columns rest) →
-      StandWithin (visible_glyphs columns (text_of_lines (line ∷ lines))) (visible_glyphs columns ((front ++ as_text tag line) ++ rest))
-  first_within tag (text is) lines front rest h =
-      let behind = within_behind (visible_glyphs columns front) (visible_glyphs columns is) (visible_glyphs columns is) (within_itself (visible_glyphs columns is)) in
-      let both = within_both (visible_glyphs columns is) (visible_glyphs columns (text_of_lines lines)) (visible_glyphs columns front ++ visible_glyphs columns is) (visible_glyphs columns rest) behind h in
-      subst (λ gs. StandWithin gs (visible_glyphs columns ((front ++ is) ++ rest))) (sym (glyphs-append columns is (text_of_lines lines)))
-      (subst (StandWithin (visible_glyphs columns is ++ visible_glyphs columns (text_of_lines lines))) (sym (glyphs-append columns (front ++ is) rest ∙ ap (λ gs. gs ++ visible_glyphs columns rest) (glyphs-append columns front is))) both)
-  first_within tag (border b) lines front rest h =
-      let all = front ++ as_text tag (border b) in
-      subst (StandWithin (visible_glyphs columns (text_of_lines lines))) (sym (glyphs-append columns all rest))
-      (within_behind (visible_glyphs columns all) (visible_glyphs columns (text_of_lines lines)) (visible_glyphs columns rest) h)
+  -- a line as text says what is written there
+  line_within : (tag : T) (line : Line T) → StandWithin (seen columns (line ∷ [])) (visible_glyphs columns (as_text tag line))
+  line_within tag (text is) = subst (λ js. StandWithin (visible_glyphs columns js) (visible_glyphs columns is)) (sym (append-nil is)) (itself_within columns is)
+  line_within tag (border b) = subst (λ js. StandWithin (visible_glyphs columns js) (visible_glyphs columns (shown tag b))) (sym (append-nil (text_before b))) (border_shown columns tag b)
 
-  texts_within : (tag : T) (lines : List (Line T)) → StandWithin (visible_glyphs columns (text_of_lines lines)) (visible_glyphs columns (joined (map (as_text tag) lines)))
+  -- and so it does after others, before other lines
+  first_within : (tag : T) (line : Line T) (lines : List (Line T)) (front rest : List (Item T)) → StandWithin (seen columns lines) (visible_glyphs columns rest) → StandWithin (seen columns (line ∷ lines)) (visible_glyphs columns ((front ++ as_text tag line) ++ rest))
+  first_within tag line lines front rest h =
+      subst (λ is. StandWithin (visible_glyphs columns is) (visible_glyphs columns ((front ++ as_text tag line) ++ rest))) (sym (written-append (line ∷ []) lines))
+      (two_within columns (written (line ∷ [])) (written lines) (front ++ as_text tag line) rest (behind_within columns front (written (line ∷ [])) (as_text tag line) (line_within tag line)) h)
+
+  texts_within : (tag : T) (lines : List (Line T)) → StandWithin (seen columns lines) (visible_glyphs columns (joined (map (as_text tag) lines)))
   texts_within tag [] = tt
   texts_within tag (line ∷ lines) = first_within tag line lines [] (joined (map (as_text tag) lines)) (texts_within tag lines)
 
-  prefixed_within : (tag : T) (prefixes : List (List ℕ)) (lines : List (Line T)) → length lines ≤ length prefixes → StandWithin (visible_glyphs columns (text_of_lines lines)) (visible_glyphs columns (joined (prefixed tag prefixes lines)))
+  prefixed_within : (tag : T) (prefixes : List (List ℕ)) (lines : List (Line T)) → length lines ≤ length prefixes → StandWithin (seen columns lines) (visible_glyphs columns (joined (prefixed tag prefixes lines)))
   prefixed_within tag [] [] h = tt
   prefixed_within tag [] (line ∷ lines) h = absurd (omega (arith, h))
   prefixed_within tag (p ∷ ps) [] h = tt
@@ -64,29 +65,24 @@ module _ {T : Type 0} (columns : ℕ → Option ℕ) where
   -- the others among borders drawn as text
   undrawn_within : (puts : List (Put T)) → StandWithin (seen columns (flat_map not_drawn puts)) (seen columns (map line_put puts))
   undrawn_within [] = tt
-  undrawn_within (as_it_is (text is) ∷ puts) =
-      let here = visible_glyphs columns is in
-      subst (λ gs. StandWithin gs (seen columns (text is ∷ map line_put puts))) (sym (glyphs-append columns is (text_of_lines (flat_map not_drawn puts))))
-      (subst (StandWithin (here ++ seen columns (flat_map not_drawn puts))) (sym (glyphs-append columns is (text_of_lines (map line_put puts))))
-      (within_both here (seen columns (flat_map not_drawn puts)) here (seen columns (map line_put puts)) (within_itself here) (undrawn_within puts)))
-  undrawn_within (as_it_is (border b) ∷ puts) = undrawn_within puts
-  undrawn_within (drawn cells n tag ∷ puts) =
-      let all = shown tag (without_holes cells tag) ++ text_items (spaces n) tag in
-      subst (StandWithin (seen columns (flat_map not_drawn puts))) (sym (glyphs-append columns all (text_of_lines (map line_put puts))))
-      (within_behind (visible_glyphs columns all) (seen columns (flat_map not_drawn puts)) (seen columns (map line_put puts)) (undrawn_within puts))
+  undrawn_within (as_it_is line ∷ puts) =
+      subst (λ is. StandWithin (visible_glyphs columns is) (seen columns (line ∷ map line_put puts))) (sym (written-append (line ∷ []) (flat_map not_drawn puts)))
+      (subst (λ is. StandWithin (visible_glyphs columns (written (line ∷ []) ++ written (flat_map not_drawn puts))) (visible_glyphs columns is)) (sym (written-append (line ∷ []) (map line_put puts)))
+      (two_within columns (written (line ∷ [])) (written (flat_map not_drawn puts)) (written (line ∷ [])) (written (map line_put puts)) (itself_within columns (written (line ∷ []))) (undrawn_within puts)))
+  undrawn_within (drawn cells n tag ∷ puts) = behind_within columns (shown tag (without_holes cells tag) ++ text_items (spaces n) tag) (written (flat_map not_drawn puts)) (written (map line_put puts)) (undrawn_within puts)
 
 -- ---- calls
 
 module _ {D A : Type 0} (columns : ℕ → Option ℕ) where
-  -- more text loses none
+  -- more that is written loses none
   abbrev MoreText : Renderer D A (List A) → Renderer D A (List A) → Type 0
-  MoreText r s = (more : List (Item (List A))) × (text_of_lines s.lines ≡ text_of_lines r.lines ++ more)
+  MoreText r s = (more : List (Item (List A))) × (written s.lines ≡ written r.lines ++ more)
 
   more_within : (gs : List (ℕ × List A)) (r s : Renderer D A (List A)) → MoreText r s → StandWithin gs (seen columns r.lines) → StandWithin gs (seen columns s.lines)
-  more_within gs r s (more, is) h = subst (StandWithin gs) (sym (ap (visible_glyphs columns) is ∙ glyphs-append columns (text_of_lines r.lines) more)) (within_more gs (seen columns r.lines) (visible_glyphs columns more) h)
+  more_within gs r s (more, is) h = subst (StandWithin gs) (sym (ap (visible_glyphs columns) is ∙ glyphs-append columns (written r.lines) more)) (within_more gs (seen columns r.lines) (visible_glyphs columns more) h)
 
   more_text : (r s : Renderer D A (List A)) → Grows r s → MoreText r s
-  more_text r s grows = (text_of_lines grows.0, ap text_of_lines grows.1 ∙ text_of_lines-append r.lines grows.0)
+  more_text r s grows = (written grows.0, ap written grows.1 ∙ written-append r.lines grows.0)
 
   -- nor do more lines
   still_within : (gs : List (ℕ × List A)) (r s : Renderer D A (List A)) → Grows r s → StandWithin gs (seen columns r.lines) → StandWithin gs (seen columns s.lines)
@@ -103,7 +99,7 @@ module _ {D A : Type 0} (columns : ℕ → Option ℕ) where
       go false = h
 
   cell_shown : (lines : List (Line (List A))) (r : Renderer D A (List A)) → seen columns (with_cell columns r lines).lines ≡ seen columns r.lines ++ visible_glyphs columns (joined (map (as_text r.annotations) lines))
-  cell_shown lines r = shown_texts columns (map (as_text r.annotations) lines) r
+  cell_shown lines r = written_texts columns (map (as_text r.annotations) lines) r
 
   cell_keeps : (gs : List (ℕ × List A)) (lines : List (Line (List A))) (r : Renderer D A (List A)) → StandWithin gs (seen columns r.lines) → StandWithin gs (seen columns (with_cell columns r lines).lines)
   cell_keeps gs lines r h = subst (StandWithin gs) (sym (cell_shown lines r)) (within_more gs (seen columns r.lines) (visible_glyphs columns (joined (map (as_text r.annotations) lines))) h)
@@ -130,7 +126,8 @@ module _ {D A : Type 0} (columns : ℕ → Option ℕ) where
     taken_within (append_subrender prefixes taken) r s lines t h =
         let tag = r.annotations in
         let all : StandWithin (seen columns taken) (visible_glyphs columns (joined (prefixed tag prefixes taken))) = prefixed_within columns tag prefixes taken (subst (λ (ls : List (Line (List A))). length ls ≤ length prefixes) (sym t.0) t.1) in
-        let (m, flushed, shown) = characters_appended columns decoration prefixes taken r s h in
+        let (m, flushed, is) = lines_after columns decoration prefixes taken r s h in
+        let shown = ap (λ (q : Renderer D A (List A)). seen columns q.lines) is ∙ written_texts columns (prefixed tag prefixes taken) m in
         subst (λ (ls : List (Line (List A))). StandWithin (seen columns ls) (seen columns s.lines)) t.0
         (subst (StandWithin (seen columns taken)) (sym shown)
         (within_behind (seen columns m.lines) (seen columns taken) (visible_glyphs columns (joined (prefixed tag prefixes taken))) all))
@@ -162,7 +159,16 @@ module _ {D A : Type 0} (columns : ℕ → Option ℕ) where
 
     act_adds : (act : Act (List A)) (r s : Renderer D A (List A)) (es : List (Entry (List A))) → ActBrings columns decoration act r es s → MoreText r s
     act_adds (call c) r s es h = more_text r s (steps_grow columns decoration (c ∷ []) r s (alone columns decoration c r s es h.0 h.1).0)
-    act_adds (row collapses cells) r s es h = texts_only_come columns collapses cells r s (h.0, h.1, h.2)
+    act_adds (row collapses cells) r s es h =
+        let (m, flushed, puts, is) = h in
+        let first = more_text r m (moves_grow columns (flush r ∷ []) r m (m, (refl, row_flushes columns r m flushed), refl)) in
+        let upper : AllZip StaysLine m.lines (under_row m puts.row).lines =
+        subst (λ (o : Option (Border (List A))). AllZip StaysLine m.lines (before_border m.lines ++ border_lines o)) (sym puts.means.upper) (top_put_back collapses puts.means.cells m.lines) in
+        let later = row_grows columns m puts.row in
+        let more = written later.0 in (
+          first.0 ++ more,
+          ap (λ (q : Renderer D A (List A)). written q.lines) puts.is ∙ ap written later.1 ∙ written-append (under_row m puts.row).lines later.0 ∙ ap (λ js. js ++ more) (stays_written m.lines (under_row m puts.row).lines upper ∙ first.1) ∙ append_assoc (written r.lines) first.0 more,
+        )
 
     -- what is there stays through calls and rows
     acts_within : (gs : List (ℕ × List A)) (acts : List (Act (List A))) (r s : Renderer D A (List A)) (es : List (Entry (List A))) → ActsBring columns decoration acts r es s → StandWithin gs (seen columns r.lines) → StandWithin gs (seen columns s.lines)
@@ -201,11 +207,12 @@ module _ {D A : Type 0} (columns : ℕ → Option ℕ) where
 
     pub brought_within : (depth : ℕ) (r : Renderer D A (List A)) (borders : List (List Cell)) (es : List (Entry (List A))) (inside outside : List (Line (List A))) →
         IsSound columns r → WithoutDrawnBorders borders (λ q. Shows columns q es) r → handed_out columns r ≡ done inside → AreTakenIn columns decoration depth inside outside →
-        (shown : List (ℕ × List A)) × AllZip (IsShown (λ a b. a ≡ b)) shown (visible_entries columns es) × StandWithin shown (visible_glyphs columns (text_of_lines outside))
+        (shown : List (ℕ × List A)) × AllZip (IsShown (λ a b. a ≡ b)) shown (visible_entries columns es) × StandWithin shown (visible_glyphs columns (written outside))
     brought_within depth r borders es inside outside sound shows gives h =
         let (rest, among, shown) = handed_out_less columns r borders es inside sound shows gives in
         let (puts, is, drawn_are, others) = among in
         let here : StandWithin (seen columns rest) (seen columns inside) =
         subst (λ (ls : List (Line (List A))). StandWithin (seen columns ls) (seen columns inside)) (sym others)
         (subst (λ (ls : List (Line (List A))). StandWithin (seen columns (flat_map not_drawn puts)) (seen columns ls)) (sym is) (undrawn_within columns puts)) in
-        (seen columns rest, shown, within_on (seen columns rest) (seen columns inside) (seen columns outside) here (all_within depth inside outside h))
+        let gs = visible_glyphs columns (text_of_lines rest) in
+        (gs, shown, within_on gs (seen columns inside) (seen columns outside) (within_on gs (seen columns rest) (seen columns inside) (texts_written columns rest) here) (all_within depth inside outside h))

@@ -1,6 +1,9 @@
 -- Lists that stand within others, in order.
-use Rattle.std.proofs.Common.{inl, inr, List, [], ◌∷◌, ◌++◌, refl, ◌∙◌, subst, append-nil}
+use Rattle.std.proofs.Common.{ℕ, Option, inl, inr, List, [], ◌∷◌, ◌++◌, refl, sym, ◌∙◌, subst, append-nil}
+use Rattle.tbr_model.specs.Run.{Item}
+use Rattle.tbr_model.specs.Hard.{visible_glyphs}
 use Rattle.text_block_renderer.specs.Taken.{StandWithin}
+use Rattle.text_block_renderer.proofs.VisibleCharacters.{glyphs-append}
 
 module _ {X : Type 0} where
   pub within_behind : (front xs ys : List X) → StandWithin xs ys → StandWithin xs (front ++ ys)
@@ -28,3 +31,29 @@ module _ {X : Type 0} where
   within_on (x ∷ xs) (y ∷ ys) (z ∷ zs) h (inr k) = inr (within_on (x ∷ xs) (y ∷ ys) zs h k)
   within_on (x ∷ xs) (y ∷ ys) (z ∷ zs) (inl h) (inl k) = inl (h.0 ∙ k.0, within_on xs ys zs h.1 k.1)
   within_on (x ∷ xs) (y ∷ ys) (z ∷ zs) (inr h) (inl k) = inr (within_on (x ∷ xs) ys zs h k.1)
+
+-- ---- visible characters
+
+module _ {T : Type 0} (columns : ℕ → Option ℕ) where
+  abbrev glyphs : List (Item T) → List (ℕ × T)
+  glyphs is = visible_glyphs columns is
+
+  pub two_within : (is js us vs : List (Item T)) → StandWithin (glyphs is) (glyphs us) → StandWithin (glyphs js) (glyphs vs) → StandWithin (glyphs (is ++ js)) (glyphs (us ++ vs))
+  two_within is js us vs h k =
+      subst (λ gs. StandWithin gs (glyphs (us ++ vs))) (sym (glyphs-append columns is js))
+      (subst (StandWithin (glyphs is ++ glyphs js)) (sym (glyphs-append columns us vs)) (within_both (glyphs is) (glyphs js) (glyphs us) (glyphs vs) h k))
+
+  pub itself_within : (is : List (Item T)) → StandWithin (glyphs is) (glyphs is)
+  itself_within is = within_itself (glyphs is)
+
+  -- items with others in front and after
+  pub middle_within : (front is back : List (Item T)) → StandWithin (glyphs is) (glyphs (front ++ (is ++ back)))
+  middle_within front is back = subst (λ js. StandWithin (glyphs js) (glyphs (front ++ (is ++ back)))) (append-nil is) (two_within [] (is ++ []) front (is ++ back) tt (two_within is [] is back (itself_within is) tt))
+
+  -- in front come others
+  pub behind_within : (front is js : List (Item T)) → StandWithin (glyphs is) (glyphs js) → StandWithin (glyphs is) (glyphs (front ++ js))
+  behind_within front is js h = two_within [] is front js tt h
+
+  -- and after it
+  pub before_within : (is js back : List (Item T)) → StandWithin (glyphs is) (glyphs js) → StandWithin (glyphs is) (glyphs (js ++ back))
+  before_within is js back h = subst (λ ks. StandWithin (glyphs ks) (glyphs (js ++ back))) (append-nil is) (two_within is [] js back h tt)

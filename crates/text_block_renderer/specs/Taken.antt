@@ -1,8 +1,10 @@
 -- Lines that renderers hand out and others take.
-use Rattle.std.specs.Prelude.{◌≡◌, ℕ, zero, suc, ◌≤◌, ◌⊎◌, ⊤, Option, List, [], ◌∷◌, ◌++◌, length}
-use Rattle.tbr_model.specs.Run.{Entry}
+use Rattle.std.specs.Prelude.{◌≡◌, ℕ, zero, suc, ◌≤◌, ◌⊎◌, ⊤, Option, List, [], ◌∷◌, ◌++◌, length, flat_map}
+use Rattle.tbr_model.specs.Run.{Entry, Item}
 use Rattle.tbr_decor.specs.Decoration.{Decoration}
-use Rattle.tbr_kept_lines.specs.Line.{Line}
+use Rattle.tbr_border.specs.Border.{Border}
+use Rattle.tbr_tagged.specs.Elements.{element_items}
+use Rattle.tbr_kept_lines.specs.Line.{Line, text, border}
 use Rattle.tbr_renderer.specs.Renderer.{Renderer}
 use Rattle.tbr_tagged.specs.Outcome.{done}
 use Rattle.tbr_renderer.specs.Appended.{handed_out}
@@ -16,6 +18,16 @@ abbrev pub StandWithin : {X : Type 0} → List X → List X → Type 0
 StandWithin [] ys = ⊤
 StandWithin (x ∷ xs) [] = ⊥
 StandWithin (x ∷ xs) (y ∷ ys) = ((x ≡ y) × StandWithin xs ys) ⊎ StandWithin (x ∷ xs) ys
+
+-- the text in front of a border
+abbrev pub text_before : {T : Type 0} → Border T → List (Item T)
+text_before b = flat_map (λ h. element_items h.element) b.holes
+
+-- all that is written in lines: their texts, and those in front of borders
+abbrev pub written : {T : Type 0} → List (Line T) → List (Item T)
+written [] = []
+written (text is ∷ ls) = is ++ written ls
+written (border b ∷ ls) = text_before b ++ written ls
 
 -- a call that takes the lines, after as many prefixes or as a cell
 abbrev pub CallTakes : {T : Type 0} → List (Line T) → Call T → Type 0
