@@ -1,3 +1,4 @@
 pub mod LinesGive
 pub mod ScriptRefusals
+pub mod LedRenderers
 pub mod once

@@ -1,0 +1,215 @@
+-- Each renderer of a script is led to by calls and rows.
+use Rattle.std.proofs.Common.{◌≡◌, ◌≢◌, ◌<◌, ℕ, Bool, Option, Some, None, List, [], ◌∷◌, ◌++◌, drop, chars, length, refl, ap, sym, ◌∙◌, subst, append_assoc, append-nil}
+use Rattle.std.specs.List.{AllByRecursion as Each}
+use Rattle.tbr_model.specs.Run.{Entry}
+use Rattle.tbr_model.specs.Layout.{joined}
+use Rattle.tbr_model.proofs.lists.Each.{each_append}
+use Rattle.tbr_tagged.specs.Outcome.{Outcome, done}
+use Rattle.tbr_decor.specs.Decoration.{Decoration}
+use Rattle.tbr_decor.specs.Start as start
+use Rattle.tbr_decor.specs.End as end
+use Rattle.tbr_renderer.proofs.OutcomeParts.{done_first, done_before}
+use Rattle.tbr_commands.specs.declared.opening.Opening.{Opening}
+use Rattle.tbr_commands.specs.Request.{Request, call_of}
+use Rattle.tbr_commands.specs.Command.{Command, ask, link, end_link, sub, append, cell, end_cell, row, vertical_row}
+use Rattle.tbr_commands.specs.Syntax.{IsCommand}
+use Rattle.tbr_stack.specs.Stack.{Level, Stack, first_renderer, top_of, in_first, with_top}
+use Rattle.tbr_stack.specs.Top.{in_top_of, in_top}
+use Rattle.tbr_stack.specs.Links.{closed, link_number, shown_number, open_links, with_link, after_end_with}
+use Rattle.tbr_program.specs.declared.opened.Opener.{Opener}
+use Rattle.tbr_program.specs.declared.opened.Opener.TheVariants.{Sub, Cell}
+use Rattle.tbr_program.specs.Progress.{Pending, Opened, Progress}
+use Rattle.tbr_program.specs.Prefixes.{prefixes}
+use Rattle.tbr_program.specs.Meaning.{Closes, RequestDoes, LinkDoes, EndLinkDoes, LevelOpens, AppendDoes, CellDoes, RowDoes, VerticalRowDoes, CommandDoes, LineDoes, started}
+use Rattle.text_block_renderer.specs.Renderer.{Renderer, IsSound, new_renderer}
+use Rattle.text_block_renderer.specs.Calls.{Call, begin, finish, add_inline_text, append_subrender, append_vert_row, after, entries_brought, laid_entries}
+use Rattle.text_block_renderer.specs.Decorated.{sub_renderer}
+use Rattle.text_block_renderer.specs.Acts.{Act, call, row as row_of_cells, ActBrings, ActsBring}
+use Rattle.text_block_renderer.proofs.Moves.{sound_alike}
+use Rattle.text_block_renderer.proofs.ActParts.{acts_along}
+use Rattle.text_block_renderer.proofs.SoundRenderers.{new_sound, inside_sound}
+use Rattle.tbr_runner.specs.Led.{IsFresh, IsLed, CellsAreLed, AreLed}
+
+module _ {D M : Type 0} (columns : ℕ → Option ℕ) (decoration : Decoration D M) where
+  abbrev Top : Type 0
+  Top = Renderer D M (List M)
+
+  abbrev Led : Top → Type 0
+  Led r = IsLed columns decoration r
+
+  -- ---- one act more
+
+  one_act : (act : Act (List M)) (r m s : Top) (es : List (Entry (List M))) → m ≡ r → ActBrings columns decoration act m es s → ActsBring columns decoration (act ∷ []) r es s
+  one_act act r m s es same h = (s, es, [], subst (λ (q : Top). ActBrings columns decoration act q es s) same h, (refl, refl), sym (append-nil es))
+
+  act_behind : (acts : List (Act (List M))) (act : Act (List M)) (r m s : Top) (es fs : List (Entry (List M))) → ActsBring columns decoration acts r es m → ActBrings columns decoration act m fs s → ActsBring columns decoration (acts ++ act ∷ []) r (es ++ fs) s
+  act_behind [] act r m s es fs h k = subst (λ gs. ActsBring columns decoration (act ∷ []) r (gs ++ fs) s) (sym h.1) (one_act act r m s fs h.0 k)
+  act_behind (a ∷ acts) act r m s es fs h k =
+      let (q, first, rest, does, others, is) = h in
+      (q, first, rest ++ fs, does, act_behind acts act q m s rest fs others k, ap (λ gs. gs ++ fs) is ∙ append_assoc first rest fs)
+
+  led_on : (act : Act (List M)) (r s : Top) (fs : List (Entry (List M))) → ActBrings columns decoration act r fs s → Led r → Led s
+  led_on act r s fs h k = record { first = k.first; fresh = k.fresh; sound = k.sound; acts = k.acts ++ act ∷ []; es = k.es ++ fs; bring = act_behind k.acts act k.first r s k.es fs k.bring h }
+
+  called : (c : Call (List M)) (r s : Top) → after columns decoration c r ≡ done s → Led r → Led s
+  called c r s h = led_on (call c) r s (entries_brought columns decoration c r) (h, refl)
+
+  -- such a renderer is sound
+  led_sound : (r : Top) → Led r → IsSound columns r
+  led_sound r k = let along = acts_along columns decoration k.acts k.first r k.es k.sound k.bring in sound_alike columns k.first r along.width along.options k.sound
+
+  -- ---- renderers to which nothing has come
+
+  nothing_came : (r : Top) → IsFresh r → IsSound columns r → Led r
+  nothing_came r fresh sound = record { first = r; fresh = fresh; sound = sound; acts = []; es = []; bring = (refl, refl) }
+
+  inside_led : (width : ℕ) (r : Top) → 0 < width → Led r → Led (sub_renderer decoration width r)
+  inside_led width r wide k = nothing_came (sub_renderer decoration width r) (record { lines = refl; block = refl; waiting = refl; hanging = refl }) (inside_sound columns decoration width r wide (led_sound r k))
+
+  -- ---- levels
+
+  abbrev AllLed : List (Level Top) → Type 0
+  AllLed ls = Each (λ (l : Level Top). Led l.renderer) ls
+
+  first_led : (ls : List (Level Top)) (r : Top) → first_renderer ls ≡ Some r → AllLed ls → Led r
+  first_led [] r e h = cc
+  first_led (l ∷ ls) r e h = subst Led (let same : l.renderer ≡ r = cc in same) h.0
+
+  others_led : (ls : List (Level Top)) → AllLed ls → AllLed (drop 1 ls)
+  others_led [] h = tt
+  others_led (l ∷ ls) h = h.1
+
+  top_led : (q : Top) (ls : List (Level Top)) → Led q → AllLed ls → AllLed (in_first (λ l. record l { renderer = q }) ls)
+  top_led q [] k h = tt
+  top_led q (l ∷ ls) k h = (k, h.1)
+
+  linked_led : (change : Level Top → Level Top) → ((l : Level Top) → (change l).renderer ≡ l.renderer) → (ls : List (Level Top)) → AllLed ls → AllLed (in_first change ls)
+  linked_led change same [] h = tt
+  linked_led change same (l ∷ ls) h = (subst Led (sym (same l)) h.0, h.1)
+
+  -- a change of the top that leads on
+  changed_led : (change : Top → Outcome Top) → ((r q : Top) → change r ≡ done q → Led r → Led q) → (s t : Stack Top) → in_top change s ≡ done t → AllLed s.levels → AllLed t.levels
+  changed_led change leads s t e h = go (top_of s) refl e
+    where
+      go : (o : Option Top) → top_of s ≡ o → in_top_of change s o ≡ done t → AllLed t.levels
+      go None is made = cc
+      go (Some r) is made =
+          let (q, does, whole) = done_before (with_top s) (change r) t made in
+          subst (λ (x : Stack Top). AllLed x.levels) (sym whole) (top_led q s.levels (leads r q does (first_led s.levels r is h)) h)
+
+  -- the end of a link, and perhaps its number
+  link_ended : (k : Option ℕ) (r q : Top) → after_end_with columns decoration k r ≡ done q → Led r → Led q
+  link_ended None r q e h = called (finish end.link) r q e h
+  link_ended (Some k) r q e h =
+      let (m, first, next) = done_first (after columns decoration (finish end.link) r) (after columns decoration (add_inline_text (link_number k))) q e in
+      called (add_inline_text (link_number k)) m q next (called (finish end.link) r m first h)
+
+  -- ---- commands
+
+  module _ (p : Progress D M (List M)) (h : AreLed columns decoration p) where
+    abbrev AllAreLed : Progress D M (List M) → Type 0
+    AllAreLed next = AreLed columns decoration next
+
+    abbrev Waits : Pending D M (List M) → Type 0
+    Waits pending = CellsAreLed columns decoration pending
+
+    abbrev WaitBelow : List (Opened D M (List M)) → Type 0
+    WaitBelow os = Each (λ (o : Opened D M (List M)). Waits o.below) os
+
+    -- the levels that are left where one closes
+    closed_led : (by : Opener) (inside : Top) (next : Progress D M (List M)) → Closes p by inside next → Led inside × AllAreLed next
+    closed_led by inside next c =
+        let both = subst WaitBelow c.opened h.below in (
+          first_led p.stack.levels inside c.top h.on_stack,
+          record { on_stack = subst (λ (s : Stack Top). AllLed s.levels) (sym c.stack) (others_led p.stack.levels h.on_stack); waiting = both.0; below = both.1 },
+        )
+
+    request_led : (request : Request) (next : Progress D M (List M)) → RequestDoes columns decoration p request next → AllAreLed next
+    request_led request next d = record {
+      on_stack = changed_led (λ r. after columns decoration (call_of r.width request) r) (λ r q e k. called (call_of r.width request) r q e k) p.stack next.stack d.does h.on_stack;
+      waiting = subst Waits (sym d.counts) h.waiting;
+      below = subst WaitBelow (sym d.opened) h.below;
+    }
+
+    link_led : (target : List ℕ) (next : Progress D M (List M)) → LinkDoes columns decoration p target next → AllAreLed next
+    link_led target next d = record {
+      on_stack = changed_led (after columns decoration (begin (start.link (chars target)))) (λ r q e k. called (begin (start.link (chars target))) r q e k) (with_link (chars target) p.stack) next.stack d.starts (linked_led _ (λ l. refl) p.stack.levels h.on_stack);
+      waiting = subst Waits (sym d.pending) h.waiting;
+      below = subst WaitBelow (sym d.opened) h.below;
+    }
+
+    end_link_led : (next : Progress D M (List M)) → EndLinkDoes columns decoration p next → AllAreLed next
+    end_link_led next d =
+        let shown = λ (r : Top). shown_number r (open_links p.stack) in
+        let (m, ended, whole) = done_before _ (in_top (λ r. after_end_with columns decoration (shown r) r) p.stack) next.stack d.ends in
+        let there = changed_led (λ r. after_end_with columns decoration (shown r) r) (λ r q e k. link_ended (shown r) r q e k) p.stack m ended h.on_stack in
+        record {
+          on_stack = subst (λ (s : Stack Top). AllLed s.levels) (sym whole) (linked_led closed (λ l. refl) m.levels there);
+          waiting = subst Waits (sym d.pending) h.waiting;
+          below = subst WaitBelow (sym d.opened) h.below;
+        }
+
+    level_led : (by : Opener) (width : ℕ) (next : Progress D M (List M)) → 0 < width → LevelOpens decoration p by width next → AllAreLed next
+    level_led by width next wide d =
+        let (r, top, is) = d.stack in
+        record {
+          on_stack = subst (λ (s : Stack Top). AllLed s.levels) (sym is) (inside_led width r wide (first_led p.stack.levels r top h.on_stack), h.on_stack);
+          waiting = subst Waits (sym d.pending) tt;
+          below = subst WaitBelow (sym d.opened) (h.waiting, h.below);
+        }
+
+    append_led : (first other : List ℕ) (next : Progress D M (List M)) → AppendDoes columns decoration p first other next → AllAreLed next
+    append_led first other next d =
+        let (inside, left) = closed_led Sub d.inside d.closed d.closes in
+        let taken = append_subrender (prefixes first other (length d.lines)) d.lines in
+        record {
+          on_stack = changed_led (after columns decoration taken) (λ r q e k. called taken r q e k) d.closed.stack next.stack d.does left.on_stack;
+          waiting = subst Waits (sym d.pending) left.waiting;
+          below = subst WaitBelow (sym d.opened) left.below;
+        }
+
+    cell_led : (next : Progress D M (List M)) → CellDoes p next → AllAreLed next
+    cell_led next d =
+        let (span, align, inside, closed_there, closes, is) = d in
+        let (led, left) = closed_led (Cell span align) inside closed_there closes in
+        let cell_is : Each (λ (c : Top × ℕ). Led c.0) ((inside, span) ∷ []) = (led, tt) in
+        subst AllAreLed (sym is) (record { on_stack = left.on_stack; waiting = each_append (λ (c : Top × ℕ). Led c.0) closed_there.pending.cells ((inside, span) ∷ []) left.waiting cell_is; below = left.below })
+
+    row_led : (collapse : Bool) (next : Progress D M (List M)) → RowDoes columns decoration p collapse next → AllAreLed next
+    row_led collapse next d =
+        let (before, behind, top, (m, flushed, puts), is) = d.does in
+        let led = led_on (row_of_cells collapse d.cells) before behind (laid_entries (joined puts.row.lines)) (m, flushed, puts, refl) (first_led p.stack.levels before top h.on_stack) in
+        record {
+          on_stack = subst (λ (s : Stack Top). AllLed s.levels) (sym is) (top_led behind p.stack.levels led h.on_stack);
+          waiting = subst Waits (sym d.pending) tt;
+          below = subst WaitBelow (sym d.opened) h.below;
+        }
+
+    vertical_row_led : (next : Progress D M (List M)) → VerticalRowDoes columns decoration p next → AllAreLed next
+    vertical_row_led next d = record {
+      on_stack = changed_led (after columns decoration (append_vert_row d.cells)) (λ r q e k. called (append_vert_row d.cells) r q e k) p.stack next.stack d.does h.on_stack;
+      waiting = subst Waits (sym d.pending) tt;
+      below = subst WaitBelow (sym d.opened) h.below;
+    }
+
+    command_led : (line : List ℕ) (command : Command) (next : Progress D M (List M)) → IsCommand line command → CommandDoes columns decoration p command next → AllAreLed next
+    command_led line (ask request) next is d = request_led request next d
+    command_led line (link target) next is d = link_led target next d
+    command_led line end_link next is d = end_link_led next d
+    command_led line (sub width) next is d = level_led Sub width next is.writes.2.2 d
+    command_led line (append first other) next is d = append_led first other next d
+    command_led line (cell width span align) next is d = level_led (Cell span align) width next is.writes.2.4.2 d
+    command_led line end_cell next is d = cell_led next d
+    command_led line (row collapse) next is d = row_led collapse next d
+    command_led line vertical_row next is d = vertical_row_led next d
+
+    pub line_led : (line : List ℕ) (next : Progress D M (List M)) → LineDoes columns decoration p line next → AllAreLed next
+    line_led [] next e = subst AllAreLed (sym e) h
+    line_led (b ∷ bs) next (command, is, does) = command_led (b ∷ bs) command next is does
+
+  pub started_led : columns 32 ≡ Some 1 → (opening : Opening) (decorator : D) → 0 < opening.width → opening.options.wrap_width ≢ Some 0 → AreLed columns decoration (started {M = M} opening decorator)
+  started_led space opening decorator wide some = record {
+    on_stack = (nothing_came (new_renderer opening.width opening.options decorator) (record { lines = refl; block = refl; waiting = refl; hanging = refl }) (new_sound columns space opening.width opening.options decorator wide some), tt);
+    waiting = tt;
+    below = tt;
+  }

@@ -1,0 +1,35 @@
+-- The renderers of a script, and how they came to be.
+use Rattle.std.specs.Prelude.{◌≡◌, ℕ, Option, None, List, []}
+use Rattle.std.specs.List.{AllByRecursion as Each}
+use Rattle.tbr_model.specs.Run.{Entry}
+use Rattle.tbr_decor.specs.Decoration.{Decoration}
+use Rattle.text_block_renderer.specs.Renderer.{Renderer, IsSound}
+use Rattle.text_block_renderer.specs.Acts.{Act, ActsBring}
+use Rattle.tbr_program.specs.Progress.{Pending, Progress}
+
+-- Nothing has come to a renderer yet.
+pub record IsFresh {D A T : Type 0} (r : Renderer D A T) : Type 0 where
+  pub lines : r.lines ≡ []
+  pub block : r.block ≡ None
+  pub waiting : r.waiting ≡ []
+  pub hanging : r.hanging ≡ []
+
+module _ {D M : Type 0} (columns : ℕ → Option ℕ) (decoration : Decoration D M) where
+  -- Calls and rows led to a renderer from a sound one to which nothing had come.
+  pub record IsLed (r : Renderer D M (List M)) : Type 0 where
+    pub first : Renderer D M (List M)
+    pub fresh : IsFresh first
+    pub sound : IsSound columns first
+    pub acts : List (Act (List M))
+    pub es : List (Entry (List M))
+    pub bring : ActsBring columns decoration acts first es r
+
+  -- They led to the renderer of each cell that waits.
+  abbrev pub CellsAreLed : Pending D M (List M) → Type 0
+  CellsAreLed pending = Each (λ cell. IsLed cell.0) pending.cells
+
+  -- They led to each renderer on the stack, and to those of the cells that wait in any level.
+  pub record AreLed (p : Progress D M (List M)) : Type 0 where
+    pub on_stack : Each (λ level. IsLed level.renderer) p.stack.levels
+    pub waiting : CellsAreLed p.pending
+    pub below : Each (λ o. CellsAreLed o.below) p.opened
