@@ -17,10 +17,6 @@ pub text_normal : {A : Type 0} (cs : List ℕ) (a b : A) → IsNormal (text_entr
 text_normal [] a b = tt
 text_normal (c ∷ cs) a b = (refl, text_normal cs a b)
 
--- and a `Normal` run stays so with it
-pub normal_with : {A : Type 0} (run : List (Entry A)) (cs : List ℕ) (a b : A) → IsNormal run → IsNormal (run ++ text_entries cs a b Normal)
-normal_with run cs a b h = each_append (HasMode Normal) run (text_entries cs a b Normal) h (text_normal cs a b)
-
 -- what a new block hands out whose only run is `Normal`
 pub best_lines : {A : Type 0} (columns : ℕ → Option ℕ) (one : columns 32 ≡ Some 1) (eq : A → A → Bool) (width : ℕ) (wide : 0 < width) (padding : Option A) (cs : List ℕ) (a b : A) (s : Block A) (lines : List (List (Element A))) →
     after_text columns cs a b Normal (new_block width false padding) ≡ done s → ((t : Block A) × (after_flush columns s ≡ done t) × AllZip (ShowsText columns eq s.padding s.width) lines t.ended) →

@@ -16,12 +16,10 @@ ghost use Rattle.tbr_c_lines.specs.declared.fault.Fault.TheVariants as F;
 use std::alloc::Global;
 use tbr_c_lines::{Fault, LineSize, Lines, Rest, of_command};
 use tbr_commands::{Command, Decorator, Opening};
-use tbr_decor::{
-    DecoratorPrefix, PlainDecorator, RichDecorator, TextDecorator, TrivialDecorator,
-};
+use tbr_decor::{DecoratorPrefix, PlainDecorator, RichDecorator, TextDecorator, TrivialDecorator};
 use tbr_lines::{Error, UnicodeColumns};
-use tbr_renderer::{RenderOptions, Renderer};
 use tbr_program::Program;
+use tbr_renderer::{RenderOptions, Renderer};
 use tbr_script::RunError;
 
 /// How far a renderer is.

@@ -195,20 +195,6 @@ module _ (line : List ℕ) (word rest : Bor (List ℕ)) (h : IsSplitOnceResult 3
   begins_with : (v : IsWorded line) → word.now ≡ written_as v.0
   begins_with v = (parts line (Some (word, rest)) h v.0 v.1).0
 
-  -- another word has none
-  pub no_word : word.now ≢ codes "text" → word.now ≢ codes "frag" → word.now ≢ codes "image" → word.now ≢ codes "colour" → word.now ≢ codes "bg" → word.now ≢ codes "border" → (request : Request) → HasArgument line request → ⊥
-  unfolding by_word
-  no_word a b d f g n (text t) k = a (begins_with (by_word line (text t) k))
-  no_word a b d f g n (fragment t) k = b (begins_with (by_word line (fragment t) k))
-  no_word a b d f g n (image s t) k = d (begins_with (by_word line (image s t) k))
-  no_word a b d f g n (colour ground.text t) k = f (begins_with (by_word line (colour ground.text t) k))
-  no_word a b d f g n (colour ground.background t) k = g (begins_with (by_word line (colour ground.background t) k))
-  no_word a b d f g n (border (Some columns)) k = n (begins_with (by_word line (border (Some columns)) k))
-  no_word a b d f g n (border None) k = k
-  no_word a b d f g n (layout what) k = k
-  no_word a b d f g n (begin what) k = k
-  no_word a b d f g n (end what) k = k
-
 -- ---- commands
 
 pub no_command : (line : List ℕ) → ((request : Request) → IsRequest line request → ⊥) → ((command : Command) → IsOfLevels line command → ⊥) → (command : Command) → IsWritten line command → ⊥

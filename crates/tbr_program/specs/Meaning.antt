@@ -215,7 +215,8 @@ module _ {D M : Type 0} (columns : ℕ → Option ℕ) (decoration : Decoration 
   abbrev pub EndLinkRefuses : Progress D M (List M) → ℕ → RunError → Type 0
   EndLinkRefuses p number e =
       ((open_links p.stack ≡ []) × (e ≡ NothingToEnd number))
-      ⊎ ((open_links p.stack ≢ []) × (after_link_end columns decoration p.stack ≡ refused E.TooNarrow) × (e ≡ TooNarrow))
+      ⊎ ((open_links p.stack ≢ []) × (after_link_end columns decoration p.stack ≡ refused E.TooNarrow)
+      × (e ≡ TooNarrow))
 
   -- With what a command on the line of this number is refused. Only memory refuses one that opens a level.
   abbrev pub CommandRefuses : Progress D M (List M) → ℕ → Command → RunError → Type 0

@@ -1,5 +1,5 @@
 -- Each renderer of a script is led to by calls and rows.
-use Rattle.std.proofs.Common.{◌≡◌, ◌≢◌, ◌<◌, ℕ, Bool, Option, Some, None, List, [], ◌∷◌, ◌++◌, drop, chars, length, refl, ap, sym, ◌∙◌, subst, append_assoc, append-nil}
+use Rattle.std.proofs.Common.{◌≡◌, ◌≢◌, ◌<◌, ◌+◌, inl, inr, Ok, ℕ, Bool, Option, Some, None, List, [], ◌∷◌, ◌++◌, drop, chars, length, refl, ap, sym, ◌∙◌, subst, append_assoc, append-nil}
 use Rattle.std.specs.List.{AllByRecursion as Each}
 use Rattle.tbr_model.specs.Run.{Entry}
 use Rattle.tbr_model.specs.Layout.{joined}
@@ -20,6 +20,8 @@ use Rattle.tbr_program.specs.declared.opened.Opener.{Opener}
 use Rattle.tbr_program.specs.declared.opened.Opener.TheVariants.{Sub, Cell}
 use Rattle.tbr_program.specs.Progress.{Pending, Opened, Progress}
 use Rattle.tbr_program.specs.Prefixes.{prefixes}
+use Rattle.tbr_program.specs.Closing.{closed_text}
+use Rattle.tbr_runner.specs.Scripts.{LinesGive}
 use Rattle.tbr_program.specs.Meaning.{Closes, RequestDoes, LinkDoes, EndLinkDoes, LevelOpens, AppendDoes, CellDoes, RowDoes, VerticalRowDoes, CommandDoes, LineDoes, started}
 use Rattle.text_block_renderer.specs.Renderer.{Renderer, IsSound, new_renderer}
 use Rattle.text_block_renderer.specs.Calls.{Call, begin, finish, add_inline_text, append_subrender, append_vert_row, after, entries_brought, laid_entries}
@@ -206,6 +208,15 @@ module _ {D M : Type 0} (columns : ℕ → Option ℕ) (decoration : Decoration 
     pub line_led : (line : List ℕ) (next : Progress D M (List M)) → LineDoes columns decoration p line next → AllAreLed next
     line_led [] next e = subst AllAreLed (sym e) h
     line_led (b ∷ bs) next (command, is, does) = command_led (b ∷ bs) command next is does
+
+  -- the text comes of the script's own renderer, after all lines
+  pub text_led : (p : Progress D M (List M)) (number : ℕ) (lines : List (List ℕ)) (text : List ℕ) → AreLed columns decoration p → LinesGive columns decoration p number lines (Ok text) →
+      (targets : List (List ℕ)) × (r : Top) × Led r × (closed_text columns decoration targets r ≡ done text)
+  text_led p number [] text h (none_open, none_wait, of_top) =
+      let (r, top, is) = of_top in
+      (p.stack.links, r, first_led p.stack.levels r top h.on_stack, is)
+  text_led p number (line ∷ lines) text h (inl (e, refuses, is)) = cc
+  text_led p number (line ∷ lines) text h (inr (next, does, gives)) = text_led next (number + 1) lines text (line_led p h line next does) gives
 
   pub started_led : columns 32 ≡ Some 1 → (opening : Opening) (decorator : D) → 0 < opening.width → opening.options.wrap_width ≢ Some 0 → AreLed columns decoration (started {M = M} opening decorator)
   started_led space opening decorator wide some = record {

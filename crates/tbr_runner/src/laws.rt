@@ -1,5 +1,5 @@
 //! What holds of the meaning of scripts, as the contract of a function that does nothing.
-ghost use Rattle.std.specs.Prelude.{◌≡◌, ◌≢◌, ◌<◌, ℕ, List, Option, Some, Result};
+ghost use Rattle.std.specs.Prelude.{◌≡◌, ◌≢◌, ◌<◌, ℕ, List, Option, Some, Ok, Result};
 ghost use Rattle.tbr_decor.specs.Decoration.{Decoration};
 ghost use Rattle.tbr_commands.specs.declared.opening.Opening.{Opening};
 ghost use Rattle.text_block_renderer.specs.Renderer.{Renderer};
@@ -7,7 +7,9 @@ ghost use Rattle.text_block_renderer.specs.Headline.{Headline};
 ghost use Rattle.tbr_program.specs.Progress.{Progress};
 ghost use Rattle.tbr_program.specs.Meaning.{LineDoes, started};
 ghost use Rattle.tbr_runner.specs.Led.{IsLed, AreLed};
-ghost use Rattle.tbr_runner.specs.Scripts.{Gives};
+ghost use Rattle.tbr_tagged.specs.Outcome.{done};
+ghost use Rattle.tbr_program.specs.Closing.{closed_text};
+ghost use Rattle.tbr_runner.specs.Scripts.{LinesGive, Gives};
 ghost use Rattle.tbr_script.specs.declared.error.RunError.{RunError};
 
 /// A script gives one thing: a text, or a refusal with its line.
@@ -16,9 +18,9 @@ pub fn a_script_gives_one_thing()
         Gives columns script one → Gives columns script other → one ≡ other }
 {}
 
-/// Calls and rows lead to each renderer that a script fills, also to those of cells that wait, from a sound one to which
-/// nothing had come: first to the script's own, and then after each line. So the laws of lists of calls and rows hold of
-/// it, the first promise among them.
+/// Calls and rows lead to each renderer that a script fills, also to those of cells that wait, from a sound one to
+/// which nothing had come: first to the script's own, and then after each line. The script's text is of such a one,
+/// with the footnotes. So the laws of lists of calls and rows hold of it, the first promise among them.
 pub fn the_renderers_of_a_script_are_led_to<D, M>()
     ensures first { (columns : ℕ → Option ℕ) (decoration : Decoration D M) → columns 32 ≡ Some 1 →
         (opening : Opening) (decorator : D) → 0 < opening.width → opening.options.wrap_width ≢ Some 0 →
@@ -26,6 +28,11 @@ pub fn the_renderers_of_a_script_are_led_to<D, M>()
     ensures line { (columns : ℕ → Option ℕ) (decoration : Decoration D M) (p next : Progress D M (List M))
         (line : List ℕ) → AreLed columns decoration p → LineDoes columns decoration p line next →
         AreLed columns decoration next }
+    ensures text { (columns : ℕ → Option ℕ) (decoration : Decoration D M) (p : Progress D M (List M)) (number : ℕ)
+        (lines : List (List ℕ)) (text : List ℕ) → AreLed columns decoration p →
+        LinesGive columns decoration p number lines (Ok text) → (targets : List (List ℕ))
+        × (r : Renderer D M (List M)) × IsLed columns decoration r
+        × (closed_text columns decoration targets r ≡ done text) }
     ensures headline { (columns : ℕ → Option ℕ) (decoration : Decoration D M) (r : Renderer D M (List M)) →
         (led : IsLed columns decoration r) → Headline columns decoration led.acts led.first led.es r led.bring }
 {}

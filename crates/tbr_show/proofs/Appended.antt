@@ -22,9 +22,6 @@ module _ {X Y : Type 0} (f : X → List Y) where
   pub flat_map_push : (xs : List X) (x : X) → flat_map f (xs ++ x ∷ []) ≡ flat_map f xs ++ f x
   flat_map_push xs x = flat_map-append f xs (x ∷ []) ∙ ap (λ (ys : List Y). flat_map f xs ++ ys) (append-nil (f x))
 
-pub printable_control : (cs : List ℕ) (c : ℕ) → is_control c ≡ true → printable (cs ++ c ∷ []) ≡ printable cs
-printable_control cs c h = filter-append (λ (d : ℕ). not (is_control d)) cs (c ∷ []) ∙ rw h (append-nil (printable cs))
-
 pub printable_shown : (cs : List ℕ) (c : ℕ) → is_control c ≡ false → printable (cs ++ c ∷ []) ≡ printable cs ++ c ∷ []
 printable_shown cs c h = filter-append (λ (d : ℕ). not (is_control d)) cs (c ∷ []) ∙ rw h refl
 

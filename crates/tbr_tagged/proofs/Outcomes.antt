@@ -35,12 +35,3 @@ module _ {S K R : Type 0} (failure : S → Option Error) (settings : S → K) (o
     settings_stay = stay;
     kept = λ d was. absurd (let n : None ≡ Some d = sym live ∙ was in cc);
   })
-
-  pub answers_kept : (e : Error) (result : Result R Error) → result ≡ Err e → failure old ≡ Some e → Answers failure settings (if_live (failure old) outcome) old result old
-  answers_kept e result is was = subst (λ r. Answers failure settings (if_live (failure old) outcome) old r old) (sym is) (record {
-    ok = tt;
-    too_narrow = λ narrow. let same : e ≡ E.TooNarrow = cc in ap (λ f. if_live f outcome) was ∙ ap refused same;
-    left = was;
-    settings_stay = refl;
-    kept = λ d is_d. (let n : Some e ≡ Some d = sym was ∙ is_d in cc, refl);
-  })

@@ -29,7 +29,8 @@ use Rattle.text_block_renderer.proofs.LineParts.{brings_parts}
 use Rattle.text_block_renderer.proofs.LaidTexts.{laid_lines}
 use Rattle.text_block_renderer.proofs.RowsOfCells.{row_flushes, row_closed}
 use Rattle.text_block_renderer.proofs.LastingLines.{all_stay, stay_on, stay_append, top_put_back}
-use Rattle.text_block_renderer.proofs.Lists.{flat_map_map, each_map, each_gives}
+use Rattle.tbr_rows.proofs.Among.{each_gives}
+use Rattle.text_block_renderer.proofs.Lists.{flat_map_map, each_map}
 use Rattle.text_block_renderer.proofs.OverhangingCells.{Chain, chain_append}
 
 module _ {D A : Type 0} (columns : ℕ → Option ℕ) where

@@ -16,7 +16,8 @@ use Rattle.text_block_renderer.specs.Acts.{Act, ActsBring, Piece, part, put, cel
 use Rattle.text_block_renderer.specs.Headline.{NoLayoutIsAhead, StandsOnce, CellsFit, made, Headline}
 use Rattle.text_block_renderer.proofs.RunStretches.{none_ahead}
 use Rattle.text_block_renderer.proofs.TwoColumns.{act_fits}
-use Rattle.text_block_renderer.proofs.Lists.{each_unmap, each_gives}
+use Rattle.tbr_rows.proofs.Among.{each_gives}
+use Rattle.text_block_renderer.proofs.Lists.{each_unmap}
 use Rattle.text_block_renderer.proofs.OverhangingCells.{Chain, cells_filled, cells_shown}
 use Rattle.text_block_renderer.proofs.ActParts.{acts_along}
 

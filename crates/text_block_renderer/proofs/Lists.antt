@@ -13,7 +13,3 @@ each_map P Q g f (x ∷ xs) h = (f x h.0, each_map P Q g f xs h.1)
 pub each_unmap : {X Y : Type 0} (P : Y → Type 0) (g : X → Y) (xs : List X) → Each P (map g xs) → Each (λ x. P (g x)) xs
 each_unmap P g [] h = tt
 each_unmap P g (x ∷ xs) h = (h.0, each_unmap P g xs h.1)
-
-pub each_gives : {X : Type 0} (P Q : X → Type 0) → ((x : X) → P x → Q x) → (xs : List X) → Each P xs → Each Q xs
-each_gives P Q f [] h = tt
-each_gives P Q f (x ∷ xs) h = (f x h.0, each_gives P Q f xs h.1)

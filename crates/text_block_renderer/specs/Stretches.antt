@@ -48,7 +48,8 @@ pub record StandsAsStretch {D A : Type 0} (columns : ℕ → Option ℕ) (r : Re
   pub names : List (List ℕ)
   -- what a block promises of a run's texts: in `Normal`, where it may not overflow, those of a legal layout
   pub ends : EndsRun columns (block_width r) (may_overflow r) (run_of b.events) texts names
-  pub ahead : may_overflow r ≡ false → IsNormal (run_of b.events) → NoneIsAhead columns (block_width r) (run_of b.events) texts
+  pub ahead : may_overflow r ≡ false → IsNormal (run_of b.events) →
+      NoneIsAhead columns (block_width r) (run_of b.events) texts
   pub behind : List (Line (List A))
   pub is : lines ≡ r.lines ++ stretch columns r b texts ++ behind
 

@@ -132,8 +132,8 @@ pub fn each_open_run_ends_as_one_stretch<D, A>()
 {}
 
 /// The lines that calls add are the stretches of the runs that they ended, laid texts such as empty lines, and the
-/// borders of the calls. What the calls brought are these runs and the entries of these texts, one after another, and then the
-/// run that is open. Calls that append nothing add stretches and empty lines alone.
+/// borders of the calls. What the calls brought are these runs and the entries of these texts, one after another, and
+/// then the run that is open. Calls that append nothing add stretches and empty lines alone.
 pub fn lines_are_stretches_laid_texts_and_borders<D, A>()
     ensures calls { (columns : ℕ → Option ℕ) (decoration : Decoration D A) (calls : List (Call (List A)))
         (r s : Renderer D A (List A)) (es : List (Entry (List A))) → IsSound columns r →
