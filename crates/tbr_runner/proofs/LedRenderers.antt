@@ -1,13 +1,14 @@
 -- Each renderer of a script is led to by calls and rows.
-use Rattle.std.proofs.Common.{◌≡◌, ◌≢◌, ◌<◌, ◌+◌, inl, inr, Ok, ℕ, Bool, Option, Some, None, List, [], ◌∷◌, ◌++◌, drop, chars, length, refl, ap, sym, ◌∙◌, subst, append_assoc, append-nil}
+use Rattle.std.proofs.Common.{◌≡◌, ◌≢◌, ◌<◌, ◌+◌, ◌⊎◌, inl, inr, Ok, ℕ, Bool, true, false, if◌then◌else◌, Option, Some, None, List, [], ◌∷◌, ◌++◌, drop, flat_map, fold, chars, length, refl, ap, sym, ◌∙◌, subst, arith, append_assoc, append-nil}
 use Rattle.std.specs.List.{AllByRecursion as Each}
-use Rattle.tbr_model.specs.Run.{Entry}
+use Rattle.tbr_model.specs.Run.{Entry, Item}
 use Rattle.tbr_model.specs.Layout.{joined}
 use Rattle.tbr_model.proofs.lists.Each.{each_append}
-use Rattle.tbr_tagged.specs.Outcome.{Outcome, done}
+use Rattle.tbr_tagged.specs.Outcome.{Outcome, done, refused}
 use Rattle.tbr_decor.specs.Decoration.{Decoration}
 use Rattle.tbr_decor.specs.Start as start
 use Rattle.tbr_decor.specs.End as end
+use Rattle.tbr_renderer.specs.Outcomes.{changed}
 use Rattle.tbr_renderer.proofs.OutcomeParts.{done_first, done_before}
 use Rattle.tbr_commands.specs.declared.opening.Opening.{Opening}
 use Rattle.tbr_commands.specs.Request.{Request, call_of}
@@ -20,17 +21,39 @@ use Rattle.tbr_program.specs.declared.opened.Opener.{Opener}
 use Rattle.tbr_program.specs.declared.opened.Opener.TheVariants.{Sub, Cell}
 use Rattle.tbr_program.specs.Progress.{Pending, Opened, Progress}
 use Rattle.tbr_program.specs.Prefixes.{prefixes}
-use Rattle.tbr_program.specs.Closing.{closed_text}
-use Rattle.tbr_runner.specs.Scripts.{LinesGive}
+use Rattle.tbr_program.specs.Closing.{with_notes, footnotes_of, closed as lines_closed, closed_text}
+use Rattle.tbr_program.specs.Decorations.{plain_decoration, trivial_decoration, rich_decoration}
+use Rattle.tbr_commands.specs.declared.opening.Decorator.{Decorator}
+use Rattle.tbr_commands.specs.declared.opening.Decorator.TheVariants.{Plain, Trivial, Rich}
+use Rattle.tbr_commands.specs.declared.options.Setting.{Setting}
+use Rattle.tbr_commands.specs.declared.options.Setting.TheVariants.{Wrap, Overflow, Pad, NoBorders, NoWrapLinks, Footnotes, NoStrike, Images}
+use Rattle.tbr_commands.specs.Options.{IsSetting, with_setting, AreOptions}
+use Rattle.tbr_renderer.specs.Options.{default_options}
+use Rattle.tbr_renderer.specs.declared.RenderOptions.{RenderOptions}
+use Rattle.tbr_renderer.specs.Footnotes.{listed, footnote_lines, with_footnotes}
+use Rattle.tbr_renderer.specs.Flush.{block_lines, lines_at_end, names_at_end, fits_at_end, flushed, after_block, after_flush}
+use Rattle.tbr_renderer.specs.Steps.{with_empty_line, block_started}
+use Rattle.tbr_renderer.proofs.FlushedBlocks.{flushes}
+use Rattle.tbr_tagged.proofs.Outcomes.{live_goes}
+use Rattle.tbr_tagged.specs.declared.Error.TheVariants.{TooNarrow}
+use Rattle.tbr_tagged.specs.Elements.{Element}
+use Rattle.tbr_decor.specs.Change as change
+use Rattle.tbr_script.specs.Script.{lines_of}
+use Rattle.std.specs.List.{AllZip}
+use Rattle.std.specs.Prelude.{encode_utf8_all}
+use Rattle.text_block_renderer.specs.Text.{lines_text}
+use Rattle.text_block_renderer.proofs.Settings.{call_beside}
+use Rattle.text_block_renderer.proofs.RowsOfCells.{failure_stays}
+use Rattle.tbr_runner.specs.Scripts.{LinesGive, OpensUnder, Begins, Gives}
 use Rattle.tbr_program.specs.Meaning.{Closes, RequestDoes, LinkDoes, EndLinkDoes, LevelOpens, AppendDoes, CellDoes, RowDoes, VerticalRowDoes, CommandDoes, LineDoes, started}
-use Rattle.text_block_renderer.specs.Renderer.{Renderer, IsSound, new_renderer}
-use Rattle.text_block_renderer.specs.Calls.{Call, begin, finish, add_inline_text, append_subrender, append_vert_row, after, entries_brought, laid_entries}
+use Rattle.text_block_renderer.specs.Renderer.{Open, Renderer, IsSound, new_renderer, with_line, has_content}
+use Rattle.text_block_renderer.specs.Calls.{Call, new_line, begin, finish, add_inline_text, append_subrender, append_vert_row, after, entries_brought, laid_entries}
 use Rattle.text_block_renderer.specs.Decorated.{sub_renderer}
 use Rattle.text_block_renderer.specs.Acts.{Act, call, row as row_of_cells, ActBrings, ActsBring}
-use Rattle.text_block_renderer.proofs.Moves.{sound_alike}
+use Rattle.text_block_renderer.proofs.Moves.{sound_alike, flushed_none}
 use Rattle.text_block_renderer.proofs.ActParts.{acts_along}
 use Rattle.text_block_renderer.proofs.SoundRenderers.{new_sound, inside_sound}
-use Rattle.tbr_runner.specs.Led.{IsFresh, IsLed, CellsAreLed, AreLed}
+use Rattle.tbr_runner.specs.Led.{IsFresh, IsLed, CellsAreLed, AreLed, IsTextOfLed, IsTextOfScript}
 
 module _ {D M : Type 0} (columns : ℕ → Option ℕ) (decoration : Decoration D M) where
   abbrev Top : Type 0
@@ -50,8 +73,12 @@ module _ {D M : Type 0} (columns : ℕ → Option ℕ) (decoration : Decoration 
       let (q, first, rest, does, others, is) = h in
       (q, first, rest ++ fs, does, act_behind acts act q m s rest fs others k, ap (λ gs. gs ++ fs) is ∙ append_assoc first rest fs)
 
+  act_live : (act : Act (List M)) (r s : Top) (es : List (Entry (List M))) → ActBrings columns decoration act r es s → s.failure ≡ r.failure
+  act_live (call c) r s es h = (call_beside columns decoration c r s h.0).0
+  act_live (row_of_cells collapses cells) r s es h = failure_stays columns collapses cells r s (h.0, h.1, h.2)
+
   led_on : (act : Act (List M)) (r s : Top) (fs : List (Entry (List M))) → ActBrings columns decoration act r fs s → Led r → Led s
-  led_on act r s fs h k = record { first = k.first; fresh = k.fresh; sound = k.sound; acts = k.acts ++ act ∷ []; es = k.es ++ fs; bring = act_behind k.acts act k.first r s k.es fs k.bring h }
+  led_on act r s fs h k = record { first = k.first; fresh = k.fresh; sound = k.sound; acts = k.acts ++ act ∷ []; es = k.es ++ fs; bring = act_behind k.acts act k.first r s k.es fs k.bring h; live = act_live act r s fs h ∙ k.live }
 
   called : (c : Call (List M)) (r s : Top) → after columns decoration c r ≡ done s → Led r → Led s
   called c r s h = led_on (call c) r s (entries_brought columns decoration c r) (h, refl)
@@ -62,11 +89,11 @@ module _ {D M : Type 0} (columns : ℕ → Option ℕ) (decoration : Decoration 
 
   -- ---- renderers to which nothing has come
 
-  nothing_came : (r : Top) → IsFresh r → IsSound columns r → Led r
-  nothing_came r fresh sound = record { first = r; fresh = fresh; sound = sound; acts = []; es = []; bring = (refl, refl) }
+  nothing_came : (r : Top) → IsFresh r → IsSound columns r → r.failure ≡ None → Led r
+  nothing_came r fresh sound live = record { first = r; fresh = fresh; sound = sound; acts = []; es = []; bring = (refl, refl); live = live }
 
   inside_led : (width : ℕ) (r : Top) → 0 < width → Led r → Led (sub_renderer decoration width r)
-  inside_led width r wide k = nothing_came (sub_renderer decoration width r) (record { lines = refl; block = refl; waiting = refl; hanging = refl }) (inside_sound columns decoration width r wide (led_sound r k))
+  inside_led width r wide k = nothing_came (sub_renderer decoration width r) (record { lines = refl; block = refl; waiting = refl; hanging = refl }) (inside_sound columns decoration width r wide (led_sound r k)) refl
 
   -- ---- levels
 
@@ -119,8 +146,8 @@ module _ {D M : Type 0} (columns : ℕ → Option ℕ) (decoration : Decoration 
     WaitBelow os = Each (λ (o : Opened D M (List M)). Waits o.below) os
 
     -- the levels that are left where one closes
-    closed_led : (by : Opener) (inside : Top) (next : Progress D M (List M)) → Closes p by inside next → Led inside × AllAreLed next
-    closed_led by inside next c =
+    level_closed : (by : Opener) (inside : Top) (next : Progress D M (List M)) → Closes p by inside next → Led inside × AllAreLed next
+    level_closed by inside next c =
         let both = subst WaitBelow c.opened h.below in (
           first_led p.stack.levels inside c.top h.on_stack,
           record { on_stack = subst (λ (s : Stack Top). AllLed s.levels) (sym c.stack) (others_led p.stack.levels h.on_stack); waiting = both.0; below = both.1 },
@@ -162,7 +189,7 @@ module _ {D M : Type 0} (columns : ℕ → Option ℕ) (decoration : Decoration 
 
     append_led : (first other : List ℕ) (next : Progress D M (List M)) → AppendDoes columns decoration p first other next → AllAreLed next
     append_led first other next d =
-        let (inside, left) = closed_led Sub d.inside d.closed d.closes in
+        let (inside, left) = level_closed Sub d.inside d.closed d.closes in
         let taken = append_subrender (prefixes first other (length d.lines)) d.lines in
         record {
           on_stack = changed_led (after columns decoration taken) (λ r q e k. called taken r q e k) d.closed.stack next.stack d.does left.on_stack;
@@ -173,7 +200,7 @@ module _ {D M : Type 0} (columns : ℕ → Option ℕ) (decoration : Decoration 
     cell_led : (next : Progress D M (List M)) → CellDoes p next → AllAreLed next
     cell_led next d =
         let (span, align, inside, closed_there, closes, is) = d in
-        let (led, left) = closed_led (Cell span align) inside closed_there closes in
+        let (led, left) = level_closed (Cell span align) inside closed_there closes in
         let cell_is : Each (λ (c : Top × ℕ). Led c.0) ((inside, span) ∷ []) = (led, tt) in
         subst AllAreLed (sym is) (record { on_stack = left.on_stack; waiting = each_append (λ (c : Top × ℕ). Led c.0) closed_there.pending.cells ((inside, span) ∷ []) left.waiting cell_is; below = left.below })
 
@@ -209,18 +236,100 @@ module _ {D M : Type 0} (columns : ℕ → Option ℕ) (decoration : Decoration 
     line_led [] next e = subst AllAreLed (sym e) h
     line_led (b ∷ bs) next (command, is, does) = command_led (b ∷ bs) command next is does
 
-  -- the text comes of the script's own renderer, after all lines
-  pub text_led : (p : Progress D M (List M)) (number : ℕ) (lines : List (List ℕ)) (text : List ℕ) → AreLed columns decoration p → LinesGive columns decoration p number lines (Ok text) →
-      (targets : List (List ℕ)) × (r : Top) × Led r × (closed_text columns decoration targets r ≡ done text)
-  text_led p number [] text h (none_open, none_wait, of_top) =
-      let (r, top, is) = of_top in
-      (p.stack.links, r, first_led p.stack.levels r top h.on_stack, is)
+  -- ---- the text
+
+  -- another decorator changes no line
+  abbrev with_decorator : D → Top → Top
+  with_decorator d r = record r { decorator = d }
+
+  lines_alike : (d : D) (ts : List (List (Item (List M)))) (r : Top) → fold (with_line columns) (with_decorator d r) ts ≡ with_decorator d (fold (with_line columns) r ts)
+  lines_alike d [] r = refl
+  lines_alike d (t ∷ ts) r = lines_alike d ts (with_line columns r t)
+
+  block_alike : (d : D) (r : Top) (o : Option (Open (List M))) → after_block columns (with_decorator d r) o ≡ changed (with_decorator d) (after_block columns r o)
+  block_alike d r None = refl
+  block_alike d r (Some b) = go (fits_at_end columns r b)
+    where
+      lines : List (List (Item (List M)))
+      lines = block_lines columns r b (lines_at_end columns r b)
+
+      go : (fits : Bool) → (if fits then done (flushed columns (with_decorator d r) lines (names_at_end columns r b)) else refused TooNarrow) ≡ changed (with_decorator d) (if fits then done (flushed columns r lines (names_at_end columns r b)) else refused TooNarrow)
+      go true = ap (λ (s : Top). done (record s { waiting = s.waiting ++ names_at_end columns r b })) (lines_alike d lines (record r { block = None }))
+      go false = refl
+
+  begun_alike : (d : D) (r : Top) → block_started columns (with_decorator d r) ≡ with_decorator d (block_started columns r)
+  begun_alike d r = go (has_content r)
+    where
+      go : (b : Bool) → (if b then with_empty_line columns (with_decorator d r) else record (with_decorator d r) { block_ended = false }) ≡ with_decorator d (if b then with_empty_line columns r else record r { block_ended = false })
+      go true = refl
+      go false = refl
+
+  notes_alike : (d : D) (notes : List (List (Element M))) (r : Top) → (let s = with_notes columns notes (with_decorator d r) in s.lines) ≡ (let s = with_notes columns notes r in s.lines)
+  notes_alike d [] r = refl
+  notes_alike d (note ∷ notes) r =
+      ap (λ (q : Top). let s = with_footnotes columns q (note ∷ notes) in s.lines) (begun_alike d r)
+      ∙ ap (λ (s : Top). s.lines) (lines_alike d (flat_map (footnote_lines columns (block_started columns r)) (note ∷ notes)) (block_started columns r))
+
+  closed_led : (targets : List (List ℕ)) (r : Top) (text : List ℕ) → Led r → closed_text columns decoration targets r ≡ done text → IsTextOfLed columns decoration text
+  closed_led targets r text k h =
+      let d = decoration.after r.decorator (change.finalise (listed r.options targets)) in
+      let notes = footnotes_of columns decoration targets r in
+      let (lines, made, is) = done_before (λ ls. encode_utf8_all (lines_text ls)) (lines_closed columns decoration targets r) text h in
+      let (s, ended, are) = done_before (λ (q : Top). let t = with_notes columns notes q in t.lines) (after_flush columns (with_decorator d r)) lines made in
+      let (m, first, same) = done_before (with_decorator d) (after_flush columns r) s (sym (block_alike d r r.block) ∙ ended) in
+      record {
+        renderer = m;
+        led = called new_line r m (live_goes r.failure (after_flush columns r) k.live ∙ first) k;
+        whole = flushed_none columns r m (flushes columns r m first);
+        notes = notes;
+        is = is ∙ ap (λ ls. encode_utf8_all (lines_text ls)) (are ∙ ap (λ (q : Top). let t = with_notes columns notes q in t.lines) same ∙ notes_alike d notes m);
+      }
+
+  -- it comes of the script's own renderer, after all lines
+  pub text_led : (p : Progress D M (List M)) (number : ℕ) (lines : List (List ℕ)) (text : List ℕ) → AreLed columns decoration p → LinesGive columns decoration p number lines (Ok text) → IsTextOfLed columns decoration text
+  text_led p number [] text h (none_open, none_wait, of_top) = let (r, top, is) = of_top in closed_led p.stack.links r text (first_led p.stack.levels r top h.on_stack) is
   text_led p number (line ∷ lines) text h (inl (e, refuses, is)) = cc
   text_led p number (line ∷ lines) text h (inr (next, does, gives)) = text_led next (number + 1) lines text (line_led p h line next does) gives
 
   pub started_led : columns 32 ≡ Some 1 → (opening : Opening) (decorator : D) → 0 < opening.width → opening.options.wrap_width ≢ Some 0 → AreLed columns decoration (started {M = M} opening decorator)
   started_led space opening decorator wide some = record {
-    on_stack = (nothing_came (new_renderer opening.width opening.options decorator) (record { lines = refl; block = refl; waiting = refl; hanging = refl }) (new_sound columns space opening.width opening.options decorator wide some), tt);
+    on_stack = (nothing_came (new_renderer opening.width opening.options decorator) (record { lines = refl; block = refl; waiting = refl; hanging = refl }) (new_sound columns space opening.width opening.options decorator wide some) refl, tt);
     waiting = tt;
     below = tt;
   }
+
+-- ---- a whole script
+
+module _ (columns : ℕ → Option ℕ) (space : columns 32 ≡ Some 1) where
+  some_wrap : (words : List (List ℕ)) (settings : List Setting) (options : RenderOptions) → AllZip IsSetting words settings → options.wrap_width ≢ Some 0 → (let o = fold with_setting options settings in o.wrap_width) ≢ Some 0
+  some_wrap [] [] options all some = some
+  some_wrap [] (s ∷ ss) options all some = elim all [ ]
+  some_wrap (w ∷ ws) [] options all some = elim all [ ]
+  some_wrap (w ∷ ws) (Wrap n ∷ ss) options all some =
+      some_wrap ws ss (record options { wrap_width = Some n }) all.1 (λ none. let zero_is : n ≡ 0 = cc in omega (arith, all.0.2.2, zero_is))
+  some_wrap (w ∷ ws) (Overflow ∷ ss) options all some = some_wrap ws ss (with_setting options Overflow) all.1 some
+  some_wrap (w ∷ ws) (Pad ∷ ss) options all some = some_wrap ws ss (with_setting options Pad) all.1 some
+  some_wrap (w ∷ ws) (NoBorders ∷ ss) options all some = some_wrap ws ss (with_setting options NoBorders) all.1 some
+  some_wrap (w ∷ ws) (NoWrapLinks ∷ ss) options all some = some_wrap ws ss (with_setting options NoWrapLinks) all.1 some
+  some_wrap (w ∷ ws) (Footnotes ∷ ss) options all some = some_wrap ws ss (with_setting options Footnotes) all.1 some
+  some_wrap (w ∷ ws) (NoStrike ∷ ss) options all some = some_wrap ws ss (with_setting options NoStrike) all.1 some
+  some_wrap (w ∷ ws) (Images mode ∷ ss) options all some = some_wrap ws ss (with_setting options (Images mode)) all.1 some
+
+  wraps : (words : List (List ℕ)) (options : RenderOptions) → AreOptions words options → options.wrap_width ≢ Some 0
+  wraps words options (settings, all, is) = subst (λ (o : RenderOptions). o.wrap_width ≢ Some 0) (sym is) (some_wrap words settings default_options all (λ none. cc))
+
+  under_led : (decorator : Decorator) (opening : Opening) (number : ℕ) (lines : List (List ℕ)) (text : List ℕ) → 0 < opening.width → opening.options.wrap_width ≢ Some 0 → OpensUnder columns decorator opening number lines (Ok text) → IsTextOfScript columns text
+  under_led Plain opening number lines text wide some h = inl (text_led columns plain_decoration (started opening (record {})) number lines text (started_led columns plain_decoration space opening (record {}) wide some) h)
+  under_led Trivial opening number lines text wide some h = inr (inl (text_led columns trivial_decoration (started opening (record {})) number lines text (started_led columns trivial_decoration space opening (record {}) wide some) h))
+  under_led Rich opening number lines text wide some h = inr (inr (text_led columns rich_decoration (started opening (record {})) number lines text (started_led columns rich_decoration space opening (record {}) wide some) h))
+
+  begins_led : (number : ℕ) (lines : List (List ℕ)) (text : List ℕ) → Begins columns number lines (Ok text) → IsTextOfScript columns text
+  begins_led number [] text h = cc
+  begins_led number ([] ∷ lines) text h = begins_led (number + 1) lines text h
+  begins_led number ((b ∷ bs) ∷ lines) text (inl (none, is)) = cc
+  begins_led number ((b ∷ bs) ∷ lines) text (inr (opening, is, opens)) =
+      let (digits, words, are, size, options) = is.asks in
+      under_led opening.decorator opening (number + 1) lines text size.2 (wraps words opening.options options) opens
+
+  pub script_led : (script text : List ℕ) → Gives columns script (Ok text) → IsTextOfScript columns text
+  script_led script text h = begins_led 1 (lines_of script) text h

@@ -1,10 +1,14 @@
--- The renderers of a script, and how they came to be.
-use Rattle.std.specs.Prelude.{◌≡◌, ℕ, Option, None, List, []}
+-- The renderers of a script and its text, and how they came to be.
+use Rattle.std.specs.Prelude.{◌≡◌, ◌⊎◌, ℕ, Option, None, List, [], encode_utf8_all}
 use Rattle.std.specs.List.{AllByRecursion as Each}
 use Rattle.tbr_model.specs.Run.{Entry}
+use Rattle.tbr_tagged.specs.Elements.{Element}
 use Rattle.tbr_decor.specs.Decoration.{Decoration}
 use Rattle.text_block_renderer.specs.Renderer.{Renderer, IsSound}
 use Rattle.text_block_renderer.specs.Acts.{Act, ActsBring}
+use Rattle.text_block_renderer.specs.Text.{lines_text}
+use Rattle.tbr_program.specs.Closing.{with_notes}
+use Rattle.tbr_program.specs.Decorations.{plain_decoration, trivial_decoration, rich_decoration}
 use Rattle.tbr_program.specs.Progress.{Pending, Progress}
 
 -- Nothing has come to a renderer yet.
@@ -23,6 +27,7 @@ module _ {D M : Type 0} (columns : ℕ → Option ℕ) (decoration : Decoration 
     pub acts : List (Act (List M))
     pub es : List (Entry (List M))
     pub bring : ActsBring columns decoration acts first es r
+    pub live : r.failure ≡ None
 
   -- They led to the renderer of each cell that waits.
   abbrev pub CellsAreLed : Pending D M (List M) → Type 0
@@ -33,3 +38,17 @@ module _ {D M : Type 0} (columns : ℕ → Option ℕ) (decoration : Decoration 
     pub on_stack : Each (λ level. IsLed level.renderer) p.stack.levels
     pub waiting : CellsAreLed p.pending
     pub below : Each (λ o. CellsAreLed o.below) p.opened
+
+  -- A text is that of the lines of such a renderer, in which no run is open, and of a block of footnotes.
+  pub record IsTextOfLed (text : List ℕ) : Type 0 where
+    pub renderer : Renderer D M (List M)
+    pub led : IsLed renderer
+    pub whole : renderer.block ≡ None
+    pub notes : List (List (Element M))
+    pub is : text ≡ encode_utf8_all (lines_text (let s = with_notes columns notes renderer in s.lines))
+
+-- It is so under one of the decorators of scripts.
+abbrev pub IsTextOfScript : (ℕ → Option ℕ) → List ℕ → Type 0
+IsTextOfScript columns text =
+    IsTextOfLed columns plain_decoration text
+    ⊎ (IsTextOfLed columns trivial_decoration text ⊎ IsTextOfLed columns rich_decoration text)

@@ -6,9 +6,7 @@ ghost use Rattle.text_block_renderer.specs.Renderer.{Renderer};
 ghost use Rattle.text_block_renderer.specs.Headline.{Headline};
 ghost use Rattle.tbr_program.specs.Progress.{Progress};
 ghost use Rattle.tbr_program.specs.Meaning.{LineDoes, started};
-ghost use Rattle.tbr_runner.specs.Led.{IsLed, AreLed};
-ghost use Rattle.tbr_tagged.specs.Outcome.{done};
-ghost use Rattle.tbr_program.specs.Closing.{closed_text};
+ghost use Rattle.tbr_runner.specs.Led.{IsLed, AreLed, IsTextOfLed, IsTextOfScript};
 ghost use Rattle.tbr_runner.specs.Scripts.{LinesGive, Gives};
 ghost use Rattle.tbr_script.specs.declared.error.RunError.{RunError};
 
@@ -19,8 +17,9 @@ pub fn a_script_gives_one_thing()
 {}
 
 /// Calls and rows lead to each renderer that a script fills, also to those of cells that wait, from a sound one to
-/// which nothing had come: first to the script's own, and then after each line. The script's text is of such a one,
-/// with the footnotes. So the laws of lists of calls and rows hold of it, the first promise among them.
+/// which nothing had come: first to the script's own, and then after each line. The script's text is that of such a
+/// one's lines, without an open run, and of a block of footnotes. So the laws of lists of calls and rows hold of it, the
+/// first promise among them.
 pub fn the_renderers_of_a_script_are_led_to<D, M>()
     ensures first { (columns : ℕ → Option ℕ) (decoration : Decoration D M) → columns 32 ≡ Some 1 →
         (opening : Opening) (decorator : D) → 0 < opening.width → opening.options.wrap_width ≢ Some 0 →
@@ -30,9 +29,9 @@ pub fn the_renderers_of_a_script_are_led_to<D, M>()
         AreLed columns decoration next }
     ensures text { (columns : ℕ → Option ℕ) (decoration : Decoration D M) (p : Progress D M (List M)) (number : ℕ)
         (lines : List (List ℕ)) (text : List ℕ) → AreLed columns decoration p →
-        LinesGive columns decoration p number lines (Ok text) → (targets : List (List ℕ))
-        × (r : Renderer D M (List M)) × IsLed columns decoration r
-        × (closed_text columns decoration targets r ≡ done text) }
+        LinesGive columns decoration p number lines (Ok text) → IsTextOfLed columns decoration text }
+    ensures script { (columns : ℕ → Option ℕ) → columns 32 ≡ Some 1 → (script text : List ℕ) →
+        Gives columns script (Ok text) → IsTextOfScript columns text }
     ensures headline { (columns : ℕ → Option ℕ) (decoration : Decoration D M) (r : Renderer D M (List M)) →
         (led : IsLed columns decoration r) → Headline columns decoration led.acts led.first led.es r led.bring }
 {}

@@ -1,5 +1,5 @@
 use Rattle.text_block_renderer.proofs.Headline.{headline}
-use Rattle.tbr_runner.proofs.LedRenderers.{started_led, line_led, text_led}
+use Rattle.tbr_runner.proofs.LedRenderers.{started_led, line_led, text_led, script_led}
 use Rattle.tbr_runner.proofs.laws.the_renderers_of_a_script_are_led_to.Goals as goal
 
 pub returns : goal.returns
@@ -7,5 +7,6 @@ returns g c = record {
   first = started_led;
   line = λ columns decoration p next line led. line_led columns decoration p led line next;
   text = text_led;
+  script = script_led;
   headline = λ columns decoration r led. headline columns decoration led.acts led.first r led.es led.sound led.bring;
 }
