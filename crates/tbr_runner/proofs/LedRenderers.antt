@@ -1,5 +1,5 @@
 -- Each renderer of a script is led to by calls and rows.
-use Rattle.std.proofs.Common.{◌≡◌, ◌≢◌, ◌<◌, ◌+◌, ◌⊎◌, inl, inr, Ok, ℕ, Bool, true, false, if◌then◌else◌, Option, Some, None, List, [], ◌∷◌, ◌++◌, drop, flat_map, fold, chars, length, refl, ap, sym, ◌∙◌, subst, arith, append_assoc, append-nil}
+use Rattle.std.proofs.Common.{◌≡◌, ◌≢◌, ◌<◌, ◌+◌, inl, inr, Ok, ℕ, Bool, true, false, if◌then◌else◌, Option, Some, None, List, [], ◌∷◌, ◌++◌, drop, flat_map, fold, chars, length, refl, ap, sym, ◌∙◌, subst, arith, append_assoc, append-nil}
 use Rattle.std.specs.List.{AllByRecursion as Each}
 use Rattle.tbr_model.specs.Run.{Entry, Item}
 use Rattle.tbr_model.specs.Layout.{joined}
@@ -53,18 +53,18 @@ use Rattle.text_block_renderer.specs.Acts.{Act, call, row as row_of_cells, ActBr
 use Rattle.text_block_renderer.proofs.Moves.{sound_alike, flushed_none}
 use Rattle.text_block_renderer.proofs.ActParts.{acts_along}
 use Rattle.text_block_renderer.proofs.SoundRenderers.{new_sound, inside_sound}
-use Rattle.tbr_runner.specs.Led.{IsFresh, IsLed, CellsAreLed, AreLed, IsTextOfLed, IsTextOfScript}
+use Rattle.tbr_runner.specs.Led.{IsFresh, IsLed, CellsAre, AllAre, AreLed, IsTextOfLed, IsTextOfScript}
 
 module _ {D M : Type 0} (columns : ℕ → Option ℕ) (decoration : Decoration D M) where
-  abbrev Top : Type 0
+  abbrev pub Top : Type 0
   Top = Renderer D M (List M)
 
-  abbrev Led : Top → Type 0
+  abbrev pub Led : Top → Type 0
   Led r = IsLed columns decoration r
 
   -- ---- one act more
 
-  one_act : (act : Act (List M)) (r m s : Top) (es : List (Entry (List M))) → m ≡ r → ActBrings columns decoration act m es s → ActsBring columns decoration (act ∷ []) r es s
+  pub one_act : (act : Act (List M)) (r m s : Top) (es : List (Entry (List M))) → m ≡ r → ActBrings columns decoration act m es s → ActsBring columns decoration (act ∷ []) r es s
   one_act act r m s es same h = (s, es, [], subst (λ (q : Top). ActBrings columns decoration act q es s) same h, (refl, refl), sym (append-nil es))
 
   act_behind : (acts : List (Act (List M))) (act : Act (List M)) (r m s : Top) (es fs : List (Entry (List M))) → ActsBring columns decoration acts r es m → ActBrings columns decoration act m fs s → ActsBring columns decoration (acts ++ act ∷ []) r (es ++ fs) s
@@ -77,169 +77,195 @@ module _ {D M : Type 0} (columns : ℕ → Option ℕ) (decoration : Decoration 
   act_live (call c) r s es h = (call_beside columns decoration c r s h.0).0
   act_live (row_of_cells collapses cells) r s es h = failure_stays columns collapses cells r s (h.0, h.1, h.2)
 
-  led_on : (act : Act (List M)) (r s : Top) (fs : List (Entry (List M))) → ActBrings columns decoration act r fs s → Led r → Led s
+  pub led_on : (act : Act (List M)) (r s : Top) (fs : List (Entry (List M))) → ActBrings columns decoration act r fs s → Led r → Led s
   led_on act r s fs h k = record { first = k.first; fresh = k.fresh; sound = k.sound; acts = k.acts ++ act ∷ []; es = k.es ++ fs; bring = act_behind k.acts act k.first r s k.es fs k.bring h; live = act_live act r s fs h ∙ k.live }
 
-  called : (c : Call (List M)) (r s : Top) → after columns decoration c r ≡ done s → Led r → Led s
-  called c r s h = led_on (call c) r s (entries_brought columns decoration c r) (h, refl)
-
   -- such a renderer is sound
-  led_sound : (r : Top) → Led r → IsSound columns r
+  pub led_sound : (r : Top) → Led r → IsSound columns r
   led_sound r k = let along = acts_along columns decoration k.acts k.first r k.es k.sound k.bring in sound_alike columns k.first r along.width along.options k.sound
 
   -- ---- renderers to which nothing has come
 
-  nothing_came : (r : Top) → IsFresh r → IsSound columns r → r.failure ≡ None → Led r
+  pub nothing_came : (r : Top) → IsFresh r → IsSound columns r → r.failure ≡ None → Led r
   nothing_came r fresh sound live = record { first = r; fresh = fresh; sound = sound; acts = []; es = []; bring = (refl, refl); live = live }
 
-  inside_led : (width : ℕ) (r : Top) → 0 < width → Led r → Led (sub_renderer decoration width r)
+  pub inside_led : (width : ℕ) (r : Top) → 0 < width → Led r → Led (sub_renderer decoration width r)
   inside_led width r wide k = nothing_came (sub_renderer decoration width r) (record { lines = refl; block = refl; waiting = refl; hanging = refl }) (inside_sound columns decoration width r wide (led_sound r k)) refl
 
-  -- ---- levels
+  -- ---- what acts keep, and blocks inside have
 
-  abbrev AllLed : List (Level Top) → Type 0
-  AllLed ls = Each (λ (l : Level Top). Led l.renderer) ls
+  module _ (Is : Top → Type 0) (Wide : ℕ → Type 0) (on : (act : Act (List M)) (r s : Top) (es : List (Entry (List M))) → ActBrings columns decoration act r es s → Is r → Is s)
+      (inside : (width : ℕ) (r : Top) → Wide width → Is r → Is (sub_renderer decoration width r)) where
+    called : (c : Call (List M)) (r s : Top) → after columns decoration c r ≡ done s → Is r → Is s
+    called c r s h = on (call c) r s (entries_brought columns decoration c r) (h, refl)
 
-  first_led : (ls : List (Level Top)) (r : Top) → first_renderer ls ≡ Some r → AllLed ls → Led r
-  first_led [] r e h = cc
-  first_led (l ∷ ls) r e h = subst Led (let same : l.renderer ≡ r = cc in same) h.0
+    -- ---- levels
 
-  others_led : (ls : List (Level Top)) → AllLed ls → AllLed (drop 1 ls)
-  others_led [] h = tt
-  others_led (l ∷ ls) h = h.1
+    abbrev pub AllOf : List (Level Top) → Type 0
+    AllOf ls = Each (λ (l : Level Top). Is l.renderer) ls
 
-  top_led : (q : Top) (ls : List (Level Top)) → Led q → AllLed ls → AllLed (in_first (λ l. record l { renderer = q }) ls)
-  top_led q [] k h = tt
-  top_led q (l ∷ ls) k h = (k, h.1)
+    pub first_led : (ls : List (Level Top)) (r : Top) → first_renderer ls ≡ Some r → AllOf ls → Is r
+    first_led [] r e h = cc
+    first_led (l ∷ ls) r e h = subst Is (let same : l.renderer ≡ r = cc in same) h.0
 
-  linked_led : (change : Level Top → Level Top) → ((l : Level Top) → (change l).renderer ≡ l.renderer) → (ls : List (Level Top)) → AllLed ls → AllLed (in_first change ls)
-  linked_led change same [] h = tt
-  linked_led change same (l ∷ ls) h = (subst Led (sym (same l)) h.0, h.1)
+    pub others_led : (ls : List (Level Top)) → AllOf ls → AllOf (drop 1 ls)
+    others_led [] h = tt
+    others_led (l ∷ ls) h = h.1
 
-  -- a change of the top that leads on
-  changed_led : (change : Top → Outcome Top) → ((r q : Top) → change r ≡ done q → Led r → Led q) → (s t : Stack Top) → in_top change s ≡ done t → AllLed s.levels → AllLed t.levels
-  changed_led change leads s t e h = go (top_of s) refl e
-    where
-      go : (o : Option Top) → top_of s ≡ o → in_top_of change s o ≡ done t → AllLed t.levels
-      go None is made = cc
-      go (Some r) is made =
-          let (q, does, whole) = done_before (with_top s) (change r) t made in
-          subst (λ (x : Stack Top). AllLed x.levels) (sym whole) (top_led q s.levels (leads r q does (first_led s.levels r is h)) h)
+    top_led : (q : Top) (ls : List (Level Top)) → Is q → AllOf ls → AllOf (in_first (λ l. record l { renderer = q }) ls)
+    top_led q [] k h = tt
+    top_led q (l ∷ ls) k h = (k, h.1)
 
-  -- the end of a link, and perhaps its number
-  link_ended : (k : Option ℕ) (r q : Top) → after_end_with columns decoration k r ≡ done q → Led r → Led q
-  link_ended None r q e h = called (finish end.link) r q e h
-  link_ended (Some k) r q e h =
-      let (m, first, next) = done_first (after columns decoration (finish end.link) r) (after columns decoration (add_inline_text (link_number k))) q e in
-      called (add_inline_text (link_number k)) m q next (called (finish end.link) r m first h)
+    linked_led : (change : Level Top → Level Top) → ((l : Level Top) → (change l).renderer ≡ l.renderer) → (ls : List (Level Top)) → AllOf ls → AllOf (in_first change ls)
+    linked_led change same [] h = tt
+    linked_led change same (l ∷ ls) h = (subst Is (sym (same l)) h.0, h.1)
 
-  -- ---- commands
+    -- a change of the top that leads on
+    changed_led : (change : Top → Outcome Top) → ((r q : Top) → change r ≡ done q → Is r → Is q) → (s t : Stack Top) → in_top change s ≡ done t → AllOf s.levels → AllOf t.levels
+    changed_led change leads s t e h = go (top_of s) refl e
+      where
+        go : (o : Option Top) → top_of s ≡ o → in_top_of change s o ≡ done t → AllOf t.levels
+        go None is made = cc
+        go (Some r) is made =
+            let (q, does, whole) = done_before (with_top s) (change r) t made in
+            subst (λ (x : Stack Top). AllOf x.levels) (sym whole) (top_led q s.levels (leads r q does (first_led s.levels r is h)) h)
 
-  module _ (p : Progress D M (List M)) (h : AreLed columns decoration p) where
-    abbrev AllAreLed : Progress D M (List M) → Type 0
-    AllAreLed next = AreLed columns decoration next
+    -- the end of a link, and perhaps its number
+    link_ended : (k : Option ℕ) (r q : Top) → after_end_with columns decoration k r ≡ done q → Is r → Is q
+    link_ended None r q e h = called (finish end.link) r q e h
+    link_ended (Some k) r q e h =
+        let (m, first, next) = done_first (after columns decoration (finish end.link) r) (after columns decoration (add_inline_text (link_number k))) q e in
+        called (add_inline_text (link_number k)) m q next (called (finish end.link) r m first h)
 
-    abbrev Waits : Pending D M (List M) → Type 0
-    Waits pending = CellsAreLed columns decoration pending
+    -- ---- commands
 
-    abbrev WaitBelow : List (Opened D M (List M)) → Type 0
-    WaitBelow os = Each (λ (o : Opened D M (List M)). Waits o.below) os
+    -- whether a block or a cell that a command opens is wide enough
+    abbrev pub Asks : Command → Type 0
+    Asks (sub width) = Wide width
+    Asks (cell width span align) = Wide width
+    Asks other = Unit {0}
 
-    -- the levels that are left where one closes
-    level_closed : (by : Opener) (inside : Top) (next : Progress D M (List M)) → Closes p by inside next → Led inside × AllAreLed next
-    level_closed by inside next c =
-        let both = subst WaitBelow c.opened h.below in (
-          first_led p.stack.levels inside c.top h.on_stack,
-          record { on_stack = subst (λ (s : Stack Top). AllLed s.levels) (sym c.stack) (others_led p.stack.levels h.on_stack); waiting = both.0; below = both.1 },
-        )
+    module _ (p : Progress D M (List M)) (h : AllAre Is p) where
+      abbrev Waits : Pending D M (List M) → Type 0
+      Waits pending = CellsAre Is pending
 
-    request_led : (request : Request) (next : Progress D M (List M)) → RequestDoes columns decoration p request next → AllAreLed next
-    request_led request next d = record {
-      on_stack = changed_led (λ r. after columns decoration (call_of r.width request) r) (λ r q e k. called (call_of r.width request) r q e k) p.stack next.stack d.does h.on_stack;
-      waiting = subst Waits (sym d.counts) h.waiting;
-      below = subst WaitBelow (sym d.opened) h.below;
-    }
+      abbrev WaitBelow : List (Opened D M (List M)) → Type 0
+      WaitBelow os = Each (λ (o : Opened D M (List M)). Waits o.below) os
 
-    link_led : (target : List ℕ) (next : Progress D M (List M)) → LinkDoes columns decoration p target next → AllAreLed next
-    link_led target next d = record {
-      on_stack = changed_led (after columns decoration (begin (start.link (chars target)))) (λ r q e k. called (begin (start.link (chars target))) r q e k) (with_link (chars target) p.stack) next.stack d.starts (linked_led _ (λ l. refl) p.stack.levels h.on_stack);
-      waiting = subst Waits (sym d.pending) h.waiting;
-      below = subst WaitBelow (sym d.opened) h.below;
-    }
+      -- the levels that are left where one closes
+      level_closed : (by : Opener) (r : Top) (next : Progress D M (List M)) → Closes p by r next → Is r × AllAre Is next
+      level_closed by r next c =
+          let both = subst WaitBelow c.opened h.below in (
+            first_led p.stack.levels r c.top h.on_stack,
+            record { on_stack = subst (λ (s : Stack Top). AllOf s.levels) (sym c.stack) (others_led p.stack.levels h.on_stack); waiting = both.0; below = both.1 },
+          )
 
-    end_link_led : (next : Progress D M (List M)) → EndLinkDoes columns decoration p next → AllAreLed next
-    end_link_led next d =
-        let shown = λ (r : Top). shown_number r (open_links p.stack) in
-        let (m, ended, whole) = done_before _ (in_top (λ r. after_end_with columns decoration (shown r) r) p.stack) next.stack d.ends in
-        let there = changed_led (λ r. after_end_with columns decoration (shown r) r) (λ r q e k. link_ended (shown r) r q e k) p.stack m ended h.on_stack in
-        record {
-          on_stack = subst (λ (s : Stack Top). AllLed s.levels) (sym whole) (linked_led closed (λ l. refl) m.levels there);
-          waiting = subst Waits (sym d.pending) h.waiting;
-          below = subst WaitBelow (sym d.opened) h.below;
-        }
+      request_led : (request : Request) (next : Progress D M (List M)) → RequestDoes columns decoration p request next → AllAre Is next
+      request_led request next d = record {
+        on_stack = changed_led (λ r. after columns decoration (call_of r.width request) r) (λ r q e k. called (call_of r.width request) r q e k) p.stack next.stack d.does h.on_stack;
+        waiting = subst Waits (sym d.counts) h.waiting;
+        below = subst WaitBelow (sym d.opened) h.below;
+      }
 
-    level_led : (by : Opener) (width : ℕ) (next : Progress D M (List M)) → 0 < width → LevelOpens decoration p by width next → AllAreLed next
-    level_led by width next wide d =
-        let (r, top, is) = d.stack in
-        record {
-          on_stack = subst (λ (s : Stack Top). AllLed s.levels) (sym is) (inside_led width r wide (first_led p.stack.levels r top h.on_stack), h.on_stack);
-          waiting = subst Waits (sym d.pending) tt;
-          below = subst WaitBelow (sym d.opened) (h.waiting, h.below);
-        }
+      link_led : (target : List ℕ) (next : Progress D M (List M)) → LinkDoes columns decoration p target next → AllAre Is next
+      link_led target next d = record {
+        on_stack = changed_led (after columns decoration (begin (start.link (chars target)))) (λ r q e k. called (begin (start.link (chars target))) r q e k) (with_link (chars target) p.stack) next.stack d.starts (linked_led _ (λ l. refl) p.stack.levels h.on_stack);
+        waiting = subst Waits (sym d.pending) h.waiting;
+        below = subst WaitBelow (sym d.opened) h.below;
+      }
 
-    append_led : (first other : List ℕ) (next : Progress D M (List M)) → AppendDoes columns decoration p first other next → AllAreLed next
-    append_led first other next d =
-        let (inside, left) = level_closed Sub d.inside d.closed d.closes in
-        let taken = append_subrender (prefixes first other (length d.lines)) d.lines in
-        record {
-          on_stack = changed_led (after columns decoration taken) (λ r q e k. called taken r q e k) d.closed.stack next.stack d.does left.on_stack;
-          waiting = subst Waits (sym d.pending) left.waiting;
-          below = subst WaitBelow (sym d.opened) left.below;
-        }
+      end_link_led : (next : Progress D M (List M)) → EndLinkDoes columns decoration p next → AllAre Is next
+      end_link_led next d =
+          let shown = λ (r : Top). shown_number r (open_links p.stack) in
+          let (m, ended, whole) = done_before _ (in_top (λ r. after_end_with columns decoration (shown r) r) p.stack) next.stack d.ends in
+          let there = changed_led (λ r. after_end_with columns decoration (shown r) r) (λ r q e k. link_ended (shown r) r q e k) p.stack m ended h.on_stack in
+          record {
+            on_stack = subst (λ (s : Stack Top). AllOf s.levels) (sym whole) (linked_led closed (λ l. refl) m.levels there);
+            waiting = subst Waits (sym d.pending) h.waiting;
+            below = subst WaitBelow (sym d.opened) h.below;
+          }
 
-    cell_led : (next : Progress D M (List M)) → CellDoes p next → AllAreLed next
-    cell_led next d =
-        let (span, align, inside, closed_there, closes, is) = d in
-        let (led, left) = level_closed (Cell span align) inside closed_there closes in
-        let cell_is : Each (λ (c : Top × ℕ). Led c.0) ((inside, span) ∷ []) = (led, tt) in
-        subst AllAreLed (sym is) (record { on_stack = left.on_stack; waiting = each_append (λ (c : Top × ℕ). Led c.0) closed_there.pending.cells ((inside, span) ∷ []) left.waiting cell_is; below = left.below })
+      level_led : (by : Opener) (width : ℕ) (next : Progress D M (List M)) → Wide width → LevelOpens decoration p by width next → AllAre Is next
+      level_led by width next wide d =
+          let (r, top, is) = d.stack in
+          record {
+            on_stack = subst (λ (s : Stack Top). AllOf s.levels) (sym is) (inside width r wide (first_led p.stack.levels r top h.on_stack), h.on_stack);
+            waiting = subst Waits (sym d.pending) tt;
+            below = subst WaitBelow (sym d.opened) (h.waiting, h.below);
+          }
 
-    row_led : (collapse : Bool) (next : Progress D M (List M)) → RowDoes columns decoration p collapse next → AllAreLed next
-    row_led collapse next d =
-        let (before, behind, top, (m, flushed, puts), is) = d.does in
-        let led = led_on (row_of_cells collapse d.cells) before behind (laid_entries (joined puts.row.lines)) (m, flushed, puts, refl) (first_led p.stack.levels before top h.on_stack) in
-        record {
-          on_stack = subst (λ (s : Stack Top). AllLed s.levels) (sym is) (top_led behind p.stack.levels led h.on_stack);
-          waiting = subst Waits (sym d.pending) tt;
-          below = subst WaitBelow (sym d.opened) h.below;
-        }
+      append_led : (first other : List ℕ) (next : Progress D M (List M)) → AppendDoes columns decoration p first other next → AllAre Is next
+      append_led first other next d =
+          let (of_it, left) = level_closed Sub d.inside d.closed d.closes in
+          let taken = append_subrender (prefixes first other (length d.lines)) d.lines in
+          record {
+            on_stack = changed_led (after columns decoration taken) (λ r q e k. called taken r q e k) d.closed.stack next.stack d.does left.on_stack;
+            waiting = subst Waits (sym d.pending) left.waiting;
+            below = subst WaitBelow (sym d.opened) left.below;
+          }
 
-    vertical_row_led : (next : Progress D M (List M)) → VerticalRowDoes columns decoration p next → AllAreLed next
-    vertical_row_led next d = record {
-      on_stack = changed_led (after columns decoration (append_vert_row d.cells)) (λ r q e k. called (append_vert_row d.cells) r q e k) p.stack next.stack d.does h.on_stack;
-      waiting = subst Waits (sym d.pending) tt;
-      below = subst WaitBelow (sym d.opened) h.below;
-    }
+      cell_led : (next : Progress D M (List M)) → CellDoes p next → AllAre Is next
+      cell_led next d =
+          let (span, align, r, closed_there, closes, is) = d in
+          let (led, left) = level_closed (Cell span align) r closed_there closes in
+          let cell_is : Each (λ (c : Top × ℕ). Is c.0) ((r, span) ∷ []) = (led, tt) in
+          subst (AllAre Is) (sym is) (record { on_stack = left.on_stack; waiting = each_append (λ (c : Top × ℕ). Is c.0) closed_there.pending.cells ((r, span) ∷ []) left.waiting cell_is; below = left.below })
 
-    command_led : (line : List ℕ) (command : Command) (next : Progress D M (List M)) → IsCommand line command → CommandDoes columns decoration p command next → AllAreLed next
-    command_led line (ask request) next is d = request_led request next d
-    command_led line (link target) next is d = link_led target next d
-    command_led line end_link next is d = end_link_led next d
-    command_led line (sub width) next is d = level_led Sub width next is.writes.2.2 d
-    command_led line (append first other) next is d = append_led first other next d
-    command_led line (cell width span align) next is d = level_led (Cell span align) width next is.writes.2.4.2 d
-    command_led line end_cell next is d = cell_led next d
-    command_led line (row collapse) next is d = row_led collapse next d
-    command_led line vertical_row next is d = vertical_row_led next d
+      row_led : (collapse : Bool) (next : Progress D M (List M)) → RowDoes columns decoration p collapse next → AllAre Is next
+      row_led collapse next d =
+          let (before, behind, top, (m, flushed, puts), is) = d.does in
+          let led = on (row_of_cells collapse d.cells) before behind (laid_entries (joined puts.row.lines)) (m, flushed, puts, refl) (first_led p.stack.levels before top h.on_stack) in
+          record {
+            on_stack = subst (λ (s : Stack Top). AllOf s.levels) (sym is) (top_led behind p.stack.levels led h.on_stack);
+            waiting = subst Waits (sym d.pending) tt;
+            below = subst WaitBelow (sym d.opened) h.below;
+          }
 
-    pub line_led : (line : List ℕ) (next : Progress D M (List M)) → LineDoes columns decoration p line next → AllAreLed next
-    line_led [] next e = subst AllAreLed (sym e) h
-    line_led (b ∷ bs) next (command, is, does) = command_led (b ∷ bs) command next is does
+      vertical_row_led : (next : Progress D M (List M)) → VerticalRowDoes columns decoration p next → AllAre Is next
+      vertical_row_led next d = record {
+        on_stack = changed_led (after columns decoration (append_vert_row d.cells)) (λ r q e k. called (append_vert_row d.cells) r q e k) p.stack next.stack d.does h.on_stack;
+        waiting = subst Waits (sym d.pending) tt;
+        below = subst WaitBelow (sym d.opened) h.below;
+      }
+
+      command_led : (command : Command) (next : Progress D M (List M)) → Asks command → CommandDoes columns decoration p command next → AllAre Is next
+      command_led (ask request) next is d = request_led request next d
+      command_led (link target) next is d = link_led target next d
+      command_led end_link next is d = end_link_led next d
+      command_led (sub width) next is d = level_led Sub width next is d
+      command_led (append first other) next is d = append_led first other next d
+      command_led (cell width span align) next is d = level_led (Cell span align) width next is d
+      command_led end_cell next is d = cell_led next d
+      command_led (row collapse) next is d = row_led collapse next d
+      command_led vertical_row next is d = vertical_row_led next d
+
+      pub line_keeps : (line : List ℕ) (next : Progress D M (List M)) → ((command : Command) → IsCommand line command → Asks command) → LineDoes columns decoration p line next → AllAre Is next
+      line_keeps [] next asks e = subst (AllAre Is) (sym e) h
+      line_keeps (b ∷ bs) next asks (command, is, does) = command_led command next (asks command is) does
+
+  -- ---- such renderers
+
+  sized : (line : List ℕ) (command : Command) → IsCommand line command → Asks Led (λ width. 0 < width) led_on inside_led command
+  sized line (ask request) is = tt
+  sized line (link target) is = tt
+  sized line end_link is = tt
+  sized line (sub width) is = is.writes.2.2
+  sized line (append first other) is = tt
+  sized line (cell width span align) is = is.writes.2.4.2
+  sized line end_cell is = tt
+  sized line (row collapse) is = tt
+  sized line vertical_row is = tt
+
+  pub line_led : (p next : Progress D M (List M)) (line : List ℕ) → AreLed columns decoration p → LineDoes columns decoration p line next → AreLed columns decoration next
+  line_led p next line h does = line_keeps Led (λ width. 0 < width) led_on inside_led p h line next (sized line) does
+
+  of_first : (ls : List (Level Top)) (r : Top) → first_renderer ls ≡ Some r → Each (λ (l : Level Top). Led l.renderer) ls → Led r
+  of_first ls r top h = first_led Led (λ width. 0 < width) led_on inside_led ls r top h
 
   -- ---- the text
 
   -- another decorator changes no line
-  abbrev with_decorator : D → Top → Top
+  abbrev pub with_decorator : D → Top → Top
   with_decorator d r = record r { decorator = d }
 
   lines_alike : (d : D) (ts : List (List (Item (List M)))) (r : Top) → fold (with_line columns) (with_decorator d r) ts ≡ with_decorator d (fold (with_line columns) r ts)
@@ -279,7 +305,7 @@ module _ {D M : Type 0} (columns : ℕ → Option ℕ) (decoration : Decoration 
       let (m, first, same) = done_before (with_decorator d) (after_flush columns r) s (sym (block_alike d r r.block) ∙ ended) in
       record {
         renderer = m;
-        led = called new_line r m (live_goes r.failure (after_flush columns r) k.live ∙ first) k;
+        led = led_on (call new_line) r m [] (live_goes r.failure (after_flush columns r) k.live ∙ first, refl) k;
         whole = flushed_none columns r m (flushes columns r m first);
         notes = notes;
         is = is ∙ ap (λ ls. encode_utf8_all (lines_text ls)) (are ∙ ap (λ (q : Top). let t = with_notes columns notes q in t.lines) same ∙ notes_alike d notes m);
@@ -287,9 +313,9 @@ module _ {D M : Type 0} (columns : ℕ → Option ℕ) (decoration : Decoration 
 
   -- it comes of the script's own renderer, after all lines
   pub text_led : (p : Progress D M (List M)) (number : ℕ) (lines : List (List ℕ)) (text : List ℕ) → AreLed columns decoration p → LinesGive columns decoration p number lines (Ok text) → IsTextOfLed columns decoration text
-  text_led p number [] text h (none_open, none_wait, of_top) = let (r, top, is) = of_top in closed_led p.stack.links r text (first_led p.stack.levels r top h.on_stack) is
+  text_led p number [] text h (none_open, none_wait, of_top) = let (r, top, is) = of_top in closed_led p.stack.links r text (of_first p.stack.levels r top h.on_stack) is
   text_led p number (line ∷ lines) text h (inl (e, refuses, is)) = cc
-  text_led p number (line ∷ lines) text h (inr (next, does, gives)) = text_led next (number + 1) lines text (line_led p h line next does) gives
+  text_led p number (line ∷ lines) text h (inr (next, does, gives)) = text_led next (number + 1) lines text (line_led p next line h does) gives
 
   pub started_led : columns 32 ≡ Some 1 → (opening : Opening) (decorator : D) → 0 < opening.width → opening.options.wrap_width ≢ Some 0 → AreLed columns decoration (started {M = M} opening decorator)
   started_led space opening decorator wide some = record {

@@ -1,4 +1,5 @@
 pub mod LinesGive
 pub mod ScriptRefusals
 pub mod LedRenderers
+pub mod TwoColumns
 pub mod once

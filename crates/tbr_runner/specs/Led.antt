@@ -1,5 +1,5 @@
 -- The renderers of a script and its text, and how they came to be.
-use Rattle.std.specs.Prelude.{◌≡◌, ◌⊎◌, ℕ, Option, None, List, [], encode_utf8_all}
+use Rattle.std.specs.Prelude.{◌≡◌, ◌⊎◌, ◌≤◌, ℕ, Option, None, List, [], encode_utf8_all}
 use Rattle.std.specs.List.{AllByRecursion as Each}
 use Rattle.tbr_model.specs.Run.{Entry}
 use Rattle.tbr_tagged.specs.Elements.{Element}
@@ -7,6 +7,8 @@ use Rattle.tbr_decor.specs.Decoration.{Decoration}
 use Rattle.text_block_renderer.specs.Renderer.{Renderer, IsSound}
 use Rattle.text_block_renderer.specs.Acts.{Act, ActsBring}
 use Rattle.text_block_renderer.specs.Text.{lines_text}
+use Rattle.tbr_commands.specs.Command.{Command, sub, cell}
+use Rattle.tbr_commands.specs.Syntax.{IsCommand}
 use Rattle.tbr_program.specs.Closing.{with_notes}
 use Rattle.tbr_program.specs.Decorations.{plain_decoration, trivial_decoration, rich_decoration}
 use Rattle.tbr_program.specs.Progress.{Pending, Progress}
@@ -17,6 +19,16 @@ pub record IsFresh {D A T : Type 0} (r : Renderer D A T) : Type 0 where
   pub block : r.block ≡ None
   pub waiting : r.waiting ≡ []
   pub hanging : r.hanging ≡ []
+
+-- the renderers of the cells that wait are such
+abbrev pub CellsAre : {D A T : Type 0} → (Renderer D A T → Type 0) → Pending D A T → Type 0
+CellsAre Is pending = Each (λ cell. Is cell.0) pending.cells
+
+-- Each renderer on the stack is such, and so are those of the cells that wait in any level.
+pub record AllAre {D A T : Type 0} (Is : Renderer D A T → Type 0) (p : Progress D A T) : Type 0 where
+  pub on_stack : Each (λ level. Is level.renderer) p.stack.levels
+  pub waiting : CellsAre Is p.pending
+  pub below : Each (λ o. CellsAre Is o.below) p.opened
 
 module _ {D M : Type 0} (columns : ℕ → Option ℕ) (decoration : Decoration D M) where
   -- Calls and rows led to a renderer from a sound one to which nothing had come.
@@ -29,15 +41,8 @@ module _ {D M : Type 0} (columns : ℕ → Option ℕ) (decoration : Decoration 
     pub bring : ActsBring columns decoration acts first es r
     pub live : r.failure ≡ None
 
-  -- They led to the renderer of each cell that waits.
-  abbrev pub CellsAreLed : Pending D M (List M) → Type 0
-  CellsAreLed pending = Each (λ cell. IsLed cell.0) pending.cells
-
-  -- They led to each renderer on the stack, and to those of the cells that wait in any level.
-  pub record AreLed (p : Progress D M (List M)) : Type 0 where
-    pub on_stack : Each (λ level. IsLed level.renderer) p.stack.levels
-    pub waiting : CellsAreLed p.pending
-    pub below : Each (λ o. CellsAreLed o.below) p.opened
+  abbrev pub AreLed : Progress D M (List M) → Type 0
+  AreLed p = AllAre IsLed p
 
   -- A text is that of the lines of such a renderer, in which no run is open, and of a block of footnotes.
   pub record IsTextOfLed (text : List ℕ) : Type 0 where
@@ -52,3 +57,14 @@ abbrev pub IsTextOfScript : (ℕ → Option ℕ) → List ℕ → Type 0
 IsTextOfScript columns text =
     IsTextOfLed columns plain_decoration text
     ⊎ (IsTextOfLed columns trivial_decoration text ⊎ IsTextOfLed columns rich_decoration text)
+
+-- ---- two columns
+
+-- a block or a cell that the command opens has two columns or more
+abbrev pub AsksForTwo : Command → Type 0
+AsksForTwo (sub width) = 2 ≤ width
+AsksForTwo (cell width span align) = 2 ≤ width
+AsksForTwo other = Unit {0}
+
+abbrev pub LineAsksForTwo : List ℕ → Type 0
+LineAsksForTwo line = (command : Command) → IsCommand line command → AsksForTwo command

@@ -1,12 +1,14 @@
 //! What holds of the meaning of scripts, as the contract of a function that does nothing.
-ghost use Rattle.std.specs.Prelude.{◌≡◌, ◌≢◌, ◌<◌, ℕ, List, Option, Some, Ok, Result};
+ghost use Rattle.std.specs.Prelude.{◌≡◌, ◌≢◌, ◌<◌, ◌≤◌, ℕ, List, Option, Some, Ok, Err, Result};
 ghost use Rattle.tbr_decor.specs.Decoration.{Decoration};
 ghost use Rattle.tbr_commands.specs.declared.opening.Opening.{Opening};
-ghost use Rattle.text_block_renderer.specs.Renderer.{Renderer};
-ghost use Rattle.text_block_renderer.specs.Headline.{Headline};
+ghost use Rattle.text_block_renderer.specs.Renderer.{Renderer, least};
+ghost use Rattle.text_block_renderer.specs.Headline.{Headline, TakeTwoAtMost};
 ghost use Rattle.tbr_program.specs.Progress.{Progress};
 ghost use Rattle.tbr_program.specs.Meaning.{LineDoes, started};
-ghost use Rattle.tbr_runner.specs.Led.{IsLed, AreLed, IsTextOfLed, IsTextOfScript};
+ghost use Rattle.tbr_runner.specs.Led.{IsLed, AreLed, IsTextOfLed, IsTextOfScript, LineAsksForTwo};
+ghost use Rattle.std.specs.List.{AllByRecursion as Each};
+ghost use Rattle.tbr_script.specs.declared.error.RunError.TheVariants.{TooNarrow};
 ghost use Rattle.tbr_runner.specs.Scripts.{LinesGive, Gives};
 ghost use Rattle.tbr_script.specs.declared.error.RunError.{RunError};
 
@@ -34,4 +36,13 @@ pub fn the_renderers_of_a_script_are_led_to<D, M>()
         Gives columns script (Ok text) → IsTextOfScript columns text }
     ensures headline { (columns : ℕ → Option ℕ) (decoration : Decoration D M) (r : Renderer D M (List M)) →
         (led : IsLed columns decoration r) → Headline columns decoration led.acts led.first led.es r led.bring }
+{}
+
+/// A script isn't refused as too narrow whose blocks and cells have two columns or more, the wrap width included, where
+/// no character takes more than two.
+pub fn a_script_of_two_columns_is_not_too_narrow<D, M>()
+    ensures { (columns : ℕ → Option ℕ) (decoration : Decoration D M) → columns 32 ≡ Some 1 → TakeTwoAtMost columns →
+        (opening : Opening) (decorator : D) → 2 ≤ least opening.width opening.options.wrap_width → (number : ℕ)
+        (lines : List (List ℕ)) → Each LineAsksForTwo lines →
+        LinesGive columns decoration (started opening decorator) number lines (Err TooNarrow) → ⊥ }
 {}

@@ -5,7 +5,7 @@ use Rattle.tbr_runner.proofs.laws.the_renderers_of_a_script_are_led_to.Goals as 
 pub returns : goal.returns
 returns g c = record {
   first = started_led;
-  line = λ columns decoration p next line led. line_led columns decoration p led line next;
+  line = line_led;
   text = text_led;
   script = script_led;
   headline = λ columns decoration r led. headline columns decoration led.acts led.first r led.es led.sound led.bring;

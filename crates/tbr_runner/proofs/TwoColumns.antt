@@ -1,0 +1,174 @@
+-- A script whose blocks and cells have two columns or more isn't too narrow.
+use Rattle.std.proofs.Common.{◌≡◌, ◌≤◌, ◌+◌, inl, inr, ℕ, Bool, true, false, if◌then◌else◌, Option, Some, None, Err, List, [], ◌∷◌, chars, refl, ap, sym, ◌∙◌, subst, arith}
+use Rattle.std.specs.Prelude.{nat_le, encode_utf8_all}
+use Rattle.std.specs.List.{AllByRecursion as Each}
+use Rattle.std.proofs.lemmas.Bool.{leb-true}
+use Rattle.tbr_model.specs.Run.{Entry}
+use Rattle.tbr_tagged.specs.Outcome.{Outcome, refused}
+use Rattle.tbr_tagged.specs.declared.Error.TheVariants as E
+use Rattle.tbr_tagged.proofs.Outcomes.{live_refused}
+use Rattle.tbr_decor.specs.Decoration.{Decoration}
+use Rattle.tbr_decor.specs.Start as start
+use Rattle.tbr_decor.specs.End as end
+use Rattle.tbr_decor.specs.Change as change
+use Rattle.tbr_renderer.specs.Outcomes.{changed, gathered}
+use Rattle.tbr_renderer.specs.Footnotes.{listed}
+use Rattle.tbr_renderer.specs.Flush.{after_flush}
+use Rattle.tbr_renderer.proofs.OutcomeParts.{refused_before, refused_first}
+use Rattle.tbr_renderer.specs.declared.RenderOptions.{RenderOptions}
+use Rattle.tbr_commands.specs.declared.opening.Opening.{Opening}
+use Rattle.tbr_commands.specs.Request.{call_of}
+use Rattle.tbr_commands.specs.Command.{Command, ask, link, end_link, sub, append, cell, end_cell, row, vertical_row}
+use Rattle.tbr_stack.specs.Stack.{Level, Stack, top_of}
+use Rattle.tbr_stack.specs.Top.{in_top_of, in_top}
+use Rattle.tbr_stack.proofs.Tops.{top_linked}
+use Rattle.tbr_stack.specs.Links.{link_number, shown_number, open_links, with_link, without_open_link, after_end_with}
+use Rattle.tbr_script.specs.declared.error.RunError.TheVariants.{TooNarrow}
+use Rattle.tbr_program.specs.declared.opened.Opener.TheVariants.{Sub}
+use Rattle.tbr_program.specs.Progress.{Progress}
+use Rattle.tbr_program.specs.Closing.{with_notes, footnotes_of, closed as lines_closed, closed_text}
+use Rattle.tbr_program.specs.Meaning.{renderers_of, Closes, TakesNone, CellsAreTooNarrow, CommandRefuses, LineRefuses, started}
+use Rattle.text_block_renderer.specs.Renderer.{new_renderer, least, block_width}
+use Rattle.text_block_renderer.specs.Line.{Line}
+use Rattle.text_block_renderer.specs.Text.{lines_text}
+use Rattle.text_block_renderer.specs.Appended.{handed_out}
+use Rattle.text_block_renderer.specs.Calls.{Call, new_line, begin, finish, add_inline_text, made, after, entries_brought}
+use Rattle.text_block_renderer.specs.Decorated.{sub_renderer}
+use Rattle.text_block_renderer.specs.Acts.{Act, call, ActBrings}
+use Rattle.text_block_renderer.specs.Headline.{TakeTwoAtMost}
+use Rattle.text_block_renderer.proofs.ActParts.{acts_along}
+use Rattle.text_block_renderer.proofs.TwoColumns.{act_fits}
+use Rattle.tbr_runner.specs.Scripts.{LinesGive}
+use Rattle.tbr_runner.specs.Led.{AllAre, LineAsksForTwo}
+use Rattle.tbr_runner.proofs.LedRenderers.{Top, Led, with_decorator, led_on, led_sound, nothing_came, inside_led, one_act, first_led, others_led, line_keeps}
+
+-- ---- the lesser of two widths
+
+wraps_two : (width other : ℕ) (wrap : Option ℕ) → 2 ≤ width → 2 ≤ least other wrap → 2 ≤ least width wrap
+wraps_two width other None wide both = wide
+wraps_two width other (Some w) wide both = go (nat_le other w) (nat_le width w) refl both
+  where
+    go : (a b : Bool) → nat_le other w ≡ a → 2 ≤ (if a then other else w) → 2 ≤ (if b then width else w)
+    go a true e two = wide
+    go true false e two = omega (arith, leb-true other w e, two)
+    go false false e two = two
+
+-- ---- calls
+
+module _ {D M : Type 0} (columns : ℕ → Option ℕ) (decoration : Decoration D M) (space : columns 32 ≡ Some 1) (narrow : TakeTwoAtMost columns) where
+  -- acts led to it, and its blocks have two columns or more
+  abbrev Two : Top columns decoration → Type 0
+  Two r = Led columns decoration r × (2 ≤ block_width r)
+
+  two_on : (act : Act (List M)) (r s : Top columns decoration) (es : List (Entry (List M))) → ActBrings columns decoration act r es s → Two r → Two s
+  two_on act r s es h k =
+      let along = acts_along columns decoration (act ∷ []) r s es (led_sound columns decoration r k.0) (one_act columns decoration act r r s es refl h) in
+      let same : block_width s ≡ block_width r = ap (λ w. least w s.options.wrap_width) along.width ∙ ap (λ (o : RenderOptions). least r.width o.wrap_width) along.options in
+      (led_on columns decoration act r s es h k.0, subst (λ n. 2 ≤ n) (sym same) k.1)
+
+  two_inside : (width : ℕ) (r : Top columns decoration) → 2 ≤ width → Two r → Two (sub_renderer decoration width r)
+  two_inside width r wide k = (inside_led columns decoration width r (omega (arith, wide)) k.0, wraps_two width r.width r.options.wrap_width wide k.1)
+
+  -- a flush of one with two columns isn't too narrow, whether it has refused or not
+  no_flush : (r : Top columns decoration) → 2 ≤ block_width r → after_flush columns r ≡ refused E.TooNarrow → ⊥
+  no_flush r wide h = act_fits columns space narrow decoration (call new_line) r wide h
+
+  no_call : (c : Call (List M)) (r : Top columns decoration) → Two r → after columns decoration c r ≡ refused E.TooNarrow → ⊥
+  no_call c r k h = act_fits columns space narrow decoration (call c) r k.1 (live_refused r.failure (made columns decoration c r) E.TooNarrow k.0.live h)
+
+  hands_out : (r : Top columns decoration) → Two r → handed_out columns r ≡ refused E.TooNarrow → ⊥
+  hands_out r k h = no_flush r k.1 (refused_before (λ (s : Top columns decoration). s.lines) (after_flush columns r) E.TooNarrow (live_refused r.failure _ E.TooNarrow k.0.live h))
+
+  all_hand_out : (cells : List (Top columns decoration × ℕ)) → Each (λ (c : Top columns decoration × ℕ). Two c.0) cells → gathered (handed_out columns) (renderers_of cells) ≡ refused E.TooNarrow → ⊥
+  all_hand_out [] k h = cc
+  all_hand_out (c ∷ cells) k h =
+      elim (refused_first (handed_out columns c.0) (λ (ls : List (Line (List M))). changed (λ lss. ls ∷ lss) (gathered (handed_out columns) (renderers_of cells))) E.TooNarrow h) [
+        | inl first ↦ hands_out c.0 k.0 first
+        | inr later ↦ all_hand_out cells k.1 (refused_before (λ lss. later.0 ∷ lss) (gathered (handed_out columns) (renderers_of cells)) E.TooNarrow later.2)
+      ]
+
+  takes_all : {X : Type 0} (given : Outcome X) (r : Top columns decoration) → Two r → (given ≡ refused E.TooNarrow → ⊥) → TakesNone columns decoration given r → ⊥
+  takes_all given r k none h = elim (refused_first (after columns decoration new_line r) (λ s. given) E.TooNarrow h) [ inl first ↦ no_call new_line r k first | inr later ↦ none later.2 ]
+
+  -- ---- on a stack
+
+  abbrev AllTwo : Stack (Top columns decoration) → Type 0
+  AllTwo s = Each (λ (l : Level (Top columns decoration)). Two l.renderer) s.levels
+
+  top_two : (s : Stack (Top columns decoration)) (r : Top columns decoration) → top_of s ≡ Some r → AllTwo s → Two r
+  top_two s r top k = first_led columns decoration Two (λ width. 2 ≤ width) two_on two_inside s.levels r top k
+
+  no_top : (change : Top columns decoration → Outcome (Top columns decoration)) (s : Stack (Top columns decoration)) → ((r : Top columns decoration) → top_of s ≡ Some r → change r ≡ refused E.TooNarrow → ⊥) → in_top change s ≡ refused E.TooNarrow → ⊥
+  no_top change s none h = go (top_of s) refl h
+    where
+      go : (o : Option (Top columns decoration)) → top_of s ≡ o → in_top_of change s o ≡ refused E.TooNarrow → ⊥
+      go None top e = cc
+      go (Some r) top e = none r top (refused_before _ (change r) E.TooNarrow e)
+
+  no_end : (k : Option ℕ) (r : Top columns decoration) → Two r → after_end_with columns decoration k r ≡ refused E.TooNarrow → ⊥
+  no_end None r two h = no_call (finish end.link) r two h
+  no_end (Some k) r two h =
+      elim (refused_first (after columns decoration (finish end.link) r) (after columns decoration (add_inline_text (link_number k))) E.TooNarrow h) [
+        | inl first ↦ no_call (finish end.link) r two first
+        | inr later ↦ no_call (add_inline_text (link_number k)) later.0 (two_on (call (finish end.link)) r later.0 (entries_brought columns decoration (finish end.link) r) (later.1, refl) two) later.2
+      ]
+
+  -- ---- commands and lines
+
+  module _ (p : Progress D M (List M)) (h : AllAre Two p) where
+    no_cells : CellsAreTooNarrow columns decoration p → ⊥
+    no_cells (r, top, none) = takes_all (gathered (handed_out columns) (renderers_of p.pending.cells)) r (top_two p.stack r top h.on_stack) (all_hand_out p.pending.cells h.waiting) none
+
+    no_append : (inside : Top columns decoration) (left : Progress D M (List M)) (r : Top columns decoration) → Closes p Sub inside left → top_of left.stack ≡ Some r → TakesNone columns decoration (handed_out columns inside) r → ⊥
+    no_append inside left r c top none =
+        takes_all (handed_out columns inside) r
+        (top_two left.stack r top (subst AllTwo (sym c.stack) (others_led columns decoration Two (λ width. 2 ≤ width) two_on two_inside p.stack.levels h.on_stack)))
+        (hands_out inside (top_two p.stack inside c.top h.on_stack)) none
+
+    no_command : (number : ℕ) (command : Command) → CommandRefuses columns decoration p number command TooNarrow → ⊥
+    no_command number (ask request) (inl (ends, is)) = cc
+    no_command number (ask request) (inr (ends, is, same)) = no_top (λ r. after columns decoration (call_of r.width request) r) p.stack (λ r top e. no_call (call_of r.width request) r (top_two p.stack r top h.on_stack) e) is
+    no_command number (link target) (is, same) =
+        no_top (after columns decoration (begin (start.link (chars target)))) (with_link (chars target) p.stack)
+        (λ r top e. no_call (begin (start.link (chars target))) r (top_two p.stack r (sym (top_linked (chars target) p.stack) ∙ top) h.on_stack) e) is
+    no_command number end_link (inl (none, is)) = cc
+    no_command number end_link (inr (some, is, same)) =
+        no_top (λ r. after_end_with columns decoration (shown_number r (open_links p.stack)) r) p.stack
+        (λ r top e. no_end (shown_number r (open_links p.stack)) r (top_two p.stack r top h.on_stack) e)
+        (refused_before (λ (s : Stack (Top columns decoration)). without_open_link s) _ E.TooNarrow is)
+    no_command number (sub width) is = is
+    no_command number (append first other) (inl (none, is)) = cc
+    no_command number (append first other) (inr (inl (by, (some, is)))) = cc
+    no_command number (append first other) (inr (inr (inside, left, closes, of_top, same))) = let (r, top, none) = of_top in no_append inside left r closes top none
+    no_command number (cell width span align) is = is
+    no_command number end_cell (inl (none, is)) = cc
+    no_command number end_cell (inr (span, align, by, (some, is))) = cc
+    no_command number (row collapse) (inl (fits, is)) = cc
+    no_command number (row collapse) (inr (fits, none, same)) = no_cells none
+    no_command number vertical_row (none, same) = no_cells none
+
+    no_line : (number : ℕ) (line : List ℕ) → LineRefuses columns decoration p number line TooNarrow → ⊥
+    no_line number [] is = is
+    no_line number (b ∷ bs) (inl (none, is)) = cc
+    no_line number (b ∷ bs) (inr (command, is, refuses)) = no_command number command refuses
+
+    no_text : (targets : List (List ℕ)) (r : Top columns decoration) → top_of p.stack ≡ Some r → closed_text columns decoration targets r ≡ refused E.TooNarrow → ⊥
+    no_text targets r top e =
+        let d = decoration.after r.decorator (change.finalise (listed r.options targets)) in
+        let closes = refused_before (λ ls. encode_utf8_all (lines_text ls)) (lines_closed columns decoration targets r) E.TooNarrow e in
+        no_flush (with_decorator columns decoration d r) (top_two p.stack r top h.on_stack).1
+        (refused_before (λ (s : Top columns decoration). let t = with_notes columns (footnotes_of columns decoration targets r) s in t.lines) (after_flush columns (with_decorator columns decoration d r)) E.TooNarrow closes)
+
+  no_lines : (p : Progress D M (List M)) (number : ℕ) (lines : List (List ℕ)) → AllAre Two p → Each LineAsksForTwo lines → LinesGive columns decoration p number lines (Err TooNarrow) → ⊥
+  no_lines p number [] h asks (inl (open_still, is)) = cc
+  no_lines p number [] h asks (inr (none_open, none_wait, of_top, same)) = let (r, top, e) = of_top in no_text p h p.stack.links r top e
+  no_lines p number (line ∷ lines) h asks (inl (e, refuses, is)) =
+      no_line p h number line (subst (λ x. LineRefuses columns decoration p number line x) (let same : e ≡ TooNarrow = cc in same) refuses)
+  no_lines p number (line ∷ lines) h asks (inr (next, does, gives)) =
+      no_lines next (number + 1) lines (line_keeps columns decoration Two (λ width. 2 ≤ width) two_on two_inside p h line next asks.0 does) asks.1 gives
+
+  pub not_too_narrow : (opening : Opening) (decorator : D) → 2 ≤ least opening.width opening.options.wrap_width → (number : ℕ) (lines : List (List ℕ)) → Each LineAsksForTwo lines → LinesGive columns decoration (started opening decorator) number lines (Err TooNarrow) → ⊥
+  not_too_narrow opening decorator wide number lines asks h =
+      let r : Top columns decoration = new_renderer opening.width opening.options decorator in
+      let led = nothing_came columns decoration r (record { lines = refl; block = refl; waiting = refl; hanging = refl }) (record { space = space; wide = omega (arith, wide) }) refl in
+      no_lines (started opening decorator) number lines (record { on_stack = ((led, wide), tt); waiting = tt; below = tt }) asks h
