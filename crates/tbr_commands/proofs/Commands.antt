@@ -111,15 +111,7 @@ word_once v w xs ys e = sym (is v xs) ∙ ap read_word e ∙ is w ys
   where
     is : (x : Word) (zs : List ℕ) → read_word (written_as x ++ 32 ∷ zs) ≡ x
     is text_word zs = refl
-    is marker_word zs = refl
-    is link_word zs = refl
-    is image_word zs = refl
-    is colour_word zs = refl
-    is ground_word zs = refl
-    is border_word zs = refl
-    is sub_word zs = refl
-    is append_word zs = refl
-    is cell_word zs = refl
+    is other zs = refl
 
 -- what comes after the word
 abbrev pub Argument : Word → List ℕ → Type 0
@@ -199,23 +191,10 @@ module _ (line : List ℕ) (word rest : Bor (List ℕ)) (h : IsSplitOnceResult 3
 
 pub no_command : (line : List ℕ) → ((request : Request) → IsRequest line request → ⊥) → ((command : Command) → IsOfLevels line command → ⊥) → (command : Command) → IsWritten line command → ⊥
 no_command line a b (ask request) k = a request k
-no_command line a b (link t) k = b (link t) k
-no_command line a b end_link k = b end_link k
-no_command line a b (sub n) k = b (sub n) k
-no_command line a b (append s t) k = b (append s t) k
-no_command line a b (cell m n c) k = b (cell m n c) k
-no_command line a b end_cell k = b end_cell k
-no_command line a b (row collapse) k = b (row collapse) k
-no_command line a b vertical_row k = b vertical_row k
+no_command line a b command k = b command k
 
 -- A command has a width and a span of at least 1.
 pub sized : (line : List ℕ) (command : Command) → IsOfLevels line command → IsSized command
-sized line (ask request) k = tt
-sized line (link t) k = tt
-sized line end_link k = tt
 sized line (sub n) k = k.2.2
-sized line (append s t) k = tt
 sized line (cell m n a) k = (k.2.4.2, k.2.5.2)
-sized line end_cell k = tt
-sized line (row collapse) k = tt
-sized line vertical_row k = tt
+sized line other k = tt

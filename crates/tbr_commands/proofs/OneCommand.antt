@@ -89,35 +89,17 @@ read line =
 is_layout : (line : List ℕ) (what : Layout) → line ≡ layout_name what → read line ≡ Some (ask (layout what))
 unfolding read same
 is_layout line StartBlock e = ap read e
-is_layout line EndBlock e = ap read e
-is_layout line StartTable e = ap read e
-is_layout line NewLine e = ap read e
-is_layout line HardNewLine e = ap read e
-is_layout line EmptyLine e = ap read e
+is_layout line other e = ap read e
 
 is_beginning : (line : List ℕ) (what : Beginning) → line ≡ beginning_name what → read line ≡ Some (ask (begin what))
 unfolding read same
 is_beginning line (beginning.Mode Normal) e = ap read e
-is_beginning line (beginning.Mode Pre) e = ap read e
-is_beginning line (beginning.Mode PreWrap) e = ap read e
-is_beginning line beginning.Preformat e = ap read e
-is_beginning line beginning.Emphasis e = ap read e
-is_beginning line beginning.Strong e = ap read e
-is_beginning line beginning.Strikeout e = ap read e
-is_beginning line beginning.Code e = ap read e
-is_beginning line beginning.Superscript e = ap read e
+is_beginning line other e = ap read e
 
 is_ending : (line : List ℕ) (what : Kind) → line ≡ ending_name what → read line ≡ Some (ask (end what))
 unfolding read same
 is_ending line kind.Mode e = ap read e
-is_ending line kind.Preformat e = ap read e
-is_ending line kind.Emphasis e = ap read e
-is_ending line kind.Strong e = ap read e
-is_ending line kind.Strikeout e = ap read e
-is_ending line kind.Code e = ap read e
-is_ending line kind.Superscript e = ap read e
-is_ending line kind.Colour e = ap read e
-is_ending line kind.Background e = ap read e
+is_ending line other e = ap read e
 
 is_read : (line : List ℕ) (request : Request) → IsAlone line request → read line ≡ Some (ask request)
 unfolding read same
@@ -161,10 +143,7 @@ has_argument line (image s t) k = record { word = image_word; behind = k.0; is =
 has_argument line (colour ground.text c) k = record { word = colour_word; behind = k.0; is = k.1; argued = (c, k.2, refl) }
 has_argument line (colour ground.background c) k = record { word = ground_word; behind = k.0; is = k.1; argued = (c, k.2, refl) }
 has_argument line (border (Some n)) k = record { word = border_word; behind = k.0; is = k.1; argued = (n, k.2, refl) }
-has_argument line (border None) k = absurd k
-has_argument line (layout what) k = absurd k
-has_argument line (begin what) k = absurd k
-has_argument line (end what) k = absurd k
+has_argument line other k = absurd k
 
 is_parted : (line : List ℕ) (command : Command) → IsWritten line command → IsParted line command
 unfolding IsParted Argued read same
@@ -184,15 +163,7 @@ is_parted line vertical_row k = inl (ap read k)
 not_read : (line bs : List ℕ) (command : Command) (w : Word) → line ≡ written_as w ++ 32 ∷ bs → read line ≡ Some command → ⊥
 unfolding read same
 not_read line bs command text_word is e = let none : read line ≡ None = ap read is in cc
-not_read line bs command marker_word is e = let none : read line ≡ None = ap read is in cc
-not_read line bs command link_word is e = let none : read line ≡ None = ap read is in cc
-not_read line bs command image_word is e = let none : read line ≡ None = ap read is in cc
-not_read line bs command colour_word is e = let none : read line ≡ None = ap read is in cc
-not_read line bs command ground_word is e = let none : read line ≡ None = ap read is in cc
-not_read line bs command border_word is e = let none : read line ≡ None = ap read is in cc
-not_read line bs command sub_word is e = let none : read line ≡ None = ap read is in cc
-not_read line bs command append_word is e = let none : read line ≡ None = ap read is in cc
-not_read line bs command cell_word is e = let none : read line ≡ None = ap read is in cc
+not_read line bs command other is e = let none : read line ≡ None = ap read is in cc
 
 texts_once : (bs s t u v : List ℕ) → AreSplitTexts bs s t → AreSplitTexts bs u v → (s ≡ u) × (t ≡ v)
 texts_once bs s t u v a b =

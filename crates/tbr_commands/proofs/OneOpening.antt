@@ -35,16 +35,8 @@ data IsReadSetting (word : List ℕ) (setting : Setting) : Type 0 where
 setting_read : (word : List ℕ) (s : Setting) → IsSetting word s → IsReadSetting word s
 unfolding read_setting same
 setting_read word (Wrap n) w = wrapping n w refl
-setting_read word Overflow w = whole_word (ap read_setting w)
-setting_read word Pad w = whole_word (ap read_setting w)
-setting_read word NoBorders w = whole_word (ap read_setting w)
-setting_read word NoWrapLinks w = whole_word (ap read_setting w)
-setting_read word Footnotes w = whole_word (ap read_setting w)
-setting_read word NoStrike w = whole_word (ap read_setting w)
-setting_read word (Images IgnoreEmpty) w = whole_word (ap read_setting w)
-setting_read word (Images Filename) w = whole_word (ap read_setting w)
-setting_read word (Images ShowAlways) w = whole_word (ap read_setting w)
 setting_read word (Images (Replace title)) w = absurd w
+setting_read word other w = whole_word (ap read_setting w)
 
 no_wrap : (word : List ℕ) (n : ℕ) (s : Setting) → IsWrap word n → read_setting word ≡ Some s → ⊥
 unfolding read_setting same
@@ -75,14 +67,9 @@ options_once words o p a b = a.2 ∙ ap (fold with_setting default_options) (set
 
 decorator_once : (d e : Decorator) → name_of d ≡ name_of e → d ≡ e
 decorator_once Plain Plain k = refl
-decorator_once Plain Trivial k = absurd cc
-decorator_once Plain Rich k = absurd cc
-decorator_once Trivial Plain k = absurd cc
 decorator_once Trivial Trivial k = refl
-decorator_once Trivial Rich k = absurd cc
-decorator_once Rich Plain k = absurd cc
-decorator_once Rich Trivial k = absurd cc
 decorator_once Rich Rich k = refl
+decorator_once d e k = absurd cc
 
 opening_parts : (o p : Opening) → o.width ≡ p.width → o.decorator ≡ p.decorator → o.options ≡ p.options → o ≡ p
 opening_parts o p w d e =

@@ -47,40 +47,19 @@ module _ {D M : Type 0} (columns : ℕ → Option ℕ) (decoration : Decoration 
 
   begun_preformats : (width : ℕ) (what : Beginning) (begun : Begun) → Preformats width (begin what) begun
   begun_preformats width (beginning.Mode mode) begun = refl
-  begun_preformats width beginning.Preformat begun = refl
-  begun_preformats width beginning.Emphasis begun = refl
-  begun_preformats width beginning.Strong begun = refl
-  begun_preformats width beginning.Strikeout begun = refl
-  begun_preformats width beginning.Code begun = refl
-  begun_preformats width beginning.Superscript begun = refl
+  begun_preformats width other begun = refl
 
   ended_preformats : (width : ℕ) (what : Kind) (begun : Begun) → Preformats width (end what) begun
   ended_preformats width kind.Mode begun = refl
-  ended_preformats width kind.Preformat begun = refl
-  ended_preformats width kind.Emphasis begun = refl
-  ended_preformats width kind.Strong begun = refl
-  ended_preformats width kind.Strikeout begun = refl
-  ended_preformats width kind.Code begun = refl
-  ended_preformats width kind.Superscript begun = refl
-  ended_preformats width kind.Colour begun = refl
-  ended_preformats width kind.Background begun = refl
+  ended_preformats width other begun = refl
 
   counted_preformats : (width : ℕ) (request : Request) (begun : Begun) → Preformats width request begun
   counted_preformats width (begin what) begun = begun_preformats width what begun
   counted_preformats width (end what) begun = ended_preformats width what begun
   counted_preformats width (layout StartBlock) begun = refl
-  counted_preformats width (layout EndBlock) begun = refl
-  counted_preformats width (layout StartTable) begun = refl
-  counted_preformats width (layout NewLine) begun = refl
-  counted_preformats width (layout HardNewLine) begun = refl
-  counted_preformats width (layout EmptyLine) begun = refl
-  counted_preformats width (text t) begun = refl
-  counted_preformats width (fragment t) begun = refl
-  counted_preformats width (image s t) begun = refl
   counted_preformats width (colour ground.text c) begun = refl
-  counted_preformats width (colour ground.background c) begun = refl
   counted_preformats width (border None) begun = refl
-  counted_preformats width (border (Some n)) begun = refl
+  counted_preformats width other begun = refl
 
   -- the options are as they were, and so are the strikeouts
   Unstruck : Renderer D M (List M) → Renderer D M (List M) → Type 0
@@ -125,24 +104,14 @@ module _ {D M : Type 0} (columns : ℕ → Option ℕ) (decoration : Decoration 
 
   begun_strikeouts : (r : Renderer D M (List M)) (begun : Begun) (what : Beginning) → Strikeouts r begun (begin what)
   begun_strikeouts r begun beginning.Strikeout on e = rw on (ap suc e)
-  begun_strikeouts r begun (beginning.Mode mode) on e = e
-  begun_strikeouts r begun beginning.Preformat on e = e
-  begun_strikeouts r begun beginning.Emphasis on e = e
-  begun_strikeouts r begun beginning.Strong on e = e
-  begun_strikeouts r begun beginning.Code on e = e
-  begun_strikeouts r begun beginning.Superscript on e = e
+  begun_strikeouts r begun other on e = e
 
   ended_strikeouts : (r : Renderer D M (List M)) (begun : Begun) (what : Kind) → Strikeouts r begun (end what)
   unfolding Unstruck
   ended_strikeouts r begun kind.Strikeout on e = rw on (ap (λ n. n - 1) e)
-  ended_strikeouts r begun kind.Mode on e = e
-  ended_strikeouts r begun kind.Preformat on e = e
-  ended_strikeouts r begun kind.Emphasis on e = e
-  ended_strikeouts r begun kind.Strong on e = e
-  ended_strikeouts r begun kind.Code on e = e
-  ended_strikeouts r begun kind.Superscript on e = e
   ended_strikeouts r begun kind.Colour on e = (unstruck_by_end ground.text r (decoration.ends_colour r.decorator ground.text) refl).1 ∙ e
   ended_strikeouts r begun kind.Background on e = (unstruck_by_end ground.background r (decoration.ends_colour r.decorator ground.background) refl).1 ∙ e
+  ended_strikeouts r begun other on e = e
 
   counted_strikeouts : (r : Renderer D M (List M)) (begun : Begun) (request : Request) → Strikeouts r begun request
   unfolding Unstruck
@@ -152,15 +121,8 @@ module _ {D M : Type 0} (columns : ℕ → Option ℕ) (decoration : Decoration 
   counted_strikeouts r begun (colour ground.text c) on e = (unstruck_by_colour ground.text c r (decoration.colour_annotation r.decorator ground.text c) refl).1 ∙ e
   counted_strikeouts r begun (colour ground.background c) on e = (unstruck_by_colour ground.background c r (decoration.colour_annotation r.decorator ground.background c) refl).1 ∙ e
   counted_strikeouts r begun (layout StartBlock) on e = e
-  counted_strikeouts r begun (layout EndBlock) on e = e
-  counted_strikeouts r begun (layout StartTable) on e = e
-  counted_strikeouts r begun (layout NewLine) on e = e
-  counted_strikeouts r begun (layout HardNewLine) on e = e
-  counted_strikeouts r begun (layout EmptyLine) on e = e
-  counted_strikeouts r begun (text t) on e = e
-  counted_strikeouts r begun (fragment t) on e = e
   counted_strikeouts r begun (border None) on e = e
-  counted_strikeouts r begun (border (Some n)) on e = e
+  counted_strikeouts r begun other on e = e
 
 pub still_live : {D A M : Type 0} (columns : ℕ → Option ℕ) (decoration : Decoration D M) (meaning : A → M) (request : Request) (r s : Renderer D A (Vec A)) (begun next : Begun) →
     IsLive r begun → next ≡ counted begun request → Does columns decoration (call_of r.width request) (meant meaning r) (meant meaning s) → IsLive s next

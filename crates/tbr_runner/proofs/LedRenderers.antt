@@ -246,15 +246,9 @@ module _ {D M : Type 0} (columns : ℕ → Option ℕ) (decoration : Decoration 
   -- ---- such renderers
 
   sized : (line : List ℕ) (command : Command) → IsCommand line command → Asks Led (λ width. 0 < width) led_on inside_led command
-  sized line (ask request) is = tt
-  sized line (link target) is = tt
-  sized line end_link is = tt
   sized line (sub width) is = is.writes.2.2
-  sized line (append first other) is = tt
   sized line (cell width span align) is = is.writes.2.4.2
-  sized line end_cell is = tt
-  sized line (row collapse) is = tt
-  sized line vertical_row is = tt
+  sized line other is = tt
 
   pub line_led : (p next : Progress D M (List M)) (line : List ℕ) → AreLed columns decoration p → LineDoes columns decoration p line next → AreLed columns decoration next
   line_led p next line h does = line_keeps Led (λ width. 0 < width) led_on inside_led p h line next (sized line) does

@@ -17,7 +17,7 @@ use Rattle.tbr_renderer.specs.Outcomes.{changed}
 use Rattle.tbr_renderer.specs.Flush.{after_flush}
 use Rattle.tbr_renderer.specs.Steps.{at_line_start, after_empty_line, after_text}
 use Rattle.tbr_renderer.proofs.OutcomeParts.{one_done, done_before}
-use Rattle.tbr_renderer.specs.Calls.{Call, add_empty_line, new_line, new_line_hard, start_block, start_table, end_block, add_inline_text, push_ws, pop_ws, push_preformat, pop_preformat, record_frag_start, begin, finish, start_strikeout, end_strikeout, add_image, push_colour, pop_colour, add_border, append_subrender, append_vert_row, made, Does}
+use Rattle.tbr_renderer.specs.Calls.{Call, add_empty_line, new_line, new_line_hard, start_block, start_table, add_inline_text, push_preformat, pop_preformat, begin, finish, start_strikeout, end_strikeout, add_image, push_colour, pop_colour, add_border, append_subrender, append_vert_row, made, Does}
 use Rattle.tbr_renderer.specs.Appended.{with_border, border_of_cells, as_text, prefixed, with_divider, with_cell, with_cell_below, with_cells}
 use Rattle.tbr_border.specs.Cell.{Cell, horizontal, slash}
 use Rattle.text_block_renderer.specs.Settings.{settled, settled_by_image}
@@ -90,23 +90,16 @@ module _ {D A : Type 0} (columns : ℕ → Option ℕ) where
     made_settings new_line_hard r s h = broken (at_line_start columns r r.block) r s h
     made_settings start_block r s h = started_alike columns r s h
     made_settings start_table r s h = started_alike columns r s h
-    made_settings end_block r s h = ap (λ (q : Renderer D A (List A)). steady q) (one_done _ s h)
     made_settings (add_inline_text cs) r s h = text_added columns decoration.preformatted cs r s h
-    made_settings (push_ws mode) r s h = ap (λ (q : Renderer D A (List A)). steady q) (one_done _ s h)
-    made_settings pop_ws r s h = ap (λ (q : Renderer D A (List A)). steady q) (one_done _ s h)
-    made_settings push_preformat r s h = ap (λ (q : Renderer D A (List A)). steady q) (one_done _ s h)
-    made_settings pop_preformat r s h = ap (λ (q : Renderer D A (List A)). steady q) (one_done _ s h)
-    made_settings (record_frag_start name) r s h = ap (λ (q : Renderer D A (List A)). steady q) (one_done _ s h)
     made_settings (begin opened) r s h = text_added columns decoration.preformatted (decoration.start_text r.decorator opened) (annotated decoration opened r) s h
     made_settings (finish closed) r s h = closed_alike columns decoration closed r s h
     made_settings start_strikeout r s h = opened_alike start.strikeout (λ (q : Renderer D A (List A)). struck_from q) struck_alike r s h
     made_settings end_strikeout r s h = closed_alike columns decoration end.strikeout (struck_until r) s h
     made_settings (add_image source title) r s h = image_alike source (shown_title r.options.img_mode source title) r s h
-    made_settings (push_colour g colour) r s h = ap (λ (q : Renderer D A (List A)). steady q) (one_done _ s h)
-    made_settings (pop_colour g) r s h = ap (λ (q : Renderer D A (List A)). steady q) (one_done _ s h)
     made_settings (add_border width) r s h = flushed_then_alike (λ m. with_border columns m (border_of_cells horizontal width r)) (λ m. refl) r s h
     made_settings (append_subrender prefixes lines) r s h = flushed_then_alike (λ m. fold (with_line columns) m (prefixed r.annotations prefixes lines)) (λ m. lines_appended m (prefixed r.annotations prefixes lines)) r s h
     made_settings (append_vert_row cells) r s h = flushed_then_alike (λ m. with_divider columns horizontal (with_cells columns m cells)) (λ m. divided horizontal (with_cells columns m cells) ∙ cells_added cells m) r s h
+    made_settings call r s h = ap (λ (q : Renderer D A (List A)). steady q) (one_done _ s h)
 
     call_settings : (call : Call (List A)) (r s : Renderer D A (List A)) → Does columns decoration call r s → steady s ≡ steady (settled decoration call r)
     call_settings call r s h = made_settings call r s (live_done r.failure (made columns decoration call r) s h).1
@@ -152,28 +145,12 @@ module _ {D A : Type 0} (columns : ℕ → Option ℕ) where
 
     settled_beside : (call : Call (List A)) (r : Renderer D A (List A)) → (let s = settled decoration call r in (s.failure ≡ r.failure) × (s.preformatted ≡ preformats_behind call r.preformatted))
     unfolding Beside
-    settled_beside (push_ws mode) r = (refl, refl)
-    settled_beside pop_ws r = (refl, refl)
-    settled_beside push_preformat r = (refl, refl)
-    settled_beside pop_preformat r = (refl, refl)
-    settled_beside add_empty_line r = (refl, refl)
-    settled_beside new_line r = (refl, refl)
-    settled_beside new_line_hard r = (refl, refl)
-    settled_beside start_block r = (refl, refl)
-    settled_beside start_table r = (refl, refl)
-    settled_beside end_block r = (refl, refl)
-    settled_beside (add_inline_text cs) r = (refl, refl)
-    settled_beside (record_frag_start name) r = (refl, refl)
-    settled_beside (begin opened) r = (refl, refl)
-    settled_beside (finish closed) r = (refl, refl)
     settled_beside start_strikeout r = struck_from_beside (annotated decoration start.strikeout r) r.options.use_unicode_strikeout refl
     settled_beside end_strikeout r = struck_until_beside r r.options.use_unicode_strikeout refl
     settled_beside (add_image source title) r = image_beside source (shown_title r.options.img_mode source title) r
     settled_beside (push_colour g colour) r = coloured_beside g colour r (decoration.colour_annotation r.decorator g colour) refl
     settled_beside (pop_colour g) r = uncoloured_beside g r (decoration.ends_colour r.decorator g) refl
-    settled_beside (add_border width) r = (refl, refl)
-    settled_beside (append_subrender prefixes lines) r = (refl, refl)
-    settled_beside (append_vert_row cells) r = (refl, refl)
+    settled_beside call r = (refl, refl)
 
     pub call_beside : (call : Call (List A)) (r s : Renderer D A (List A)) → Does columns decoration call r s → (s.failure ≡ r.failure) × (s.preformatted ≡ preformats_behind call r.preformatted)
     call_beside call r s h =

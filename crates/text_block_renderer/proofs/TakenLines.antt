@@ -15,7 +15,7 @@ use Rattle.tbr_decor.specs.Decoration.{Decoration}
 use Rattle.tbr_kept_lines.specs.Line.{Line, text, border}
 use Rattle.tbr_renderer.specs.Renderer.{Renderer, IsSound}
 use Rattle.tbr_renderer.specs.Appended.{border_of_cells, with_border, as_text, prefixed, with_divider, with_cell, with_cell_below, with_cells, handed_out}
-use Rattle.tbr_renderer.specs.Calls.{Call, add_empty_line, new_line, new_line_hard, start_block, start_table, end_block, add_inline_text, push_ws, pop_ws, push_preformat, pop_preformat, record_frag_start, begin, finish, start_strikeout, end_strikeout, add_image, push_colour, pop_colour, add_border, append_subrender, append_vert_row, Does, text_of_lines, Shows}
+use Rattle.tbr_renderer.specs.Calls.{Call, append_subrender, append_vert_row, Does, text_of_lines, Shows}
 use Rattle.tbr_tagged.specs.Outcome.{done}
 use Rattle.tbr_renderer.proofs.CallParts.{handed_then}
 use Rattle.text_block_renderer.specs.Acts.{Act, call, row, ActBrings, ActsBring, StaysLine}
@@ -136,26 +136,7 @@ module _ {D A : Type 0} (columns : ℕ → Option ℕ) where
         let (m, flushed, whole) = cells_after columns decoration cells r s h in
         let row = divider_keeps (seen columns lines) horizontal (with_cells columns m (front ++ lines ∷ back)) (row_within front back lines m) in
         subst (λ (q : Renderer D A (List A)). StandWithin (seen columns lines) (seen columns q.lines)) (sym (whole ∙ ap (λ cs. with_divider columns horizontal (with_cells columns m cs)) is)) row
-    taken_within add_empty_line r s lines t h = elim t [ ]
-    taken_within new_line r s lines t h = elim t [ ]
-    taken_within new_line_hard r s lines t h = elim t [ ]
-    taken_within start_block r s lines t h = elim t [ ]
-    taken_within start_table r s lines t h = elim t [ ]
-    taken_within end_block r s lines t h = elim t [ ]
-    taken_within (add_inline_text cs) r s lines t h = elim t [ ]
-    taken_within (push_ws mode) r s lines t h = elim t [ ]
-    taken_within pop_ws r s lines t h = elim t [ ]
-    taken_within push_preformat r s lines t h = elim t [ ]
-    taken_within pop_preformat r s lines t h = elim t [ ]
-    taken_within (record_frag_start name) r s lines t h = elim t [ ]
-    taken_within (begin opened) r s lines t h = elim t [ ]
-    taken_within (finish closed) r s lines t h = elim t [ ]
-    taken_within start_strikeout r s lines t h = elim t [ ]
-    taken_within end_strikeout r s lines t h = elim t [ ]
-    taken_within (add_image source title) r s lines t h = elim t [ ]
-    taken_within (push_colour g colour) r s lines t h = elim t [ ]
-    taken_within (pop_colour g) r s lines t h = elim t [ ]
-    taken_within (add_border width) r s lines t h = elim t [ ]
+    taken_within other r s lines t h = elim t [ ]
 
     act_adds : (act : Act (List A)) (r s : Renderer D A (List A)) (es : List (Entry (List A))) → ActBrings columns decoration act r es s → MoreText r s
     act_adds (call c) r s es h = more_text r s (steps_grow columns decoration (c ∷ []) r s (alone columns decoration c r s es h.0 h.1).0)

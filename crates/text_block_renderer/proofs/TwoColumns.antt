@@ -18,7 +18,7 @@ use Rattle.tbr_renderer.specs.Steps.{with_empty_line, after_empty_line, block_st
 use Rattle.tbr_renderer.specs.Appended.{with_border, border_of_cells, prefixed, with_divider, with_cells}
 use Rattle.tbr_renderer.proofs.OutcomeParts.{refused_before, refused_first, refused_if_not}
 use Rattle.tbr_renderer.proofs.MappedBlocks.{end_wide, join_wide}
-use Rattle.tbr_renderer.specs.Calls.{Call, add_empty_line, new_line, new_line_hard, start_block, start_table, end_block, add_inline_text, push_ws, pop_ws, push_preformat, pop_preformat, record_frag_start, begin, finish, start_strikeout, end_strikeout, add_image, push_colour, pop_colour, add_border, append_subrender, append_vert_row, made}
+use Rattle.tbr_renderer.specs.Calls.{Call, add_empty_line, new_line, new_line_hard, start_block, start_table, add_inline_text, begin, finish, start_strikeout, end_strikeout, add_image, add_border, append_subrender, append_vert_row, made}
 use Rattle.tbr_renderer.proofs.SettingsStay.{Steady, started_alike}
 use Rattle.text_block_renderer.specs.Acts.{Act, call, row, ActIsTooNarrow}
 use Rattle.text_block_renderer.specs.Headline.{TakeTwoAtMost}
@@ -97,23 +97,16 @@ module _ {D A : Type 0} (columns : ℕ → Option ℕ) (one : columns 32 ≡ Som
     call_fits new_line_hard r wide h = break_fits (at_line_start columns r r.block) r wide h
     call_fits start_block r wide h = flushed_fits (block_started columns) r wide h
     call_fits start_table r wide h = flushed_fits (block_started columns) r wide h
-    call_fits end_block r wide h = cc
     call_fits (add_inline_text cs) r wide h = text_fits decoration.preformatted cs r wide h
-    call_fits (push_ws mode) r wide h = cc
-    call_fits pop_ws r wide h = cc
-    call_fits push_preformat r wide h = cc
-    call_fits pop_preformat r wide h = cc
-    call_fits (record_frag_start name) r wide h = cc
     call_fits (begin opened) r wide h = start_fits opened r wide h
     call_fits (finish closed) r wide h = end_fits closed r wide h
     call_fits start_strikeout r wide h = start_fits start.strikeout r wide (refused_before (λ (s : Renderer D A (List A)). struck_from s) (after_start columns decoration start.strikeout r) TooNarrow h)
     call_fits end_strikeout r wide h = end_fits end.strikeout (struck_until r) (subst (λ n. 2 ≤ n) (sym (struck_width r)) wide) h
     call_fits (add_image source title) r wide h = image_fits source (shown_title r.options.img_mode source title) r wide h
-    call_fits (push_colour g colour) r wide h = cc
-    call_fits (pop_colour g) r wide h = cc
     call_fits (add_border width) r wide h = flushed_fits (λ m. with_border columns m (border_of_cells horizontal width r)) r wide h
     call_fits (append_subrender prefixes lines) r wide h = flushed_fits (λ m. fold (with_line columns) m (prefixed r.annotations prefixes lines)) r wide h
     call_fits (append_vert_row cells) r wide h = flushed_fits (λ m. with_divider columns horizontal (with_cells columns m cells)) r wide h
+    call_fits other r wide h = cc
 
     pub act_fits : (act : Act (List A)) (r : Renderer D A (List A)) → 2 ≤ block_width r → ActIsTooNarrow columns decoration act r → ⊥
     act_fits (call c) r wide h = call_fits c r wide h
