@@ -33,7 +33,7 @@ use Rattle.tbr_renderer.specs.declared.RenderOptions.{RenderOptions}
 use Rattle.tbr_renderer.specs.Footnotes.{listed, footnote_lines, with_footnotes}
 use Rattle.tbr_renderer.specs.Flush.{block_lines, lines_at_end, names_at_end, fits_at_end, flushed, after_block, after_flush}
 use Rattle.tbr_renderer.specs.Steps.{with_empty_line, block_started}
-use Rattle.tbr_renderer.proofs.FlushedBlocks.{flushes}
+use Rattle.tbr_renderer.proofs.FlushedBlocks.{flushes, flush_keeps}
 use Rattle.tbr_tagged.proofs.Outcomes.{live_goes}
 use Rattle.tbr_tagged.specs.declared.Error.TheVariants.{TooNarrow}
 use Rattle.tbr_tagged.specs.Elements.{Element}
@@ -53,6 +53,9 @@ use Rattle.text_block_renderer.specs.Acts.{Act, call, row as row_of_cells, ActBr
 use Rattle.text_block_renderer.proofs.Moves.{sound_alike, flushed_none}
 use Rattle.text_block_renderer.proofs.ActParts.{acts_along}
 use Rattle.text_block_renderer.proofs.SoundRenderers.{new_sound, inside_sound}
+use Rattle.text_block_renderer.proofs.LinkNumbers.{targets_come}
+use Rattle.tbr_runner.specs.StackCalls.{stack_calls, link_targets, AskFor, AskAfterFirst, LinesDo}
+use Rattle.tbr_runner.proofs.StackCalls.{lines_step, lines_end}
 use Rattle.tbr_runner.specs.Led.{IsFresh, IsLed, CellsAre, AllAre, AreLed, IsTextOfLed, IsTextOfScript}
 
 module _ {D M : Type 0} (columns : ℕ → Option ℕ) (decoration : Decoration D M) where
@@ -290,26 +293,41 @@ module _ {D M : Type 0} (columns : ℕ → Option ℕ) (decoration : Decoration 
       ap (λ (q : Top). let s = with_footnotes columns q (note ∷ notes) in s.lines) (begun_alike d r)
       ∙ ap (λ (s : Top). s.lines) (lines_alike d (flat_map (footnote_lines columns (block_started columns r)) (note ∷ notes)) (block_started columns r))
 
-  closed_led : (targets : List (List ℕ)) (r : Top) (text : List ℕ) → Led r → closed_text columns decoration targets r ≡ done text → IsTextOfLed columns decoration text
+  notes_stay : (targets : List (List ℕ)) (ts : List (List (Item (List M)))) (r : Top) → footnotes_of columns decoration targets (fold (with_line columns) r ts) ≡ footnotes_of columns decoration targets r
+  notes_stay targets [] r = refl
+  notes_stay targets (t ∷ ts) r = notes_stay targets ts (with_line columns r t)
+
+  closed_led : (targets : List (List ℕ)) (r : Top) (text : List ℕ) → Led r → closed_text columns decoration targets r ≡ done text → IsTextOfLed columns decoration targets text
   closed_led targets r text k h =
       let d = decoration.after r.decorator (change.finalise (listed r.options targets)) in
       let notes = footnotes_of columns decoration targets r in
       let (lines, made, is) = done_before (λ ls. encode_utf8_all (lines_text ls)) (lines_closed columns decoration targets r) text h in
       let (s, ended, are) = done_before (λ (q : Top). let t = with_notes columns notes q in t.lines) (after_flush columns (with_decorator d r)) lines made in
       let (m, first, same) = done_before (with_decorator d) (after_flush columns r) s (sym (block_alike d r r.block) ∙ ended) in
+      let stay = flush_keeps columns r m (footnotes_of columns decoration targets) (λ texts names. notes_stay targets texts (record r { block = None })) first in
       record {
         renderer = m;
         led = led_on (call new_line) r m [] (live_goes r.failure (after_flush columns r) k.live ∙ first, refl) k;
         whole = flushed_none columns r m (flushes columns r m first);
-        notes = notes;
-        is = is ∙ ap (λ ls. encode_utf8_all (lines_text ls)) (are ∙ ap (λ (q : Top). let t = with_notes columns notes q in t.lines) same ∙ notes_alike d notes m);
+        is =
+            is ∙ ap (λ ls. encode_utf8_all (lines_text ls)) (are ∙ ap (λ (q : Top). let t = with_notes columns notes q in t.lines) same ∙ notes_alike d notes m)
+            ∙ ap (λ (ns : List (List (Element M))). encode_utf8_all (lines_text (let t = with_notes columns ns m in t.lines))) (sym stay);
       }
 
+  lines_led : (lines : List (List ℕ)) (p q : Progress D M (List M)) → AreLed columns decoration p → LinesDo columns decoration p lines q → AreLed columns decoration q
+  lines_led [] p q h same = subst (AreLed columns decoration) (sym same) h
+  lines_led (line ∷ lines) p q h (next, does, lead) = lines_led lines next q (line_led p next line h does) lead
+
   -- it comes of the script's own renderer, after all lines
-  pub text_led : (p : Progress D M (List M)) (number : ℕ) (lines : List (List ℕ)) (text : List ℕ) → AreLed columns decoration p → LinesGive columns decoration p number lines (Ok text) → IsTextOfLed columns decoration text
-  text_led p number [] text h (none_open, none_wait, of_top) = let (r, top, is) = of_top in closed_led p.stack.links r text (of_first p.stack.levels r top h.on_stack) is
-  text_led p number (line ∷ lines) text h (inl (e, refuses, is)) = cc
-  text_led p number (line ∷ lines) text h (inr (next, does, gives)) = text_led next (number + 1) lines text (line_led p next line h does) gives
+  pub text_led : (p : Progress D M (List M)) (number : ℕ) (lines : List (List ℕ)) (text : List ℕ) → AreLed columns decoration p → LinesGive columns decoration p number lines (Ok text) →
+      (commands : List Command) × AskFor lines commands × IsTextOfLed columns decoration (p.stack.links ++ link_targets commands) text
+  text_led p number lines text h gives =
+      let end = lines_end columns decoration p number lines text gives in
+      let there = end.there in
+      let (r, top, is) = end.ends.2 in
+      let led = closed_led there.stack.links r text (of_first there.stack.levels r top (let all = lines_led lines p there h end.lead in all.on_stack)) is in
+      let steps = lines_step columns decoration lines end.commands p there end.ask end.lead in
+      (end.commands, end.ask, subst (λ ts. IsTextOfLed columns decoration ts text) (targets_come columns decoration (stack_calls end.commands) p.stack there.stack steps) led)
 
   pub started_led : columns 32 ≡ Some 1 → (opening : Opening) (decorator : D) → 0 < opening.width → opening.options.wrap_width ≢ Some 0 → AreLed columns decoration (started {M = M} opening decorator)
   started_led space opening decorator wide some = record {
@@ -338,12 +356,19 @@ module _ (columns : ℕ → Option ℕ) (space : columns 32 ≡ Some 1) where
   wraps : (words : List (List ℕ)) (options : RenderOptions) → AreOptions words options → options.wrap_width ≢ Some 0
   wraps words options (settings, all, is) = subst (λ (o : RenderOptions). o.wrap_width ≢ Some 0) (sym is) (some_wrap words settings default_options all (λ none. cc))
 
-  under_led : (decorator : Decorator) (opening : Opening) (number : ℕ) (lines : List (List ℕ)) (text : List ℕ) → 0 < opening.width → opening.options.wrap_width ≢ Some 0 → OpensUnder columns decorator opening number lines (Ok text) → IsTextOfScript columns text
-  under_led Plain opening number lines text wide some h = inl (text_led columns plain_decoration (started opening (record {})) number lines text (started_led columns plain_decoration space opening (record {}) wide some) h)
-  under_led Trivial opening number lines text wide some h = inr (inl (text_led columns trivial_decoration (started opening (record {})) number lines text (started_led columns trivial_decoration space opening (record {}) wide some) h))
-  under_led Rich opening number lines text wide some h = inr (inr (text_led columns rich_decoration (started opening (record {})) number lines text (started_led columns rich_decoration space opening (record {}) wide some) h))
+  under_led : (decorator : Decorator) (opening : Opening) (number : ℕ) (lines : List (List ℕ)) (text : List ℕ) → 0 < opening.width → opening.options.wrap_width ≢ Some 0 → OpensUnder columns decorator opening number lines (Ok text) →
+      (commands : List Command) × AskFor lines commands × IsTextOfScript columns (link_targets commands) text
+  under_led Plain opening number lines text wide some h =
+      let (commands, asks, led) = text_led columns plain_decoration (started opening (record {})) number lines text (started_led columns plain_decoration space opening (record {}) wide some) h in
+      (commands, asks, inl led)
+  under_led Trivial opening number lines text wide some h =
+      let (commands, asks, led) = text_led columns trivial_decoration (started opening (record {})) number lines text (started_led columns trivial_decoration space opening (record {}) wide some) h in
+      (commands, asks, inr (inl led))
+  under_led Rich opening number lines text wide some h =
+      let (commands, asks, led) = text_led columns rich_decoration (started opening (record {})) number lines text (started_led columns rich_decoration space opening (record {}) wide some) h in
+      (commands, asks, inr (inr led))
 
-  begins_led : (number : ℕ) (lines : List (List ℕ)) (text : List ℕ) → Begins columns number lines (Ok text) → IsTextOfScript columns text
+  begins_led : (number : ℕ) (lines : List (List ℕ)) (text : List ℕ) → Begins columns number lines (Ok text) → (commands : List Command) × AskAfterFirst lines commands × IsTextOfScript columns (link_targets commands) text
   begins_led number [] text h = cc
   begins_led number ([] ∷ lines) text h = begins_led (number + 1) lines text h
   begins_led number ((b ∷ bs) ∷ lines) text (inl (none, is)) = cc
@@ -351,5 +376,5 @@ module _ (columns : ℕ → Option ℕ) (space : columns 32 ≡ Some 1) where
       let (digits, words, are, size, options) = is.asks in
       under_led opening.decorator opening (number + 1) lines text size.2 (wraps words opening.options options) opens
 
-  pub script_led : (script text : List ℕ) → Gives columns script (Ok text) → IsTextOfScript columns text
+  pub script_led : (script text : List ℕ) → Gives columns script (Ok text) → (commands : List Command) × AskAfterFirst (lines_of script) commands × IsTextOfScript columns (link_targets commands) text
   script_led script text h = begins_led 1 (lines_of script) text h

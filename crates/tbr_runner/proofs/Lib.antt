@@ -1,5 +1,6 @@
 pub mod LinesGive
 pub mod ScriptRefusals
+pub mod StackCalls
 pub mod LedRenderers
 pub mod TwoColumns
 pub mod once

@@ -2,14 +2,13 @@
 use Rattle.std.specs.Prelude.{◌≡◌, ◌⊎◌, ◌≤◌, ℕ, Option, None, List, [], encode_utf8_all}
 use Rattle.std.specs.List.{AllByRecursion as Each}
 use Rattle.tbr_model.specs.Run.{Entry}
-use Rattle.tbr_tagged.specs.Elements.{Element}
 use Rattle.tbr_decor.specs.Decoration.{Decoration}
 use Rattle.text_block_renderer.specs.Renderer.{Renderer, IsSound}
 use Rattle.text_block_renderer.specs.Acts.{Act, ActsBring}
 use Rattle.text_block_renderer.specs.Text.{lines_text}
 use Rattle.tbr_commands.specs.Command.{Command, sub, cell}
 use Rattle.tbr_commands.specs.Syntax.{IsCommand}
-use Rattle.tbr_program.specs.Closing.{with_notes}
+use Rattle.tbr_program.specs.Closing.{with_notes, footnotes_of}
 use Rattle.tbr_program.specs.Decorations.{plain_decoration, trivial_decoration, rich_decoration}
 use Rattle.tbr_program.specs.Progress.{Pending, Progress}
 
@@ -44,19 +43,20 @@ module _ {D M : Type 0} (columns : ℕ → Option ℕ) (decoration : Decoration 
   abbrev pub AreLed : Progress D M (List M) → Type 0
   AreLed p = AllAre IsLed p
 
-  -- A text is that of the lines of such a renderer, in which no run is open, and of a block of footnotes.
-  pub record IsTextOfLed (text : List ℕ) : Type 0 where
+  -- A text is that of the lines of such a renderer, in which no run is open, and then of the footnotes of links to
+  -- these targets.
+  pub record IsTextOfLed (targets : List (List ℕ)) (text : List ℕ) : Type 0 where
     pub renderer : Renderer D M (List M)
     pub led : IsLed renderer
     pub whole : renderer.block ≡ None
-    pub notes : List (List (Element M))
-    pub is : text ≡ encode_utf8_all (lines_text (let s = with_notes columns notes renderer in s.lines))
+    pub is : let notes = footnotes_of columns decoration targets renderer in
+        text ≡ encode_utf8_all (lines_text (let s = with_notes columns notes renderer in s.lines))
 
 -- It is so under one of the decorators of scripts.
-abbrev pub IsTextOfScript : (ℕ → Option ℕ) → List ℕ → Type 0
-IsTextOfScript columns text =
-    IsTextOfLed columns plain_decoration text
-    ⊎ (IsTextOfLed columns trivial_decoration text ⊎ IsTextOfLed columns rich_decoration text)
+abbrev pub IsTextOfScript : (ℕ → Option ℕ) → List (List ℕ) → List ℕ → Type 0
+IsTextOfScript columns targets text =
+    IsTextOfLed columns plain_decoration targets text
+    ⊎ (IsTextOfLed columns trivial_decoration targets text ⊎ IsTextOfLed columns rich_decoration targets text)
 
 -- ---- two columns
 

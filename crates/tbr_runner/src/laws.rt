@@ -1,11 +1,16 @@
 //! What holds of the meaning of scripts, as the contract of a function that does nothing.
-ghost use Rattle.std.specs.Prelude.{◌≡◌, ◌≢◌, ◌<◌, ◌≤◌, ℕ, List, Option, Some, Ok, Err, Result};
+ghost use Rattle.std.specs.Prelude.{◌≡◌, ◌≢◌, ◌<◌, ◌≤◌, ◌+◌, ℕ, List, length, [], ◌∷◌, ◌++◌, Option, Some, Ok, Err, Result};
 ghost use Rattle.tbr_decor.specs.Decoration.{Decoration};
 ghost use Rattle.tbr_commands.specs.declared.opening.Opening.{Opening};
+ghost use Rattle.tbr_stack.specs.Links.{after_link_end};
+ghost use Rattle.tbr_stack.specs.StackCalls.{IsNextToEnd, StackSteps, after_end_as};
 ghost use Rattle.text_block_renderer.specs.Renderer.{Renderer, least};
 ghost use Rattle.text_block_renderer.specs.Headline.{Headline, TakeTwoAtMost};
 ghost use Rattle.tbr_program.specs.Progress.{Progress};
-ghost use Rattle.tbr_program.specs.Meaning.{LineDoes, started};
+ghost use Rattle.tbr_program.specs.Meaning.{LineDoes, LinkDoes, started};
+ghost use Rattle.tbr_script.specs.Script.{lines_of};
+ghost use Rattle.tbr_commands.specs.Command.{Command};
+ghost use Rattle.tbr_runner.specs.StackCalls.{stack_calls, link_targets, AskFor, AskAfterFirst, LinesDo};
 ghost use Rattle.tbr_runner.specs.Led.{IsLed, AreLed, IsTextOfLed, IsTextOfScript, LineAsksForTwo};
 ghost use Rattle.std.specs.List.{AllByRecursion as Each};
 ghost use Rattle.tbr_script.specs.declared.error.RunError.TheVariants.{TooNarrow};
@@ -20,8 +25,8 @@ pub fn a_script_gives_one_thing()
 
 /// Calls and rows lead to each renderer that a script fills, also to those of cells that wait, from a sound one to
 /// which nothing had come: first to the script's own, and then after each line. The script's text is that of such a
-/// one's lines, without an open run, and of a block of footnotes. So the laws of lists of calls and rows hold of it, the
-/// first promise among them.
+/// one's lines, without an open run, and then of the footnotes of all its links, in their order. So the laws of lists of
+/// calls and rows hold of it, the first promise among them.
 pub fn the_renderers_of_a_script_are_led_to<D, M>()
     ensures first { (columns : ℕ → Option ℕ) (decoration : Decoration D M) → columns 32 ≡ Some 1 →
         (opening : Opening) (decorator : D) → 0 < opening.width → opening.options.wrap_width ≢ Some 0 →
@@ -31,9 +36,11 @@ pub fn the_renderers_of_a_script_are_led_to<D, M>()
         AreLed columns decoration next }
     ensures text { (columns : ℕ → Option ℕ) (decoration : Decoration D M) (p : Progress D M (List M)) (number : ℕ)
         (lines : List (List ℕ)) (text : List ℕ) → AreLed columns decoration p →
-        LinesGive columns decoration p number lines (Ok text) → IsTextOfLed columns decoration text }
+        LinesGive columns decoration p number lines (Ok text) → (commands : List Command) × AskFor lines commands
+        × IsTextOfLed columns decoration (p.stack.links ++ link_targets commands) text }
     ensures script { (columns : ℕ → Option ℕ) → columns 32 ≡ Some 1 → (script text : List ℕ) →
-        Gives columns script (Ok text) → IsTextOfScript columns text }
+        Gives columns script (Ok text) → (commands : List Command)
+        × AskAfterFirst (lines_of script) commands × IsTextOfScript columns (link_targets commands) text }
     ensures headline { (columns : ℕ → Option ℕ) (decoration : Decoration D M) (r : Renderer D M (List M)) →
         (led : IsLed columns decoration r) → Headline columns decoration led.acts led.first led.es r led.bring }
 {}
@@ -45,4 +52,19 @@ pub fn a_script_of_two_columns_is_not_too_narrow<D, M>()
         (opening : Opening) (decorator : D) → 2 ≤ least opening.width opening.options.wrap_width → (number : ℕ)
         (lines : List (List ℕ)) → Each LineAsksForTwo lines →
         LinesGive columns decoration (started opening decorator) number lines (Err TooNarrow) → ⊥ }
+{}
+
+/// What the lines of a script do to its stack is what calls on a stack do, so the laws of these hold of scripts. A link
+/// that ends brings its own number, which is the place of its target among the footnotes, from 1, whatever commands
+/// come in between, and however deep links, blocks and cells are in one another.
+pub fn links_of_scripts_end_with_their_own_numbers<D, M>()
+    ensures calls { (columns : ℕ → Option ℕ) (decoration : Decoration D M) (lines : List (List ℕ))
+        (commands : List Command) (p q : Progress D M (List M)) → AskFor lines commands →
+        LinesDo columns decoration p lines q → StackSteps columns decoration (stack_calls commands) p.stack q.stack }
+    ensures number { (columns : ℕ → Option ℕ) (decoration : Decoration D M) (target : List ℕ)
+        (lines : List (List ℕ)) (commands : List Command) (p m q : Progress D M (List M)) →
+        LinkDoes columns decoration p target m → AskFor lines commands → LinesDo columns decoration m lines q →
+        IsNextToEnd (0 ∷ []) (stack_calls commands) →
+        after_link_end columns decoration q.stack
+        ≡ after_end_as columns decoration (length p.stack.links + 1) q.stack }
 {}
